@@ -1,6 +1,6 @@
 -- What the statements of a dump make of a state.
-use Rattle.std.proofs.Common.{◌≡◌, ℕ, zero, suc, ◌-◌, ◌<◌, ◌≤◌, true, false, List, [], ◌∷◌, ◌++◌, length, map, sym, ◌∙◌, ap, refl, arith, append_assoc, append-nil, ℤ, pos, unsigned_abs, IsTrue, ◌&&◌, ◌==◌, if◌then◌else◌, nat_lt, nat_le, None, Some, Result, Ok}
-use Rattle.cdl_laws.proofs.Prelude.{flat_map, list_any, position, position_or_len, int_eq, bytes_eq, false≢true, eqb-true, Decides-int_eq, bytes_eq-Decides, Att, Dim, NcType, Byte, Char, Short, Int, Ubyte, Ushort, Uint, Int64, Uint64, Version, Cdf1, Cdf2, Cdf5, has_name, has_record_dim, IsDimid, AreDimids, IsName, is_name, is_record_dim, type_word, count_limit, has_type, CdlKind, UnknownDimension, BadShape, Value, Number, Characters, Draft, add_dim, dim_len_of, add_dimid, add_var, type_of, add_att, add_constant, first_type, same_type, at_named, at_variable, in_turn, when, some_or, int_within, has_number, extent_said, said_dim, AreDistinct, bytes_of_number, and_both, and_false}
+use Rattle.std.proofs.Common.{◌≡◌, ℕ, zero, suc, ◌<◌, ◌≤◌, true, false, List, [], ◌∷◌, ◌++◌, length, map, sym, ◌∙◌, ap, refl, arith, append_assoc, append-nil, ℤ, pos, IsTrue, ◌&&◌, ◌==◌, nat_lt, nat_le, None, Some, Result, Ok, rules}
+use Rattle.cdl_laws.proofs.Prelude.{flat_map, list_any, position, position_or_len, int_eq, bytes_eq, false≢true, eqb-true, bytes_eq-Decides, Att, Dim, NcType, Char, Version, has_name, has_record_dim, IsDimid, AreDimids, IsName, is_record_dim, type_word, count_limit, has_type, CdlKind, Value, Number, Characters, Draft, add_dim, dim_len_of, add_dimid, add_var, type_of, add_att, add_constant, first_type, same_type, at_named, at_variable, in_turn, some_or, int_within, has_number, extent_said, said_dim, AreDistinct, bytes_of_number, and_both, and_false}
 use Rattle.cdl_meaning.specs.State.{◌>>=◌}
 use Rattle.cdl_laws.proofs.Bools.{or_left, or_right}
 use Rattle.cdl_laws.proofs.Lists.{Each}
@@ -22,28 +22,18 @@ between_is : (m n : ℕ) → 0 < n → n ≤ m → int_within (pos 1) (pos m) (p
 between_is m n some small = and_both (nat_le 1 n) (nat_le n m) (grind (arith, some)) (grind (arith, small))
 
 not_zero : (n : ℕ) → (n == 0) ≡ false → int_eq (pos n) (pos 0) ≡ false
-not_zero n h =
-    elim (int_eq (pos n) (pos 0)) as (λ b. int_eq (pos n) (pos 0) ≡ b → b ≡ false) [
-      | true ↦ (λ e. absurd (false≢true (sym h ∙ ap (λ z. unsigned_abs z == 0) ((Decides-int_eq (pos n) (pos 0)).0 e))))
-      | false ↦ (λ e. refl)
-    ] refl
+not_zero n h = grind (arith, pos, false≢true)
 
 positive : (n : ℕ) → (n == 0) ≡ false → 0 < n
 positive n h = grind (arith, h)
 
 len_is : (v : Version) (dims : List Dim) (len : ℕ) → len < count_limit v → record_once dims len → dim_len_of v dims (extent_said len) ≡ Ok len
-len_is v dims len small once =
-    elim (len == 0) as (λ w. (len == 0) ≡ w → dim_len_of v dims (if w then None else Some (pos len)) ≡ Ok len) [
-      | true ↦ (λ e. rw (once (eqb-true len 0 e)) (ap (λ n. Ok n) (sym (eqb-true len 0 e))))
-      | false ↦ (λ e. rw (not_zero len e) (rw (between_is (count_limit v - 1) len (positive len e) (omega (arith, small))) refl))
-    ] refl
+len_is v dims len small once = grind (arith, pos, eqb-true, not_zero, between_is, positive)
 
 pub dim_added : (v : Version) (dims : List Dim) (dim : Dim) → IsName dim.name → list_any (λ (e : Dim). bytes_eq e.name dim.name) dims ≡ false → dim.len < count_limit v → record_once dims dim.len →
     add_dim v dims (said_dim dim) ≡ Ok (dims ++ dim ∷ [])
 unfolding add_dim
-dim_added v dims dim name new small once =
-    let named : is_name dim.name ≡ true = name in
-    rw (named) (rw (new) (ap (λ r. r >>= (λ len. Ok (dims ++ record { name = dim.name; len = len } ∷ []))) (len_is v dims dim.len small once)))
+dim_added v dims dim name new small once = grind (arith, len_is)
 
 -- ---- attributes
 
@@ -55,15 +45,7 @@ abbrev pub numbers_bytes : NcType → List ℤ → List ℕ
 numbers_bytes ty xs = flat_map (bytes_of_number ty) xs
 
 same_self : (ty : NcType) → same_type ty ty ≡ true
-same_self Byte = refl
-same_self Char = refl
-same_self Short = refl
-same_self Int = refl
-same_self Ubyte = refl
-same_self Ushort = refl
-same_self Uint = refl
-same_self Int64 = refl
-same_self Uint64 = refl
+same_self ty = grind arith
 
 number_added : (ty : NcType) (before : List ℕ) (x : ℤ) → has_number ty x ≡ true → add_constant ty before (Number (record { value = x; ty = ty })) ≡ Ok (before ++ bytes_of_number ty x)
 number_added ty before x fit = rw (same_self ty) (rw (fit) refl)
@@ -71,8 +53,7 @@ number_added ty before x fit = rw (same_self ty) (rw (fit) refl)
 pub numbers_added : (ty : NcType) (before : List ℕ) (xs : List ℤ) → Each (λ x. has_number ty x ≡ true) xs → in_turn (add_constant ty) before (numbers_said ty xs) ≡ Ok (before ++ numbers_bytes ty xs)
 numbers_added ty before [] fit = ap (λ bs. Ok bs) (sym (append-nil before))
 numbers_added ty before (x ∷ xs) fit =
-    turn (add_constant ty) before (before ++ bytes_of_number ty x) (Number (record { value = x; ty = ty })) (numbers_said ty xs) (number_added ty before x fit.0) ∙
-    numbers_added ty (before ++ bytes_of_number ty x) xs fit.1 ∙ ap (λ bs. Ok bs) (append_assoc before (bytes_of_number ty x) (numbers_bytes ty xs))
+    grind (arith, turn, number_added, append_assoc, numbers_bytes, numbers_added ty (before ++ bytes_of_number ty x) xs fit.1)
 
 pub chars_added : (before : List ℕ) (all : List (List ℕ)) → in_turn (add_constant Char) before (map Characters all) ≡ Ok (before ++ flat_map (λ (b : List ℕ). b) all)
 chars_added before [] = ap (λ bs. Ok bs) (sym (append-nil before))
@@ -83,11 +64,7 @@ chars_added before (b ∷ all) =
 pub att_added : (atts : List Att) (att : Att) (said : List Value) → IsName att.name → is_new_att atts att → first_type said ≡ att.ty → in_turn (add_constant att.ty) [] said ≡ Ok att.vals →
     add_att att.name said atts ≡ Ok (atts ++ att ∷ [])
 unfolding add_att
-att_added atts att said name new ty vals =
-    let named : is_name att.name ≡ true = name in
-    rw (named) (rw (new) (
-    ap (λ t. in_turn (add_constant t) [] said >>= (λ vs. Ok (atts ++ record { name = att.name; ty = t; vals = vs } ∷ []))) ty ∙
-    ap (λ r. r >>= (λ vs. Ok (atts ++ record { name = att.name; ty = att.ty; vals = vs } ∷ []))) vals))
+att_added atts att said name new ty vals = grind arith
 
 -- ---- the variable of a name
 
@@ -98,8 +75,7 @@ no_draft name ds = list_any (λ (d : Draft). bytes_eq d.var.name name) ds ≡ fa
 named_past : (name : List ℕ) (f : Draft → Result Draft CdlKind) (before ds es : List Draft) → no_draft name before → at_named name f ds ≡ Ok es → at_named name f (before ++ ds) ≡ Ok (before ++ es)
 named_past name f [] ds es new h = h
 named_past name f (b ∷ before) ds es new h =
-    rw (or_left (bytes_eq b.var.name name) (list_any (λ (d : Draft). bytes_eq d.var.name name) before) new)
-    (ap (λ r. r >>= (λ xs. Ok (b ∷ xs))) (named_past name f before ds es (or_right (bytes_eq b.var.name name) (list_any (λ (d : Draft). bytes_eq d.var.name name) before) new) h))
+    grind (arith, or_left, or_right, named_past name f before ds es (or_right (bytes_eq b.var.name name) (list_any (λ (d : Draft). bytes_eq d.var.name name) before) new) h)
 
 same_bytes : (name : List ℕ) → bytes_eq name name ≡ true
 same_bytes name = (bytes_eq-Decides name name).1 refl
@@ -111,33 +87,13 @@ named_here f d e ds h = rw (same_bytes d.var.name) (ap (λ r. r >>= (λ x. Ok (x
 pub variable_is : (f : Draft → Result Draft CdlKind) (before : List Draft) (d e : Draft) (after : List Draft) → IsName d.var.name → no_draft d.var.name before → f d ≡ Ok e →
     at_variable d.var.name f (before ++ d ∷ after) ≡ Ok (before ++ e ∷ after)
 unfolding at_variable
-variable_is f before d e after name new h =
-    let named : is_name d.var.name ≡ true = name in
-    rw (named) (named_past d.var.name f before (d ∷ after) (e ∷ after) new (named_here f d e after h))
+variable_is f before d e after name new h = search (rules, named_past, named_here)
 
 -- ---- declarations
 
 pub type_is : (v : Version) (ty : NcType) → has_type v ty ≡ true → type_of v (word (type_word ty)) ≡ Ok ty
 unfolding type_of
-type_is Cdf5 Byte h = refl
-type_is Cdf5 Char h = refl
-type_is Cdf5 Short h = refl
-type_is Cdf5 Int h = refl
-type_is Cdf5 Ubyte h = refl
-type_is Cdf5 Ushort h = refl
-type_is Cdf5 Uint h = refl
-type_is Cdf5 Int64 h = refl
-type_is Cdf5 Uint64 h = refl
-type_is Cdf1 Byte h = refl
-type_is Cdf1 Char h = refl
-type_is Cdf1 Short h = refl
-type_is Cdf1 Int h = refl
-type_is Cdf1 _ h = cc
-type_is Cdf2 Byte h = refl
-type_is Cdf2 Char h = refl
-type_is Cdf2 Short h = refl
-type_is Cdf2 Int h = refl
-type_is Cdf2 _ h = cc
+type_is v ty h = grind arith
 
 -- the name of a dimension
 abbrev pub name_at : List Dim → ℕ → List ℕ
@@ -150,11 +106,7 @@ AreDistinctDims dims = AreDistinct (dim_names dims)
 
 other_name : (d : Dim) (dims : List Dim) (k : ℕ) → has_name (dim_names dims) d.name ≡ false → k < length dims → bytes_eq d.name (name_at dims k) ≡ false
 other_name d [] k new h = absurd (omega (arith, h))
-other_name d (e ∷ dims) zero new h =
-    elim (bytes_eq d.name e.name) as (λ b. bytes_eq d.name e.name ≡ b → b ≡ false) [
-      | true ↦ (λ q. absurd (false≢true (sym (or_left (bytes_eq e.name d.name) (has_name (dim_names dims) d.name) new) ∙ (bytes_eq-Decides e.name d.name).1 (sym ((bytes_eq-Decides d.name e.name).0 q)))))
-      | false ↦ (λ q. refl)
-    ] refl
+other_name d (e ∷ dims) zero new h = grind (arith, false≢true, or_left, bytes_eq-Decides)
 other_name d (e ∷ dims) (suc k) new h = other_name d dims k (or_right (bytes_eq e.name d.name) (has_name (dim_names dims) d.name) new) (omega (arith, h))
 
 place_is : (dims : List Dim) (k : ℕ) → AreDistinctDims dims → k < length dims → position_or_len (λ (d : Dim). bytes_eq d.name (name_at dims k)) dims ≡ k
@@ -167,11 +119,7 @@ position_is : (dims : List Dim) (k : ℕ) → AreDistinctDims dims → k < lengt
 position_is dims k distinct h = rw (place_is dims k distinct h) (let e : nat_lt k (length dims) ≡ true = grind (arith, h) in rw (e) refl)
 
 later_fixed : (dims : List Dim) (before : List ℕ) (k : ℕ) → (IsTrue (is_record_dim dims k) → before ≡ []) → (nat_lt 0 (length before) && is_record_dim dims k) ≡ false
-later_fixed dims before k first =
-    elim (is_record_dim dims k) as (λ b. is_record_dim dims k ≡ b → (nat_lt 0 (length before) && b) ≡ false) [
-      | true ↦ (λ e. ap (λ (bs : List ℕ). nat_lt 0 (length bs) && true) (first e))
-      | false ↦ (λ e. and_false (nat_lt 0 (length before)))
-    ] refl
+later_fixed dims before k first = grind (arith, and_false)
 
 -- the names of the dimensions are valid
 abbrev pub HaveNames : List Dim → Type 0
@@ -185,16 +133,12 @@ name_valid (d ∷ dims) (suc k) names h = name_valid dims k names.1 (omega (arit
 id_added : (dims : List Dim) (before : List ℕ) (k : ℕ) → AreDistinctDims dims → HaveNames dims → IsDimid dims before k → add_dimid dims before (name_at dims k) ≡ Ok (before ++ k ∷ [])
 unfolding add_dimid
 id_added dims before k distinct names is =
-    let named : is_name (name_at dims k) ≡ true = name_valid dims k names is.known in
-    rw (named) (
-    ap (λ o. some_or o UnknownDimension >>= (λ j. when (nat_lt 0 (length before) && is_record_dim dims j) BadShape >>= (λ u. Ok (before ++ j ∷ [])))) (position_is dims k distinct is.known) ∙
-    rw (later_fixed dims before k is.record_first) refl)
+    grind (arith, name_at dims k, name_valid dims k names is.known, position_is dims k distinct is.known, later_fixed dims before k is.record_first, some_or)
 
 pub ids_added : (dims : List Dim) (before ids : List ℕ) → AreDistinctDims dims → HaveNames dims → AreDimids dims before ids → in_turn (add_dimid dims) before (map (name_at dims) ids) ≡ Ok (before ++ ids)
 ids_added dims before [] distinct names are = ap (λ bs. Ok bs) (sym (append-nil before))
 ids_added dims before (k ∷ ids) distinct names are =
-    turn (add_dimid dims) before (before ++ k ∷ []) (name_at dims k) (map (name_at dims) ids) (id_added dims before k distinct names are.0) ∙
-    ids_added dims (before ++ k ∷ []) ids distinct names are.1 ∙ ap (λ bs. Ok bs) (append_assoc before (k ∷ []) ids)
+    grind (arith, turn, name_at, id_added, append_assoc, ids_added dims (before ++ k ∷ []) ids distinct names are.1)
 
 abbrev pub bare_draft : List ℕ → List ℕ → List Att → NcType → Draft
 bare_draft name ids atts ty = record { var = record { name = name; dimids = ids; atts = atts; ty = ty; begin_at = 0 }; listed = None }
@@ -202,6 +146,4 @@ bare_draft name ids atts ty = record { var = record { name = name; dimids = ids;
 pub var_added : (dims : List Dim) (ty : NcType) (drafts : List Draft) (name ids : List ℕ) → IsName name → no_draft name drafts → AreDistinctDims dims → HaveNames dims → AreDimids dims [] ids →
     add_var dims ty drafts (record { name = name; dimensions = map (name_at dims) ids }) ≡ Ok (drafts ++ bare_draft name ids [] ty ∷ [])
 unfolding add_var
-var_added dims ty drafts name ids valid new distinct names are =
-    let named : is_name name ≡ true = valid in
-    rw (named) (rw (new) (ap (λ r. r >>= (λ is. Ok (drafts ++ bare_draft name is [] ty ∷ []))) (ids_added dims [] ids distinct names are)))
+var_added dims ty drafts name ids valid new distinct names are = grind (arith, ids_added)

@@ -11,9 +11,8 @@ abbrev WholeRows : ℕ → ℕ → Type 0
 WholeRows total row = (k : ℕ) × (total ≡ suc k * row) × (0 < row)
 
 some_rows : (k row total : ℕ) → total ≡ k * row → 0 < total → WholeRows total row
-some_rows zero row total e some = absurd (omega (arith, e, some))
-some_rows (suc k) zero total e some = absurd (let z : suc k * 0 ≡ 0 = omega arith in omega (arith, e, z, some))
-some_rows (suc k) (suc row) total e some = (k, e, omega arith)
+some_rows zero row total e some = grind arith
+some_rows _ _ total e some = grind arith
 
 two_long : (n : ℕ) → nat_lt (suc (suc n)) 2 ≡ false
 two_long n = grind arith
@@ -32,9 +31,7 @@ look_rows h var n width rank some = table_rows h.dims var.dimids (value_count h.
 
 -- a record variable of rank 1 isn't trimmed
 never_trimmed : (dims : List Dim) (ids : List ℕ) (b : Bool) → not (nat_lt (length ids) 2) ≡ false → has_records dims ids ≡ true → (b && not (has_records dims ids && (length ids == 1))) ≡ false
-never_trimmed dims [] b rank h = cc
-never_trimmed dims (a ∷ []) b rank h = rw (h) (and_false b)
-never_trimmed dims (a ∷ c ∷ ids) b rank h = absurd (false≢true (sym (two_long (length ids)) ∙ is_on (nat_lt (length (a ∷ c ∷ ids)) 2) rank))
+never_trimmed dims ids b h h2 = grind (arith, and_false, false≢true, two_long, is_on)
 
 line_whole : (h : Header) (var : Var) (n width : ℕ) → (look_of h var n width).in_rows ≡ false → is_record_var h.dims var ≡ true → (look_of h var n width).trimmed ≡ false
 unfolding look_of

@@ -1,6 +1,6 @@
 -- The values of an attribute are read back.
-use Rattle.std.proofs.Common.{◌≡◌, ℕ, zero, suc, ◌+◌, ◌*◌, ◌/◌, ◌^◌, ◌<◌, ◌≤◌, true, false, List, [], ◌∷◌, ◌++◌, length, drop, take, map, sym, ◌∙◌, ap, refl, subst, arith, length-take, length-drop, ℤ, pos, negsuc, unsigned_abs, if◌then◌else◌, nat_le, Ok}
-use Rattle.cdl_laws.proofs.Prelude.{flat_map, mul-div_cancel, ints, take-append-drop, get_or-drop, AreBytes, Att, NcType, Byte, Char, Short, Int, Ubyte, Ushort, Uint, Int64, Uint64, Version, numbers, numbers_from, number_of, bytes_of_number, IsInRange, size_of, IsSoundAtt, att_text, numbers_text, joined, without_trailing_nuls, IsName, is_char, has_type, trimmed_att, HasSomeNumber, Characters, has_number, in_turn, add_constant, and_both, le-leb, some_size, is_had}
+use Rattle.std.proofs.Common.{◌≡◌, ℕ, zero, suc, ◌+◌, ◌*◌, ◌/◌, ◌^◌, ◌<◌, true, false, List, [], ◌∷◌, ◌++◌, length, drop, take, map, sym, ◌∙◌, ap, refl, subst, arith, length-take, length-drop, ℤ, pos, unsigned_abs, if◌then◌else◌, Ok}
+use Rattle.cdl_laws.proofs.Prelude.{flat_map, mul-div_cancel, ints, take-append-drop, get_or-drop, AreBytes, Att, NcType, Char, Version, numbers, numbers_from, bytes_of_number, IsInRange, size_of, IsSoundAtt, att_text, numbers_text, joined, without_trailing_nuls, IsName, is_char, has_type, trimmed_att, HasSomeNumber, Characters, has_number, in_turn, add_constant, some_size, is_had}
 use Rattle.nc_base.proofs.NumberBytes.{bytes_read_back, numbers_in_range}
 use Rattle.cdl_laws.proofs.Acts.{numbers_added, chars_added}
 use Rattle.cdl_laws.proofs.Declarations.{IsListOf, chars_list, numbers_list, numbers_said, suffixed, first, others, all_bytes}
@@ -8,24 +8,7 @@ use Rattle.cdl_laws.proofs.Wholes.{Speaks}
 use Rattle.cdl_laws.proofs.Lists.{Each, each_map}
 
 pub small_is : (ty : NcType) (z : ℤ) → IsInRange ty z → unsigned_abs z < 2 ^ 64
-small_is Byte (pos n) h = let f : n < 128 = h.sfits in omega (arith, f)
-small_is Byte (negsuc n) h = let f : n < 128 = h.sfits in omega (arith, f)
-small_is Short (pos n) h = let f : n < 32768 = h.sfits in omega (arith, f)
-small_is Short (negsuc n) h = let f : n < 32768 = h.sfits in omega (arith, f)
-small_is Int (pos n) h = let f : n < 2147483648 = h.sfits in omega (arith, f)
-small_is Int (negsuc n) h = let f : n < 2147483648 = h.sfits in omega (arith, f)
-small_is Int64 (pos n) h = let f : n < 9223372036854775808 = h.sfits in omega (arith, f)
-small_is Int64 (negsuc n) h = let f : n < 9223372036854775808 = h.sfits in omega (arith, f)
-small_is Char (pos n) h = omega (arith, ints, h.0, h.1)
-small_is Char (negsuc n) h = absurd (omega (arith, ints, h.0))
-small_is Ubyte (pos n) h = omega (arith, ints, h.0, h.1)
-small_is Ubyte (negsuc n) h = absurd (omega (arith, ints, h.0))
-small_is Ushort (pos n) h = omega (arith, ints, h.0, h.1)
-small_is Ushort (negsuc n) h = absurd (omega (arith, ints, h.0))
-small_is Uint (pos n) h = omega (arith, ints, h.0, h.1)
-small_is Uint (negsuc n) h = absurd (omega (arith, ints, h.0))
-small_is Uint64 (pos n) h = omega (arith, ints, h.0, h.1)
-small_is Uint64 (negsuc n) h = absurd (omega (arith, ints, h.0))
+small_is ty z h = grind (arith, pos, ints)
 
 -- ---- the numbers that stand in bytes
 
@@ -33,10 +16,9 @@ drop_bytes : (n : ℕ) (bytes : List ℕ) → AreBytes bytes → AreBytes (drop 
 drop_bytes n bytes h i = subst (λ b. b < 256) (sym (get_or-drop n bytes i 0)) (h (n + i))
 
 pub take_bytes : (n : ℕ) (bytes : List ℕ) → AreBytes bytes → AreBytes (take n bytes)
-take_bytes zero bytes h i = omega arith
-take_bytes (suc n) [] h i = omega arith
 take_bytes (suc n) (b ∷ bytes) h zero = h 0
 take_bytes (suc n) (b ∷ bytes) h (suc i) = take_bytes n bytes (λ j. h (suc j)) i
+take_bytes _ _ h i = omega arith
 
 len_take : (ty : NcType) (n : ℕ) (bytes : List ℕ) → length bytes ≡ suc n * size_of ty → length (take (size_of ty) bytes) ≡ size_of ty
 len_take ty n bytes h = let e = length-take (size_of ty) bytes in let g : suc n * size_of ty ≡ size_of ty + n * size_of ty = grind arith in omega (arith, e, h, g)
@@ -82,15 +64,7 @@ char_speaks v att e name = record {
 
 values_text : (ty : NcType) (vals : List ℕ) → is_char ty ≡ false → att_text ty vals ≡ joined (map (suffixed ty) (numbers ty vals))
 unfolding numbers_text
-values_text Byte vals h = refl
-values_text Char vals h = cc
-values_text Short vals h = refl
-values_text Int vals h = refl
-values_text Ubyte vals h = refl
-values_text Ushort vals h = refl
-values_text Uint vals h = refl
-values_text Int64 vals h = refl
-values_text Uint64 vals h = refl
+values_text ty vals h = grind arith
 
 some_speak : (v : Version) (att : Att) (x : ℤ) (xs : List ℤ) → numbers att.ty att.vals ≡ x ∷ xs → is_char att.ty ≡ false → has_type v att.ty ≡ true → Each (IsInRange att.ty) (x ∷ xs) → flat_map (bytes_of_number att.ty) (x ∷ xs) ≡ att.vals → IsName att.name → Speaks v att
 some_speak v att x xs are other known range back name = record {
@@ -104,12 +78,10 @@ some_speak v att x xs are other known range back name = record {
 
 number_speaks : (v : Version) (att : Att) (n : ℕ) → AreBytes att.vals → length att.vals ≡ suc n * size_of att.ty → is_char att.ty ≡ false → has_type v att.ty ≡ true → IsName att.name → Speaks v att
 number_speaks v att n small len other known name =
-    some_speak v att (number_of att.ty (take (size_of att.ty) att.vals)) (numbers_from att.ty n (drop (size_of att.ty) att.vals)) (count_is att.ty (suc n) att.vals len) other known
-    (numbers_range att.ty (suc n) att.vals small len) (numbers_back att.ty (suc n) att.vals small len) name
+    grind (arith, count_is att.ty (suc n) att.vals len, numbers_range att.ty (suc n) att.vals small len, numbers_back att.ty (suc n) att.vals small len, some_speak)
 
 is_char_type : (ty : NcType) → is_char ty ≡ true → ty ≡ Char
-is_char_type Char h = refl
-is_char_type _ h = cc
+is_char_type ty h = grind arith
 
 pub speaks : (v : Version) (att : Att) → IsSoundAtt v att → AreBytes att.vals → HasSomeNumber att → IsName att.name → Speaks v att
 speaks v att sound small some name =

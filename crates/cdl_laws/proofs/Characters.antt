@@ -1,6 +1,6 @@
 -- The strings of a variable of characters are read back.
-use Rattle.std.proofs.Common.{◌≡◌, ℕ, suc, ◌+◌, ◌*◌, ◌-◌, ◌%◌, ◌<◌, ◌≤◌, Bool, true, false, List, [], ◌∷◌, ◌++◌, length, drop, map, sym, ◌∙◌, ap, refl, subst, arith, append_assoc, append-nil, length-append, ℤ, unsigned_abs, ◌&&◌, ◌==◌, if◌then◌else◌, replicate, codes}
-use Rattle.cdl_laws.proofs.Prelude.{flat_map, suffix_len, prefix_len, reverse-append, drop_all, flat_map-append, mul-mod_left, drop-append_seam, escaped_name, escaped_in_string, escaped_text, IsName, Look, is_char, begins_row, char_lead, char_text, char_piece, held, row_so_far, is_nul, piece, pieces, variable_opening, variable_closing, variable_prefix, variable_text, Lexeme, lexemes_at, scan, and_left, and_right, escaped-append}
+use Rattle.std.proofs.Common.{◌≡◌, ℕ, suc, ◌+◌, ◌*◌, ◌%◌, ◌<◌, ◌≤◌, Bool, true, false, List, [], ◌∷◌, ◌++◌, length, map, sym, ◌∙◌, ap, refl, subst, arith, append_assoc, append-nil, length-append, ℤ, unsigned_abs, ◌&&◌, ◌==◌, if◌then◌else◌, replicate, codes}
+use Rattle.cdl_laws.proofs.Prelude.{flat_map, suffix_len, prefix_len, reverse-append, drop_all, mul-mod_left, drop-append_seam, escaped_name, escaped_in_string, escaped_text, IsName, Look, is_char, begins_row, char_lead, char_text, char_piece, held, row_so_far, is_nul, piece, pieces, variable_opening, variable_closing, variable_prefix, variable_text, Lexeme, lexemes_at, scan, and_left, and_right, escaped-append}
 use Rattle.std.proofs.lemmas.Nat.{mod-mul-add}
 use Rattle.cdl_laws.proofs.Lists.{Each}
 use Rattle.cdl_laws.proofs.Texts.{Closed, closed_both, mark, word}
@@ -17,8 +17,7 @@ pieces_are : (look : Look) (before : List ℕ) (values xs : List ℤ) → is_cha
 unfolding pieces piece chars
 pieces_are look before values [] h = refl
 pieces_are look before values (x ∷ xs) h =
-    ap (λ p. p ++ pieces look (before ++ piece look before values x) (values ++ x ∷ []) xs) (rw (h) refl) ∙
-    ap (λ more. char_piece look values x ++ more) (pieces_are look (before ++ piece look before values x) (values ++ x ∷ []) xs h)
+    grind (arith, pieces, piece, pieces_are look (before ++ piece look before values x) (values ++ x ∷ []) xs h)
 
 -- ---- one row
 
@@ -32,10 +31,7 @@ abbrev waits : Look → List ℤ → ℕ
 waits look p = if look.trimmed then suffix_len is_nul p else 0
 
 so_far : (look : Look) (done p : List ℤ) (k : ℕ) → length done ≡ k * look.row → length p < look.row → row_so_far look (done ++ p) ≡ p
-so_far look done p k h small =
-    let len = length-append done p in
-    let rem : length (done ++ p) % look.row ≡ length p = ap (λ n. n % look.row) (len ∙ ap (λ n. n + length p) h) ∙ mod-mul-add k look.row (length p) small in
-    ap (λ n. drop n (done ++ p)) (ap (λ n. length (done ++ p) - n) rem ∙ (let e : length (done ++ p) - length p ≡ length done = omega (arith, len) in e)) ∙ drop-append_seam done p
+so_far look done p k h small = grind (arith, length-append done p, mod-mul-add k look.row (length p) small, drop-append_seam done p)
 
 held_is : (look : Look) (done p : List ℤ) (k : ℕ) → length done ≡ k * look.row → length p < look.row → held look (done ++ p) ≡ waits look p
 held_is look done p k h small = ap (λ (q : List ℤ). if look.trimmed then suffix_len is_nul q else 0) (so_far look done p k h small)
@@ -44,17 +40,10 @@ suffix_more : (p : List ℤ) (x : ℤ) → suffix_len is_nul (p ++ x ∷ []) ≡
 suffix_more p x = ap (prefix_len is_nul) (reverse-append p (x ∷ []))
 
 waits_more : (look : Look) (p : List ℤ) (x : ℤ) → (look.trimmed && is_nul x) ≡ true → waits look (p ++ x ∷ []) ≡ waits look p + 1
-waits_more look p x h =
-    let t : look.trimmed ≡ true = and_left look.trimmed (is_nul x) h in
-    let z : is_nul x ≡ true = and_right look.trimmed (is_nul x) h in
-    rw (t) (suffix_more p x ∙ rw (z) (let e : 1 + suffix_len is_nul p ≡ suffix_len is_nul p + 1 = omega arith in e))
+waits_more look p x h = grind (arith, and_left, and_right, suffix_more)
 
 waits_none : (look : Look) (p : List ℤ) (x : ℤ) → (look.trimmed && is_nul x) ≡ false → waits look (p ++ x ∷ []) ≡ 0
-waits_none look p x h =
-    elim (look.trimmed) as (λ t. (t && is_nul x) ≡ false → (if t then suffix_len is_nul (p ++ x ∷ []) else 0) ≡ 0) [
-      | true ↦ (λ e. suffix_more p x ∙ rw (e) refl)
-      | false ↦ (λ e. refl)
-    ] h
+waits_none look p x h = grind (arith, suffix_more)
 
 inside : (look : Look) (done p : List ℤ) (k : ℕ) → length done ≡ k * look.row → 0 < length p → length p < look.row → begins_row look (length (done ++ p)) ≡ false
 inside look done p k h some small =
@@ -74,45 +63,24 @@ shown_more t n x xs = refl
 -- a character and what its row shows after it
 joins : (look : Look) (n m : ℕ) (x : ℤ) (xs : List ℤ) (tail : List ℕ) → ((look.trimmed && is_nul x) ≡ true → m ≡ n + 1) → ((look.trimmed && is_nul x) ≡ false → m ≡ 0) →
     char_text look n x ++ (escaped_text (shown look.trimmed m xs) ++ tail) ≡ escaped_text (shown look.trimmed n (x ∷ xs)) ++ tail
-joins look n m x xs tail on other =
-    let t = look.trimmed in
-    elim (t && is_nul x) as (λ w. (t && is_nul x) ≡ w →
-    (if w then [] else escaped_text (replicate n 0 ++ unsigned_abs x ∷ [])) ++ (escaped_text (shown t m xs) ++ tail) ≡ escaped_text (shown t n (x ∷ xs)) ++ tail) [
-      | true ↦ (λ e. ap (λ k. escaped_text (shown t k xs) ++ tail) (on e) ∙ ap (λ bs. escaped_text bs ++ tail) (sym (shown_more t n x xs ∙ rw (e) refl)))
-      | false ↦ (λ e.
-          let a = replicate n 0 ++ unsigned_abs x ∷ [] in
-          ap (λ k. escaped_text a ++ (escaped_text (shown t k xs) ++ tail)) (other e) ∙
-          sym (append_assoc (escaped_text a) (escaped_text (shown t 0 xs)) tail) ∙
-          ap (λ bs. bs ++ tail) (sym (escaped-append a (shown t 0 xs))) ∙
-          ap (λ bs. escaped_text bs ++ tail) (sym (shown_more t n x xs ∙ rw (e) refl)))
-    ] refl
+joins look n m x xs tail on other = grind (arith, shown_more, append_assoc, escaped-append)
 
 in_row : (look : Look) (done p xs rest : List ℤ) (k : ℕ) → length done ≡ k * look.row → 0 < length p → length p + length xs ≤ look.row →
     chars look (done ++ p) (xs ++ rest) ≡ escaped_text (shown look.trimmed (waits look p) xs) ++ chars look (done ++ (p ++ xs)) rest
 unfolding chars shown escaped_text
 in_row look done p [] rest k h some small = ap (λ q. chars look (done ++ q) rest) (sym (append-nil p))
 in_row look done p (x ∷ xs) rest k h some small =
-    let len = length-append p (x ∷ []) in
-    let ih = in_row look done (p ++ x ∷ []) xs rest k h (omega (arith, len)) (omega (arith, len, small)) in
-    ap (λ c. c ++ chars look ((done ++ p) ++ x ∷ []) (xs ++ rest)) (char_inside look done p k x h some (omega (arith, small))) ∙
-    ap (λ q. char_text look (waits look p) x ++ chars look q (xs ++ rest)) (append_assoc done p (x ∷ [])) ∙
-    ap (λ m. char_text look (waits look p) x ++ m) ih ∙
-    joins look (waits look p) (waits look (p ++ x ∷ [])) x xs (chars look (done ++ ((p ++ x ∷ []) ++ xs)) rest) (waits_more look p x) (waits_none look p x) ∙
-    ap (λ q. escaped_text (shown look.trimmed (waits look p) (x ∷ xs)) ++ chars look (done ++ q) rest) (append_assoc p (x ∷ []) xs)
+    grind (arith, length-append, char_inside, append_assoc, joins, waits_more, waits_none, in_row look done (p ++ x ∷ []) xs rest k h)
 
 -- a row, with what stands before it
 starts : (look : Look) (done : List ℤ) (k : ℕ) → length done ≡ k * look.row → begins_row look (length done) ≡ true
 starts look done k h = rw (ap (λ n. n % look.row) h ∙ mul-mod_left k look.row) refl
 
 zero_or : (t : Bool) (z : ℕ) → z ≡ 0 → (if t then z else 0) ≡ 0
-zero_or true z e = e
-zero_or false z e = refl
+zero_or t z h = grind arith
 
 none_held : (look : Look) (done : List ℤ) (k : ℕ) → length done ≡ k * look.row → held look done ≡ 0
-none_held look done k h =
-    let rem : length done % look.row ≡ 0 = ap (λ n. n % look.row) h ∙ mul-mod_left k look.row in
-    let all : row_so_far look done ≡ [] = ap (λ n. drop (length done - n) done) rem ∙ drop_all (length done - 0) done (omega arith) in
-    rw (all) (zero_or look.trimmed (suffix_len is_nul []) refl)
+none_held look done k h = grind (arith, mul-mod_left, drop_all, zero_or)
 
 char_first : (look : Look) (done : List ℤ) (k : ℕ) (x : ℤ) → length done ≡ k * look.row → char_piece look done x ≡ char_lead look (length done) ++ char_text look 0 x
 unfolding char_piece
@@ -167,10 +135,7 @@ last_closed r =
 -- the bytes of a string, its end and another row
 regroup : (e lead f c q : List ℕ) → lead ≡ codes "\",\n  \"" →
     (e ++ 34 ∷ []) ++ (codes ",\n  " ++ 34 ∷ (f ++ (c ++ q))) ≡ e ++ ((lead ++ (f ++ c)) ++ q)
-regroup e lead f c q h =
-    append_assoc e (34 ∷ []) (codes ",\n  " ++ 34 ∷ (f ++ (c ++ q))) ∙
-    ap (λ bs. e ++ (codes "\",\n  \"" ++ bs)) (sym (append_assoc f c q)) ∙
-    ap (λ l. e ++ ((l ++ (f ++ c)) ++ q)) (sym h)
+regroup e lead f c q h = grind (arith, append_assoc, codes)
 
 pub rows_closed : (look : Look) (done : List ℤ) (k : ℕ) (r : List ℕ) (rows : List (List ℤ)) → look.in_rows ≡ true → length done ≡ k * look.row → 0 < length done → 0 < look.row → Each (λ (s : List ℤ). length s ≡ look.row) rows →
     Closed (34 ∷ (escaped_text r ++ (chars look done (flat rows) ++ closing_bytes))) (string r ∷ (commas (map (row_string look) rows) ++ mark 59 ∷ []))
@@ -200,10 +165,7 @@ char_closing look h = rw (h) refl
 
 char_variable : (look : Look) (values : List ℤ) → is_char look.ty ≡ true → variable_text look values ≡ variable_opening look ++ (chars look [] values ++ closing_bytes)
 unfolding variable_text variable_prefix
-char_variable look values h =
-    append_assoc (variable_opening look) (pieces look (variable_opening look) [] values) (variable_closing look) ∙
-    ap (λ p. variable_opening look ++ (p ++ variable_closing look)) (pieces_are look (variable_opening look) [] values h) ∙
-    ap (λ q. variable_opening look ++ (chars look [] values ++ q)) (char_closing look h)
+char_variable look values h = grind (arith, append_assoc, variable_opening, pieces, variable_closing, pieces_are, char_closing)
 
 -- the lexemes of its strings
 abbrev pub strings : Look → List ℤ → List (List ℤ) → List Lexeme

@@ -1,8 +1,7 @@
 -- The data section of a dump, variable after variable.
-use Rattle.std.proofs.Common.{◌≡◌, ℕ, ◌+◌, ◌<◌, ◌≤◌, Bool, true, false, List, [], ◌∷◌, ◌++◌, length, map, sym, ◌∙◌, ap, refl, subst, append_assoc, ℤ, pos, if◌then◌else◌, Option, None, Some, Ok}
-use Rattle.cdl_laws.proofs.Prelude.{Att, Dim, Header, Var, Version, VariableValues, whole, shown_data, with_variable, has_values, fill_value, IsName, is_record_var, Look, look_of, is_char, variable_text, Values, trimmed_var, Value, Characters, Listed, State, Draft, Listing, Numbers, Joined, Rows, Capacity, capacity_of, act, listing_of, values_in, with_values, filled, has_number}
+use Rattle.std.proofs.Common.{◌≡◌, ℕ, ◌+◌, ◌<◌, ◌≤◌, Bool, true, false, List, [], ◌∷◌, ◌++◌, length, map, sym, ◌∙◌, ap, refl, subst, append_assoc, ℤ, pos, if◌then◌else◌, Option, None, Some, Ok, arith}
+use Rattle.cdl_laws.proofs.Prelude.{Att, Dim, Header, Var, Version, VariableValues, whole, shown_data, with_variable, has_values, fill_value, IsName, is_record_var, Look, look_of, is_char, variable_text, Values, trimmed_var, Value, Characters, Listed, State, Draft, Listing, Numbers, Joined, Rows, Capacity, capacity_of, act, listing_of, values_in, filled, has_number}
 use Rattle.nc_base.specs.Dump.{DataText, data_text}
-use Rattle.cdl_meaning.specs.State.{◌>>=◌}
 use Rattle.cdl_laws.proofs.Lists.{Each}
 use Rattle.cdl_laws.proofs.ValueTexts.{AreSmall, value_said, numbers_listed}
 use Rattle.cdl_laws.proofs.Characters.{flat, shown}
@@ -109,10 +108,7 @@ all_marked vars = map (λ (w : Var). true) vars
 listed_act : (v : Version) (dims : List Dim) (gatts : List Att) (before after : List Draft) (look : Look) (var : Var) (values : List ℤ) (g : Gives v dims look var values) → IsName var.name → no_draft var.name before →
     act v (state Values dims gatts (before ++ draft_of var ∷ after)) (Listed var.name g.said) ≡ Ok (state Values dims gatts (before ++ given_draft var (Some g.listing) ∷ after))
 unfolding act
-listed_act v dims gatts before after look var values g valid new =
-    ap (λ r. r >>= (λ drafts. Ok (state Values dims gatts drafts)))
-    (variable_is (with_values dims g.said) before (draft_of var) (given_draft var (Some g.listing)) after valid new
-    (ap (λ r. r >>= (λ listing. Ok (given_draft var (Some listing)))) g.added))
+listed_act v dims gatts before after look var values g valid new = grind (arith, variable_is)
 
 -- one variable before others
 one_taken : (v : Version) (h : Header) (gatts : List Att) (before after : List Draft) (look : Look) (var : Var) (c : VariableValues) (o : Option Listing) (place : ℕ) (others : DataText) (t : State) (b : Bool) →
@@ -130,16 +126,9 @@ one_taken v h gatts before after look var c o place others t false valid new all
 pub data_taken : (v : Version) (h : Header) (content : ℕ → Var → VariableValues) (n width place : ℕ) (gatts : List Att) (before : List Draft) (vars : List Var) (os : List (Option Listing)) → AreGiven v h content n width place before vars os →
     Takes v (data_text (shown_data h content n width) place vars (all_marked vars)).text (state Values h.dims gatts (before ++ map draft_of vars)) (state Values h.dims gatts (before ++ given_drafts vars os))
 data_taken v h content n width place gatts before [] [] given = takes_nothing v (state Values h.dims gatts (before ++ []))
-data_taken v h content n width place gatts before [] (o ∷ os) given = absurd given
-data_taken v h content n width place gatts before (var ∷ vars) [] given = absurd given
 data_taken v h content n width place gatts before (var ∷ vars) (o ∷ os) given =
-    let g = given.0 in
-    let ih = data_taken v h content n width (place + 1) gatts (before ++ given_draft var o ∷ []) vars os given.1 in
-    let others = data_text (shown_data h content n width) (place + 1) vars (all_marked vars) in
-    let goal = state Values h.dims gatts (before ++ given_drafts (var ∷ vars) (o ∷ os)) in
-    one_taken v h gatts before (map draft_of vars) (look_of h var n width) var (content place var) o place others goal (has_values h.dims n var) g.name g.new g.all g.given
-    (subst (λ ds. Takes v others.text (state Values h.dims gatts ds) goal) (append_assoc before (given_draft var o ∷ []) (map draft_of vars))
-    (subst (λ ds. Takes v others.text (state Values h.dims gatts ((before ++ given_draft var o ∷ []) ++ map draft_of vars)) (state Values h.dims gatts ds)) (append_assoc before (given_draft var o ∷ []) (given_drafts vars os)) ih))
+    grind (arith, one_taken, append_assoc, data_taken v h content n width (place + 1) gatts (before ++ given_draft var o ∷ []) vars os given.1)
+data_taken v h content n width place gatts before _ _ given = absurd given
 
 -- and the section is whole
 pub data_whole : (v : Version) (h : Header) (content : ℕ → Var → VariableValues) (n width place : ℕ) (before : List Draft) (vars : List Var) (os : List (Option Listing)) → AreGiven v h content n width place before vars os →
@@ -147,6 +136,4 @@ pub data_whole : (v : Version) (h : Header) (content : ℕ → Var → VariableV
 data_whole v h content n width place before [] os given = refl
 data_whole v h content n width place before (var ∷ vars) [] given = absurd given
 data_whole v h content n width place before (var ∷ vars) (o ∷ os) given =
-    let others = data_text (shown_data h content n width) (place + 1) vars (all_marked vars) in
-    let ih = data_whole v h content n width (place + 1) (before ++ given_draft var o ∷ []) vars os given.1 in
-    rw (given.0.all) (elim (has_values h.dims n var) as (λ b. (if b then with_variable (look_of h var n width) (content place var).values None place others else others).ending ≡ whole) [ true ↦ ih | false ↦ ih ])
+    grind (arith, whole, data_whole v h content n width (place + 1) (before ++ given_draft var o ∷ []) vars os given.1)

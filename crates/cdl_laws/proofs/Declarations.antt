@@ -1,6 +1,6 @@
 -- The statements of a head, and what they say.
 use Rattle.std.proofs.Common.{◌≡◌, ℕ, ◌^◌, ◌<◌, true, false, List, [], ◌∷◌, ◌++◌, map, sym, ◌∙◌, ap, refl, subst, arith, append_assoc, append-nil, ℤ, pos, unsigned_abs, decimal, ◌==◌, not, if◌then◌else◌, None, Some, codes}
-use Rattle.cdl_laws.proofs.Prelude.{signed_decimal, flat_map, list_all, option_map, flat_map-append, list_all-append, concat_parts, Att, Dim, NcType, Version, escaped_name, escaped_in_string, joined, dim_len_text, dim_line, unlimited_word, currently_word, att_line, att_text, chars_text, broken_text, string_break, without_trailing_nuls, IsName, number_suffix, is_char, has_type, Section, Globals, Dimensions, Variables, is_digit, scan, Lexeme, extent_said, said_dim, IsBeforeData, globals, dimensions, variables, lexemes_at, Value, Number, Characters, Statement, Declared, Attribute, each, both, constant, constants, length_of, typed, attribute, global, assigned, body, either, and_left, and_right, and_both}
+use Rattle.cdl_laws.proofs.Prelude.{signed_decimal, flat_map, list_all, option_map, flat_map-append, list_all-append, concat_parts, Att, Dim, NcType, Version, escaped_name, escaped_in_string, joined, dim_len_text, dim_line, unlimited_word, currently_word, att_line, att_text, chars_text, broken_text, string_break, without_trailing_nuls, IsName, number_suffix, is_char, has_type, Section, Globals, Dimensions, Variables, is_digit, scan, Lexeme, said_dim, IsBeforeData, globals, dimensions, variables, lexemes_at, Value, Number, Characters, Statement, Declared, Attribute, each, both, constant, constants, typed, attribute, global, assigned, body, either, and_left, and_right, and_both}
 use Rattle.cdl_statements.specs.Shapes.{dimensions as dimensions_of}
 use Rattle.cdl_laws.proofs.Lists.{Each}
 use Rattle.cdl_laws.proofs.Texts.{Closed, Reads, closed_both, closed_by, mark, word, number, name_word}
@@ -15,10 +15,7 @@ use Rattle.cdl_laws.proofs.Heads.{name_starts, bare_word, tab_closed, tabs_close
 
 digits_no_feed : (ds : List ℕ) → list_all is_digit ds ≡ true → list_all (λ b. not (b == 10)) ds ≡ true
 digits_no_feed [] h = refl
-digits_no_feed (d ∷ ds) h = and_both (not (d == 10)) (list_all (λ b. not (b == 10)) ds) (no_feed d (and_left (is_digit d) (list_all is_digit ds) h)) (digits_no_feed ds (and_right (is_digit d) (list_all is_digit ds) h))
-  where
-    no_feed : (d : ℕ) → is_digit d ≡ true → not (d == 10) ≡ true
-    no_feed d h = grind (arith, h)
+digits_no_feed (d ∷ ds) h = grind (arith, and_both, and_left, and_right, digits_no_feed ds (and_right (is_digit d) (list_all is_digit ds) h))
 
 records_comment : (n : ℕ) → list_all (λ b. not (b == 10)) (codes " (" ++ (decimal n ++ codes " currently)")) ≡ true
 records_comment n = list_all-append (λ b. not (b == 10)) (decimal n) (codes " currently)") ∙ and_both (list_all (λ b. not (b == 10)) (decimal n)) true (digits_no_feed (decimal n) (decimal_digits n)) refl
@@ -53,25 +50,11 @@ dim_closed n dim name h =
     (closed_both (codes " = ") (dim_len_text n dim.len ++ []) (mark 61 ∷ []) (extent_lexeme dim.len ∷ semicolon ∷ []) is_closed (extent_closed n dim.len h)))
 
 extent_fine : (v : Version) (len : ℕ) → len < 2 ^ 64 → is_fine v (extent_lexeme len) ≡ true
-extent_fine v len h =
-    elim (len == 0) as (λ w. is_fine v (if w then word (codes "UNLIMITED") else number (decimal len)) ≡ true) [
-      | true ↦ word_fine v (codes "UNLIMITED")
-      | false ↦ rw (value_again v (pos len) h) refl
-    ]
-
-extent_is : (v : Version) (len : ℕ) → len < 2 ^ 64 → length_of v (extent_lexeme len) ≡ Some (extent_said len)
-extent_is v len h =
-    elim (len == 0) as (λ w. length_of v (if w then word (codes "UNLIMITED") else number (decimal len)) ≡ Some (if w then None else Some (pos len))) [
-      | true ↦ refl
-      | false ↦ rw (value_again v (pos len) h) refl
-    ]
+extent_fine v len h = grind (arith, codes "UNLIMITED", decimal len, word_fine v (codes "UNLIMITED"), value_again v (pos len) h, pos len, word, number)
 
 dim_is : (v : Version) (dim : Dim) → IsName dim.name → dim.len < 2 ^ 64 → body v Dimensions (word (escaped_name dim.name) ∷ mark 61 ∷ extent_lexeme dim.len ∷ []) ≡ Some (Declared (said_dim dim ∷ []))
 dim_is v dim name h =
-    elim (dim.len == 0) as (λ w. body v Dimensions (word (escaped_name dim.name) ∷ mark 61 ∷ (if w then word (codes "UNLIMITED") else number (decimal dim.len)) ∷ []) ≡ Some (Declared (record { name = dim.name; len = if w then None else Some (pos dim.len) } ∷ []))) [
-      | true ↦ rw ((name_word dim.name name).stands) refl
-      | false ↦ rw ((name_word dim.name name).stands) (rw (value_again v (pos dim.len) h) refl)
-    ]
+    grind (arith, word (escaped_name dim.name), codes "UNLIMITED", decimal dim.len, pos dim.len, name_word dim.name name, value_again v (pos dim.len) h, number)
 
 pub dim_says : (v : Version) (n : ℕ) (dim : Dim) → IsName dim.name → dim.len < 2 ^ 64 → Says v Dimensions (dim_line n dim) (Declared (said_dim dim ∷ []))
 dim_says v n dim name h =
@@ -119,22 +102,16 @@ first (b ∷ []) = b ∷ []
 first (b ∷ c ∷ bytes) = if b == 10 then b ∷ [] else b ∷ first (c ∷ bytes)
 
 pub others : List ℕ → List (List ℕ)
-others [] = []
-others (b ∷ []) = []
 others (b ∷ c ∷ bytes) = if b == 10 then first (c ∷ bytes) ∷ others (c ∷ bytes) else others (c ∷ bytes)
+others _ = []
 
 abbrev flat_bytes : List (List ℕ) → List ℕ
 flat_bytes all = flat_map (λ (b : List ℕ). b) all
 
 pub all_bytes : (bytes : List ℕ) → first bytes ++ flat_bytes (others bytes) ≡ bytes
 unfolding first others
-all_bytes [] = refl
-all_bytes (b ∷ []) = refl
-all_bytes (b ∷ c ∷ bytes) =
-    elim (b == 10) as (λ w. (if w then b ∷ [] else b ∷ first (c ∷ bytes)) ++ flat_bytes (if w then first (c ∷ bytes) ∷ others (c ∷ bytes) else others (c ∷ bytes)) ≡ b ∷ c ∷ bytes) [
-      | true ↦ ap (λ bs. b ∷ bs) (all_bytes (c ∷ bytes))
-      | false ↦ ap (λ bs. b ∷ bs) (all_bytes (c ∷ bytes))
-    ]
+all_bytes (b ∷ c ∷ bytes) = grind (arith, first, others, all_bytes (c ∷ bytes))
+all_bytes _ = refl
 
 abbrev esc : List ℕ → List ℕ
 esc bytes = flat_map escaped_in_string bytes
@@ -145,9 +122,6 @@ esc_more pre b = flat_map-append escaped_in_string pre (b ∷ []) ∙ ap (λ bs.
 break_closed : Closed (codes ",\n\t\t\t") (comma ∷ [])
 unfolding lexemes_at scan
 break_closed rest = refl
-
-broken_more : (b c : ℕ) (bytes : List ℕ) → broken_text (b ∷ c ∷ bytes) ≡ escaped_in_string b ++ ((if b == 10 then string_break else []) ++ broken_text (c ∷ bytes))
-broken_more b c bytes = refl
 
 broken_here : (pre : List ℕ) (b : ℕ) (bytes : List ℕ) (l : Lexeme) (ls : List Lexeme) → Closed (34 ∷ (broken_text bytes ++ 34 ∷ [])) (l ∷ ls) →
     Closed (34 ∷ (esc pre ++ ((escaped_in_string b ++ (string_break ++ broken_text bytes)) ++ 34 ∷ []))) (string (pre ++ b ∷ []) ∷ comma ∷ l ∷ ls)
@@ -223,9 +197,7 @@ att_closed v att said list name =
     (closed_by (att_text att.ty att.vals) (codes " ;\n" ++ []) (list.l ∷ commas list.ls) (semicolon ∷ []) list.reads (λ rest. refl) semicolon_closed)))
 
 att_fine : (v : Version) (att : Att) (said : List Value) (list : IsListOf v (att_text att.ty att.vals) said) → list_all (is_fine v) (mark 58 ∷ word (escaped_name att.name) ∷ mark 61 ∷ list.l ∷ commas list.ls) ≡ true
-att_fine v att said list =
-    and_both (is_fine v (word (escaped_name att.name))) (list_all (is_fine v) (mark 61 ∷ list.l ∷ commas list.ls)) (word_fine v (escaped_name att.name))
-    (and_both (is_fine v list.l) (list_all (is_fine v) (commas list.ls)) (and_left (is_fine v list.l) (list_all (is_fine v) list.ls) list.fine) (fine_commas v list.ls (and_right (is_fine v list.l) (list_all (is_fine v) list.ls) list.fine)))
+att_fine v att said list = grind (arith, and_both, word, word_fine, and_left, fine_commas, and_right)
 
 assigned_is : {A : Type 0} (v : Version) (f : List ℕ → List Value → A) (att : Att) (said : List Value) (list : IsListOf v (att_text att.ty att.vals) said) → IsName att.name →
     assigned v false f (word (escaped_name att.name) ∷ mark 61 ∷ list.l ∷ commas list.ls) ≡ Some (f att.name said)
@@ -245,14 +217,11 @@ in_variables : takes_global Variables
 in_variables v ls s h = ap (λ o. either o (either (attribute v ls) (typed ls))) h
 
 global_in : (section : Section) → IsBeforeData section → takes_global section
-global_in section globals = in_globals
-global_in section dimensions = in_dimensions
-global_in section variables = in_variables
+global_in section globals = grind (arith, in_globals, dimensions, in_dimensions, variables, in_variables)
+global_in section _ = grind (arith, in_globals, dimensions, in_dimensions, variables, in_variables)
 
 open_in : (section : Section) → IsBeforeData section → is_open section ≡ true
-open_in section globals = refl
-open_in section dimensions = refl
-open_in section variables = refl
+open_in section h = grind arith
 
 pub global_says : (v : Version) (section : Section) (att : Att) (said : List Value) → IsBeforeData section → IsListOf v (att_text att.ty att.vals) said → IsName att.name → Says v section (att_line [] att) (Attribute None att.name said)
 unfolding att_line concat_parts

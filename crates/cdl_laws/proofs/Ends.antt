@@ -1,7 +1,6 @@
 -- The opening, the section marks and the closing brace of a dump.
-use Rattle.std.proofs.Common.{◌≡◌, ℕ, ◌+◌, ◌<◌, true, false, List, [], ◌∷◌, ◌++◌, length, map, sym, ◌∙◌, ap, refl, subst, arith, append_assoc, append-nil, length-append, ◌==◌, if◌then◌else◌, nat_lt, Some, Ok, codes}
-use Rattle.cdl_laws.proofs.Prelude.{list_all, false≢true, eqb-true, concat_parts, Att, Dim, Var, Version, escaped_name, is_plain, dim_line, dim_lines, dims_text, att_line, att_lines, var_lines, vars_text, gatts_text, dimensions_word, variables_word, global_word, IsName, may_follow_in_name, may_begin_name, Section, Globals, Dimensions, Variables, Values, Ended, scan, word_len, len_until, scan_opening, token, Lexeme, piece_read, empty, pieces_at, is_section, cut_lexemes, lexemes_at, lexemes, pieces_of, trimmed_att, Mark, shape, State, Draft, act, in_turn, IsBeforeData, globals, dimensions, variables, and_left, until_at_start, lt-ltb, not_none}
-use Rattle.cdl_statements.specs.declared.section.Section.TheVariants as sections
+use Rattle.std.proofs.Common.{◌≡◌, ℕ, ◌+◌, true, false, List, [], ◌∷◌, ◌++◌, length, map, sym, ◌∙◌, ap, refl, subst, arith, append_assoc, append-nil, length-append, ◌==◌, Some, Ok, codes}
+use Rattle.cdl_laws.proofs.Prelude.{false≢true, eqb-true, concat_parts, Att, Dim, Var, Version, escaped_name, is_plain, dim_line, dim_lines, dims_text, att_line, att_lines, var_lines, vars_text, gatts_text, dimensions_word, variables_word, global_word, IsName, Section, Globals, Dimensions, Variables, Values, Ended, scan, word_len, len_until, scan_opening, Lexeme, piece_read, empty, pieces_at, is_section, cut_lexemes, lexemes_at, lexemes, pieces_of, trimmed_att, Mark, shape, State, Draft, act, in_turn, IsBeforeData, globals, dimensions, variables, and_left, until_at_start, lt-ltb, not_none}
 use Rattle.cdl_tokens.specs.declared.token.TokenKind.TheVariants as kinds
 use Rattle.cdl_laws.proofs.Lists.{Each}
 use Rattle.cdl_laws.proofs.NameTexts.{rest_of, begins_goes_on, Begins, marked, bare, begins}
@@ -61,8 +60,7 @@ before_of (d ∷ dims) = dimensions
 
 variables_shape : (v : Version) (dims : List Dim) → shape v (after_dims dims) (word (codes "variables") ∷ mark 58 ∷ []) ≡ Some (Mark Variables)
 unfolding shape
-variables_shape v [] = refl
-variables_shape v (d ∷ dims) = refl
+variables_shape v dims = grind arith
 
 pub vars_part : (v : Version) (dims : List Dim) (vars : List Var) (gatts : List Att) → acts.AreDistinctDims dims → acts.HaveNames dims → AreFit v dims [] vars →
     Takes v (vars_text dims vars) (state (after_dims dims) dims gatts []) (state (after_vars (after_dims dims) vars) dims gatts (map draft_of vars))
@@ -78,8 +76,7 @@ vars_part v dims (var ∷ vars) gatts distinct names fit =
     (vars_taken v dims gatts [] (var ∷ vars) distinct names fit)))
 
 before_vars : (dims : List Dim) (vars : List Var) → IsBeforeData (after_vars (after_dims dims) vars)
-before_vars dims [] = before_of dims
-before_vars dims (var ∷ vars) = variables
+before_vars dims vars = grind (arith, before_of, variables)
 
 -- the line before global attributes is a comment
 global_word_taken : (v : Version) (s : State) → Takes v global_word s s
@@ -104,13 +101,7 @@ data_mark v dims gatts drafts = says_takes v (codes "data:\n") (Mark Values) (st
 
 pub end_taken : (v : Version) (section : Section) (dims : List Dim) (gatts : List Att) (drafts : List Draft) → is_open section ≡ true → in_turn (piece_read v) (state section dims gatts drafts) (pieces_of (codes "}\n")) ≡ Ok (state Ended dims gatts drafts)
 unfolding pieces_of lexemes_at scan pieces_at piece_read shape act
-end_taken v Globals dims gatts drafts h = refl
-end_taken v Dimensions dims gatts drafts h = refl
-end_taken v Variables dims gatts drafts h = refl
-end_taken v Values dims gatts drafts h = refl
-end_taken v sections.Unopened dims gatts drafts h = cc
-end_taken v sections.Closed dims gatts drafts h = cc
-end_taken v sections.Ended dims gatts drafts h = cc
+end_taken v section dims gatts drafts h = grind arith
 
 -- ---- the opening
 
@@ -129,20 +120,13 @@ until_escape b rest = refl
 
 until_rest : (bs rest : List ℕ) → len_until 0x7b (rest_of bs ++ 32 ∷ 123 ∷ rest) ≡ length (rest_of bs) + 1
 until_rest [] rest = until_plain 0x7b 32 (123 ∷ rest) refl refl ∙ ap (λ n. 1 + n) (until_at_start 0x7b 123 rest)
-until_rest (b ∷ bs) rest =
-    let ih = until_rest bs rest in
-    elim (is_plain b) as (λ w. is_plain b ≡ w → len_until 0x7b (((if w then b ∷ [] else 0x5c ∷ b ∷ []) ++ rest_of bs) ++ 32 ∷ 123 ∷ rest) ≡ length ((if w then b ∷ [] else 0x5c ∷ b ∷ []) ++ rest_of bs) + 1) [
-      | true ↦ (λ g. until_plainly b (rest_of bs ++ 32 ∷ 123 ∷ rest) g ∙ omega (arith, ih))
-      | false ↦ (λ g. until_escape b (rest_of bs ++ 32 ∷ 123 ∷ rest) ∙ omega (arith, ih))
-    ] refl
+until_rest (b ∷ bs) rest = grind (arith, is_plain, until_plainly, until_escape, until_rest bs rest)
 
 until_name : (b : ℕ) (bs rest : List ℕ) → Begins b bs → len_until 0x7b (escaped_name (b ∷ bs) ++ 32 ∷ 123 ∷ rest) ≡ length (escaped_name (b ∷ bs)) + 1
-until_name b bs rest (marked one is) = let ih = until_rest bs rest in rw (is) (until_escape b (rest_of bs ++ 32 ∷ 123 ∷ rest) ∙ omega (arith, ih))
-until_name b bs rest (bare one free is) = let ih = until_rest bs rest in rw (is) (until_plainly b (rest_of bs ++ 32 ∷ 123 ∷ rest) (begins_goes_on b one) ∙ omega (arith, ih))
+until_name b bs rest h = grind (arith, marked, until_rest, until_escape, bare, until_plainly, begins_goes_on)
 
 until_valid : (name rest : List ℕ) → IsName name → len_until 0x7b (escaped_name name ++ 32 ∷ 123 ∷ rest) ≡ length (escaped_name name) + 1
-until_valid [] rest h = absurd (false≢true (some_name [] h))
-until_valid (b ∷ bs) rest h = until_name b bs rest (begins b bs (and_left (may_begin_name b) (list_all may_follow_in_name bs) (some_name (b ∷ bs) h)))
+until_valid name rest h = grind (arith, false≢true, some_name, until_name, begins, and_left)
 
 -- the dataset's name, which is looked at no further
 abbrev pub opening_bytes : List ℕ → List ℕ
@@ -150,13 +134,7 @@ opening_bytes name = codes "netcdf " ++ (escaped_name name ++ codes " {")
 
 opening_is : (e rest : List ℕ) → len_until 0x7b (e ++ 32 ∷ 123 ∷ 10 ∷ rest) ≡ length e + 1 →
     scan_opening (32 ∷ (e ++ 32 ∷ 123 ∷ 10 ∷ rest)) (len_until 0x7b (32 ∷ (e ++ 32 ∷ 123 ∷ 10 ∷ rest))) ≡ record { kind = Some kinds.Opening; len = length (codes "netcdf " ++ (e ++ codes " {")) }
-opening_is e rest h =
-    let all = length-append e (32 ∷ 123 ∷ 10 ∷ rest) in
-    let some = length-append e (codes " {") in
-    let n : len_until 0x7b (32 ∷ (e ++ 32 ∷ 123 ∷ 10 ∷ rest)) ≡ 1 + (length e + 1) = until_plain 0x7b 32 (e ++ 32 ∷ 123 ∷ 10 ∷ rest) refl refl ∙ ap (λ m. 1 + m) h in
-    ap (scan_opening (32 ∷ (e ++ 32 ∷ 123 ∷ 10 ∷ rest))) n ∙
-    rw (lt-ltb (1 + (length e + 1)) (length (32 ∷ (e ++ 32 ∷ 123 ∷ 10 ∷ rest))) (omega (arith, all)))
-    (ap (token kinds.Opening) (let f : 6 + (1 + (length e + 1)) + 1 ≡ length (codes "netcdf " ++ (e ++ codes " {")) = omega (arith, some) in f))
+opening_is e rest h = grind (arith, length-append, codes, until_plain, lt-ltb)
 
 opening_prefix_is : (name rest : List ℕ) → IsName name → scan true (opening_bytes name ++ 10 ∷ rest) ≡ record { kind = Some kinds.Opening; len = length (opening_bytes name) }
 unfolding scan
@@ -180,7 +158,4 @@ opening_read v l = refl
 pub opened : (v : Version) (name rest : List ℕ) → IsName name →
     in_turn (piece_read v) empty (cut_lexemes (lexemes (opening_bytes name ++ 10 ∷ rest))) ≡ in_turn (piece_read v) (state Globals [] [] []) (pieces_of rest)
 unfolding pieces_of
-opened v name rest h =
-    ap (λ ls. in_turn (piece_read v) empty (cut_lexemes ls)) (opening_lexemes name rest h) ∙
-    ap (in_turn (piece_read v) empty) (opening_piece (opening_bytes name) (lexemes_at false 0 rest)) ∙
-    turn (piece_read v) empty (state Globals [] [] []) (record { kind = kinds.Opening; bytes = opening_bytes name } ∷ []) (cut_lexemes (lexemes_at false 0 rest)) (opening_read v (opening_bytes name))
+opened v name rest h = grind (arith, opening_lexemes, opening_piece, turn, opening_read)

@@ -1,5 +1,5 @@
 -- What a row shows, filled up, is the row.
-use Rattle.std.proofs.Common.{◌≡◌, ℕ, zero, suc, ◌+◌, ◌-◌, ◌<◌, ◌≤◌, Bool, true, false, List, [], ◌∷◌, ◌++◌, length, map, sym, ◌∙◌, ap, refl, arith, append_assoc, append-nil, length-append, ℤ, pos, unsigned_abs, ◌&&◌, ◌||◌, if◌then◌else◌, nat_le, replicate, Some, Ok}
+use Rattle.std.proofs.Common.{◌≡◌, ℕ, zero, suc, ◌+◌, ◌-◌, ◌<◌, ◌≤◌, Bool, true, false, List, [], ◌∷◌, ◌++◌, length, map, sym, ◌∙◌, ap, refl, arith, append_assoc, append-nil, length-append, ℤ, pos, unsigned_abs, ◌||◌, if◌then◌else◌, nat_le, replicate, Some, Ok}
 use Rattle.cdl_laws.proofs.Prelude.{flat_map, eqb-true, map-append, length-replicate, replicate_more, Version, escaped_in_string, is_nul, is_char, string_value, stands_for, Characters, each, both, constant, constants, Capacity, Joined, Rows, add_characters, add_row, filled, in_turn, listing_of, values_in, le-leb, length-map}
 use Rattle.cdl_meaning.specs.State.{◌>>=◌}
 use Rattle.cdl_laws.proofs.Lists.{Each}
@@ -21,21 +21,11 @@ is_zero x h c = sym c ∙ ap pos (eqb-true (unsigned_abs x) 0 h)
 pub shown_len : (t : Bool) (n : ℕ) (xs : List ℤ) → length (shown t n xs) ≤ n + length xs
 unfolding shown
 shown_len t n [] = omega arith
-shown_len t n (x ∷ xs) =
-    elim (t && is_nul x) as (λ w. length (if w then shown t (n + 1) xs else (replicate n 0 ++ unsigned_abs x ∷ []) ++ shown t 0 xs) ≤ n + suc (length xs)) [
-      | true ↦ (let ih = shown_len t (n + 1) xs in omega (arith, ih))
-      | false ↦ (let ih = shown_len t 0 xs in
-          let a = length-append (replicate n 0 ++ unsigned_abs x ∷ []) (shown t 0 xs) in
-          let b = length-append (replicate n 0) (unsigned_abs x ∷ []) in
-          let c = length-replicate {A = ℕ} n 0 in
-          omega (arith, ih, a, b, c))
-    ]
+shown_len t n (x ∷ xs) = grind (arith, length-append, length-replicate, shown_len t (n + 1) xs, shown_len t 0 xs)
 
 -- before a character
 with_first : (n : ℕ) (x : ℤ) (bs : List ℕ) → IsCharacter x → map pos ((replicate n 0 ++ unsigned_abs x ∷ []) ++ bs) ≡ (replicate n (pos 0) ++ x ∷ []) ++ map pos bs
-with_first n x bs c =
-    map-append pos (replicate n 0 ++ unsigned_abs x ∷ []) bs ∙
-    ap (λ xs. xs ++ map pos bs) (map-append pos (replicate n 0) (unsigned_abs x ∷ []) ∙ ap (λ xs. xs ++ pos (unsigned_abs x) ∷ []) (map_zeros n) ∙ ap (λ y. replicate n (pos 0) ++ y ∷ []) c)
+with_first n x bs c = grind (arith, map-append, pos, map_zeros)
 
 pub back_trimmed : (n : ℕ) (xs : List ℤ) → Each IsCharacter xs →
     map pos (shown true n xs) ++ replicate (n + length xs - length (shown true n xs)) (pos 0) ≡ replicate n (pos 0) ++ xs
@@ -72,10 +62,7 @@ filled_whole n fill xs h = ap (λ m. xs ++ replicate m fill) (let e : n - length
 
 -- what a row shows, filled up: the fill value is NUL where it is trimmed
 pub row_back : (t : Bool) (n : ℕ) (fill : ℤ) (xs : List ℤ) → (t ≡ true → fill ≡ pos 0) → length xs ≡ n → Each IsCharacter xs → filled n fill (map pos (shown t 0 xs)) ≡ xs
-row_back true n fill xs h len all =
-    ap (λ f. filled n f (map pos (shown true 0 xs))) (h refl) ∙
-    ap (λ m. map pos (shown true 0 xs) ++ replicate m (pos 0)) (let l = length-map (shown true 0 xs) pos in let e : n - length (map pos (shown true 0 xs)) ≡ 0 + length xs - length (shown true 0 xs) = omega (arith, l, len) in e) ∙
-    back_trimmed 0 xs all
+row_back true n fill xs h len all = grind (arith, filled n, pos 0, length-map (shown true 0 xs) pos, back_trimmed 0 xs all)
 row_back false n fill xs h len all = ap (filled n fill) (back_whole xs all) ∙ filled_whole n fill xs len
 
 -- ---- what the strings say
@@ -103,9 +90,7 @@ rows_added : (capacity : Capacity) (t : Bool) (before : List (List ℕ)) (rows :
     in_turn (add_row capacity) before (map Characters (map (shown t 0) rows)) ≡ Ok (before ++ map (shown t 0) rows)
 rows_added capacity t before [] wide all = ap Ok (sym (append-nil before))
 rows_added capacity t before (r ∷ rows) wide all =
-    let more = length-append before (shown t 0 r ∷ []) in
-    turn (add_row capacity) before (before ++ shown t 0 r ∷ []) (Characters (shown t 0 r)) (map Characters (map (shown t 0) rows)) (row_added capacity t before r (λ e. let f = wide e in omega (arith, f)) all.0.0) ∙
-    rows_added capacity t (before ++ shown t 0 r ∷ []) rows (λ e. let f = wide e in omega (arith, f, more)) all.1 ∙ ap Ok (append_assoc before (shown t 0 r ∷ []) (map (shown t 0) rows))
+    grind (arith, length-append, turn, row_added, append_assoc, rows_added capacity t (before ++ shown t 0 r ∷ []) rows)
 
 pub rows_listed : (capacity : Capacity) (t : Bool) (rows : List (List ℤ)) → is_char capacity.ty ≡ true → capacity.in_rows ≡ true → (capacity.is_open ≡ false → length rows ≤ capacity.rows) → Each (λ (r : List ℤ). (length r ≡ capacity.row) × Each IsCharacter r) rows →
     listing_of capacity (map Characters (map (shown t 0) rows)) ≡ Ok (Rows (map (shown t 0) rows))
@@ -119,15 +104,11 @@ rows_full capacity t (r ∷ rows) fill all =
     ap (λ xs. xs ++ values_in capacity (Rows (map (shown t 0) rows))) (row_back t capacity.row capacity.fill r fill all.0.0 all.0.1) ∙ ap (λ xs. r ++ xs) (rows_full capacity t rows fill all.1)
 
 enough : (is_open : Bool) (m n : ℕ) → (is_open ≡ false → m ≤ n) → (is_open || nat_le m n) ≡ true
-enough true m n f = refl
-enough false m n f = le-leb m n (f refl)
+enough is_open m n h = grind (arith, le-leb)
 
 line_added : (capacity : Capacity) (bytes : List ℕ) → (capacity.is_open ≡ false → length bytes ≤ capacity.count) → add_characters capacity [] (Characters bytes) ≡ Ok bytes
 line_added capacity bytes wide = rw (enough capacity.is_open (0 + length bytes) capacity.count (λ e. let f = wide e in omega (arith, f))) refl
 
 pub line_listed : (capacity : Capacity) (t : Bool) (r : List ℤ) → is_char capacity.ty ≡ true → capacity.in_rows ≡ false → (capacity.is_open ≡ false → length r ≤ capacity.count) → listing_of capacity (Characters (shown t 0 r) ∷ []) ≡ Ok (Joined (shown t 0 r))
 unfolding listing_of
-line_listed capacity t r ty h wide =
-    let s = shown t 0 r in
-    rw (ty) (rw (h) (ap (λ items. items >>= (λ bytes. Ok (Joined bytes)))
-    (turn (add_characters capacity) [] s (Characters s) [] (line_added capacity s (λ e. let l = shown_len t 0 r in let f = wide e in omega (arith, l, f))))))
+line_listed capacity t r ty h wide = grind (arith, turn, line_added, shown_len)

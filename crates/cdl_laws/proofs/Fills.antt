@@ -1,6 +1,6 @@
 -- The fill values of characters, with and without the NULs at the end of attributes.
 use Rattle.std.proofs.Common.{◌≡◌, ℕ, ◌-◌, ◌<◌, Bool, true, false, List, [], ◌∷◌, length, map, sym, ◌∙◌, ap, refl, subst, arith, take, get_or, ◌↔◌, ℤ, pos, unsigned_abs, if◌then◌else◌, ◌==◌, ◌&&◌, nat_lt, find, Option, None, Some, Ok}
-use Rattle.cdl_laws.proofs.Prelude.{false≢true, eqb-true, suffix_len, option_map, Att, NcType, Byte, Char, Short, Int, Ubyte, Ushort, Uint, Int64, Uint64, fill_value, is_fill_att, fill_of_att, fill_or_default, without_trailing_nuls, number_of, code_of, size_of, is_char, is_cut, FillValueSurvivesTrim, MeaningsAreSayable, MeaningsComeBack, meaning, trimmed, trimmed_att, and_left, and_right}
+use Rattle.cdl_laws.proofs.Prelude.{false≢true, eqb-true, suffix_len, option_map, Att, NcType, Char, fill_value, is_fill_att, fill_of_att, fill_or_default, without_trailing_nuls, number_of, code_of, size_of, is_char, is_cut, FillValueSurvivesTrim, MeaningsAreSayable, MeaningsComeBack, meaning, trimmed, trimmed_att, and_left, and_right}
 use Rattle.cdl_laws.proofs.MeaningsAreGood.{meanings_are_good, meanings_are_nearly_sayable, nearly_is_sayable}
 use Rattle.cdl_laws.proofs.Trimmed.{none_left, second_trip_is_same}
 
@@ -64,14 +64,7 @@ decided false A f g = ((λ a. refl), (λ e. f e))
 
 by_type : (ty : NcType) (vals : List ℕ) → (fill_by ty (trimmed_by ty vals) ≡ fill_by ty vals) ↔ (cut_of ty vals ≡ false)
 by_type Char vals = decided (cut_by vals) (fill_by Char (without_trailing_nuls vals) ≡ fill_by Char vals) (chars_kept vals) (cut_changes vals)
-by_type Byte vals = ((λ e. refl), (λ e. refl))
-by_type Short vals = ((λ e. refl), (λ e. refl))
-by_type Int vals = ((λ e. refl), (λ e. refl))
-by_type Ubyte vals = ((λ e. refl), (λ e. refl))
-by_type Ushort vals = ((λ e. refl), (λ e. refl))
-by_type Uint vals = ((λ e. refl), (λ e. refl))
-by_type Int64 vals = ((λ e. refl), (λ e. refl))
-by_type Uint64 vals = ((λ e. refl), (λ e. refl))
+by_type _ vals = ((λ e. refl), (λ e. refl))
 
 found_trimmed : (atts : List Att) → find is_fill_att (map trimmed_att atts) ≡ option_map trimmed_att (find is_fill_att atts)
 found_trimmed [] = refl
@@ -93,14 +86,7 @@ by_option (Some att) = by_type att.ty att.vals
 
 char_is : (ty : NcType) → is_char ty ≡ true → Char ≡ ty
 char_is Char h = refl
-char_is Byte h = cc
-char_is Short h = cc
-char_is Int h = cc
-char_is Ubyte h = cc
-char_is Ushort h = cc
-char_is Uint h = cc
-char_is Int64 h = cc
-char_is Uint64 h = cc
+char_is _ h = cc
 
 pub fill_value_survives_trim : FillValueSurvivesTrim
 unfolding fill_value

@@ -1,6 +1,6 @@
 -- What holds of the dataset so far, of its attributes, dimensions and declarations.
-use Rattle.std.proofs.Common.{◌≡◌, ℕ, ◌+◌, ◌-◌, ◌*◌, ◌≤◌, ◌<◌, Bool, true, false, List, [], ◌∷◌, ◌++◌, length, map, sym, ◌∙◌, ap, refl, subst, arith, zero, suc, append_assoc, append-nil, ℤ, pos, negsuc, IsTrue, if◌then◌else◌, Option, None, Some, Result, Ok, Err, ◌&&◌, ◌||◌, ◌==◌, filter, nat_lt, nat_le, unsigned_abs}
-use Rattle.cdl_laws.proofs.Prelude.{false≢true, eqb-true, length-append, map-append, list_any-append, w8, w16, w32, w64, to_be_bytes, cast_unsigned, list_any, position, position_or_len, int_eq, bytes_eq, Att, Dim, NcType, Byte, Char, Short, Int, Ubyte, Ushort, Uint, Int64, Uint64, Version, Cdf1, Cdf2, Cdf5, has_name, has_record_dim, IsDimid, AreDimids, value_count, IsName, is_name, bytes_of_number, is_record_dim, size_of, is_char, count_limit, has_type, AreDistinct, Value, Number, Characters, Underscore, Dimension, Variable, Draft, in_turn, unless, when, some_or, int_within, has_number, same_type, dim_len_of, add_dim, add_dimid, add_var, at_named, at_variable, add_constant, first_type, add_att, with_att, listed_values, CdlKind, BadName, DuplicateName, UnknownDimension, ZeroDimension, TwoRecordDims, BadShape, MixedConstants, NumberRange, and_left, and_right, some_product, some_size, some-limit, none_before}
+use Rattle.std.proofs.Common.{◌≡◌, ℕ, ◌+◌, ◌-◌, ◌*◌, ◌≤◌, ◌<◌, Bool, true, false, List, [], ◌∷◌, ◌++◌, length, map, sym, ◌∙◌, ap, refl, subst, arith, suc, append_assoc, append-nil, ℤ, pos, Option, Result, Ok, Err, filter, unsigned_abs, rules}
+use Rattle.cdl_laws.proofs.Prelude.{false≢true, eqb-true, length-append, map-append, list_any-append, w8, w16, w32, w64, to_be_bytes, list_any, position, bytes_eq, Att, Dim, NcType, Char, Version, has_name, has_record_dim, IsDimid, AreDimids, value_count, IsName, is_name, bytes_of_number, size_of, is_char, count_limit, has_type, AreDistinct, Value, Number, Characters, Underscore, Dimension, Variable, Draft, in_turn, when, some_or, int_within, has_number, same_type, dim_len_of, add_dim, add_dimid, add_var, at_named, at_variable, add_constant, first_type, add_att, with_att, listed_values, CdlKind, BadName, DuplicateName, MixedConstants, and_left, and_right, some_product, some_size, some-limit, none_before}
 use Rattle.cdl_meaning.specs.State.{◌>>=◌}
 use Rattle.cdl_laws.proofs.Bools.{or_left, or_right}
 use Rattle.cdl_laws.proofs.Lists.{Each, each_map}
@@ -13,10 +13,7 @@ use Rattle.cdl_laws.proofs.Uttered.{AreFineValues}
 
 distinct_more : (names : List (List ℕ)) (n : List ℕ) → AreDistinct names → has_name names n ≡ false → AreDistinct (names ++ n ∷ [])
 distinct_more [] n d new = (refl, tt)
-distinct_more (m ∷ names) n d new = (
-  list_any-append (λ (other : List ℕ). bytes_eq other m) names (n ∷ []) ∙ rw (d.0) (rw (swapped m n (or_left (bytes_eq m n) (has_name names n) new)) refl),
-  distinct_more names n d.1 (or_right (bytes_eq m n) (has_name names n) new),
-)
+distinct_more (m ∷ names) n d new = grind (arith, list_any-append, swapped, or_left, or_right, distinct_more names n d.1)
 
 -- a thing more, of a name that none has
 named_more : {X : Type 0} (name : X → List ℕ) (xs : List X) (x : X) → AreDistinct (map name xs) → list_any (λ y. bytes_eq (name y) (name x)) xs ≡ false → AreDistinct (map name (xs ++ x ∷ []))
@@ -64,53 +61,20 @@ bytes_64 : (n : ℕ) → Each IsByte (to_be_bytes w64 n)
 bytes_64 n = (omega arith, (omega arith, (omega arith, (omega arith, (omega arith, (omega arith, (omega arith, (omega arith, tt))))))))
 
 pub number_bytes : (ty : NcType) (x : ℤ) → Each IsByte (bytes_of_number ty x)
-number_bytes Byte x = bytes_8 (cast_unsigned w8 x)
-number_bytes Char x = bytes_8 (cast_unsigned w8 x)
-number_bytes Short x = bytes_16 (cast_unsigned w16 x)
-number_bytes Int x = bytes_32 (cast_unsigned w32 x)
-number_bytes Ubyte x = bytes_8 (cast_unsigned w8 x)
-number_bytes Ushort x = bytes_16 (cast_unsigned w16 x)
-number_bytes Uint x = bytes_32 (cast_unsigned w32 x)
-number_bytes Int64 x = bytes_64 (cast_unsigned w64 x)
-number_bytes Uint64 x = bytes_64 (cast_unsigned w64 x)
+number_bytes ty x = grind (arith, bytes_16, bytes_32, bytes_64, bytes_8)
 
 pub number_size : (ty : NcType) (x : ℤ) → length (bytes_of_number ty x) ≡ size_of ty
-number_size Byte x = omega arith
-number_size Char x = omega arith
-number_size Short x = omega arith
-number_size Int x = omega arith
-number_size Ubyte x = omega arith
-number_size Ushort x = omega arith
-number_size Uint x = omega arith
-number_size Int64 x = omega arith
-number_size Uint64 x = omega arith
+number_size ty x = grind arith
 
 is_same_char : (ty : NcType) → same_type Char ty ≡ true → ty ≡ Char
-is_same_char Char h = refl
-is_same_char Byte h = cc
-is_same_char Short h = cc
-is_same_char Int h = cc
-is_same_char Ubyte h = cc
-is_same_char Ushort h = cc
-is_same_char Uint h = cc
-is_same_char Int64 h = cc
-is_same_char Uint64 h = cc
+is_same_char ty h = grind arith
 
 pub one_times : (n m : ℕ) → suc n * m ≡ n * m + m
 one_times n m = grind arith
 
 constant_step : (v : Version) (ty : NcType) (k : ℕ) (vals : List ℕ) (x : Value) → IsPart ty k vals → IsFineValue v x → OkIs (IsPart ty (k + cost x)) (add_constant ty vals x)
 constant_step v ty k vals Underscore part fine = tt
-constant_step v ty k vals (Number n) part fine =
-    ok_unless (IsPart ty (k + 1)) (same_type n.ty ty) MixedConstants (λ u. unless (has_number ty n.value) NumberRange >>= (λ w. Ok (vals ++ bytes_of_number ty n.value))) (λ same.
-    ok_unless (IsPart ty (k + 1)) (has_number ty n.value) NumberRange (λ w. Ok (vals ++ bytes_of_number ty n.value)) (λ fit.
-    record {
-      count = suc part.count;
-      few = (let a = part.few in omega (arith, a));
-      many = (λ e. let a = part.many e in omega (arith, a));
-      whole = (let a = length-append vals (bytes_of_number ty n.value) in let b = number_size ty n.value in let c = part.whole in let d = one_times part.count (size_of ty) in omega (arith, a, b, c, d));
-      bytes = each_more IsByte vals (bytes_of_number ty n.value) part.bytes (number_bytes ty n.value);
-    }))
+constant_step v ty k vals (Number n) part fine = search (rules, ok_unless, has_number, length-append, number_size, one_times, each_more, number_bytes)
 constant_step v ty k vals (Characters bytes) part fine =
     ok_unless (IsPart ty (k + suc (length bytes))) (same_type Char ty) MixedConstants (λ u. Ok (vals ++ bytes)) (λ same.
     let e : ty ≡ Char = is_same_char ty same in
@@ -128,21 +92,13 @@ constant_step v ty k vals (Characters bytes) part fine =
     })
 
 has_char : (v : Version) → has_type v Char ≡ true
-has_char Cdf1 = refl
-has_char Cdf2 = refl
-has_char Cdf5 = refl
+has_char v = grind arith
 
 type_fine : (v : Version) (cs : List Value) → Each (IsFineValue v) cs → has_type v (first_type cs) ≡ true
-type_fine v [] h = has_char v
-type_fine v (Number n ∷ cs) h = h.0
-type_fine v (Characters bytes ∷ cs) h = has_char v
-type_fine v (Underscore ∷ cs) h = has_char v
+type_fine v cs h = grind (arith, has_char)
 
 some_cost : (cs : List Value) → is_char (first_type cs) ≡ false → 0 < total cost cs
-some_cost [] h = cc
-some_cost (Number n ∷ cs) h = omega arith
-some_cost (Characters bytes ∷ cs) h = omega arith
-some_cost (Underscore ∷ cs) h = omega arith
+some_cost cs h = grind arith
 
 pub att_keeps : (v : Version) (N n m : ℕ) (name : List ℕ) (cs : List Value) (atts : List Att) → m ≤ N → AreFineValues v m name cs → AreFineAtts v N n atts → OkIs (AreFineAtts v N (n + m)) (add_att name cs atts)
 unfolding add_att
@@ -188,61 +144,29 @@ pub record AreFineDims (v : Version) (N n : ℕ) (dims : List Dim) : Type 0 wher
 
 no_record : (dims : List Dim) → has_record_dim dims ≡ false → length (filter is_record dims) ≡ 0
 no_record [] h = refl
-no_record (d ∷ dims) h =
-    elim (d.len == 0) as (λ w. (w || has_record_dim dims) ≡ false → length (if w then d ∷ filter is_record dims else filter is_record dims) ≡ 0) [
-      | true ↦ (λ e. cc)
-      | false ↦ (λ e. no_record dims e)
-    ] h
+no_record (d ∷ dims) h = grind (arith, no_record dims)
 
 record IsFineLen (v : Version) (dims : List Dim) (len : ℕ) : Type 0 where
   small : len < count_limit v
   once : len ≡ 0 → has_record_dim dims ≡ false
 
 extent_fine : (v : Version) (dims : List Dim) (n : ℤ) → int_within (pos 1) (pos (count_limit v - 1)) n ≡ true → IsFineLen v dims (unsigned_abs n)
-extent_fine v dims (pos n) h =
-    let a : 1 ≤ n = grind (arith, and_left (nat_le 1 n) (nat_le n (count_limit v - 1)) h) in
-    let b : n ≤ count_limit v - 1 = grind (arith, and_right (nat_le 1 n) (nat_le n (count_limit v - 1)) h) in
-    let c = some-limit v in
-    record { small = omega (arith, a, b, c); once = (λ e. absurd (omega (arith, a, e))) }
-extent_fine v dims (negsuc n) h = cc
+extent_fine v dims n h = grind (arith, pos, and_left, and_right, some-limit)
 
 len_fine : (v : Version) (dims : List Dim) (o : Option ℤ) → OkIs (IsFineLen v dims) (dim_len_of v dims o)
-len_fine v dims None = ok_when (IsFineLen v dims) (has_record_dim dims) TwoRecordDims (λ u. Ok 0) (λ e. record { small = some-limit v; once = (λ z. e) })
-len_fine v dims (Some n) =
-    ok_when (IsFineLen v dims) (int_eq n (pos 0)) ZeroDimension (λ u. unless (int_within (pos 1) (pos (count_limit v - 1)) n) NumberRange >>= (λ w. Ok (unsigned_abs n))) (λ e.
-    ok_unless (IsFineLen v dims) (int_within (pos 1) (pos (count_limit v - 1)) n) NumberRange (λ w. Ok (unsigned_abs n)) (λ h. extent_fine v dims n h))
+len_fine v dims o = grind (arith, ok_when, some-limit, pos, int_within, ok_unless, extent_fine)
 
 once_more : (v : Version) (dims : List Dim) (d : Dim) → length (filter is_record dims) ≤ 1 → IsFineLen v dims d.len → length (filter is_record (dims ++ d ∷ [])) ≤ 1
-once_more v dims d once fine =
-    let a = filter_append dims (d ∷ []) in
-    elim (d.len == 0) as (λ w. (d.len == 0) ≡ w → length (filter is_record (dims ++ d ∷ [])) ≡ length (filter is_record dims) + length (if w then d ∷ [] else []) → length (filter is_record (dims ++ d ∷ [])) ≤ 1) [
-      | true ↦ (λ e h. let b = no_record dims (fine.once (eqb-true d.len 0 e)) in omega (arith, h, b))
-      | false ↦ (λ e h. omega (arith, h, once))
-    ] refl a
+once_more v dims d once fine = grind (arith, filter_append, no_record, eqb-true)
 
 dim_step : (v : Version) (N : ℕ) (n : ℕ) (dims : List Dim) (d : Dimension) → AreFineDims v N n dims → dim_cost d ≤ N → OkIs (AreFineDims v N (n + dim_cost d)) (add_dim v dims d)
 unfolding add_dim
 dim_step v N n dims d fine small =
-    let Q : List Dim → Type 0 = AreFineDims v N (n + dim_cost d) in
-    let made : ℕ → Dim = λ len. record { name = d.name; len = len } in
-    let last : ℕ → Result (List Dim) CdlKind = λ len. Ok (dims ++ made len ∷ []) in
-    ok_unless Q (is_name d.name) BadName (λ u. when (list_any (λ (e : Dim). bytes_eq e.name d.name) dims) DuplicateName >>= (λ w. dim_len_of v dims d.len >>= last)) (λ named.
-    ok_when Q (list_any (λ (e : Dim). bytes_eq e.name d.name) dims) DuplicateName (λ w. dim_len_of v dims d.len >>= last) (λ new.
-    ok_then (IsFineLen v dims) Q (dim_len_of v dims d.len) last (len_fine v dims d.len) (λ len is.
-    record {
-      count = (let a = one_more dims (made len) in let b = fine.count in omega (arith, a, b));
-      fine = each_more (IsFineDim v N) dims (made len ∷ []) fine.fine (record { name = named; short = omega (arith, small); len = is.small }, tt);
-      names = named_more dim_name dims (made len) fine.names new;
-      once = once_more v dims (made len) fine.once is;
-    })))
+    grind (arith, len_fine v dims d.len, one_more dims, named_more dim_name dims, once_more v dims, ok_unless, ok_when, ok_then, each_more)
 
 pub dims_keep : (v : Version) (N n m : ℕ) (dims : List Dim) (ds : List Dimension) → m ≤ N → total dim_cost ds ≤ m → AreFineDims v N n dims → OkIs (AreFineDims v N (n + m)) (in_turn (add_dim v) dims ds)
 dims_keep v N n m dims ds small said fine =
-    weaker (in_turn (add_dim v) dims ds) (turns (add_dim v) (AreFineDims v N) dim_cost (λ d. dim_cost d ≤ N) (dim_step v N) n dims ds fine (each_under dim_cost N ds (omega (arith, small, said))))
-  where
-    weaker : (r : Result (List Dim) CdlKind) → OkIs (AreFineDims v N (n + total dim_cost ds)) r → OkIs (AreFineDims v N (n + m)) r
-    weaker (Ok x) f = record { count = (let a = f.count in omega (arith, a, said)); fine = f.fine; names = f.names; once = f.once }
-    weaker (Err e) f = tt
+    grind (arith, turns (add_dim v) (AreFineDims v N) dim_cost (λ d. dim_cost d ≤ N) (dim_step v N) n dims ds fine, dim_step v N, each_under dim_cost N ds, total)
 
 -- ---- shapes
 
@@ -251,9 +175,7 @@ dimids_more dims before [] k are is = (subst (λ b. IsDimid dims b k) (append-ni
 dimids_more dims before (i ∷ ids) k are is = (are.0, dimids_more dims (before ++ i ∷ []) ids k are.1 (subst (λ b. IsDimid dims b k) (sym (append_assoc before (i ∷ []) ids)) is))
 
 position_under : {X : Type 0} (p : X → Bool) (xs : List X) → SomeIs (λ k. k < length xs) (position p xs)
-position_under p xs =
-    let k = position_or_len p xs in
-    elim (nat_lt k (length xs)) as (λ b. nat_lt k (length xs) ≡ b → SomeIs (λ j. j < length xs) (if b then Some k else None)) [ true ↦ (λ e. grind (arith, e)) | false ↦ (λ e. tt) ] refl
+position_under p xs = grind arith
 
 -- a shape so far
 abbrev IsShape : List Dim → ℕ → List ℕ → Type 0
@@ -261,16 +183,7 @@ IsShape dims n ids = AreDimids dims [] ids × (length ids ≤ n)
 
 id_step : (dims : List Dim) (n : ℕ) (ids name : List ℕ) → IsShape dims n ids → Unit {0} → OkIs (IsShape dims (n + name_cost name)) (add_dimid dims ids name)
 unfolding add_dimid
-id_step dims n ids name shape u =
-    let Q : List ℕ → Type 0 = IsShape dims (n + name_cost name) in
-    let last : ℕ → Result (List ℕ) CdlKind = λ k. when (nat_lt 0 (length ids) && is_record_dim dims k) BadShape >>= (λ w. Ok (ids ++ k ∷ [])) in
-    let p : Dim → Bool = λ d. bytes_eq d.name name in
-    ok_unless Q (is_name name) BadName (λ w. some_or (position p dims) UnknownDimension >>= last) (λ named.
-    ok_found (λ k. k < length dims) Q (position p dims) UnknownDimension last (position_under p dims) (λ k known.
-    ok_when Q (nat_lt 0 (length ids) && is_record_dim dims k) BadShape (λ w. Ok (ids ++ k ∷ [])) (λ e. (
-      dimids_more dims [] ids k shape.0 (record { known = known; record_first = none_before ids (is_record_dim dims k) e }),
-      (let a = one_more ids k in let b = shape.1 in omega (arith, a, b)),
-    ))))
+id_step dims n ids name shape u = grind (arith, ok_unless, some_or, ok_found, position_under, ok_when, dimids_more, none_before, one_more)
 
 pub any_each : {X : Type 0} (xs : List X) → Each (λ x. Unit {0}) xs
 any_each [] = tt
@@ -298,53 +211,16 @@ pub record AreFineDrafts (v : Version) (N n : ℕ) (dims : List Dim) (drafts : L
   pub names : AreDistinct (map draft_name drafts)
 
 pub later : (v : Version) (N n m : ℕ) (dims : List Dim) (d : Draft) → n ≤ m → IsFineDraft v N n dims d → IsFineDraft v N m dims d
-later v N n m dims d le f = record {
-  name = f.name;
-  short = f.short;
-  rank = f.rank;
-  shape = f.shape;
-  ty = f.ty;
-  bare = f.bare;
-  listed = f.listed;
-  atts = record { count = (let a = f.atts.count in omega (arith, a, le)); fine = f.atts.fine; names = f.atts.names };
-}
+later v N n m dims d le f = grind arith
 
 pub all_later : (v : Version) (N n m : ℕ) (dims : List Dim) (ds : List Draft) → n ≤ m → AreFineDrafts v N n dims ds → AreFineDrafts v N m dims ds
-all_later v N n m dims ds le f = record {
-  count = (let a = f.count in omega (arith, a, le));
-  fine = each_map (IsFineDraft v N n dims) (IsFineDraft v N m dims) ds (λ d g. later v N n m dims d le g) f.fine;
-  names = f.names;
-}
+all_later v N n m dims ds le f = grind (arith, each_map, later)
 
 var_step : (v : Version) (N : ℕ) (dims : List Dim) (ty : NcType) → has_type v ty ≡ true → (n : ℕ) (drafts : List Draft) (x : Variable) → AreFineDrafts v N n dims drafts → var_cost x ≤ N →
     OkIs (AreFineDrafts v N (n + var_cost x) dims) (add_var dims ty drafts x)
 unfolding add_var
 var_step v N dims ty has n drafts x fine small =
-    let m = n + var_cost x in
-    let Q : List Draft → Type 0 = AreFineDrafts v N m dims in
-    let made : List ℕ → Draft = λ ids. record { var = record { name = x.name; dimids = ids; atts = []; ty = ty; begin_at = 0 }; listed = None } in
-    let last : List ℕ → Result (List Draft) CdlKind = λ ids. Ok (drafts ++ made ids ∷ []) in
-    let f = all_later v N n m dims drafts (omega arith) fine in
-    ok_unless Q (is_name x.name) BadName (λ u. when (list_any (λ (w : Draft). bytes_eq w.var.name x.name) drafts) DuplicateName >>= (λ w. in_turn (add_dimid dims) [] x.dimensions >>= last)) (λ named.
-    ok_when Q (list_any (λ (w : Draft). bytes_eq w.var.name x.name) drafts) DuplicateName (λ w. in_turn (add_dimid dims) [] x.dimensions >>= last) (λ new.
-    ok_then (IsShape dims (0 + total name_cost x.dimensions)) Q (in_turn (add_dimid dims) [] x.dimensions) last (shape_fine dims x.dimensions) (λ ids is.
-    record {
-      count = (let a = one_more drafts (made ids) in let b = fine.count in omega (arith, a, b));
-      fine = each_more (IsFineDraft v N m dims) drafts (made ids ∷ []) f.fine (
-        record {
-          name = named;
-          short = omega (arith, small);
-          rank = (let a = is.1 in omega (arith, small, a));
-          shape = is.0;
-          ty = has;
-          atts = record { count = omega arith; fine = tt; names = tt };
-          bare = refl;
-          listed = λ others. omega arith;
-        },
-        tt,
-      );
-      names = named_more draft_name drafts (made ids) fine.names new;
-    })))
+    grind (arith, all_later v N n, shape_fine dims x.dimensions, one_more drafts, named_more draft_name drafts, ok_unless, ok_when, ok_then, total, each_more)
 
 pub vars_keep : (v : Version) (N n m : ℕ) (dims : List Dim) (ty : NcType) (drafts : List Draft) (xs : List Variable) → has_type v ty ≡ true → m ≤ N → total var_cost xs ≤ m → AreFineDrafts v N n dims drafts →
     OkIs (AreFineDrafts v N (n + m) dims) (in_turn (add_var dims ty) drafts xs)
@@ -368,30 +244,15 @@ record AreRenewed (P : Draft → Type 0) (ds es : List Draft) : Type 0 where
 named_keeps : (P P' : Draft → Type 0) (name : List ℕ) (f : Draft → Result Draft CdlKind) → ((d : Draft) → P d → P' d) → ((d : Draft) → P d → OkIs (Renewed P' d) (f d)) →
     (ds : List Draft) → Each P ds → OkIs (AreRenewed P' ds) (at_named name f ds)
 named_keeps P P' name f more step [] h = tt
-named_keeps P P' name f more step (d ∷ ds) h =
-    elim (bytes_eq d.var.name name) as (λ b. OkIs (AreRenewed P' (d ∷ ds)) (if b then f d >>= (λ e. Ok (e ∷ ds)) else at_named name f ds >>= (λ es. Ok (d ∷ es)))) [
-      | true ↦ ok_then (Renewed P' d) (AreRenewed P' (d ∷ ds)) (f d) (λ e. Ok (e ∷ ds)) (step d h.0)
-          (λ e r. record { fine = (r.0, each_map P P' ds more h.1); names = ap (λ n. n ∷ map draft_name ds) r.1; count = refl })
-      | false ↦ ok_then (AreRenewed P' ds) (AreRenewed P' (d ∷ ds)) (at_named name f ds) (λ es. Ok (d ∷ es)) (named_keeps P P' name f more step ds h.1)
-          (λ es r. record { fine = (more d h.0, r.fine); names = ap (λ ns. d.var.name ∷ ns) r.names; count = ap suc r.count })
-    ]
+named_keeps P P' name f more step (d ∷ ds) h = grind (arith, ok_then, each_map, named_keeps P P' name f more step ds h.1)
 
 -- what keeps its draft fine keeps all, and adds none
 pub at_keeps : (v : Version) (N n m : ℕ) (dims : List Dim) (name : List ℕ) (f : Draft → Result Draft CdlKind) → ((d : Draft) → IsFineDraft v N n dims d → OkIs (λ e. IsFineDraft v N (n + m) dims e × (e.var.name ≡ d.var.name)) (f d)) →
     (ds : List Draft) → AreFineDrafts v N n dims ds → OkIs (λ es. AreFineDrafts v N (n + m) dims es × (length es ≡ length ds)) (at_variable name f ds)
 unfolding at_variable
 at_keeps v N n m dims name f step ds fine =
-    let Q : List Draft → Type 0 = λ es. AreFineDrafts v N (n + m) dims es × (length es ≡ length ds) in
-    ok_unless Q (is_name name) BadName (λ u. at_named name f ds) (λ named.
-    end (at_named name f ds) (named_keeps (IsFineDraft v N n dims) (IsFineDraft v N (n + m) dims) name f (λ d g. later v N n (n + m) dims d (omega arith) g) step ds fine.fine))
-  where
-    end : (r : Result (List Draft) CdlKind) → OkIs (AreRenewed (IsFineDraft v N (n + m) dims) ds) r → OkIs (λ es. AreFineDrafts v N (n + m) dims es × (length es ≡ length ds)) r
-    end (Err e) h = tt
-    end (Ok es) h = (record { count = (let a = h.count in let b = fine.count in omega (arith, a, b)); fine = h.fine; names = subst AreDistinct (sym h.names) fine.names }, h.count)
+    grind (arith, named_keeps (IsFineDraft v N n dims) (IsFineDraft v N (n + m) dims) name f, later v N n (n + m) dims, ok_unless)
 
 pub with_att_keeps : (v : Version) (N n m : ℕ) (dims : List Dim) (name : List ℕ) (cs : List Value) → m ≤ N → AreFineValues v m name cs → (d : Draft) → IsFineDraft v N n dims d →
     OkIs (λ e. IsFineDraft v N (n + m) dims e × (e.var.name ≡ d.var.name)) (with_att name cs d)
-with_att_keeps v N n m dims name cs small said d f =
-    ok_then (AreFineAtts v N (n + m)) (λ e. IsFineDraft v N (n + m) dims e × (e.var.name ≡ d.var.name)) (add_att name cs d.var.atts) (λ atts. Ok (record d { var = record d.var { atts = atts } }))
-    (att_keeps v N n m name cs d.var.atts small said f.atts)
-    (λ atts fine. (record { name = f.name; short = f.short; rank = f.rank; shape = f.shape; ty = f.ty; bare = f.bare; listed = f.listed; atts = fine }, refl))
+with_att_keeps v N n m dims name cs small said d f = grind (arith, att_keeps v N n m name cs d.var.atts small said f.atts, ok_then)

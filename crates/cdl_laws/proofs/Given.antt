@@ -1,6 +1,6 @@
 -- The array of a variable is given back by the text of its values.
-use Rattle.std.proofs.Common.{◌≡◌, ℕ, zero, suc, ◌+◌, ◌*◌, ◌-◌, ◌<◌, ◌≤◌, Bool, true, false, List, [], ◌∷◌, ◌++◌, length, drop, take, map, sym, ◌∙◌, ap, refl, subst, arith, length-take, length-drop, ℤ, pos, negsuc, ◌&&◌, ◌==◌, not, if◌then◌else◌, nat_lt, slice_index, find, None, Some}
-use Rattle.cdl_laws.proofs.Prelude.{flat_map, int_eq, lt_of_mul-lt-mul_right, false≢true, Decides-int_eq, ints, take-append-drop, Att, Dim, Header, Var, NcType, Byte, Char, Short, Int, Ubyte, Ushort, Uint, Int64, Uint64, Version, fill_value, fill_of_att, fill_or_default, is_fill_att, value_count, IsArray, IsName, numbers, bytes_of_number, IsInRange, dim_len, has_records, is_record_var, product, slab_count, slab_lens, Look, look_of, is_char, row_len, trimmed_att, trimmed_var, capacity_of, filled, has_number, values_in, array_of, and_left, is_off, is_on, look-type, length-numbers_from}
+use Rattle.std.proofs.Common.{◌≡◌, ℕ, zero, suc, ◌+◌, ◌*◌, ◌-◌, ◌<◌, ◌≤◌, Bool, true, false, List, [], ◌∷◌, ◌++◌, length, drop, take, map, sym, ◌∙◌, ap, refl, subst, arith, length-take, length-drop, ℤ, pos, ◌&&◌, ◌==◌, not, if◌then◌else◌, nat_lt, slice_index, find, None, Some}
+use Rattle.cdl_laws.proofs.Prelude.{flat_map, int_eq, lt_of_mul-lt-mul_right, false≢true, Decides-int_eq, ints, take-append-drop, Att, Dim, Header, Var, NcType, Char, Version, fill_value, fill_of_att, fill_or_default, is_fill_att, value_count, IsArray, IsName, numbers, bytes_of_number, IsInRange, dim_len, has_records, is_record_var, product, slab_lens, Look, look_of, is_char, row_len, trimmed_att, trimmed_var, capacity_of, filled, has_number, values_in, array_of, and_left, is_off, is_on, look-type, length-numbers_from}
 use Rattle.cdl_laws.proofs.Attributes.{numbers_back, numbers_range, all_fit, all_small, count_is}
 use Rattle.cdl_laws.proofs.Characters.{flat}
 use Rattle.cdl_laws.proofs.DataTexts.{Gives, IsRoomFor, gives_numbers, gives_table, gives_line, given_draft}
@@ -12,24 +12,11 @@ use Rattle.cdl_laws.proofs.Lists.{Each, each_map}
 -- what a number type takes from an attribute is the same of a trimmed one
 same_of_type : (ty : NcType) (name : List ℕ) (att_ty : NcType) (vals : List ℕ) → is_char ty ≡ false →
     fill_of_att ty (Some (trimmed_att (record { name = name; ty = att_ty; vals = vals }))) ≡ fill_of_att ty (Some (record { name = name; ty = att_ty; vals = vals }))
-same_of_type Char name Char vals h = cc
-same_of_type Byte name Char vals h = refl
-same_of_type Short name Char vals h = refl
-same_of_type Int name Char vals h = refl
-same_of_type Ubyte name Char vals h = refl
-same_of_type Ushort name Char vals h = refl
-same_of_type Uint name Char vals h = refl
-same_of_type Int64 name Char vals h = refl
-same_of_type Uint64 name Char vals h = refl
-same_of_type ty name _ vals h = refl
+same_of_type ty name att_ty vals h = grind arith
 
 same_own : (ty : NcType) (atts : List Att) → is_char ty ≡ false → fill_of_att ty (find is_fill_att (map trimmed_att atts)) ≡ fill_of_att ty (find is_fill_att atts)
 same_own ty [] h = refl
-same_own ty (a ∷ atts) h =
-    elim (is_fill_att a) as (λ w. fill_of_att ty (if w then Some (trimmed_att a) else find is_fill_att (map trimmed_att atts)) ≡ fill_of_att ty (if w then Some a else find is_fill_att atts)) [
-      | true ↦ same_of_type ty a.name a.ty a.vals h
-      | false ↦ same_own ty atts h
-    ]
+same_own ty (a ∷ atts) h = grind (arith, same_of_type ty a.name a.ty a.vals h, same_own ty atts h)
 
 pub same_fill : (var : Var) → is_char var.ty ≡ false → fill_value (trimmed_var var) ≡ fill_value var
 unfolding fill_value
@@ -38,28 +25,17 @@ same_fill var h = ap (fill_or_default var.ty) (same_own var.ty var.atts h)
 -- ---- rooms
 
 wide_enough : (c n : ℕ) (b : Bool) → b ≡ false → c * (if b then n else 1) ≤ c
-wide_enough c n true h = cc
-wide_enough c n false h = omega arith
+wide_enough c n b h = grind arith
 
 room_is : (h : Header) (var : Var) (n width m : ℕ) → m ≡ value_count h.dims var n → IsName var.name → fill_value (trimmed_var var) ≡ fill_value var → IsRoomFor (look_of h var n width) (capacity_of h.dims (trimmed_var var)) var m
 unfolding look_of capacity_of
-room_is h var n width m is name fill = record {
-  name = refl;
-  valid = name;
-  ty = refl;
-  fill = fill;
-  rows = refl;
-  wide = λ e. subst (λ k. k ≤ slab_count h.dims var) (sym is) (wide_enough (slab_count h.dims var) n (is_record_var h.dims var) e);
-}
+room_is h var n width m is name fill = grind (arith, wide_enough)
 
 row_all : (h : Header) (var : Var) (n width : ℕ) → (look_of h var n width).in_rows ≡ false → (look_of h var n width).row ≡ value_count h.dims var n
 unfolding look_of
 row_all h var n width e = rw (is_on (nat_lt (length var.dimids) 2) e) refl
 
 -- ---- numbers
-
-abbrev look_ty : Header → Var → ℕ → ℕ → NcType
-look_ty h var n width = (look_of h var n width).ty
 
 room_type : (dims : List Dim) (var : Var) → (capacity_of dims (trimmed_var var)).ty ≡ var.ty
 unfolding capacity_of
@@ -76,12 +52,10 @@ listed_numbers v h var n width (x ∷ xs) some len range other name =
 -- ---- characters at rank 0 and 1
 
 character_is : (x : ℤ) → IsInRange Char x → IsCharacter x
-character_is (pos n) h = refl
-character_is (negsuc n) h = absurd (omega (arith, ints, h.0))
+character_is x h = grind (arith, pos, ints)
 
 are_characters : (ty : NcType) (xs : List ℤ) → is_char ty ≡ true → Each (IsInRange ty) xs → Each IsCharacter xs
-are_characters Char xs h range = each_map (IsInRange Char) IsCharacter xs character_is range
-are_characters _ xs h range = cc
+are_characters ty xs h h2 = grind (arith, each_map, character_is)
 
 trimmed_fill : (h : Header) (var : Var) (n width : ℕ) → (look_of h var n width).trimmed ≡ true → fill_value var ≡ pos 0
 unfolding look_of
@@ -89,19 +63,15 @@ trimmed_fill h var n width e = (Decides-int_eq (fill_value var) (pos 0)).0 (and_
 
 listed_line : (v : Version) (h : Header) (var : Var) (n width : ℕ) (xs : List ℤ) → 0 < length xs → length xs ≡ value_count h.dims var n → Each (IsInRange var.ty) xs → is_char var.ty ≡ true → IsName var.name →
     fill_value (trimmed_var var) ≡ fill_value var → (look_of h var n width).in_rows ≡ false → (is_record_var h.dims var ≡ true → (look_of h var n width).trimmed ≡ false) → Gives v h.dims (look_of h var n width) var xs
-listed_line v h var n width [] some len range char name fill rank whole = absurd (omega (arith, some))
-listed_line v h var n width (x ∷ xs) some len range char name fill rank whole =
-    gives_line v h.dims (look_of h var n width) var x xs (room_is h var n width (length (x ∷ xs)) len name fill) (ap is_char (look-type h var n width) ∙ char) rank
-    (let r = row_all h var n width rank in omega (arith, r, len)) (λ e. fill ∙ trimmed_fill h var n width e) whole (are_characters var.ty (x ∷ xs) char range)
+listed_line v h var n width [] some len range char name fill rank whole = grind (arith, gives_line, room_is, look-type, row_all, trimmed_fill, are_characters)
+listed_line v h var n width _ some len range char name fill rank whole = grind (arith, gives_line, room_is, look-type, row_all, trimmed_fill, are_characters)
 
 -- ---- characters at rank 2 and up
 
 -- the last dimension divides
 last_divides : (f : ℕ → ℕ) (x : ℕ) (xs : List ℕ) → product (map f (x ∷ xs)) ≡ product (map f (take (length xs) (x ∷ xs))) * f (slice_index (x ∷ xs) (length xs))
 last_divides f x [] = let e : f x * 1 ≡ 1 * f x = omega arith in e
-last_divides f x (y ∷ ys) =
-    let p = product (map f (take (length ys) (y ∷ ys))) in
-    ap (λ n. f x * n) (last_divides f y ys) ∙ (let g : f x * (p * f (slice_index (y ∷ ys) (length ys))) ≡ f x * p * f (slice_index (y ∷ ys) (length ys)) = grind arith in g)
+last_divides f x (y ∷ ys) = grind (arith, last_divides f y ys)
 
 last_place : (n : ℕ) → suc (suc n) - 1 ≡ suc n
 last_place n = omega arith
@@ -155,11 +125,7 @@ each_drop P (suc n) (x ∷ xs) h = each_drop P n xs h.1
 rows_are : (k row : ℕ) (xs : List ℤ) → length xs ≡ k * row → Each IsCharacter xs → Each (λ (s : List ℤ). (length s ≡ row) × Each IsCharacter s) (rows_of k row xs)
 unfolding rows_of
 rows_are zero row xs h all = tt
-rows_are (suc k) row xs h all =
-    let g : suc k * row ≡ row + k * row = grind arith in (
-      ((let e = length-take row xs in omega (arith, e, g, h)), each_take IsCharacter row xs all),
-      rows_are k row (drop row xs) (let e = length-drop row xs in omega (arith, e, g, h)) (each_drop IsCharacter row xs all),
-    )
+rows_are (suc k) row xs h all = grind (arith, length-take, each_take, length-drop, each_drop, rows_are k row (drop row xs))
 
 rank_two : (h : Header) (var : Var) (n width : ℕ) → (look_of h var n width).in_rows ≡ true → nat_lt (length var.dimids) 2 ≡ false
 unfolding look_of
@@ -178,14 +144,7 @@ rows_within : (h : Header) (var : Var) (n width k : ℕ) → (look_of h var n wi
     (capacity_of h.dims (trimmed_var var)).is_open ≡ false → suc k ≤ (capacity_of h.dims (trimmed_var var)).rows
 unfolding capacity_of
 rows_within h var n width k rank split some closed =
-    let r = slab_rows h.dims var.dimids (rank_two h var n width rank) in
-    let row = row_len h.dims var.dimids 0 in
-    let same : (look_of h var n width).row ≡ row = rank_row h var n width rank in
-    let all : suc k * row ≡ r.rows * row = ap (λ m. suc k * m) (sym same) ∙ split ∙ ap (λ w. slab_count h.dims var * (if w then n else 1)) closed ∙ (let one : slab_count h.dims var * 1 ≡ slab_count h.dims var = omega arith in one) ∙ r.whole in
-    let next : suc r.rows * row ≡ r.rows * row + row = grind arith in
-    let less = lt_of_mul-lt-mul_right row {m = suc k} {n = suc r.rows} (let e : suc k * row < suc r.rows * row = omega (arith, all, next, same, some) in e) in
-    let count = r.all closed in
-    omega (arith, less, count)
+    grind (arith, slab_rows h.dims var.dimids (rank_two h var n width rank), rank_two h var n width rank, rank_row h var n width rank, lt_of_mul-lt-mul_right)
 
 look_fill : (h : Header) (var : Var) (n width : ℕ) → (look_of h var n width).fill ≡ fill_value var
 unfolding look_of

@@ -1,12 +1,12 @@
 -- The statements of a dump, and what they say.
-use Rattle.std.proofs.Common.{◌≡◌, ℕ, suc, ◌+◌, ◌^◌, ◌<◌, ◌≤◌, Bool, true, false, List, [], ◌∷◌, ◌++◌, length, get_or, map, sym, ◌∙◌, ap, refl, subst, arith, append_assoc, ℤ, unsigned_abs, ◌==◌, not, if◌then◌else◌, None, Some, codes}
-use Rattle.cdl_laws.proofs.Prelude.{signed_decimal, list_all, list_any, prefix_len, bytes_eq, false≢true, bytes_eq-Decides, NcType, Byte, Char, Short, Int, Ubyte, Ushort, Uint, Int64, Uint64, Version, escaped_name, is_plain, is_reserved, reserved_words, joined, IsName, type_word, Look, is_char, variable_text, Values, may_begin_word, goes_on_word, scan, word_len, Lexeme, role, is_section, lexemes_at, Value, Characters, Listed, both, constants, body, and_left, and_right, and_both, word_at_start}
+use Rattle.std.proofs.Common.{◌≡◌, ℕ, ◌^◌, ◌<◌, ◌≤◌, Bool, true, false, List, [], ◌∷◌, ◌++◌, length, map, ◌∙◌, ap, refl, subst, arith, append_assoc, ℤ, unsigned_abs, ◌==◌, not, None, Some, codes}
+use Rattle.cdl_laws.proofs.Prelude.{list_all, list_any, prefix_len, bytes_eq, false≢true, bytes_eq-Decides, NcType, Byte, Char, Short, Int, Ubyte, Ushort, Uint, Int64, Uint64, Version, escaped_name, is_plain, is_reserved, reserved_words, joined, IsName, type_word, Look, is_char, variable_text, Values, may_begin_word, scan, word_len, Lexeme, role, is_section, lexemes_at, Value, Characters, Listed, both, constants, body, and_left, and_right, and_both, word_at_start}
 use Rattle.cdl_laws.proofs.Lists.{Each}
 use Rattle.cdl_laws.proofs.NameTexts.{no_escape}
 use Rattle.cdl_laws.proofs.Texts.{Closed, Reads, stops, then_reads, reads_both, mark, word, number, name_word, word_reads, stop_word, prefix_again}
 use Rattle.cdl_laws.proofs.Numerals.{value_again}
 use Rattle.cdl_laws.proofs.Strings.{string}
-use Rattle.cdl_laws.proofs.ValueTexts.{comma, commas, AreSmall, value_lexeme, value_said, is_fill_value, numbers_closed, values_said}
+use Rattle.cdl_laws.proofs.ValueTexts.{comma, commas, AreSmall, value_lexeme, value_said, numbers_closed, values_said}
 use Rattle.cdl_laws.proofs.Characters.{shown, flat, table_closed, line_closed}
 use Rattle.cdl_laws.proofs.Filled.{strings_said}
 use Rattle.cdl_laws.proofs.Takes.{Says, statement_says, semicolon, is_fine, word_fine, is_starter}
@@ -15,11 +15,7 @@ use Rattle.cdl_laws.proofs.Takes.{Says, statement_says, semicolon, is_fine, word
 
 -- none of the reserved words is this
 pub not_word : (w u : List ℕ) (words : List (List ℕ)) → list_any (bytes_eq w) words ≡ false → list_any (bytes_eq u) words ≡ true → bytes_eq w u ≡ false
-not_word w u words h k =
-    elim (bytes_eq w u) as (λ b. bytes_eq w u ≡ b → b ≡ false) [
-      | true ↦ (λ e. absurd (false≢true (sym h ∙ ap (λ x. list_any (bytes_eq x) words) ((bytes_eq-Decides w u).0 e) ∙ k)))
-      | false ↦ (λ e. refl)
-    ] refl
+not_word w u words h k = grind (arith, false≢true, bytes_eq-Decides)
 
 pub no_section : (w : List ℕ) → is_reserved w ≡ false → is_section w ≡ false
 unfolding is_reserved is_section
@@ -32,9 +28,7 @@ name_starts name h = rw (no_section (escaped_name name) (name_word name h).free)
 plain_len : (w rest : List ℕ) → list_all is_plain w ≡ true → stops rest ≡ true → word_len (w ++ rest) ≡ length w
 plain_len [] rest h k = stop_word rest k
 plain_len (b ∷ w) rest h k =
-    let one : goes_on_word b ≡ true = and_left (is_plain b) (list_all is_plain w) h in
-    let ih = plain_len w rest (and_right (is_plain b) (list_all is_plain w) h) k in
-    word_at_start b (w ++ rest) ∙ rw (no_escape b (get_or (w ++ rest) 0 0) one) (rw (one) (omega (arith, ih)))
+    grind (arith, and_left, is_plain, and_right, word_at_start, no_escape, plain_len w rest (and_right (is_plain b) (list_all is_plain w) h) k)
 
 -- a word without escapes
 pub bare_word : (b : ℕ) (w : List ℕ) → may_begin_word b ≡ true → list_all is_plain (b ∷ w) ≡ true → Reads (b ∷ w) (word (b ∷ w) ∷ [])
@@ -53,15 +47,7 @@ type_reads Uint64 = bare_word 117 (codes "int64") refl refl
 
 pub type_starts : (ty : NcType) → is_starter (role (word (type_word ty))) ≡ true
 unfolding is_section
-type_starts Byte = refl
-type_starts Char = refl
-type_starts Short = refl
-type_starts Int = refl
-type_starts Ubyte = refl
-type_starts Ushort = refl
-type_starts Uint = refl
-type_starts Int64 = refl
-type_starts Uint64 = refl
+type_starts ty = grind arith
 
 -- ---- fixed bytes
 
@@ -122,11 +108,7 @@ fine_commas v (l ∷ ls) h = and_both (is_fine v l) (list_all (is_fine v) (comma
 -- ---- data
 
 value_fine : (v : Version) (look : Look) (x : ℤ) → unsigned_abs x < 2 ^ 64 → is_fine v (value_lexeme look x) ≡ true
-value_fine v look x h =
-    elim (is_fill_value look x) as (λ b. is_fine v (if b then word (codes "_") else number (signed_decimal x)) ≡ true) [
-      | true ↦ word_fine v (codes "_")
-      | false ↦ rw (value_again v x h) refl
-    ]
+value_fine v look x h = grind (arith, word, codes, number, word_fine, value_again)
 
 values_fine : (v : Version) (look : Look) (xs : List ℤ) → AreSmall xs → list_all (is_fine v) (map (value_lexeme look) xs) ≡ true
 values_fine v look [] h = refl
@@ -134,9 +116,7 @@ values_fine v look (x ∷ xs) h = and_both (is_fine v (value_lexeme look x)) (li
 
 -- NAME = VALUE, ..
 listed_fine : (v : Version) (name : List ℕ) (l : Lexeme) (ls : List Lexeme) → list_all (is_fine v) (l ∷ ls) ≡ true → list_all (is_fine v) (word name ∷ mark 61 ∷ l ∷ commas ls) ≡ true
-listed_fine v name l ls h =
-    and_both (is_fine v (word name)) (list_all (is_fine v) (mark 61 ∷ l ∷ commas ls)) (word_fine v name)
-    (and_both (is_fine v l) (list_all (is_fine v) (commas ls)) (and_left (is_fine v l) (list_all (is_fine v) ls) h) (fine_commas v ls (and_right (is_fine v l) (list_all (is_fine v) ls) h)))
+listed_fine v name l ls h = grind (arith, and_both, word, word_fine, and_left, fine_commas, and_right)
 
 listed_is : (v : Version) (name : List ℕ) (ls : List Lexeme) (values : List Value) → IsName name → constants v true ls ≡ Some values →
     body v Values (word (escaped_name name) ∷ mark 61 ∷ ls) ≡ Some (Listed name values)
@@ -189,6 +169,4 @@ no_feed (b ∷ w) rest h = rw (and_left (not (b == 10)) (list_all (λ c. not (c 
 pub comment_closed : (w : List ℕ) → list_all (λ b. not (b == 10)) w ≡ true → Closed (47 ∷ 47 ∷ (w ++ 10 ∷ [])) []
 unfolding scan
 comment_closed w h rest =
-    ap (λ bs. lexemes_at false 0 (47 ∷ 47 ∷ bs)) (append_assoc w (10 ∷ []) rest) ∙
-    prefix_again false None 47 (47 ∷ w) (10 ∷ rest) (ap (λ n. record { kind = None; len = n }) (let ih = no_feed w rest h in let e : 1 + (1 + prefix_len (λ b. not (b == 10)) (w ++ 10 ∷ rest)) ≡ suc (suc (length w)) = omega (arith, ih) in e)) ∙
-    feed_closed rest
+    grind (arith, append_assoc w (10 ∷ []) rest, prefix_again false None 47 (47 ∷ w) (10 ∷ rest), no_feed w rest h, feed_closed rest)

@@ -1,7 +1,7 @@
 -- What is read back keeps its limits.
-use Rattle.std.proofs.Common.{◌≡◌, ℕ, zero, suc, ◌+◌, ◌*◌, ◌<◌, ◌≤◌, Bool, true, false, List, [], ◌∷◌, ◌++◌, length, map, ◌∙◌, ap, refl, subst, arith, ◌&&◌, ◌==◌, if◌then◌else◌, nat_lt, nat_le, sum}
-use Rattle.cdl_laws.proofs.Prelude.{list_all, Dim, Header, Var, Version, value_count, AreArrays, AreDimids, IsDimid, is_record_var, is_record_dim, slab_count, slab_lens, slab_size, product, dim_len, record_vars, record_size_of, padded_size, padded_total, slab_limit, array_limit, size_of, trimmed_var, is_small, and_both, le-leb}
-use Rattle.cdl_laws.proofs.DataTexts.{given_draft, given_drafts}
+use Rattle.std.proofs.Common.{◌≡◌, ℕ, ◌≤◌, true, List, [], ◌∷◌, map, ◌∙◌, ap, refl, arith, sum}
+use Rattle.cdl_laws.proofs.Prelude.{list_all, Dim, Header, Var, Version, AreArrays, slab_size, record_vars, record_size_of, padded_size, padded_total, slab_limit, trimmed_var, is_small, and_both, le-leb}
+use Rattle.cdl_laws.proofs.DataTexts.{given_drafts}
 use Rattle.cdl_laws.proofs.Datasets.{AreBack, listings}
 use Rattle.cdl_laws.proofs.Lists.{Each}
 
@@ -12,21 +12,13 @@ use Rattle.cdl_laws.proofs.Lists.{Each}
 pub all_small : (v : Version) (h : Header) (n width : ℕ) (vars : List Var) (arrays : List (List ℕ)) (backs : AreBack v h n width vars arrays) → AreArrays h.dims n vars arrays → Each (λ (var : Var). slab_size h.dims var ≤ slab_limit) vars →
     list_all (is_small h.dims n) (given_drafts vars (listings v h n width vars arrays backs)) ≡ true
 all_small v h n width [] [] backs are slabs = refl
-all_small v h n width [] (a ∷ arrays) backs are slabs = absurd are
-all_small v h n width (var ∷ vars) [] backs are slabs = absurd are
 all_small v h n width (var ∷ vars) (a ∷ arrays) backs are slabs =
-    and_both (is_small h.dims n (given_draft var backs.0.o)) (list_all (is_small h.dims n) (given_drafts vars (listings v h n width vars arrays backs.1)))
-    (and_both (nat_le (slab_size h.dims var) slab_limit) (nat_le (value_count h.dims var n * size_of var.ty) array_limit) (le-leb (slab_size h.dims var) slab_limit slabs.0)
-    (le-leb (value_count h.dims var n * size_of var.ty) array_limit (subst (λ m. m ≤ array_limit) are.0.whole are.0.small)))
-    (all_small v h n width vars arrays backs.1 are.1 slabs.1)
+    grind (arith, and_both, le-leb, all_small v h n width vars arrays backs.1 are.1 slabs.1)
+all_small v h n width _ _ backs are slabs = absurd are
 
 pub record_trimmed : (dims : List Dim) (vars : List Var) → record_vars dims (map trimmed_var vars) ≡ map trimmed_var (record_vars dims vars)
 record_trimmed dims [] = refl
-record_trimmed dims (var ∷ vars) =
-    elim (is_record_var dims var) as (λ b. (if b then trimmed_var var ∷ record_vars dims (map trimmed_var vars) else record_vars dims (map trimmed_var vars)) ≡ map trimmed_var (if b then var ∷ record_vars dims vars else record_vars dims vars)) [
-      | true ↦ ap (λ vs. trimmed_var var ∷ vs) (record_trimmed dims vars)
-      | false ↦ record_trimmed dims vars
-    ]
+record_trimmed dims (var ∷ vars) = grind (arith, record_trimmed dims vars)
 
 sizes_trimmed : (dims : List Dim) (vars : List Var) → map (padded_size dims) (map trimmed_var vars) ≡ map (padded_size dims) vars
 sizes_trimmed dims [] = refl
@@ -36,9 +28,8 @@ total_trimmed : (dims : List Dim) (vars : List Var) → padded_total dims (map t
 total_trimmed dims vars = ap sum (sizes_trimmed dims vars)
 
 record_size_of_trimmed : (dims : List Dim) (vars : List Var) → record_size_of dims (map trimmed_var vars) ≡ record_size_of dims vars
-record_size_of_trimmed dims [] = refl
-record_size_of_trimmed dims (var ∷ []) = refl
 record_size_of_trimmed dims (var ∷ w ∷ vars) = total_trimmed dims (var ∷ w ∷ vars)
+record_size_of_trimmed dims _ = refl
 
 pub same_record : (dims : List Dim) (vars : List Var) → record_size_of dims (record_vars dims (map trimmed_var vars)) ≡ record_size_of dims (record_vars dims vars)
 same_record dims vars = ap (record_size_of dims) (record_trimmed dims vars) ∙ record_size_of_trimmed dims (record_vars dims vars)

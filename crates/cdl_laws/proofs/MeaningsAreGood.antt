@@ -1,13 +1,13 @@
 -- What a text means is good.
-use Rattle.std.proofs.Common.{◌≡◌, ℕ, ◌+◌, ◌-◌, ◌*◌, ◌/◌, ◌≤◌, ◌<◌, Bool, true, false, List, [], ◌∷◌, length, map, max, sym, ◌∙◌, ap, refl, subst, arith, zero, suc, ℤ, if◌then◌else◌, Option, None, Some, Result, Ok, Err, ◌||◌, find, nat_le, codes, All}
-use Rattle.cdl_laws.proofs.Prelude.{length-append, length-map, div-lt_iff_lt-mul, lt-div-mul-add, mul_comm, mul-le-mul_left, flat_map, list_all, AreBytes, Dataset, Att, Dim, Known, Var, NcType, Int, Version, Cdf1, Cdf2, Cdf5, fill_value, IsGood, IsSound, IsSoundAtt, IsSoundVar, IsSoundDim, IsArray, AreArrays, bare_var, value_count, IsName, bytes_of_number, is_record_var, record_vars, slab_count, slab_size, record_size, slab_limit, array_limit, record_limit, size_of, all_types, type_word, count_limit, has_type, MeaningsAreGood, MeaningsAreNearlySayable, IsNearlySayable, NearlyIsSayable, text_limit, Lexeme, lexeme, is_word, statements, shaped, checked, piece_read, starting_line, run, empty, listed_values, records_of, records_in, array_of, header_of, dataset_of, is_small, is_small_enough, closing_line, finished, meaning, AreDistinct, AreSayableAtts, HasSomeNumber, Statement, Opening, Mark, Declared, Typed, Attribute, Listed, Brace, End, shape, first_bad, State, Draft, act, add_dim, add_var, add_att, at_variable, with_att, with_values, type_of, is_word_of, some_or, in_turn, filled, CdlFault, CdlKind, FloatingType, UnknownType, TooLarge, Section, Token, and_left, and_right, some_count, length-numbers}
+use Rattle.std.proofs.Common.{◌≡◌, ℕ, ◌+◌, ◌-◌, ◌*◌, ◌/◌, ◌≤◌, ◌<◌, Bool, true, false, List, [], ◌∷◌, length, map, ◌∙◌, ap, refl, subst, arith, zero, suc, ℤ, if◌then◌else◌, Option, None, Some, Result, Ok, Err, find, nat_le, codes, All, rules}
+use Rattle.cdl_laws.proofs.Prelude.{length-map, div-lt_iff_lt-mul, lt-div-mul-add, mul_comm, mul-le-mul_left, flat_map, list_all, AreBytes, Dataset, Att, Dim, Known, Var, NcType, Version, IsGood, IsSound, IsSoundAtt, IsSoundVar, IsSoundDim, IsArray, AreArrays, bare_var, value_count, IsName, bytes_of_number, is_record_var, record_vars, slab_count, slab_size, record_size, slab_limit, array_limit, record_limit, size_of, count_limit, has_type, MeaningsAreGood, MeaningsAreNearlySayable, IsNearlySayable, NearlyIsSayable, text_limit, Lexeme, lexeme, statements, shaped, checked, piece_read, starting_line, run, empty, listed_values, records_of, records_in, array_of, header_of, dataset_of, is_small, is_small_enough, closing_line, finished, meaning, AreDistinct, AreSayableAtts, HasSomeNumber, Statement, Opening, Mark, Declared, Typed, Attribute, Listed, shape, first_bad, State, Draft, act, add_var, at_variable, with_att, with_values, type_of, some_or, in_turn, filled, CdlFault, CdlKind, Section, Token, and_left, and_right, some_count, length-numbers}
 use Rattle.cdl_meaning.specs.State.{◌>>=◌}
 use Rattle.cdl_laws.proofs.Lists.{Each, each_map}
 use Rattle.cdl_laws.proofs.Outcomes.{SomeIs, OkIs, ok_then, in_if, total, each_more, all_of}
 use Rattle.cdl_laws.proofs.Sayables.{draft_name}
 use Rattle.cdl_laws.proofs.Said.{IsByte, HasBytes, mass}
 use Rattle.cdl_laws.proofs.Uttered.{late, IsSaid, shape_says, token_mass, all_mass, mass_is, piece_bytes}
-use Rattle.cdl_laws.proofs.Fine.{IsFineAtt, AreFineAtts, IsFineDim, AreFineDims, IsFineDraft, AreFineDrafts, att_keeps, dims_keep, vars_keep, at_keeps, with_att_keeps, all_later, number_bytes, number_size, one_times}
+use Rattle.cdl_laws.proofs.Fine.{IsFineAtt, AreFineAtts, IsFineDim, AreFineDims, IsFineDraft, AreFineDrafts, att_keeps, dims_keep, vars_keep, at_keeps, with_att_keeps, all_later, number_bytes, one_times}
 use Rattle.cdl_laws.proofs.Roomy.{with_values_keeps, filled_len, up_to}
 use Rattle.cdl_laws.proofs.Numerals.{int_known}
 
@@ -31,12 +31,7 @@ drafts_later v N n m dims ds f = all_later v N n (n + m) dims ds (omega arith) f
 
 -- the same dataset in another section
 advanced : (v : Version) (N n m : ℕ) (s : State) (next : Section) → (late next < 3 → late s.section < 3) → IsFineState v N n s → IsFineState v N (n + m) (record s { section = next })
-advanced v N n m s next back f = record {
-  dims = dims_later v N n m s.dims f.dims;
-  gatts = atts_later v N n m s.gatts f.gatts;
-  drafts = drafts_later v N n m s.dims s.drafts f.drafts;
-  early = λ h. f.early (back h);
-}
+advanced v N n m s next back f = grind (arith, dims_later, atts_later, drafts_later)
 
 found_passes : {A : Type 0} (p : A → Bool) (xs : List A) → SomeIs (λ x. p x ≡ true) (find p xs)
 found_passes p [] = tt
@@ -45,14 +40,7 @@ found_passes p (x ∷ xs) =
 
 type_has : (v : Version) (word : Lexeme) → OkIs (λ ty. has_type v ty ≡ true) (type_of v word)
 unfolding type_of
-type_has v word =
-    in_if (OkIs (λ ty. has_type v ty ≡ true)) (is_word (codes "float") word || is_word (codes "real") word || is_word (codes "double") word) (Err FloatingType)
-    (if is_word (codes "long") word then Ok Int else some_or (find (is_word_of v word) all_types) UnknownType) tt
-    (in_if (OkIs (λ ty. has_type v ty ≡ true)) (is_word (codes "long") word) (Ok Int) (some_or (find (is_word_of v word) all_types) UnknownType) (int_known v) (of_find (find (is_word_of v word) all_types) (found_passes (is_word_of v word) all_types)))
-  where
-    of_find : (o : Option NcType) → SomeIs (λ ty. is_word_of v word ty ≡ true) o → OkIs (λ ty. has_type v ty ≡ true) (some_or o UnknownType)
-    of_find None h = tt
-    of_find (Some ty) h = and_left (has_type v ty) (is_word (type_word ty) word) h
+type_has v word = grind (arith, in_if, codes, some_or, int_known, found_passes, and_left)
 
 none_left : (n : ℕ) (ds es : List Draft) → (n < 3 → ds ≡ []) → length es ≡ length ds → n < 3 → es ≡ []
 none_left n ds [] early len h = refl
@@ -62,17 +50,8 @@ act_keeps : (v : Version) (N n m : ℕ) (s : State) (st : Statement) → m ≤ N
 unfolding act
 act_keeps v N n m s Opening small f said = advanced v N n m s _ (λ h. omega (arith, said)) f
 act_keeps v N n m s (Mark next) small f said = advanced v N n m s next (λ h. omega (arith, said, h)) f
-act_keeps v N n m s Brace small f said = advanced v N n m s _ (λ h. absurd (omega (arith, h))) f
-act_keeps v N n m s End small f said = advanced v N n m s _ (λ h. absurd (omega (arith, h))) f
 act_keeps v N n m s (Declared ds) small f said =
-    let none : s.drafts ≡ [] = f.early (let a = said.0 in omega (arith, a)) in
-    ok_then (AreFineDims v N (n + m)) (IsFineState v N (n + m)) (in_turn (add_dim v) s.dims ds) (λ dims. Ok (record s { dims = dims })) (dims_keep v N n m s.dims ds small said.1 f.dims) (λ dims fine.
-    record {
-      dims = fine;
-      gatts = atts_later v N n m s.gatts f.gatts;
-      drafts = subst (AreFineDrafts v N (n + m) dims) (sym none) (record { count = omega arith; fine = tt; names = tt });
-      early = λ h. none;
-    })
+    grind (arith, dims_keep v N n m s.dims ds small said.1 f.dims, atts_later v N n m s.gatts f.gatts, ok_then)
 act_keeps v N n m s (Typed word vs) small f said =
     ok_then (λ ty. has_type v ty ≡ true) (IsFineState v N (n + m)) (type_of v word) (λ ty. in_turn (add_var s.dims ty) s.drafts vs >>= (λ drafts. Ok (record s { drafts = drafts }))) (type_has v word) (λ ty has.
     ok_then (AreFineDrafts v N (n + m) s.dims) (IsFineState v N (n + m)) (in_turn (add_var s.dims ty) s.drafts vs) (λ drafts. Ok (record s { drafts = drafts })) (vars_keep v N n m s.dims ty s.drafts vs has small said.1 f.drafts) (λ drafts fine.
@@ -83,8 +62,7 @@ act_keeps v N n m s (Typed word vs) small f said =
       early = λ h. absurd (let a = said.0 in omega (arith, a, h));
     }))
 act_keeps v N n m s (Attribute None name cs) small f said =
-    ok_then (AreFineAtts v N (n + m)) (IsFineState v N (n + m)) (add_att name cs s.gatts) (λ atts. Ok (record s { gatts = atts })) (att_keeps v N n m name cs s.gatts small said f.gatts) (λ atts fine.
-    record { dims = dims_later v N n m s.dims f.dims; gatts = fine; drafts = drafts_later v N n m s.dims s.drafts f.drafts; early = f.early })
+    grind (arith, att_keeps v N n m name cs s.gatts small said f.gatts, dims_later v N n m s.dims f.dims, drafts_later v N n m s.dims s.drafts f.drafts, ok_then)
 act_keeps v N n m s (Attribute (Some variable) name cs) small f said =
     ok_then (λ es. AreFineDrafts v N (n + m) s.dims es × (length es ≡ length s.drafts)) (IsFineState v N (n + m)) (at_variable variable (with_att name cs) s.drafts) (λ drafts. Ok (record s { drafts = drafts }))
     (at_keeps v N n m s.dims variable (with_att name cs) (with_att_keeps v N n m s.dims name cs small said) s.drafts f.drafts) (λ es h.
@@ -93,6 +71,7 @@ act_keeps v N n m s (Listed variable xs) small f said =
     ok_then (λ es. AreFineDrafts v N (n + m) s.dims es × (length es ≡ length s.drafts)) (IsFineState v N (n + m)) (at_variable variable (with_values s.dims xs) s.drafts) (λ drafts. Ok (record s { drafts = drafts }))
     (at_keeps v N n m s.dims variable (with_values s.dims xs) (with_values_keeps v N n m s.dims variable xs small said) s.drafts f.drafts) (λ es h.
     record { dims = dims_later v N n m s.dims f.dims; gatts = atts_later v N n m s.gatts f.gatts; drafts = h.0; early = none_left (late s.section) s.drafts es f.early h.1 })
+act_keeps v N n m s _ small f said = advanced v N n m s _ (λ h. absurd (omega (arith, h))) f
 
 -- ---- the run
 
@@ -178,24 +157,10 @@ IsSmall dims r d = (slab_size dims d.var ≤ slab_limit) × (value_count dims d.
 each_small : (dims : List Dim) (r : ℕ) (ds : List Draft) → list_all (is_small dims r) ds ≡ true → Each (IsSmall dims r) ds
 each_small dims r [] h = tt
 each_small dims r (d ∷ ds) h =
-    let a = and_left (is_small dims r d) (list_all (is_small dims r) ds) h in
-    let slab = nat_le (slab_size dims d.var) slab_limit in
-    let all = nat_le (value_count dims d.var r * size_of d.var.ty) array_limit in (
-      (up_to (slab_size dims d.var) slab_limit (and_left slab all a), up_to (value_count dims d.var r * size_of d.var.ty) array_limit (and_right slab all a)),
-      each_small dims r ds (and_right (is_small dims r d) (list_all (is_small dims r) ds) h),
-    )
+    grind (arith, and_left, up_to, and_right, each_small dims r ds (and_right (is_small dims r d) (list_all (is_small dims r) ds) h))
 
 array_is : (v : Version) (N n : ℕ) (dims : List Dim) (r : ℕ) (d : Draft) → IsFineDraft v N n dims d → IsSmall dims r d → records_of dims d ≤ r → IsArray dims r d.var (array_of dims r d)
-array_is v N n dims r d f small h =
-    let count = value_count dims d.var r in
-    let all = filled count (fill_value d.var) (listed_values dims d) in
-    let len : length (array_of dims r d) ≡ count * size_of d.var.ty =
-    length-numbers d.var.ty all ∙ ap (λ m. m * size_of d.var.ty) (filled_len count (fill_value d.var) (listed_values dims d) (listed_fits v N n dims r d f h)) in
-    record {
-      bytes = are_bytes (array_of dims r d) (numbers_bytes d.var.ty all);
-      whole = len;
-      small = (let a = small.1 in omega (arith, a, len));
-    }
+array_is v N n dims r d f small h = search (rules, filled, length-numbers, filled_len, listed_fits, are_bytes, numbers_bytes)
 
 arrays_are : (v : Version) (N n : ℕ) (dims : List Dim) (r : ℕ) (ds : List Draft) → Each (IsFineDraft v N n dims) ds → Each (IsSmall dims r) ds → records_in dims ds ≤ r →
     AreArrays dims r (map (λ (d : Draft). d.var) ds) (map (array_of dims r) ds)
@@ -218,25 +183,13 @@ bare_same v N n dims (d ∷ ds) f =
     ap (λ b. record d.var { begin_at = b } ∷ map (λ (e : Draft). e.var) ds) f.0.bare ∙ ap (λ vs. bare_var d.var ∷ vs) (bare_same v N n dims ds f.1)
 
 att_sound : (v : Version) (N : ℕ) → N < count_limit v → (a : Att) → IsFineAtt v N a → IsSoundAtt v a
-att_sound v N lim a f = record {
-  name_len = (let b = f.short in omega (arith, b, lim));
-  ty = f.ty;
-  values = record { count = f.count; counted = (let b = f.few in omega (arith, b, lim)); whole = f.whole };
-}
+att_sound v N lim a f = grind arith
 
 atts_sound : (v : Version) (N n : ℕ) → N < count_limit v → (atts : List Att) → AreFineAtts v N n atts → All (IsSoundAtt v) atts
 atts_sound v N n lim atts f = all_of (IsSoundAtt v) atts (each_map (IsFineAtt v N) (IsSoundAtt v) atts (att_sound v N lim) f.fine)
 
 var_sound : (v : Version) (N n : ℕ) (dims : List Dim) (r : ℕ) → N < count_limit v → n ≤ N → (d : Draft) → IsFineDraft v N n dims d → IsSmall dims r d → IsSoundVar v dims d.var
-var_sound v N n dims r lim under d f small = record {
-  name_len = (let b = f.short in omega (arith, b, lim));
-  rank = (let b = f.rank in omega (arith, b, lim));
-  shape = f.shape;
-  att_count = (let b = f.atts.count in omega (arith, b, lim, under));
-  atts = atts_sound v N n lim d.var.atts f.atts;
-  ty = f.ty;
-  slab = small.0;
-}
+var_sound v N n dims r lim under d f small = grind (arith, atts_sound v N n lim d.var.atts f.atts, shape)
 
 sound : (v : Version) (N n : ℕ) (s : State) → N < count_limit v → n ≤ N → IsFineState v N n s → is_small_enough v s ≡ true → IsSound (header_of v s)
 unfolding is_small_enough
@@ -295,12 +248,7 @@ sayable_atts v N n atts f = record { names = f.names; some = all_of HasSomeNumbe
 
 no_records : (dims : List Dim) (ds : List Draft) → record_vars dims (map (λ (d : Draft). d.var) ds) ≡ [] → records_in dims ds ≡ 0
 no_records dims [] h = refl
-no_records dims (d ∷ ds) h =
-    elim (is_record_var dims d.var) as (λ b. (if b then d.var ∷ record_vars dims (map (λ (e : Draft). e.var) ds) else record_vars dims (map (λ (e : Draft). e.var) ds)) ≡ [] →
-    max (if b then (length (listed_values dims d) + slab_count dims d.var - 1) / slab_count dims d.var else 0) (records_in dims ds) ≡ 0) [
-      | true ↦ (λ e. absurd (let a = ap (λ (xs : List Var). length xs) e in omega (arith, a)))
-      | false ↦ (λ e. let a = no_records dims ds e in omega (arith, a))
-    ] h
+no_records dims (d ∷ ds) h = grind (arith, no_records dims ds)
 
 draft_names : (ds : List Draft) → map draft_name ds ≡ map (λ (var : Var). var.name) (map (λ (d : Draft). d.var) ds)
 draft_names [] = refl
@@ -319,9 +267,7 @@ nearly v N n s lim under f small = record {
 -- ---- the laws
 
 limit_large : (v : Version) (n : ℕ) → n ≤ text_limit → 1 + 2 * n < count_limit v
-limit_large Cdf1 n h = omega (arith, h)
-limit_large Cdf2 n h = omega (arith, h)
-limit_large Cdf5 n h = omega (arith, h)
+limit_large v n h = grind arith
 
 abbrev pub IsRight : Version → Dataset → Type 0
 IsRight v d = IsNearlySayable d × (d.header.version ≡ v)
@@ -329,11 +275,7 @@ IsRight v d = IsNearlySayable d × (d.header.version ≡ v)
 end_right : (v : Version) (N n line : ℕ) (r : Result State CdlFault) → N < count_limit v → n ≤ N → OkIs (IsFineState v N n) r → OkIs (IsRight v) (finished v line r)
 unfolding finished
 end_right v N n line (Err e) lim under f = tt
-end_right v N n line (Ok s) lim under f =
-    elim (is_small_enough v s) as (λ b. is_small_enough v s ≡ b → OkIs {F = CdlFault} (IsRight v) (if b then Ok (dataset_of v s) else Err (record { line = line; kind = TooLarge }))) [
-      | true ↦ (λ e. (nearly v N n s lim under f e, refl))
-      | false ↦ (λ e. tt)
-    ] refl
+end_right v N n line (Ok s) lim under f = grind (arith, nearly v N n s lim under f)
 
 -- of any text whose bytes the version can count twice
 pub right : (text : List ℕ) (v : Version) → AreBytes text → 1 + 2 * length text < count_limit v → OkIs (IsRight v) (meaning text v)
@@ -356,11 +298,4 @@ pub meanings_are_good : MeaningsAreGood
 meanings_are_good text v d bytes short e = let r = subst (OkIs (IsRight v)) e (right text v bytes (limit_large v (length text) short)) in (r.0.good, r.1)
 
 pub nearly_is_sayable : NearlyIsSayable
-nearly_is_sayable d near fill = record {
-  good = near.good;
-  dims = near.dims;
-  gatts = near.gatts;
-  names = near.names;
-  vars = λ k x h. record { atts = near.atts k x h; fill = fill k x h };
-  records = near.records;
-}
+nearly_is_sayable d near fill = grind (arith, good)

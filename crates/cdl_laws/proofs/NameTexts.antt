@@ -1,57 +1,36 @@
 -- A valid name, escaped, is one word that stands for it.
-use Rattle.std.proofs.Common.{◌≡◌, ℕ, Bool, true, false, List, [], ◌∷◌, ◌++◌, length, get_or, drop, sym, ◌∙◌, ap, refl, subst, arith, nat_le, ◌&&◌, ◌||◌, ◌==◌, if◌then◌else◌, not}
-use Rattle.cdl_laws.proofs.Prelude.{is_ascii_digit, is_in_range, flat_map, list_all, bytes_eq, false≢true, eqb-true, bytes_eq-Decides, is_plain, is_name_mark, escaped_in_name, escaped_name, is_reserved, reserved_words, begins_with_digit_or_mark, may_begin_name, may_follow_in_name, is_beyond_ascii, is_escape, is_escapable, goes_on_word, may_begin_word, word_len, begins_a_word, word_value, and_left, and_right, word_at_start, and_false, value_at_start}
+use Rattle.std.proofs.Common.{◌≡◌, ℕ, Bool, true, false, List, [], ◌∷◌, ◌++◌, length, get_or, ◌∙◌, refl, arith, nat_le, ◌&&◌, ◌||◌, ◌==◌, if◌then◌else◌, not, rules}
+use Rattle.cdl_laws.proofs.Prelude.{is_ascii_digit, is_in_range, flat_map, list_all, bytes_eq, false≢true, eqb-true, bytes_eq-Decides, is_plain, is_name_mark, escaped_in_name, escaped_name, is_reserved, reserved_words, begins_with_digit_or_mark, may_begin_name, may_follow_in_name, is_beyond_ascii, is_escape, is_escapable, goes_on_word, may_begin_word, word_len, begins_a_word, word_value, and_left, and_right, word_at_start, value_at_start}
 use Rattle.cdl_laws.proofs.Bools.{or_left, or_right, of_any}
 
 -- ---- bytes
 
 pub no_escape : (b c : ℕ) → goes_on_word b ≡ true → is_escape b c ≡ false
-no_escape b c h =
-    elim (b == 0x5c) as (λ w. (b == 0x5c) ≡ w → is_escape b c ≡ false) [
-      | true ↦ (λ e. absurd (false≢true (subst (λ n. goes_on_word n ≡ true) (eqb-true b 0x5c e) h)))
-      | false ↦ (λ e. rw (e) refl)
-    ] refl
+no_escape b c h = grind (arith, false≢true, eqb-true)
 
 -- by the tests: from 32, up to 126, `/`, beyond
 follows : (l h s x : Bool) → ((l && h && not s) || x) ≡ true → ((l && h) || x) ≡ true
-follows true true s true e = refl
-follows true true s false e = refl
-follows true false s x e = e
-follows false h s x e = e
+follows true false s x e = grind arith
+follows _ _ s _ e = grind arith
 
 pub escapable : (b : ℕ) → may_follow_in_name b ≡ true → is_escapable b ≡ true
 escapable b h = follows (nat_le 32 b) (nat_le b 126) (b == 47) (is_beyond_ascii b) h
 
 -- by the tests: digit, upper, lower, `_`, mark, beyond
 plain : (d u l s m x : Bool) → (((d || u) || l) || s || m || x) ≡ true → (d || m) ≡ false → ((u || l) || s || x) ≡ true
-plain true u l s m x e f = absurd (false≢true (sym f))
-plain false u l s true x e f = absurd (false≢true (sym f))
-plain false true l s false x e f = refl
-plain false false true s false x e f = refl
-plain false false false true false x e f = refl
-plain false false false false false x e f = e
+plain d u l s m x h h2 = grind (arith, false≢true)
 
 pub bare_begins : (b : ℕ) → is_plain b ≡ true → (is_ascii_digit b || is_name_mark b) ≡ false → may_begin_word b ≡ true
 bare_begins b h k = plain (is_ascii_digit b) (is_in_range 65 90 b) (is_in_range 97 122 b) (b == 95) (is_name_mark b) (is_beyond_ascii b) h k
 
 plainly : (d u l s m x : Bool) → (d || m) ≡ true → (((d || u) || l) || s || m || x) ≡ true
-plainly true u l s m x e = refl
-plainly false u l s false x e = cc
-plainly false true l s true x e = refl
-plainly false false true s true x e = refl
-plainly false false false true true x e = refl
-plainly false false false false true x e = refl
+plainly d u l s m x h = grind arith
 
 pub marked_plain : (b : ℕ) → (is_ascii_digit b || is_name_mark b) ≡ true → is_plain b ≡ true
 marked_plain b h = plainly (is_ascii_digit b) (is_in_range 65 90 b) (is_in_range 97 122 b) (b == 95) (is_name_mark b) (is_beyond_ascii b) h
 
 begins_plainly : (d u l s m x : Bool) → ((u || l) || s || x) ≡ true → (((d || u) || l) || s || m || x) ≡ true
-begins_plainly true u l s m x e = refl
-begins_plainly false true l s m x e = refl
-begins_plainly false false true s m x e = refl
-begins_plainly false false false true m x e = refl
-begins_plainly false false false false true x e = refl
-begins_plainly false false false false false x e = e
+begins_plainly d u l s m x h = grind arith
 
 pub begins_goes_on : (b : ℕ) → may_begin_word b ≡ true → goes_on_word b ≡ true
 begins_goes_on b h = begins_plainly (is_ascii_digit b) (is_in_range 65 90 b) (is_in_range 97 122 b) (b == 95) (is_name_mark b) (is_beyond_ascii b) h
@@ -78,14 +57,7 @@ rest_len (b ∷ name) rest h e =
 pub rest_value : (name : List ℕ) → list_all may_follow_in_name name ≡ true → word_value (rest_of name) ≡ name
 unfolding word_value
 rest_value [] h = refl
-rest_value (b ∷ name) h =
-    let more = and_right (may_follow_in_name b) (list_all may_follow_in_name name) h in
-    let one : is_escapable b ≡ true = escapable b (and_left (may_follow_in_name b) (list_all may_follow_in_name name) h) in
-    let ih = rest_value name more in
-    elim (is_plain b) as (λ w. is_plain b ≡ w → word_value ((if w then b ∷ [] else 0x5c ∷ b ∷ []) ++ rest_of name) ≡ b ∷ name) [
-      | true ↦ (λ g. value_at_start b (rest_of name) ∙ rw (no_escape b (get_or (rest_of name) 0 0) g) (ap (λ xs. b ∷ xs) ih))
-      | false ↦ (λ g. value_at_start 0x5c (b ∷ rest_of name) ∙ rw (one) (ap (λ xs. b ∷ xs) ih))
-    ] refl
+rest_value (b ∷ name) h = search (rules, and_right, escapable, and_left, is_plain, value_at_start, no_escape, rest_value name)
 
 -- ---- the first byte
 
@@ -103,43 +75,25 @@ unfolding is_reserved first_plain
 reserved_plain b bs h = of_any first_plain (b ∷ bs) reserved_words refl h
 
 flagged_plain : (b : ℕ) (bs : List ℕ) → (begins_with_digit_or_mark (b ∷ bs) || is_reserved (b ∷ bs)) ≡ true → is_plain b ≡ true
-flagged_plain b bs h =
-    elim (is_ascii_digit b || is_name_mark b) as (λ w. (is_ascii_digit b || is_name_mark b) ≡ w → (w || is_reserved (b ∷ bs)) ≡ true → is_plain b ≡ true) [
-      | true ↦ (λ e k. marked_plain b e)
-      | false ↦ (λ e k. reserved_plain b bs k)
-    ] refl h
+flagged_plain b bs h = grind (arith, is_plain, marked_plain, reserved_plain)
 
 escaped_is : (b : ℕ) (bs : List ℕ) → escaped_name (b ∷ bs) ≡ (if begins_with_digit_or_mark (b ∷ bs) || is_reserved (b ∷ bs) then 92 ∷ [] else []) ++ (escaped_in_name b ++ rest_of bs)
 unfolding escaped_name
 escaped_is b bs = refl
 
 pub begins : (b : ℕ) (bs : List ℕ) → may_begin_name b ≡ true → Begins b bs
-begins b bs h =
-    let one : is_escapable b ≡ true = escapable b (first_may_follow b h) in
-    elim (begins_with_digit_or_mark (b ∷ bs) || is_reserved (b ∷ bs)) as (λ w. (begins_with_digit_or_mark (b ∷ bs) || is_reserved (b ∷ bs)) ≡ w → Begins b bs) [
-      | true ↦ (λ e. marked one (escaped_is b bs ∙ rw (e) (rw (flagged_plain b bs e) refl)))
-      | false ↦ (λ e. elim (is_plain b) as (λ p. is_plain b ≡ p → Begins b bs) [
-        | true ↦ (λ k. bare (bare_begins b k (or_left (is_ascii_digit b || is_name_mark b) (is_reserved (b ∷ bs)) e)) (or_right (is_ascii_digit b || is_name_mark b) (is_reserved (b ∷ bs)) e) (escaped_is b bs ∙ rw (e) (rw (k) refl)))
-        | false ↦ (λ k. marked one (escaped_is b bs ∙ rw (e) (rw (k) refl)))
-      ] refl)
-    ] refl
+begins b bs h = grind (arith, escapable, first_may_follow, escaped_is, flagged_plain, is_plain, bare_begins, or_left, or_right)
 
 -- ---- names
 
 pub name_len : (b : ℕ) (bs rest : List ℕ) → Begins b bs → list_all may_follow_in_name bs ≡ true → word_len rest ≡ 0 → word_len (escaped_name (b ∷ bs) ++ rest) ≡ length (escaped_name (b ∷ bs))
-name_len b bs rest (marked one is) h stop = let ih = rest_len bs rest h stop in rw (is) (word_at_start 0x5c (b ∷ rest_of bs ++ rest) ∙ rw (one) (omega (arith, ih)))
-name_len b bs rest (bare one free is) h stop =
-    let ih = rest_len bs rest h stop in
-    rw (is) (word_at_start b (rest_of bs ++ rest) ∙ rw (no_escape b (get_or (rest_of bs ++ rest) 0 0) (begins_goes_on b one)) (rw (begins_goes_on b one) (omega (arith, ih))))
+name_len b bs rest h h2 h3 = grind (arith, rest_len, word_at_start, no_escape, begins_goes_on)
 
 pub name_begins : (b : ℕ) (bs rest : List ℕ) → Begins b bs → begins_a_word (escaped_name (b ∷ bs) ++ rest) ≡ true
-name_begins b bs rest (marked one is) = rw (is) one
-name_begins b bs rest (bare one free is) = rw (is) (rw (one) refl)
+name_begins b bs rest h = grind arith
 
 pub name_value : (b : ℕ) (bs : List ℕ) → Begins b bs → list_all may_follow_in_name bs ≡ true → word_value (escaped_name (b ∷ bs)) ≡ b ∷ bs
-name_value b bs (marked one is) h = rw (is) (value_at_start 0x5c (b ∷ rest_of bs) ∙ rw (one) (ap (λ xs. b ∷ xs) (rest_value bs h)))
-name_value b bs (bare one free is) h =
-    rw (is) (value_at_start b (rest_of bs) ∙ rw (no_escape b (get_or (rest_of bs) 0 0) (begins_goes_on b one)) (ap (λ xs. b ∷ xs) (rest_value bs h)))
+name_value b bs h h2 = grind (arith, value_at_start, rest_value, no_escape, begins_goes_on)
 
 -- a reserved word stands for itself
 stands : List ℕ → Bool
@@ -155,8 +109,4 @@ marked_free bs = refl
 
 pub name_free : (b : ℕ) (bs : List ℕ) → Begins b bs → list_all may_follow_in_name bs ≡ true → is_reserved (escaped_name (b ∷ bs)) ≡ false
 name_free b bs (marked one is) h = rw (is) (marked_free (b ∷ rest_of bs))
-name_free b bs (bare one free is) h =
-    elim (is_reserved (escaped_name (b ∷ bs))) as (λ w. is_reserved (escaped_name (b ∷ bs)) ≡ w → w ≡ false) [
-      | true ↦ (λ e. sym e ∙ ap is_reserved (sym (reserved_stand (escaped_name (b ∷ bs)) e) ∙ name_value b bs (bare one free is) h) ∙ free)
-      | false ↦ (λ e. refl)
-    ] refl
+name_free b bs (bare one free is) h = grind (arith, reserved_stand (escaped_name (b ∷ bs)), name_value b bs (bare one free is) h)

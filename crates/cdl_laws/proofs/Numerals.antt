@@ -1,8 +1,7 @@
 -- A decimal number is read again.
-use Rattle.std.proofs.Common.{◌≡◌, ℕ, zero, suc, ◌+◌, ◌*◌, ◌/◌, ◌%◌, ◌^◌, ◌<◌, ◌≤◌, Bool, true, false, List, [], ◌∷◌, ◌++◌, length, get_or, drop, sym, ◌∙◌, ap, refl, arith, append-nil, ℤ, pos, negsuc, unsigned_abs, decimal, ◌==◌, not, if◌then◌else◌, Some, nat_lt, Option}
-use Rattle.cdl_laws.proofs.Prelude.{signed_decimal, digits_onto, digits, digit_glyph, prefix_len, list_all, eqb-true, first_decimal, decimal_nonempty, drop-append_seam, take-append_seam, NcType, Byte, Char, Short, Int, Ubyte, Ushort, Uint, Int64, Uint64, Version, Cdf1, Cdf2, Cdf5, number_suffix, is_char, has_type, digit_value, is_digit, is_sign, goes_on_number, number_in, type_of_suffix, in_base, with_sign, numeral, parts, Parts, option_map, list_all-append, and_left, and_right, and_both, is_off, not_none}
+use Rattle.std.proofs.Common.{◌≡◌, ℕ, zero, suc, ◌+◌, ◌/◌, ◌%◌, ◌^◌, ◌<◌, ◌≤◌, Bool, true, false, List, [], ◌∷◌, ◌++◌, length, get_or, sym, ◌∙◌, ap, refl, arith, append-nil, ℤ, pos, unsigned_abs, decimal, ◌==◌, not, Some, nat_lt, Option, rules}
+use Rattle.cdl_laws.proofs.Prelude.{signed_decimal, digits_onto, digits, digit_glyph, prefix_len, list_all, eqb-true, first_decimal, decimal_nonempty, drop-append_seam, take-append_seam, NcType, Int, Version, number_suffix, is_char, has_type, digit_value, is_digit, is_sign, goes_on_number, number_in, type_of_suffix, in_base, with_sign, numeral, parts, Parts, option_map, list_all-append, and_left, and_right, and_both, is_off, not_none}
 use native.Mathlib.Numerals.{unary_clauses}
-use Rattle.cdl_tokens.specs.Numerals.{number as number_of}
 use Rattle.cdl_laws.proofs.Texts.{Reads, number, digits_read, minus_reads}
 
 -- ---- the digits of a number
@@ -18,23 +17,11 @@ glyph_value n = rw (glyph n) (let e : is_digit (48 + n % 10) ≡ true = grind ar
 
 onto_digits : (k n : ℕ) (acc : List ℕ) → list_all is_digit acc ≡ true → list_all is_digit (digits_onto k 10 false n acc) ≡ true
 onto_digits zero n acc h = h
-onto_digits (suc k) n acc h =
-    let more : list_all is_digit (digit_glyph false (n % 10) ∷ acc) ≡ true = rw (glyph_digit n) h in
-    elim (n / 10 == 0) as (λ w. list_all is_digit (if w then digit_glyph false (n % 10) ∷ acc else digits_onto k 10 false (n / 10) (digit_glyph false (n % 10) ∷ acc)) ≡ true) [
-      | true ↦ more
-      | false ↦ onto_digits k (n / 10) (digit_glyph false (n % 10) ∷ acc) more
-    ]
+onto_digits (suc k) n acc h = grind (arith, glyph_digit, onto_digits k (n / 10))
 
 onto_value : (k n : ℕ) (acc : List ℕ) → n < 10 ^ k → number_in 10 0 (digits_onto k 10 false n acc) ≡ number_in 10 n acc
 onto_value zero n acc h = ap (λ m. number_in 10 m acc) (let e : 0 ≡ n = (let f : n < 1 = h in omega (arith, f)) in e)
-onto_value (suc k) n acc h =
-    elim (n / 10 == 0) as (λ w. (n / 10 == 0) ≡ w → number_in 10 0 (if w then digit_glyph false (n % 10) ∷ acc else digits_onto k 10 false (n / 10) (digit_glyph false (n % 10) ∷ acc)) ≡ number_in 10 n acc) [
-      | true ↦ (λ e. ap (λ m. number_in 10 m acc) (ap (λ m. 10 * 0 + m) (glyph_value n) ∙ (let z : n / 10 ≡ 0 = eqb-true (n / 10) 0 e in omega (arith, z))))
-      | false ↦ (λ e.
-          let smaller : n / 10 < 10 ^ k = (let f = simp unary_clauses at h in grind (arith, f)) in
-          onto_value k (n / 10) (digit_glyph false (n % 10) ∷ acc) smaller ∙
-          ap (λ m. number_in 10 m acc) (ap (λ m. 10 * (n / 10) + m) (glyph_value n) ∙ omega arith))
-    ] refl
+onto_value (suc k) n acc h = grind (arith, glyph_value, eqb-true, unary_clauses, onto_value k (n / 10))
 
 pub decimal_digits : (n : ℕ) → list_all is_digit (decimal n) ≡ true
 unfolding digits
@@ -68,9 +55,7 @@ with_suffix minus n suf = option_map (λ ty. record { minus = minus; magnitude =
 
 based : (v : Version) (minus : Bool) (d : ℕ) (ds suf : List ℕ) (n : ℕ) → n ≡ length (d ∷ ds) →
     in_base v minus 10 n ((d ∷ ds) ++ suf) ≡ with_suffix minus (number_in 10 0 (d ∷ ds)) (type_of_suffix v suf)
-based v minus d ds suf n e =
-    rw (e) (rw (not_none (length ds)) (ap (λ xs. with_suffix minus (number_in 10 0 xs) (type_of_suffix v (drop (length (d ∷ ds)) ((d ∷ ds) ++ suf)))) (take-append_seam (d ∷ ds) suf) ∙
-    ap (λ xs. with_suffix minus (number_in 10 0 (d ∷ ds)) (type_of_suffix v xs)) (drop-append_seam (d ∷ ds) suf)))
+based v minus d ds suf n e = grind (arith, not_none, take-append_seam, drop-append_seam)
 
 big_back : (v : Version) (minus : Bool) (ds suf : List ℕ) → list_all is_digit ds ≡ true → 48 < get_or ds 0 0 → no_digit suf ≡ true →
     with_sign v minus (ds ++ suf) ≡ with_suffix minus (number_in 10 0 ds) (type_of_suffix v suf)
@@ -78,49 +63,17 @@ big_back v minus [] suf h big k = absurd (omega (arith, big))
 big_back v minus (d ∷ ds) suf h big k = rw (not_zero d big) (based v minus d ds suf (prefix_len is_digit ((d ∷ ds) ++ suf)) (digits_then (d ∷ ds) suf h k))
 
 zero_back : (v : Version) (minus : Bool) (ty : NcType) → with_sign v minus (48 ∷ number_suffix ty) ≡ with_suffix minus 0 (type_of_suffix v (number_suffix ty))
-zero_back v minus Byte = refl
-zero_back v minus Char = refl
-zero_back v minus Short = refl
-zero_back v minus Int = refl
-zero_back v minus Ubyte = refl
-zero_back v minus Ushort = refl
-zero_back v minus Uint = refl
-zero_back v minus Int64 = refl
-zero_back v minus Uint64 = refl
+zero_back v minus ty = search rules
 
 suffix_back : (v : Version) (ty : NcType) → has_type v ty ≡ true → is_char ty ≡ false → type_of_suffix v (number_suffix ty) ≡ Some ty
 unfolding type_of_suffix
-suffix_back v Byte h k = rw (h) refl
-suffix_back v Char h k = cc
-suffix_back v Short h k = rw (h) refl
-suffix_back v Int h k = rw (h) refl
-suffix_back v Ubyte h k = rw (h) refl
-suffix_back v Ushort h k = rw (h) refl
-suffix_back v Uint h k = rw (h) refl
-suffix_back v Int64 h k = rw (h) refl
-suffix_back v Uint64 h k = rw (h) refl
+suffix_back v ty h h2 = grind arith
 
 no_digit_suffix : (ty : NcType) → no_digit (number_suffix ty) ≡ true
-no_digit_suffix Byte = refl
-no_digit_suffix Char = refl
-no_digit_suffix Short = refl
-no_digit_suffix Int = refl
-no_digit_suffix Ubyte = refl
-no_digit_suffix Ushort = refl
-no_digit_suffix Uint = refl
-no_digit_suffix Int64 = refl
-no_digit_suffix Uint64 = refl
+no_digit_suffix ty = grind arith
 
 pub on_suffix : (ty : NcType) → list_all goes_on_number (number_suffix ty) ≡ true
-on_suffix Byte = refl
-on_suffix Char = refl
-on_suffix Short = refl
-on_suffix Int = refl
-on_suffix Ubyte = refl
-on_suffix Ushort = refl
-on_suffix Uint = refl
-on_suffix Int64 = refl
-on_suffix Uint64 = refl
+on_suffix ty = grind arith
 
 unsigned_some : (v : Version) (minus : Bool) (ty : NcType) (n : ℕ) → n < 2 ^ 64 →
     with_sign v minus (decimal n ++ number_suffix ty) ≡ with_suffix minus n (type_of_suffix v (number_suffix ty))
@@ -152,14 +105,11 @@ parts_negative v ty n h k l = unsigned_again v true ty n h k l
 pub numeral_again : (v : Version) (ty : NcType) (n : ℤ) → unsigned_abs n < 2 ^ 64 → has_type v ty ≡ true → is_char ty ≡ false →
     numeral v (signed_decimal n ++ number_suffix ty) ≡ Some (record { value = n; ty = ty })
 unfolding numeral
-numeral_again v ty (pos n) h k l = ap (λ (r : Option Parts). option_map number_of r) (parts_positive v ty n h k l)
-numeral_again v ty (negsuc n) h k l = ap (λ (r : Option Parts). option_map number_of r) (parts_negative v ty (suc n) h k l)
+numeral_again v ty n h h2 h3 = grind (arith, pos, parts_positive, parts_negative)
 
 -- a number as a value
 pub int_known : (v : Version) → has_type v Int ≡ true
-int_known Cdf1 = refl
-int_known Cdf2 = refl
-int_known Cdf5 = refl
+int_known v = grind arith
 
 pub value_again : (v : Version) (n : ℤ) → unsigned_abs n < 2 ^ 64 → numeral v (signed_decimal n) ≡ Some (record { value = n; ty = Int })
 value_again v n h = ap (numeral v) (sym (append-nil (signed_decimal n))) ∙ numeral_again v Int n h (int_known v) refl
@@ -168,23 +118,15 @@ value_again v n h = ap (numeral v) (sym (append-nil (signed_decimal n))) ∙ num
 
 pub goes_on : (ds : List ℕ) → list_all is_digit ds ≡ true → list_all goes_on_number ds ≡ true
 goes_on [] h = refl
-goes_on (d ∷ ds) h = and_both (goes_on_number d) (list_all goes_on_number ds) (digit_goes_on d (and_left (is_digit d) (list_all is_digit ds) h)) (goes_on ds (and_right (is_digit d) (list_all is_digit ds) h))
-  where
-    digit_goes_on : (d : ℕ) → is_digit d ≡ true → goes_on_number d ≡ true
-    digit_goes_on d h = grind (arith, h)
+goes_on (d ∷ ds) h = grind (arith, and_both, and_left, and_right, goes_on ds (and_right (is_digit d) (list_all is_digit ds) h))
 
 unsigned_reads : (ds suf : List ℕ) → list_all is_digit ds ≡ true → 0 < length ds → list_all goes_on_number suf ≡ true → Reads (ds ++ suf) (number (ds ++ suf) ∷ [])
-unsigned_reads [] suf h some k = absurd (omega (arith, some))
-unsigned_reads (d ∷ ds) suf h some k =
-    digits_read d (ds ++ suf) (and_left (is_digit d) (list_all is_digit ds) h)
-    (list_all-append goes_on_number ds suf ∙ and_both (list_all goes_on_number ds) (list_all goes_on_number suf) (goes_on ds (and_right (is_digit d) (list_all is_digit ds) h)) k)
+unsigned_reads [] suf h some k = grind (arith, digits_read, and_left, list_all-append, and_both, goes_on, and_right)
+unsigned_reads _ suf h some k = grind (arith, digits_read, and_left, list_all-append, and_both, goes_on, and_right)
 
 signed_reads : (ds suf : List ℕ) → list_all is_digit ds ≡ true → 0 < length ds → list_all goes_on_number suf ≡ true → Reads (45 ∷ (ds ++ suf)) (number (45 ∷ (ds ++ suf)) ∷ [])
-signed_reads [] suf h some k = absurd (omega (arith, some))
-signed_reads (d ∷ ds) suf h some k =
-    minus_reads d (ds ++ suf) (and_left (is_digit d) (list_all is_digit ds) h)
-    (list_all-append goes_on_number (d ∷ ds) suf ∙ and_both (list_all goes_on_number (d ∷ ds)) (list_all goes_on_number suf) (goes_on (d ∷ ds) h) k)
+signed_reads [] suf h some k = grind (arith, minus_reads, and_left, list_all-append, and_both, goes_on)
+signed_reads _ suf h some k = grind (arith, minus_reads, and_left, list_all-append, and_both, goes_on)
 
 pub number_reads : (n : ℤ) (suf : List ℕ) → unsigned_abs n < 2 ^ 64 → list_all goes_on_number suf ≡ true → Reads (signed_decimal n ++ suf) (number (signed_decimal n ++ suf) ∷ [])
-number_reads (pos n) suf h k = unsigned_reads (decimal n) suf (decimal_digits n) (decimal_nonempty n h) k
-number_reads (negsuc n) suf h k = signed_reads (decimal (suc n)) suf (decimal_digits (suc n)) (decimal_nonempty (suc n) h) k
+number_reads n suf h h2 = grind (arith, pos, unsigned_reads, decimal, decimal_digits, decimal_nonempty, signed_reads)

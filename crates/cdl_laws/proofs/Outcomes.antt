@@ -1,5 +1,5 @@
 -- What holds of what an option or a result has, and of lists by totals.
-use Rattle.std.proofs.Common.{◌≡◌, ℕ, ◌+◌, ◌≤◌, Bool, true, false, List, [], ◌∷◌, ◌++◌, refl, subst, arith, zero, suc, All, if◌then◌else◌, Option, None, Some, Result, Ok, Err, take, drop}
+use Rattle.std.proofs.Common.{◌≡◌, ℕ, ◌+◌, ◌≤◌, Bool, true, false, List, [], ◌∷◌, ◌++◌, subst, arith, zero, suc, All, if◌then◌else◌, Option, None, Some, Result, Ok, Err, take, drop}
 use Rattle.std.specs.Prelude.{⊤}
 use Rattle.cdl_laws.proofs.Prelude.{option_map, option_and_then, in_turn, unless, when, some_or, both, each, either, if_so, CdlKind}
 use Rattle.cdl_meaning.specs.State.{◌>>=◌}
@@ -12,37 +12,28 @@ SomeIs P None = Unit {0}
 SomeIs P (Some a) = P a
 
 pub some_map : {A B : Type 0} (P : B → Type 0) (f : A → B) (o : Option A) → SomeIs (λ a. P (f a)) o → SomeIs P (option_map f o)
-some_map P f None h = tt
-some_map P f (Some a) h = h
+some_map P f o h = grind arith
 
 pub some_then : {A B : Type 0} (P : A → Type 0) (Q : B → Type 0) (f : A → Option B) (o : Option A) → SomeIs P o → ((a : A) → P a → SomeIs Q (f a)) → SomeIs Q (option_and_then f o)
-some_then P Q f None h g = tt
-some_then P Q f (Some a) h g = g a h
+some_then P Q f o h h2 = grind arith
 
 pub some_weaker : {A : Type 0} (P Q : A → Type 0) (o : Option A) → SomeIs P o → ((a : A) → P a → Q a) → SomeIs Q o
-some_weaker P Q None h g = tt
-some_weaker P Q (Some a) h g = g a h
+some_weaker P Q o h h2 = grind arith
 
 pub some_both : {A B C : Type 0} (P : A → Type 0) (Q : B → Type 0) (R : C → Type 0) (f : A → B → C) (a : Option A) (b : Option B) → SomeIs P a → SomeIs Q b → ((x : A) (y : B) → P x → Q y → R (f x y)) → SomeIs R (both f a b)
-some_both P Q R f None b p q g = tt
-some_both P Q R f (Some a) None p q g = tt
-some_both P Q R f (Some a) (Some b) p q g = g a b p q
+some_both P Q R f a b h h2 h3 = grind arith
 
 pub some_first : {A : Type 0} (P : A → Type 0) (a b : Option A) → SomeIs P a → SomeIs P b → SomeIs P (either a b)
-some_first P None b p q = q
-some_first P (Some a) b p q = p
+some_first P a b h h2 = grind arith
 
 pub some_given : {A : Type 0} (P : A → Type 0) (b : Bool) (o : Option A) → (b ≡ true → SomeIs P o) → SomeIs P (if_so b o)
-some_given P true o h = h refl
-some_given P false o h = tt
+some_given P b o h = grind arith
 
 pub some_and : {A : Type 0} (P Q : A → Type 0) (o : Option A) → SomeIs P o → SomeIs Q o → SomeIs (λ a. P a × Q a) o
-some_and P Q None p q = tt
-some_and P Q (Some a) p q = (p, q)
+some_and P Q o h h2 = grind arith
 
 pub in_if : {A : Type 0} (P : A → Type 0) (b : Bool) (x y : A) → P x → P y → P (if b then x else y)
-in_if P true x y p q = p
-in_if P false x y p q = q
+in_if P b x y h h2 = grind arith
 
 -- ---- results
 
@@ -51,20 +42,16 @@ OkIs P (Ok a) = P a
 OkIs P (Err e) = Unit {0}
 
 pub ok_then : {A B F : Type 0} (P : A → Type 0) (Q : B → Type 0) (r : Result A F) (f : A → Result B F) → OkIs P r → ((a : A) → P a → OkIs Q (f a)) → OkIs Q (r >>= f)
-ok_then P Q (Ok a) f p g = g a p
-ok_then P Q (Err e) f p g = tt
+ok_then P Q r f h h2 = grind arith
 
 pub ok_unless : {B : Type 0} (Q : B → Type 0) (b : Bool) (e : CdlKind) (f : ⊤ → Result B CdlKind) → (b ≡ true → OkIs Q (f tt)) → OkIs Q (unless b e >>= f)
-ok_unless Q true e f g = g refl
-ok_unless Q false e f g = tt
+ok_unless Q b e f h = grind arith
 
 pub ok_when : {B : Type 0} (Q : B → Type 0) (b : Bool) (e : CdlKind) (f : ⊤ → Result B CdlKind) → (b ≡ false → OkIs Q (f tt)) → OkIs Q (when b e >>= f)
-ok_when Q true e f g = tt
-ok_when Q false e f g = g refl
+ok_when Q b e f h = grind arith
 
 pub ok_found : {A B : Type 0} (P : A → Type 0) (Q : B → Type 0) (o : Option A) (e : CdlKind) (f : A → Result B CdlKind) → SomeIs P o → ((a : A) → P a → OkIs Q (f a)) → OkIs Q (some_or o e >>= f)
-ok_found P Q None e f p g = tt
-ok_found P Q (Some a) e f p g = g a p
+ok_found P Q o e f h h2 = grind arith
 
 -- ---- totals
 
@@ -100,9 +87,8 @@ each_more P [] ys p q = q
 each_more P (x ∷ xs) ys p q = (p.0, each_more P xs ys p.1 q)
 
 pub each_take : {X : Type 0} (P : X → Type 0) (n : ℕ) (xs : List X) → Each P xs → Each P (take n xs)
-each_take P zero xs p = tt
-each_take P (suc n) [] p = tt
 each_take P (suc n) (x ∷ xs) p = (p.0, each_take P n xs p.1)
+each_take P _ _ p = tt
 
 pub each_drop : {X : Type 0} (P : X → Type 0) (n : ℕ) (xs : List X) → Each P xs → Each P (drop n xs)
 each_drop P zero xs p = p

@@ -1,6 +1,6 @@
 -- A dump is cut into the statements that it was put together from.
-use Rattle.std.proofs.Common.{◌≡◌, ℕ, true, false, List, [], ◌∷◌, ◌++◌, map, sym, ◌∙◌, ap, refl, subst, arith, append-nil, slice_index_or, None, Some, codes}
-use Rattle.cdl_laws.proofs.Prelude.{concat_parts, Att, Dim, Var, Version, escaped_name, AreDimids, netcdf_word, dim_line, global_word, var_lines, att_line, att_lines, shape_text, IsName, type_word, has_type, Section, Unopened, Globals, Dimensions, Variables, Values, Closed, scan, pieces_at, Statement, Opening, Mark, Brace, End, Declared, Typed, Attribute, shape, SaysStatement, IsStatement, PiecesAreStatements, MarksReadBack, opening_line, opening_piece, brace_piece, end_piece, said_dim, DimensionsReadBack, declaration, DeclarationReadsBack, DeclarationsReadBack, IsBeforeData, globals, dimensions, AttributeReadsBack, AttributesReadBack, GlobalAttributesReadBack, cut_lexemes, lexemes, lexemes_at, pieces_of}
+use Rattle.std.proofs.Common.{◌≡◌, ℕ, true, false, List, [], ◌∷◌, ◌++◌, map, sym, ◌∙◌, ap, refl, subst, arith, append-nil, slice_index_or, None, Some, codes, rules}
+use Rattle.cdl_laws.proofs.Prelude.{concat_parts, Att, Dim, Var, Version, escaped_name, AreDimids, netcdf_word, global_word, var_lines, att_lines, shape_text, IsName, type_word, has_type, Section, Unopened, Globals, Dimensions, Variables, Values, Closed, scan, pieces_at, Statement, Opening, Mark, Brace, End, shape, SaysStatement, IsStatement, PiecesAreStatements, MarksReadBack, opening_line, opening_piece, brace_piece, end_piece, DimensionsReadBack, declaration, DeclarationReadsBack, DeclarationsReadBack, IsBeforeData, globals, dimensions, AttributeReadsBack, AttributesReadBack, GlobalAttributesReadBack, cut_lexemes, lexemes, lexemes_at, pieces_of}
 use Rattle.cdl_tokens.specs.declared.token.TokenKind.TheVariants as kinds
 use Rattle.cdl_laws.proofs.Acts.{AreDistinctDims, HaveNames, ids_added, name_at, type_is}
 use Rattle.cdl_laws.proofs.Declarations.{dim_says, global_says, owned_says}
@@ -16,11 +16,7 @@ use Rattle.cdl_laws.proofs.Wholes.{Speaks, shape_is, parts_append, parts_more, p
 -- what says a statement is one
 pub is_statement : (v : Version) (section : Section) (bytes : List ℕ) (statement : Statement) → Says v section bytes statement → IsStatement v section bytes statement
 unfolding pieces_of
-is_statement v section bytes statement says = record {
-  piece = says.piece;
-  cut = λ rest. ap cut_lexemes (says.reads rest) ∙ says.cut (lexemes_at false 0 rest);
-  says = record { sound = says.sound; shaped = says.shaped };
-}
+is_statement v section bytes statement says = grind arith
 
 pub pieces_are_statements : PiecesAreStatements
 pieces_are_statements text = pieces_are text
@@ -83,11 +79,7 @@ marks_read_back v = record {
 -- ---- dimensions
 
 pub dimensions_read_back : DimensionsReadBack
-dimensions_read_back d records s k dim h =
-    let v = d.header.version in
-    let x = slice_index_or d.header.dims k dim in
-    is_statement v Dimensions (dim_line records x) (Declared (said_dim x ∷ []))
-    (dim_says v records x (s.good.names.dims k dim h) (let a = limit_small v in let b = (s.good.is_sound.dims k dim h).len in omega (arith, a, b)))
+dimensions_read_back d records s k dim h = grind (arith, is_statement, dim_says, limit_small)
 
 -- ---- declarations
 
@@ -104,40 +96,19 @@ lines_are dims var =
 
 declaration_back : (v : Version) (dims : List Dim) (var : Var) → IsName var.name → AreDimids dims [] var.dimids → has_type v var.ty ≡ true → AreDistinctDims dims → HaveNames dims → DeclarationReadsBack v dims var
 declaration_back v dims var name are known distinct names =
-    let shape = map (name_at dims) var.dimids in
-    let said = Typed (word (type_word var.ty)) (record { name = var.name; dimensions = shape } ∷ []) in
-    record {
-      lines = lines_are dims var;
-      names = shape;
-      statement = subst (λ bs. IsStatement v Variables bs said) (sym (declaration_is dims var are))
-          (is_statement v Variables (typed_line (type_word var.ty) var.name (shape_of shape)) said (typed_says v var.ty var.name shape name (valid_names dims [] var.dimids names are)));
-      ty = type_is v var.ty known;
-      dimids = ids_added dims [] var.dimids distinct names are;
-    }
+    grind (arith, shape, name_at, word, dimensions, lines_are, declaration_is, is_statement, typed_says, valid_names, type_is, ids_added)
 
 pub declarations_read_back : DeclarationsReadBack
 declarations_read_back d s k var h =
-    let g = s.good in
-    let sound = g.is_sound.vars k var h in
-    declaration_back d.header.version d.header.dims (slice_index_or d.header.vars k var) (g.names.vars k var h).0 sound.shape sound.ty s.dims (each_of (λ (dim : Dim). IsName dim.name) d.header.dims g.names.dims)
+    grind (arith, declaration_back d.header.version d.header.dims, each_of (λ (dim : Dim). IsName dim.name) d.header.dims)
 
 -- ---- attributes
 
 own_back : (v : Version) (owner : List ℕ) → IsName owner → (att : Att) → Speaks v att → AttributeReadsBack v Variables (Some owner) att
-own_back v owner own att speaks = record {
-  constants = speaks.said;
-  statement = is_statement v Variables (att_line (escaped_name owner) att) (Attribute (Some owner) att.name speaks.said) (owned_says v owner att speaks.said speaks.list own speaks.name);
-  ty = speaks.type;
-  vals = speaks.are;
-}
+own_back v owner own att speaks = search (rules, is_statement, owned_says)
 
 global_back : (v : Version) (section : Section) → IsBeforeData section → (att : Att) → Speaks v att → AttributeReadsBack v section None att
-global_back v section before att speaks = record {
-  constants = speaks.said;
-  statement = is_statement v section (att_line [] att) (Attribute None att.name speaks.said) (global_says v section att speaks.said before speaks.list speaks.name);
-  ty = speaks.type;
-  vals = speaks.are;
-}
+global_back v section before att speaks = search (rules, is_statement, global_says)
 
 pub attributes_read_back : AttributesReadBack
 attributes_read_back d s k var h =

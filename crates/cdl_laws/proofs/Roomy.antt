@@ -1,7 +1,6 @@
 -- No more is listed of a variable than it has values, over as many records as the text has bytes.
-use Rattle.std.proofs.Common.{◌≡◌, ℕ, ◌+◌, ◌-◌, ◌*◌, ◌≤◌, ◌<◌, Bool, true, false, List, [], ◌∷◌, ◌++◌, length, map, replicate, sym, ◌∙◌, ap, refl, arith, zero, suc, ℤ, pos, if◌then◌else◌, Some, Result, Ok, ◌||◌, not, nat_lt, nat_le}
-use Rattle.cdl_laws.proofs.Prelude.{length-append, length-replicate, length-map, flat_map-append, mul-le-mul_right, mul_comm, mul-le-mul, Dim, Var, Version, fill_value, is_char, Value, Number, Characters, Underscore, Draft, Listing, Numbers, Joined, Rows, Capacity, capacity_of, in_turn, unless, has_number, filled, add_number, add_characters, add_row, listed_by, listing_of, values_in, is_listed, with_values, CdlKind, TooManyValues, StringTooLong, DuplicateData, NumberRange, is_off, or_second, some_count}
-use Rattle.cdl_meaning.specs.State.{◌>>=◌}
+use Rattle.std.proofs.Common.{◌≡◌, ℕ, ◌+◌, ◌-◌, ◌*◌, ◌≤◌, ◌<◌, Bool, true, false, List, [], ◌∷◌, ◌++◌, length, replicate, sym, ◌∙◌, ap, refl, arith, zero, suc, ℤ, pos, if◌then◌else◌, Result, Ok, ◌||◌, not, nat_lt, nat_le, rules}
+use Rattle.cdl_laws.proofs.Prelude.{length-append, length-replicate, length-map, flat_map-append, mul-le-mul_right, mul_comm, mul-le-mul, Dim, Var, Version, is_char, Value, Number, Characters, Underscore, Draft, Listing, Numbers, Joined, Rows, Capacity, capacity_of, in_turn, has_number, filled, add_number, add_characters, add_row, listed_by, listing_of, values_in, with_values, CdlKind, TooManyValues, is_off, or_second, some_count}
 use Rattle.cdl_laws.proofs.Given.{slab_rows}
 use Rattle.cdl_laws.proofs.Outcomes.{OkIs, ok_then, ok_unless, ok_when, total, turns}
 use Rattle.cdl_laws.proofs.Said.{cost}
@@ -30,11 +29,7 @@ filled_len n fill xs h = let a = length-append xs (replicate (n - length xs) fil
 -- m positions more, which cost c
 grown : (capacity : Capacity) (count unit k n m c l : ℕ) (before after : Listing) → IsRoomy capacity count unit k n before → l ≡ n + m → m ≤ c → (capacity.is_open ≡ false → n + m ≤ count) →
     ((fill : ℤ) → length (values_in (by fill capacity) after) ≡ length (values_in (by fill capacity) before) + m * unit) → IsRoomy capacity count unit (k + c) l after
-grown capacity count unit k n m c l before after is len cheap wide more = record {
-  few = (let a = is.few in omega (arith, a, len, cheap));
-  within = λ e. let a = wide e in omega (arith, a, len);
-  whole = λ fill. more fill ∙ ap (λ x. x + m * unit) (is.whole fill) ∙ (let g : n * unit + m * unit ≡ (n + m) * unit = grind arith in g) ∙ ap (λ x. x * unit) (let e : n + m ≡ l = omega (arith, len) in e);
-}
+grown capacity count unit k n m c l before after is len cheap wide more = grind arith
 
 -- where there was room for one
 one_wide : (capacity : Capacity) (n count : ℕ) → (capacity.is_open || nat_lt n count) ≡ true → capacity.is_open ≡ false → n + 1 ≤ count
@@ -46,54 +41,28 @@ abbrev AreNumbers : Capacity → ℕ → List ℤ → Type 0
 AreNumbers capacity k values = IsRoomy capacity capacity.count 1 k (length values) (Numbers values)
 
 single : (capacity : Capacity) (k : ℕ) (before : List ℤ) (x : ℤ) → AreNumbers capacity k before → (capacity.is_open || nat_lt (length before) capacity.count) ≡ true → AreNumbers capacity (k + 1) (before ++ x ∷ [])
-single capacity k before x is test =
-    let len : length (before ++ x ∷ []) ≡ length before + 1 = length-append before (x ∷ []) in
-    grown capacity capacity.count 1 k (length before) 1 1 (length (before ++ x ∷ [])) (Numbers before) (Numbers (before ++ x ∷ [])) is len (omega arith) (one_wide capacity (length before) capacity.count test) (λ fill. len)
+single capacity k before x is test = grind (arith, length-append, grown, one_wide)
 
 number_step : (capacity : Capacity) (k : ℕ) (before : List ℤ) (x : Value) → AreNumbers capacity k before → Unit {0} → OkIs (AreNumbers capacity (k + cost x)) (add_number capacity before x)
 number_step capacity k before (Characters bytes) is u = tt
 number_step capacity k before Underscore is u =
     ok_unless (AreNumbers capacity (k + 1)) (capacity.is_open || nat_lt (length before) capacity.count) TooManyValues (λ u. Ok (before ++ capacity.fill ∷ [])) (λ t. single capacity k before capacity.fill is t)
-number_step capacity k before (Number n) is u =
-    ok_unless (AreNumbers capacity (k + 1)) (capacity.is_open || nat_lt (length before) capacity.count) TooManyValues (λ u. unless (has_number capacity.ty n.value) NumberRange >>= (λ w. Ok (before ++ n.value ∷ []))) (λ t.
-    ok_unless (AreNumbers capacity (k + 1)) (has_number capacity.ty n.value) NumberRange (λ w. Ok (before ++ n.value ∷ [])) (λ fit. single capacity k before n.value is t))
+number_step capacity k before (Number n) is u = search (rules, ok_unless, has_number, single)
 
 abbrev AreJoined : Capacity → ℕ → List ℕ → Type 0
 AreJoined capacity k bytes = IsRoomy capacity capacity.count 1 k (length bytes) (Joined bytes)
 
 joined_step : (capacity : Capacity) (k : ℕ) (before : List ℕ) (x : Value) → AreJoined capacity k before → Unit {0} → OkIs (AreJoined capacity (k + cost x)) (add_characters capacity before x)
-joined_step capacity k before (Characters bytes) is u =
-    ok_unless (AreJoined capacity (k + suc (length bytes))) (capacity.is_open || nat_le (length before + length bytes) capacity.count) StringTooLong (λ u. Ok (before ++ bytes)) (λ t.
-    let len = length-append before bytes in
-    let all = length-map (before ++ bytes) pos in
-    let old = length-map before pos in
-    grown capacity capacity.count 1 k (length before) (length bytes) (suc (length bytes)) (length (before ++ bytes)) (Joined before) (Joined (before ++ bytes)) is len (omega arith)
-    (λ e. up_to (length before + length bytes) capacity.count (or_second capacity.is_open (nat_le (length before + length bytes) capacity.count) t e)) (λ fill. omega (arith, len, all, old)))
-joined_step capacity k before Underscore is u = tt
-joined_step capacity k before (Number n) is u = tt
+joined_step capacity k before x h h2 = grind (arith, ok_unless, length-append, length-map, pos, grown, up_to, or_second)
 
 abbrev AreRows : Capacity → ℕ → List (List ℕ) → Type 0
 AreRows capacity k rows = IsRoomy capacity capacity.rows capacity.row k (length rows) (Rows rows)
 
 row_more : (capacity : Capacity) (before : List (List ℕ)) (bytes : List ℕ) → length bytes ≤ capacity.row → (fill : ℤ) → length (values_in (by fill capacity) (Rows (before ++ bytes ∷ []))) ≡ length (values_in (by fill capacity) (Rows before)) + 1 * capacity.row
-row_more capacity before bytes short fill =
-    let row = filled capacity.row fill (map pos bytes) in
-    let len = length-map bytes pos in
-    let a = ap (λ (xs : List ℤ). length xs) (flat_map-append (λ bs. filled capacity.row fill (map pos bs)) before (bytes ∷ [])) in
-    let b = length-append (values_in (by fill capacity) (Rows before)) (row ++ []) in
-    let c = length-append row [] in
-    let d = filled_len capacity.row fill (map pos bytes) (omega (arith, len, short)) in
-    omega (arith, a, b, c, d)
+row_more capacity before bytes short fill = grind (arith, filled, pos, length-map, flat_map-append, length-append, by, filled_len)
 
 row_step : (capacity : Capacity) (k : ℕ) (before : List (List ℕ)) (x : Value) → AreRows capacity k before → Unit {0} → OkIs (AreRows capacity (k + cost x)) (add_row capacity before x)
-row_step capacity k before (Characters bytes) is u =
-    let Q : List (List ℕ) → Type 0 = AreRows capacity (k + suc (length bytes)) in
-    ok_unless Q (capacity.is_open || nat_lt (length before) capacity.rows) TooManyValues (λ u. unless (nat_le (length bytes) capacity.row) StringTooLong >>= (λ w. Ok (before ++ bytes ∷ []))) (λ t.
-    ok_unless Q (nat_le (length bytes) capacity.row) StringTooLong (λ w. Ok (before ++ bytes ∷ [])) (λ short.
-    grown capacity capacity.rows capacity.row k (length before) 1 (suc (length bytes)) (length (before ++ bytes ∷ [])) (Rows before) (Rows (before ++ bytes ∷ [])) is (length-append before (bytes ∷ [])) (omega arith)
-    (one_wide capacity (length before) capacity.rows t) (row_more capacity before bytes (up_to (length bytes) capacity.row short))))
-row_step capacity k before Underscore is u = tt
-row_step capacity k before (Number n) is u = tt
+row_step capacity k before x h h2 = search (rules, ok_unless, grown, length-append, one_wide, row_more, up_to)
 
 -- ---- what is listed
 
@@ -102,16 +71,7 @@ abbrev Fits : Capacity → ℕ → Listing → Type 0
 Fits capacity records listing = (fill : ℤ) → length (values_in (by fill capacity) listing) ≤ capacity.count * (if capacity.is_open then records else 1)
 
 bounded : (capacity : Capacity) (count unit k n records : ℕ) (listing : Listing) → unit ≤ capacity.count → (capacity.is_open ≡ false → count * unit ≡ capacity.count) → k ≤ records → IsRoomy capacity count unit k n listing → Fits capacity records listing
-bounded capacity count unit k n records listing small all le is fill =
-    elim (capacity.is_open) as (λ b. capacity.is_open ≡ b → length (values_in (by fill capacity) listing) ≤ capacity.count * (if b then records else 1)) [
-      | true ↦ (λ e.
-          let few = is.few in
-          let a = mul-le-mul (let h : n ≤ records = omega (arith, few, le) in h) small in
-          let b = mul_comm records capacity.count in
-          let c = is.whole fill in
-          omega (arith, a, b, c))
-      | false ↦ (λ e. let a = mul-le-mul_right unit (is.within e) in let b = all e in let c = is.whole fill in omega (arith, a, b, c))
-    ] refl
+bounded capacity count unit k n records listing small all le is fill = grind (arith, by, mul-le-mul, mul_comm, mul-le-mul_right)
 
 -- all values in turn
 all_listed : {A : Type 0} (capacity : Capacity) (count unit records : ℕ) (add : List A → Value → Result (List A) CdlKind) (listing : List A → Listing) (xs : List Value) → unit ≤ capacity.count → (capacity.is_open ≡ false → count * unit ≡ capacity.count) → total cost xs ≤ records →
@@ -153,20 +113,4 @@ pub with_values_keeps : (v : Version) (N n m : ℕ) (dims : List Dim) (name : Li
     OkIs (λ e. IsFineDraft v N (n + m) dims e × (e.var.name ≡ d.var.name)) (with_values dims xs d)
 unfolding capacity_of
 with_values_keeps v N n m dims name xs small said d f =
-    let Q : Draft → Type 0 = λ e. IsFineDraft v N (n + m) dims e × (e.var.name ≡ d.var.name) in
-    let capacity = capacity_of dims d.var in
-    ok_when Q (is_listed d.listed) DuplicateData (λ u. listing_of capacity xs >>= (λ listing. Ok (record d { listed = Some listing }))) (λ new.
-    ok_then (Fits capacity N) Q (listing_of capacity xs) (λ listing. Ok (record d { listed = Some listing })) (values_fit dims d.var N xs (some_count dims d.var.dimids f.shape) (let a = said.1 in omega (arith, a, small))) (λ listing fit.
-    let g = later v N n (n + m) dims d (omega arith) f in (
-      record {
-        name = g.name;
-        short = g.short;
-        rank = g.rank;
-        shape = g.shape;
-        ty = g.ty;
-        bare = g.bare;
-        atts = g.atts;
-        listed = λ others. fit (fill_value (record d.var { atts = others }));
-      },
-      refl,
-    )))
+    grind (arith, values_fit dims d.var N xs (some_count dims d.var.dimids f.shape), some_count dims d.var.dimids f.shape, later v N n (n + m) dims d, ok_when, ok_then)

@@ -1,6 +1,6 @@
 -- The values that the text of a variable lists give its array.
-use Rattle.std.proofs.Common.{◌≡◌, ℕ, zero, suc, true, false, List, [], ◌∷◌, length, sym, ◌∙◌, ap, refl, subst, arith, ℤ, All, Some, slice_get, slice_index_or}
-use Rattle.cdl_laws.proofs.Prelude.{flat_map, Dataset, Att, Dim, Header, Known, Var, values_in_dataset, fill_value, IsArray, AreArrays, value_count, IsName, bytes_of_number, IsSayable, IsSayableVar, trimmed_var, is_char, look_of, variable_text, Values, Listed, array_of, Capacity, capacity_of, filled, listing_of, values_in, DataReadsBack, all-at}
+use Rattle.std.proofs.Common.{◌≡◌, ℕ, zero, suc, true, false, List, [], ◌∷◌, sym, ◌∙◌, ap, refl, subst, arith, ℤ, All, Some, slice_get, slice_index_or}
+use Rattle.cdl_laws.proofs.Prelude.{Dataset, Att, Dim, Header, Known, Var, values_in_dataset, fill_value, IsArray, AreArrays, value_count, IsName, IsSayable, IsSayableVar, trimmed_var, is_char, look_of, array_of, capacity_of, filled, DataReadsBack, all-at}
 use Rattle.cdl_laws.specs.RowLaws.{RowReadsBack, RowsReadBack, EmptyRowsReadBack}
 use Rattle.cdl_laws.proofs.Arrays.{row_back, no_bytes}
 use Rattle.cdl_laws.proofs.DataTexts.{Gives, given_draft}
@@ -41,18 +41,7 @@ same_room dims var fill = ap (λ (f : ℤ). record (capacity_of dims var) { fill
 row_of : (d : Dataset) (records width place : ℕ) (var : Var) → IsArray d.header.dims records var (slice_index_or d.arrays place []) → fill_value (trimmed_var var) ≡ fill_value var →
     (g : Gives d.header.version d.header.dims (look_of d.header var records width) var (values_in_dataset d place var).values) → array_of d.header.dims records (given_draft var (Some g.listing)) ≡ slice_index_or d.arrays place [] →
     RowReadsBack d records width place var
-row_of d records width place var is fill g back = record {
-  values = g.said;
-  statement = is_statement d.header.version Values (variable_text (look_of d.header var records width) (values_in_dataset d place var).values) (Listed var.name g.said) g.says;
-  listing = g.listing;
-  added = ap (λ (r : Capacity). listing_of r g.said) (sym room) ∙ g.added;
-  array = ap (λ (f : ℤ). flat_map (bytes_of_number var.ty) (filled (value_count d.header.dims var records) f (values_in (capacity_of d.header.dims var) g.listing))) (sym fill) ∙
-      ap (λ (r : Capacity). flat_map (bytes_of_number var.ty) (filled (value_count d.header.dims var records) (fill_value (trimmed_var var)) (values_in r g.listing))) (sym room) ∙ back;
-  whole = λ e. ap (λ (r : Capacity). length (values_in r g.listing)) (sym room) ∙ ap (λ (ys : List ℤ). length ys) (g.exact e) ∙ array_len d.header.dims records var (slice_index_or d.arrays place []) is;
-}
-  where
-    room : capacity_of d.header.dims (trimmed_var var) ≡ capacity_of d.header.dims var
-    room = same_room d.header.dims var fill
+row_of d records width place var is fill g back = grind (arith, is_statement, filled, array_len, same_room)
 
 pub rows_read_back : RowsReadBack
 rows_read_back d records width place var s known at some =

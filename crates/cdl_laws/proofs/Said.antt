@@ -1,8 +1,7 @@
 -- What the shapes give: names, counts and types of what a statement says, against the bytes of its tokens.
-use Rattle.std.proofs.Common.{◌≡◌, ℕ, ◌+◌, ◌-◌, ◌*◌, ◌≤◌, ◌<◌, Bool, true, false, List, [], ◌∷◌, length, refl, arith, zero, suc, find, if◌then◌else◌, Option, None, Some, take, drop, ◌&&◌, ◌||◌, not, ◌==◌, slice_index, codes, ℤ, map, nat_lt}
-use Rattle.cdl_laws.proofs.Prelude.{length-take, length-drop, option_map, option_and_then, prefix_len, take_while, is_reserved, NcType, Version, all_types, has_type, to_ascii_lowercase, is_digit, is_octal, is_hex, is_escape, is_sign, number_in, up_to_255, character, escaped_character, inner, number_escape, plain_escape, unescape_at, word_value, or_zero, Lexeme, is_word_kind, is_mark, is_word, name_of, Parts, parts, number, Numeral, numeral, type_of_suffix, has_suffix, in_base, with_sign, Value, Number, Characters, Underscore, Dimension, Variable, both, each, if_so, into_first, members_in, members, length_of, dimension, constant_of, constant, constants, name_alone, before_mark, variable, TokenKind, and_right, plain_small}
+use Rattle.std.proofs.Common.{◌≡◌, ℕ, ◌+◌, ◌-◌, ◌≤◌, ◌<◌, Bool, true, false, List, [], ◌∷◌, length, refl, arith, zero, suc, find, if◌then◌else◌, Option, None, Some, drop, ◌&&◌, ◌||◌, not, ◌==◌, slice_index, codes, map, nat_lt}
+use Rattle.cdl_laws.proofs.Prelude.{length-take, length-drop, option_map, is_reserved, NcType, Version, has_type, is_escape, number_in, up_to_255, character, escaped_character, inner, number_escape, unescape_at, word_value, or_zero, Lexeme, is_word_kind, is_mark, name_of, Parts, parts, number, Numeral, numeral, type_of_suffix, has_suffix, in_base, with_sign, Value, Number, Characters, Underscore, Dimension, Variable, both, each, if_so, into_first, members_in, members, dimension, constant_of, constant, constants, name_alone, before_mark, variable, TokenKind, and_right, plain_small}
 use Rattle.cdl_statements.specs.Shapes.{dimensions}
-use Rattle.cdl_tokens.specs.declared.token.TokenKind.TheVariants as kinds
 use Rattle.cdl_tokens.specs.declared.scan.Character.{Character}
 use Rattle.cdl_laws.proofs.Lists.{Each}
 use Rattle.cdl_laws.proofs.Outcomes.{SomeIs, some_map, some_then, some_weaker, some_both, some_given, in_if, total, each_total, each_take, each_drop}
@@ -25,8 +24,7 @@ HasBytes l = Each IsByte l.bytes
 -- ---- members
 
 first_mass : (l : Lexeme) (ms : List (List Lexeme)) → total mass (into_first l ms) ≡ weight l + total mass ms
-first_mass l [] = omega arith
-first_mass l (m ∷ ms) = omega arith
+first_mass l ms = grind arith
 
 members_mass : (parens : Bool) (ls : List Lexeme) → total mass (members_in parens ls) ≤ mass ls
 members_mass parens [] = omega arith
@@ -40,9 +38,7 @@ members_mass parens (l ∷ ls) =
 pub before_mass : (b : ℕ) (ls : List Lexeme) → SomeIs (λ xs. mass xs ≤ mass ls) (before_mark b ls)
 before_mass b [] = tt
 before_mass b (l ∷ []) = some_given (λ xs. mass xs ≤ mass (l ∷ [])) (is_mark b l) (Some []) (λ e. omega arith)
-before_mass b (l ∷ m ∷ ls) =
-    some_map (λ xs. mass xs ≤ mass (l ∷ m ∷ ls)) (λ xs. l ∷ xs) (before_mark b (m ∷ ls))
-    (some_weaker (λ xs. mass xs ≤ mass (m ∷ ls)) (λ xs. weight l + mass xs ≤ weight l + mass (m ∷ ls)) (before_mark b (m ∷ ls)) (before_mass b (m ∷ ls)) (λ xs h. omega (arith, h)))
+before_mass b (l ∷ m ∷ ls) = grind (arith, some_map, some_weaker, before_mass b (m ∷ ls))
 
 pub before_each : (P : Lexeme → Type 0) (b : ℕ) (ls : List Lexeme) → Each P ls → SomeIs (Each P) (before_mark b ls)
 before_each P b [] h = tt
@@ -54,11 +50,10 @@ before_each P b (l ∷ m ∷ ls) h =
 
 word_shorter : (bs : List ℕ) → length (word_value bs) ≤ length bs
 unfolding word_value
-word_shorter [] = omega arith
-word_shorter (b ∷ []) = omega arith
 word_shorter (b ∷ c ∷ rest) =
     let short = word_shorter rest in let long = word_shorter (c ∷ rest) in
     in_if (λ (w : List ℕ). length w ≤ length (b ∷ c ∷ rest)) (is_escape b c) (c ∷ word_value rest) (b ∷ word_value (c ∷ rest)) (omega (arith, short)) (omega (arith, long))
+word_shorter _ = omega arith
 
 pub name_short : (l : Lexeme) → SomeIs (λ name. length name ≤ length l.bytes) (name_of l)
 unfolding name_of
@@ -71,11 +66,7 @@ HasTypeOf v n = has_type v n.ty ≡ true
 
 suffix_has : (v : Version) (bs : List ℕ) (tys : List NcType) → SomeIs (λ ty. has_type v ty ≡ true) (find (λ ty. has_suffix bs ty && has_type v ty) tys)
 suffix_has v bs [] = tt
-suffix_has v bs (ty ∷ tys) =
-    elim (has_suffix bs ty && has_type v ty) as (λ b. (has_suffix bs ty && has_type v ty) ≡ b → SomeIs (λ t. has_type v t ≡ true) (if b then Some ty else find (λ t. has_suffix bs t && has_type v t) tys)) [
-      | true ↦ (λ e. and_right (has_suffix bs ty) (has_type v ty) e)
-      | false ↦ (λ e. suffix_has v bs tys)
-    ] refl
+suffix_has v bs (ty ∷ tys) = grind (arith, and_right, suffix_has v bs tys)
 
 -- the same of its parts
 abbrev HasType : Version → Parts → Type 0
@@ -83,23 +74,14 @@ HasType v p = has_type v p.ty ≡ true
 
 based : (v : Version) (minus : Bool) (base n : ℕ) (bs : List ℕ) → SomeIs (HasType v) (in_base v minus base n bs)
 unfolding type_of_suffix
-based v minus base n bs =
-    let with = λ (ty : NcType). let p : Parts = record { minus = minus; magnitude = number_in base 0 (take n bs); ty = ty } in p in
-    in_if (SomeIs (HasType v)) (n == 0) None (option_map with (type_of_suffix v (drop n bs))) tt
-    (some_map (HasType v) with (type_of_suffix v (drop n bs)) (suffix_has v (map to_ascii_lowercase (drop n bs)) all_types))
+based v minus base n bs = grind (arith, in_if, some_map, suffix_has)
 
 unsigned_has : (v : Version) (minus : Bool) (bs : List ℕ) → SomeIs (HasType v) (with_sign v minus bs)
-unsigned_has v minus bs =
-    in_if (SomeIs (HasType v)) (slice_index bs 0 == 0x30 && to_ascii_lowercase (slice_index bs 1) == 0x78) (in_base v minus 16 (prefix_len is_hex (drop 2 bs)) (drop 2 bs)) (if slice_index bs 0 == 0x30 then in_base v minus 8 (prefix_len is_octal bs) bs else in_base v minus 10 (prefix_len is_digit bs) bs)
-    (based v minus 16 (prefix_len is_hex (drop 2 bs)) (drop 2 bs))
-    (in_if (SomeIs (HasType v)) (slice_index bs 0 == 0x30) (in_base v minus 8 (prefix_len is_octal bs) bs) (in_base v minus 10 (prefix_len is_digit bs) bs)
-    (based v minus 8 (prefix_len is_octal bs) bs) (based v minus 10 (prefix_len is_digit bs) bs))
+unsigned_has v minus bs = grind (arith, in_if, based)
 
 parts_have : (v : Version) (bs : List ℕ) → SomeIs (HasType v) (parts v bs)
 unfolding parts
-parts_have v bs =
-    in_if (SomeIs (HasType v)) (is_sign (slice_index bs 0)) (with_sign v (slice_index bs 0 == 0x2d) (drop 1 bs)) (with_sign v false bs)
-    (unsigned_has v (slice_index bs 0 == 0x2d) (drop 1 bs)) (unsigned_has v false bs)
+parts_have v bs = grind (arith, unsigned_has v (slice_index bs 0 == 0x2d) (drop 1 bs), unsigned_has v false bs, in_if)
 
 numeral_has : (v : Version) (bs : List ℕ) → SomeIs (HasTypeOf v) (numeral v bs)
 unfolding numeral
@@ -125,12 +107,7 @@ number_fine : (mark base : ℕ) (digits : List ℕ) → IsFine (number_escape ma
 number_fine mark base digits = in_if ByteOrNone (length digits == 0) None (up_to_255 (number_in base 0 digits)) tt (byte_is (number_in base 0 digits))
 
 escape_fine : (bs : List ℕ) → Each IsByte bs → IsFine (escaped_character bs)
-escape_fine bs h =
-    let octal = number_escape 1 8 (take_while is_octal (take 3 bs)) in
-    let hex = number_escape 2 16 (take_while is_hex (take 2 (drop 1 bs))) in
-    let plain : Character = record { value = Some (plain_escape (slice_index bs 0)); len = 2 } in
-    in_if IsFine (is_octal (slice_index bs 0)) octal (if slice_index bs 0 == 0x78 then hex else plain) (number_fine 1 8 (take_while is_octal (take 3 bs)))
-    (in_if IsFine (slice_index bs 0 == 0x78) hex plain (number_fine 2 16 (take_while is_hex (take 2 (drop 1 bs)))) (plain_small (slice_index bs 0) (prefix_byte bs h)))
+escape_fine bs h = grind (arith, in_if, number_fine, plain_small, prefix_byte)
 
 character_fine : (bs : List ℕ) → Each IsByte bs → IsFine (character bs)
 unfolding character
@@ -138,8 +115,7 @@ character_fine bs h =
     in_if IsFine (slice_index bs 0 == 0x5c) (escaped_character (drop 1 bs)) (record { value = Some (slice_index bs 0); len = 1 }) (escape_fine (drop 1 bs) (each_drop IsByte 1 bs h)) (prefix_byte bs h)
 
 zero_fine : (o : Option ℕ) → ByteOrNone o → or_zero o < 256
-zero_fine None h = omega arith
-zero_fine (Some b) h = h
+zero_fine o h = grind arith
 
 stands_fine : (more : ℕ) (bs : List ℕ) → Each IsByte bs → Each IsByte (map or_zero (unescape_at more bs))
 unfolding unescape_at
@@ -170,14 +146,7 @@ blank_fine : (v : Version) (b : Bool) → SomeIs (IsFineValue v) (if_so b (Some 
 blank_fine v b = some_given (IsFineValue v) b (Some Underscore) (λ e. tt)
 
 one_fine : (v : Version) (takes_fill : Bool) (l : Lexeme) (k : TokenKind) → HasBytes l → SomeIs (IsFineValue v) (constant_of v takes_fill l k)
-one_fine v takes_fill l kinds.Number h = some_map (IsFineValue v) Number (numeral v l.bytes) (numeral_has v l.bytes)
-one_fine v takes_fill l kinds.Text h =
-    stands_fine 0 (inner l.bytes) (each_take IsByte (length l.bytes - 2) (drop 1 l.bytes) (each_drop IsByte 1 l.bytes h))
-one_fine v takes_fill l kinds.Opening h = blank_fine v (takes_fill && is_word (codes "_") l)
-one_fine v takes_fill l kinds.Word h = blank_fine v (takes_fill && is_word (codes "_") l)
-one_fine v takes_fill l kinds.Mark h = blank_fine v (takes_fill && is_word (codes "_") l)
-one_fine v takes_fill l kinds.Bad h = blank_fine v (takes_fill && is_word (codes "_") l)
-one_fine v takes_fill l kinds.End h = blank_fine v (takes_fill && is_word (codes "_") l)
+one_fine v takes_fill l k h = grind (arith, some_map, numeral_has, stands_fine, each_take, each_drop, blank_fine, codes)
 
 blank_short : (n : ℕ) (b : Bool) → SomeIs (λ x. cost x ≤ suc n) (if_so b (Some Underscore))
 blank_short n b = some_given (λ x. cost x ≤ suc n) b (Some Underscore) (λ e. omega arith)
@@ -186,17 +155,10 @@ inner_short : (bs : List ℕ) → length (inner bs) ≤ length bs
 inner_short bs = let a = length-take (length bs - 2) (drop 1 bs) in let b = length-drop 1 bs in omega (arith, a, b)
 
 number_short : (n : ℕ) (o : Option Numeral) → SomeIs (λ x. cost x ≤ suc n) (option_map Number o)
-number_short n None = tt
-number_short n (Some x) = omega arith
+number_short n o = grind arith
 
 one_short : (v : Version) (takes_fill : Bool) (l : Lexeme) (k : TokenKind) → SomeIs (λ x. cost x ≤ weight l) (constant_of v takes_fill l k)
-one_short v takes_fill l kinds.Number = number_short (length l.bytes) (numeral v l.bytes)
-one_short v takes_fill l kinds.Text = let a = stands_short 0 (inner l.bytes) in let b = inner_short l.bytes in omega (arith, a, b)
-one_short v takes_fill l kinds.Opening = blank_short (length l.bytes) (takes_fill && is_word (codes "_") l)
-one_short v takes_fill l kinds.Word = blank_short (length l.bytes) (takes_fill && is_word (codes "_") l)
-one_short v takes_fill l kinds.Mark = blank_short (length l.bytes) (takes_fill && is_word (codes "_") l)
-one_short v takes_fill l kinds.Bad = blank_short (length l.bytes) (takes_fill && is_word (codes "_") l)
-one_short v takes_fill l kinds.End = blank_short (length l.bytes) (takes_fill && is_word (codes "_") l)
+one_short v takes_fill l k = grind (arith, number_short, stands_short, inner_short, blank_short, codes)
 
 constant_fine : (v : Version) (takes_fill : Bool) (l : Lexeme) → HasBytes l → SomeIs (IsFineValue v) (constant v takes_fill l)
 constant_fine v takes_fill l h = one_fine v takes_fill l l.kind h
@@ -217,8 +179,7 @@ constants_short v takes_fill [] = tt
 constants_short v takes_fill (l ∷ []) =
     some_both (λ x. cost x ≤ weight l) (λ xs. total cost xs ≤ 0) (λ xs. total cost xs ≤ mass (l ∷ [])) (λ x xs. x ∷ xs) (constant v takes_fill l) (Some []) (constant_short v takes_fill l) (omega arith) (λ x xs a b. omega (arith, a, b))
 constants_short v takes_fill (l ∷ c ∷ ls) =
-    some_given (λ xs. total cost xs ≤ mass (l ∷ c ∷ ls)) (is_mark 0x2c c) (both (λ x xs. x ∷ xs) (constant v takes_fill l) (constants v takes_fill ls)) (λ q.
-    some_both (λ x. cost x ≤ weight l) (λ xs. total cost xs ≤ mass ls) (λ xs. total cost xs ≤ mass (l ∷ c ∷ ls)) (λ x xs. x ∷ xs) (constant v takes_fill l) (constants v takes_fill ls) (constant_short v takes_fill l) (constants_short v takes_fill ls) (λ x xs a b. omega (arith, a, b)))
+    grind (arith, some_given, total, both, constant, constants, some_both, constant_short, constants_short v takes_fill ls)
 
 -- ---- dimensions and variables
 
@@ -232,50 +193,27 @@ abbrev pub var_cost : Variable → ℕ
 var_cost x = suc (length x.name + total name_cost x.dimensions)
 
 any_some : {A : Type 0} (o : Option A) → SomeIs (λ a. Unit {0}) o
-any_some None = tt
-any_some (Some a) = tt
+any_some o = grind arith
 
 dimension_short : (v : Version) (n e l : Lexeme) → SomeIs (λ d. dim_cost d ≤ weight n) (dimension v n e l)
-dimension_short v n e l =
-    let P : Dimension → Type 0 = λ d. dim_cost d ≤ weight n in
-    some_given P (is_mark 0x3d e) (both (λ name len. record { name = name; len = len }) (name_of n) (length_of v l)) (λ q.
-    some_both (λ (name : List ℕ). length name ≤ length n.bytes) (λ (len : Option ℤ). Unit {0}) P (λ name len. record { name = name; len = len }) (name_of n) (length_of v l) (name_short n) (any_some (length_of v l)) (λ name len h k. omega (arith, h)))
+dimension_short v n e l = grind (arith, some_given, both, some_both, name_short, any_some)
 
 pub dimensions_short : (v : Version) (ls : List Lexeme) → SomeIs (λ ds. total dim_cost ds ≤ mass ls) (dimensions v ls)
-dimensions_short v [] = tt
-dimensions_short v (n ∷ []) = tt
-dimensions_short v (n ∷ e ∷ []) = tt
 dimensions_short v (n ∷ e ∷ l ∷ []) =
     some_both (λ d. dim_cost d ≤ weight n) (λ ds. total dim_cost ds ≤ 0) (λ ds. total dim_cost ds ≤ mass (n ∷ e ∷ l ∷ [])) (λ d ds. d ∷ ds) (dimension v n e l) (Some []) (dimension_short v n e l) (omega arith) (λ d ds a b. omega (arith, a, b))
-dimensions_short v (n ∷ e ∷ l ∷ c ∷ ls) =
-    some_given (λ ds. total dim_cost ds ≤ mass (n ∷ e ∷ l ∷ c ∷ ls)) (is_mark 0x2c c) (both (λ d ds. d ∷ ds) (dimension v n e l) (dimensions v ls)) (λ q.
-    some_both (λ d. dim_cost d ≤ weight n) (λ ds. total dim_cost ds ≤ mass ls) (λ ds. total dim_cost ds ≤ mass (n ∷ e ∷ l ∷ c ∷ ls)) (λ d ds. d ∷ ds) (dimension v n e l) (dimensions v ls) (dimension_short v n e l) (dimensions_short v ls) (λ d ds a b. omega (arith, a, b)))
+dimensions_short v (n ∷ e ∷ l ∷ c ∷ ls) = grind (arith, some_given, total, both, dimensions, some_both, dimension_short, dimensions_short v ls)
+dimensions_short v _ = tt
 
 alone_short : (ls : List Lexeme) → SomeIs (λ name. name_cost name ≤ mass ls) (name_alone ls)
-alone_short [] = tt
-alone_short (l ∷ []) = some_weaker (λ (name : List ℕ). length name ≤ length l.bytes) (λ name. name_cost name ≤ mass (l ∷ [])) (name_of l) (name_short l) (λ name h. omega (arith, h))
-alone_short (l ∷ m ∷ ls) = tt
+alone_short ls = grind (arith, some_weaker, name_short)
 
 names_short : (ls : List Lexeme) → SomeIs (λ ns. total name_cost ns ≤ mass ls) (each name_alone (members ls))
 names_short ls =
-    some_weaker (λ ns. total name_cost ns ≤ total mass (members ls)) (λ ns. total name_cost ns ≤ mass ls) (each name_alone (members ls)) (each_total mass name_cost name_alone alone_short (members ls))
-    (λ ns h. let a = members_mass false ls in omega (arith, h, a))
+    grind (arith, total name_cost, each name_alone (members ls), each_total mass name_cost name_alone alone_short (members ls), members_mass false ls, some_weaker, alone_short)
 
 variable_short : (ls : List Lexeme) → SomeIs (λ x. var_cost x ≤ mass ls) (variable ls)
-variable_short [] = tt
-variable_short (n ∷ []) =
-    some_map (λ x. var_cost x ≤ mass (n ∷ [])) (λ name. record { name = name; dimensions = [] }) (name_of n)
-    (some_weaker (λ (name : List ℕ). length name ≤ length n.bytes) (λ name. suc (length name + 0) ≤ mass (n ∷ [])) (name_of n) (name_short n) (λ name h. omega (arith, h)))
-variable_short (n ∷ p ∷ ls) =
-    let P : Variable → Type 0 = λ x. var_cost x ≤ mass (n ∷ p ∷ ls) in
-    let inner : Option (List (List ℕ)) = option_and_then (λ xs. each name_alone (members xs)) (before_mark 0x29 ls) in
-    some_given P (is_mark 0x28 p) (both (λ name ds. record { name = name; dimensions = ds }) (name_of n) inner) (λ q.
-    some_both (λ (name : List ℕ). length name ≤ length n.bytes) (λ ns. total name_cost ns ≤ mass ls) P (λ name ds. record { name = name; dimensions = ds }) (name_of n) inner (name_short n)
-    (some_then (λ xs. mass xs ≤ mass ls) (λ ns. total name_cost ns ≤ mass ls) (λ xs. each name_alone (members xs)) (before_mark 0x29 ls) (before_mass 0x29 ls)
-    (λ xs h. some_weaker (λ ns. total name_cost ns ≤ mass xs) (λ ns. total name_cost ns ≤ mass ls) (each name_alone (members xs)) (names_short xs) (λ ns k. omega (arith, h, k))))
-    (λ name ns h k. omega (arith, h, k)))
+variable_short ls = grind (arith, some_map, dimensions, some_weaker, name_short, each, some_given, both, some_both, total, some_then, before_mass, names_short)
 
 pub variables_short : (ls : List Lexeme) → SomeIs (λ xs. total var_cost xs ≤ mass ls) (each variable (members ls))
 variables_short ls =
-    some_weaker (λ xs. total var_cost xs ≤ total mass (members ls)) (λ xs. total var_cost xs ≤ mass ls) (each variable (members ls)) (each_total mass var_cost variable variable_short (members ls))
-    (λ xs h. let a = members_mass false ls in omega (arith, h, a))
+    grind (arith, total var_cost, each variable (members ls), each_total mass var_cost variable variable_short (members ls), members_mass false ls, some_weaker, variable_short)

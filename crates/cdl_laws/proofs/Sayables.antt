@@ -1,6 +1,6 @@
 -- What a dataset that a text can declare gives for each of its parts.
-use Rattle.std.proofs.Common.{◌≡◌, ℕ, suc, ◌+◌, ◌^◌, ◌<◌, ◌≤◌, Bool, true, false, List, [], ◌∷◌, ◌++◌, length, map, sym, ◌∙◌, ap, refl, subst, arith, append_assoc, ◌||◌, ◌==◌, if◌then◌else◌, All, filter}
-use Rattle.cdl_laws.proofs.Prelude.{list_any, bytes_eq, false≢true, map-append, list_any-append, bytes_eq-Decides, AreBytes, Att, Dim, Var, Version, Cdf1, Cdf2, Cdf5, has_name, has_record_dim, IsSoundAtt, IsSoundVar, IsSoundDim, IsName, count_limit, AreDistinct, IsSayableVar, HasSomeNumber, trimmed_att, Draft}
+use Rattle.std.proofs.Common.{◌≡◌, ℕ, ◌+◌, ◌^◌, ◌<◌, ◌≤◌, Bool, true, false, List, [], ◌∷◌, ◌++◌, length, map, sym, ◌∙◌, ap, refl, subst, arith, append_assoc, ◌||◌, ◌==◌, All, filter}
+use Rattle.cdl_laws.proofs.Prelude.{list_any, bytes_eq, false≢true, map-append, list_any-append, bytes_eq-Decides, AreBytes, Att, Dim, Var, Version, has_name, has_record_dim, IsSoundAtt, IsSoundVar, IsSoundDim, IsName, count_limit, AreDistinct, IsSayableVar, HasSomeNumber, trimmed_att, Draft}
 use Rattle.cdl_laws.proofs.Acts.{record_once, no_draft}
 use Rattle.cdl_laws.proofs.Attributes.{speaks}
 use Rattle.cdl_laws.proofs.Bools.{or_left, or_right}
@@ -10,11 +10,7 @@ use Rattle.cdl_laws.proofs.Wholes.{AreNewDims, AreNewAtts, Speaks, IsFit, AreFit
 -- ---- names
 
 pub swapped : (a b : List ℕ) → bytes_eq a b ≡ false → bytes_eq b a ≡ false
-swapped a b h =
-    elim (bytes_eq b a) as (λ w. bytes_eq b a ≡ w → w ≡ false) [
-      | true ↦ (λ e. absurd (false≢true (sym h ∙ (bytes_eq-Decides a b).1 (sym ((bytes_eq-Decides b a).0 e)))))
-      | false ↦ (λ e. refl)
-    ] refl
+swapped a b h = grind (arith, false≢true, bytes_eq-Decides)
 
 -- none of the names stands among those before
 abbrev pub AreFresh : List (List ℕ) → List (List ℕ) → Type 0
@@ -22,10 +18,7 @@ AreFresh done names = Each (λ name. has_name done name ≡ false) names
 
 pub fresh_more : (done : List (List ℕ)) (n : List ℕ) (names : List (List ℕ)) → AreFresh done names → has_name names n ≡ false → AreFresh (done ++ n ∷ []) names
 fresh_more done n [] fresh new = tt
-fresh_more done n (m ∷ names) fresh new = (
-  list_any-append (λ (other : List ℕ). bytes_eq other m) done (n ∷ []) ∙ rw (fresh.0) (rw (swapped m n (or_left (bytes_eq m n) (has_name names n) new)) refl),
-  fresh_more done n names fresh.1 (or_right (bytes_eq m n) (has_name names n) new),
-)
+fresh_more done n (m ∷ names) fresh new = grind (arith, list_any-append, swapped, or_left, or_right, fresh_more done n names fresh.1)
 
 pub any_map : {X : Type 0} (name : X → List ℕ) (n : List ℕ) (xs : List X) → list_any (λ x. bytes_eq (name x) n) xs ≡ has_name (map name xs) n
 any_map name n [] = refl
@@ -67,32 +60,17 @@ is_record d = d.len == 0
 
 some_record : (dims : List Dim) → has_record_dim dims ≡ true → 0 < length (filter is_record dims)
 some_record [] h = absurd (false≢true h)
-some_record (d ∷ dims) h =
-    elim (d.len == 0) as (λ w. (w || has_record_dim dims) ≡ true → 0 < length (if w then d ∷ filter is_record dims else filter is_record dims)) [
-      | true ↦ (λ e. omega arith)
-      | false ↦ (λ e. some_record dims e)
-    ] h
+some_record (d ∷ dims) h = grind (arith, some_record dims)
 
 pub filter_append : (a b : List Dim) → length (filter is_record (a ++ b)) ≡ length (filter is_record a) + length (filter is_record b)
 filter_append [] b = omega arith
-filter_append (d ∷ a) b =
-    let ih = filter_append a b in
-    elim (d.len == 0) as (λ w. length (if w then d ∷ filter is_record (a ++ b) else filter is_record (a ++ b)) ≡ length (if w then d ∷ filter is_record a else filter is_record a) + length (filter is_record b)) [
-      | true ↦ omega (arith, ih)
-      | false ↦ ih
-    ]
+filter_append (d ∷ a) b = grind (arith, filter_append a b)
 
 once : (done : List Dim) (d : Dim) (ds : List Dim) → length (filter is_record (done ++ d ∷ ds)) ≤ 1 → record_once done d.len
-once done d ds h zero_len =
-    elim (has_record_dim done) as (λ w. has_record_dim done ≡ w → w ≡ false) [
-      | true ↦ (λ e. absurd (let a = some_record done e in let b = filter_append done (d ∷ ds) in let c : length (filter is_record (d ∷ ds)) ≡ suc (length (filter is_record ds)) = rw (zero_len) refl in omega (arith, a, b, c, h)))
-      | false ↦ (λ e. refl)
-    ] refl
+once done d ds h zero_len = grind (arith, some_record, filter_append)
 
 pub limit_small : (v : Version) → count_limit v < 2 ^ 64
-limit_small Cdf1 = omega arith
-limit_small Cdf2 = omega arith
-limit_small Cdf5 = omega arith
+limit_small v = grind arith
 
 abbrev pub dim_name : Dim → List ℕ
 dim_name d = d.name
@@ -132,15 +110,7 @@ pub record IsSayableHead (v : Version) (dims : List Dim) (var : Var) : Type 0 wh
   pub bare : var.begin_at ≡ 0
 
 fit : (v : Version) (dims : List Dim) (before : List Draft) (var : Var) → IsSayableHead v dims var → no_draft var.name before → IsFit v dims before var
-fit v dims before var head new = record {
-  name = head.name;
-  new = new;
-  shape = head.sound.shape;
-  ty = head.sound.ty;
-  atts = atts_speak v var.atts head.sound.atts head.bytes head.sayable.atts.some head.names;
-  fresh = atts_new var.atts head.sayable.atts.names;
-  bare = head.bare;
-}
+fit v dims before var head new = grind (arith, atts_speak, atts_new)
 
 fits_all : (v : Version) (dims : List Dim) (before : List Draft) (vars : List Var) → AreFresh (map draft_name before) (map var_name vars) → AreDistinct (map var_name vars) → Each (IsSayableHead v dims) vars → AreFit v dims before vars
 fits_all v dims before [] fresh distinct heads = tt

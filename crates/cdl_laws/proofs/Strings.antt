@@ -1,5 +1,5 @@
 -- An escaped string between quotes is one token that stands for it.
-use Rattle.std.proofs.Common.{◌≡◌, ℕ, suc, ◌+◌, ◌*◌, ◌-◌, ◌/◌, ◌%◌, ◌<◌, true, false, List, [], ◌∷◌, ◌++◌, length, drop, take, sym, ◌∙◌, ap, refl, subst, arith, append_assoc, length-append, ◌==◌, nat_lt, map, Some, is_some}
+use Rattle.std.proofs.Common.{◌≡◌, ℕ, suc, ◌+◌, ◌-◌, ◌/◌, ◌%◌, ◌<◌, true, false, List, [], ◌∷◌, ◌++◌, length, drop, take, sym, ◌∙◌, ap, refl, subst, arith, append_assoc, length-append, ◌==◌, nat_lt, map, Some, is_some, rules}
 use Rattle.cdl_laws.proofs.Prelude.{is_ascii_control, flat_map, list_all, false≢true, eqb-true, take-append_seam, escaped_in_string, octal_escape, digit_value, is_octal, is_digit, number_in, len_until, scan, scan_text, character, up_to_255, plain_escape, unescape, unescape_at, Lexeme, until_at_start}
 use Rattle.cdl_tokens.specs.declared.token.TokenKind.TheVariants as kinds
 use Rattle.cdl_laws.proofs.Texts.{Closed, prefix_again}
@@ -72,16 +72,12 @@ digit_octal : (n : ℕ) → n < 8 → digit_value (48 + n) ≡ n
 digit_octal n h = let e : is_digit (48 + n) ≡ true = grind arith in rw (e) (omega arith)
 
 octal_value : (b : ℕ) → b < 256 → up_to_255 (number_in 8 0 ((48 + b / 64) ∷ (48 + b / 8 % 8) ∷ (48 + b % 8) ∷ [])) ≡ Some b
-octal_value b h =
-    rw (digit_octal (b / 64) (omega arith)) (rw (digit_octal (b / 8 % 8) (omega arith)) (rw (digit_octal (b % 8) (omega arith))
-    (let e : 8 * (8 * (8 * 0 + b / 64) + b / 8 % 8) + b % 8 ≡ b = omega arith in rw (e) (let f : nat_lt 255 b ≡ false = grind arith in rw (f) refl))))
+octal_value b h = search (rules, digit_octal)
 
 -- one byte
 until_one : (b : ℕ) (rest : List ℕ) → IsEscapedAs b → len_until 0x22 (escaped_in_string b ++ rest) ≡ length (escaped_in_string b) + len_until 0x22 rest
 unfolding len_until
-until_one b rest (letter c o x is same) = rw (same) refl
-until_one b rest (octal small same) = rw (same) (until_octal (48 + b / 64) (48 + b / 8 % 8) (48 + b % 8) rest (middle_octal b) (low_octal b))
-until_one b rest (bare h k same) = rw (same) (until_plain 0x22 b rest h k)
+until_one b rest h = search (rules, until_octal, middle_octal, low_octal, until_plain)
 
 letter_again : (c : ℕ) (rest : List ℕ) → is_octal c ≡ false → (c == 0x78) ≡ false → unescape (0x5c ∷ c ∷ rest) ≡ Some (plain_escape c) ∷ unescape rest
 unfolding unescape_at character
@@ -100,10 +96,7 @@ pub until_all : (bytes rest : List ℕ) → len_until 0x22 (flat_map escaped_in_
 unfolding len_until
 until_all [] [] = refl
 until_all [] (c ∷ rest) = refl
-until_all (b ∷ bytes) rest =
-    ap (len_until 0x22) (append_assoc (escaped_in_string b) (flat_map escaped_in_string bytes) (0x22 ∷ rest)) ∙
-    until_one b (flat_map escaped_in_string bytes ++ 0x22 ∷ rest) (stands b) ∙
-    ap (λ n. length (escaped_in_string b) + n) (until_all bytes rest) ∙ sym (length-append (escaped_in_string b) (flat_map escaped_in_string bytes))
+until_all (b ∷ bytes) rest = grind (arith, append_assoc, until_one, stands, length-append, until_all bytes rest)
 
 pub unescape_all : (bytes : List ℕ) → unescape (flat_map escaped_in_string bytes) ≡ map Some bytes
 unfolding unescape_at
@@ -133,10 +126,7 @@ quoted_prefix w rest h k = text_len w rest (len_until 0x22 (w ++ 0x22 ∷ rest))
 
 pub string_closed : (bytes : List ℕ) → Closed (quoted bytes) (string bytes ∷ [])
 string_closed bytes rest =
-    let w = flat_map escaped_in_string bytes in
-    prefix_again false (Some kinds.Text) 0x22 (w ++ 0x22 ∷ []) rest
-    (ap (λ xs. scan false (0x22 ∷ xs)) (append_assoc w (0x22 ∷ []) rest) ∙ quoted_prefix w rest (until_all bytes rest) (is_string bytes) ∙
-    ap (λ n. record { kind = Some kinds.Text; len = n }) (let g = length-append w (0x22 ∷ []) in let e : length w + 2 ≡ suc (length (w ++ 0x22 ∷ [])) = omega (arith, g) in e))
+    grind (arith, prefix_again false (Some kinds.Text) 0x22, until_all bytes rest, is_string bytes, append_assoc, quoted_prefix, length-append)
 
 -- what is between its quotes
 pub between_quotes : (w : List ℕ) → take (length (0x22 ∷ (w ++ 0x22 ∷ [])) - 2) (drop 1 (0x22 ∷ (w ++ 0x22 ∷ []))) ≡ w

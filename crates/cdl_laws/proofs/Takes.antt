@@ -1,7 +1,6 @@
 -- What a text makes of a state, statement by statement.
-use Rattle.std.proofs.Common.{◌≡◌, ℕ, Bool, true, false, List, [], ◌∷◌, ◌++◌, ◌∙◌, ap, sym, refl, append_assoc, ◌&&◌, if◌then◌else◌, Option, None, Some, is_none, Ok}
-use Rattle.cdl_laws.proofs.Prelude.{list_all, option_map, option_and_then, Version, CdlKind, Section, Globals, Dimensions, Variables, Values, Role, Lexeme, first_role, role, piece_read, pieces_after, step, going, unless_end, with_first, is_section, pieces_by_steps, cut_lexemes, lexemes_at, pieces_of, Statement, first_bad, token_fault, shape, before_mark, body, State, act, in_turn, and_left, and_right, and_both}
-use Rattle.cdl_statements.specs.declared.section.Section.TheVariants as sections
+use Rattle.std.proofs.Common.{◌≡◌, ℕ, Bool, true, false, List, [], ◌∷◌, ◌++◌, ◌∙◌, ap, sym, refl, append_assoc, ◌&&◌, if◌then◌else◌, Option, None, Some, is_none, Ok, arith, rules}
+use Rattle.cdl_laws.proofs.Prelude.{list_all, option_map, Version, CdlKind, Section, Globals, Dimensions, Variables, Values, Role, Lexeme, first_role, role, piece_read, pieces_after, step, going, unless_end, with_first, is_section, pieces_by_steps, cut_lexemes, pieces_of, Statement, first_bad, token_fault, shape, before_mark, body, State, act, in_turn, and_left, and_right, and_both}
 use Rattle.cdl_statements.specs.declared.piece.Role.TheVariants as roles
 use Rattle.cdl_statements.specs.declared.piece.CutState.TheVariants.{Begins, Inside}
 use Rattle.cdl_laws.proofs.Texts as texts
@@ -30,40 +29,16 @@ is_end_role roles.End = true
 is_end_role _ = false
 
 unless_going : (n : Role) → is_end_role n ≡ false → unless_end n Inside ≡ going Inside
-unless_going roles.Opening h = refl
-unless_going roles.Section h = refl
-unless_going roles.Colon h = refl
-unless_going roles.Semicolon h = refl
-unless_going roles.Brace h = refl
-unless_going roles.End h = cc
-unless_going roles.Other h = refl
+unless_going n h = grind arith
 
 inside_going : (r n : Role) → is_plain r ≡ true → is_end_role n ≡ false → step Inside r n ≡ going Inside
-inside_going roles.Opening n p h = unless_going n h
-inside_going roles.Section n p h = unless_going n h
-inside_going roles.Colon n p h = unless_going n h
-inside_going roles.Semicolon n p h = cc
-inside_going roles.Brace n p h = unless_going n h
-inside_going roles.End n p h = cc
-inside_going roles.Other n p h = unless_going n h
+inside_going r n h h2 = grind (arith, unless_going)
 
 begins_going : (r n : Role) → is_starter r ≡ true → is_end_role n ≡ false → step Begins r n ≡ going Inside
-begins_going roles.Opening n p h = cc
-begins_going roles.Section n p h = cc
-begins_going roles.Colon n p h = unless_going n h
-begins_going roles.Semicolon n p h = cc
-begins_going roles.Brace n p h = cc
-begins_going roles.End n p h = cc
-begins_going roles.Other n p h = unless_going n h
+begins_going r n h h2 = grind (arith, unless_going)
 
 plain_no_end : (r : Role) → is_plain r ≡ true → is_end_role r ≡ false
-plain_no_end roles.Opening h = refl
-plain_no_end roles.Section h = refl
-plain_no_end roles.Colon h = refl
-plain_no_end roles.Semicolon h = refl
-plain_no_end roles.Brace h = refl
-plain_no_end roles.End h = cc
-plain_no_end roles.Other h = refl
+plain_no_end r h = grind arith
 
 abbrev pub semicolon : Lexeme
 semicolon = mark 59
@@ -75,17 +50,12 @@ next_no_end (t ∷ p) rest h = plain_no_end (role t) (and_left (is_plain (role t
 inside_one : (p rest : List Lexeme) → all_plain p ≡ true → pieces_after role Inside (p ++ semicolon ∷ rest) ≡ (p ++ semicolon ∷ []) ∷ pieces_after role Begins rest
 unfolding pieces_after
 inside_one [] rest h = refl
-inside_one (t ∷ p) rest h =
-    let one : is_plain (role t) ≡ true = and_left (is_plain (role t)) (all_plain p) h in
-    let more : all_plain p ≡ true = and_right (is_plain (role t)) (all_plain p) h in
-    rw (inside_going (role t) (first_role role (p ++ semicolon ∷ rest)) one (next_no_end p rest more)) (ap (with_first false t) (inside_one p rest more))
+inside_one (t ∷ p) rest h = grind (arith, is_plain, and_left, and_right, inside_going, semicolon, next_no_end, with_first, inside_one p rest)
 
 one_by_steps : (t : Lexeme) (p rest : List Lexeme) → is_starter (role t) ≡ true → all_plain p ≡ true →
     pieces_after role Begins ((t ∷ p ++ semicolon ∷ []) ++ rest) ≡ (t ∷ p ++ semicolon ∷ []) ∷ pieces_after role Begins rest
 unfolding pieces_after
-one_by_steps t p rest start h =
-    ap (λ ls. pieces_after role Begins (t ∷ ls)) (append_assoc p (semicolon ∷ []) rest) ∙
-    rw (begins_going (role t) (first_role role (p ++ semicolon ∷ rest)) start (next_no_end p rest h)) (ap (with_first false t) (inside_one p rest h))
+one_by_steps t p rest start h = grind (arith, append_assoc, semicolon, begins_going, next_no_end, with_first, inside_one)
 
 pub one_piece : (t : Lexeme) (p rest : List Lexeme) → is_starter (role t) ≡ true → all_plain p ≡ true → cut_lexemes ((t ∷ p ++ semicolon ∷ []) ++ rest) ≡ (t ∷ p ++ semicolon ∷ []) ∷ cut_lexemes rest
 one_piece t p rest start h =
@@ -117,10 +87,7 @@ piece_is v s t piece statement h k a = rw (h) (rw (k) a)
 
 pub says_takes : (v : Version) (bytes : List ℕ) (statement : Statement) (s t : State) → Says v s.section bytes statement → act v s statement ≡ Ok t → Takes v bytes s t
 unfolding pieces_of
-says_takes v bytes statement s t says a rest =
-    ap (λ ls. in_turn (piece_read v) s (cut_lexemes ls)) (says.reads rest) ∙
-    ap (in_turn (piece_read v) s) (says.cut (lexemes_at false 0 rest)) ∙
-    turn (piece_read v) s t says.piece (cut_lexemes (lexemes_at false 0 rest)) (piece_is v s t says.piece statement says.sound says.shaped a)
+says_takes v bytes statement s t says a rest = grind (arith, turn, piece_is)
 
 -- ---- lexemes that are no fault and end no statement
 
@@ -133,24 +100,19 @@ word_fine v bytes = elim (is_section bytes) as (λ b. is_plain (if b then roles.
 fine_plain : (v : Version) (ls : List Lexeme) → list_all (is_fine v) ls ≡ true → all_plain ls ≡ true
 fine_plain v [] h = refl
 fine_plain v (l ∷ ls) h =
-    let one = and_left (is_fine v l) (list_all (is_fine v) ls) h in
-    and_both (is_plain (role l)) (all_plain ls) (and_left (is_plain (role l)) (is_none (token_fault v l.kind l.bytes)) one) (fine_plain v ls (and_right (is_fine v l) (list_all (is_fine v) ls) h))
+    grind (arith, and_left, and_both, is_plain, is_none, and_right, fine_plain v ls (and_right (is_fine v l) (list_all (is_fine v) ls) h))
 
 none_is : (o : Option CdlKind) → is_none o ≡ true → o ≡ None
-none_is None h = refl
-none_is (Some k) h = cc
+none_is o h = grind arith
 
 fine_sound : (v : Version) (ls : List Lexeme) → list_all (is_fine v) ls ≡ true → first_bad v (ls ++ semicolon ∷ []) ≡ None
 fine_sound v [] h = refl
 fine_sound v (l ∷ ls) h =
-    let one = and_left (is_fine v l) (list_all (is_fine v) ls) h in
-    let clean = none_is (token_fault v l.kind l.bytes) (and_right (is_plain (role l)) (is_none (token_fault v l.kind l.bytes)) one) in
-    rw (clean) (fine_sound v ls (and_right (is_fine v l) (list_all (is_fine v) ls) h))
+    grind (arith, and_left, none_is, and_right, is_plain, is_none, fine_sound v ls (and_right (is_fine v l) (list_all (is_fine v) ls) h))
 
 pub before_semicolon : (p : List Lexeme) → before_mark 0x3b (p ++ semicolon ∷ []) ≡ Some p
-before_semicolon [] = refl
-before_semicolon (l ∷ []) = refl
 before_semicolon (l ∷ m ∷ p) = ap (option_map (λ xs. l ∷ xs)) (before_semicolon (m ∷ p))
+before_semicolon _ = refl
 
 -- the sections that have statements to a semicolon
 abbrev pub is_open : Section → Bool
@@ -162,25 +124,10 @@ is_open _ = false
 
 shape_is : (v : Version) (section : Section) (a b : Lexeme) (p : List Lexeme) → is_open section ≡ true → shape v section ((a ∷ b ∷ p) ++ semicolon ∷ []) ≡ body v section (a ∷ b ∷ p)
 unfolding shape
-shape_is v Globals a b [] h = ap (option_and_then (body v Globals)) (before_semicolon (a ∷ b ∷ []))
-shape_is v Globals a b (c ∷ p) h = ap (option_and_then (body v Globals)) (before_semicolon (a ∷ b ∷ c ∷ p))
-shape_is v Dimensions a b [] h = ap (option_and_then (body v Dimensions)) (before_semicolon (a ∷ b ∷ []))
-shape_is v Dimensions a b (c ∷ p) h = ap (option_and_then (body v Dimensions)) (before_semicolon (a ∷ b ∷ c ∷ p))
-shape_is v Variables a b [] h = ap (option_and_then (body v Variables)) (before_semicolon (a ∷ b ∷ []))
-shape_is v Variables a b (c ∷ p) h = ap (option_and_then (body v Variables)) (before_semicolon (a ∷ b ∷ c ∷ p))
-shape_is v Values a b [] h = ap (option_and_then (body v Values)) (before_semicolon (a ∷ b ∷ []))
-shape_is v Values a b (c ∷ p) h = ap (option_and_then (body v Values)) (before_semicolon (a ∷ b ∷ c ∷ p))
-shape_is v sections.Unopened a b p h = cc
-shape_is v sections.Closed a b p h = cc
-shape_is v sections.Ended a b p h = cc
+shape_is v section a b p h = grind (arith, before_semicolon)
 
 -- a statement to its semicolon
 pub statement_says : (v : Version) (section : Section) (bytes : List ℕ) (a b : Lexeme) (p : List Lexeme) (statement : Statement) → is_open section ≡ true →
     texts.Closed bytes ((a ∷ b ∷ p) ++ semicolon ∷ []) → is_starter (role a) ≡ true → list_all (is_fine v) (a ∷ b ∷ p) ≡ true → body v section (a ∷ b ∷ p) ≡ Some statement → Says v section bytes statement
-statement_says v section bytes a b p statement h reads start fine is = record {
-  piece = (a ∷ b ∷ p) ++ semicolon ∷ [];
-  reads = reads;
-  cut = λ rest. one_piece a (b ∷ p) rest start (and_right (is_plain (role a)) (all_plain (b ∷ p)) (fine_plain v (a ∷ b ∷ p) fine));
-  sound = fine_sound v (a ∷ b ∷ p) fine;
-  shaped = shape_is v section a b p h ∙ is;
-}
+statement_says v section bytes a b p statement h reads start fine is =
+    search (rules, semicolon, one_piece, and_right, is_plain, fine_plain, fine_sound, shape_is)

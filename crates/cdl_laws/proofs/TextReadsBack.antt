@@ -12,8 +12,6 @@ use Rattle.cdl_laws.proofs.Sayables.{AreFresh, fresh_more, any_map, none_before,
 use Rattle.cdl_laws.proofs.Wholes.{state}
 
 new_vars : (before : List Draft) (vars : List Var) (os : List (Option Listing)) → AreFresh (map draft_name before) (map var_name vars) → AreDistinct (map var_name vars) → Each (λ (var : Var). IsName var.name) vars → AreNewVars before vars os
-new_vars before [] os fresh distinct names = tt
-new_vars before (var ∷ vars) [] fresh distinct names = tt
 new_vars before (var ∷ vars) (o ∷ os) fresh distinct names = (
   names.0,
   any_map draft_name var.name before ∙ fresh.0,
@@ -21,6 +19,7 @@ new_vars before (var ∷ vars) (o ∷ os) fresh distinct names = (
       (subst (λ ns. AreFresh ns (map var_name vars)) (sym (map-append draft_name before (given_draft var o ∷ []))) (fresh_more (map draft_name before) var.name (map var_name vars) fresh.1 distinct.0))
       distinct.1 names.1,
 )
+new_vars before _ _ fresh distinct names = tt
 
 all_bare : (vars : List Var) → Each (λ (var : Var). var.begin_at ≡ 0) (map bare_var vars)
 all_bare [] = tt

@@ -1,5 +1,5 @@
 -- The strings of a text stand for bytes.
-use Rattle.std.proofs.Common.{◌≡◌, ℕ, zero, suc, ◌+◌, ◌-◌, ◌<◌, Bool, true, false, List, [], ◌∷◌, length, get_or, take, drop, sym, ◌∙◌, ap, refl, subst, arith, length-take, ◌&&◌, ◌==◌, nat_lt, not, if◌then◌else◌, map, Option, None, Some, is_none, is_some}
+use Rattle.std.proofs.Common.{◌≡◌, ℕ, zero, suc, ◌+◌, ◌-◌, ◌<◌, Bool, true, List, [], ◌∷◌, length, get_or, take, drop, sym, ◌∙◌, ap, refl, subst, arith, ◌&&◌, ◌==◌, nat_lt, not, if◌then◌else◌, map, Option, None, Some, is_none, is_some}
 use Rattle.cdl_laws.proofs.Prelude.{list_all, prefix_len, is_blank, goes_on_number, inner, string_value, unescape, or_zero, scan, gap, token, scan_text, scan_opening, len_until, word_len, begins_opening, begins_a_word, begins_number, begins_comment, raw, tokens_at, tokens, with_token, token_at, Scanned, Token, TokenKind, StandsForBytes, StringsStandForBytes, inner_of}
 use Rattle.cdl_tokens.specs.Bytes.{is_mark_byte}
 use Rattle.cdl_tokens.specs.declared.token.TokenKind.TheVariants as kinds
@@ -20,21 +20,13 @@ abbrev SaysString : List ℕ → Scanned → Type 0
 SaysString bytes f = f.kind ≡ Some kinds.Text → IsString bytes f.len
 
 either : (bytes : List ℕ) (b : Bool) (f g : Scanned) → SaysString bytes f → SaysString bytes g → SaysString bytes (if b then f else g)
-either bytes true f g p q = p
-either bytes false f g p q = q
+either bytes b f g h h2 = grind arith
 
 inside : (m n : ℕ) → nat_lt m n ≡ true → m < n
 inside m n h = grind (arith, h)
 
 text_says : (bytes : List ℕ) (n : ℕ) → SaysString bytes (scan_text bytes n)
-text_says bytes n =
-    elim (nat_lt n (length bytes)) as (λ b. nat_lt n (length bytes) ≡ b → SaysString bytes (if b then token (if list_all is_some (unescape (take n bytes)) then kinds.Text else kinds.Bad) (n + 2) else token kinds.Bad (1 + length bytes))) [
-      | true ↦ (λ h. elim (list_all is_some (unescape (take n bytes))) as (λ b. list_all is_some (unescape (take n bytes)) ≡ b → SaysString bytes (token (if b then kinds.Text else kinds.Bad) (n + 2))) [
-        | true ↦ (λ k e. record { body = n; inside = inside n (length bytes) h; sound = k; past = refl })
-        | false ↦ (λ k e. cc)
-      ] refl)
-      | false ↦ (λ h e. cc)
-    ] refl
+text_says bytes n = grind (arith, inside)
 
 opening_says : (bytes bs : List ℕ) (n : ℕ) → SaysString bytes (scan_opening bs n)
 opening_says bytes bs n = either bytes (nat_lt n (length bs)) (token kinds.Opening (6 + n + 1)) (token kinds.Bad (6 + length bs)) (λ e. cc) (λ e. cc)
@@ -59,29 +51,20 @@ prefix_says fresh bs =
 
 -- ---- what it stands for
 
-take_less : (n : ℕ) (xs : List ℕ) → take n (take (suc n) xs) ≡ take n xs
-take_less zero [] = refl
-take_less zero (x ∷ xs) = refl
-take_less (suc n) [] = refl
-take_less (suc n) (x ∷ xs) = ap (λ ys. x ∷ ys) (take_less n xs)
-
 all_some : (os : List (Option ℕ)) → list_all is_some os ≡ true → os ≡ map Some (map or_zero os)
 all_some [] h = refl
 all_some (None ∷ os) h = cc
 all_some (Some b ∷ os) h = ap (λ xs. Some b ∷ xs) (all_some os h)
 
 string_stands : (b len : ℕ) (bytes : List ℕ) → IsString bytes len → unescape (inner (take len (b ∷ bytes))) ≡ map Some (string_value (inner (take len (b ∷ bytes))))
-string_stands b len bytes s =
-    let same : inner (take len (b ∷ bytes)) ≡ take s.body bytes = ap (λ n. inner (take n (b ∷ bytes))) s.past ∙ inner_of b s.body bytes s.inside in
-    subst (λ xs. unescape xs ≡ map Some (string_value xs)) (sym same) (all_some (unescape (take s.body bytes)) s.sound)
+string_stands b len bytes s = grind (arith, inner_of, string_value, all_some)
 
 -- ---- the tokens of a text
 
 -- a token of a kind and a length, before others
 with_one : (text : List ℕ) (at : ℕ) (k : Option TokenKind) (n : ℕ) (rest : List Token) → (k ≡ Some kinds.Text → unescape (inner (raw text (token_at text at kinds.Text n))) ≡ map Some (string_value (inner (raw text (token_at text at kinds.Text n))))) →
     Each (StandsForBytes text) rest → Each (StandsForBytes text) (with_token text at k n rest)
-with_one text at None n rest h all = all
-with_one text at (Some kind) n rest h all = ((λ e. h (ap (λ (x : TokenKind). Some x) e)), all)
+with_one text at k n rest h h2 = grind arith
 
 raw_is : (text : List ℕ) (at n : ℕ) (bytes : List ℕ) → drop at text ≡ bytes → raw text (token_at text at kinds.Text n) ≡ take n bytes
 raw_is text at n bytes e = ap (λ m. take m (drop at text)) (let f : at + n - at ≡ n = omega arith in f) ∙ ap (take n) e

@@ -1,6 +1,6 @@
 -- Texts that are put together are read apart again, token by token.
-use Rattle.std.proofs.Common.{◌≡◌, ℕ, zero, suc, ◌+◌, ◌-◌, Bool, true, false, List, [], ◌∷◌, ◌++◌, length, get_or, drop, sym, ◌∙◌, ap, refl, arith, append_assoc, ◌&&◌, ◌||◌, ◌==◌, not, Option, Some, is_none}
-use Rattle.cdl_laws.proofs.Prelude.{prefix_len, list_all, false≢true, drop-append_seam, take-append_seam, is_ascii_digit, is_in_range, escaped_name, is_reserved, IsName, has_name_bytes, may_begin_name, may_follow_in_name, ends_with_space, is_beyond_ascii, is_utf8, is_digit, is_escape, goes_on_word, goes_on_number, may_begin_word, word_len, scan, begins_a_word, token, Lexeme, name_of, lexemes_at, with_lexeme, TokenKind, and_left, and_right, is_off, word_at_start}
+use Rattle.std.proofs.Common.{◌≡◌, ℕ, suc, Bool, true, false, List, [], ◌∷◌, ◌++◌, length, get_or, drop, sym, ◌∙◌, ap, refl, arith, append_assoc, ◌&&◌, ◌||◌, ◌==◌, not, Option, Some, is_none}
+use Rattle.cdl_laws.proofs.Prelude.{prefix_len, list_all, false≢true, drop-append_seam, take-append_seam, escaped_name, is_reserved, IsName, has_name_bytes, ends_with_space, is_utf8, is_digit, is_escape, goes_on_word, goes_on_number, may_begin_word, word_len, scan, begins_a_word, token, Lexeme, name_of, lexemes_at, with_lexeme, TokenKind, and_left, and_right, is_off, word_at_start}
 use Rattle.cdl_tokens.specs.declared.token.TokenKind.TheVariants as kinds
 use Rattle.cdl_laws.proofs.NameTexts.{rest_of, marked_plain, no_escape, Begins, marked, bare, begins, name_len, name_begins, name_value, name_free}
 
@@ -8,19 +8,14 @@ use Rattle.cdl_laws.proofs.NameTexts.{rest_of, marked_plain, no_escape, Begins, 
 
 pub lexemes_skip : (fresh : Bool) (more : ℕ) (bytes : List ℕ) → lexemes_at fresh more bytes ≡ lexemes_at fresh 0 (drop more bytes)
 unfolding lexemes_at
-lexemes_skip fresh zero bytes = refl
-lexemes_skip fresh (suc more) [] = refl
 lexemes_skip fresh (suc more) (b ∷ bytes) = lexemes_skip fresh more bytes
+lexemes_skip fresh _ _ = refl
 
 pub prefix_again : (fresh : Bool) (k : Option TokenKind) (b : ℕ) (w rest : List ℕ) → scan fresh ((b ∷ w) ++ rest) ≡ record { kind = k; len = length (b ∷ w) } →
     lexemes_at fresh 0 ((b ∷ w) ++ rest) ≡ with_lexeme k (b ∷ w) (lexemes_at (fresh && is_none k) 0 rest)
 unfolding lexemes_at
 prefix_again fresh kind b w rest h =
-    let k : length (b ∷ w) - 1 ≡ length w = (let e : suc (length w) - 1 ≡ length w = omega arith in e) in
-    rw (h)
-    (ap (λ bs. with_lexeme kind bs (lexemes_at (fresh && is_none kind) (length (b ∷ w) - 1) (w ++ rest))) (take-append_seam (b ∷ w) rest) ∙
-    ap (with_lexeme kind (b ∷ w))
-    (ap (λ n. lexemes_at (fresh && is_none kind) n (w ++ rest)) k ∙ lexemes_skip (fresh && is_none kind) (length w) (w ++ rest) ∙ ap (lexemes_at (fresh && is_none kind) 0) (drop-append_seam w rest)))
+    grind (arith, take-append_seam (b ∷ w) rest, lexemes_skip (fresh && is_none kind) (length w) (w ++ rest), drop-append_seam w rest, is_none)
 
 -- ---- texts
 
@@ -63,9 +58,6 @@ pub reads_both : (a b : List ℕ) (la lb : List Lexeme) → Reads a la → Stops
 reads_both a b la lb p s q rest h =
     ap (lexemes_at false 0) (append_assoc a b rest) ∙ p (b ++ rest) (s rest h) ∙ ap (λ ls. la ++ ls) (q rest h) ∙ sym (append_assoc la lb (lexemes_at false 0 rest))
 
-pub reads_closed : (a : List ℕ) (la : List Lexeme) → Closed a la → Reads a la
-reads_closed a la p rest h = p rest
-
 -- ---- marks
 
 abbrev pub mark : ℕ → Lexeme
@@ -81,22 +73,14 @@ no_backslash b h = is_off (b == 0x5c) (and_right (not (goes_on_word b)) (not (b 
 
 pub stop_word : (rest : List ℕ) → stops rest ≡ true → word_len rest ≡ 0
 unfolding word_len
-stop_word [] h = refl
-stop_word (b ∷ rest) h = word_at_start b rest ∙ rw (no_backslash b h) (rw (bare_stop b h) refl)
+stop_word rest h = grind (arith, word_at_start, no_backslash, bare_stop)
 
 -- by the tests: digit, upper, lower, `_`, point, `@ + -`, beyond
 no_number : (d u l s p a c e x : Bool) → (((d || u) || l) || s || (p || a || c || e) || x) ≡ false → ((u || l) || d || s || p) ≡ false
-no_number true u l s p a c e x h = cc
-no_number false true l s p a c e x h = cc
-no_number false false true s p a c e x h = cc
-no_number false false false true p a c e x h = cc
-no_number false false false false true a c e x h = cc
-no_number false false false false false a c e x h = refl
+no_number d u l s p a c e x h = grind arith
 
 pub stop_number : (rest : List ℕ) → stops rest ≡ true → prefix_len goes_on_number rest ≡ 0
-stop_number [] h = refl
-stop_number (b ∷ rest) h =
-    rw (no_number (is_ascii_digit b) (is_in_range 65 90 b) (is_in_range 97 122 b) (b == 95) (b == 46) (b == 64) (b == 43) (b == 45) (is_beyond_ascii b) (bare_stop b h)) refl
+stop_number rest h = grind (arith, no_number, bare_stop)
 
 -- ---- names
 
@@ -125,16 +109,7 @@ begun_word b bs (bare one free is) some len = rw (is) (word_reads b (rest_of bs)
 
 pub name_word : (name : List ℕ) → IsName name → IsWordOf name
 unfolding name_of
-name_word [] h = absurd (false≢true (some_name [] h))
-name_word (b ∷ bs) h =
-    let first = and_left (may_begin_name b) (list_all may_follow_in_name bs) (some_name (b ∷ bs) h) in
-    let more = and_right (may_begin_name b) (list_all may_follow_in_name bs) (some_name (b ∷ bs) h) in
-    let how = begins b bs first in
-    record {
-      reads = begun_word b bs how (λ rest. name_begins b bs rest how) (λ rest stop. name_len b bs rest how more (stop_word rest stop));
-      stands = rw (name_free b bs how more) (ap Some (name_value b bs how more));
-      free = name_free b bs how more;
-    }
+name_word name h = grind (arith, false≢true, some_name, and_left, and_right, begins, begun_word, name_begins, name_len, stop_word, name_free, name_value)
 
 -- ---- numbers
 
@@ -156,12 +131,10 @@ digit_no_escape b c h = no_escape b c (marked_plain b (rw (h) refl))
 pub digits_read : (b : ℕ) (w : List ℕ) → is_digit b ≡ true → list_all goes_on_number w ≡ true → Reads (b ∷ w) (number (b ∷ w) ∷ [])
 unfolding scan
 digits_read b w h all rest stop =
-    prefix_again false (Some kinds.Number) b w rest
-    (rw (digit_no_word b h) (rw (digit_no_escape b (get_or (w ++ rest) 0 0) h) (rw (h) (ap (token kinds.Number) (ap (λ n. 1 + n) (all_on w rest all (stop_number rest stop)) ∙ (let e : 1 + length w ≡ suc (length w) = omega arith in e))))))
+    grind (arith, prefix_again false (Some kinds.Number) b w rest, digit_no_word b h, digit_no_escape b (get_or (w ++ rest) 0 0) h, all_on w rest all (stop_number rest stop), stop_number rest stop)
 
 -- the same after a minus
 pub minus_reads : (b : ℕ) (w : List ℕ) → is_digit b ≡ true → list_all goes_on_number (b ∷ w) ≡ true → Reads (45 ∷ b ∷ w) (number (45 ∷ b ∷ w) ∷ [])
 unfolding scan
 minus_reads b w h all rest stop =
-    prefix_again false (Some kinds.Number) 45 (b ∷ w) rest
-    (rw (h) (ap (token kinds.Number) (ap (λ n. 1 + n) (rw h at (all_on (b ∷ w) rest all (stop_number rest stop))) ∙ (let e : 1 + length (b ∷ w) ≡ suc (length (b ∷ w)) = omega arith in e))))
+    grind (arith, prefix_again false (Some kinds.Number) 45 (b ∷ w) rest, all_on (b ∷ w) rest all (stop_number rest stop), stop_number rest stop)

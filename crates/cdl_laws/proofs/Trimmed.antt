@@ -1,6 +1,6 @@
 -- A dataset without the NULs at the end of its attributes.
 use Rattle.std.proofs.Common.{◌≡◌, ℕ, ◌+◌, ◌-◌, ◌*◌, ◌≤◌, ◌<◌, Bool, true, false, List, [], ◌∷◌, length, map, sym, ◌∙◌, ap, refl, subst, arith, zero, suc, take, get_or, if◌then◌else◌, ◌==◌, All, Ok}
-use Rattle.cdl_laws.proofs.Prelude.{take-length, length-take, length-map, suffix_len-take_yes, suffix_len-take_no, suffix_len, AreBytes, Dataset, Att, Dim, Header, Known, Var, NcType, Byte, Char, Short, Int, Ubyte, Ushort, Uint, Int64, Uint64, Version, fill_value, IsGood, IsSound, IsSoundAtt, IsSoundVar, AreArrays, bare, bare_var, without_trailing_nuls, IsName, record_vars, record_limit, size_of, is_char, count_limit, TrimsOnce, TrimmedIsSayable, SecondTripIsSame, AreDistinct, AreSayableAtts, IsSayableVar, HasSomeNumber, trimmed, trimmed_att, trimmed_var, trimmed_header}
+use Rattle.cdl_laws.proofs.Prelude.{take-length, length-take, length-map, suffix_len-take_yes, suffix_len-take_no, suffix_len, AreBytes, Dataset, Att, Dim, Header, Known, Var, NcType, Char, Version, fill_value, IsGood, IsSound, IsSoundAtt, IsSoundVar, AreArrays, bare, bare_var, without_trailing_nuls, IsName, record_vars, record_limit, size_of, is_char, count_limit, TrimsOnce, TrimmedIsSayable, SecondTripIsSame, AreDistinct, AreSayableAtts, IsSayableVar, HasSomeNumber, trimmed, trimmed_att, trimmed_var, trimmed_header}
 use Rattle.cdl_laws.proofs.Attributes.{take_bytes}
 use Rattle.cdl_laws.proofs.Limits.{same_record, record_trimmed}
 use Rattle.cdl_laws.proofs.Lists.{each_of, each_map}
@@ -67,14 +67,7 @@ shorter xs = let a = length-take (length xs - suffix_len nul xs) xs in omega (ar
 
 char_size : (ty : NcType) → is_char ty ≡ true → size_of ty ≡ 1
 char_size Char h = refl
-char_size Byte h = cc
-char_size Short h = cc
-char_size Int h = cc
-char_size Ubyte h = cc
-char_size Ushort h = cc
-char_size Uint h = cc
-char_size Int64 h = cc
-char_size Uint64 h = cc
+char_size _ h = cc
 
 -- as many values as before, or fewer
 whole_still : (limit size : ℕ) (char : Bool) (vals : List ℕ) (n : ℕ) → (char ≡ true → size ≡ 1) → n < limit → length vals ≡ n * size →
@@ -135,9 +128,8 @@ bare_still h n e = ap trimmed_header e ∙ ap (λ (vs : List Var). record h { nu
 
 arrays_still : (dims : List Dim) (n : ℕ) (vars : List Var) (arrays : List (List ℕ)) → AreArrays dims n vars arrays → AreArrays dims n (map trimmed_var vars) arrays
 arrays_still dims n [] [] a = tt
-arrays_still dims n [] (x ∷ arrays) a = absurd a
-arrays_still dims n (var ∷ vars) [] a = absurd a
 arrays_still dims n (var ∷ vars) (x ∷ arrays) a = (record { bytes = a.0.bytes; whole = a.0.whole; small = a.0.small }, arrays_still dims n vars arrays a.1)
+arrays_still dims n _ _ a = absurd a
 
 good_still : (d : Dataset) → IsGood d → IsGood (trimmed d)
 good_still d g = record {

@@ -1,5 +1,5 @@
 -- The declaration of a variable, and what it says.
-use Rattle.std.proofs.Common.{◌≡◌, ℕ, true, List, [], ◌∷◌, ◌++◌, map, ◌∙◌, ap, refl, Some, codes}
+use Rattle.std.proofs.Common.{◌≡◌, ℕ, true, List, [], ◌∷◌, ◌++◌, map, ◌∙◌, ap, refl, Some, codes, arith}
 use Rattle.cdl_laws.proofs.Prelude.{list_all, option_map, option_and_then, list_all-append, concat_parts, NcType, Version, escaped_name, joined, IsName, type_word, Variables, Lexeme, Typed, members, members_in, into_first, each, both, variable, name_alone, before_mark, body, and_both}
 use Rattle.cdl_laws.proofs.Lists.{Each}
 use Rattle.cdl_laws.proofs.Texts.{Closed, Reads, closed_both, closed_by, mark, word, name_word}
@@ -81,9 +81,8 @@ array_closed ty name n ns h all =
     semicolon_closed))))
 
 before_end : (p : List Lexeme) → before_mark 0x29 (p ++ mark 41 ∷ []) ≡ Some p
-before_end [] = refl
-before_end (l ∷ []) = refl
 before_end (l ∷ m ∷ p) = ap (option_map (λ xs. l ∷ xs)) (before_end (m ∷ p))
+before_end _ = refl
 
 -- what is in parentheses stays together
 inside_member : (names : List (List ℕ)) → members_in true (commas (name_lexemes names) ++ mark 41 ∷ []) ≡ (commas (name_lexemes names) ++ mark 41 ∷ []) ∷ []
@@ -120,5 +119,4 @@ array_says v ty name n ns h all =
 pub typed_says : (v : Version) (ty : NcType) (name : List ℕ) (names : List (List ℕ)) → IsName name → AreNames names →
     Says v Variables (typed_line (type_word ty) name (shape_of names)) (Typed (word (type_word ty)) (record { name = name; dimensions = names } ∷ []))
 unfolding shape_of
-typed_says v ty name [] h all = scalar_says v ty name h
-typed_says v ty name (n ∷ ns) h all = array_says v ty name n ns h all
+typed_says v ty name names h h2 = grind (arith, scalar_says, array_says)

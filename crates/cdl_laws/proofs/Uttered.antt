@@ -1,6 +1,6 @@
 -- What each statement of a text says, and how many bytes and tokens all of them have.
-use Rattle.std.proofs.Common.{◌≡◌, ℕ, ◌+◌, ◌-◌, ◌*◌, ◌≤◌, ◌<◌, Bool, true, false, List, [], ◌∷◌, length, map, ◌∙◌, ap, refl, arith, zero, suc, Option, None, Some, drop, ◌&&◌, nat_lt, is_none}
-use Rattle.cdl_laws.proofs.Prelude.{length-take, length-drop, option_map, option_and_then, Version, scan, Lexeme, lexeme, is_mark, is_word_kind, is_opening_kind, is_end_kind, name_of, first_role, role, pieces_after, with_first, step, pieces_by_steps, Value, Dimension, Variable, Statement, Opening, Mark, Declared, Typed, Attribute, Listed, Brace, End, each, either, if_so, members, variable, constants, assigned, global, typed, attribute, body, section_number, section_of, mark_after, section_mark, alone, shape, before_mark, tokens, tokens_at, with_token, statements, Section, Unopened, Globals, Dimensions, Variables, Values, Closed, Ended, CutState, Role, Token, TokenKind}
+use Rattle.std.proofs.Common.{◌≡◌, ℕ, ◌+◌, ◌-◌, ◌*◌, ◌≤◌, ◌<◌, Bool, true, false, List, [], ◌∷◌, length, map, ◌∙◌, ap, refl, arith, zero, suc, Option, None, Some, drop, ◌&&◌, nat_lt, is_none, rules}
+use Rattle.cdl_laws.proofs.Prelude.{length-take, length-drop, option_map, option_and_then, Version, scan, Lexeme, lexeme, is_mark, is_opening_kind, is_end_kind, name_of, first_role, role, pieces_after, with_first, step, pieces_by_steps, Value, Statement, Opening, Mark, Declared, Typed, Attribute, Listed, Brace, End, each, either, constants, assigned, global, typed, attribute, body, section_number, mark_after, section_mark, alone, shape, before_mark, tokens, tokens_at, with_token, statements, Section, Unopened, Globals, Dimensions, Variables, Values, Closed, Ended, CutState, Role, Token, TokenKind}
 use Rattle.cdl_statements.specs.Shapes as shapes
 use Rattle.cdl_statements.specs.Shapes.{dimensions}
 use Rattle.cdl_statements.specs.declared.piece.CutState.TheVariants as places
@@ -30,13 +30,12 @@ IsSaid v section n End = Unit {0}
 
 assigned_says : {A : Type 0} (P : A → Type 0) (v : Version) (takes_fill : Bool) (f : List ℕ → List Value → A) (ls : List Lexeme) → Each HasBytes ls →
     ((name : List ℕ) (cs : List Value) → AreFineValues v (mass ls) name cs → P (f name cs)) → SomeIs P (assigned v takes_fill f ls)
-assigned_says P v takes_fill f [] h g = tt
-assigned_says P v takes_fill f (n ∷ []) h g = tt
 assigned_says P v takes_fill f (n ∷ e ∷ ls) h g =
     some_given P (is_mark 0x3d e) (shapes.both f (name_of n) (constants v takes_fill ls)) (λ q.
     some_both (λ (name : List ℕ). length name ≤ length n.bytes) (λ cs. (total cost cs ≤ mass ls) × Each (IsFineValue v) cs) P f (name_of n) (constants v takes_fill ls) (name_short n)
     (some_and (λ cs. total cost cs ≤ mass ls) (Each (IsFineValue v)) (constants v takes_fill ls) (constants_short v takes_fill ls) (constants_fine v takes_fill ls h.1.1))
     (λ name cs short fine. let a = short in let b = fine.0 in g name cs (omega (arith, a), omega (arith, b), fine.1)))
+assigned_says P v takes_fill f _ h g = tt
 
 global_says : (v : Version) (section : Section) (ls : List Lexeme) → Each HasBytes ls → SomeIs (IsSaid v section (mass ls)) (global v ls)
 global_says v section [] h = tt
@@ -45,66 +44,38 @@ global_says v section (c ∷ ls) h =
     assigned_says (IsSaid v section (mass (c ∷ ls))) v false (Attribute None) ls h.1 (λ name cs k. let a = k.0 in let b = k.1 in (omega (arith, a), omega (arith, b), k.2)))
 
 attribute_says : (v : Version) (section : Section) (ls : List Lexeme) → Each HasBytes ls → SomeIs (IsSaid v section (mass ls)) (attribute v ls)
-attribute_says v section [] h = tt
-attribute_says v section (n ∷ []) h = tt
 attribute_says v section (n ∷ c ∷ ls) h =
     let P : Statement → Type 0 = IsSaid v section (mass (n ∷ c ∷ ls)) in
     some_given P (is_mark 0x3a c) (option_and_then (λ name. assigned v false (Attribute (Some name)) ls) (name_of n)) (λ q.
     some_then (λ (name : List ℕ). length name ≤ length n.bytes) P (λ name. assigned v false (Attribute (Some name)) ls) (name_of n) (name_short n)
     (λ var short. assigned_says P v false (Attribute (Some var)) ls h.1.1 (λ name cs k. let a = k.0 in let b = k.1 in (omega (arith, a), omega (arith, b), k.2))))
+attribute_says v section _ h = tt
 
 typed_says : (v : Version) (ls : List Lexeme) → SomeIs (IsSaid v Variables (mass ls)) (typed ls)
-typed_says v [] = tt
-typed_says v (ty ∷ ls) =
-    let P : Statement → Type 0 = IsSaid v Variables (mass (ty ∷ ls)) in
-    some_given P (is_word_kind ty.kind) (option_map (Typed ty) (each variable (members ls))) (λ q.
-    some_map P (Typed ty) (each variable (members ls)) (some_weaker (λ xs. total var_cost xs ≤ mass ls) (λ xs. P (Typed ty xs)) (each variable (members ls)) (variables_short ls) (λ xs h. (refl, omega (arith, h)))))
+typed_says v ls = grind (arith, some_given, each, some_map, some_weaker, total, variables_short)
 
 declared_says : (v : Version) (ls : List Lexeme) → SomeIs (IsSaid v Dimensions (mass ls)) (option_map Declared (dimensions v ls))
-declared_says v ls =
-    some_map (IsSaid v Dimensions (mass ls)) Declared (dimensions v ls)
-    (some_weaker (λ ds. total dim_cost ds ≤ mass ls) (λ ds. IsSaid v Dimensions (mass ls) (Declared ds)) (dimensions v ls) (dimensions_short v ls) (λ ds h. (refl, h)))
+declared_says v ls = grind (arith, dimensions v ls, total dim_cost, dimensions_short v ls, some_map, some_weaker)
 
 body_says : (v : Version) (section : Section) (ls : List Lexeme) → Each HasBytes ls → SomeIs (IsSaid v section (mass ls)) (body v section ls)
 body_says v Globals ls h = global_says v Globals ls h
 body_says v Dimensions ls h = some_first (IsSaid v Dimensions (mass ls)) (global v ls) (option_map Declared (dimensions v ls)) (global_says v Dimensions ls h) (declared_says v ls)
-body_says v Variables ls h =
-    some_first (IsSaid v Variables (mass ls)) (global v ls) (either (attribute v ls) (typed ls)) (global_says v Variables ls h)
-    (some_first (IsSaid v Variables (mass ls)) (attribute v ls) (typed ls) (attribute_says v Variables ls h) (typed_says v ls))
+body_says v Variables ls h = search (rules, some_first, either, typed, global_says, attribute_says, typed_says)
 body_says v Values ls h = assigned_says (IsSaid v Values (mass ls)) v true Listed ls h (λ name cs k. k)
-body_says v Unopened ls h = tt
-body_says v Closed ls h = tt
-body_says v Ended ls h = tt
+body_says v _ ls h = tt
 
 said_more : (v : Version) (section : Section) (m n : ℕ) (s : Statement) → m ≤ n → IsSaid v section m s → IsSaid v section n s
-said_more v section m n Opening le h = h
-said_more v section m n (Mark next) le h = h
-said_more v section m n (Declared ds) le h = let a = h.1 in (h.0, omega (arith, le, a))
-said_more v section m n (Typed ty vs) le h = let a = h.1 in (h.0, omega (arith, le, a))
-said_more v section m n (Attribute o name cs) le h = let a = h.0 in let b = h.1 in (omega (arith, le, a), omega (arith, le, b), h.2)
-said_more v section m n (Listed name cs) le h = let a = h.0 in let b = h.1 in (omega (arith, le, a), omega (arith, le, b), h.2)
-said_more v section m n Brace le h = tt
-said_more v section m n End le h = tt
+said_more v section m n s h h2 = grind arith
 
 mark_says : (v : Version) (n : ℕ) (before s : Section) → SomeIs (IsSaid v before n) (mark_after before s)
 mark_says v n before s = some_given (IsSaid v before n) (nat_lt (section_number before) (section_number s)) (Some (Mark s)) (λ e. grind (arith, e))
 
 marks_say : (v : Version) (n : ℕ) (before : Section) (ls : List Lexeme) → SomeIs (IsSaid v before n) (section_mark before ls)
-marks_say v n before [] = tt
-marks_say v n before (l ∷ []) = tt
-marks_say v n before (l ∷ c ∷ d ∷ ls) = tt
-marks_say v n before (l ∷ c ∷ []) =
-    some_given (IsSaid v before n) (is_mark 0x3a c) (option_and_then (mark_after before) (section_of l)) (λ q.
-    some_then (λ (s : Section). Unit {0}) (IsSaid v before n) (mark_after before) (section_of l) (any (section_of l)) (λ s u. mark_says v n before s))
-  where
-    any : (o : Option Section) → SomeIs (λ (s : Section). Unit {0}) o
-    any None = tt
-    any (Some s) = tt
+marks_say v n before (l ∷ c ∷ []) = grind (arith, some_given, some_then, mark_says)
+marks_say v n before _ = grind (arith, some_given, some_then, mark_says)
 
 alone_says : {A : Type 0} (P : A → Type 0) (test : Lexeme → Bool) (a : A) (ls : List Lexeme) → P a → SomeIs P (alone test a ls)
-alone_says P test a [] p = tt
-alone_says P test a (l ∷ []) p = some_given P (test l) (Some a) (λ e. p)
-alone_says P test a (l ∷ m ∷ ls) p = tt
+alone_says P test a ls h = grind (arith, some_given)
 
 inside : (v : Version) (section : Section) (ls : List Lexeme) → Each HasBytes ls →
     SomeIs (IsSaid v section (mass ls)) (either (alone (is_mark 0x7d) Brace ls) (either (section_mark section ls) (option_and_then (body v section) (before_mark 0x3b ls))))
@@ -132,9 +103,7 @@ abbrev pub token_mass : List ℕ → List Token → ℕ
 token_mass text ts = total (λ t. weight (lexeme text t)) ts
 
 with_mass : (text : List ℕ) (at n m : ℕ) (k : Option TokenKind) (ts : List Token) → length text ≤ at + suc m → token_mass text ts ≤ 1 + 2 * (m - (n - 1)) → token_mass text (with_token text at k n ts) ≤ 1 + 2 * suc m
-with_mass text at n m None ts h k = omega (arith, k)
-with_mass text at n m (Some kind) ts h k =
-    let a = length-take (at + n - at) (drop at text) in let b = length-drop at text in omega (arith, a, b, h, k)
+with_mass text at n m k ts h h2 = grind (arith, length-take, length-drop)
 
 mass_at : (text : List ℕ) (fresh : Bool) (at more : ℕ) (bytes : List ℕ) → length text ≤ at + length bytes → token_mass text (tokens_at text fresh at more bytes) ≤ 1 + 2 * (length bytes - more)
 unfolding tokens_at
@@ -147,9 +116,7 @@ mass_at text fresh at zero (b ∷ bytes) h =
     omega (arith, r)
 
 pieces_total : {X : Type 0} (w : X → ℕ) (ends : Bool) (t : X) (ps : List (List X)) → total (total w) (with_first ends t ps) ≡ w t + total (total w) ps
-pieces_total w true t ps = omega arith
-pieces_total w false t [] = omega arith
-pieces_total w false t (p ∷ ps) = omega arith
+pieces_total w ends t ps = grind arith
 
 all_pieces : {X : Type 0} (w : X → ℕ) (role : X → Role) (place : CutState) (ts : List X) → total (total w) (pieces_after role place ts) ≡ total w ts
 unfolding pieces_after

@@ -1,6 +1,6 @@
 -- The listed numbers of a variable are read back, wherever the breaks are.
-use Rattle.std.proofs.Common.{◌≡◌, ℕ, ◌+◌, ◌^◌, ◌<◌, ◌≤◌, Bool, true, false, List, [], ◌∷◌, ◌++◌, length, map, sym, ◌∙◌, ap, refl, subst, arith, append_assoc, append-nil, length-append, ℤ, unsigned_abs, ◌&&◌, ◌||◌, ◌==◌, not, if◌then◌else◌, nat_lt, Some, Result, Ok, codes}
-use Rattle.cdl_laws.proofs.Prelude.{signed_decimal, flat_map, list_all, int_eq, mod-eq_of_lt, zero-mod, false≢true, Decides-int_eq, concat_parts, escaped_name, Int, Version, IsName, Look, is_char, number_text, number_lead, line_break, begins_row, column, number_piece, piece, pieces, variable_opening, variable_closing, variable_prefix, variable_text, CdlKind, Lexeme, is_mark, lexemes_at, scan, Value, Number, Underscore, members_in, members, each, both, constant, constants, Capacity, Numbers, add_number, has_number, in_turn, listing_of, and_left, and_right, and_both, is_off, word_at_start, lt-ltb}
+use Rattle.std.proofs.Common.{◌≡◌, ℕ, ◌+◌, ◌^◌, ◌<◌, ◌≤◌, Bool, true, false, List, [], ◌∷◌, ◌++◌, length, map, sym, ◌∙◌, ap, refl, arith, append_assoc, append-nil, length-append, ℤ, unsigned_abs, ◌&&◌, ◌||◌, not, if◌then◌else◌, nat_lt, Some, Result, Ok, codes}
+use Rattle.cdl_laws.proofs.Prelude.{signed_decimal, flat_map, list_all, int_eq, mod-eq_of_lt, zero-mod, false≢true, concat_parts, escaped_name, Int, Version, IsName, Look, is_char, number_text, number_lead, line_break, begins_row, column, number_piece, piece, pieces, variable_opening, variable_closing, variable_prefix, variable_text, CdlKind, Lexeme, is_mark, lexemes_at, scan, Value, Number, Underscore, members, each, both, constant, constants, Capacity, Numbers, add_number, has_number, in_turn, listing_of, and_left, and_right, is_off, word_at_start, lt-ltb}
 use Rattle.cdl_meaning.specs.State.{◌>>=◌}
 use Rattle.cdl_laws.proofs.Lists.{Each}
 use Rattle.cdl_laws.proofs.Texts.{Closed, Reads, Stops, closed_both, then_reads, closed_by, reads_both, closed_nothing, mark, word, number, name_word, word_reads, stop_word}
@@ -24,21 +24,15 @@ abbrev pub is_member : Lexeme → Bool
 is_member l = not (is_mark 0x2c l) && not (is_mark 0x28 l)
 
 pub members_last : (l : Lexeme) → is_member l ≡ true → members (l ∷ []) ≡ (l ∷ []) ∷ []
-members_last l h =
-    let p : is_mark 0x2c l ≡ false = is_off (is_mark 0x2c l) (and_left (not (is_mark 0x2c l)) (not (is_mark 0x28 l)) h) in
-    rw (members_in, p) refl
+members_last l h = grind (arith, is_off, and_left)
 
 pub members_more : (l : Lexeme) (ls : List Lexeme) → is_member l ≡ true → members (l ∷ comma ∷ ls) ≡ (l ∷ []) ∷ members ls
-members_more l ls h =
-    let p : is_mark 0x2c l ≡ false = is_off (is_mark 0x2c l) (and_left (not (is_mark 0x2c l)) (not (is_mark 0x28 l)) h) in
-    let q : is_mark 0x28 l ≡ false = is_off (is_mark 0x28 l) (and_right (not (is_mark 0x2c l)) (not (is_mark 0x28 l)) h) in
-    rw (members_in, p) (rw (q) (ap (λ b. (l ∷ []) ∷ members_in (b || false) ls) q))
+members_more l ls h = grind (arith, is_off, and_left, and_right)
 
 pub members_all : (l : Lexeme) (ls : List Lexeme) → list_all is_member (l ∷ ls) ≡ true → members (l ∷ commas ls) ≡ map (λ m. m ∷ []) (l ∷ ls)
 members_all l [] h = members_last l (and_left (is_member l) true h)
 members_all l (m ∷ ls) h =
-    members_more l (m ∷ commas ls) (and_left (is_member l) (list_all is_member (m ∷ ls)) h) ∙
-    ap (λ ms. (l ∷ []) ∷ ms) (members_all m ls (and_right (is_member l) (list_all is_member (m ∷ ls)) h))
+    grind (arith, members_more, and_left, and_right, members_all m ls (and_right (is_member l) (list_all is_member (m ∷ ls)) h))
 
 -- a list of constants
 pub constants_all : (v : Version) (takes_fill : Bool) (l : Lexeme) (ls : List Lexeme) → constants v takes_fill (l ∷ commas ls) ≡ each (constant v takes_fill) (l ∷ ls)
@@ -61,11 +55,7 @@ blank_reads : Reads (codes "_") (word (codes "_") ∷ [])
 blank_reads = word_reads 95 [] (λ rest. refl) (λ rest stop. word_at_start 95 rest ∙ ap (λ n. 1 + n) (stop_word rest stop))
 
 text_reads : (look : Look) (x : ℤ) → unsigned_abs x < 2 ^ 64 → Reads (number_text look x) (value_lexeme look x ∷ [])
-text_reads look x h =
-    elim (is_fill_value look x) as (λ w. Reads (if w then codes "_" else signed_decimal x) ((if w then word (codes "_") else number (signed_decimal x)) ∷ [])) [
-      | true ↦ blank_reads
-      | false ↦ subst (λ bs. Reads bs (number bs ∷ [])) (append-nil (signed_decimal x)) (number_reads x [] h refl)
-    ]
+text_reads look x h = grind (arith, codes "_", append-nil (signed_decimal x), number_reads x [] h refl, word, number, blank_reads)
 
 -- ---- what stands before a number
 
@@ -74,8 +64,7 @@ unfolding lexemes_at scan
 broken rest = refl
 
 either_closed : (b : Bool) → Closed (if b then codes "\n    " else []) []
-either_closed true = broken
-either_closed false = closed_nothing
+either_closed b = grind (arith, broken, closed_nothing)
 
 break_closed : (look : Look) (before : List ℕ) (i len : ℕ) → Closed (line_break look before i len) []
 break_closed look before i len = either_closed (not (begins_row look i) && nat_lt look.width (column before + len + 2))
@@ -89,14 +78,7 @@ no_row : (look : Look) (i : ℕ) → 0 < i → i < look.row → begins_row look 
 no_row look i some small = rw (mod-eq_of_lt small) (grind (arith, some))
 
 gap : (look : Look) (i : ℕ) → 0 < i → (look.in_rows ≡ false → i < look.row) → Gap (number_lead look i)
-gap look i some small =
-    elim (begins_row look i) as (λ w. begins_row look i ≡ w → Gap (if w then (if look.in_rows then (if i == 0 then codes "\n  " else codes ",\n  ") else codes " ") else codes ", ")) [
-      | true ↦ (λ e. elim (look.in_rows) as (λ r. look.in_rows ≡ r → Gap (if r then (if i == 0 then codes "\n  " else codes ",\n  ") else codes " ")) [
-        | true ↦ (λ f. let z : (i == 0) ≡ false = grind (arith, some) in row (rw (z) refl))
-        | false ↦ (λ f. absurd (false≢true (sym (no_row look i some (small f)) ∙ e)))
-      ] refl)
-      | false ↦ (λ e. next refl)
-    ] refl
+gap look i some small = grind (arith, codes, false≢true, no_row)
 
 next_closed : Closed (codes ", ") (comma ∷ [])
 unfolding lexemes_at scan
@@ -107,12 +89,10 @@ unfolding lexemes_at scan
 row_closed rest = refl
 
 gap_closed : (lead : List ℕ) → Gap lead → Closed lead (comma ∷ [])
-gap_closed lead (next e) = subst (λ bs. Closed bs (comma ∷ [])) (sym e) next_closed
-gap_closed lead (row e) = subst (λ bs. Closed bs (comma ∷ [])) (sym e) row_closed
+gap_closed lead h = grind (arith, next_closed, row_closed)
 
 gap_stops : (lead more : List ℕ) → Gap lead → Stops (lead ++ more)
-gap_stops lead more (next e) = rw (e) (λ rest h. refl)
-gap_stops lead more (row e) = rw (e) (λ rest h. refl)
+gap_stops lead more h = grind arith
 
 -- ---- the numbers after the first
 
@@ -127,10 +107,7 @@ piece_reads look before i x some small fits =
 
 piece_stops : (look : Look) (before : List ℕ) (i : ℕ) (x : ℤ) (more : List ℕ) → 0 < i → (look.in_rows ≡ false → i < look.row) → Stops (number_piece look before i x ++ more)
 unfolding number_piece
-piece_stops look before i x more some small =
-    let lead = number_lead look i in
-    let gone = line_break look (before ++ lead) i (length (number_text look x)) in
-    subst Stops (sym (append_assoc (lead ++ gone) (number_text look x) more ∙ append_assoc lead gone (number_text look x ++ more))) (gap_stops lead (gone ++ (number_text look x ++ more)) (gap look i some small))
+piece_stops look before i x more some small = grind (arith, append_assoc, gap_stops, gap)
 
 -- the values fit
 abbrev pub AreSmall : List ℤ → Type 0
@@ -150,10 +127,8 @@ unfolding pieces
 pieces_none look before values = refl
 
 more_stop : (look : Look) (before : List ℕ) (values xs : List ℤ) → is_char look.ty ≡ false → 0 < length values → (look.in_rows ≡ false → length values + length xs ≤ look.row) → Stops (pieces look before values xs)
-more_stop look before values [] h some small = rw (pieces_none look before values) (λ rest e. e)
-more_stop look before values (x ∷ xs) h some small =
-    rw (pieces_first look before values x xs h)
-    (piece_stops look before (length values) x (pieces look (before ++ piece look before values x) (values ++ x ∷ []) xs) some (λ e. let f = small e in omega (arith, f)))
+more_stop look before values [] h some small = grind (arith, pieces_none, pieces_first, piece_stops, pieces, piece)
+more_stop look before values _ h some small = grind (arith, pieces_none, pieces_first, piece_stops, pieces, piece)
 
 pub more_read : (look : Look) (before : List ℕ) (values xs : List ℤ) → is_char look.ty ≡ false → 0 < length values → (look.in_rows ≡ false → length values + length xs ≤ look.row) → AreSmall xs →
     Reads (pieces look before values xs) (commas (map (value_lexeme look) xs))
@@ -178,10 +153,7 @@ first_lead look = rw (zero-mod look.row) (elim (look.in_rows) as (λ w. Closed (
 first_reads : (look : Look) (before : List ℕ) (x : ℤ) → unsigned_abs x < 2 ^ 64 → Reads (number_piece look before 0 x) (value_lexeme look x ∷ [])
 unfolding number_piece
 first_reads look before x fits =
-    then_reads (number_lead look 0 ++ line_break look (before ++ number_lead look 0) 0 (length (number_text look x))) (number_text look x) [] (value_lexeme look x ∷ [])
-    (closed_both (number_lead look 0) (line_break look (before ++ number_lead look 0) 0 (length (number_text look x))) [] []
-    (first_lead look) (break_closed look (before ++ number_lead look 0) 0 (length (number_text look x))))
-    (text_reads look x fits)
+    grind (arith, first_lead look, break_closed look (before ++ number_lead look 0) 0 (length (number_text look x)), text_reads look x has_number, then_reads, closed_both, has_number)
 
 pub all_read : (look : Look) (before : List ℕ) (x : ℤ) (xs : List ℤ) → is_char look.ty ≡ false → (look.in_rows ≡ false → length (x ∷ xs) ≤ look.row) → AreSmall (x ∷ xs) →
     Reads (pieces look before [] (x ∷ xs)) (value_lexeme look x ∷ commas (map (value_lexeme look) xs))
@@ -232,20 +204,7 @@ numbers_closed look x xs name h small fit =
 
 values_all : (v : Version) (look : Look) (xs : List ℤ) → AreSmall xs → each (constant v true) (map (value_lexeme look) xs) ≡ Some (map (value_said look) xs)
 values_all v look [] fit = refl
-values_all v look (x ∷ xs) fit =
-    ap (both (λ y ys. y ∷ ys) (constant v true (value_lexeme look x))) (values_all v look xs fit.1) ∙
-    ap (λ y. both (λ y ys. y ∷ ys) y (Some (map (value_said look) xs))) (one (is_fill_value look x))
-  where
-    one : (b : Bool) → constant v true (if b then word (codes "_") else number (signed_decimal x)) ≡ Some (if b then Underscore else Number (record { value = x; ty = Int }))
-    one true = refl
-    one false = rw (value_again v x fit.0) refl
-
-is_value : (look : Look) (x : ℤ) → is_member (value_lexeme look x) ≡ true
-is_value look x = elim (is_fill_value look x) as (λ b. is_member (if b then word (codes "_") else number (signed_decimal x)) ≡ true) [ true ↦ refl | false ↦ refl ]
-
-are_values : (look : Look) (xs : List ℤ) → list_all is_member (map (value_lexeme look) xs) ≡ true
-are_values look [] = refl
-are_values look (x ∷ xs) = and_both (is_member (value_lexeme look x)) (list_all is_member (map (value_lexeme look) xs)) (is_value look x) (are_values look xs)
+values_all v look (x ∷ xs) fit = grind (arith, both, constant, word, codes, number, value_again, values_all v look xs fit.1)
 
 pub values_said : (v : Version) (look : Look) (x : ℤ) (xs : List ℤ) → AreSmall (x ∷ xs) → constants v true (value_lexeme look x ∷ commas (map (value_lexeme look) xs)) ≡ Some (map (value_said look) (x ∷ xs))
 values_said v look x xs fit =
@@ -254,24 +213,17 @@ values_said v look x xs fit =
 -- ---- what becomes of them
 
 pub room_for : (is_open : Bool) (m n : ℕ) → (is_open ≡ false → m < n) → (is_open || nat_lt m n) ≡ true
-room_for true m n h = refl
-room_for false m n h = lt-ltb m n (h refl)
+room_for is_open m n h = grind (arith, lt-ltb)
 
 one_added : (look : Look) (capacity : Capacity) (before : List ℤ) (x : ℤ) → capacity.fill ≡ look.fill → (capacity.is_open ≡ false → length before < capacity.count) → has_number capacity.ty x ≡ true →
     add_number capacity before (value_said look x) ≡ Ok (before ++ x ∷ [])
-one_added look capacity before x same wide fit =
-    elim (is_fill_value look x) as (λ b. is_fill_value look x ≡ b → add_number capacity before (if b then Underscore else Number (record { value = x; ty = Int })) ≡ Ok (before ++ x ∷ [])) [
-      | true ↦ (λ e. rw (room_for capacity.is_open (length before) capacity.count wide) (ap (λ y. Ok (before ++ y ∷ [])) (same ∙ sym ((Decides-int_eq x look.fill).0 (and_right look.prints_fill (int_eq x look.fill) e)))))
-      | false ↦ (λ e. rw (room_for capacity.is_open (length before) capacity.count wide) (rw (fit) refl))
-    ] refl
+one_added look capacity before x same wide fit = grind (arith, room_for, and_right)
 
 all_added : (look : Look) (capacity : Capacity) (before xs : List ℤ) → capacity.fill ≡ look.fill → (capacity.is_open ≡ false → length before + length xs ≤ capacity.count) → Each (λ x. has_number capacity.ty x ≡ true) xs →
     in_turn (add_number capacity) before (map (value_said look) xs) ≡ Ok (before ++ xs)
 all_added look capacity before [] same wide fit = ap Ok (sym (append-nil before))
 all_added look capacity before (x ∷ xs) same wide fit =
-    let len = length-append before (x ∷ []) in
-    turn (add_number capacity) before (before ++ x ∷ []) (value_said look x) (map (value_said look) xs) (one_added look capacity before x same (λ e. let f = wide e in omega (arith, f)) fit.0) ∙
-    (all_added look capacity (before ++ x ∷ []) xs same (λ e. let f = wide e in omega (arith, f, len)) fit.1 ∙ ap Ok (append_assoc before (x ∷ []) xs))
+    grind (arith, length-append, turn, one_added, append_assoc, all_added look capacity (before ++ x ∷ []) xs same)
 
 pub numbers_listed : (look : Look) (capacity : Capacity) (xs : List ℤ) → is_char capacity.ty ≡ false → capacity.fill ≡ look.fill → (capacity.is_open ≡ false → length xs ≤ capacity.count) → Each (λ x. has_number capacity.ty x ≡ true) xs →
     listing_of capacity (map (value_said look) xs) ≡ Ok (Numbers xs)

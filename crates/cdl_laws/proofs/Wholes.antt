@@ -1,6 +1,6 @@
 -- The head of a dump, statement after statement.
-use Rattle.std.proofs.Common.{◌≡◌, ℕ, zero, suc, ◌^◌, ◌<◌, true, false, List, [], ◌∷◌, ◌++◌, length, map, sym, ◌∙◌, ap, refl, subst, arith, append_assoc, append-nil, ◌==◌, None, Some, Ok, codes}
-use Rattle.cdl_laws.proofs.Prelude.{list_any, bytes_eq, concat_parts, Att, Dim, Var, NcType, Version, escaped_name, AreDimids, joined, dim_line, att_line, att_lines, att_text, var_lines, shape_text, dim_name, IsName, type_word, count_limit, has_type, Section, Dimensions, Variables, trimmed_att, trimmed_var, Value, Declared, Typed, Attribute, State, Draft, act, add_dim, add_att, add_constant, first_type, add_var, with_att, in_turn, said_dim, IsBeforeData, not_none}
+use Rattle.std.proofs.Common.{◌≡◌, ℕ, zero, suc, ◌^◌, ◌<◌, true, false, List, [], ◌∷◌, ◌++◌, length, map, sym, ◌∙◌, ap, refl, subst, arith, append_assoc, append-nil, None, Some, Ok, codes}
+use Rattle.cdl_laws.proofs.Prelude.{list_any, bytes_eq, concat_parts, Att, Dim, Var, NcType, Version, escaped_name, AreDimids, joined, dim_line, att_line, att_lines, att_text, var_lines, shape_text, dim_name, IsName, type_word, count_limit, has_type, Section, Dimensions, Variables, trimmed_att, trimmed_var, Value, Declared, Typed, Attribute, State, Draft, act, add_dim, add_att, add_constant, first_type, in_turn, said_dim, IsBeforeData, not_none}
 use Rattle.cdl_meaning.specs.State.{◌>>=◌}
 use Rattle.cdl_laws.proofs.Lists.{Each}
 use Rattle.cdl_laws.proofs.Texts.{word}
@@ -90,10 +90,7 @@ globals_taken v section dims done (a ∷ more) drafts before speak new =
 owned_act : (v : Version) (dims : List Dim) (gatts : List Att) (before : List Draft) (name ids : List ℕ) (done : List Att) (ty : NcType) (a : Att) (said : List Value) → IsName name → no_draft name before → add_att a.name said done ≡ Ok (done ++ trimmed_att a ∷ []) →
     act v (state Variables dims gatts (before ++ bare_draft name ids done ty ∷ [])) (Attribute (Some name) a.name said) ≡ Ok (state Variables dims gatts (before ++ bare_draft name ids (done ++ trimmed_att a ∷ []) ty ∷ []))
 unfolding act
-owned_act v dims gatts before name ids done ty a said valid new h =
-    ap (λ r. r >>= (λ drafts. Ok (state Variables dims gatts drafts)))
-    (variable_is (with_att a.name said) before (bare_draft name ids done ty) (bare_draft name ids (done ++ trimmed_att a ∷ []) ty) [] valid new
-    (ap (λ r. r >>= (λ atts. Ok (bare_draft name ids atts ty))) h))
+owned_act v dims gatts before name ids done ty a said valid new h = grind (arith, variable_is)
 
 pub owned_taken : (v : Version) (dims : List Dim) (gatts : List Att) (before : List Draft) (name ids : List ℕ) (done more : List Att) (ty : NcType) → IsName name → no_draft name before → Each (Speaks v) more → AreNewAtts done more →
     Takes v (concat_parts (map (att_line (escaped_name name)) more)) (state Variables dims gatts (before ++ bare_draft name ids done ty ∷ [])) (state Variables dims gatts (before ++ bare_draft name ids (done ++ map trimmed_att more) ty ∷ []))
@@ -129,10 +126,7 @@ AreFit v dims before (var ∷ vars) = IsFit v dims before var × AreFit v dims (
 typed_act : (v : Version) (dims : List Dim) (gatts : List Att) (before : List Draft) (var : Var) → IsFit v dims before var → AreDistinctDims dims → HaveNames dims →
     act v (state Variables dims gatts before) (Typed (word (type_word var.ty)) (record { name = var.name; dimensions = map (name_at dims) var.dimids } ∷ [])) ≡ Ok (state Variables dims gatts (before ++ bare_draft var.name var.dimids [] var.ty ∷ []))
 unfolding act
-typed_act v dims gatts before var fit distinct names =
-    ap (λ r. r >>= (λ ty. in_turn (add_var dims ty) before (record { name = var.name; dimensions = map (name_at dims) var.dimids } ∷ []) >>= (λ drafts. Ok (state Variables dims gatts drafts)))) (type_is v var.ty fit.ty) ∙
-    ap (λ r. r >>= (λ drafts. Ok (state Variables dims gatts drafts)))
-    (turn (add_var dims var.ty) before (before ++ bare_draft var.name var.dimids [] var.ty ∷ []) (record { name = var.name; dimensions = map (name_at dims) var.dimids }) [] (var_added dims var.ty before var.name var.dimids fit.name fit.new distinct names fit.shape))
+typed_act v dims gatts before var fit distinct names = grind (arith, name_at, type_is, turn, var_added)
 
 -- the shape's names
 known_name : (dims : List Dim) (k : ℕ) → k < length dims → dim_name dims k ≡ escaped_name (name_at dims k)

@@ -1,8 +1,8 @@
 -- What the tokens of an attribute's statement make of the attributes.
-use Rattle.std.proofs.Common.{◌≡◌, ℕ, Bool, true, false, List, [], ◌∷◌, ◌++◌, refl, sym, ap, ◌∙◌, subst, Result, Ok, Err, if◌then◌else◌}
+use Rattle.std.proofs.Common.{◌≡◌, ℕ, Bool, true, false, List, [], ◌∷◌, ◌++◌, refl, sym, ap, ◌∙◌, Result, Ok, Err, if◌then◌else◌, arith, rules}
 use Rattle.std.specs.Prelude.{⊤}
 use Rattle.nc_base.specs.Names.{is_name as is_format_name}
-use Rattle.cdl_parse.proofs.Prelude.{Att, NcType, Version, value_of, values, completes, is_value_of, next, is_done, next_token, text_of, version_of, words, Cutter, word_value, Lexeme, is_mark, lexeme, Value, AttributeName, Equals, Separator, CdlKind, BadName, DuplicateName, value_first, add_att, add_constant, first_type, in_turn, type_said, unless, when, FailsRead, Leaves, ReadError, OutOfMemory, Fault, has_attribute, att_read, att_said, constants_said}
+use Rattle.cdl_parse.proofs.Prelude.{Att, NcType, Version, value_of, values, completes, is_value_of, next, is_done, next_token, text_of, version_of, words, Cutter, word_value, Lexeme, is_mark, lexeme, Value, AttributeName, Equals, Separator, CdlKind, BadName, DuplicateName, value_first, add_att, add_constant, first_type, in_turn, type_said, unless, when, FailsRead, Leaves, ReadError, has_attribute, att_read, att_said}
 use Rattle.cdl_statements.specs.code.DueTokens.{is_name}
 use Rattle.cdl_statements.specs.declared.due.Due.TheVariants.{Value as DueValue}
 use Rattle.cdl_meaning.specs.State.{◌>>=◌}
@@ -47,20 +47,13 @@ said v ws es cs rest n e l a b ty atts first second third on is =
     ap (λ all. att_said v all atts) here ∙ name_first_checked (word_value n.bytes) (values v cs) atts ∙ ap (λ t. checked atts (word_value n.bytes) t (in_turn (add_constant t) [] (values v cs))) typed
 
 pub fails_then : {A B : Type 0} (e : ReadError) (r : Result A CdlKind) (f : A → Result B CdlKind) → FailsRead e r → FailsRead e (r >>= f)
-fails_then OutOfMemory r f h = tt
-fails_then (Fault k) r f h = rw (h) refl
+fails_then e r f h = grind arith
 
 pub name_fails : (e : ReadError) (n : Lexeme) (rest ws : List Lexeme) (v : Version) (atts : List Att) → ws ≡ n ∷ rest → FailsRead e (unless (is_format_name (word_value n.bytes)) BadName) → FailsRead e (att_said v ws atts)
-name_fails e n rest ws v atts first h =
-    let cs = constants_said v (n ∷ rest) in
-    subst (λ (r : Result (List Att) CdlKind). FailsRead e r) (sym (ap (λ all. att_said v all atts) first ∙ name_first_checked (word_value n.bytes) cs atts))
-    (fails_then e (unless (is_format_name (word_value n.bytes)) BadName) (λ u. when (has_attribute (word_value n.bytes) atts) DuplicateName >>= (λ w. with_values atts (word_value n.bytes) (first_type cs) (in_turn (add_constant (first_type cs)) [] cs))) h)
+name_fails e n rest ws v atts first h = search (rules, name_first_checked, fails_then)
 
 pub refused : {A : Type 0} (after : A) (r : Result ⊤ ReadError) (e : ReadError) (read : Result A CdlKind) → r ≡ Err e → FailsRead e read → Leaves after r read
-refused after (Ok u) e read is h = cc
-refused after (Err OutOfMemory) e read is h = tt
-refused after (Err (Fault k)) OutOfMemory read is h = cc
-refused after (Err (Fault k)) (Fault m) read is h = h ∙ ap Err (let same : m ≡ k = cc in same)
+refused after r e read h h2 = grind arith
 
 -- the same, as a cutter reads it
 pub read_as : (start equals first : Cutter) (a b : Bool) (n l : Lexeme) (ty : NcType) (v : Version) (atts : List Att) (name : List ℕ) →

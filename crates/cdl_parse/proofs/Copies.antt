@@ -1,5 +1,5 @@
 -- Copies of bytes, one after the other.
-use Rattle.std.proofs.Common.{◌≡◌, ℕ, zero, suc, ◌+◌, List, ◌++◌, refl, sym, ap, ◌∙◌, append_assoc, append-nil, replicate, arith}
+use Rattle.std.proofs.Common.{◌≡◌, ℕ, zero, suc, ◌+◌, List, ◌++◌, refl, sym, ap, ◌∙◌, append_assoc, append-nil, replicate, rules}
 use Rattle.std.specs.List.{concat, flat_map}
 
 more_copies : (n : ℕ) (xs : List ℕ) → concat (replicate n xs) ++ xs ≡ concat (replicate (suc n) xs)
@@ -8,9 +8,7 @@ more_copies (suc n) xs = append_assoc xs (concat (replicate n xs)) xs ∙ ap (λ
 
 -- one copy more
 pub copy_added : (before so_far after xs : List ℕ) (n : ℕ) → so_far ≡ before ++ concat (replicate n xs) → after ≡ so_far ++ xs → after ≡ before ++ concat (replicate (n + 1) xs)
-copy_added before so_far after xs n was is =
-    is ∙ ap (λ ys. ys ++ xs) was ∙ append_assoc before (concat (replicate n xs)) xs ∙
-    ap (λ ys. before ++ ys) (more_copies n xs ∙ ap (λ m. concat (replicate m xs)) (let e : suc n ≡ n + 1 = omega arith in e))
+copy_added before so_far after xs n was is = search (rules, append_assoc, more_copies)
 
 pub copies_of : {X : Type 0} (f : X → List ℕ) (x : X) (n : ℕ) → concat (replicate n (f x)) ≡ flat_map f (replicate n x)
 copies_of f x zero = refl

@@ -1,6 +1,6 @@
 -- A run over the data section, statement by statement.
-use Rattle.std.proofs.Common.{◌≡◌, ℕ, false, List, [], length, refl, sym, ◌∙◌, subst, Ok, replicate}
-use Rattle.cdl_parse.proofs.Prelude.{Var, after, is_done, pieces_left, text_of, version_of, words, Cutter, Values, piece_read, run, State, Draft, AllList, unlisted_drafts, AllSuit, names_of, Target, IsInDataSection}
+use Rattle.std.proofs.Common.{◌≡◌, ℕ, false, List, [], length, sym, ◌∙◌, subst, Ok, replicate, rules}
+use Rattle.cdl_parse.proofs.Prelude.{Var, after, is_done, pieces_left, text_of, version_of, words, Cutter, Values, piece_read, run, State, Draft, unlisted_drafts, AllSuit, names_of, Target, IsInDataSection}
 use Rattle.cdl_parse.proofs.DataStates.{none_listed}
 use Rattle.cdl_parse.proofs.RunSteps.{goes_on}
 
@@ -12,12 +12,7 @@ SoFar vars s start ts arrays c =
 
 pub none_so_far : (vars : List Var) (s : State) (start : Cutter) (ts : List Target) (arrays : List (List ℕ)) → s.section ≡ Values → AllSuit s.dims ts s.drafts → s.drafts ≡ unlisted_drafts vars → arrays ≡ replicate (length ts) [] →
     SoFar vars s start ts arrays start
-none_so_far vars s start ts arrays section suit is empty =
-    let listed = none_listed s.dims vars ts (subst (AllSuit s.dims ts) is suit) in (
-      s.drafts,
-      record { section = section; named = refl; suit = suit; lists = subst (λ arrays. AllList s.dims vars arrays s.drafts) (sym empty) (subst (AllList s.dims vars (replicate (length ts) [])) (sym is) listed) },
-      refl,
-    )
+none_so_far vars s start ts arrays section suit is empty = search (rules, none_listed)
 
 module _ (start c : Cutter) (text : text_of c ≡ text_of start) (version : version_of c ≡ version_of start) (more : is_done c ≡ false) where
   -- a statement more

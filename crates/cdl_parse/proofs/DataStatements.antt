@@ -1,5 +1,5 @@
 -- The statements of the data section, one by one.
-use Rattle.std.proofs.Common.{◌≡◌, ℕ, true, List, [], ◌∷◌, Result, slice_set, refl, sym, ap, ◌∙◌, subst, Some, Ok, Err}
+use Rattle.std.proofs.Common.{◌≡◌, ℕ, true, List, Result, slice_set, sym, ap, ◌∙◌, subst, Some, Ok, arith}
 use Rattle.cdl_parse.proofs.Prelude.{Var, Version, Lexeme, statement_said, Cutter, Values, Closed, piece_read, Draft, State, act, AllList, Means, begins_brace, name_first, names_of, with_listing, position_of, Target, ReadError, Closes, ReadsOne, IsInDataSection, given_at}
 use Rattle.cdl_parse.specs.declared.data_section.DataStatement.{DataStatement}
 use Rattle.cdl_parse.proofs.DataStates.{listed_at, names_are}
@@ -7,13 +7,11 @@ use Rattle.cdl_parse.proofs.DataStates.{listed_at, names_are}
 -- the statement that begins with the closing brace is that brace
 pub closing : (v : Version) (s : State) (ws : List Lexeme) → s.section ≡ Values → begins_brace ws ≡ true → piece_read v s ws ≡ act v s (statement_said v s.section ws) → piece_read v s ws ≡ Ok (record s { section = Closed })
 unfolding act statement_said
-closing v s [] section brace read = cc
-closing v s (l ∷ ls) section brace read = read ∙ ap (λ at. act v s (statement_said v at (l ∷ ls))) section ∙ rw (brace) refl
+closing v s ws h h2 h3 = grind arith
 
 -- what the call that reads a brace answers is what the call that reads any statement does
 pub closed : (vars : List Var) (start : Cutter) (s : State) (ts : List Target) (arrays : List (List ℕ)) (names : List (List ℕ)) (result : Result DataStatement ReadError) → IsInDataSection vars names ts arrays s → Closes start s result → ReadsOne vars start s ts arrays result
-closed vars start s ts arrays names (Ok passed) stands h = rw (h.0) (h.1, stands.lists)
-closed vars start s ts arrays names (Err e) stands h = h
+closed vars start s ts arrays names result h h2 = grind arith
 
 -- a statement that lists these bytes of the variable at this position
 pub takes : (vars : List Var) (v : Version) (s : State) (ws : List Lexeme) (ts : List Target) (arrays : List (List ℕ)) (array : List ℕ) (k : ℕ) (names : List (List ℕ)) → IsInDataSection vars names ts arrays s →

@@ -1,22 +1,18 @@
 -- What the statements of the data section make of what is listed.
-use Rattle.std.proofs.Common.{◌≡◌, ℕ, zero, suc, ◌+◌, ◌<◌, ◌≤◌, Bool, true, false, List, [], ◌∷◌, length, refl, ap, ◌∙◌, subst, arith, Option, Some, if◌then◌else◌, map, replicate, slice_index_or, slice_set}
+use Rattle.std.proofs.Common.{◌≡◌, ℕ, zero, suc, ◌+◌, ◌<◌, ◌≤◌, Bool, true, false, List, [], ◌∷◌, length, refl, ap, ◌∙◌, arith, Option, Some, if◌then◌else◌, map, replicate, slice_index_or, slice_set}
 use Rattle.cdl_parse.proofs.Prelude.{flat_map, position_from, bytes_eq, bytes_of_number, Dim, Var, Draft, Listing, capacity_of, values_in, AllList, Lists, unlisted_drafts, AllSuit, Suits, listing_bytes, names_of, with_listing, position_of, Target, given_at}
 
 -- the drafts have the names of their variables
 pub names_are : (dims : List Dim) (vars : List Var) (arrays : List (List ℕ)) (ds : List Draft) → AllList dims vars arrays ds → names_of ds ≡ map (λ (var : Var). var.name) vars
 names_are dims [] [] [] h = refl
-names_are dims [] [] (d ∷ ds) h = absurd h
-names_are dims [] (a ∷ arrays) ds h = absurd h
-names_are dims (var ∷ vars) [] ds h = absurd h
-names_are dims (var ∷ vars) (a ∷ arrays) [] h = absurd h
 names_are dims (var ∷ vars) (a ∷ arrays) (d ∷ ds) h = ap (λ n. n ∷ names_of ds) (ap (λ (v : Var). v.name) h.0.is) ∙ ap (λ ns. var.name ∷ ns) (names_are dims vars arrays ds h.1)
+names_are dims _ _ _ h = absurd h
 
 -- before the section nothing is listed
 pub none_listed : (dims : List Dim) (vars : List Var) (ts : List Target) → AllSuit dims ts (unlisted_drafts vars) → AllList dims vars (replicate (length ts) []) (unlisted_drafts vars)
 none_listed dims [] [] h = tt
-none_listed dims [] (t ∷ ts) h = absurd h
-none_listed dims (var ∷ vars) [] h = absurd h
 none_listed dims (var ∷ vars) (t ∷ ts) h = (record { is = refl; bytes = refl }, none_listed dims vars ts h.1)
+none_listed dims _ _ h = absurd h
 
 module _ (dims : List Dim) (name : List ℕ) (listing : Listing) where
   first_lists : (var : Var) (a : List ℕ) (d : Draft) → Lists dims var a d → Lists dims var (flat_map (bytes_of_number d.var.ty) (values_in (capacity_of dims d.var) listing)) (record d { listed = Some listing })
@@ -51,10 +47,7 @@ module _ (dims : List Dim) (name : List ℕ) (listing : Listing) where
 
   pub listed_at : (vars : List Var) (arrays : List (List ℕ)) (ts : List Target) (ds : List Draft) (k : ℕ) → AllList dims vars arrays ds → AllSuit dims ts ds → position_of (names_of ds) name ≡ Some k →
       AllList dims vars (slice_set arrays k (listing_bytes dims name listing ds)) (with_listing name listing ds) × AllSuit dims (given_at k ts) (with_listing name listing ds)
-  listed_at vars arrays ts ds k h suit is =
-      let found = found_at 0 vars arrays ts ds k h suit is in
-      let same : found.0 ≡ k = omega (arith, found.1) in
-      subst (λ j. AllList dims vars (slice_set arrays j (listing_bytes dims name listing ds)) (with_listing name listing ds) × AllSuit dims (given_at j ts) (with_listing name listing ds)) same (found.2, found.3)
+  listed_at vars arrays ts ds k h suit is = grind (arith, found_at 0 vars arrays ts ds k h suit is)
 
 -- the target at a position, written
 pub given_is : (ts : List Target) (i : ℕ) (t d : Target) → i < length ts → t ≡ slice_index_or ts i d → slice_set ts i (record t { given = true }) ≡ given_at i ts

@@ -1,6 +1,6 @@
 -- A declaration, token by token.
-use Rattle.std.proofs.Common.{◌≡◌, ℕ, Bool, true, false, List, [], ◌∷◌, ◌++◌, length, drop, refl, sym, ap, ◌∙◌, subst, Option, None, Some, Result, Ok, Err, IfOk, ◌&&◌, ◌||◌, not, nat_lt, if◌then◌else◌}
-use Rattle.cdl_parse.proofs.Prelude.{false≢true, position, bytes_eq, is_name, is_record_dim, Dim, NcType, Version, Declaration, declaration_said, with_name, completes, is_whole, next, word_value, Lexeme, is_mark, is_mark_kind, Due, AfterVariable, VariableName, CdlKind, BadName, BadShape, DuplicateName, UnknownDimension, Draft, add_dimid, add_var, some_or, in_turn, type_of, unless, when, ContinuesRead, FailsRead, Leaves, ReadError, OutOfMemory, Fault, added, continued, declared, is_open_after, next_dimid, read_on, type_first, with_begun, ReadsDimension, draft, is_variable_name, with_new_draft, duplicate_name_or, PartialVariable}
+use Rattle.std.proofs.Common.{◌≡◌, ℕ, Bool, true, false, List, [], ◌∷◌, ◌++◌, drop, refl, sym, ap, ◌∙◌, subst, Result, Ok, Err, IfOk, ◌&&◌, ◌||◌, not, if◌then◌else◌, arith, rules}
+use Rattle.cdl_parse.proofs.Prelude.{false≢true, is_name, Dim, NcType, Version, Declaration, declaration_said, with_name, completes, is_whole, next, word_value, Lexeme, is_mark, is_mark_kind, Due, AfterVariable, VariableName, CdlKind, BadName, DuplicateName, Draft, add_dimid, add_var, some_or, in_turn, type_of, unless, when, ContinuesRead, FailsRead, Leaves, ReadError, added, continued, declared, is_open_after, next_dimid, read_on, type_first, with_begun, ReadsDimension, draft, is_variable_name, with_new_draft, duplicate_name_or, PartialVariable}
 use Rattle.std.specs.Prelude.{⊤}
 use Rattle.cdl_statements.specs.code.DueTokens.{is_name as is_name_token}
 use Rattle.cdl_statements.proofs.VariableNames.{name_kind}
@@ -25,15 +25,7 @@ module _ (dims : List Dim) (ty : NcType) (drafts : List Draft) where
   variable_first : (name : List ℕ) (rest : Declaration) →
       in_turn (add_var dims ty) drafts (with_name false name rest).variables ≡ (unless (is_name name) BadName >>= (λ u. continued dims ty drafts name [] rest))
   unfolding add_var
-  variable_first name rest = by (is_name name) (is_variable_name name drafts) (in_turn (add_dimid dims) [] rest.dimensions)
-    where
-      by : (named taken : Bool) (ids : Result (List ℕ) CdlKind) →
-          (elim (unless named BadName >>= (λ u. when taken DuplicateName >>= (λ w. ids >>= (λ all. Ok (drafts ++ draft name all ty [] ∷ []))))) as (λ r. Result (List Draft) CdlKind) [ Ok t ↦ in_turn (add_var dims ty) t rest.variables | Err e ↦ Err e ]) ≡
-          (unless named BadName >>= (λ u. when taken DuplicateName >>= (λ w. ids >>= (λ all. in_turn (add_var dims ty) (drafts ++ draft name all ty [] ∷ []) rest.variables))))
-      by false taken ids = refl
-      by true true ids = refl
-      by true false (Ok ids) = refl
-      by true false (Err e) = refl
+  variable_first name rest = search (rules, named)
 
   added_first : (l : Lexeme) (ls : List Lexeme) → is_mark_kind l.kind ≡ false →
       added dims ty drafts (l ∷ ls) ≡ (unless (is_name (word_value l.bytes)) BadName >>= (λ u. continued dims ty drafts (word_value l.bytes) [] (declaration_said false ls)))
@@ -61,18 +53,7 @@ module _ (dims : List Dim) (ty : NcType) (drafts : List Draft) where
 
   id_first : (ids name : List ℕ) → add_dimid dims ids name ≡ (next_dimid dims ids name >>= (λ k. Ok (ids ++ k ∷ [])))
   unfolding add_dimid
-  id_first ids name = by (is_name name) (position (λ (d : Dim). bytes_eq d.name name) dims)
-    where
-      last : (k : ℕ) (late : Bool) → (when late BadShape >>= (λ u. Ok (ids ++ k ∷ []))) ≡ ((when late BadShape >>= (λ u. Ok k)) >>= (λ m. Ok (ids ++ m ∷ [])))
-      last k true = refl
-      last k false = refl
-
-      by : (named : Bool) (at : Option ℕ) →
-          (unless named BadName >>= (λ u. some_or at UnknownDimension >>= (λ k. when (nat_lt 0 (length ids) && is_record_dim dims k) BadShape >>= (λ w. Ok (ids ++ k ∷ []))))) ≡
-          ((unless named BadName >>= (λ u. some_or at UnknownDimension >>= (λ k. when (nat_lt 0 (length ids) && is_record_dim dims k) BadShape >>= (λ w. Ok k)))) >>= (λ m. Ok (ids ++ m ∷ [])))
-      by false at = refl
-      by true None = refl
-      by true (Some k) = last k (nat_lt 0 (length ids) && is_record_dim dims k)
+  id_first ids name = search (rules, named, some_or)
 
   -- the same, where the name is new
   abbrev checked : List ℕ → Declaration → Result (List ℕ) CdlKind → Result (List Draft) CdlKind
@@ -86,12 +67,7 @@ module _ (dims : List Dim) (ty : NcType) (drafts : List Draft) where
       dimension_first name ids word rest ∙ ap (λ (r : Result ℕ CdlKind). checked name rest (r >>= (λ m. Ok (ids ++ m ∷ [])))) is ∙ ap (λ all. continued dims ty drafts name all rest) (sym e)
 
   pub dimension_fails : (name ids word : List ℕ) (e : ReadError) (rest : Declaration) → FailsRead e (next_dimid dims ids word) → FailsRead (duplicate_name_or (is_variable_name name drafts) e) (continued dims ty drafts name ids (with_name true word rest))
-  dimension_fails name ids word e rest h =
-      subst (FailsRead (duplicate_name_or (is_variable_name name drafts) e)) (sym (dimension_first name ids word rest)) (fails_after (is_variable_name name drafts) e (with_more name rest (next_dimid dims ids word >>= (λ k. Ok (ids ++ k ∷ [])))) (by e h))
-    where
-      by : (e : ReadError) → FailsRead e (next_dimid dims ids word) → FailsRead e (with_more name rest (next_dimid dims ids word >>= (λ k. Ok (ids ++ k ∷ []))))
-      by OutOfMemory h = tt
-      by (Fault k) h = ap (λ (r : Result ℕ CdlKind). with_more name rest (r >>= (λ m. Ok (ids ++ m ∷ [])))) h
+  dimension_fails name ids word e rest h = grind (arith, dimension_first name ids word rest, fails_after)
 
   -- the next variable, or no further one
   pub none_left : (name ids : List ℕ) (parens : Bool) → continued dims ty drafts name ids (declaration_said parens []) ≡ with_new_draft drafts name ids ty
@@ -99,41 +75,17 @@ module _ (dims : List Dim) (ty : NcType) (drafts : List Draft) where
   none_left name ids parens = refl
 
   one_more : (name ids : List ℕ) (more : List Draft) (rest : Declaration) → rest.dimensions ≡ [] → with_new_draft drafts name ids ty ≡ Ok more → continued dims ty drafts name ids rest ≡ in_turn (add_var dims ty) more rest.variables
-  one_more name ids more rest none h = by (is_variable_name name drafts) h
-    where
-      by : (taken : Bool) → (when taken DuplicateName >>= (λ u. Ok (drafts ++ draft name ids ty [] ∷ []))) ≡ Ok more →
-          (when taken DuplicateName >>= (λ u. in_turn (add_dimid dims) ids rest.dimensions >>= (λ all. in_turn (add_var dims ty) (drafts ++ draft name all ty [] ∷ []) rest.variables))) ≡ in_turn (add_var dims ty) more rest.variables
-      by true h = cc
-      by false h =
-          ap (λ ns. in_turn (add_dimid dims) ids ns >>= (λ all. in_turn (add_var dims ty) (drafts ++ draft name all ty [] ∷ []) rest.variables)) none ∙
-          ap (λ all. in_turn (add_var dims ty) all rest.variables) (let same : drafts ++ draft name ids ty [] ∷ [] ≡ more = cc in same)
+  one_more name ids more rest none h = search rules
 
   pub put_fails : (name ids : List ℕ) (rest : Declaration) (e : ReadError) → rest.dimensions ≡ [] → FailsRead e (with_new_draft drafts name ids ty) → FailsRead e (continued dims ty drafts name ids rest)
-  put_fails name ids rest OutOfMemory none h = tt
-  put_fails name ids rest (Fault k) none h = by (is_variable_name name drafts) h
-    where
-      by : (taken : Bool) → (when taken DuplicateName >>= (λ u. Ok (drafts ++ draft name ids ty [] ∷ []))) ≡ Err k →
-          (when taken DuplicateName >>= (λ u. in_turn (add_dimid dims) ids rest.dimensions >>= (λ all. in_turn (add_var dims ty) (drafts ++ draft name all ty [] ∷ []) rest.variables))) ≡ Err k
-      by true h = h
-      by false h = cc
+  put_fails name ids rest e h h2 = grind arith
 
 -- ---- a variable that is begun
 
 module _ (dims : List Dim) (drafts : List Draft) where
   pub dimension_on : (begun : PartialVariable) (l : Lexeme) (ls : List Lexeme) (r : Result PartialVariable ReadError) → is_mark_kind l.kind ≡ false → begun.is_open ≡ true → IfOk r (λ b. b.is_open ≡ true) →
       ReadsDimension dims drafts begun l.bytes r → ContinuesRead (λ (b : PartialVariable). read_on dims drafts b ls) r (read_on dims drafts begun (l ∷ ls))
-  dimension_on begun l ls r off opened is reads = by r is (reads (declaration_said true ls))
-    where
-      here : read_on dims drafts begun (l ∷ ls) ≡ continued dims begun.ty drafts begun.name.items begun.dimids.items (with_name true (word_value l.bytes) (declaration_said true ls))
-      here =
-          ap (λ p. continued dims begun.ty drafts begun.name.items begun.dimids.items (declaration_said p (l ∷ ls))) opened ∙ ap (continued dims begun.ty drafts begun.name.items begun.dimids.items) (said_name true l ls off)
-
-      by : (r : Result PartialVariable ReadError) → IfOk r (λ b. b.is_open ≡ true) →
-          ContinuesRead (λ (b : PartialVariable). continued dims b.ty drafts b.name.items b.dimids.items (declaration_said true ls)) r (continued dims begun.ty drafts begun.name.items begun.dimids.items (with_name true (word_value l.bytes) (declaration_said true ls))) →
-          ContinuesRead (λ (b : PartialVariable). read_on dims drafts b ls) r (read_on dims drafts begun (l ∷ ls))
-      by (Ok b) is h = here ∙ h ∙ ap (λ p. continued dims b.ty drafts b.name.items b.dimids.items (declaration_said p ls)) (sym is)
-      by (Err OutOfMemory) is h = tt
-      by (Err (Fault k)) is h = here ∙ h
+  dimension_on begun l ls r off opened is reads = search (rules, read_on, said_name)
 
   -- the next variable
   next_is : (begun : PartialVariable) (l : Lexeme) (ls : List Lexeme) → is_mark_kind l.kind ≡ false → begun.is_open ≡ false →
@@ -143,9 +95,7 @@ module _ (dims : List Dim) (drafts : List Draft) where
 
   pub next_variable : (begun : PartialVariable) (more : List Draft) (l : Lexeme) (ls : List Lexeme) → is_mark_kind l.kind ≡ false → begun.is_open ≡ false → with_begun drafts begun ≡ Ok more →
       read_on dims drafts begun (l ∷ ls) ≡ added dims begun.ty more (l ∷ ls)
-  next_variable begun more l ls off closed is =
-      next_is begun l ls off closed ∙ one_more dims begun.ty drafts begun.name.items begun.dimids.items more (with_name false (word_value l.bytes) (declaration_said false ls)) refl is ∙
-      sym (ap (λ (d : Declaration). in_turn (add_var dims begun.ty) more d.variables) (said_name false l ls off))
+  next_variable begun more l ls off closed is = search (rules, next_is, one_more, said_name)
 
   pub next_fails : (begun : PartialVariable) (l : Lexeme) (ls : List Lexeme) (e : ReadError) → is_mark_kind l.kind ≡ false → begun.is_open ≡ false → FailsRead e (with_begun drafts begun) → FailsRead e (read_on dims drafts begun (l ∷ ls))
   next_fails begun l ls e off closed h =
@@ -153,17 +103,14 @@ module _ (dims : List Dim) (drafts : List Draft) where
 
   pub all_read : (ws : List Lexeme) (start after : List Draft) (l : Lexeme) (before begun : PartialVariable) (ends : Bool) (rest : List Lexeme) → ws ≡ l ∷ (if ends then [] else rest) → ends ≡ true →
       read_on dims start before (l ∷ []) ≡ read_on dims drafts begun [] → (r : Result ⊤ ReadError) → Leaves after r (with_begun drafts begun) → Leaves after r (read_on dims start before ws)
-  all_read ws start after l before begun ends rest first on reads r put =
-      subst (Leaves after r)
-      (sym (ap (read_on dims start before) (first ∙ ap (λ e. l ∷ (if e then [] else rest)) on) ∙ reads ∙ none_left dims begun.ty drafts begun.name.items begun.dimids.items begun.is_open)) put
+  all_read ws start after l before begun ends rest first on reads r put = search (rules, read_on, none_left)
 
 -- ---- the shape
 
 -- with what is due a statement isn't whole, so that it goes on after its first token
 pub goes_on : (due : Due) (l : Lexeme) (ends : Bool) (ws all : List Lexeme) → is_whole due ≡ false → all ≡ l ∷ (if ends then [] else ws) → completes due (drop 1 all) ≡ true → (ends ≡ false) × (drop 1 all ≡ ws)
 unfolding completes
-goes_on due l true ws all unfinished first on = absurd (false≢true (sym unfinished ∙ sym (ap (λ xs. completes due (drop 1 xs)) first) ∙ on))
-goes_on due l false ws all unfinished first on = (refl, ap (drop 1) first)
+goes_on due l ends ws all h h2 h3 = grind (arith, false≢true)
 
 pub goes_name : (l : Lexeme) (ends : Bool) (ws all : List Lexeme) → all ≡ l ∷ (if ends then [] else ws) → completes VariableName all ≡ true → (ends ≡ false) × (is_name_token l ≡ true) × (completes AfterVariable ws ≡ true)
 unfolding next

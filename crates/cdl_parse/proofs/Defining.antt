@@ -1,7 +1,7 @@
 -- What the statements before the data section make of the state.
-use Rattle.std.proofs.Common.{◌≡◌, Bool, true, false, List, [], ◌∷◌, drop, refl, sym, ap, ◌∙◌, subst, Option, None, Some, is_some, Result, Ok, Err, if◌then◌else◌}
+use Rattle.std.proofs.Common.{◌≡◌, Bool, true, false, List, [], ◌∷◌, drop, refl, sym, ap, ◌∙◌, Option, None, Some, is_some, Result, Ok, Err, if◌then◌else◌, arith, rules}
 use Rattle.std.specs.Prelude.{⊤}
-use Rattle.cdl_parse.proofs.Prelude.{false≢true, Att, Dim, Version, attribute_said, declaration_said, dimensions_said, mark_said, other_said, statement_said, variable_said, is_done, next_token, text_of, words, Cutter, completes, opens_section_after, is_whole, next, only, word_value, Lexeme, lexeme, is_mark, is_word_kind, Brace, End, Statement, Typed, first_bad, section_of, shape, Due, CdlKind, Syntax, Section, Unopened, Globals, Dimensions, Variables, Values, Closed, Ended, piece_read, State, Draft, act, add_att, add_dim, add_var, at_variable, in_turn, type_of, with_att, FailsRead, Leaves, name_first, ReadError, OutOfMemory, Fault, constants_said, declared, Makes, after_mark, is_defining, is_over, state_of}
+use Rattle.cdl_parse.proofs.Prelude.{false≢true, Att, Dim, Version, attribute_said, dimensions_said, mark_said, other_said, statement_said, variable_said, is_done, next_token, text_of, words, Cutter, completes, opens_section_after, is_whole, next, only, word_value, Lexeme, lexeme, is_mark, is_word_kind, Brace, End, Statement, first_bad, section_of, shape, Due, CdlKind, Syntax, Section, Unopened, Globals, Dimensions, Variables, Closed, Ended, piece_read, State, Draft, act, add_att, add_dim, at_variable, in_turn, with_att, Leaves, name_first, ReadError, OutOfMemory, Fault, constants_said, declared, Makes, after_mark, is_defining, is_over, state_of}
 use Rattle.cdl_statements.specs.code.DueTokens.{is_name}
 use Rattle.cdl_statements.specs.Shapes.{Declared}
 use Rattle.cdl_statements.specs.declared.due.Due.TheVariants as dues
@@ -16,13 +16,7 @@ opens v s l ls ws is = rw (is) refl
 
 said_brace : (v : Version) (section : Section) (l : Lexeme) (ls : List Lexeme) → is_defining section ≡ true → is_mark 0x7d l ≡ true → statement_said v section (l ∷ ls) ≡ Brace
 unfolding statement_said
-said_brace v Globals l ls inside on = rw (on) refl
-said_brace v Dimensions l ls inside on = rw (on) refl
-said_brace v Variables l ls inside on = rw (on) refl
-said_brace v Unopened l ls inside on = cc
-said_brace v Values l ls inside on = cc
-said_brace v Closed l ls inside on = cc
-said_brace v Ended l ls inside on = cc
+said_brace v section l ls h h2 = grind arith
 
 pub closes : (v : Version) (s : State) (l : Lexeme) (ls ws : List Lexeme) → is_defining s.section ≡ true → is_mark 0x7d l ≡ true → ws ≡ l ∷ ls → act v s (statement_said v s.section ws) ≡ Ok (record s { section = Closed })
 unfolding act
@@ -30,32 +24,16 @@ closes v s l ls ws inside on is = ap (λ all. act v s (statement_said v s.sectio
 
 said_global : (v : Version) (section : Section) (l : Lexeme) (ls : List Lexeme) → is_defining section ≡ true → is_mark 0x7d l ≡ false → is_mark 0x3a l ≡ true → statement_said v section (l ∷ ls) ≡ attribute_said v None ls
 unfolding statement_said
-said_global v Globals l ls inside off on = rw (off) (rw (on) refl)
-said_global v Dimensions l ls inside off on = rw (off) (rw (on) refl)
-said_global v Variables l ls inside off on = rw (off) (rw (on) refl)
-said_global v Unopened l ls inside off on = cc
-said_global v Values l ls inside off on = cc
-said_global v Closed l ls inside off on = cc
-said_global v Ended l ls inside off on = cc
+said_global v section l ls h h2 h3 = grind arith
 
 next_global : (section : Section) (l : Lexeme) → is_defining section ≡ true → is_mark 0x7d l ≡ false → is_mark 0x3a l ≡ true → next (dues.First section) l ≡ dues.AttributeName
 unfolding next
-next_global Globals l inside off on = rw (off) (rw (on) refl)
-next_global Dimensions l inside off on = rw (off) (rw (on) refl)
-next_global Variables l inside off on = rw (off) (rw (on) refl)
-next_global Unopened l inside off on = cc
-next_global Values l inside off on = cc
-next_global Closed l inside off on = cc
-next_global Ended l inside off on = cc
+next_global section l h h2 h3 = grind arith
 
 -- a statement that has its shape goes on after a token after which another one is due
 pub goes_to_due : (due following : Due) (l : Lexeme) (ends : Bool) (ws all : List Lexeme) → next due l ≡ following → is_whole following ≡ false → all ≡ l ∷ (if ends then [] else ws) → completes due all ≡ true → (ends ≡ false) × (completes following ws ≡ true)
 unfolding completes
-goes_to_due due following l ends ws all is unfinished first on = by ends (ap (λ d. completes d (if ends then [] else ws)) (sym is) ∙ sym (ap (completes due) first) ∙ on)
-  where
-    by : (ends : Bool) → completes following (if ends then [] else ws) ≡ true → (ends ≡ false) × (completes following ws ≡ true)
-    by true h = absurd (false≢true (sym unfinished ∙ h))
-    by false h = (refl, h)
+goes_to_due due following l ends ws all is unfinished first on = search (rules, false≢true)
 
 pub goes_global : (section : Section) (l : Lexeme) (ends : Bool) (ws all : List Lexeme) → is_defining section ≡ true → is_mark 0x7d l ≡ false → is_mark 0x3a l ≡ true → all ≡ l ∷ (if ends then [] else ws) → completes (dues.First section) all ≡ true →
     (ends ≡ false) × (completes dues.AttributeName ws ≡ true)
@@ -64,8 +42,7 @@ goes_global section l ends ws all inside off on first whole = goes_to_due (dues.
 -- an attribute of the dataset
 global_acts : (v : Version) (s : State) (ls : List Lexeme) → completes dues.AttributeName ls ≡ true → act v s (attribute_said v None ls) ≡ (add_att (name_first ls) (constants_said v ls) s.gatts >>= (λ atts. Ok (record s { gatts = atts })))
 unfolding act completes
-global_acts v s [] whole = cc
-global_acts v s (n ∷ ls) whole = refl
+global_acts v s ls h = grind arith
 
 pub makes_then : {A : Type 0} (after : A) (made : State) (f : A → Result State CdlKind) (r : Result ⊤ ReadError) (read : Result A CdlKind) → f after ≡ Ok made → Leaves after r read → Makes made r (read >>= f)
 makes_then {A = A} after made f (Ok u) read is h = ap (λ (q : Result A CdlKind). q >>= f) h ∙ is
@@ -76,33 +53,20 @@ pub makes_global : (v : Version) (s : State) (l : Lexeme) (ends : Bool) (ls ws :
     is_defining s.section ≡ true → is_mark 0x7d l ≡ false → is_mark 0x3a l ≡ true → ws ≡ l ∷ (if ends then [] else ls) → completes (dues.First s.section) ws ≡ true →
     Leaves gatts r (add_att (name_first ls) (constants_said v ls) s.gatts) → Makes (record s { gatts = gatts }) r (act v s (statement_said v s.section ws))
 makes_global v s l ends ls ws gatts r inside off on first whole h =
-    let past = goes_global s.section l ends ls ws inside off on first whole in
-    let here : ws ≡ l ∷ ls = first ∙ rw (past.0) refl in
-    let said = ap (statement_said v s.section) here ∙ said_global v s.section l ls inside off on in
-    subst (Makes (record s { gatts = gatts }) r) (sym (ap (act v s) said ∙ global_acts v s ls past.1))
-    (makes_then gatts (record s { gatts = gatts }) (λ atts. Ok (record s { gatts = atts })) r (add_att (name_first ls) (constants_said v ls) s.gatts) refl h)
+    grind (arith, goes_global s.section l ends ls ws inside off on first whole, said_global v s.section l ls inside off on, global_acts v s ls, name_first ls, makes_then)
 
 pub said_other : (v : Version) (section : Section) (l : Lexeme) (ls : List Lexeme) → is_defining section ≡ true → is_mark 0x7d l ≡ false → is_mark 0x3a l ≡ false → statement_said v section (l ∷ ls) ≡ other_said v section l ls
 unfolding statement_said
-said_other v Globals l ls inside off other = rw (off) (rw (other) refl)
-said_other v Dimensions l ls inside off other = rw (off) (rw (other) refl)
-said_other v Variables l ls inside off other = rw (off) (rw (other) refl)
-said_other v Unopened l ls inside off other = cc
-said_other v Values l ls inside off other = cc
-said_other v Closed l ls inside off other = cc
-said_other v Ended l ls inside off other = cc
+said_other v section l ls h h2 h3 = grind arith
 
 -- the mark of a section
 mark_acts : (v : Version) (s : State) (o : Option Section) → act v s (mark_said o) ≡ Ok (record s { section = after_mark o })
 unfolding act
-mark_acts v s None = refl
-mark_acts v s (Some section) = refl
+mark_acts v s o = grind arith
 
 pub makes_first_mark : (v : Version) (s : State) (l : Lexeme) (ls ws : List Lexeme) → s.section ≡ Globals → is_mark 0x7d l ≡ false → is_mark 0x3a l ≡ false → ws ≡ l ∷ ls →
     act v s (statement_said v s.section ws) ≡ Ok (record s { section = after_mark (section_of l) })
-makes_first_mark v s l ls ws section off other is =
-    ap (λ all. act v s (statement_said v s.section all)) is ∙ ap (λ here. act v s (statement_said v here (l ∷ ls))) section ∙
-    ap (act v s) (said_other v Globals l ls refl off other) ∙ mark_acts v s (section_of l)
+makes_first_mark v s l ls ws section off other is = search (rules, said_other, mark_acts)
 
 -- ---- the section of the dimensions
 
@@ -116,18 +80,12 @@ makes_dimension_mark v s l ls ws off other on is =
 
 pub goes_dimensions : (l : Lexeme) (ls ws : List Lexeme) → is_mark 0x7d l ≡ false → is_mark 0x3a l ≡ false → opens_section_after Dimensions l ≡ false → ws ≡ l ∷ ls → completes (dues.First Dimensions) ws ≡ true → completes dues.DimensionName ws ≡ true
 unfolding completes next
-goes_dimensions l ls ws off other no-mark is whole =
-    ap (completes dues.DimensionName) is ∙
-    ap (λ d. completes d ls) (rw (off) (rw (other) (rw (no-mark) (let e : only (is_name l) dues.LengthEquals ≡ only (is_name l) dues.LengthEquals = refl in e)))) ∙
-    sym (ap (completes (dues.First Dimensions)) is) ∙ whole
+goes_dimensions l ls ws off other no-mark is whole = search rules
 
 pub makes_dimensions : (v : Version) (s : State) (l : Lexeme) (ls ws : List Lexeme) (dims : List Dim) (r : Result ⊤ ReadError) → is_mark 0x7d l ≡ false → is_mark 0x3a l ≡ false → opens_section_after Dimensions l ≡ false → ws ≡ l ∷ ls →
     Leaves dims r (in_turn (add_dim v) s.dims (dimensions_said v ws)) → Makes (record s { dims = dims }) r (act v s (statement_said v Dimensions ws))
 unfolding act
-makes_dimensions v s l ls ws dims r off other no-mark is h =
-    let said = ap (statement_said v Dimensions) is ∙ said_other v Dimensions l ls refl off other ∙ said_dimension v l ls false no-mark ∙ ap (λ all. Declared (dimensions_said v all)) (sym is) in
-    subst (Makes (record s { dims = dims }) r) (sym (ap (act v s) said))
-    (makes_then dims (record s { dims = dims }) (λ ds. Ok (record s { dims = ds })) r (in_turn (add_dim v) s.dims (dimensions_said v ws)) refl h)
+makes_dimensions v s l ls ws dims r off other no-mark is h = search (rules, said_other, said_dimension, makes_then)
 
 -- ---- the section of the variables
 
@@ -150,24 +108,13 @@ goes_declaration named section c rest ls off is whole =
     ap (completes dues.VariableName) is ∙ ap (λ d. completes d rest) (let e : next dues.VariableName c ≡ next (dues.AfterWord named section) c = rw (off) refl in e) ∙ sym (ap (completes (dues.AfterWord named section)) is) ∙ whole
 
 bind_twice : {A B C : Type 0} (r : Result A CdlKind) (f : A → Result B CdlKind) (g : B → Result C CdlKind) → (r >>= (λ x. f x >>= g)) ≡ ((r >>= f) >>= g)
-bind_twice (Ok a) f g = refl
-bind_twice (Err e) f g = refl
+bind_twice r f g = grind arith
 
 pub makes_declaration : (v : Version) (s : State) (l c : Lexeme) (rest ls ws : List Lexeme) (drafts : List Draft) (r : Result ⊤ ReadError) →
     is_mark 0x7d l ≡ false → is_mark 0x3a l ≡ false → is_mark 0x3a c ≡ false → ls ≡ c ∷ rest → ws ≡ l ∷ ls →
     Leaves drafts r (declared v s.dims s.drafts ws) → Makes (record s { drafts = drafts }) r (act v s (statement_said v Variables ws))
 unfolding act
-makes_declaration v s l c rest ls ws drafts r off other no-colon second first h =
-    let vs = (declaration_said false ls).variables in
-    let here : ws ≡ l ∷ c ∷ rest = first ∙ ap (λ all. l ∷ all) second in
-    let said : statement_said v Variables ws ≡ Typed l vs =
-    ap (statement_said v Variables) here ∙ said_variable v l c rest off other ∙ typed no-colon ∙ ap (λ all. Typed l (declaration_said false all).variables) (sym second) in
-    let last : List Draft → Result State CdlKind = λ ds. Ok (record s { drafts = ds }) in
-    subst (Makes (record s { drafts = drafts }) r) (sym (ap (act v s) said ∙ bind_twice (type_of v l) (λ ty. in_turn (add_var s.dims ty) s.drafts vs) last))
-    (makes_then drafts (record s { drafts = drafts }) last r (declared v s.dims s.drafts (l ∷ ls)) refl (subst (λ all. Leaves drafts r (declared v s.dims s.drafts all)) first h))
-  where
-    typed : is_mark 0x3a c ≡ false → variable_said v l (c ∷ rest) ≡ Typed l (declaration_said false (c ∷ rest)).variables
-    typed no-colon = rw (no-colon) refl
+makes_declaration v s l c rest ls ws drafts r off other no-colon second first h = search (rules, said_variable, bind_twice, makes_then)
 
 -- a colon comes second
 next_colon : (named section : Bool) (c : Lexeme) → is_mark 0x3a c ≡ true → named ≡ true → next (dues.AfterWord named section) c ≡ dues.AttributeName
@@ -177,8 +124,7 @@ next_colon named section c on is = rw (on) (rw (is) refl)
 said_attribute : (v : Version) (s : State) (l c : Lexeme) (ls : List Lexeme) → is_mark 0x3a c ≡ true → is_name l ≡ true → completes dues.AttributeName ls ≡ true →
     act v s (variable_said v l (c ∷ ls)) ≡ (at_variable (word_value l.bytes) (with_att (name_first ls) (constants_said v ls)) s.drafts >>= (λ drafts. Ok (record s { drafts = drafts })))
 unfolding act completes
-said_attribute v s l c [] on named whole = cc
-said_attribute v s l c (n ∷ ls) on named whole = rw (on) (rw (named) refl)
+said_attribute v s l c ls h h2 h3 = grind arith
 
 pub goes_attribute : (l c : Lexeme) (ls rest : List Lexeme) → is_mark 0x3a c ≡ true → is_name l ≡ true → ls ≡ c ∷ rest → completes (dues.AfterWord (is_name l) (opens_section_after Variables l)) ls ≡ true → completes dues.AttributeName rest ≡ true
 unfolding completes
@@ -188,21 +134,12 @@ pub makes_attribute : (v : Version) (s : State) (l c : Lexeme) (rest ls ws : Lis
     is_mark 0x7d l ≡ false → is_mark 0x3a l ≡ false → is_mark 0x3a c ≡ true → is_name l ≡ true → ls ≡ c ∷ rest → ws ≡ l ∷ ls → completes (dues.AfterWord (is_name l) (opens_section_after Variables l)) ls ≡ true →
     Leaves drafts r (at_variable (name_first ws) (with_att (name_first (drop 2 ws)) (constants_said v (drop 2 ws))) s.drafts) → Makes (record s { drafts = drafts }) r (act v s (statement_said v Variables ws))
 makes_attribute v s l c rest ls ws drafts r off other on named second first whole h =
-    let here : ws ≡ l ∷ c ∷ rest = first ∙ ap (λ all. l ∷ all) second in
-    let said = ap (statement_said v Variables) here ∙ said_variable v l c rest off other in
-    let read : Result (List Draft) CdlKind = at_variable (word_value l.bytes) (with_att (name_first rest) (constants_said v rest)) s.drafts in
-    subst (Makes (record s { drafts = drafts }) r) (sym (ap (act v s) said ∙ said_attribute v s l c rest on named (goes_attribute l c ls rest on named second whole)))
-    (makes_then drafts (record s { drafts = drafts }) (λ ds. Ok (record s { drafts = ds })) r read refl
-    (subst (Leaves drafts r) (ap (λ (all : List Lexeme). at_variable (name_first all) (with_att (name_first (drop 2 all)) (constants_said v (drop 2 all))) s.drafts) here) h))
+    search (rules, said_variable, name_first, said_attribute, goes_attribute, makes_then)
 
 pub makes_variable_mark : (v : Version) (s : State) (l c : Lexeme) (rest ls ws : List Lexeme) →
     is_mark 0x7d l ≡ false → is_mark 0x3a l ≡ false → is_mark 0x3a c ≡ true → is_name l ≡ false → ls ≡ c ∷ rest → ws ≡ l ∷ ls →
     act v s (statement_said v Variables ws) ≡ Ok (record s { section = after_mark (section_of l) })
-makes_variable_mark v s l c rest ls ws off other on nameless second first =
-    ap (λ all. act v s (statement_said v Variables all)) (first ∙ ap (λ all. l ∷ all) second) ∙ ap (act v s) (said_variable v l c rest off other ∙ marked on nameless) ∙ mark_acts v s (section_of l)
-  where
-    marked : is_mark 0x3a c ≡ true → is_name l ≡ false → variable_said v l (c ∷ rest) ≡ mark_said (section_of l)
-    marked on nameless = rw (on) (rw (nameless) refl)
+makes_variable_mark v s l c rest ls ws off other on nameless second first = search (rules, said_variable, mark_acts)
 
 -- another section, and the rest as it was
 pub gone : (old new : Definitions) (o : Option Section) → new.section ≡ after_mark o → new.dims ≡ old.dims → new.gatts ≡ old.gatts → new.variables ≡ old.variables → record (state_of old) { section = after_mark o } ≡ state_of new
@@ -223,13 +160,7 @@ second_on start second ends brace colon whole first more =
     record { rest = begun.0; first = first ∙ rw (past.0) refl; second = begun.1; due = past.2 }
 
 pub only_globals : (section : Section) → is_defining section ≡ true → (section ≡ Dimensions → ⊥) → (section ≡ Variables → ⊥) → section ≡ Globals
-only_globals Globals inside a b = refl
-only_globals Dimensions inside a b = absurd (a refl)
-only_globals Variables inside a b = absurd (b refl)
-only_globals Unopened inside a b = cc
-only_globals Values inside a b = cc
-only_globals Closed inside a b = cc
-only_globals Ended inside a b = cc
+only_globals section h h2 h3 = grind arith
 
 -- ---- a statement, by what the check of it finds
 
@@ -245,20 +176,10 @@ pub reads_statement : (v : Version) (s : State) (ws : List Lexeme) (statement : 
 unfolding piece_read
 reads_statement v s ws statement good is = rw (good) (rw (is) refl)
 
-pub makes_err : {B : Type 0} (after : State) (q : Result B ReadError) (e : ReadError) (read : Result State CdlKind) → q ≡ Err e → FailsRead e read → Makes after q read
-makes_err after (Ok b) e read is h = cc
-makes_err after (Err k) e read is h = subst (λ (x : ReadError). FailsRead x read) (let same : e ≡ k = cc in same) h
-
 -- after the closing brace
 said_past : (v : Version) (section : Section) (l : Lexeme) (ls : List Lexeme) → is_over section ≡ true → statement_said v section (l ∷ ls) ≡ End
 unfolding statement_said
-said_past v Closed l ls past = refl
-said_past v Ended l ls past = refl
-said_past v Unopened l ls past = cc
-said_past v Globals l ls past = cc
-said_past v Dimensions l ls past = cc
-said_past v Variables l ls past = cc
-said_past v Values l ls past = cc
+said_past v section l ls h = grind arith
 
 pub ends : (v : Version) (s : State) (l : Lexeme) (ls ws : List Lexeme) → is_over s.section ≡ true → ws ≡ l ∷ ls → act v s (statement_said v s.section ws) ≡ Ok (record s { section = Ended })
 unfolding act

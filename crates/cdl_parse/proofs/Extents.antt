@@ -5,8 +5,7 @@ use Rattle.cdl_parse.proofs.Prelude.{Dim, Var, with_all, Extent}
 -- ---- no variable is left
 
 none_listed : (dims : List Dim) (e : Extent) (vars : List Var) → with_all dims (Some e) vars [] ≡ Some e
-none_listed dims e [] = refl
-none_listed dims e (var ∷ vars) = refl
+none_listed dims e vars = grind arith
 
 pub all_done : (dims : List Dim) (e : Extent) (vars : List Var) (listed : List (List ℕ)) (n : ℕ) → min (length vars) (length listed) ≤ n → with_all dims (Some e) (drop n vars) (drop n listed) ≡ Some e
 all_done dims e [] listed zero h = refl

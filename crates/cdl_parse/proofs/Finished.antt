@@ -1,19 +1,14 @@
 -- What a text declares is the dataset that it means.
-use Rattle.std.proofs.Common.{◌≡◌, ℕ, ◌-◌, ◌*◌, subst, Bool, true, false, List, [], ◌∷◌, ◌++◌, length, map, refl, sym, ap, ◌∙◌, replicate, ◌&&◌, if◌then◌else◌, nat_le, Option, None, Some, Ok, is_some}
-use Rattle.cdl_parse.proofs.Prelude.{filter, list_all, Att, Dim, Header, Known, Var, Version, fill_value, value_count, bytes_of_number, checked_record_size, has_small_slab, record_limit, record_size, array_limit, is_record_var, array_of, dataset_of, finished, header_of, is_small, is_small_enough, records_in, listed_values, AllList, AreShaped, records_kept, fills, whole_array, whole_arrays, Draft, State, dataset_of_declared, or_too_large, Declared, and_left}
+use Rattle.std.proofs.Common.{◌≡◌, ℕ, Bool, true, false, List, [], ◌∷◌, map, refl, sym, ap, ◌∙◌, ◌&&◌, if◌then◌else◌, nat_le, Option, None, Some, Ok, is_some, arith, rules}
+use Rattle.cdl_parse.proofs.Prelude.{filter, list_all, Att, Dim, Header, Known, Var, Version, checked_record_size, has_small_slab, record_limit, record_size, is_record_var, array_of, dataset_of, finished, header_of, is_small, is_small_enough, records_in, AllList, AreShaped, records_kept, whole_array, whole_arrays, Draft, State, dataset_of_declared, or_too_large, Declared, and_left}
 use Rattle.std.proofs.lemmas.Grind.{flat_map-append}
-use Rattle.cdl_parse.proofs.SizeLimits.{all_are, all_small, has_small, listed_count, listed_of, var_of, widest_in}
+use Rattle.cdl_parse.proofs.SizeLimits.{all_are, all_small, has_small, listed_count, listed_of, var_of}
 
 -- ---- the slabs of the record variables
 
 kept_all : {X : Type 0} (p q : X → Bool) (xs : List X) → list_all p xs ≡ true → list_all p (filter q xs) ≡ true
 kept_all p q [] h = refl
-kept_all p q (x ∷ xs) h = by (p x) (q x) (kept_all p q xs) refl h
-  where
-    by : (a b : Bool) → (list_all p xs ≡ true → list_all p (filter q xs) ≡ true) → p x ≡ a → (a && list_all p xs) ≡ true → list_all p (if b then x ∷ filter q xs else filter q xs) ≡ true
-    by true true more is h = rw (is) (more h)
-    by true false more is h = more h
-    by false b more is h = cc
+kept_all p q (x ∷ xs) h = search (rules, kept_all p q xs)
 
 of_vars : (dims : List Dim) (drafts : List Draft) → list_all (has_small_slab dims) (map var_of drafts) ≡ list_all (has_small dims) drafts
 of_vars dims [] = refl
@@ -23,16 +18,12 @@ of_vars dims (d ∷ drafts) = ap (λ b. has_small dims d && b) (of_vars dims dra
 pub record_checked : (v : Version) (s : State) → list_all (is_small s.dims (records_in s.dims s.drafts)) s.drafts ≡ true →
     checked_record_size (header_of v s) ≡ (if nat_le (record_size (header_of v s)) record_limit then Some (record_size (header_of v s)) else None)
 record_checked v s small =
-    let slabs = and_left (list_all (has_small s.dims) s.drafts) (nat_le (records_in s.dims s.drafts * widest_in s.dims s.drafts) array_limit) (sym (all_small s.dims (records_in s.dims s.drafts) s.drafts) ∙ small) in
-    let kept = kept_all (has_small_slab s.dims) (is_record_var s.dims) (map var_of s.drafts) (of_vars s.dims s.drafts ∙ slabs) in
-    ap (λ b. if b && nat_le (record_size (header_of v s)) record_limit then Some (record_size (header_of v s)) else None) kept
+    grind (arith, all_small s.dims (records_in s.dims s.drafts) s.drafts, kept_all (has_small_slab s.dims) (is_record_var s.dims) (map var_of s.drafts), of_vars s.dims s.drafts, and_left)
 
 -- ---- the arrays
 
 whole_is : (dims : List Dim) (n : ℕ) (d : Draft) → array_of dims n d ≡ whole_array dims n d.var (listed_of dims d)
-whole_is dims n d =
-    flat_map-append (bytes_of_number d.var.ty) (listed_values dims d) (replicate (value_count dims d.var n - length (listed_values dims d)) (fill_value d.var)) ∙
-    ap (λ k. listed_of dims d ++ fills d.var (value_count dims d.var n - k)) (sym (listed_count dims d))
+whole_is dims n d = grind (arith, listed_count dims d, flat_map-append)
 
 all_whole : (dims : List Dim) (n : ℕ) (drafts : List Draft) → map (array_of dims n) drafts ≡ whole_arrays dims n (map var_of drafts) (map (listed_of dims) drafts)
 all_whole dims n [] = refl
@@ -56,12 +47,10 @@ unfolding is_small_enough
 enough_is v s small within a b = rw (a) (rw (b) refl)
 
 some_of : {A : Type 0} (b : Bool) (n m : A) → (if b then Some n else None) ≡ Some m → (b ≡ true) × (n ≡ m)
-some_of true n m h = (refl, (let e : n ≡ m = cc in e))
-some_of false n m h = cc
+some_of b n m h = grind arith
 
 none_of : {A : Type 0} (b : Bool) (n : A) → (if b then Some n else None) ≡ None → b ≡ false
-none_of true n h = cc
-none_of false n h = refl
+none_of b n h = grind arith
 
 -- no number of records is kept
 pub array_too_large : (v : Version) (s : State) (line : ℕ) → records_kept s.dims s.drafts ≡ None → finished v line (Ok s) ≡ or_too_large line None
@@ -80,17 +69,11 @@ same_header v s n is = ap (λ m. header_with v m s) (sym is)
 
 pub kept_at : (ds dims : List Dim) (vs vars : List Var) (ls listed : List (List ℕ)) (s : State) (r : Option ℕ) → ds ≡ dims → vs ≡ vars → ls ≡ listed → s.dims ≡ dims → AllList dims vars listed s.drafts → AreShaped dims s.drafts →
     ((drafts : List Draft) → AllList ds vs ls drafts → AreShaped ds drafts → r ≡ records_kept ds drafts) → records_kept s.dims s.drafts ≡ r
-kept_at ds dims vs vars ls listed s r a b c is lists shaped h =
-    let lists_here = subst (λ (xs : List (List ℕ)). AllList ds vs xs s.drafts) (sym c) (subst (λ (xs : List Var). AllList ds xs listed s.drafts) (sym b) (subst (λ (xs : List Dim). AllList xs vars listed s.drafts) (sym a) lists)) in
-    let shaped_here = subst (λ (xs : List Dim). AreShaped xs s.drafts) (sym a) shaped in
-    sym (h s.drafts lists_here shaped_here ∙ ap (λ (xs : List Dim). records_kept xs s.drafts) (a ∙ sym is))
+kept_at ds dims vs vars ls listed s r a b c is lists shaped h = search rules
 
 pub header_at : (v : Version) (n : ℕ) (s : State) (dims : List Dim) (gatts : List Att) (vars : List Var) (listed : List (List ℕ)) → s.dims ≡ dims → s.gatts ≡ gatts → AllList dims vars listed s.drafts →
     header_with v n s ≡ record { version = v; numrecs = Known n; dims = dims; gatts = gatts; vars = vars }
-header_at v n s dims gatts vars listed is att-is lists =
-    ap (λ (ds : List Dim). record { version = v; numrecs = Known n; dims = ds; gatts = s.gatts; vars = map var_of s.drafts }) is ∙
-    ap (λ (atts : List Att). record { version = v; numrecs = Known n; dims = dims; gatts = atts; vars = map var_of s.drafts }) att-is ∙
-    ap (λ (vs : List Var). record { version = v; numrecs = Known n; dims = dims; gatts = gatts; vars = vs }) (sym (all_are dims vars listed s.drafts lists).0)
+header_at v n s dims gatts vars listed is att-is lists = search (rules, all_are)
 
 pub record_too_large : (v : Version) (s : State) (line n : ℕ) → records_kept s.dims s.drafts ≡ Some n → checked_record_size (header_with v n s) ≡ None → finished v line (Ok s) ≡ or_too_large line None
 record_too_large v s line n kept none =
@@ -101,12 +84,4 @@ record_too_large v s line n kept none =
 
 pub is_declared : (v : Version) (s : State) (line n : ℕ) → records_kept s.dims s.drafts ≡ Some n → is_some (checked_record_size (header_with v n s)) ≡ true →
     finished v line (Ok s) ≡ or_too_large line (Some (record { header = header_with v n s; listed = map (listed_of s.dims) s.drafts }))
-is_declared v s line n kept there =
-    let some = some_of (list_all (is_small s.dims (records_in s.dims s.drafts)) s.drafts) (records_in s.dims s.drafts) n kept in
-    let checked = ap is_some (sym (record_checked v s some.0) ∙ ap checked_record_size (sym (same_header v s n some.1))) ∙ there in
-    let within = there_of (nat_le (record_size (header_of v s)) record_limit) (record_size (header_of v s)) checked in
-    answer v s line true (enough_is v s true true some.0 within) ∙ ap (λ (h : Header). or_too_large line (Some (record { header = h; listed = map (listed_of s.dims) s.drafts }))) (sym (same_header v s n some.1))
-  where
-    there_of : (b : Bool) (m : ℕ) → is_some (if b then Some m else None) ≡ true → b ≡ true
-    there_of true m h = refl
-    there_of false m h = cc
+is_declared v s line n kept there = grind (arith, record_checked v s, same_header v s n, answer v s line true, enough_is v s true true, some_of)

@@ -1,6 +1,6 @@
 -- The statements of the section of the variables keep the variables' shapes.
-use Rattle.std.proofs.Common.{◌≡◌, ℕ, suc, ◌<◌, Bool, true, false, List, [], ◌∷◌, ◌++◌, length, refl, sym, subst, append_assoc, append-nil, arith, Option, None, Some, Result, Ok, Err, IfOk, IfSome, ◌&&◌, nat_lt, if◌then◌else◌}
-use Rattle.cdl_parse.proofs.Prelude.{All-cons, All-nil, All-push, position, position_or_len, bytes_eq, AreDimids, IsDimid, is_name, is_record_dim, Att, Dim, NcType, Value, CdlKind, BadName, BadShape, DuplicateName, UnknownDimension, Draft, add_att, add_dimid, add_var, at_named, at_variable, some_or, in_turn, unless, when, with_att, AreShaped, draft, is_variable_name, none_before}
+use Rattle.std.proofs.Common.{◌≡◌, ℕ, suc, ◌<◌, Bool, true, false, List, [], ◌∷◌, ◌++◌, length, sym, subst, append_assoc, append-nil, arith, Option, Result, Ok, Err, IfOk, IfSome, if◌then◌else◌, rules}
+use Rattle.cdl_parse.proofs.Prelude.{All-cons, All-push, position, bytes_eq, AreDimids, IsDimid, is_name, Dim, NcType, Value, CdlKind, BadName, DuplicateName, Draft, add_dimid, add_var, at_named, at_variable, some_or, in_turn, unless, when, with_att, AreShaped, draft, is_variable_name, none_before}
 use Rattle.std.specs.Prelude.{⊤}
 use Rattle.cdl_statements.specs.Shapes.{Variable}
 use Rattle.cdl_meaning.specs.State.{◌>>=◌}
@@ -8,20 +8,16 @@ use Rattle.cdl_meaning.specs.State.{◌>>=◌}
 -- ---- what an Ok has
 
 pub ok_then : {A B : Type 0} (P : A → Type 0) (Q : B → Type 0) (r : Result A CdlKind) (f : A → Result B CdlKind) → IfOk r P → ((a : A) → P a → IfOk (f a) Q) → IfOk (r >>= f) Q
-ok_then P Q (Ok a) f p g = g a p
-ok_then P Q (Err e) f p g = tt
+ok_then P Q r f h h2 = grind arith
 
 ok_unless : {B : Type 0} (Q : B → Type 0) (b : Bool) (e : CdlKind) (f : ⊤ → Result B CdlKind) → IfOk (f tt) Q → IfOk (unless b e >>= f) Q
-ok_unless Q true e f h = h
-ok_unless Q false e f h = tt
+ok_unless Q b e f h = grind arith
 
 ok_when : {B : Type 0} (Q : B → Type 0) (b : Bool) (e : CdlKind) (f : ⊤ → Result B CdlKind) → (b ≡ false → IfOk (f tt) Q) → IfOk (when b e >>= f) Q
-ok_when Q true e f h = tt
-ok_when Q false e f h = h refl
+ok_when Q b e f h = grind arith
 
 ok_found : {A B : Type 0} (P : A → Type 0) (Q : B → Type 0) (o : Option A) (e : CdlKind) (f : A → Result B CdlKind) → IfSome o P → ((a : A) → P a → IfOk (f a) Q) → IfOk (some_or o e >>= f) Q
-ok_found P Q None e f p g = tt
-ok_found P Q (Some a) e f p g = g a p
+ok_found P Q o e f h h2 = grind arith
 
 -- what each step keeps, all keep
 pub turns : {S A : Type 0} (f : S → A → Result S CdlKind) (P : S → Type 0) → ((s : S) (x : A) → P s → IfOk (f s x) P) → (s : S) (xs : List A) → P s → IfOk (in_turn f s xs) P
@@ -39,19 +35,11 @@ dimids_more dims before [] k are is = (subst (λ b. IsDimid dims b k) (append-ni
 dimids_more dims before (i ∷ ids) k are is = (are.0, dimids_more dims (before ++ i ∷ []) ids k are.1 (subst (λ b. IsDimid dims b k) (sym (append_assoc before (i ∷ []) ids)) is))
 
 position_under : {X : Type 0} (p : X → Bool) (xs : List X) → IfSome (position p xs) (λ k. k < length xs)
-position_under p xs =
-    let k = position_or_len p xs in
-    elim (nat_lt k (length xs)) as (λ b. nat_lt k (length xs) ≡ b → IfSome (if b then Some k else None) (λ j. j < length xs)) [ true ↦ (λ e. grind (arith, e)) | false ↦ (λ e. tt) ] refl
+position_under p xs = search rules
 
 id_step : (dims : List Dim) (ids name : List ℕ) → AreDimids dims [] ids → IfOk (add_dimid dims ids name) (AreDimids dims [])
 unfolding add_dimid
-id_step dims ids name are =
-    let last : ℕ → Result (List ℕ) CdlKind = λ k. when (nat_lt 0 (length ids) && is_record_dim dims k) BadShape >>= (λ w. Ok (ids ++ k ∷ [])) in
-    let p : Dim → Bool = λ d. bytes_eq d.name name in
-    ok_unless (AreDimids dims []) (is_name name) BadName (λ w. some_or (position p dims) UnknownDimension >>= last)
-    (ok_found (λ k. k < length dims) (AreDimids dims []) (position p dims) UnknownDimension last (position_under p dims) (λ k known.
-    ok_when (AreDimids dims []) (nat_lt 0 (length ids) && is_record_dim dims k) BadShape (λ w. Ok (ids ++ k ∷ [])) (λ e.
-    dimids_more dims [] ids k are (record { known = known; record_first = none_before ids (is_record_dim dims k) e }))))
+id_step dims ids name are = search (rules, ok_unless, some_or, ok_found, position_under, ok_when, dimids_more, none_before)
 
 -- ---- declarations
 
@@ -92,12 +80,4 @@ unfolding at_variable
 variable_shaped dims name f keeps drafts are = ok_unless (AreShaped dims) (is_name name) BadName (λ u. at_named name f drafts) (named_shaped dims name f keeps drafts are)
 
 pub att_keeps : (name : List ℕ) (cs : List Value) → Keeps (with_att name cs)
-att_keeps name cs d = by (add_att name cs d.var.atts)
-  where
-    by : (r : Result (List Att) CdlKind) → IfOk (r >>= (λ atts. Ok (record d { var = record d.var { atts = atts } }))) (λ e. e.var.dimids ≡ d.var.dimids)
-    by (Ok atts) = refl
-    by (Err e) = tt
-
--- no variables
-pub none_shaped : (dims : List Dim) → AreShaped dims []
-none_shaped dims = All-nil (IsShaped dims)
+att_keeps name cs d = search rules

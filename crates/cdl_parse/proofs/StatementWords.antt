@@ -1,5 +1,5 @@
 -- The tokens of a statement, one at a time.
-use Rattle.std.proofs.Common.{◌≡◌, Bool, true, false, List, [], ◌∷◌, refl, sym, ap, ◌∙◌, ◌&&◌, if◌then◌else◌, map}
+use Rattle.std.proofs.Common.{◌≡◌, Bool, true, false, List, [], ◌∷◌, refl, ap, ◌∙◌, if◌then◌else◌, map, rules}
 use Rattle.cdl_parse.proofs.Prelude.{false≢true, first_piece, is_done, next_token, pieces_left, text_of, tokens_left, words, completes, is_whole, next, only, Lexeme, lexeme, pieces_after, step, Cutter, Due, Token, only_completes}
 use Rattle.cdl_statements.specs.code.Roles.{first_role, role_in}
 use Rattle.cdl_tokens.specs.code.Scanners.{followed, left}
@@ -10,12 +10,7 @@ use Rattle.cdl_statements.proofs.Cuts.{words_on}
 -- the first token is the next one
 followed_is : (t : Token) (kind : TokenKind) (rest : List Token) → (tail : List Token) × (followed t kind rest ≡ t ∷ tail)
 followed_is t kinds.End rest = ([], refl)
-followed_is t kinds.Opening rest = (rest, refl)
-followed_is t kinds.Word rest = (rest, refl)
-followed_is t kinds.Number rest = (rest, refl)
-followed_is t kinds.Text rest = (rest, refl)
-followed_is t kinds.Mark rest = (rest, refl)
-followed_is t kinds.Bad rest = (rest, refl)
+followed_is t _ rest = (rest, refl)
 
 pub begins : (c : Cutter) → is_done c ≡ false → (rest : List Lexeme) × (words c ≡ lexeme (text_of c) (next_token c) ∷ rest)
 unfolding words pieces_left pieces_after
@@ -33,11 +28,4 @@ begins c more =
 pub goes_past : (due following : Due) (l : Lexeme) (test ends : Bool) (ws all : List Lexeme) → next due l ≡ only test following → is_whole following ≡ false → all ≡ l ∷ (if ends then [] else ws) → completes due all ≡ true →
     (ends ≡ false) × (test ≡ true) × (completes following ws ≡ true)
 unfolding completes
-goes_past due following l test ends ws all is unfinished first on =
-    by test ends
-    (sym (only_completes test following (if ends then [] else ws)) ∙ sym (ap (λ d. completes d (if ends then [] else ws)) is) ∙ sym (ap (completes due) first) ∙ on)
-  where
-    by : (test ends : Bool) → (test && completes following (if ends then [] else ws)) ≡ true → (ends ≡ false) × (test ≡ true) × (completes following ws ≡ true)
-    by true true h = absurd (false≢true (sym unfinished ∙ h))
-    by true false h = (refl, refl, h)
-    by false ends h = absurd (false≢true h)
+goes_past due following l test ends ws all is unfinished first on = search (rules, only_completes, false≢true)

@@ -1,6 +1,6 @@
 -- A statement that gives a variable an attribute.
 use Rattle.std.proofs.Common.{◌≡◌, ℕ, zero, suc, ◌<◌, Bool, true, false, List, [], ◌∷◌, length, get_or, set, drop, refl, sym, ap, ◌∙◌, arith, Result, Ok, Err, OnErr, if◌then◌else◌}
-use Rattle.cdl_parse.proofs.Prelude.{false≢true, set-get_or, Att, completes, word_value, Lexeme, Value, AttributeName, CdlKind, Draft, add_att, with_att, Leaves, name_first, ReadError, OutOfMemory, Fault, draft_of, drafts_of, at_position, Variable, variable_names}
+use Rattle.cdl_parse.proofs.Prelude.{false≢true, set-get_or, Att, completes, word_value, Lexeme, Value, AttributeName, CdlKind, Draft, add_att, with_att, Leaves, name_first, ReadError, draft_of, drafts_of, at_position, Variable, variable_names}
 use Rattle.std.specs.Prelude.{⊤}
 use Rattle.cdl_meaning.specs.State.{◌>>=◌}
 
@@ -8,13 +8,11 @@ use Rattle.cdl_meaning.specs.State.{◌>>=◌}
 
 pub past_name : (l : Lexeme) (ends : Bool) (ws all : List Lexeme) → all ≡ l ∷ (if ends then [] else ws) → completes AttributeName (drop 2 all) ≡ true → (ends ≡ false) × (drop 2 all ≡ drop 1 ws)
 unfolding completes
-past_name l true ws all first on = absurd (false≢true (sym (ap (λ xs. completes AttributeName (drop 2 xs)) first) ∙ on))
-past_name l false ws all first on = (refl, ap (drop 2) first)
+past_name l ends ws all h h2 = grind (arith, false≢true)
 
 pub past_colon : (l : Lexeme) (ends : Bool) (ws all : List Lexeme) → all ≡ l ∷ (if ends then [] else ws) → completes AttributeName (drop 1 all) ≡ true → (ends ≡ false) × (drop 1 all ≡ ws)
 unfolding completes
-past_colon l true ws all first on = absurd (false≢true (sym (ap (λ xs. completes AttributeName (drop 1 xs)) first) ∙ on))
-past_colon l false ws all first on = (refl, ap (drop 1) first)
+past_colon l ends ws all h h2 = grind (arith, false≢true)
 
 pub name_is : (l : Lexeme) (ws all : List Lexeme) → all ≡ l ∷ ws → name_first all ≡ word_value l.bytes
 name_is l ws all first = ap name_first first
@@ -44,11 +42,7 @@ names_kept (x ∷ items) (suc k) w atts is = ap (λ ns. x.name ∷ ns) (names_ke
 
 pub changed_at : (name : List ℕ) (cs : List Value) (items : List Variable) (k : ℕ) (w : Variable) (atts : List Att) (r : Result ⊤ ReadError) → k < length items → w ≡ get_or items k w → Leaves atts r (add_att name cs w.atts) →
     Leaves (drafts_of (set items k (with_atts atts w))) r (at_position k (with_att name cs) (drafts_of items))
-changed_at name cs items k w atts (Ok u) within is h =
-    put_at (with_att name cs) items k w (with_atts atts w) within is (ap (λ (r : Result (List Att) CdlKind). r >>= (λ given. Ok (draft_of (with_atts given w)))) h)
-changed_at name cs items k w atts (Err OutOfMemory) within is h = tt
-changed_at name cs items k w atts (Err (Fault e)) within is h =
-    fault_at (with_att name cs) items k w e within is (ap (λ (r : Result (List Att) CdlKind). r >>= (λ given. Ok (draft_of (with_atts given w)))) h)
+changed_at name cs items k w atts r h h2 h3 = grind (arith, put_at, fault_at)
 
 -- with the attributes that it had the variable is what it was
 pub unchanged_at : (items : List Variable) (k : ℕ) (w : Variable) (atts : List Att) (drafts : List Draft) (r : Result ⊤ ReadError) → w ≡ get_or items k w → drafts_of items ≡ drafts → OnErr r (atts ≡ w.atts) →

@@ -42,9 +42,7 @@ module _ (name : List ℕ) (f : Draft → Result Draft CdlKind) where
   unknown ds named is = named_as ds named ∙ not_found 0 ds is
 
   pub changed : (ds : List Draft) (k : ℕ) → is_name name ≡ true → position_of (names_of ds) name ≡ Some k → at_variable name f ds ≡ at_position k f ds
-  changed ds k named is =
-      let found = found_at 0 ds k is in
-      named_as ds named ∙ found.3 ∙ ap (λ j. at_position j f ds) (let e : found.0 ≡ k = omega (arith, found.1) in e)
+  changed ds k named is = grind (arith, found_at 0 ds k is, named_as ds named)
 
 pub within : (name : List ℕ) (names : List (List ℕ)) (k : ℕ) → position_of names name ≡ Some k → k < length names
 within name names k is = let h = by 0 names k is in omega (arith, h)

@@ -1,9 +1,8 @@
 -- A whole text: its sections one after the other.
 use Rattle.std.proofs.Common.{◌≡◌, ℕ, suc, true, false, List, [], ◌∷◌, length, refl, sym, ap, ◌∙◌, subst, arith, Result, replicate}
-use Rattle.cdl_parse.proofs.Prelude.{All-cons, AreDimids, Dim, Var, Version, Section, Unopened, Globals, Dimensions, Variables, Values, Closed, Ended, Token, finished, run, State, Draft, AllList, AreShaped, unlisted_drafts, is_early, is_over, FailsAt, ParseError, names_of, var_names}
+use Rattle.cdl_parse.proofs.Prelude.{All-cons, AreDimids, Dim, Var, Version, Section, Values, Token, finished, run, State, Draft, AllList, AreShaped, unlisted_drafts, is_early, is_over, FailsAt, ParseError, names_of, var_names}
 use Rattle.cdl_parse.proofs.DraftNames.{unlisted_names}
 use Rattle.cdl_statements.specs.declared.fault.CdlFault.{CdlFault}
-use Rattle.cdl_parse.specs.declared.parse_error.ParseError.TheVariants as stops
 
 -- of no variable anything is listed
 pub none_listed : (dims : List Dim) (vars : List Var) → AllList dims vars (replicate (length vars) []) (unlisted_drafts vars)
@@ -12,31 +11,21 @@ none_listed dims (var ∷ vars) = (record { is = refl; bytes = refl }, none_list
 
 -- neither before the data section nor in it
 pub past_values : (section : Section) → is_early section ≡ false → (section ≡ Values → ⊥) → is_over section ≡ true
-past_values Unopened early other = cc
-past_values Globals early other = cc
-past_values Dimensions early other = cc
-past_values Variables early other = cc
-past_values Values early other = absurd (other refl)
-past_values Closed early other = refl
-past_values Ended early other = refl
+past_values section h h2 = grind arith
 
 -- what is listed changes no shape
 pub listed_shapes : (dims : List Dim) (vars : List Var) (arrays : List (List ℕ)) (drafts : List Draft) → AllList dims vars arrays drafts → AreShaped dims (unlisted_drafts vars) → AreShaped dims drafts
 listed_shapes dims [] [] [] h are = λ k d inside. are k d inside
-listed_shapes dims [] [] (d ∷ drafts) h are = absurd h
-listed_shapes dims [] (a ∷ arrays) drafts h are = absurd h
-listed_shapes dims (var ∷ vars) [] drafts h are = absurd h
-listed_shapes dims (var ∷ vars) (a ∷ arrays) [] h are = absurd h
 listed_shapes dims (var ∷ vars) (a ∷ arrays) (d ∷ drafts) h are =
     All-cons (λ (d : Draft). AreDimids dims [] d.var.dimids) d drafts
     (subst (λ (v : Var). AreDimids dims [] v.dimids) (sym h.0.is) (are 0 d (omega arith)))
     (listed_shapes dims vars arrays drafts h.1 (λ k e inside. are (suc k) e (omega (arith, inside))))
+listed_shapes dims _ _ _ h are = absurd h
 
 -- the fault of a run is that of the text
 pub run_fails : (v : Version) (line : ℕ) (e : ParseError) (r : Result State CdlFault) → FailsAt e r → FailsAt e (finished v line r)
 unfolding finished
-run_fails v line stops.OutOfMemory r h = tt
-run_fails v line (stops.Fault fault) r h = rw (h) refl
+run_fails v line e r h = grind arith
 
 -- of the same text and version
 pub same_run : (T U : List ℕ) (v w : Version) (s t : State) (ps qs : List (List Token)) → U ≡ T → w ≡ v → run U w s ps ≡ run U w t qs → run T v s ps ≡ run T v t qs

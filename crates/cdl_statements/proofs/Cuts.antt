@@ -1,23 +1,13 @@
 -- The pieces, one token on.
-use Rattle.std.proofs.Common.{◌≡◌, drop, ℕ, Bool, true, false, List, [], ◌∷◌, ◌++◌, sym, ◌∙◌, ap, refl, append_assoc, if◌then◌else◌, map}
-use Rattle.cdl_statements.proofs.Prelude.{false≢true, Step, Token, TokenKind, Role, CutState, Begins, Inside, Marked, Closed, raw, first_role, is_end_role, role_in, role_of, ending, pieces_after, step, with_first, first_line, first_piece, other_pieces, followed, is_end, lexeme}
-use Rattle.cdl_tokens.specs.declared.token.TokenKind.TheVariants as kinds
+use Rattle.std.proofs.Common.{◌≡◌, drop, ℕ, Bool, true, false, List, [], ◌∷◌, ◌++◌, sym, ◌∙◌, ap, refl, append_assoc, if◌then◌else◌, map, arith, rules}
+use Rattle.cdl_statements.proofs.Prelude.{false≢true, Step, Token, TokenKind, Role, CutState, Begins, first_role, is_end_role, role_in, ending, pieces_after, step, with_first, first_line, first_piece, other_pieces, followed, is_end, lexeme}
 use Rattle.cdl_statements.specs.declared.piece.Role.TheVariants.{End}
 
 step_end : (state : CutState) (next : Role) → step state End next ≡ ending Begins
-step_end Begins next = refl
-step_end Inside next = refl
-step_end Marked next = refl
-step_end Closed next = refl
+step_end state next = grind arith
 
 first_followed : (f : Token → Role) (u : Token) (k : TokenKind) (after : List Token) → first_role f (followed u k after) ≡ f u
-first_followed f u kinds.Opening after = refl
-first_followed f u kinds.Word after = refl
-first_followed f u kinds.Number after = refl
-first_followed f u kinds.Text after = refl
-first_followed f u kinds.Mark after = refl
-first_followed f u kinds.Bad after = refl
-first_followed f u kinds.End after = refl
+first_followed f u k after = grind arith
 
 on_more : (f : Token → Role) (state : CutState) (t u : Token) (before after : List Token) → before ≡ followed u u.kind after →
     pieces_after f state (t ∷ before) ≡ with_first (step state (f t) (f u)).ends t (pieces_after f (step state (f t) (f u)).state (followed u u.kind after))
@@ -31,26 +21,11 @@ on_end f state t u e = rw (e) (rw (step_end state End) (rw (step_end state (f u)
 
 by_kind : (f : Token → Role) (state : CutState) (t u : Token) (k : TokenKind) (before after : List Token) → before ≡ followed u u.kind after → (is_end k ≡ true → f t ≡ End) →
     pieces_after f state (followed t k before) ≡ with_first (step state (f t) (f u)).ends t (pieces_after f (step state (f t) (f u)).state (if is_end k then [] else followed u u.kind after))
-by_kind f state t u kinds.Opening before after e h = on_more f state t u before after e
-by_kind f state t u kinds.Word before after e h = on_more f state t u before after e
-by_kind f state t u kinds.Number before after e h = on_more f state t u before after e
-by_kind f state t u kinds.Text before after e h = on_more f state t u before after e
-by_kind f state t u kinds.Mark before after e h = on_more f state t u before after e
-by_kind f state t u kinds.Bad before after e h = on_more f state t u before after e
-by_kind f state t u kinds.End before after e h = on_end f state t u (h refl)
+by_kind f state t u k before after h h2 = grind (arith, on_end, on_more)
 
 -- an End's role
 pub end_role : (text : List ℕ) (t : Token) → is_end t.kind ≡ true → role_in text t ≡ End
-end_role text t h = by_end t.kind (raw text t) h
-  where
-    by_end : (k : TokenKind) (bytes : List ℕ) → is_end k ≡ true → role_of k bytes ≡ End
-    by_end kinds.Opening bytes h = cc
-    by_end kinds.Word bytes h = cc
-    by_end kinds.Number bytes h = cc
-    by_end kinds.Text bytes h = cc
-    by_end kinds.Mark bytes h = cc
-    by_end kinds.Bad bytes h = cc
-    by_end kinds.End bytes h = refl
+end_role text t h = search rules
 
 pub advance : (text : List ℕ) (state : CutState) (t u : Token) (before after : List Token) → before ≡ followed u u.kind after →
     pieces_after (role_in text) state (followed t t.kind before) ≡
@@ -70,10 +45,6 @@ no_end text t r ends is h off = elim (is_end t.kind) as (λ w. is_end t.kind ≡
 pub goes_on : {X : Type 0} (items : List X) (t : X) (p : List X) (ps qs all : List (List X)) → ((p : List X) (ps : List (List X)) → qs ≡ p ∷ ps → all ≡ (items ++ p) ∷ ps) → (rest : List (List X)) → qs ≡ with_first false t rest → rest ≡ p ∷ ps → all ≡ ((items ++ t ∷ []) ++ p) ∷ ps
 goes_on items t p ps qs all h rest e is = h (t ∷ p) ps (e ∙ ap (with_first false t) is) ∙ ap (λ xs. xs ∷ ps) (sym (append_assoc items (t ∷ []) p))
 
--- a piece that ends
-pub ends_there : {X : Type 0} (items : List X) (t : X) (qs all : List (List X)) → ((p : List X) (ps : List (List X)) → qs ≡ p ∷ ps → all ≡ (items ++ p) ∷ ps) → (rest : List (List X)) → qs ≡ with_first true t rest → all ≡ (items ++ t ∷ []) ∷ rest
-ends_there items t qs all h rest e = h (t ∷ []) rest e
-
 pub none_left : (f : Token → Role) (state : CutState) (ts : List Token) (d : Bool) → d ≡ true → pieces_after f state (if d then [] else ts) ≡ []
 unfolding pieces_after
 none_left f state ts d h = rw (h) refl
@@ -81,19 +52,13 @@ none_left f state ts d h = rw (h) refl
 -- what the first piece says, one token on
 pub words_on : (text : List ℕ) (t : Token) (ends : Bool) (ps : List (List Token)) →
     map (lexeme text) (first_piece (with_first ends t ps)) ≡ lexeme text t ∷ (if ends then [] else map (lexeme text) (first_piece ps))
-words_on text t true ps = refl
-words_on text t false [] = refl
-words_on text t false (p ∷ ps) = refl
+words_on text t ends ps = grind arith
 
 pub after_on : (t : Token) (ends : Bool) (ps : List (List Token)) → other_pieces (with_first ends t ps) ≡ (if ends then ps else other_pieces ps)
-after_on t true ps = refl
-after_on t false [] = refl
-after_on t false (p ∷ ps) = refl
+after_on t ends ps = grind arith
 
 begun : (b : Bool) (t : Token) (ps : List (List Token)) → first_piece (with_first b t ps) ≡ t ∷ drop 1 (first_piece (with_first b t ps))
-begun true t ps = refl
-begun false t [] = refl
-begun false t (p ∷ ps) = refl
+begun b t ps = grind arith
 
 begun_at : (f : Token → Role) (state : CutState) (t : Token) (ts : List Token) → first_piece (pieces_after f state (t ∷ ts)) ≡ t ∷ drop 1 (first_piece (pieces_after f state (t ∷ ts)))
 unfolding pieces_after
@@ -102,18 +67,10 @@ begun_at f state t ts = begun (step state (f t) (first_role f ts)).ends t (piece
 -- the first piece begins with the first token
 pub begins : (f : Token → Role) (state : CutState) (t : Token) (k : TokenKind) (rest : List Token) →
     first_piece (pieces_after f state (followed t k rest)) ≡ t ∷ drop 1 (first_piece (pieces_after f state (followed t k rest)))
-begins f state t kinds.Opening rest = begun_at f state t rest
-begins f state t kinds.Word rest = begun_at f state t rest
-begins f state t kinds.Number rest = begun_at f state t rest
-begins f state t kinds.Text rest = begun_at f state t rest
-begins f state t kinds.Mark rest = begun_at f state t rest
-begins f state t kinds.Bad rest = begun_at f state t rest
-begins f state t kinds.End rest = begun_at f state t []
+begins f state t k rest = grind (arith, begun_at)
 
 line_with : (b : Bool) (t : Token) (ps : List (List Token)) → first_line (with_first b t ps) ≡ t.line
-line_with true t ps = refl
-line_with false t [] = refl
-line_with false t (p ∷ ps) = refl
+line_with b t ps = grind arith
 
 line_at_first : (f : Token → Role) (state : CutState) (t : Token) (ts : List Token) → first_line (pieces_after f state (t ∷ ts)) ≡ t.line
 unfolding pieces_after
@@ -121,10 +78,4 @@ line_at_first f state t ts = line_with (step state (f t) (first_role f ts)).ends
 
 -- the first piece's line is that of the first token
 pub line_first : (f : Token → Role) (state : CutState) (t : Token) (k : TokenKind) (rest : List Token) → first_line (pieces_after f state (followed t k rest)) ≡ t.line
-line_first f state t kinds.Opening rest = line_at_first f state t rest
-line_first f state t kinds.Word rest = line_at_first f state t rest
-line_first f state t kinds.Number rest = line_at_first f state t rest
-line_first f state t kinds.Text rest = line_at_first f state t rest
-line_first f state t kinds.Mark rest = line_at_first f state t rest
-line_first f state t kinds.Bad rest = line_at_first f state t rest
-line_first f state t kinds.End rest = line_at_first f state t []
+line_first f state t k rest = grind (arith, line_at_first)

@@ -1,5 +1,5 @@
 -- Declarations: the table of due tokens says whether one has its shape, and what it says stands in its tokens.
-use Rattle.std.proofs.Common.{◌≡◌, false, List, [], ◌∷◌, ◌++◌, refl, sym, ap, subst, ◌∙◌, Option, None, Some, if◌then◌else◌}
+use Rattle.std.proofs.Common.{◌≡◌, false, List, [], ◌∷◌, ◌++◌, refl, sym, ap, subst, ◌∙◌, Option, None, Some, if◌then◌else◌, arith}
 use Rattle.cdl_statements.proofs.Prelude.{option_map, option_and_then, declaration_said, completes, Lexeme, is_mark, Variable, variable, each, if_so, before_mark, members}
 use Rattle.cdl_statements.specs.declared.due.Due.TheVariants as dues
 use Rattle.cdl_statements.proofs.Options.{given_map, given_then}
@@ -8,15 +8,7 @@ use Rattle.cdl_statements.proofs.References.{reference_end, reference_more, refe
 
 claims : (s : Lexeme) (xs : List Lexeme) → Claims s xs
 claims s [] = record { at_name = name_end s; after_name = λ n on. variable_end s n on; at_reference = reference_end s; after_reference = λ d on. referred_end s d on; after_shape = λ d e on closing. shape_end s d e on closing }
-claims s (x ∷ xs) =
-    let k = claims s xs in
-    record {
-      at_name = name_more s x xs k;
-      after_name = λ n on. variable_more s n x xs on k;
-      at_reference = reference_more s x xs k;
-      after_reference = λ d on. referred_on s d x xs on k;
-      after_shape = λ d e on closing. shape_on s d e x xs on closing k;
-    }
+claims s (x ∷ xs) = grind (arith, name_more s x xs, variable_more s, reference_more s x xs, referred_on s, shape_on s, claims s xs)
 
 last_of : (l : Lexeme) (ls : List Lexeme) → (xs : List Lexeme) × (s : Lexeme) × (l ∷ ls ≡ xs ++ s ∷ [])
 last_of l [] = ([], l, refl)

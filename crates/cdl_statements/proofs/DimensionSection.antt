@@ -1,6 +1,6 @@
 -- The table of due tokens says whether a piece has its shape, in the section of the dimensions.
-use Rattle.std.proofs.Common.{◌≡◌, Bool, true, false, List, [], ◌∷◌, refl, ap, ◌∙◌, Option, None, Some, if◌then◌else◌, is_some}
-use Rattle.cdl_statements.proofs.Prelude.{option_map, option_and_then, Version, dimensions_said, only, next, completes, is_name, opens_section_after, Lexeme, is_mark, name_of, Dimension, Statement, Declared, Brace, Attribute, first_bad, assigned, dimensions, if_so, before_mark, either, alone, section_mark, body, shape, global, Dimensions}
+use Rattle.std.proofs.Common.{◌≡◌, Bool, true, false, List, ◌∷◌, refl, ap, ◌∙◌, Option, None, Some, if◌then◌else◌, is_some, arith}
+use Rattle.cdl_statements.proofs.Prelude.{option_map, option_and_then, Version, dimensions_said, only, next, completes, is_name, opens_section_after, Lexeme, is_mark, name_of, Dimension, Statement, Declared, Brace, first_bad, dimensions, if_so, before_mark, either, alone, section_mark, body, shape, Dimensions}
 use Rattle.cdl_statements.specs.declared.due.Due.TheVariants as dues
 use Rattle.cdl_statements.proofs.Dimensions.{listed_dims, dims_are}
 use Rattle.cdl_statements.proofs.Listing.{never_completes, only_completes, fine_on}
@@ -16,44 +16,20 @@ dims_to v ls = option_map Declared (listed_dims v ls)
 
 -- with a global attribute, it is that
 dims_no_name : (v : Version) (l : Lexeme) (ys : List Lexeme) → name_of l ≡ None → dimensions v (l ∷ ys) ≡ None
-dims_no_name v l [] h = refl
-dims_no_name v l (e ∷ []) h = refl
-dims_no_name v l (e ∷ k ∷ []) h = rw (h) (rw (given_none {A = _} (is_mark 0x3d e)) refl)
-dims_no_name v l (e ∷ k ∷ c ∷ ys) h = rw (h) (rw (given_none {A = _} (is_mark 0x3d e)) (given_none (is_mark 0x2c c)))
+dims_no_name v l ys h = grind (arith, given_none)
 
 pub body_dims : (v : Version) (l : Lexeme) (ls : List Lexeme) → is_mark 0x3a l ≡ false → body_to v (l ∷ ls) ≡ dims_to v (l ∷ ls)
-body_dims v l [] off = by (is_mark 0x3b l)
-  where
-    by : (s : Bool) → option_and_then (body v Dimensions) (if_so s (Some [])) ≡ option_map Declared (option_and_then (dimensions v) (if_so s (Some [])))
-    by true = refl
-    by false = refl
-body_dims v l (m ∷ ls) off = by (before_mark 0x3b (m ∷ ls))
-  where
-    by : (b : Option (List Lexeme)) → option_and_then (body v Dimensions) (option_map (λ xs. l ∷ xs) b) ≡ option_map Declared (option_and_then (dimensions v) (option_map (λ xs. l ∷ xs) b))
-    by None = refl
-    by (Some ys) = ap (λ c. either (if_so c (assigned v false (Attribute None) ys)) (option_map Declared (dimensions v (l ∷ ys)))) off
+body_dims v l ls h = grind (arith, if_so, dimensions, either)
 
 pub body_global : (v : Version) (l : Lexeme) (ls : List Lexeme) → name_of l ≡ None → body_to v (l ∷ ls) ≡ global_to v (l ∷ ls)
-body_global v l [] none = by (is_mark 0x3b l)
-  where
-    by : (s : Bool) → option_and_then (body v Dimensions) (if_so s (Some [])) ≡ option_and_then (global v) (if_so s (Some []))
-    by true = refl
-    by false = refl
-body_global v l (m ∷ ls) none = by (before_mark 0x3b (m ∷ ls))
-  where
-    by : (b : Option (List Lexeme)) → option_and_then (body v Dimensions) (option_map (λ xs. l ∷ xs) b) ≡ option_and_then (global v) (option_map (λ xs. l ∷ xs) b)
-    by None = refl
-    by (Some ys) = either_only (global v (l ∷ ys)) (option_map Declared (dimensions v (l ∷ ys))) (ap (option_map Declared) (dims_no_name v l ys none))
+body_global v l ls h = grind (arith, if_so, either_only, dimensions, dims_no_name)
 
 pub no_dims : (v : Version) (l : Lexeme) (ls : List Lexeme) → first_bad v (l ∷ ls) ≡ None → is_name l ≡ false → dims_to v (l ∷ ls) ≡ None
 unfolding completes next
-no_dims v l ls good h =
-    let off : completes dues.DimensionName (l ∷ ls) ≡ false = only_completes (is_name l) dues.LengthEquals ls ∙ rw (h) refl in
-    ap (option_map Declared) (dims_are v (l ∷ ls) good ∙ ap (λ w. if w then Some (dimensions_said v (l ∷ ls)) else None) off)
+no_dims v l ls good h = grind (arith, only_completes (is_name l) dues.LengthEquals ls, dims_are v (l ∷ ls) good)
 
 mapped : (b : Bool) (a : List Dimension) → is_some (option_map Declared (if b then Some a else None)) ≡ b
-mapped true a = refl
-mapped false a = refl
+mapped b a = grind arith
 
 pub dims_complete : (v : Version) (l : Lexeme) (ls : List Lexeme) → first_bad v (l ∷ ls) ≡ None → is_some (shape v Dimensions (l ∷ ls)) ≡ completes (dues.First Dimensions) (l ∷ ls)
 unfolding shape completes next

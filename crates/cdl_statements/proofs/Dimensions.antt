@@ -1,45 +1,23 @@
 -- Lists of dimensions: the table of due tokens says whether one has its shape, and what it says stands in its tokens.
-use Rattle.std.proofs.Common.{◌≡◌, Bool, true, false, List, [], ◌∷◌, refl, sym, ap, ◌∙◌, Option, None, Some, if◌then◌else◌, ◌&&◌, ◌||◌, is_none}
-use Rattle.cdl_statements.proofs.Prelude.{option_map, option_and_then, Version, parts_or_zero, is_unlimited, length_said, dimensions_said, only, next, is_whole, completes, is_name, is_length, is_number, word_value, Lexeme, is_mark, Parts, Numeral, parts, number, numeral, Dimension, dimension, dimensions, length_of, numeral_of, token_fault, first_bad, both, if_so, before_mark, BadNumber, TokenKind}
+use Rattle.std.proofs.Common.{◌≡◌, Bool, true, false, List, [], ◌∷◌, refl, ap, ◌∙◌, Option, None, Some, if◌then◌else◌, ◌&&◌, is_none, arith, rules}
+use Rattle.cdl_statements.proofs.Prelude.{option_map, option_and_then, Version, parts_or_zero, length_said, dimensions_said, next, completes, is_name, is_length, is_number, word_value, Lexeme, is_mark, Numeral, parts, number, numeral, Dimension, dimension, dimensions, length_of, numeral_of, token_fault, first_bad, both, if_so, before_mark, TokenKind}
 use Rattle.cdl_statements.specs.declared.due.Due.TheVariants as dues
-use Rattle.cdl_tokens.specs.declared.token.TokenKind.TheVariants as kinds
 use Rattle.cdl_statements.proofs.Listing.{fine, fine_on, combine, never_completes, nothing_more, no_members, apart}
 use Rattle.cdl_statements.proofs.Shaping.{name_is}
 
 length_by : (v : Version) (l : Lexeme) (k : TokenKind) → token_fault v k l.bytes ≡ None →
     option_map (λ (n : Numeral). Some n.value) (numeral_of v l k) ≡ (if is_number k then Some (Some (number (parts_or_zero (parts v l.bytes))).value) else None)
 unfolding numeral
-length_by v l kinds.Opening h = refl
-length_by v l kinds.Word h = refl
-length_by v l kinds.Number h = by (parts v l.bytes) h
-  where
-    by : (r : Option Parts) → (if is_none (option_map number r) then Some BadNumber else None) ≡ None → option_map (λ (n : Numeral). Some n.value) (option_map number r) ≡ Some (Some (number (parts_or_zero r)).value)
-    by None h = cc
-    by (Some n) h = refl
-length_by v l kinds.Text h = refl
-length_by v l kinds.Mark h = refl
-length_by v l kinds.Bad h = refl
-length_by v l kinds.End h = refl
+length_by v l k h = grind (arith, parts, is_none, number)
 
 length_is : (v : Version) (l : Lexeme) → token_fault v l.kind l.bytes ≡ None → length_of v l ≡ (if is_length l then Some (length_said v l) else None)
-length_is v l h = by (is_unlimited l)
-  where
-    by : (u : Bool) → (if u then Some None else option_map (λ (n : Numeral). Some n.value) (numeral_of v l l.kind)) ≡ (if u || is_number l.kind then Some (if u then None else Some (number (parts_or_zero (parts v l.bytes))).value) else None)
-    by true = refl
-    by false = length_by v l l.kind h
+length_is v l h = grind (arith, parts v l.bytes, length_by v l l.kind h, number)
 
 said : Version → Lexeme → Lexeme → Dimension
 said v n l = record { name = word_value n.bytes; len = length_said v l }
 
 three : {A B C : Type 0} (f : A → B → C) (a b e : Bool) (x : A) (y : B) → if_so e (both f (if a then Some x else None) (if b then Some y else None)) ≡ (if a && e && b then Some (f x y) else None)
-three f true true true x y = refl
-three f true true false x y = refl
-three f true false true x y = refl
-three f true false false x y = refl
-three f false true true x y = refl
-three f false true false x y = refl
-three f false false true x y = refl
-three f false false false x y = refl
+three f a b e x y = grind arith
 
 dimension_is : (v : Version) (n e l : Lexeme) → token_fault v l.kind l.bytes ≡ None → dimension v n e l ≡ (if is_name n && is_mark 0x3d e && is_length l then Some (said v n l) else None)
 unfolding said
@@ -51,66 +29,29 @@ abbrev pub listed_dims : Version → List Lexeme → Option (List Dimension)
 listed_dims v ls = option_and_then (dimensions v) (before_mark 0x3b ls)
 
 last : (v : Version) (n e l c : Lexeme) → listed_dims v (n ∷ e ∷ l ∷ c ∷ []) ≡ if_so (is_mark 0x3b c) (both (λ d ds. d ∷ ds) (dimension v n e l) (Some []))
-last v n e l c = by (is_mark 0x3b c)
-  where
-    by : (s : Bool) → option_and_then (dimensions v) (option_map (λ xs. n ∷ xs) (option_map (λ xs. e ∷ xs) (option_map (λ xs. l ∷ xs) (if_so s (Some []))))) ≡ if_so s (both (λ d ds. d ∷ ds) (dimension v n e l) (Some []))
-    by true = refl
-    by false = refl
+last v n e l c = search (rules, dimensions, if_so, both)
 
 more : (v : Version) (n e l c r : Lexeme) (rs : List Lexeme) → listed_dims v (n ∷ e ∷ l ∷ c ∷ r ∷ rs) ≡ if_so (is_mark 0x2c c) (both (λ d ds. d ∷ ds) (dimension v n e l) (listed_dims v (r ∷ rs)))
-more v n e l c r rs = by (before_mark 0x3b (r ∷ rs))
-  where
-    by : (b : Option (List Lexeme)) →
-        option_and_then (dimensions v) (option_map (λ xs. n ∷ xs) (option_map (λ xs. e ∷ xs) (option_map (λ xs. l ∷ xs) (option_map (λ xs. c ∷ xs) b)))) ≡
-        if_so (is_mark 0x2c c) (both (λ d ds. d ∷ ds) (dimension v n e l) (option_and_then (dimensions v) b))
-    by None = no_members (λ d ds. d ∷ ds) (is_mark 0x2c c) (dimension v n e l)
-    by (Some ys) = refl
+more v n e l c r rs = search (rules, dimensions, if_so, both, no_members)
 
 and_four : (a b d x : Bool) → (a && (b && (d && x))) ≡ (a && b && d && x)
-and_four true true true x = refl
-and_four true true false x = refl
-and_four true false d x = refl
-and_four false b d x = refl
+and_four a b d x = grind arith
 
 and_assoc : (a b x : Bool) → (a && (b && x)) ≡ (a && b && x)
-and_assoc true b x = refl
-and_assoc false b x = refl
+and_assoc a b x = grind arith
 
 -- after the four tokens of a dimension
 pub four : (n e l c : Lexeme) (ls : List Lexeme) → completes dues.DimensionName (n ∷ e ∷ l ∷ c ∷ ls) ≡ (is_name n && is_mark 0x3d e && is_length l && completes (next dues.LengthSeparator c) ls)
 unfolding completes next
-four n e l c ls = by_name (is_name n) ∙ and_four (is_name n) (is_mark 0x3d e) (is_length l) (completes (next dues.LengthSeparator c) ls)
-  where
-    by_len : (d : Bool) → completes (next (only d dues.LengthSeparator) c) ls ≡ (d && completes (next dues.LengthSeparator c) ls)
-    by_len true = refl
-    by_len false = never_completes ls
-
-    by_equals : (b : Bool) → completes (next (next (only b dues.Length) l) c) ls ≡ (b && (is_length l && completes (next dues.LengthSeparator c) ls))
-    by_equals true = by_len (is_length l)
-    by_equals false = never_completes ls
-
-    by_name : (a : Bool) → completes (next (next (next (only a dues.LengthEquals) e) l) c) ls ≡ (a && (is_mark 0x3d e && (is_length l && completes (next dues.LengthSeparator c) ls)))
-    by_name true = by_equals (is_mark 0x3d e)
-    by_name false = never_completes ls
+four n e l c ls = search (rules, and_four, next, never_completes)
 
 pub separator_more : (c r : Lexeme) (rs : List Lexeme) → completes (next dues.LengthSeparator c) (r ∷ rs) ≡ (is_mark 0x2c c && completes dues.DimensionName (r ∷ rs))
 unfolding completes next
-separator_more c r rs = by (is_mark 0x2c c) (is_mark 0x3b c)
-  where
-    by : (a b : Bool) → completes (if a then dues.DimensionName else only b dues.Nothing) (r ∷ rs) ≡ (a && completes dues.DimensionName (r ∷ rs))
-    by true b = refl
-    by false true = nothing_more r rs
-    by false false = never_completes (r ∷ rs)
+separator_more c r rs = search (rules, nothing_more, never_completes)
 
 separator_last : (c : Lexeme) → completes (next dues.LengthSeparator c) [] ≡ (is_mark 0x3b c && true)
 unfolding completes next
-separator_last c = by (is_mark 0x2c c) (is_mark 0x3b c) (apart c)
-  where
-    by : (a b : Bool) → (b ≡ true → a ≡ false) → is_whole (if a then dues.DimensionName else only b dues.Nothing) ≡ (b && true)
-    by true true h = sym (h refl)
-    by true false h = refl
-    by false true h = refl
-    by false false h = refl
+separator_last c = grind (arith, apart c)
 
 abbrev is_shaped : Lexeme → Lexeme → Lexeme → Bool
 is_shaped n e l = is_name n && is_mark 0x3d e && is_length l
@@ -119,61 +60,25 @@ none_short : (v : Version) (ls : List Lexeme) → completes dues.DimensionName l
 none_short v ls off is = is ∙ rw (off) refl
 
 dims_one : (v : Version) (n : Lexeme) → listed_dims v (n ∷ []) ≡ None
-dims_one v n = by (is_mark 0x3b n)
-  where
-    by : (s : Bool) → option_and_then (dimensions v) (if_so s (Some [])) ≡ None
-    by true = refl
-    by false = refl
+dims_one v n = search (rules, dimensions, if_so)
 
 dims_two : (v : Version) (n e : Lexeme) → listed_dims v (n ∷ e ∷ []) ≡ None
-dims_two v n e = by (is_mark 0x3b e)
-  where
-    by : (s : Bool) → option_and_then (dimensions v) (option_map (λ xs. n ∷ xs) (if_so s (Some []))) ≡ None
-    by true = refl
-    by false = refl
+dims_two v n e = search (rules, dimensions, if_so)
 
 dims_three : (v : Version) (n e l : Lexeme) → listed_dims v (n ∷ e ∷ l ∷ []) ≡ None
-dims_three v n e l = by (is_mark 0x3b l)
-  where
-    by : (s : Bool) → option_and_then (dimensions v) (option_map (λ xs. n ∷ xs) (option_map (λ xs. e ∷ xs) (if_so s (Some [])))) ≡ None
-    by true = refl
-    by false = refl
+dims_three v n e l = search (rules, dimensions, if_so)
 
 pub completes_one : (n : Lexeme) → completes dues.DimensionName (n ∷ []) ≡ false
 unfolding completes next
-completes_one n = by (is_name n)
-  where
-    by : (a : Bool) → is_whole (only a dues.LengthEquals) ≡ false
-    by true = refl
-    by false = refl
+completes_one n = search rules
 
 pub completes_two : (n e : Lexeme) → completes dues.DimensionName (n ∷ e ∷ []) ≡ false
 unfolding completes next
-completes_two n e = by (is_name n) (is_mark 0x3d e)
-  where
-    by_equals : (b : Bool) → is_whole (only b dues.Length) ≡ false
-    by_equals true = refl
-    by_equals false = refl
-
-    by : (a b : Bool) → is_whole (next (only a dues.LengthEquals) e) ≡ false
-    by true b = by_equals (is_mark 0x3d e)
-    by false b = refl
+completes_two n e = search (rules, next)
 
 pub completes_three : (n e l : Lexeme) → completes dues.DimensionName (n ∷ e ∷ l ∷ []) ≡ false
 unfolding completes next
-completes_three n e l = by_name (is_name n)
-  where
-    by_len : (d : Bool) → is_whole (only d dues.LengthSeparator) ≡ false
-    by_len true = refl
-    by_len false = refl
-
-    by_equals : (b : Bool) → is_whole (next (only b dues.Length) l) ≡ false
-    by_equals true = by_len (is_length l)
-    by_equals false = refl
-
-    by_name : (a : Bool) → is_whole (next (next (only a dues.LengthEquals) e) l) ≡ false
-    by_name true = by_equals (is_mark 0x3d e)
-    by_name false = refl
+completes_three n e l = search (rules, next)
 
 -- a list of dimensions has its shape where the table says so
 pub dims_are : (v : Version) (ls : List Lexeme) → first_bad v ls ≡ None → listed_dims v ls ≡ (if completes dues.DimensionName ls then Some (dimensions_said v ls) else None)

@@ -1,14 +1,12 @@
 -- What two cutters have before them that stand at the same place.
-use Rattle.std.proofs.Common.{◌≡◌, Bool, List, [], ap, ◌∙◌, if◌then◌else◌, map}
-use Rattle.cdl_statements.proofs.Prelude.{followed, left, Token, after, first_piece, next_token, other_pieces, pieces_left, text_of, words, is_mark, lexeme, IsAtComma, SamePlace, role_in, pieces_after, Cutter, CutState}
+use Rattle.std.proofs.Common.{◌≡◌, List, ap, ◌∙◌, map, rules}
+use Rattle.cdl_statements.proofs.Prelude.{Token, after, first_piece, other_pieces, pieces_left, text_of, words, lexeme, IsAtComma, SamePlace, Cutter}
 use Rattle.cdl_tokens.specs.code.Scanners as scanners
 use Rattle.cdl_tokens.specs.declared.scanner.Scanner.{Scanner}
 
 same_pieces : (c d : Cutter) → SamePlace c d → pieces_left c ≡ pieces_left d
 unfolding pieces_left
-same_pieces c d same =
-    let pieces : Scanner → Token → CutState → Bool → List (List Token) = λ s t state done. pieces_after (role_in (scanners.text_of s)) state (if done then [] else followed t t.kind (left s)) in
-    ap (λ s. pieces s c.next c.state c.done) same.scanner ∙ ap (λ t. pieces d.scanner t c.state c.done) same.next ∙ ap (λ state. pieces d.scanner d.next state c.done) same.state ∙ ap (pieces d.scanner d.next d.state) same.done
+same_pieces c d same = search rules
 
 pub same_words : (c d : Cutter) → SamePlace c d → words c ≡ words d
 unfolding words
@@ -20,8 +18,4 @@ unfolding after
 same_after c d same = ap (λ (ps : List (List Token)). other_pieces ps) (same_pieces c d same)
 
 pub at_same_comma : (c d : Cutter) → SamePlace c d → IsAtComma d → IsAtComma c
-at_same_comma c d same at = record {
-  goes = same.done ∙ at.goes;
-  inside = same.state ∙ at.inside;
-  comma = ap (λ (s : Scanner). is_mark 0x2c (lexeme (scanners.text_of s) (next_token c))) same.scanner ∙ ap (λ (t : Token). is_mark 0x2c (lexeme (text_of d) t)) same.next ∙ at.comma;
-}
+at_same_comma c d same at = search rules

@@ -1,8 +1,8 @@
 -- The pieces, cut by how many tokens each has, are those that come of a cut token by token.
-use Rattle.std.proofs.Common.{◌≡◌, ℕ, suc, ◌+◌, ◌-◌, Bool, true, false, List, [], ◌∷◌, take, sym, ◌∙◌, ap, refl, arith, cond, ◌&&◌, ◌||◌, ◌==◌, if◌then◌else◌, slice_index}
-use Rattle.cdl_statements.proofs.Prelude.{false≢true, first_role, is_end_role, mark_role, role, role_of, pieces_after, section_step, step, unless_end, with_first, Lexeme, is_mark, is_mark_kind, is_word_kind, is_opening_kind, is_end_kind, Role, Colon, Semicolon, Other, Step, CutState, Begins, Inside, Marked, Closed, TokenKind}
+use Rattle.std.proofs.Common.{◌≡◌, ℕ, suc, ◌-◌, Bool, true, false, List, [], ◌∷◌, take, sym, ◌∙◌, refl, arith, ◌&&◌, ◌||◌, ◌==◌, slice_index, rules}
+use Rattle.cdl_statements.proofs.Prelude.{first_role, is_end_role, mark_role, role, role_of, pieces_after, section_step, step, unless_end, with_first, Lexeme, is_mark, is_mark_kind, is_word_kind, is_opening_kind, is_end_kind, Role, Colon, Semicolon, Step, CutState, Begins, Inside, Marked, Closed, TokenKind}
 use Rattle.cdl_statements.specs.Pieces.{pieces_at, piece_len, statement_len, len_before_end, is_section, is_section_mark}
-use Rattle.cdl_statements.specs.declared.piece.Role.TheVariants.{Opening, Section, Brace, End}
+use Rattle.cdl_statements.specs.declared.piece.Role.TheVariants.{Opening, Section, Brace}
 use Rattle.cdl_tokens.specs.declared.token.TokenKind.TheVariants as kinds
 
 -- ---- what a role says of a token
@@ -36,31 +36,10 @@ record Has (k : TokenKind) (bytes : List ℕ) (r : Role) : Type 0 where
   brace : (is_mark_kind k && slice_index bytes 0 == 0x7d) ≡ is_brace r
 
 has_mark_role : (bytes : List ℕ) → Has kinds.Mark bytes (mark_role (slice_index bytes 0))
-has_mark_role bytes = by (slice_index bytes 0 == 0x3a) (slice_index bytes 0 == 0x3b) (slice_index bytes 0 == 0x7d) refl refl refl
-  where
-    by : (x y z : Bool) → (slice_index bytes 0 == 0x3a) ≡ x → (slice_index bytes 0 == 0x3b) ≡ y → (slice_index bytes 0 == 0x7d) ≡ z →
-        Has kinds.Mark bytes (if x then Colon else (if y then Semicolon else (if z then Brace else Other)))
-    by true y z e f g =
-        let same : slice_index bytes 0 ≡ 0x3a = grind (arith, e) in
-        record { opening = refl; end = refl; section = λ c. refl; colon = e; semicolon = rw (same) refl; brace = rw (same) refl }
-    by false true z e f g =
-        let same : slice_index bytes 0 ≡ 0x3b = grind (arith, f) in
-        record { opening = refl; end = refl; section = λ c. refl; colon = e; semicolon = f; brace = rw (same) refl }
-    by false false true e f g = record { opening = refl; end = refl; section = λ c. refl; colon = e; semicolon = f; brace = g }
-    by false false false e f g = record { opening = refl; end = refl; section = λ c. refl; colon = e; semicolon = f; brace = g }
+has_mark_role bytes = search rules
 
 has_role : (k : TokenKind) (bytes : List ℕ) → Has k bytes (role_of k bytes)
-has_role kinds.Opening bytes = record { opening = refl; end = refl; section = λ c. refl; colon = refl; semicolon = refl; brace = refl }
-has_role kinds.Word bytes = by (is_section bytes) refl
-  where
-    by : (s : Bool) → is_section bytes ≡ s → Has kinds.Word bytes (if s then Section else Other)
-    by true e = record { opening = refl; end = refl; section = λ c. rw (e) refl; colon = refl; semicolon = refl; brace = refl }
-    by false e = record { opening = refl; end = refl; section = λ c. rw (e) refl; colon = refl; semicolon = refl; brace = refl }
-has_role kinds.Number bytes = record { opening = refl; end = refl; section = λ c. refl; colon = refl; semicolon = refl; brace = refl }
-has_role kinds.Text bytes = record { opening = refl; end = refl; section = λ c. refl; colon = refl; semicolon = refl; brace = refl }
-has_role kinds.Mark bytes = has_mark_role bytes
-has_role kinds.Bad bytes = record { opening = refl; end = refl; section = λ c. refl; colon = refl; semicolon = refl; brace = refl }
-has_role kinds.End bytes = record { opening = refl; end = refl; section = λ c. refl; colon = refl; semicolon = refl; brace = refl }
+has_role k bytes = grind (arith, has_mark_role)
 
 abbrev HasRole : {X : Type 0} → (X → Lexeme) → X → Role → Type 0
 HasRole look t r = Has (look t).kind (look t).bytes r
@@ -81,13 +60,7 @@ goes : {X : Type 0} (look : X → Lexeme) (t : X) (ts : List X) (c : Bool) (s : 
     (is_end_role n ≡ true → m ≡ 0) → (is_end_role n ≡ true → pieces_after (roles look) Begins ts ≡ pieces_at look c 0 ts) →
     (is_end_role n ≡ false → pieces_after (roles look) s ts ≡ take m ts ∷ pieces_at look c m ts) →
     stepped look t ts (unless_end n s) ≡ (t ∷ take m ts) ∷ pieces_at look c m ts
-goes look t ts c s m End none ends on = rw (none refl) (ap (λ ps. (t ∷ []) ∷ ps) (ends refl))
-goes look t ts c s m Opening none ends on = ap (with_first false t) (on refl)
-goes look t ts c s m Section none ends on = ap (with_first false t) (on refl)
-goes look t ts c s m Colon none ends on = ap (with_first false t) (on refl)
-goes look t ts c s m Semicolon none ends on = ap (with_first false t) (on refl)
-goes look t ts c s m Brace none ends on = ap (with_first false t) (on refl)
-goes look t ts c s m Other none ends on = ap (with_first false t) (on refl)
+goes look t ts c s m n h h2 h3 = grind (arith, with_first)
 
 -- what is claimed of the tokens that come next, in each state
 record Claims {X : Type 0} (look : X → Lexeme) (ts : List X) : Type 0 where
@@ -99,25 +72,13 @@ record Claims {X : Type 0} (look : X → Lexeme) (ts : List X) : Type 0 where
   closing : (c : Bool) → is_end_role (next look ts) ≡ false → pieces_after (roles look) Closed ts ≡ take (len_before_end look ts) ts ∷ pieces_at look c (len_before_end look ts) ts
 
 mark_has : {X : Type 0} (look : X → Lexeme) (t : X) (r : Role) (ts : List X) → HasRole look t r → is_section_mark look t ts ≡ (is_section_role r && is_colon (next look ts))
-mark_has look t r [] has = by r
-  where
-    by : (r : Role) → false ≡ (is_section_role r && false)
-    by Section = refl
-    by Opening = refl
-    by Colon = refl
-    by Semicolon = refl
-    by Brace = refl
-    by End = refl
-    by Other = refl
-mark_has look t r (u ∷ ts) has = has.section (is_mark 0x3a (look u)) ∙ ap (λ c. is_section_role r && c) (has_role (look u).kind (look u).bytes).colon
+mark_has look t r ts h = grind (arith, has_role)
 
 none_in_statement : {X : Type 0} (look : X → Lexeme) (ts : List X) → is_end_role (next look ts) ≡ true → statement_len look ts ≡ 0
-none_in_statement look [] h = refl
-none_in_statement look (t ∷ ts) h = rw ((has_role (look t).kind (look t).bytes).end ∙ h, statement_len) refl
+none_in_statement look ts h = grind (arith, has_role)
 
 none_before_end : {X : Type 0} (look : X → Lexeme) (ts : List X) → is_end_role (next look ts) ≡ true → len_before_end look ts ≡ 0
-none_before_end look [] h = refl
-none_before_end look (t ∷ ts) h = rw ((has_role (look t).kind (look t).bytes).end ∙ h, len_before_end) refl
+none_before_end look ts h = grind (arith, has_role)
 
 statement_on : {X : Type 0} (look : X → Lexeme) (t : X) (ts : List X) → is_end_kind (look t).kind ≡ false → is_mark 0x3b (look t) ≡ false → statement_len look (t ∷ ts) ≡ suc (statement_len look ts)
 statement_on look t ts e s = rw (e, statement_len) (rw (s) refl)
@@ -143,22 +104,10 @@ closed_on : {X : Type 0} (look : X → Lexeme) (t : X) (ts : List X) (c : Bool) 
 closed_on look t ts c k = goes look t ts c Closed (len_before_end look ts) (next look ts) (none_before_end look ts) (k.ended c) (k.closing c)
 
 not_colon : (n : Role) → is_colon n ≡ false → section_step n ≡ unless_end n Inside
-not_colon Colon h = cc
-not_colon Opening h = refl
-not_colon Section h = refl
-not_colon Semicolon h = refl
-not_colon Brace h = refl
-not_colon End h = refl
-not_colon Other h = refl
+not_colon n h = grind arith
 
 colon_is : (n : Role) → is_colon n ≡ true → n ≡ Colon
-colon_is Colon h = refl
-colon_is Opening h = cc
-colon_is Section h = cc
-colon_is Semicolon h = cc
-colon_is Brace h = cc
-colon_is End h = cc
-colon_is Other h = cc
+colon_is n h = grind arith
 
 -- the pieces that begin with a token
 abbrev first_cut : {X : Type 0} → (X → Lexeme) → Bool → X → List X → List (List X)
@@ -181,20 +130,10 @@ mark_on : {X : Type 0} (look : X → Lexeme) (t : X) (ts : List X) → HasRole l
 mark_on look t ts has e = rw (has.opening) (rw (has.end) (rw (has.brace) (rw (mark_has look t Section ts has ∙ e) refl)))
 
 section_on : {X : Type 0} (look : X → Lexeme) (t : X) (ts : List X) → HasRole look t Section → Claims look ts → (b : Bool) → is_colon (next look ts) ≡ b → stepped look t ts (section_step (next look ts)) ≡ first_cut look false t ts
-section_on look t ts has k true e =
-    let colon = colon_is (next look ts) e in
-    rw (mark_on look t ts has e) (rw (has.brace) (rw (colon) (ap (with_first false t) (k.marked (ap is_end_role colon)))))
-section_on look t ts has k false e =
-    rw (not_colon (next look ts) e) (inside_on look t ts k ∙ goes_begun look t ts Section has k refl e refl refl refl)
+section_on look t ts h h2 b h3 = grind (arith, colon_is, next, mark_on, with_first, not_colon, inside_on, goes_begun)
 
 begins_on : {X : Type 0} (look : X → Lexeme) (t : X) (ts : List X) (r : Role) → HasRole look t r → Claims look ts → stepped look t ts (step Begins r (next look ts)) ≡ first_cut look false t ts
-begins_on look t ts Opening has k = rw (alone_on look t ts Opening has refl) (rw (has.brace) (ap (λ ps. (t ∷ []) ∷ ps) k.begins))
-begins_on look t ts End has k = rw (alone_on look t ts End has refl) (rw (has.brace) (ap (λ ps. (t ∷ []) ∷ ps) k.begins))
-begins_on look t ts Brace has k = rw (alone_on look t ts Brace has refl) (rw (has.brace) (ap (λ ps. (t ∷ []) ∷ ps) k.closed))
-begins_on look t ts Semicolon has k = rw (other_on look t ts Semicolon has refl refl ∙ statement_ends look t ts has.end has.semicolon) (rw (has.brace) (ap (λ ps. (t ∷ []) ∷ ps) k.begins))
-begins_on look t ts Colon has k = inside_on look t ts k ∙ goes_begun look t ts Colon has k refl refl refl refl refl
-begins_on look t ts Other has k = inside_on look t ts k ∙ goes_begun look t ts Other has k refl refl refl refl refl
-begins_on look t ts Section has k = section_on look t ts has k (is_colon (next look ts)) refl
+begins_on look t ts r h h2 = grind (arith, alone_on, other_on, statement_ends, inside_on, goes_begun, section_on, next)
 
 closed_more : {X : Type 0} (look : X → Lexeme) (t : X) (ts : List X) → is_end_kind (look t).kind ≡ false → Claims look ts →
     stepped look t ts (unless_end (next look ts) Closed) ≡ first_cut look true t ts
@@ -202,63 +141,28 @@ closed_more look t ts e k =
     closed_on look t ts (is_mark 0x7d (look t)) k ∙ rw (e) (rw (before_on look t ts e) (sym (longer look t ts (is_mark 0x7d (look t)) (len_before_end look ts))))
 
 closed_begun : {X : Type 0} (look : X → Lexeme) (t : X) (ts : List X) (r : Role) → HasRole look t r → Claims look ts → stepped look t ts (step Closed r (next look ts)) ≡ first_cut look true t ts
-closed_begun look t ts End has k = rw (has.end) (rw (has.brace) (ap (λ ps. (t ∷ []) ∷ ps) k.begins))
-closed_begun look t ts Opening has k = closed_more look t ts has.end k
-closed_begun look t ts Section has k = closed_more look t ts has.end k
-closed_begun look t ts Colon has k = closed_more look t ts has.end k
-closed_begun look t ts Semicolon has k = closed_more look t ts has.end k
-closed_begun look t ts Brace has k = closed_more look t ts has.end k
-closed_begun look t ts Other has k = closed_more look t ts has.end k
+closed_begun look t ts r h h2 = grind (arith, closed_more)
 
 ended_on : {X : Type 0} (look : X → Lexeme) (t : X) (ts : List X) (c : Bool) (r : Role) → HasRole look t r → Claims look ts → is_end_role r ≡ true →
     stepped look t ts (step Begins r (next look ts)) ≡ first_cut look c t ts
-ended_on look t ts false r has k e = begins_on look t ts r has k
-ended_on look t ts true End has k e = closed_begun look t ts End has k
-ended_on look t ts true Opening has k e = cc
-ended_on look t ts true Section has k e = cc
-ended_on look t ts true Colon has k e = cc
-ended_on look t ts true Semicolon has k e = cc
-ended_on look t ts true Brace has k e = cc
-ended_on look t ts true Other has k e = cc
+ended_on look t ts c r h h2 h3 = grind (arith, begins_on, closed_begun)
 
 inside_begun : {X : Type 0} (look : X → Lexeme) (t : X) (ts : List X) (r : Role) → HasRole look t r → Claims look ts → is_end_role r ≡ false →
     stepped look t ts (step Inside r (next look ts)) ≡
     take (statement_len look (t ∷ ts)) (t ∷ ts) ∷ pieces_at look false (statement_len look (t ∷ ts)) (t ∷ ts)
 unfolding pieces_at
-inside_begun look t ts End has k e = cc
-inside_begun look t ts Semicolon has k e = rw (statement_ends look t ts has.end has.semicolon) (ap (λ ps. (t ∷ []) ∷ ps) k.begins)
-inside_begun look t ts Opening has k e = rw (statement_on look t ts has.end has.semicolon) (inside_on look t ts k)
-inside_begun look t ts Section has k e = rw (statement_on look t ts has.end has.semicolon) (inside_on look t ts k)
-inside_begun look t ts Colon has k e = rw (statement_on look t ts has.end has.semicolon) (inside_on look t ts k)
-inside_begun look t ts Brace has k e = rw (statement_on look t ts has.end has.semicolon) (inside_on look t ts k)
-inside_begun look t ts Other has k e = rw (statement_on look t ts has.end has.semicolon) (inside_on look t ts k)
+inside_begun look t ts r h h2 h3 = grind (arith, statement_ends, statement_on, inside_on)
 
 closing_begun : {X : Type 0} (look : X → Lexeme) (t : X) (ts : List X) (c : Bool) (r : Role) → HasRole look t r → Claims look ts → is_end_role r ≡ false →
     stepped look t ts (step Closed r (next look ts)) ≡
     take (len_before_end look (t ∷ ts)) (t ∷ ts) ∷ pieces_at look c (len_before_end look (t ∷ ts)) (t ∷ ts)
 unfolding pieces_at
-closing_begun look t ts c End has k e = cc
-closing_begun look t ts c Opening has k e = rw (before_on look t ts has.end) (closed_on look t ts c k)
-closing_begun look t ts c Section has k e = rw (before_on look t ts has.end) (closed_on look t ts c k)
-closing_begun look t ts c Colon has k e = rw (before_on look t ts has.end) (closed_on look t ts c k)
-closing_begun look t ts c Semicolon has k e = rw (before_on look t ts has.end) (closed_on look t ts c k)
-closing_begun look t ts c Brace has k e = rw (before_on look t ts has.end) (closed_on look t ts c k)
-closing_begun look t ts c Other has k e = rw (before_on look t ts has.end) (closed_on look t ts c k)
+closing_begun look t ts c r h h2 h3 = grind (arith, before_on, closed_on)
 
 claims : {X : Type 0} (look : X → Lexeme) (ts : List X) → Claims look ts
 unfolding pieces_after pieces_at
 claims look [] = record { begins = refl; closed = refl; ended = λ c e. refl; inside = λ e. cc; marked = λ e. cc; closing = λ c e. cc }
-claims look (t ∷ ts) =
-    let k = claims look ts in
-    let has = has_role (look t).kind (look t).bytes in
-    record {
-      begins = begins_on look t ts (role (look t)) has k;
-      closed = closed_begun look t ts (role (look t)) has k;
-      ended = λ c e. ended_on look t ts c (role (look t)) has k e;
-      inside = λ e. inside_begun look t ts (role (look t)) has k e;
-      marked = λ e. ap (λ ps. (t ∷ []) ∷ ps) k.begins;
-      closing = λ c e. closing_begun look t ts c (role (look t)) has k e;
-    }
+claims look (t ∷ ts) = search (rules, has_role, begins_on, closed_begun, ended_on, inside_begun, closing_begun, claims look ts)
 
 pub pieces_by_steps : {X : Type 0} (look : X → Lexeme) (ts : List X) → pieces_at look false 0 ts ≡ pieces_after (λ t. role (look t)) Begins ts
 pieces_by_steps look ts = sym (claims look ts).begins

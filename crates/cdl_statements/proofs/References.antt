@@ -1,6 +1,6 @@
 -- Declarations, token by token: the names of a variable's dimensions, in parentheses.
-use Rattle.std.proofs.Common.{◌≡◌, ℕ, Bool, true, false, List, [], ◌∷◌, ◌++◌, refl, sym, ap, ◌∙◌, Option, None, Some, if◌then◌else◌, ◌||◌, not}
-use Rattle.cdl_statements.proofs.Prelude.{option_map, option_and_then, Declaration, declaration_said, only, separator, next, is_whole, completes, is_name, word_value, Lexeme, is_mark, name_of, Variable, variable, each, both, if_so, before_mark, members, members_in, into_first, name_alone}
+use Rattle.std.proofs.Common.{◌≡◌, ℕ, Bool, true, false, List, [], ◌∷◌, ◌++◌, refl, sym, ap, ◌∙◌, None, Some, if◌then◌else◌, ◌||◌, arith, rules}
+use Rattle.cdl_statements.proofs.Prelude.{option_map, Declaration, declaration_said, only, next, completes, is_name, word_value, Lexeme, is_mark, name_of, Variable, variable, each, both, if_so, members, members_in, into_first, name_alone}
 use Rattle.cdl_statements.specs.declared.due.Due.TheVariants as dues
 use Rattle.cdl_statements.proofs.Listing.{never_completes, kind_of_mark}
 use Rattle.cdl_statements.proofs.Options.{both_some, given_map, given_none, map_if, none_if, same_if}
@@ -10,126 +10,62 @@ use Rattle.cdl_statements.proofs.Shaping.{nameless}
 -- ---- a dimension's name
 
 pub alone_none : (d : Lexeme) (ms : List (List Lexeme)) → name_of d ≡ None → each name_alone (into_first d ms) ≡ None
-alone_none d [] h = rw (h) refl
-alone_none d ([] ∷ ms) h = rw (h) refl
-alone_none d ((y ∷ ys) ∷ ms) h = refl
+alone_none d ms h = grind arith
 
 pub not_alone : (d : Lexeme) (zs : List Lexeme) → name_of d ≡ None → each name_alone (members (d ∷ zs)) ≡ None
-not_alone d zs h = by (is_mark 0x2c d) refl
-  where
-    by : (a : Bool) → is_mark 0x2c d ≡ a → each name_alone (members (d ∷ zs)) ≡ None
-    by true on = ap (each name_alone) (members_at false true (is_mark 0x28 d) (is_mark 0x29 d) d zs on refl refl)
-    by false off = ap (each name_alone) (members_at false false (is_mark 0x28 d) (is_mark 0x29 d) d zs off refl refl) ∙ alone_none d (members_in (is_mark 0x28 d || false) zs) h
+not_alone d zs h = search (rules, each, members_at, alone_none)
 
 pub not_referred : (d : Lexeme) (m : List Lexeme) → name_of d ≡ None → referred (d ∷ m) ≡ None
-not_referred d [] h = by (is_mark 0x29 d)
-  where
-    by : (b : Bool) → option_and_then (λ inner. each name_alone (members inner)) (if_so b (Some [])) ≡ None
-    by true = refl
-    by false = refl
-not_referred d (y ∷ ys) h = by (before_mark 0x29 (y ∷ ys)) (λ zs. not_alone d zs h)
-  where
-    by : (o : Option (List Lexeme)) → ((zs : List Lexeme) → each name_alone (members (d ∷ zs)) ≡ None) → option_and_then (λ inner. each name_alone (members inner)) (option_map (λ zs. d ∷ zs) o) ≡ None
-    by None h = refl
-    by (Some zs) h = h zs
+not_referred d m h = grind (arith, each, if_so, not_alone)
 
 pub no_reference : (d : Lexeme) (ms : List (List Lexeme)) → name_of d ≡ None → inside (into_first d ms) ≡ None
-no_reference d [] h = ap (λ o. both (λ ds vs. record { dimensions = ds; variables = vs }) o (Some [])) (not_referred d [] h)
-no_reference d (m ∷ ms) h = ap (λ o. both (λ ds vs. record { dimensions = ds; variables = vs }) o (each variable ms)) (not_referred d m h)
+no_reference d ms h = grind (arith, both, not_referred, each)
 
 pub not_reference : (d : Lexeme) (xs : List Lexeme) → name_of d ≡ None → inside (members_in true (d ∷ xs)) ≡ None
-not_reference d xs h = by (is_mark 0x2c d) refl
-  where
-    by : (a : Bool) → is_mark 0x2c d ≡ a → inside (members_in true (d ∷ xs)) ≡ None
-    by true on = ap inside (members_at true true (is_mark 0x28 d) (is_mark 0x29 d) d xs on refl refl) ∙ no_reference d (members_in (is_mark 0x28 d || not (is_mark 0x29 d)) xs) h
-    by false off = ap inside (members_at true false (is_mark 0x28 d) (is_mark 0x29 d) d xs off refl refl) ∙ no_reference d (members_in (is_mark 0x28 d || not (is_mark 0x29 d)) xs) h
+not_reference d xs h = search (rules, inside, members_at, no_reference)
 
 pub reference_end : (s : Lexeme) → if_so (is_mark 0x3b s) (inside (members_in true [])) ≡ if_whole dues.VariableDimension (s ∷ []) (declaration_said true (s ∷ []))
 unfolding completes next
-reference_end s = given_none (is_mark 0x3b s) ∙ by (is_name s)
-  where
-    by : (w : Bool) → None ≡ (if is_whole (only w dues.AfterVariableDimension) then Some (declaration_said true (s ∷ [])) else None)
-    by true = refl
-    by false = refl
+reference_end s = search (rules, given_none)
 
 pub reference_more : (s d : Lexeme) (xs : List Lexeme) → Claims s xs →
     if_so (is_mark 0x3b s) (inside (members_in true (d ∷ xs))) ≡ if_whole dues.VariableDimension (d ∷ xs ++ s ∷ []) (declaration_said true (d ∷ xs ++ s ∷ []))
 unfolding completes next
-reference_more s d xs k = by (is_name d) refl
-  where
-    by : (w : Bool) → is_name d ≡ w →
-        if_so (is_mark 0x3b s) (inside (members_in true (d ∷ xs))) ≡ (if completes (only w dues.AfterVariableDimension) (xs ++ s ∷ []) then Some (declaration_said true (d ∷ xs ++ s ∷ [])) else None)
-    by true on =
-        ap (λ ms. if_so (is_mark 0x3b s) (inside ms)) (members_at true false false false d xs (name_mark 0x2c d on) (name_mark 0x28 d on) (name_mark 0x29 d on)) ∙
-        k.after_reference d on ∙ ap (λ r. if_whole dues.AfterVariableDimension (xs ++ s ∷ []) r) (sym (said_name true d (xs ++ s ∷ []) on))
-    by false off = none_if _ _ _ (ap (if_so (is_mark 0x3b s)) (not_reference d xs (nameless d off)) ∙ given_none (is_mark 0x3b s)) (never_completes (xs ++ s ∷ []))
+reference_more s d xs k =
+    search (rules, if_so, inside, members_at, name_mark, said_name, none_if, not_reference, nameless, given_none, never_completes)
 
 -- ---- after a dimension's name
 
 pub alone_long : (d t : Lexeme) (ms : List (List Lexeme)) → each name_alone (into_first d (into_first t ms)) ≡ None
-alone_long d t [] = refl
-alone_long d t (m ∷ ms) = refl
+alone_long d t ms = grind arith
 
 pub not_alone_long : (d t : Lexeme) (zs : List Lexeme) → is_name d ≡ true → is_mark 0x2c t ≡ false → each name_alone (members (d ∷ t ∷ zs)) ≡ None
-not_alone_long d t zs on off =
-    ap (each name_alone) (members_at false false false false d (t ∷ zs) (name_mark 0x2c d on) (name_mark 0x28 d on) (name_mark 0x29 d on)) ∙
-    ap (λ ms. each name_alone (into_first d ms)) (members_at false false (is_mark 0x28 t) (is_mark 0x29 t) t zs off refl refl) ∙ alone_long d t (members_in (is_mark 0x28 t || false) zs)
+not_alone_long d t zs on off = search (rules, each, members_at, name_mark, alone_long)
 
 pub referred_long : (d t y : Lexeme) (ys : List Lexeme) → is_name d ≡ true → is_mark 0x2c t ≡ false → referred (d ∷ t ∷ y ∷ ys) ≡ None
-referred_long d t y ys on off = by (before_mark 0x29 (y ∷ ys)) (λ zs. not_alone_long d t zs on off)
-  where
-    by : (o : Option (List Lexeme)) → ((zs : List Lexeme) → each name_alone (members (d ∷ t ∷ zs)) ≡ None) →
-        option_and_then (λ inner. each name_alone (members inner)) (option_map (λ zs. d ∷ zs) (option_map (λ zs. t ∷ zs) o)) ≡ None
-    by None h = refl
-    by (Some zs) h = h zs
+referred_long d t y ys on off = grind (arith, not_alone_long d t, each name_alone)
 
 pub referred_two : (d t : Lexeme) → is_mark 0x29 t ≡ false → referred (d ∷ t ∷ []) ≡ None
 referred_two d t off = rw (off) refl
 
 pub referred_other : (d t : Lexeme) (m : List Lexeme) → is_name d ≡ true → is_mark 0x2c t ≡ false → is_mark 0x29 t ≡ false → referred (d ∷ t ∷ m) ≡ None
-referred_other d t [] on off other = referred_two d t other
-referred_other d t (y ∷ ys) on off other = referred_long d t y ys on off
+referred_other d t m h h2 h3 = grind (arith, referred_two, referred_long)
 
 pub no_next : (d t : Lexeme) (ms : List (List Lexeme)) → is_name d ≡ true → is_mark 0x2c t ≡ false → is_mark 0x29 t ≡ false → inside (into_first d (into_first t ms)) ≡ None
-no_next d t [] on off other = ap (λ o. both (λ ds vs. record { dimensions = ds; variables = vs }) o (Some [])) (referred_other d t [] on off other)
-no_next d t (m ∷ ms) on off other = ap (λ o. both (λ ds vs. record { dimensions = ds; variables = vs }) o (each variable ms)) (referred_other d t m on off other)
+no_next d t ms h h2 h3 = grind (arith, both, referred_other, each)
 
 pub alone_more : (d t : Lexeme) (zs : List Lexeme) → is_name d ≡ true → is_mark 0x2c t ≡ true → each name_alone (members (d ∷ t ∷ zs)) ≡ option_map (λ ds. word_value d.bytes ∷ ds) (each name_alone (members zs))
-alone_more d t zs on comma =
-    ap (each name_alone) (members_at false false false false d (t ∷ zs) (name_mark 0x2c d on) (name_mark 0x28 d on) (name_mark 0x29 d on)) ∙
-    ap (λ ms. each name_alone (into_first d ms)) (members_at false true (is_mark 0x28 t) (is_mark 0x29 t) t zs comma refl refl) ∙
-    ap (λ o. both (λ (y : List ℕ) ys. y ∷ ys) o (each name_alone (members zs))) (named d on) ∙ both_some (λ (y : List ℕ) ys. y ∷ ys) (word_value d.bytes) (each name_alone (members zs))
+alone_more d t zs on comma = search (rules, each, members_at, name_mark, both, named, both_some)
 
 pub referred_more : (d t : Lexeme) (m : List Lexeme) → is_name d ≡ true → is_mark 0x2c t ≡ true → referred (d ∷ t ∷ m) ≡ option_map (λ ds. word_value d.bytes ∷ ds) (referred m)
-referred_more d t [] on comma = referred_two d t (one_mark 0x2c 0x29 t refl comma)
-referred_more d t (y ∷ ys) on comma = by (before_mark 0x29 (y ∷ ys)) (λ zs. alone_more d t zs on comma)
-  where
-    by : (o : Option (List Lexeme)) → ((zs : List Lexeme) → each name_alone (members (d ∷ t ∷ zs)) ≡ option_map (λ ds. word_value d.bytes ∷ ds) (each name_alone (members zs))) →
-        option_and_then (λ inner. each name_alone (members inner)) (option_map (λ zs. d ∷ zs) (option_map (λ zs. t ∷ zs) o)) ≡
-        option_map (λ ds. word_value d.bytes ∷ ds) (option_and_then (λ inner. each name_alone (members inner)) o)
-    by None h = refl
-    by (Some zs) h = h zs
+referred_more d t m h h2 = grind (arith, referred_two, one_mark, alone_more, each)
 
 pub next_refers : (d t : Lexeme) (ms : List (List Lexeme)) → is_name d ≡ true → is_mark 0x2c t ≡ true → inside (into_first d (into_first t ms)) ≡ option_map (refer d) (inside ms)
-next_refers d t [] on comma = ap (λ o. both (λ ds vs. record { dimensions = ds; variables = vs }) o (Some [])) (referred_more d t [] on comma)
-next_refers d t (m ∷ ms) on comma = ap (λ o. both (λ ds vs. record { dimensions = ds; variables = vs }) o (each variable ms)) (referred_more d t m on comma) ∙ by (referred m) (each variable ms)
-  where
-    by : (o : Option (List (List ℕ))) (r : Option (List Variable)) →
-        both (λ ds vs. record { dimensions = ds; variables = vs }) (option_map (λ ds. word_value d.bytes ∷ ds) o) r ≡ option_map (refer d) (both (λ ds vs. record { dimensions = ds; variables = vs }) o r)
-    by None r = refl
-    by (Some ds) None = refl
-    by (Some ds) (Some vs) = refl
+next_refers d t ms h h2 = grind (arith, both, referred_more, each)
 
 pub referred_end : (s d : Lexeme) → is_name d ≡ true → if_so (is_mark 0x3b s) (inside (into_first d (members_in true []))) ≡ if_whole dues.AfterVariableDimension (s ∷ []) (refer d (declaration_said true (s ∷ [])))
 unfolding completes next
-referred_end s d on =
-    ap (λ b. if_so (is_mark 0x3b s) (both (λ ds vs. record { dimensions = ds; variables = vs }) (option_and_then (λ inner. each name_alone (members inner)) (if_so b (Some []))) (Some []))) (name_mark 0x29 d on) ∙
-    given_none (is_mark 0x3b s) ∙ by (is_mark 0x2c s) (is_mark 0x29 s)
-  where
-    by : (a c : Bool) → None ≡ (if is_whole (if a then dues.VariableDimension else only c dues.AfterShape) then Some (refer d (declaration_said true (s ∷ []))) else None)
-    by true c = refl
-    by false true = refl
-    by false false = refl
+referred_end s d on = search (rules, if_so, both, each, name_mark, given_none)
 
 pub referred_on : (s d t : Lexeme) (xs : List Lexeme) → is_name d ≡ true → Claims s xs →
     if_so (is_mark 0x3b s) (inside (into_first d (members_in true (t ∷ xs)))) ≡ if_whole dues.AfterVariableDimension (t ∷ xs ++ s ∷ []) (refer d (declaration_said true (t ∷ xs ++ s ∷ [])))
@@ -159,20 +95,15 @@ referred_on s d t xs on k = by (is_mark 0x2c t) (is_mark 0x29 t) refl refl
 -- ---- after the closing parenthesis
 
 pub closed : (d e : Lexeme) → is_name d ≡ true → is_mark 0x29 e ≡ true → referred (d ∷ e ∷ []) ≡ Some (word_value d.bytes ∷ [])
-closed d e on closing =
-    ap (λ b. option_and_then (λ inner. each name_alone (members inner)) (option_map (λ zs. d ∷ zs) (if_so b (Some [])))) closing ∙
-    ap (each name_alone) (members_at false false false false d [] (name_mark 0x2c d on) (name_mark 0x28 d on) (name_mark 0x29 d on)) ∙ rw (named d on) refl
+closed d e on closing = search (rules, each, if_so, members_at, name_mark, named)
 
 pub shape_end : (s d e : Lexeme) → is_name d ≡ true → is_mark 0x29 e ≡ true →
     if_so (is_mark 0x3b s) (inside (into_first d (into_first e (members [])))) ≡ if_whole dues.AfterShape (s ∷ []) (refer d (declaration_said false (s ∷ [])))
 unfolding completes next
-shape_end s d e on closing =
-    ap (λ o. if_so (is_mark 0x3b s) (both (λ ds vs. record { dimensions = ds; variables = vs }) o (Some []))) (closed d e on closing) ∙
-    given_whole (is_whole (separator dues.VariableName s)) (is_mark 0x3b s) (record { dimensions = word_value d.bytes ∷ []; variables = [] }) (refer d (declaration_said false (s ∷ []))) (separator_whole dues.VariableName s refl) (λ h. ap (refer d) (ends_said s h))
+shape_end s d e on closing = search (rules, if_so, both, closed, given_whole, separator_whole, ends_said)
 
 pub no_more_shape : (d e c : Lexeme) (ms : List (List Lexeme)) → is_name d ≡ true → is_mark 0x2c e ≡ false → inside (into_first d (into_first e (into_first c ms))) ≡ None
-no_more_shape d e c [] on off = ap (λ o. both (λ ds vs. record { dimensions = ds; variables = vs }) o (Some [])) (referred_long d e c [] on off)
-no_more_shape d e c (m ∷ ms) on off = ap (λ o. both (λ ds vs. record { dimensions = ds; variables = vs }) o (each variable ms)) (referred_long d e c m on off)
+no_more_shape d e c ms h h2 = grind (arith, both, referred_long, each)
 
 pub shape_on : (s d e c : Lexeme) (xs : List Lexeme) → is_name d ≡ true → is_mark 0x29 e ≡ true → Claims s xs →
     if_so (is_mark 0x3b s) (inside (into_first d (into_first e (members (c ∷ xs))))) ≡ if_whole dues.AfterShape (c ∷ xs ++ s ∷ []) (refer d (declaration_said false (c ∷ xs ++ s ∷ [])))

@@ -1,17 +1,15 @@
 -- A statement, one token on.
-use Rattle.std.proofs.Common.{◌≡◌, ℕ, true, false, List, [], ◌∷◌, refl, ap, ◌∙◌, Bool, Option, None, Some, if◌then◌else◌, is_none, option_map}
+use Rattle.std.proofs.Common.{◌≡◌, ℕ, true, false, List, [], ◌∷◌, refl, ap, ◌∙◌, Bool, Option, None, if◌then◌else◌, is_none, option_map, arith}
 use Rattle.cdl_tokens.specs.code.Magnitudes.{held}
 use Rattle.cdl_tokens.specs.declared.numeral.Numeral.{Numeral as Held}
-use Rattle.cdl_statements.proofs.Prelude.{Version, Lexeme, Parts, parts, number, numeral, first_bad, either, token_fault, CdlKind}
+use Rattle.cdl_statements.proofs.Prelude.{Version, Lexeme, parts, number, numeral, first_bad, either, token_fault, CdlKind}
 
 pub bad_on : (version : Version) (bad : Option CdlKind) (l : Lexeme) (ls : List Lexeme) →
     either bad (first_bad version (l ∷ ls)) ≡ either (either bad (token_fault version l.kind l.bytes)) (first_bad version ls)
-bad_on version None l ls = refl
-bad_on version (Some b) l ls = refl
+bad_on version bad l ls = grind arith
 
 pub none_bad : (version : Version) (bad : Option CdlKind) → either bad (first_bad version []) ≡ bad
-none_bad version None = refl
-none_bad version (Some b) = refl
+none_bad version bad = grind arith
 
 -- a token's words, where the piece goes on and where it ends
 pub going : (ws rest : List Lexeme) (l m : Lexeme) (ends : Bool) → ws ≡ l ∷ (if ends then [] else rest) → l ≡ m → ends ≡ false → ws ≡ m ∷ rest
@@ -34,8 +32,4 @@ good_end version l good = ap (λ b. either b None) good
 -- a number is bad where it has no parts
 pub bad_number : (version : Version) (bytes : List ℕ) (r : Option Held) → r ≡ option_map held (parts version bytes) → is_none r ≡ is_none (numeral version bytes)
 unfolding numeral
-bad_number version bytes r is = ap is_none is ∙ by_parts (parts version bytes)
-  where
-    by_parts : (r : Option Parts) → is_none (option_map held r) ≡ is_none (option_map number r)
-    by_parts None = refl
-    by_parts (Some n) = refl
+bad_number version bytes r is = grind (arith, parts version bytes, is_none, held, number)

@@ -1,8 +1,7 @@
 -- Statements: the table of due tokens says whether one has its shape, and what it says stands in its tokens.
-use Rattle.std.proofs.Common.{◌≡◌, ℕ, Bool, true, false, List, [], ◌∷◌, drop, refl, sym, ap, ◌∙◌, Option, None, Some, if◌then◌else◌, ◌&&◌, codes}
-use Rattle.cdl_statements.proofs.Prelude.{option_map, option_and_then, Version, values, only, next, completes, is_name, word_value, Lexeme, is_mark, is_mark_kind, is_word, is_word_kind, name_of, Value, Statement, Listed, Brace, first_bad, assigned, constants, both, if_so, before_mark, either, alone, section_mark, section_of, mark_after, shape, Section, Dimensions, Variables, Values, TokenKind, and_false}
+use Rattle.std.proofs.Common.{◌≡◌, ℕ, Bool, true, false, List, [], ◌∷◌, drop, refl, sym, ap, ◌∙◌, Option, None, Some, if◌then◌else◌, ◌&&◌, codes, arith, rules}
+use Rattle.cdl_statements.proofs.Prelude.{option_and_then, Version, values, only, next, completes, is_name, word_value, Lexeme, is_mark, is_mark_kind, is_word_kind, name_of, Value, Statement, Listed, Brace, first_bad, assigned, constants, both, if_so, before_mark, either, alone, section_mark, section_of, mark_after, shape, Section, Values, TokenKind, and_false}
 use Rattle.cdl_statements.specs.declared.due.Due.TheVariants as dues
-use Rattle.cdl_tokens.specs.declared.token.TokenKind.TheVariants as kinds
 use Rattle.cdl_statements.proofs.Options.{either_none, given_none}
 use Rattle.cdl_statements.proofs.Listing.{fine_on, nothing_more, only_completes, listed, listed_is, kind_of_mark}
 
@@ -12,42 +11,21 @@ name_is n = refl
 
 pub pair : {A B C : Type 0} (f : A → B → C) (i c w : Bool) (x : Option A) (a : A) (r : Option B) (b : B) →
     x ≡ (if i then Some a else None) → r ≡ (if w then Some b else None) → if_so c (both f x r) ≡ (if i && (c && w) then Some (f a b) else None)
-pair f true true true x a r b hx hr = rw (hx) (rw (hr) refl)
-pair f true true false x a r b hx hr = rw (hx) (rw (hr) refl)
-pair f true false w x a r b hx hr = refl
-pair f false true w x a r b hx hr = rw (hx) refl
-pair f false false w x a r b hx hr = refl
+pair f i c w x a r b h h2 = grind arith
 
 -- NAME = CONST, .. ;
 abbrev pub assigned_to : {A : Type 0} → Version → Bool → (List ℕ → List Value → A) → List Lexeme → Option A
 assigned_to v takes_fill f ls = option_and_then (assigned v takes_fill f) (before_mark 0x3b ls)
 
 assigned_lone : {A : Type 0} (v : Version) (takes_fill : Bool) (f : List ℕ → List Value → A) (n : Lexeme) → assigned_to v takes_fill f (n ∷ []) ≡ None
-assigned_lone v takes_fill f n = by (is_mark 0x3b n)
-  where
-    by : (s : Bool) → option_and_then (assigned v takes_fill f) (if_so s (Some [])) ≡ None
-    by true = refl
-    by false = refl
+assigned_lone v takes_fill f n = search (rules, if_so)
 
 assigned_two : {A : Type 0} (v : Version) (takes_fill : Bool) (f : List ℕ → List Value → A) (n e : Lexeme) → assigned_to v takes_fill f (n ∷ e ∷ []) ≡ None
-assigned_two v takes_fill f n e = by (is_mark 0x3b e)
-  where
-    by : (s : Bool) → option_and_then (assigned v takes_fill f) (option_map (λ xs. n ∷ xs) (if_so s (Some []))) ≡ None
-    by true = refl
-    by false = refl
+assigned_two v takes_fill f n e = search (rules, if_so)
 
 assigned_more : {A : Type 0} (v : Version) (takes_fill : Bool) (f : List ℕ → List Value → A) (n e r : Lexeme) (rs : List Lexeme) →
     assigned_to v takes_fill f (n ∷ e ∷ r ∷ rs) ≡ if_so (is_mark 0x3d e) (both f (name_of n) (listed v takes_fill (r ∷ rs)))
-assigned_more v takes_fill f n e r rs = by (before_mark 0x3b (r ∷ rs))
-  where
-    none : (c : Bool) (x : Option (List ℕ)) → None ≡ if_so c (both f x None)
-    none true None = refl
-    none true (Some x) = refl
-    none false x = refl
-
-    by : (b : Option (List Lexeme)) → option_and_then (assigned v takes_fill f) (option_map (λ xs. n ∷ xs) (option_map (λ xs. e ∷ xs) b)) ≡ if_so (is_mark 0x3d e) (both f (name_of n) (option_and_then (constants v takes_fill) b))
-    by None = none (is_mark 0x3d e) (name_of n)
-    by (Some ys) = refl
+assigned_more v takes_fill f n e r rs = search (rules, if_so, both, constants)
 
 -- the tokens after a name
 equals_completes : (takes_fill : Bool) (e : Lexeme) (ls : List Lexeme) → completes (dues.Equals takes_fill) (e ∷ ls) ≡ (is_mark 0x3d e && completes (dues.Value takes_fill) ls)
@@ -67,13 +45,7 @@ assigned_is v takes_fill f n (e ∷ r ∷ rs) h =
 -- ---- marks are neither names nor words
 
 mark_no_word : (k : TokenKind) → is_mark_kind k ≡ true → is_word_kind k ≡ false
-mark_no_word kinds.Opening h = cc
-mark_no_word kinds.Word h = cc
-mark_no_word kinds.Number h = refl
-mark_no_word kinds.Text h = refl
-mark_no_word kinds.Mark h = refl
-mark_no_word kinds.Bad h = refl
-mark_no_word kinds.End h = refl
+mark_no_word k h = grind arith
 
 pub mark_word : (b : ℕ) (l : Lexeme) → is_mark b l ≡ true → is_word_kind l.kind ≡ false
 mark_word b l h = mark_no_word l.kind (kind_of_mark b l h)
@@ -89,24 +61,14 @@ mark_is : (section : Section) (l c : Lexeme) → section_of l ≡ None → secti
 mark_is section l c h = rw (h) (given_none (is_mark 0x3a c))
 
 pub no_mark : (section : Section) (l : Lexeme) (ls : List Lexeme) → section_of l ≡ None → section_mark section (l ∷ ls) ≡ None
-no_mark section l [] h = refl
-no_mark section l (c ∷ []) h = mark_is section l c h
-no_mark section l (c ∷ d ∷ ls) h = refl
+no_mark section l ls h = grind (arith, mark_is)
 
 -- no section is after the data
 none_after : (l : Lexeme) → option_and_then (mark_after Values) (section_of l) ≡ None
-none_after l = by (is_word (codes "dimensions") l) (is_word (codes "variables") l) (is_word (codes "data") l)
-  where
-    by : (a b c : Bool) → option_and_then (mark_after Values) (if a then Some Dimensions else (if b then Some Variables else (if c then Some Values else None))) ≡ None
-    by true b c = refl
-    by false true c = refl
-    by false false true = refl
-    by false false false = refl
+none_after l = grind (arith, codes "dimensions", codes "variables", codes "data")
 
 last_mark : (l : Lexeme) (ls : List Lexeme) → section_mark Values (l ∷ ls) ≡ None
-last_mark l [] = refl
-last_mark l (c ∷ []) = rw (none_after l) (given_none (is_mark 0x3a c))
-last_mark l (c ∷ d ∷ ls) = refl
+last_mark l ls = grind (arith, none_after, given_none)
 
 -- ---- the data section
 
@@ -114,13 +76,8 @@ last_mark l (c ∷ d ∷ ls) = refl
 abbrev pub data_said : Version → Lexeme → List Lexeme → Statement
 data_said v l ls = if is_mark 0x7d l then Brace else Listed (word_value l.bytes) (values v (drop 1 ls))
 
-if_none : {A : Type 0} (b : Bool) (a : A) → b ≡ false → (if b then Some a else None) ≡ None
-if_none true a h = cc
-if_none false a h = refl
-
 pub no_brace : (l : Lexeme) (ls : List Lexeme) → is_mark 0x7d l ≡ false → alone {A = Statement} (is_mark 0x7d) Brace (l ∷ ls) ≡ None
-no_brace l [] h = rw (h) refl
-no_brace l (m ∷ ls) h = refl
+no_brace l ls h = grind arith
 
 data_brace : (v : Version) (l : Lexeme) (ls : List Lexeme) → first_bad v ls ≡ None → is_mark 0x7d l ≡ true → shape v Values (l ∷ ls) ≡ (if completes dues.Nothing ls then Some Brace else None)
 unfolding shape completes next

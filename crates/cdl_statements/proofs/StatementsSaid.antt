@@ -1,6 +1,6 @@
 -- What a whole statement says stands in its tokens, section by section.
-use Rattle.std.proofs.Common.{◌≡◌, Bool, true, false, List, [], ◌∷◌, drop, refl, sym, ap, ◌∙◌, Option, None, Some, if◌then◌else◌, ◌&&◌, is_some, nat_lt}
-use Rattle.cdl_statements.proofs.Prelude.{option_map, option_and_then, false≢true, Version, attribute_said, declaration_said, dimensions_said, mark_said, statement_said, values, variable_said, completes, opens_section_after, is_name, next, only, word_value, Lexeme, is_mark, is_word_kind, is_opening_kind, is_end_kind, Statement, Listed, Attribute, Brace, Declared, Mark, Typed, Opening, End, alone, body, either, first_bad, if_so, mark_after, section_mark, section_number, section_of, shape, Section, Unopened, Globals, Dimensions, Variables, Values, Ended}
+use Rattle.std.proofs.Common.{◌≡◌, Bool, true, false, List, [], ◌∷◌, drop, refl, sym, ap, ◌∙◌, Option, None, Some, if◌then◌else◌, ◌&&◌, is_some, arith, rules}
+use Rattle.cdl_statements.proofs.Prelude.{option_map, option_and_then, false≢true, Version, attribute_said, declaration_said, dimensions_said, mark_said, statement_said, values, variable_said, completes, opens_section_after, is_name, next, only, word_value, Lexeme, is_mark, is_word_kind, is_opening_kind, is_end_kind, Statement, Listed, Attribute, Brace, Declared, Typed, Opening, End, alone, body, either, first_bad, if_so, section_mark, section_of, shape, Section, Unopened, Globals, Dimensions, Variables, Values}
 use Rattle.cdl_statements.specs.Shapes as Shapes
 use Rattle.cdl_statements.specs.declared.due.Due.TheVariants as dues
 use Rattle.cdl_statements.specs.declared.section.Section.TheVariants.{Closed}
@@ -10,14 +10,13 @@ use Rattle.cdl_statements.proofs.Dimensions.{dims_are, listed_dims}
 use Rattle.cdl_statements.proofs.Listing.{fine_on, never_completes}
 use Rattle.cdl_statements.proofs.Options.{either_none, either_only, none_of}
 use Rattle.cdl_statements.proofs.SectionParts.{global_lone, global_more, global_to, mark_completes, no_colon, no_global, section_no_name}
-use Rattle.cdl_statements.proofs.Shaping.{assigned_is, assigned_to, data_is, data_said, mark_name, mark_word, no_mark, no_section, no_brace, nameless}
+use Rattle.cdl_statements.proofs.Shaping.{assigned_is, data_is, data_said, mark_name, mark_word, no_mark, no_section, no_brace, nameless}
 use Rattle.cdl_statements.proofs.VariableNames.{one_mark}
 use Rattle.cdl_statements.proofs.VariableSection as variable
 
 -- of two ways
 if_some : {A : Type 0} (b : Bool) (a : A) → is_some (if b then Some a else None) ≡ true → (if b then Some a else None) ≡ Some a
-if_some true a h = refl
-if_some false a h = cc
+if_some b a h = grind arith
 
 only_some : {A : Type 0} (o : Option A) (b : Bool) (a : A) → o ≡ (if b then Some a else None) → is_some o ≡ true → o ≡ Some a
 only_some o b a is h = is ∙ if_some b a (sym (ap is_some is) ∙ h)
@@ -26,64 +25,27 @@ none_is : {A : Type 0} (o : Option A) (a : A) → o ≡ None → is_some o ≡ t
 none_is o a is h = absurd (false≢true (sym (ap is_some is) ∙ h))
 
 alone_is : {A : Type 0} (test : Lexeme → Bool) (a : A) (ls : List Lexeme) → is_some (alone test a ls) ≡ true → alone test a ls ≡ Some a
-alone_is test a [] h = cc
-alone_is test a (l ∷ []) h = by (test l) h
-  where
-    by : (b : Bool) → is_some (if_so b (Some a)) ≡ true → if_so b (Some a) ≡ Some a
-    by true h = refl
-    by false h = cc
-alone_is test a (l ∷ m ∷ ls) h = cc
+alone_is test a ls h = grind (arith, if_so)
 
 mark_is : (section : Section) (l : Lexeme) (ls : List Lexeme) → is_some (section_mark section (l ∷ ls)) ≡ true → section_mark section (l ∷ ls) ≡ Some (mark_said (section_of l))
-mark_is section l [] h = cc
-mark_is section l (c ∷ []) h = by (is_mark 0x3a c) (section_of l) h
-  where
-    after : (s : Section) (t : Bool) → is_some (if_so t (Some (Mark s))) ≡ true → if_so t (Some (Mark s)) ≡ Some (Mark s)
-    after s true h = refl
-    after s false h = cc
-
-    by : (b : Bool) (o : Option Section) → is_some (if_so b (option_and_then (mark_after section) o)) ≡ true → if_so b (option_and_then (mark_after section) o) ≡ Some (mark_said o)
-    by true None h = cc
-    by true (Some s) h = after s (nat_lt (section_number section) (section_number s)) h
-    by false o h = cc
-mark_is section l (c ∷ d ∷ ls) h = cc
+mark_is section l ls h = grind (arith, if_so)
 
 global_is : (v : Version) (l : Lexeme) (ls : List Lexeme) → first_bad v ls ≡ None → is_mark 0x3a l ≡ true → is_some (global_to v (l ∷ ls)) ≡ true → global_to v (l ∷ ls) ≡ Some (attribute_said v None ls)
 global_is v l [] good on h = none_is (global_to v (l ∷ [])) (attribute_said v None []) (global_lone v l) h
 global_is v l (m ∷ ls) good on h =
-    only_some (global_to v (l ∷ m ∷ ls)) (is_name m && completes (dues.Equals false) ls) (attribute_said v None (m ∷ ls))
-    (global_more v l m ls ∙ ap (λ b. if_so b (assigned_to v false (Attribute None) (m ∷ ls))) on ∙ assigned_is v false (Attribute None) m ls (fine_on v m ls good)) h
+    grind (arith, global_more v l m ls, assigned_is v false (Attribute None) m ls (fine_on v m ls good), fine_on v m ls good, only_some, if_so)
 
 -- ---- the section of the attributes of the dataset
 
 globals_said : (v : Version) (l : Lexeme) (ls : List Lexeme) → first_bad v ls ≡ None → is_some (shape v Globals (l ∷ ls)) ≡ true → shape v Globals (l ∷ ls) ≡ Some (statement_said v Globals (l ∷ ls))
 unfolding shape statement_said
-globals_said v l ls good h = by (is_mark 0x7d l) (is_mark 0x3a l) refl refl h
-  where
-    lone : Option Statement
-    lone = alone (is_mark 0x7d) Brace (l ∷ ls)
-
-    rest : Option Statement
-    rest = either (section_mark Globals (l ∷ ls)) (global_to v (l ∷ ls))
-
-    by : (b c : Bool) → is_mark 0x7d l ≡ b → is_mark 0x3a l ≡ c → is_some (either lone rest) ≡ true →
-        either lone rest ≡ Some (if b then Brace else (if c then attribute_said v None ls else mark_said (section_of l)))
-    by true c on is h =
-        let none = either_none (section_mark Globals (l ∷ ls)) (global_to v (l ∷ ls)) (no_mark Globals l ls (no_section l (mark_word 0x7d l on))) ∙ no_global v l ls (no_colon l on) in
-        let first = either_only lone rest none in
-        first ∙ alone_is (is_mark 0x7d) Brace (l ∷ ls) (sym (ap is_some first) ∙ h)
-    by false true off on h =
-        let first = either_none lone rest (no_brace l ls off) ∙ either_none (section_mark Globals (l ∷ ls)) (global_to v (l ∷ ls)) (no_mark Globals l ls (no_section l (mark_word 0x3a l on))) in
-        first ∙ global_is v l ls good on (sym (ap is_some first) ∙ h)
-    by false false off other h =
-        let first = either_none lone rest (no_brace l ls off) ∙ either_only (section_mark Globals (l ∷ ls)) (global_to v (l ∷ ls)) (no_global v l ls other) in
-        first ∙ mark_is Globals l ls (sym (ap is_some first) ∙ h)
+globals_said v l ls good h =
+    search (rules, either, either_none, no_mark, no_section, mark_word, no_global, no_colon, either_only, alone_is, no_brace, global_is, mark_is)
 
 -- ---- the section of the dimensions
 
 mapped_dims : (o : Option (List Shapes.Dimension)) (b : Bool) (ds : List Shapes.Dimension) → o ≡ (if b then Some ds else None) → option_map Declared o ≡ (if b then Some (Declared ds) else None)
-mapped_dims o true ds is = ap (option_map Declared) is
-mapped_dims o false ds is = ap (option_map Declared) is
+mapped_dims o b ds h = grind arith
 
 dimensions_are : (v : Version) (l : Lexeme) (ls : List Lexeme) → first_bad v (l ∷ ls) ≡ None → is_some (shape v Dimensions (l ∷ ls)) ≡ true → shape v Dimensions (l ∷ ls) ≡ Some (statement_said v Dimensions (l ∷ ls))
 unfolding shape statement_said
@@ -121,8 +83,7 @@ dimensions_are v l ls good h = by (is_mark 0x7d l) (is_mark 0x3a l) (opens_secti
 -- ---- the section of the variables
 
 mapped_variables : (l : Lexeme) (o : Option (List Shapes.Variable)) (b : Bool) (vs : List Shapes.Variable) → o ≡ (if b then Some vs else None) → option_map (Typed l) o ≡ (if b then Some (Typed l vs) else None)
-mapped_variables l o true vs is = ap (option_map (Typed l)) is
-mapped_variables l o false vs is = ap (option_map (Typed l)) is
+mapped_variables l o b vs h = grind arith
 
 -- a word and a colon alone
 mark_alone : (v : Version) (l c : Lexeme) → is_mark 0x3a c ≡ true → is_some (variable.others v (l ∷ c ∷ [])) ≡ true → variable.others v (l ∷ c ∷ []) ≡ Some (if is_name l then End else mark_said (section_of l))
@@ -203,26 +164,18 @@ data_statement v l ls good h = by (is_mark 0x7d l) (is_mark 0x3a l) refl refl (o
 
     by : (b c : Bool) → is_mark 0x7d l ≡ b → is_mark 0x3a l ≡ c → shape v Values (l ∷ ls) ≡ Some (if b then Brace else Listed (word_value l.bytes) (values v (drop 1 ls))) →
         shape v Values (l ∷ ls) ≡ Some (if b then Brace else (if c then attribute_said v None ls else Listed (word_value l.bytes) (values v (drop 1 ls))))
-    by true c on is-c is = is
-    by false false off other is = is
     by false true off on is = absurd (false≢true (sym (ap is_some (no_statement off on)) ∙ h))
+    by _ _ _ _ is = is
 
 -- ---- every section
 
 -- where nothing is bad in it, a whole statement says this
 pub said_is : (v : Version) (section : Section) (ws : List Lexeme) → first_bad v ws ≡ None → is_some (shape v section ws) ≡ true → shape v section ws ≡ Some (statement_said v section ws)
 unfolding shape statement_said
-said_is v Unopened [] good h = cc
-said_is v Globals [] good h = cc
-said_is v Dimensions [] good h = cc
-said_is v Variables [] good h = cc
-said_is v Values [] good h = cc
-said_is v Closed [] good h = cc
-said_is v Ended [] good h = cc
 said_is v Unopened (l ∷ ls) good h = alone_is (λ (l : Lexeme). is_opening_kind l.kind) Opening (l ∷ ls) h
 said_is v Globals (l ∷ ls) good h = globals_said v l ls (fine_on v l ls good) h
 said_is v Dimensions (l ∷ ls) good h = dimensions_are v l ls good h
 said_is v Variables (l ∷ ls) good h = variables_said v l ls (fine_on v l ls good) h
 said_is v Values (l ∷ ls) good h = data_statement v l ls (fine_on v l ls good) h
 said_is v Closed (l ∷ ls) good h = alone_is (λ (l : Lexeme). is_end_kind l.kind) End (l ∷ ls) h
-said_is v Ended (l ∷ ls) good h = cc
+said_is v _ _ good h = cc

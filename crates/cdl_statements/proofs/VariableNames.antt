@@ -1,8 +1,7 @@
 -- Declarations, token by token: a variable's name and what comes after it.
-use Rattle.std.proofs.Common.{◌≡◌, ℕ, Bool, true, false, List, [], ◌∷◌, ◌++◌, refl, sym, ap, ◌∙◌, arith, Option, None, Some, if◌then◌else◌, ◌&&◌, ◌||◌, ◌==◌, not, slice_index}
-use Rattle.cdl_statements.proofs.Prelude.{option_map, option_and_then, is_reserved, Declaration, with_name, declaration_said, only, separator, next, is_whole, completes, is_name, word_value, Lexeme, is_mark, is_mark_kind, is_word_kind, name_of, Variable, variable, each, both, if_so, before_mark, members, members_in, into_first, name_alone, Due, TokenKind}
+use Rattle.std.proofs.Common.{◌≡◌, ℕ, Bool, true, false, List, [], ◌∷◌, ◌++◌, refl, sym, ap, ◌∙◌, arith, Option, None, Some, if◌then◌else◌, ◌&&◌, ◌||◌, ◌==◌, not, slice_index, rules}
+use Rattle.cdl_statements.proofs.Prelude.{option_map, option_and_then, Declaration, with_name, declaration_said, only, separator, next, is_whole, completes, is_name, word_value, Lexeme, is_mark, is_mark_kind, name_of, Variable, variable, each, both, if_so, before_mark, members, members_in, into_first, name_alone, Due}
 use Rattle.cdl_statements.specs.declared.due.Due.TheVariants as dues
-use Rattle.cdl_tokens.specs.declared.token.TokenKind.TheVariants as kinds
 use Rattle.cdl_statements.proofs.Listing.{never_completes, nothing_more, kind_of_mark}
 use Rattle.cdl_statements.proofs.Options.{both_some, given_map, given_none, map_if, none_if, same_if}
 use Rattle.cdl_statements.proofs.Shaping.{name_is, nameless}
@@ -10,16 +9,7 @@ use Rattle.cdl_statements.proofs.Shaping.{name_is, nameless}
 -- ---- names and marks
 
 pub name_kind : (n : Lexeme) → is_name n ≡ true → is_mark_kind n.kind ≡ false
-name_kind n h = by n.kind h
-  where
-    by : (k : TokenKind) → (is_word_kind k && not (is_reserved n.bytes)) ≡ true → is_mark_kind k ≡ false
-    by kinds.Opening h = refl
-    by kinds.Word h = refl
-    by kinds.Number h = refl
-    by kinds.Text h = refl
-    by kinds.Mark h = sym h
-    by kinds.Bad h = refl
-    by kinds.End h = refl
+name_kind n h = search rules
 
 pub name_mark : (b : ℕ) (n : Lexeme) → is_name n ≡ true → is_mark b n ≡ false
 name_mark b n h = ap (λ k. k && slice_index n.bytes 0 == b) (name_kind n h)
@@ -29,11 +19,7 @@ named n h = name_is n ∙ rw (h) refl
 
 -- no byte is two marks
 pub one_mark : (b d : ℕ) (l : Lexeme) → (b == d) ≡ false → is_mark b l ≡ true → is_mark d l ≡ false
-one_mark b d l e h = by (is_mark_kind l.kind) (slice_index l.bytes 0) h
-  where
-    by : (a : Bool) (x : ℕ) → (a && x == b) ≡ true → (a && x == d) ≡ false
-    by true x h = grind (arith, e, h)
-    by false x h = refl
+one_mark b d l e h = search rules
 
 -- ---- one token on
 
@@ -46,9 +32,7 @@ members_at p a b c l ls ha hb hc =
 
 pub said_mark : (p b c : Bool) (l : Lexeme) (ls : List Lexeme) → is_mark_kind l.kind ≡ true → is_mark 0x28 l ≡ b → is_mark 0x29 l ≡ c → declaration_said p (l ∷ ls) ≡ declaration_said (b || p && not c) ls
 unfolding declaration_said
-said_mark p b c l ls k hb hc =
-    ap (λ x. if x then declaration_said (is_mark 0x28 l || p && not (is_mark 0x29 l)) ls else with_name p (word_value l.bytes) (declaration_said p ls)) k ∙
-    ap (λ x. declaration_said (x || p && not (is_mark 0x29 l)) ls) hb ∙ ap (λ x. declaration_said (b || p && not x) ls) hc
+said_mark p b c l ls k hb hc = search rules
 
 pub said_name : (p : Bool) (n : Lexeme) (ls : List Lexeme) → is_name n ≡ true → declaration_said p (n ∷ ls) ≡ with_name p (word_value n.bytes) (declaration_said p ls)
 unfolding declaration_said
@@ -57,19 +41,14 @@ said_name p n ls h =
 
 -- a whole statement has no more tokens
 pub nothing_after : (b : Bool) (xs : List Lexeme) (s : Lexeme) → completes (only b dues.Nothing) (xs ++ s ∷ []) ≡ false
-nothing_after true [] s = nothing_more s []
-nothing_after true (x ∷ xs) s = nothing_more x (xs ++ s ∷ [])
-nothing_after false xs s = never_completes (xs ++ s ∷ [])
+nothing_after true [] s = grind (arith, nothing_more, never_completes)
+nothing_after _ _ s = grind (arith, nothing_more, never_completes)
 
 -- where a variable's name is due, no dimension comes before it
 pub no_dimensions : (ls : List Lexeme) → completes dues.VariableName ls ≡ true → (declaration_said false ls).dimensions ≡ []
 unfolding completes next
-no_dimensions [] h = cc
-no_dimensions (n ∷ ls) h = by (is_name n) refl h
-  where
-    by : (w : Bool) → is_name n ≡ w → completes (only w dues.AfterVariable) ls ≡ true → (declaration_said false (n ∷ ls)).dimensions ≡ []
-    by true on h = ap (λ (r : Declaration). r.dimensions) (said_name false n ls on)
-    by false off h = let e = never_completes ls in cc
+no_dimensions [] h = grind (arith, said_name, never_completes)
+no_dimensions _ h = grind (arith, said_name, never_completes)
 
 -- ---- what the tokens before the last one say, from each of five places on
 
@@ -107,40 +86,19 @@ pub record Claims (s : Lexeme) (xs : List Lexeme) : Type 0 where
 -- ---- a variable's name
 
 pub no_variable : (n : Lexeme) (ms : List (List Lexeme)) → name_of n ≡ None → each variable (into_first n ms) ≡ None
-no_variable n [] h = rw (h) refl
-no_variable n ([] ∷ ms) h = rw (h) refl
-no_variable n ((p ∷ ys) ∷ ms) h = rw (h) (by (is_mark 0x28 p))
-  where
-    by : (g : Bool) → both (λ (y : Variable) ys. y ∷ ys) (if_so g None) (each variable ms) ≡ None
-    by true = refl
-    by false = refl
+no_variable n ms h = grind (arith, both, if_so, each)
 
 pub not_variable : (n : Lexeme) (xs : List Lexeme) → name_of n ≡ None → each variable (members (n ∷ xs)) ≡ None
-not_variable n xs h = by (is_mark 0x2c n) refl
-  where
-    by : (a : Bool) → is_mark 0x2c n ≡ a → each variable (members (n ∷ xs)) ≡ None
-    by true on = ap (each variable) (members_at false true (is_mark 0x28 n) (is_mark 0x29 n) n xs on refl refl)
-    by false off = ap (each variable) (members_at false false (is_mark 0x28 n) (is_mark 0x29 n) n xs off refl refl) ∙ no_variable n (members_in (is_mark 0x28 n || false) xs) h
+not_variable n xs h = search (rules, each, members_at, no_variable)
 
 pub name_end : (s : Lexeme) → if_so (is_mark 0x3b s) (each variable (members [])) ≡ if_whole dues.VariableName (s ∷ []) (declaration_said false (s ∷ [])).variables
 unfolding completes next
-name_end s = given_none (is_mark 0x3b s) ∙ by (is_name s)
-  where
-    by : (w : Bool) → None ≡ (if is_whole (only w dues.AfterVariable) then Some (declaration_said false (s ∷ [])).variables else None)
-    by true = refl
-    by false = refl
+name_end s = search (rules, given_none)
 
 pub name_more : (s n : Lexeme) (xs : List Lexeme) → Claims s xs →
     if_so (is_mark 0x3b s) (each variable (members (n ∷ xs))) ≡ if_whole dues.VariableName (n ∷ xs ++ s ∷ []) (declaration_said false (n ∷ xs ++ s ∷ [])).variables
 unfolding completes next
-name_more s n xs k = by (is_name n) refl
-  where
-    by : (w : Bool) → is_name n ≡ w →
-        if_so (is_mark 0x3b s) (each variable (members (n ∷ xs))) ≡ (if completes (only w dues.AfterVariable) (xs ++ s ∷ []) then Some (declaration_said false (n ∷ xs ++ s ∷ [])).variables else None)
-    by true on =
-        ap (λ ms. if_so (is_mark 0x3b s) (each variable ms)) (members_at false false false false n xs (name_mark 0x2c n on) (name_mark 0x28 n on) (name_mark 0x29 n on)) ∙
-        k.after_name n on ∙ ap (λ (r : Declaration). if_whole dues.AfterVariable (xs ++ s ∷ []) r.variables) (sym (said_name false n (xs ++ s ∷ []) on))
-    by false off = none_if _ _ _ (ap (if_so (is_mark 0x3b s)) (not_variable n xs (nameless n off)) ∙ given_none (is_mark 0x3b s)) (never_completes (xs ++ s ∷ []))
+name_more s n xs k = search (rules, if_so, each, members_at, name_mark, said_name, none_if, not_variable, nameless, given_none, never_completes)
 
 -- ---- after a variable's name
 
@@ -148,43 +106,22 @@ pub lone : (n : Lexeme) (ms : List (List Lexeme)) → is_name n ≡ true → eac
 lone n ms on = rw (named n on) (both_some (λ (y : Variable) ys. y ∷ ys) (record { name = word_value n.bytes; dimensions = [] }) (each variable ms))
 
 pub no_shape : (n c : Lexeme) (ms : List (List Lexeme)) → is_mark 0x28 c ≡ false → each variable (into_first n (into_first c ms)) ≡ None
-no_shape n c [] h = rw (h) refl
-no_shape n c (m ∷ ms) h = rw (h) refl
+no_shape n c ms h = grind arith
 
 pub opens : (n c : Lexeme) (ms : List (List Lexeme)) → is_name n ≡ true → is_mark 0x28 c ≡ true → each variable (into_first n (into_first c ms)) ≡ option_map (begin n) (inside ms)
-opens n c [] on h = rw (h) (rw (named n on) refl)
-opens n c (m ∷ ms) on h = rw (h) (rw (named n on) (by (referred m) (each variable ms)))
-  where
-    by : (o : Option (List (List ℕ))) (r : Option (List Variable)) →
-        both (λ y ys. y ∷ ys) (both (λ name ds. record { name = name; dimensions = ds }) (Some (word_value n.bytes)) o) r ≡
-        option_map (begin n) (both (λ ds vs. record { dimensions = ds; variables = vs }) o r)
-    by None r = refl
-    by (Some ds) None = refl
-    by (Some ds) (Some vs) = refl
+opens n c ms h h2 = grind (arith, named, each, both)
 
 -- ---- the last token
 
 pub separator_whole : (due : Due) (s : Lexeme) → is_whole due ≡ false → is_whole (separator due s) ≡ is_mark 0x3b s
-separator_whole due s off = by (is_mark 0x2c s) (is_mark 0x3b s) (one_mark 0x3b 0x2c s refl)
-  where
-    by : (a e : Bool) → (e ≡ true → a ≡ false) → is_whole (if a then due else only e dues.Nothing) ≡ e
-    by true true h = off ∙ sym (h refl)
-    by true false h = off
-    by false true h = refl
-    by false false h = refl
+separator_whole due s off = grind (arith, one_mark 0x3b 0x2c s refl)
 
 pub variable_whole : (s : Lexeme) → is_whole (next dues.AfterVariable s) ≡ is_mark 0x3b s
 unfolding next
-variable_whole s = by (is_mark 0x28 s) (is_mark 0x3b s) (one_mark 0x3b 0x28 s refl) (separator_whole dues.VariableName s refl)
-  where
-    by : (b e : Bool) → (e ≡ true → b ≡ false) → is_whole (separator dues.VariableName s) ≡ e → is_whole (if b then dues.VariableDimension else separator dues.VariableName s) ≡ e
-    by true true h k = sym (h refl)
-    by true false h k = refl
-    by false e h k = k
+variable_whole s = grind (arith, one_mark 0x3b 0x28 s refl, separator_whole dues.VariableName s refl)
 
 pub given_whole : {A : Type 0} (w e : Bool) (a b : A) → w ≡ e → (e ≡ true → b ≡ a) → if_so e (Some a) ≡ (if w then Some b else None)
-given_whole w true a b hw hb = rw (hw) (ap Some (sym (hb refl)))
-given_whole w false a b hw hb = rw (hw) refl
+given_whole w e a b h h2 = grind arith
 
 pub ends_said : (s : Lexeme) → is_mark 0x3b s ≡ true → declaration_said false (s ∷ []) ≡ record { dimensions = []; variables = [] }
 unfolding declaration_said
@@ -193,9 +130,7 @@ ends_said s h = said_mark false false false s [] (kind_of_mark 0x3b s h) (one_ma
 pub variable_end : (s n : Lexeme) → is_name n ≡ true →
     if_so (is_mark 0x3b s) (each variable (into_first n (members []))) ≡ if_whole dues.AfterVariable (s ∷ []) (begin n (declaration_said false (s ∷ [])))
 unfolding completes
-variable_end s n on =
-    ap (if_so (is_mark 0x3b s)) (lone n [] on) ∙
-    given_whole (is_whole (next dues.AfterVariable s)) (is_mark 0x3b s) (record { name = word_value n.bytes; dimensions = [] } ∷ []) (begin n (declaration_said false (s ∷ []))) (variable_whole s) (λ h. ap (begin n) (ends_said s h))
+variable_end s n on = search (rules, if_so, lone, given_whole, next, variable_whole, ends_said)
 
 pub variable_more : (s n c : Lexeme) (xs : List Lexeme) → is_name n ≡ true → Claims s xs →
     if_so (is_mark 0x3b s) (each variable (into_first n (members (c ∷ xs)))) ≡ if_whole dues.AfterVariable (c ∷ xs ++ s ∷ []) (begin n (declaration_said false (c ∷ xs ++ s ∷ [])))

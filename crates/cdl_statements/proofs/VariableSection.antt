@@ -1,8 +1,7 @@
 -- The table of due tokens says whether a piece has its shape, in the section of the variables.
-use Rattle.std.proofs.Common.{◌≡◌, ℕ, Bool, true, false, List, [], ◌∷◌, drop, refl, sym, ap, ◌∙◌, Option, None, Some, if◌then◌else◌, ◌&&◌, ◌==◌, is_some, slice_index}
-use Rattle.cdl_statements.proofs.Prelude.{option_map, option_and_then, Version, declaration_said, values, only, next, is_whole, completes, is_name, opens_section_after, word_value, Lexeme, is_mark, is_mark_kind, is_word_kind, name_of, Statement, Attribute, Brace, Typed, Variable, first_bad, alone, assigned, attribute, before_mark, body, each, either, if_so, global, members, section_mark, shape, typed, variable, Variables, TokenKind}
+use Rattle.std.proofs.Common.{◌≡◌, ℕ, Bool, true, false, List, [], ◌∷◌, drop, refl, sym, ap, ◌∙◌, Option, None, Some, if◌then◌else◌, ◌&&◌, is_some, arith, rules}
+use Rattle.cdl_statements.proofs.Prelude.{option_map, option_and_then, Version, declaration_said, values, only, next, is_whole, completes, is_name, opens_section_after, word_value, Lexeme, is_mark, is_word_kind, name_of, Statement, Attribute, Brace, Typed, Variable, first_bad, alone, assigned, attribute, before_mark, body, each, either, if_so, section_mark, shape, typed, Variables}
 use Rattle.cdl_statements.specs.declared.due.Due.TheVariants as dues
-use Rattle.cdl_tokens.specs.declared.token.TokenKind.TheVariants as kinds
 use Rattle.cdl_statements.proofs.Declarations.{listed_variables, variables_are}
 use Rattle.cdl_statements.proofs.VariableNames.{named, not_variable, one_mark}
 use Rattle.cdl_statements.proofs.Listing.{fine_on, never_completes, nothing_more, only_completes}
@@ -12,16 +11,7 @@ use Rattle.cdl_statements.proofs.Shaping.{assigned_is, assigned_to, mark_name, m
 
 -- a word is no mark
 pub word_kind : (b : ℕ) (l : Lexeme) → is_word_kind l.kind ≡ true → is_mark b l ≡ false
-word_kind b l h = by l.kind h
-  where
-    by : (k : TokenKind) → is_word_kind k ≡ true → (is_mark_kind k && slice_index l.bytes 0 == b) ≡ false
-    by kinds.Opening h = cc
-    by kinds.Word h = refl
-    by kinds.Number h = cc
-    by kinds.Text h = cc
-    by kinds.Mark h = cc
-    by kinds.Bad h = cc
-    by kinds.End h = cc
+word_kind b l h = search rules
 
 -- up to the semicolon
 abbrev pub body_to : Version → List Lexeme → Option Statement
@@ -30,23 +20,13 @@ body_to v ls = option_and_then (body v Variables) (before_mark 0x3b ls)
 -- ---- no word comes first
 
 no_attribute : (v : Version) (l : Lexeme) (ys : List Lexeme) → name_of l ≡ None → attribute v (l ∷ ys) ≡ None
-no_attribute v l [] h = refl
-no_attribute v l (c ∷ ys) h = rw (h) (given_none (is_mark 0x3a c))
+no_attribute v l ys h = grind (arith, given_none)
 
 no_typed : (l : Lexeme) (ys : List Lexeme) → is_word_kind l.kind ≡ false → typed (l ∷ ys) ≡ None
 no_typed l ys h = rw (h) refl
 
 body_global : (v : Version) (l : Lexeme) (ls : List Lexeme) → name_of l ≡ None → is_word_kind l.kind ≡ false → body_to v (l ∷ ls) ≡ global_to v (l ∷ ls)
-body_global v l [] none off = by (is_mark 0x3b l)
-  where
-    by : (s : Bool) → option_and_then (body v Variables) (if_so s (Some [])) ≡ option_and_then (global v) (if_so s (Some []))
-    by true = refl
-    by false = refl
-body_global v l (m ∷ ls) none off = by (before_mark 0x3b (m ∷ ls))
-  where
-    by : (b : Option (List Lexeme)) → option_and_then (body v Variables) (option_map (λ xs. l ∷ xs) b) ≡ option_and_then (global v) (option_map (λ xs. l ∷ xs) b)
-    by None = refl
-    by (Some ys) = either_only (global v (l ∷ ys)) (either (attribute v (l ∷ ys)) (typed (l ∷ ys))) (either_none (attribute v (l ∷ ys)) (typed (l ∷ ys)) (no_attribute v l ys none) ∙ no_typed l ys off)
+body_global v l ls h h2 = grind (arith, if_so, either_only, either, typed, either_none, no_attribute, no_typed)
 
 no_name : (l : Lexeme) → is_word_kind l.kind ≡ false → is_name l ≡ false
 no_name l h = rw (h) refl
@@ -68,21 +48,10 @@ no_list l c ys colon = ap (λ o. if_so (is_word_kind l.kind) (option_map (Typed 
 
 pub attribute_named : (v : Version) (l c r : Lexeme) (rs : List Lexeme) → is_word_kind l.kind ≡ true → is_mark 0x3a c ≡ true → is_name l ≡ true →
     body_to v (l ∷ c ∷ r ∷ rs) ≡ assigned_to v false (Attribute (Some (word_value l.bytes))) (r ∷ rs)
-attribute_named v l c r rs word colon on = by (before_mark 0x3b (r ∷ rs))
-  where
-    by : (b : Option (List Lexeme)) → option_and_then (body v Variables) (option_map (λ xs. l ∷ xs) (option_map (λ xs. c ∷ xs) b)) ≡ option_and_then (assigned v false (Attribute (Some (word_value l.bytes)))) b
-    by None = refl
-    by (Some ys) =
-        body_word v l (c ∷ ys) word ∙ either_only (attribute v (l ∷ c ∷ ys)) (typed (l ∷ c ∷ ys)) (no_list l c ys colon) ∙
-        ap (λ b. if_so b (option_and_then (λ (name : List ℕ). assigned v false (Attribute (Some name)) ys) (name_of l))) colon ∙
-        ap (option_and_then (λ (name : List ℕ). assigned v false (Attribute (Some name)) ys)) (named l on)
+attribute_named v l c r rs word colon on = search (rules, body_word, either_only, typed, no_list, if_so, named)
 
 pub attribute_nameless : (v : Version) (l c r : Lexeme) (rs : List Lexeme) → is_word_kind l.kind ≡ true → is_mark 0x3a c ≡ true → is_name l ≡ false → body_to v (l ∷ c ∷ r ∷ rs) ≡ None
-attribute_nameless v l c r rs word colon off = by (before_mark 0x3b (r ∷ rs))
-  where
-    by : (b : Option (List Lexeme)) → option_and_then (body v Variables) (option_map (λ xs. l ∷ xs) (option_map (λ xs. c ∷ xs) b)) ≡ None
-    by None = refl
-    by (Some ys) = body_word v l (c ∷ ys) word ∙ either_none (attribute v (l ∷ c ∷ ys)) (typed (l ∷ c ∷ ys)) (no_attribute v l (c ∷ ys) (nameless l off)) ∙ no_list l c ys colon
+attribute_nameless v l c r rs word colon off = search (rules, body_word, either_none, typed, no_attribute, nameless, no_list)
 
 -- a name is the word of no section
 goes_nowhere : (l : Lexeme) → opens_section_after Variables l ≡ true → is_name l ≡ false
@@ -91,15 +60,7 @@ goes_nowhere l h = section_no_name Variables l h
 mark_alone : (v : Version) (l c : Lexeme) → is_mark 0x3a c ≡ true →
     is_some (others v (l ∷ c ∷ [])) ≡ is_whole (if is_name l then dues.AttributeName else only (opens_section_after Variables l) dues.Nothing)
 unfolding completes next
-mark_alone v l c colon =
-    ap is_some (either_only (section_mark Variables (l ∷ c ∷ [])) (body_to v (l ∷ c ∷ [])) (ap (λ b. option_and_then (body v Variables) (option_map (λ xs. l ∷ xs) (if_so b (Some [])))) (one_mark 0x3a 0x3b c refl colon))) ∙
-    mark_completes Variables l (c ∷ []) ∙ by (opens_section_after Variables l) (is_name l) (goes_nowhere l)
-  where
-    by : (g n : Bool) → (g ≡ true → n ≡ false) → is_whole (next (only g dues.Colon) c) ≡ is_whole (if n then dues.AttributeName else only g dues.Nothing)
-    by true true h = let e = h refl in cc
-    by true false h = rw (colon) refl
-    by false true h = refl
-    by false false h = refl
+mark_alone v l c colon = search (rules, either_only, if_so, one_mark, mark_completes, goes_nowhere, next)
 
 pub colon_more : (v : Version) (l c r : Lexeme) (rs : List Lexeme) → first_bad v rs ≡ None → is_word_kind l.kind ≡ true → is_mark 0x3a c ≡ true →
     is_some (others v (l ∷ c ∷ r ∷ rs)) ≡ completes (if is_name l then dues.AttributeName else only (opens_section_after Variables l) dues.Nothing) (r ∷ rs)
@@ -119,28 +80,13 @@ colon_more v l c r rs good word colon = by (is_name l) refl
 -- ---- a word and no colon
 
 pub body_typed : (v : Version) (l c : Lexeme) (ls : List Lexeme) → is_word_kind l.kind ≡ true → is_mark 0x3a c ≡ false → body_to v (l ∷ c ∷ ls) ≡ option_map (Typed l) (listed_variables (c ∷ ls))
-body_typed v l c [] word off = by (is_mark 0x3b c)
-  where
-    by : (s : Bool) → option_and_then (body v Variables) (option_map (λ xs. l ∷ xs) (if_so s (Some []))) ≡ option_map (Typed l) (option_and_then (λ xs. each variable (members xs)) (if_so s (Some [])))
-    by true = body_word v l [] word ∙ given_none (is_word_kind l.kind)
-    by false = refl
-body_typed v l c (r ∷ rs) word off = by (before_mark 0x3b (r ∷ rs))
-  where
-    by : (b : Option (List Lexeme)) →
-        option_and_then (body v Variables) (option_map (λ xs. l ∷ xs) (option_map (λ xs. c ∷ xs) b)) ≡ option_map (Typed l) (option_and_then (λ xs. each variable (members xs)) (option_map (λ xs. c ∷ xs) b))
-    by None = refl
-    by (Some ys) =
-        body_word v l (c ∷ ys) word ∙
-        either_none (attribute v (l ∷ c ∷ ys)) (typed (l ∷ c ∷ ys)) (ap (λ b. if_so b (option_and_then (λ (name : List ℕ). assigned v false (Attribute (Some name)) ys) (name_of l))) off) ∙
-        ap (λ b. if_so b (option_map (Typed l) (each variable (members (c ∷ ys))))) word
+body_typed v l c ls h h2 = grind (arith, if_so, each, body_word, given_none, either_none, typed)
 
 mapped : (l : Lexeme) (b : Bool) (vs : List Variable) → is_some (option_map (Typed l) (if b then Some vs else None)) ≡ b
-mapped l true vs = refl
-mapped l false vs = refl
+mapped l b vs = grind arith
 
 pub no_section_mark : (l c : Lexeme) (ls : List Lexeme) → is_mark 0x3a c ≡ false → section_mark Variables (l ∷ c ∷ ls) ≡ None
-no_section_mark l c [] off = rw (off) refl
-no_section_mark l c (r ∷ rs) off = refl
+no_section_mark l c ls h = grind arith
 
 typed_complete : (v : Version) (l c : Lexeme) (ls : List Lexeme) → is_word_kind l.kind ≡ true → is_mark 0x3a c ≡ false → is_some (others v (l ∷ c ∷ ls)) ≡ completes (only (is_name c) dues.AfterVariable) ls
 unfolding completes next

@@ -1,18 +1,16 @@
 -- What a statement of the data section means, case by case.
-use Rattle.std.proofs.Common.{◌≡◌, ℕ, true, false, List, [], ◌∷◌, refl, sym, ap, ◌∙◌, Bool, Option, None, Some, Result, Ok, Err, ◌==◌, not, slice_index, if◌then◌else◌}
-use Rattle.cdl_values.proofs.Prelude.{false≢true, Version, word_value, Lexeme, is_mark, is_word_kind, is_mark_kind, first_bad, token_fault, completes, next, only, is_whole, only_completes, values, Due, DataName, Equals, CdlKind, Syntax, good_on, TokenKind, packed, FailsRead, data_read, bytes_assigned, packed_for, target_of, Target, ReadError, OutOfMemory, Fault, and_left, and_right}
+use Rattle.std.proofs.Common.{◌≡◌, ℕ, true, false, List, [], ◌∷◌, refl, sym, ◌∙◌, Bool, Option, None, Some, Result, Ok, Err, ◌==◌, not, slice_index, if◌then◌else◌, arith}
+use Rattle.cdl_values.proofs.Prelude.{false≢true, Version, word_value, Lexeme, is_mark, is_word_kind, is_mark_kind, first_bad, token_fault, completes, next, only, is_whole, only_completes, values, Due, DataName, Equals, CdlKind, Syntax, good_on, TokenKind, packed, FailsRead, data_read, bytes_assigned, packed_for, target_of, Target, ReadError, and_left, and_right}
 use Rattle.cdl_statements.specs.code.DueTokens.{is_name}
 use Rattle.nc_base.specs.Escapes.{is_reserved}
 use Rattle.cdl_statements.specs.declared.due.Due.TheVariants.{Value}
-use Rattle.cdl_tokens.specs.declared.token.TokenKind.TheVariants as kinds
 
 pub bad_read : (version : Version) (names : List (List ℕ)) (targets : List Target) (ws : List Lexeme) (k : CdlKind) → first_bad version ws ≡ Some k → data_read version names targets ws ≡ Err k
 unfolding data_read
 bad_read version names targets ws k bad = rw (bad) refl
 
 pub no_fault : (fault : Option CdlKind) → ((k : CdlKind) → fault ≡ Some k → ⊥) → fault ≡ None
-no_fault None h = refl
-no_fault (Some k) h = absurd (h k refl)
+no_fault fault h = grind arith
 
 pub unshaped_read : (version : Version) (names : List (List ℕ)) (targets : List Target) (ws : List Lexeme) → first_bad version ws ≡ None → completes DataName ws ≡ false → data_read version names targets ws ≡ Err Syntax
 unfolding data_read
@@ -24,59 +22,39 @@ good_read version names targets ws bad on = rw (bad) (rw (on) refl)
 
 lone : (b : Bool) (due : Due) → is_whole due ≡ false → completes (only b due) [] ≡ true → ⊥
 unfolding completes
-lone true due h k = false≢true (sym h ∙ k)
-lone false due h k = false≢true k
+lone b due h h2 = grind (arith, false≢true)
 
 -- the statement goes on after its name, and after its `=`
 pub name_goes : (l : Lexeme) (ws all : List Lexeme) (ends : Bool) → all ≡ l ∷ (if ends then [] else ws) → completes DataName all ≡ true → ends ≡ false
 unfolding completes next
-name_goes l ws all true is h = absurd (lone (is_name l) (Equals true) refl (sym (ap (completes DataName) is) ∙ h))
-name_goes l ws all false is h = refl
+name_goes l ws all ends h h2 = grind (arith, lone)
 
 pub name_on : (l : Lexeme) (ws all : List Lexeme) (ends : Bool) → all ≡ l ∷ (if ends then [] else ws) → completes DataName all ≡ true → completes (Equals true) ws ≡ true
 unfolding completes next
-name_on l ws all true is h = absurd (lone (is_name l) (Equals true) refl (sym (ap (completes DataName) is) ∙ h))
-name_on l ws all false is h = and_right (is_name l) (completes (Equals true) ws) (sym (only_completes (is_name l) (Equals true) ws) ∙ sym (ap (completes DataName) is) ∙ h)
+name_on l ws all ends h h2 = grind (arith, lone, and_right, only_completes)
 
 pub equals_goes : (l : Lexeme) (ws all : List Lexeme) (ends : Bool) → all ≡ l ∷ (if ends then [] else ws) → completes (Equals true) all ≡ true → ends ≡ false
 unfolding completes next
-equals_goes l ws all true is h = absurd (lone (is_mark 0x3d l) (Value true) refl (sym (ap (completes (Equals true)) is) ∙ h))
-equals_goes l ws all false is h = refl
+equals_goes l ws all ends h h2 = grind (arith, lone)
 
 -- a good statement
 pub read_on : (version : Version) (names : List (List ℕ)) (targets : List Target) (ws es vs : List Lexeme) (n e : Lexeme) (a b : Bool) →
     ws ≡ n ∷ (if a then [] else es) → es ≡ e ∷ (if b then [] else vs) → first_bad version ws ≡ None → completes DataName ws ≡ true →
     data_read version names targets ws ≡ packed_for version vs (target_of names targets (word_value n.bytes))
 read_on version names targets ws es vs n e a b first second bad on =
-    let off : a ≡ false = name_goes n es ws a first on in
-    let last : b ≡ false = equals_goes e vs es b second (name_on n es ws a first on) in
-    let here : ws ≡ n ∷ e ∷ vs = first ∙ rw (off) (rw (second) (rw (last) refl)) in
-    good_read version names targets ws bad on ∙ ap (bytes_assigned version names targets) here
+    grind (arith, name_goes n es ws a first on, equals_goes e vs es b second (name_on n es ws a first on), name_on n es ws a first on, good_read version names targets ws bad on)
 
 pub filled_ok : (version : Version) (vs : List Lexeme) (r : Result Target CdlKind) (t : Target) → r ≡ Ok t → packed_for version vs r ≡ packed t.filling t.capacity (values version vs)
 filled_ok version vs r t is = rw (is) refl
 
 pub filled_err : (version : Version) (vs : List Lexeme) (r : Result Target CdlKind) (e : ReadError) → FailsRead e r → FailsRead e (packed_for version vs r)
-filled_err version vs r OutOfMemory h = tt
-filled_err version vs r (Fault k) h = rw (h) refl
+filled_err version vs r e h = grind arith
 
 good_word : (version : Version) (l : Lexeme) (k : TokenKind) → is_word_kind k ≡ true → token_fault version k l.bytes ≡ None
-good_word version l kinds.Opening h = cc
-good_word version l kinds.Word h = refl
-good_word version l kinds.Number h = cc
-good_word version l kinds.Text h = cc
-good_word version l kinds.Mark h = cc
-good_word version l kinds.Bad h = cc
-good_word version l kinds.End h = cc
+good_word version l k h = grind arith
 
 good_mark : (version : Version) (l : Lexeme) (k : TokenKind) → is_mark_kind k ≡ true → token_fault version k l.bytes ≡ None
-good_mark version l kinds.Opening h = cc
-good_mark version l kinds.Word h = cc
-good_mark version l kinds.Number h = cc
-good_mark version l kinds.Text h = cc
-good_mark version l kinds.Mark h = refl
-good_mark version l kinds.Bad h = cc
-good_mark version l kinds.End h = cc
+good_mark version l k h = grind arith
 
 name_good : (version : Version) (l : Lexeme) (ls : List Lexeme) → completes DataName (l ∷ ls) ≡ true → token_fault version l.kind l.bytes ≡ None
 unfolding completes next
@@ -90,8 +68,4 @@ equals_good version l ls h = good_mark version l l.kind (and_left (is_mark_kind 
 pub quick_good : (version : Version) (ws es vs : List Lexeme) (n e : Lexeme) (a b : Bool) →
     ws ≡ n ∷ (if a then [] else es) → es ≡ e ∷ (if b then [] else vs) → a ≡ false → b ≡ false → completes DataName ws ≡ true → first_bad version vs ≡ None → first_bad version ws ≡ None
 quick_good version ws es vs n e a b first second a-off b-off on good =
-    let one : ws ≡ n ∷ es = first ∙ rw (a-off) refl in
-    let two : es ≡ e ∷ vs = second ∙ rw (b-off) refl in
-    let next = name_on n es ws a first on in
-    ap (first_bad version) one ∙ good_on version n es (name_good version n es (sym (ap (completes DataName) one) ∙ on)) ∙
-    ap (first_bad version) two ∙ good_on version e vs (equals_good version e vs (sym (ap (completes (Equals true)) two) ∙ next)) ∙ good
+    grind (arith, name_on n es ws a first on, good_on version n es, name_good version n es, good_on version e vs, equals_good version e vs, next)

@@ -1,6 +1,6 @@
 -- What an index of names finds, and an index of one name more.
-use Rattle.std.proofs.Common.{◌≡◌, ◌<◌, ℕ, suc, ◌+◌, Bool, true, false, cond, List, [], ◌∷◌, ◌++◌, length, get_or, refl, sym, ap, ◌∙◌, subst, ⊎_elim, arith, Vec, Global, Option, None, Some, ◌==◌, is_some, map, ◌||◌, not}
-use Rattle.cdl_values.proofs.Prelude.{list_any, position_from, BTreeMap, bytes_eq, cases_Bool, cond-true, cond-false, false≢true, get_or-map, length-map, IsIndex, NameIndex, first_with_hash, hash_of, is_new, later_position, position_of, unless_first}
+use Rattle.std.proofs.Common.{◌≡◌, ◌<◌, ℕ, suc, ◌+◌, Bool, true, false, cond, List, [], ◌∷◌, ◌++◌, length, get_or, refl, sym, ap, ◌∙◌, subst, ⊎_elim, arith, Vec, Global, Option, None, Some, ◌==◌, is_some, map, not, rules}
+use Rattle.cdl_values.proofs.Prelude.{list_any, position_from, BTreeMap, bytes_eq, cases_Bool, cond-true, cond-false, false≢true, get_or-map, length-map, IsIndex, NameIndex, first_with_hash, hash_of, is_new, later_position, position_of}
 use Rattle.std.specs.BTreeMap as tree
 use Rattle.std.specs.Map.{lookup, IsKeyTest, AreApart, KeepsOthers}
 use Rattle.std.specs.Cmp.{eq_by_cmp_equiv, unsigned_ties}
@@ -16,21 +16,11 @@ some_not_none x h = cc
 module _ {X : Type 0} (test : X → Bool) (x : X) where
   kept_from : (i : ℕ) (xs : List X) (p : ℕ) → position_from test i xs ≡ Some p → position_from test i (xs ++ x ∷ []) ≡ Some p
   kept_from i [] p is = cc
-  kept_from i (y ∷ xs) p is = by (test y) (kept_from (i + 1) xs p) is
-    where
-      by : (b : Bool) → (position_from test (i + 1) xs ≡ Some p → position_from test (i + 1) (xs ++ x ∷ []) ≡ Some p) → cond b (Some i) (position_from test (i + 1) xs) ≡ Some p →
-          cond b (Some i) (position_from test (i + 1) (xs ++ x ∷ [])) ≡ Some p
-      by true more is = is
-      by false more is = more is
+  kept_from i (y ∷ xs) p is = search (rules, kept_from (i + 1) xs p)
 
   added_from : (i : ℕ) (xs : List X) → position_from test i xs ≡ None → position_from test i (xs ++ x ∷ []) ≡ cond (test x) (Some (i + length xs)) None
   added_from i [] is = ap (λ n. cond (test x) (Some n) None) (let e : i ≡ i + 0 = omega arith in e)
-  added_from i (y ∷ xs) is = by (test y) (added_from (i + 1) xs) is
-    where
-      by : (b : Bool) → (position_from test (i + 1) xs ≡ None → position_from test (i + 1) (xs ++ x ∷ []) ≡ cond (test x) (Some (i + 1 + length xs)) None) → cond b (Some i) (position_from test (i + 1) xs) ≡ None →
-          cond b (Some i) (position_from test (i + 1) (xs ++ x ∷ [])) ≡ cond (test x) (Some (i + suc (length xs))) None
-      by true more is = cc
-      by false more is = more is ∙ ap (λ n. cond (test x) (Some n) None) (let e : i + 1 + length xs ≡ i + suc (length xs) = omega arith in e)
+  added_from i (y ∷ xs) is = search (rules, added_from (i + 1) xs)
 
   pub added : (xs : List X) → position_from test 0 xs ≡ None → position_from test 0 (xs ++ x ∷ []) ≡ cond (test x) (Some (length xs)) None
   added xs is = added_from 0 xs is ∙ ap (λ n. cond (test x) (Some n) None) (let e : 0 + length xs ≡ length xs = omega arith in e)
@@ -40,12 +30,7 @@ module _ {X : Type 0} (test : X → Bool) (x : X) where
 module _ {X : Type 0} (name_of : X → List ℕ) (name : List ℕ) where
   any_from : (i : ℕ) (xs : List X) → list_any (λ x. bytes_eq (name_of x) name) xs ≡ is_some (position_from (λ other. bytes_eq other name) i (map name_of xs))
   any_from i [] = refl
-  any_from i (x ∷ xs) = by (bytes_eq (name_of x) name) (any_from (i + 1) xs)
-    where
-      by : (b : Bool) → list_any (λ y. bytes_eq (name_of y) name) xs ≡ is_some (position_from (λ other. bytes_eq other name) (i + 1) (map name_of xs)) →
-          (b || list_any (λ y. bytes_eq (name_of y) name) xs) ≡ is_some (cond b (Some i) (position_from (λ other. bytes_eq other name) (i + 1) (map name_of xs)))
-      by true more = refl
-      by false more = more
+  any_from i (x ∷ xs) = search (rules, any_from (i + 1) xs)
 
   pub any_is : (xs : List X) → list_any (λ x. bytes_eq (name_of x) name) xs ≡ is_some (position_of (map name_of xs) name)
   any_is xs = any_from 0 xs
@@ -79,21 +64,11 @@ module _ (name : List ℕ) where
 
   later_than : (i : ℕ) (names : List (List ℕ)) (q : ℕ) → position_from is_same i names ≡ Some q → i < suc q
   later_than i [] q is = cc
-  later_than i (x ∷ names) q is = by (is_same x) (later_than (i + 1) names q) is
-    where
-      by : (b : Bool) → (position_from is_same (i + 1) names ≡ Some q → i + 1 < suc q) → cond b (Some i) (position_from is_same (i + 1) names) ≡ Some q → i < suc q
-      by true more is = let e : i ≡ q = cc in omega (arith, e)
-      by false more is = let e = more is in omega (arith, e)
+  later_than i (x ∷ names) q is = search (rules, later_than (i + 1) names q)
 
   no_hash : (i : ℕ) (names : List (List ℕ)) → position_from has_hash i names ≡ None → position_from is_same i names ≡ None
   no_hash i [] is = refl
-  no_hash i (x ∷ names) is = by (has_hash x) (is_same x) (other_hash x) (no_hash (i + 1) names) is
-    where
-      by : (h s : Bool) → (h ≡ false → s ≡ false) → (position_from has_hash (i + 1) names ≡ None → position_from is_same (i + 1) names ≡ None) →
-          cond h (Some i) (position_from has_hash (i + 1) names) ≡ None → cond s (Some i) (position_from is_same (i + 1) names) ≡ None
-      by true s other more is = cc
-      by false true other more is = absurd (false≢true (sym (other refl)))
-      by false false other more is = more is
+  no_hash i (x ∷ names) is = search (rules, other_hash, false≢true, no_hash (i + 1) names)
 
   hit_from : (i : ℕ) (names : List (List ℕ)) (q : ℕ) → position_from has_hash i names ≡ Some q → Hit i names q
   hit_from i [] q is = cc
@@ -133,20 +108,10 @@ module _ (name : List ℕ) where
   hit_within names q is = let hit = hit_from 0 names q is in let e = hit.is in let w = hit.within in omega (arith, e, w)
 
   pub hit_here : (names : List (List ℕ)) (q : ℕ) (d : List ℕ) → first_with_hash (hash_of name) names ≡ Some q → is_same (get_or names q d) ≡ true → position_of names name ≡ Some q
-  hit_here names q d is same =
-      let hit = hit_from 0 names q is in
-      let at : q ≡ hit.j = let e = hit.is in omega (arith, e) in
-      hit.here d (subst (λ p. is_same (get_or names p d) ≡ true) at same)
+  hit_here names q d is same = grind (arith, hit_from 0 names q is)
 
   pub hit_elsewhere : (names : List (List ℕ)) (q : ℕ) (d : List ℕ) → first_with_hash (hash_of name) names ≡ Some q → is_same (get_or names q d) ≡ false → later_position names name ≡ position_of names name
-  hit_elsewhere names q d is other =
-      let hit = hit_from 0 names q is in
-      let at : q ≡ hit.j = let e = hit.is in omega (arith, e) in
-      ap (unless_first (position_of names name)) is ∙ by (position_of names name) (hit.elsewhere d (subst (λ p. is_same (get_or names p d) ≡ false) at other))
-    where
-      by : (found : Option ℕ) → (found ≡ Some q → ⊥) → unless_first found (Some q) ≡ found
-      by None apart = refl
-      by (Some p) apart = let off : (p == q) ≡ false = ⊎_elim (λ y. absurd (apart (ap Some (let e : p ≡ q = grind (arith, y) in e)))) (λ n. n) (cases_Bool (p == q)) in rw (off) refl
+  hit_elsewhere names q d is other = grind (arith, hit_from 0 names q is, cases_Bool)
 
 same_number : (n : ℕ) → (n == n) ≡ true
 same_number n = grind arith
@@ -180,37 +145,14 @@ module _ (names : List (List ℕ)) (name : List ℕ) (new : position_of names na
 
   -- another name stands where it stood, and so does the first with its hash
   later_kept : (other : List ℕ) → bytes_eq name other ≡ false → later_position more other ≡ later_position names other
-  later_kept other apart = by (position_of names other) refl
-    where
-      first : (found : Option ℕ) (q : ℕ) → first_with_hash (hash_of other) names ≡ found → position_of names other ≡ Some q → first_with_hash (hash_of other) more ≡ first_with_hash (hash_of other) names
-      first None q is at = absurd (some_not_none q (sym at ∙ absent other names is))
-      first (Some f) q is at = firsts_kept (hash_of other) f is ∙ sym is
-
-      by : (found : Option ℕ) → position_of names other ≡ found → later_position more other ≡ later_position names other
-      by None is =
-          let none : position_of more other ≡ None = added (λ (n : List ℕ). bytes_eq n other) name names is ∙ cond-false (bytes_eq name other) (Some (length names)) None apart in
-          ap (λ p. unless_first p (first_with_hash (hash_of other) more)) none ∙ sym (ap (λ p. unless_first p (first_with_hash (hash_of other) names)) is)
-      by (Some q) is =
-          let kept : position_of more other ≡ Some q = kept_from (λ (n : List ℕ). bytes_eq n other) name 0 names q is in
-          ap (λ p. unless_first p (first_with_hash (hash_of other) more)) (kept ∙ sym is) ∙ ap (unless_first (position_of names other)) (first (first_with_hash (hash_of other) names) q refl is)
+  later_kept other apart = search (rules, more, some_not_none, absent, firsts_kept, added, cond-false, kept_from)
 
   -- the name itself stands at the end, and is the first with its hash only if no other has it
   later_first : first_with_hash (hash_of name) names ≡ None → later_position more name ≡ None
-  later_first is =
-      let here = nat_list_eq_equiv.refl name in
-      let n = length names in
-      ap (λ p. unless_first p (first_with_hash (hash_of name) more)) (added (λ (x : List ℕ). bytes_eq x name) name names new ∙ cond-true (bytes_eq name name) (Some n) None here) ∙
-      ap (unless_first (Some n)) (firsts_more (hash_of name) is ∙ cond-true (hash_of name == hash_of name) (Some n) None (same_number (hash_of name))) ∙
-      cond-true (n == n) None (Some n) (same_number n)
+  later_first is = search (rules, more, added, cond-true, firsts_more, same_number)
 
   later_other : (q : ℕ) → first_with_hash (hash_of name) names ≡ Some q → later_position more name ≡ Some (length names)
-  later_other q is =
-      let here = nat_list_eq_equiv.refl name in
-      let n = length names in
-      let before = hit_within name names q is in
-      ap (λ p. unless_first p (first_with_hash (hash_of name) more)) (added (λ (x : List ℕ). bytes_eq x name) name names new ∙ cond-true (bytes_eq name name) (Some n) None here) ∙
-      ap (unless_first (Some n)) (firsts_kept (hash_of name) q is) ∙
-      cond-false (n == q) None (Some n) (grind (arith, before))
+  later_other q is = search (rules, hit_within, more, added, cond-true, firsts_kept, cond-false)
 
 -- ---- the maps of an index, as they change
 
@@ -238,17 +180,8 @@ number_test a b = sym (unsigned_ties a b)
 -- a name whose hash is new
 pub first_added : (m n : NameIndex) (names : List (List ℕ)) (name : List ℕ) → IsIndex m names → position_of names name ≡ None → first_with_hash (hash_of name) names ≡ None → n.others ≡ m.others →
     tree.Updates nat_cmp m.first_of_hash n.first_of_hash (hash_of name) (Some (length names)) → IsIndex n (names ++ name ∷ [])
-first_added m n names name index new none same h = record {
-  firsts = λ hash. h.0 hash ∙ ap (cond (is_eq (nat_cmp (hash_of name) hash)) (Some (length names))) (index.firsts hash) ∙ ap (λ b. cond b (Some (length names)) (first_with_hash hash names)) (number_test (hash_of name) hash) ∙ at hash (first_with_hash hash names) refl;
-  others = λ other. ap (λ o. others_at o other) same ∙ index.others other ∙ ⊎_elim (here other) (λ apart. sym (later_kept names name new other apart)) (cases_Bool (bytes_eq name other));
-}
-  where
-    at : (hash : ℕ) (found : Option ℕ) → first_with_hash hash names ≡ found → cond (hash_of name == hash) (Some (length names)) (first_with_hash hash names) ≡ first_with_hash hash (names ++ name ∷ [])
-    at hash None is = ap (cond (hash_of name == hash) (Some (length names))) is ∙ sym (firsts_more names name new hash is)
-    at hash (Some q) is = cond-false (hash_of name == hash) (Some (length names)) (first_with_hash hash names) (⊎_elim (λ y. absurd (some_not_none q (sym is ∙ ap (λ h. first_with_hash h names) (let e : hash ≡ hash_of name = grind (arith, y) in e) ∙ none))) (λ n. n) (cases_Bool (hash_of name == hash))) ∙ is ∙ sym (firsts_kept names name new hash q is)
-
-    here : (other : List ℕ) → bytes_eq name other ≡ true → later_position names other ≡ later_position (names ++ name ∷ []) other
-    here other y = subst (λ (n : List ℕ). later_position names n ≡ later_position (names ++ name ∷ []) n) ((bytes_decides name other).0 y) (ap (λ p. unless_first p (first_with_hash (hash_of name) names)) new ∙ sym (later_first names name new none))
+first_added m n names name index new none same h =
+    search (rules, number_test, later_kept, apart, cases_Bool, firsts_more, cond-false, some_not_none, firsts_kept, bytes_decides, later_first)
 
 -- a name with the hash of an earlier one
 other_added_after : (m n : NameIndex) (names : List (List ℕ)) (key : Vec ℕ Global) (q : ℕ) → IsIndex m names → position_of names key.items ≡ None → first_with_hash (hash_of key.items) names ≡ Some q → n.first_of_hash ≡ m.first_of_hash →
@@ -267,8 +200,4 @@ other_added_after m n names key q index new some same h = record {
 
 pub other_added : (m n : NameIndex) (names : List (List ℕ)) (key : Vec ℕ Global) → IsIndex m names → position_of names key.items ≡ None → is_some (first_with_hash (hash_of key.items) names) ≡ true → n.first_of_hash ≡ m.first_of_hash →
     tree.Updates (λ x y. slice_cmp nat_cmp x.items y.items) m.others n.others key (Some (length names)) → IsIndex n (names ++ key.items ∷ [])
-other_added m n names key index new some same h = by (first_with_hash (hash_of key.items) names) refl
-  where
-    by : (first : Option ℕ) → first_with_hash (hash_of key.items) names ≡ first → IsIndex n (names ++ key.items ∷ [])
-    by None is = absurd (false≢true (sym (ap is_some is) ∙ some))
-    by (Some q) is = other_added_after m n names key q index new is same h
+other_added m n names key index new some same h = search (rules, false≢true, other_added_after)

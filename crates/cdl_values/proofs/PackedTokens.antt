@@ -1,16 +1,14 @@
 -- The values of a statement, one token on.
-use Rattle.std.proofs.Common.{◌≡◌, ℕ, suc, ◌<◌, false, List, [], ◌∷◌, ◌++◌, refl, sym, ap, ◌∙◌, append_assoc, rules, append-nil, drop, length, Option, Result, Ok, Err, pos}
+use Rattle.std.proofs.Common.{◌≡◌, ℕ, suc, ◌<◌, false, List, [], ◌∷◌, ◌++◌, refl, ap, append_assoc, rules, append-nil, drop, length, Option, Result, Ok, Err, pos, arith}
 use Rattle.cdl_values.proofs.Prelude.{Char, Version, bytes_of_number, Lexeme, is_mark_kind, values, value_of, Value, CdlKind, Filling, char_bytes, bytes_of, capacity_after, joined, followed_by, packed, ReadError, OutOfMemory, Fault, FailsRead, drop-append_seam, TokenKind}
 use Rattle.cdl_tokens.specs.declared.token.TokenKind.TheVariants as kinds
 
 -- what stands before a fault is given up
 pub joined_assoc : (bs cs : List ℕ) (r : Result (List ℕ) CdlKind) → joined (Ok bs) (joined (Ok cs) r) ≡ joined (Ok (bs ++ cs)) r
-joined_assoc bs cs (Ok ds) = ap Ok (sym (append_assoc bs cs ds))
-joined_assoc bs cs (Err e) = refl
+joined_assoc bs cs r = grind (arith, append_assoc)
 
 pub joined_none : (r : Result (List ℕ) CdlKind) → joined (Ok []) r ≡ r
-joined_none (Ok bs) = refl
-joined_none (Err e) = refl
+joined_none r = grind arith
 
 pub over_value : (version : Version) (l : Lexeme) (ls : List Lexeme) → is_mark_kind l.kind ≡ false → values version (l ∷ ls) ≡ value_of version l l.kind ∷ values version ls
 unfolding values
@@ -21,9 +19,7 @@ pub one_packed : (filling : Filling) (capacity : Option ℕ) (v : Value) (vs : L
     bytes_of filling capacity v ≡ Ok ds → cs ≡ bs ++ ds →
     joined (Ok bs) (packed filling capacity (v ∷ vs)) ≡ joined (Ok cs) (packed filling (capacity_after filling ds capacity) vs)
 unfolding packed
-one_packed filling capacity v vs bs cs ds is e =
-    ap (λ r. joined (Ok bs) (followed_by r (λ bytes. packed filling (capacity_after filling bytes capacity) vs))) is ∙ joined_assoc bs ds (packed filling (capacity_after filling ds capacity) vs) ∙
-    ap (λ xs. joined (Ok xs) (packed filling (capacity_after filling ds capacity) vs)) (sym e)
+one_packed filling capacity v vs bs cs ds is e = search (rules, joined, joined_assoc)
 
 -- a fault decides
 pub one_wrong : (filling : Filling) (capacity : Option ℕ) (v : Value) (vs : List Value) (e : CdlKind) (bs : List ℕ) →
@@ -36,13 +32,7 @@ unfolding packed values
 none_packed filling capacity version bs = ap Ok (append-nil bs)
 
 pub no_mark : (kind : TokenKind) → (kind ≡ kinds.Mark → ⊥) → is_mark_kind kind ≡ false
-no_mark kinds.Opening h = refl
-no_mark kinds.Word h = refl
-no_mark kinds.Number h = refl
-no_mark kinds.Text h = refl
-no_mark kinds.Mark h = absurd (h refl)
-no_mark kinds.Bad h = refl
-no_mark kinds.End h = refl
+no_mark kind h = grind arith
 
 -- a refused value is a refused list
 pub refused : (filling : Filling) (capacity : Option ℕ) (v : Value) (vs : List Value) (e : ReadError) (bs : List ℕ) →
@@ -52,12 +42,10 @@ refused filling capacity v vs (Fault k) bs h = one_wrong filling capacity v vs k
 
 -- bytes that were added are after those before
 pub added : (bs cs : List ℕ) (r : Result (List ℕ) CdlKind) → joined (Ok bs) r ≡ Ok cs → r ≡ Ok (drop (length bs) cs)
-added bs cs (Ok ds) is = let e : bs ++ ds ≡ cs = cc in ap Ok (sym (ap (drop (length bs)) (sym e) ∙ drop-append_seam bs ds))
-added bs cs (Err e) is = cc
+added bs cs r h = grind (arith, drop-append_seam)
 
 pub is_after : (bs cs : List ℕ) (r : Result (List ℕ) CdlKind) → joined (Ok bs) r ≡ Ok cs → cs ≡ bs ++ drop (length bs) cs
-is_after bs cs (Ok ds) is = let e : bs ++ ds ≡ cs = cc in sym e ∙ ap (λ xs. bs ++ xs) (sym (ap (drop (length bs)) (sym e) ∙ drop-append_seam bs ds))
-is_after bs cs (Err e) is = cc
+is_after bs cs r h = grind (arith, drop-append_seam)
 
 -- characters
 pub one_char : (b : ℕ) (bs : List ℕ) → b < 256 → char_bytes (b ∷ bs) ≡ b ∷ char_bytes bs

@@ -1,20 +1,12 @@
 -- What the variables take of the data section.
-use Rattle.std.proofs.Common.{◌≡◌, ℕ, suc, ◌+◌, ◌<◌, false, List, [], ◌∷◌, ◌++◌, length, map, take, get_or, refl, sym, ap, ◌∙◌, subst, arith, rules, ℤ, nat_lt, not, min, Some, unsigned_abs}
-use Rattle.cdl_values.proofs.Prelude.{get_or-map, length-map, take-suc, map-append, IsInRange, bytes_of_number, dim_len, is_record_var, product, slab_count, is_char, Dim, Draft, capacity_of, row_count, AreShaped, unlisted_drafts, unlisted_draft, AllSuit, Suits, Fills, HasCapacity, most, Fill, Filling, Numbers, Joined, Rows, Target, NcType, Byte, Char, Short, Int, Ubyte, Ushort, Uint, Int64, Uint64}
+use Rattle.std.proofs.Common.{◌≡◌, ℕ, ◌+◌, ◌<◌, false, List, [], ◌∷◌, ◌++◌, length, map, take, get_or, refl, sym, ap, ◌∙◌, subst, arith, rules, ℤ, min, Some, unsigned_abs}
+use Rattle.cdl_values.proofs.Prelude.{get_or-map, length-map, take-suc, map-append, IsInRange, bytes_of_number, dim_len, is_record_var, product, slab_count, is_char, Dim, Draft, capacity_of, row_count, AreShaped, unlisted_drafts, unlisted_draft, AllSuit, Suits, Fills, HasCapacity, most, Fill, Filling, Numbers, Joined, Rows, Target, NcType, Char}
 use Rattle.std.proofs.lemmas.List.Elements.{All-get_or}
 use Rattle.nc_base.specs.Headers.{AreDimids}
 use Rattle.nc_base.specs.declared.header.Var.{Var}
 
 pub no_char : (ty : NcType) → (ty ≡ Char → ⊥) → is_char ty ≡ false
-no_char Byte h = refl
-no_char Char h = absurd (h refl)
-no_char Short h = refl
-no_char Int h = refl
-no_char Ubyte h = refl
-no_char Ushort h = refl
-no_char Uint h = refl
-no_char Int64 h = refl
-no_char Uint64 h = refl
+no_char ty h = grind arith
 
 -- the byte of a character
 pub char_byte : (n : ℤ) → IsInRange Char n → bytes_of_number Char n ≡ unsigned_abs n ∷ []
@@ -34,10 +26,7 @@ takes_numbers dims var filling fill n is closed count =
 pub takes_joined : (dims : List Dim) (var : Var) (filling : Filling) (n : ℕ) → filling ≡ Joined → Fills filling (capacity_of dims var) → is_record_var dims var ≡ false →
     (length var.dimids < 2 → n ≡ product (map (dim_len dims) var.dimids)) → HasCapacity filling (Some n) (capacity_of dims var)
 unfolding capacity_of
-takes_joined dims var filling n is fills closed count =
-    let h : Fills Joined (capacity_of dims var) = subst (λ (f : Filling). Fills f (capacity_of dims var)) is fills in
-    let flat : not (nat_lt (length var.dimids) 2) ≡ false = h.1 in
-    subst (λ (f : Filling). HasCapacity f (Some n) (capacity_of dims var)) (sym is) (closed, count (grind (arith, flat)) ∙ sym (slab_is dims var closed))
+takes_joined dims var filling n is fills closed count = grind (arith, slab_is dims var closed)
 
 pub takes_rows : (dims : List Dim) (var : Var) (filling : Filling) (len fill n : ℕ) → filling ≡ Rows len fill → is_record_var dims var ≡ false →
     n ≡ min (row_count dims var) most → HasCapacity filling (Some n) (capacity_of dims var)
@@ -48,14 +37,11 @@ takes_rows dims var filling len fill n is closed count = subst (λ (f : Filling)
 
 pub suit_more : (dims : List Dim) (ts : List Target) (ds : List Draft) (t : Target) (d : Draft) → AllSuit dims ts ds → Suits dims t d → AllSuit dims (ts ++ t ∷ []) (ds ++ d ∷ [])
 suit_more dims [] [] t d h more = (more, tt)
-suit_more dims [] (e ∷ ds) t d h more = absurd h
-suit_more dims (s ∷ ts) [] t d h more = absurd h
 suit_more dims (s ∷ ts) (e ∷ ds) t d h more = (h.0, suit_more dims ts ds t d h.1 more)
+suit_more dims _ _ t d h more = absurd h
 
 pub fresh_more : (vars : List Var) (i : ℕ) (x : Var) → i < length vars → x ≡ get_or vars i x → unlisted_drafts (take (i + 1) vars) ≡ unlisted_drafts (take i vars) ++ unlisted_draft x ∷ []
-fresh_more vars i x within is =
-    let next : i + 1 ≡ suc i = omega arith in
-    ap (λ n. unlisted_drafts (take n vars)) next ∙ ap unlisted_drafts (take-suc vars i x within) ∙ map-append unlisted_draft (take i vars) (get_or vars i x ∷ []) ∙ ap (λ y. unlisted_drafts (take i vars) ++ unlisted_draft y ∷ []) (sym is)
+fresh_more vars i x within is = grind (arith, take-suc vars i x within, map-append unlisted_draft (take i vars) (get_or vars i x ∷ []))
 
 pub shape_at : (dims : List Dim) (vars : List Var) (i : ℕ) (x : Var) → i < length vars → x ≡ get_or vars i x → AreShaped dims (unlisted_drafts vars) → AreDimids dims [] x.dimids
 shape_at dims vars i x within is all =

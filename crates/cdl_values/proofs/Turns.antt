@@ -26,25 +26,11 @@ record Steps {A : Type 0} (f : Filling) (r : Capacity) (add : List A → Value �
   step : (capacity : Option ℕ) (before : List A) (x : Value) → Left capacity r.is_open count (length before) → Step f r add listing count capacity before x
 
 capacity_is : (capacity : Option ℕ) (is_open : Bool) (count n : ℕ) → Left capacity is_open count n → (is_open || nat_lt n count) ≡ not (is_full capacity)
-capacity_is None is_open count n h = rw (h) refl
-capacity_is (Some zero) is_open count n h =
-    let e : count ≡ n + 0 = h.1 in
-    let off : nat_lt n count ≡ false = grind (arith, e) in
-    rw (h.0) (rw (off) refl)
-capacity_is (Some (suc left)) is_open count n h =
-    let e : count ≡ n + suc left = h.1 in
-    let on : nat_lt n count ≡ true = grind (arith, e) in
-    let some : is_full (Some (suc left)) ≡ false = search rules in
-    rw (h.0) (rw (on) (ap not (sym some)))
+capacity_is capacity is_open count n h = grind arith
 
 -- one position less
 left_less : {A : Type 0} (capacity : Option ℕ) (is_open : Bool) (count : ℕ) (before : List A) (y : A) → is_full capacity ≡ false → Left capacity is_open count (length before) → Left (capacity_minus 1 capacity) is_open count (length (before ++ y ∷ []))
-left_less None is_open count before y some h = h
-left_less (Some zero) is_open count before y some h = cc
-left_less (Some (suc left)) is_open count before y some h =
-    let e : count ≡ length before + suc left = h.1 in
-    let l = length-append before (y ∷ []) in
-    (h.0, (let g : count ≡ length (before ++ y ∷ []) + (suc left - 1) = omega (arith, e, l) in g))
+left_less capacity is_open count before y h h2 = grind (arith, length-append)
 
 -- ---- numbers
 
@@ -81,18 +67,10 @@ number_steps fill r h = record { none = refl; joins = λ xs ys. refl; step = num
 -- ---- strings, one after the other
 
 past_is : (n : ℕ) (capacity : Option ℕ) (is_open : Bool) (count m : ℕ) → Left capacity is_open count m → (is_open || nat_le (m + n) count) ≡ not (is_past n capacity)
-past_is n None is_open count m h = rw (h) refl
-past_is n (Some left) is_open count m h =
-    let e : count ≡ m + left = h.1 in
-    rw (h.0) (let g : nat_le (m + n) count ≡ not (nat_lt left n) = grind (arith, e) in g)
+past_is n capacity is_open count m h = grind arith
 
 left_chars : (capacity : Option ℕ) (is_open : Bool) (count : ℕ) (before bs : List ℕ) → is_past (length bs) capacity ≡ false → Left capacity is_open count (length before) → Left (capacity_minus (length bs) capacity) is_open count (length (before ++ bs))
-left_chars None is_open count before bs some h = h
-left_chars (Some left) is_open count before bs some h =
-    let e : count ≡ length before + left = h.1 in
-    let l = length-append before bs in
-    let k : nat_lt left (length bs) ≡ false = some in
-    (h.0, (let g : count ≡ length (before ++ bs) + (left - length bs) = grind (arith, e, l, k) in g))
+left_chars capacity is_open count before bs h h2 = grind (arith, length-append)
 
 chars_are : (ty : NcType) (bs : List ℕ) → ty ≡ Char → char_bytes bs ≡ flat_map (bytes_of_number ty) (map pos bs)
 chars_are ty bs h = ap (λ t. flat_map (bytes_of_number t) (map pos bs)) (sym h)
@@ -108,8 +86,7 @@ joined_step r h capacity before (Characters bs) left = by (is_past (length bs) c
         let is = past_is (length bs) capacity r.is_open r.count (length before) left ∙ ap not off in
         puts bs (rw (is) refl) (rw (off) (ap Ok (chars_are r.ty bs h.0)))
         (subst (λ (n : ℕ). Left (capacity_minus n capacity) r.is_open r.count (length (before ++ bs))) (sym (chars_len bs) ∙ ap (λ (xs : List ℕ). length xs) (chars_are r.ty bs h.0)) (left_chars capacity r.is_open r.count before bs off left))
-joined_step r h capacity before Underscore left = wrong WrongKind refl refl
-joined_step r h capacity before (Number n) left = wrong WrongKind refl refl
+joined_step r h capacity before _ left = wrong WrongKind refl refl
 
 joined_steps : (r : Capacity) → Fills fillings.Joined r → Steps fillings.Joined r (add_characters r) Joined r.count
 joined_steps r h = record { none = refl; joins = map-append pos; step = joined_step r h }
@@ -122,10 +99,7 @@ padding (suc n) x b h = ap (λ bs. bs ++ flat_map (bytes_of_number Char) (replic
 
 row_bytes_are : (ty : NcType) (len n : ℕ) (x : ℤ) (b : ℕ) (bs : List ℕ) → ty ≡ Char → len ≡ n → bytes_of_number Char x ≡ b ∷ [] →
     char_bytes bs ++ replicate (n - length bs) b ≡ flat_map (bytes_of_number ty) (filled len x (map pos bs))
-row_bytes_are ty len n x b bs is same h =
-    rw (is) (rw (same) (ap (λ ys. char_bytes bs ++ ys) (sym (padding (n - length bs) x b h)) ∙
-    ap (λ m. char_bytes bs ++ flat_map (bytes_of_number Char) (replicate (n - m) x)) (sym (length-map bs pos)) ∙
-    sym (flat_map-append (bytes_of_number Char) (map pos bs) (replicate (n - length (map pos bs)) x))))
+row_bytes_are ty len n x b bs is same h = search (rules, padding, length-map, pos, flat_map-append)
 
 rows_step : (len fill : ℕ) (r : Capacity) → Fills (fillings.Rows len fill) r → (capacity : Option ℕ) (before : List (List ℕ)) (x : Value) → Left capacity r.is_open r.rows (length before) → Step (fillings.Rows len fill) r (add_row r) Rows r.rows capacity before x
 rows_step len fill r h capacity before (Characters bs) left = by (is_full capacity) (nat_lt len (length bs)) refl refl
@@ -147,8 +121,7 @@ rows_step len fill r h capacity before (Characters bs) left = by (is_full capaci
         puts (bs ∷ []) (rw (is) (rw (within) refl))
         (rw (off) (rw (is-long) (ap Ok (row_bytes_are r.ty r.row len r.fill fill bs h.0 row h.3 ∙ ap (flat_map (bytes_of_number r.ty)) (sym (append-nil (filled r.row r.fill (map pos bs))))))))
         (left_less capacity r.is_open r.rows before bs off left)
-rows_step len fill r h capacity before Underscore left = wrong WrongKind refl refl
-rows_step len fill r h capacity before (Number n) left = wrong WrongKind refl refl
+rows_step len fill r h capacity before _ left = wrong WrongKind refl refl
 
 rows_steps : (len fill : ℕ) (r : Capacity) → Fills (fillings.Rows len fill) r → Steps (fillings.Rows len fill) r (add_row r) Rows r.rows
 rows_steps len fill r h = record { none = refl; joins = flat_map-append (λ bs. filled r.row r.fill (map pos bs)); step = rows_step len fill r h }

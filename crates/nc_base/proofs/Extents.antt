@@ -22,13 +22,8 @@ last_or-any o (y ∷ xs) x e = e
 -- the last element of several rows, if the last row is not empty
 last-rows : {A : Type 0} (f : ℕ → List A) (k m : ℕ) (o : Option A) (x : A) → last_or None (f (k + m)) ≡ Some x
     → last_or o (flat_map f (range_with_len k (suc m))) ≡ Some x
-last-rows f k zero o x e =
-    let same : k + 0 ≡ k = omega arith in
-    last_or-append o (f k) [] ∙ last_or-any o (f k) x (ap (λ i. last_or None (f i)) (sym same) ∙ e)
-last-rows f k (suc m) o x e =
-    let same : k + 1 + m ≡ k + suc m = omega arith in
-    last_or-append o (f k) (flat_map f (range_with_len (k + 1) (suc m)))
-    ∙ last-rows f (k + 1) m (last_or o (f k)) x (ap (λ i. last_or None (f i)) same ∙ e)
+last-rows f k zero o x e = grind (arith, last_or-append, last_or-any)
+last-rows f k (suc m) o x e = grind (arith, last_or-append, last-rows f (k + 1) m (last_or o (f k)) x)
 
 -- ---- the last index vector
 
@@ -38,31 +33,19 @@ greatest [] = []
 greatest (n ∷ ns) = (n - 1) ∷ greatest ns
 
 some-factor : (m p : ℕ) → 0 < m * p → 0 < p
-some-factor m zero h = absurd (omega (arith, h))
-some-factor m (suc p) h = omega arith
+some-factor m p h = grind arith
 
 last-vector : (ns : List ℕ) → 0 < product ns → last_or None (vectors_below ns) ≡ Some (greatest ns)
 last-vector [] some = refl
 last-vector (zero ∷ ns) some = absurd (omega arith)
 last-vector (suc m ∷ ns) some =
-    let same : 0 + m ≡ suc m - 1 = omega arith in
-    let ih = last-vector ns (some-factor (suc m) (product ns) some) in
-    last-rows (λ i. map (λ (index : List ℕ). i ∷ index) (vectors_below ns)) 0 m None ((0 + m) ∷ greatest ns)
-    (last_or-map (λ (index : List ℕ). (0 + m) ∷ index) None (vectors_below ns) ∙ ap (option_map (λ (index : List ℕ). (0 + m) ∷ index)) ih)
-    ∙ ap (λ i. Some (i ∷ greatest ns)) same
+    grind (arith, last-rows (λ i. map (λ (index : List ℕ). i ∷ index) (vectors_below ns)) 0 m None, last_or-map (λ (index : List ℕ). (0 + m) ∷ index) None, some-factor, last-vector ns)
 
 -- its distance from the first value, and a value more, is the slab
 greatest-distance : (size : ℕ) (ns : List ℕ) → 0 < product ns → distance (greatest ns) (slab_strides size ns) + size ≡ product ns * size
 greatest-distance size [] some = omega arith
 greatest-distance size (zero ∷ ns) some = absurd (omega arith)
-greatest-distance size (suc m ∷ ns) some =
-    let p = product ns in
-    let ih : distance (greatest ns) (slab_strides size ns) + size ≡ p * size = greatest-distance size ns (some-factor (suc m) p some) in
-    let less : suc m - 1 ≡ m = omega arith in
-    let one : m * (size * p) + p * size ≡ suc m * p * size = omega arith in
-    ap (λ i. i * (size * p) + distance (greatest ns) (slab_strides size ns) + size) less
-    ∙ (let e : m * (size * p) + distance (greatest ns) (slab_strides size ns) + size ≡ m * (size * p) + p * size = omega (arith, ih) in e)
-    ∙ one
+greatest-distance size (suc m ∷ ns) some = grind (arith, some-factor, greatest-distance size ns)
 
 -- ---- of a variable
 
@@ -127,6 +110,4 @@ ends h var n shape = sym (end-at-kind h var n (some_count h.dims var.dimids shap
 
 pub extent-found : (h : Header) (v n end : ℕ) → IsSound h → IfSome (slice_get h.vars v) (λ var. end ≡ extent_sum h n var)
     → IfSome (slice_get h.vars v) (λ var. end ≡ extent_end h var n)
-extent-found h v n end sound =
-    if-some (λ var. end ≡ extent_sum h n var) (λ var. end ≡ extent_end h var n) (slice_get h.vars v)
-    (λ var at is. is ∙ ends h var n (all-at (IsSoundVar h.version h.dims) h.vars v var sound.vars at).shape)
+extent-found h v n end sound = grind (arith, ends h, all-at (IsSoundVar h.version h.dims) h.vars v, if-some)

@@ -1,6 +1,6 @@
 -- A generated file holds its dataset.
-use Rattle.std.proofs.Common.{◌≡◌, ℕ, suc, ◌+◌, ◌*◌, ◌<◌, Bool, true, false, cond, List, [], ◌∷◌, ◌++◌, length, map, refl, sym, ◌∙◌, ap, subst, arith, length-append, All, sum}
-use Rattle.nc_base.proofs.Prelude.{to_be_bytes, flat_map, range_with_len, append-nil, length-map, All-nil, All-cons, All-head, All-tail, Att, Dim, Var, Header, NumRecs, Known, Dataset, Version, Cdf1, Cdf2, Cdf5, code_of, offset_width, count_limit, IsName, is_record_var, padded_size, record_size_of, record_vars, record_size, record_count, IsSoundVar, IsSound, HasValidNames, bare_var, AreArrays, IsGood, dimension_tag, variable_tag, HoldsDataset, word_spelling, magic_spelling, count_spelling, name_spelling, list_head, list_spelling, dim_spelling, atts_spelling, vsize_of, var_spelling, numrecs_spelling, header_spelling, blocks, is_sole_narrow, record_of, known_records, data_of, begin_after, vars_after, with_begins, Fits, file_of}
+use Rattle.std.proofs.Common.{◌≡◌, ℕ, suc, ◌+◌, ◌*◌, ◌<◌, List, [], ◌∷◌, ◌++◌, length, map, refl, sym, ◌∙◌, ap, subst, arith, length-append, All, sum}
+use Rattle.nc_base.proofs.Prelude.{to_be_bytes, flat_map, range_with_len, append-nil, length-map, All-nil, All-cons, All-head, All-tail, Att, Dim, Var, Header, NumRecs, Known, Dataset, Version, offset_width, count_limit, IsName, padded_size, record_size_of, record_vars, record_size, record_count, IsSoundVar, IsSound, HasValidNames, bare_var, AreArrays, IsGood, HoldsDataset, list_spelling, var_spelling, header_spelling, blocks, is_sole_narrow, record_of, known_records, data_of, vars_after, with_begins, Fits, file_of}
 use Rattle.nc_base.proofs.IsAt.{IsAt, stands-here, stands-after, stands-in, stands-at, stands-first, stands-second, stands-row}
 use Rattle.nc_base.proofs.FilePlaces.{slots, fixed_total, record_size_of-slots, length-blocks, length-record, IsPlaced, agree-all, agree-arrays, agree-whole}
 use Rattle.nc_base.proofs.HeaderSpelled.{header-spelled}
@@ -16,24 +16,17 @@ bare-after h before (var ∷ vars) = ap (λ (vs : List Var). bare_var var ∷ vs
 all-after : (P : Var → Type 0) → ((var : Var) (at : ℕ) → P var → P (record var { begin_at = at })) → (h : Header) (before vars : List Var) → All P vars → All P (vars_after h before vars)
 all-after P same h before [] all = All-nil P
 all-after P same h before (var ∷ vars) all =
-    All-cons P (record var { begin_at = begin_after h before var }) (vars_after h (before ++ var ∷ []) vars) (same var _ (All-head P var vars all))
-    (all-after P same h (before ++ var ∷ []) vars (All-tail P var vars all))
+    grind (arith, All-cons, All-head, All-tail, all-after P same h (before ++ var ∷ []) vars (All-tail P var vars all))
 
 -- ---- the record size
 
 pub records-bare : (dims : List Dim) (vars : List Var) → record_vars dims (map bare_var vars) ≡ map bare_var (record_vars dims vars)
 records-bare dims [] = refl
-records-bare dims (var ∷ vars) =
-    ap (λ (vs : List Var). cond (is_record_var dims var) (bare_var var ∷ vs) vs) (records-bare dims vars) ∙ at (is_record_var dims var)
-  where
-    at : (b : Bool) → cond b (bare_var var ∷ map bare_var (record_vars dims vars)) (map bare_var (record_vars dims vars)) ≡ map bare_var (cond b (var ∷ record_vars dims vars) (record_vars dims vars))
-    at true = refl
-    at false = refl
+records-bare dims (var ∷ vars) = grind (arith, records-bare dims vars)
 
 record_size_of-bare : (dims : List Dim) (vars : List Var) → record_size_of dims (map bare_var vars) ≡ record_size_of dims vars
-record_size_of-bare dims [] = refl
-record_size_of-bare dims (var ∷ []) = refl
 record_size_of-bare dims (var ∷ next ∷ vars) = ap (λ (ns : List ℕ). sum ns) (map-map (padded_size dims) bare_var (var ∷ next ∷ vars))
+record_size_of-bare dims _ = refl
 
 size-bare : (h : Header) (vars : List Var) → record_size (record h { vars = map bare_var vars }) ≡ record_size (record h { vars = vars })
 size-bare h vars = ap (record_size_of h.dims) (records-bare h.dims vars) ∙ record_size_of-bare h.dims (record_vars h.dims vars)
@@ -50,36 +43,22 @@ both : (a b x y : List ℕ) → length a ≡ length b → length x ≡ length y 
 both a b x y e f = length-append a x ∙ ap (λ (n : ℕ). n + length x) e ∙ ap (λ (n : ℕ). length b + n) f ∙ sym (length-append b y)
 
 offset-len : (v : Version) (m n : ℕ) → length (to_be_bytes (offset_width v) m) ≡ length (to_be_bytes (offset_width v) n)
-offset-len Cdf1 m n = refl
-offset-len Cdf2 m n = refl
-offset-len Cdf5 m n = refl
+offset-len v m n = grind arith
 
 var-len : (v : Version) (dims : List Dim) (var : Var) → length (var_spelling v dims (bare_var var)) ≡ length (var_spelling v dims var)
 unfolding var_spelling
-var-len v dims var =
-    longer (name_spelling v var.name) _ _
-    (longer (count_spelling v (length var.dimids) ++ flat_map (count_spelling v) var.dimids) _ _
-    (longer (atts_spelling v var.atts) _ _
-    (longer (word_spelling (code_of var.ty)) _ _
-    (longer (count_spelling v (vsize_of v (padded_size dims var))) _ _ (offset-len v 0 var.begin_at)))))
+var-len v dims var = grind (arith, longer, offset-len)
 
 each-len : (f : Var → List ℕ) (xs : List Var) → ((x : Var) → length (f (bare_var x)) ≡ length (f x)) → length (flat_map f (map bare_var xs)) ≡ length (flat_map f xs)
 each-len f [] same = refl
 each-len f (x ∷ xs) same = both (f (bare_var x)) (f x) (flat_map f (map bare_var xs)) (flat_map f xs) (same x) (each-len f xs same)
 
 list-len : (v : Version) (tag : ℕ) (f : Var → List ℕ) (xs : List Var) → ((x : Var) → length (f (bare_var x)) ≡ length (f x)) → length (list_spelling v tag f (map bare_var xs)) ≡ length (list_spelling v tag f xs)
-list-len v tag f xs same =
-    both (list_head v tag (length (map bare_var xs))) (list_head v tag (length xs)) (flat_map f (map bare_var xs)) (flat_map f xs)
-    (ap (λ (n : ℕ). length (list_head v tag n)) (length-map xs bare_var)) (each-len f xs same)
+list-len v tag f xs same = grind (arith, both, length-map, each-len)
 
 header-len-bare : (h : Header) (vars : List Var) → length (header_spelling (record h { vars = map bare_var vars })) ≡ length (header_spelling (record h { vars = vars }))
 unfolding header_spelling
-header-len-bare h vars =
-    let v = h.version in
-    longer (magic_spelling v) _ _
-    (longer (numrecs_spelling v h.numrecs) _ _
-    (longer (list_spelling v dimension_tag (dim_spelling v) h.dims) _ _
-    (longer (atts_spelling v h.gatts) _ _ (list-len v variable_tag (var_spelling v h.dims) vars (var-len v h.dims)))))
+header-len-bare h vars = grind (arith, longer, list-len, var-len)
 
 pub len-after : (h : Header) → length (header_spelling (record h { vars = vars_after h [] h.vars })) ≡ length (header_spelling h)
 len-after h =

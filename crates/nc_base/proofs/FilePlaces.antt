@@ -1,33 +1,17 @@
 -- Each value of a generated file stands where the offsets by index vectors say.
 use Rattle.std.proofs.Common.{◌≡◌, ℕ, zero, suc, ◌+◌, ◌*◌, ◌/◌, ◌<◌, ◌≤◌, Bool, true, false, cond, not, List, [], ◌∷◌, ◌++◌, length, take, drop, replicate, map, refl, sym, ◌∙◌, ap, arith, append_assoc, length-append, length-take, length-drop, None, if◌then◌else◌, All, ℤ}
-use Rattle.nc_base.proofs.Prelude.{concat, flat_map, range_with_len, sum_by, mul-le-mul_right, filter-append, All-nil, All-cons, sum-map, sum_by-append, Dim, Var, Header, NcType, Byte, Char, Short, Int, Ubyte, Ushort, Uint, Int64, Uint64, padding_len, size_of, bytes_of_number, fill_value, is_record_var, is_narrow, slab_count, slab_size, padded_size, padded_total, record_size_of, record_vars, record_size, IsArray, AreArrays, stored_bytes, first_missing, header_spelling, fill_bytes, padded_slab, blocks, is_sole_narrow, slab_in, record_of, fixed_vars, begin_after, vars_after}
+use Rattle.nc_base.proofs.Prelude.{concat, flat_map, range_with_len, sum_by, mul-le-mul_right, filter-append, All-nil, All-cons, sum-map, sum_by-append, Dim, Var, Header, NcType, padding_len, size_of, bytes_of_number, is_record_var, is_narrow, slab_count, slab_size, padded_size, padded_total, record_size_of, record_vars, record_size, IsArray, AreArrays, stored_bytes, first_missing, header_spelling, fill_bytes, padded_slab, blocks, is_sole_narrow, slab_in, record_of, fixed_vars, begin_after, vars_after}
 use Rattle.nc_base.proofs.SlabBytes.{fixed-bytes, record-bytes, fixed-whole, record-whole}
 use Rattle.nc_base.proofs.IsAt.{IsAt, stands-at, stands-first, stands-second, stands-read, stands-within, runs-all}
 
 -- ---- padding
 
 pub length-number : (ty : NcType) (n : _) → length (bytes_of_number ty n) ≡ size_of ty
-length-number Byte n = refl
-length-number Char n = refl
-length-number Short n = refl
-length-number Int n = refl
-length-number Ubyte n = refl
-length-number Ushort n = refl
-length-number Uint n = refl
-length-number Int64 n = refl
-length-number Uint64 n = refl
+length-number ty n = grind arith
 
 -- the padding of whole values is whole values
 pub whole-padding : (ty : NcType) (c : ℕ) → padding_len (c * size_of ty) / size_of ty * size_of ty ≡ padding_len (c * size_of ty)
-whole-padding Byte c = omega arith
-whole-padding Char c = omega arith
-whole-padding Short c = omega arith
-whole-padding Int c = omega arith
-whole-padding Ubyte c = omega arith
-whole-padding Ushort c = omega arith
-whole-padding Uint c = omega arith
-whole-padding Int64 c = omega arith
-whole-padding Uint64 c = omega arith
+whole-padding ty c = grind arith
 
 pub length-replicated : (n : ℕ) (xs : List ℕ) → length (concat (replicate n xs)) ≡ n * length xs
 length-replicated zero xs = omega arith
@@ -35,23 +19,12 @@ length-replicated (suc n) xs = omega (arith, length-append xs (concat (replicate
 
 pub length-padded : (dims : List Dim) (var : Var) (slab : List ℕ) → length slab ≡ slab_size dims var → length (padded_slab var slab) ≡ padded_size dims var
 unfolding padded_slab fill_bytes
-length-padded dims var slab len =
-    let size = size_of var.ty in
-    let p : ℕ = padding_len (length slab) in
-    let e : p ≡ padding_len (slab_size dims var) = ap (λ (n : ℕ). padding_len n) len in
-    let fill = bytes_of_number var.ty (fill_value var) in
-    length-append slab (concat (replicate (p / size) fill))
-    ∙ ap (λ (n : ℕ). length slab + n) (length-replicated (p / size) fill ∙ ap (λ (n : ℕ). p / size * n) (length-number var.ty (fill_value var)))
-    ∙ ap (λ (n : ℕ). length slab + n / size * size) e
-    ∙ ap (λ (n : ℕ). length slab + n) (whole-padding var.ty (slab_count dims var))
-    ∙ ap (λ (n : ℕ). n + padding_len (slab_size dims var)) len
+length-padded dims var slab len = grind (arith, length-append, length-replicated, length-number, whole-padding)
 
 -- ---- totals
 
 padded_total-append : (dims : List Dim) (xs ys : List Var) → padded_total dims (xs ++ ys) ≡ padded_total dims xs + padded_total dims ys
-padded_total-append dims xs ys =
-    let f = padded_size dims in
-    sum-map f (xs ++ ys) ∙ sum_by-append f xs ys ∙ ap (λ n. n + sum_by f ys) (sym (sum-map f xs)) ∙ ap (λ n. padded_total dims xs + n) (sym (sum-map f ys))
+padded_total-append dims xs ys = grind (arith, sum-map, sum_by-append)
 
 -- how much of a record a record variable takes
 abbrev pub slot : Bool → List Dim → Var → ℕ
@@ -64,8 +37,7 @@ abbrev pub fixed_total : List Dim → List Var → ℕ
 fixed_total dims vars = padded_total dims (fixed_vars dims vars)
 
 one-fixed : (dims : List Dim) (var : Var) (kind : Bool) → padded_total dims (cond (not kind) (var ∷ []) []) ≡ (if kind then 0 else padded_size dims var)
-one-fixed dims var true = refl
-one-fixed dims var false = omega arith
+one-fixed dims var kind = grind arith
 
 fixed-cons : (dims : List Dim) (var : Var) (vars : List Var) → fixed_total dims (var ∷ vars) ≡ (if is_record_var dims var then 0 else padded_size dims var) + fixed_total dims vars
 fixed-cons dims var vars =
@@ -74,14 +46,10 @@ fixed-cons dims var vars =
     ∙ ap (λ (n : ℕ). n + fixed_total dims vars) (one-fixed dims var (is_record_var dims var))
 
 pub fixed-push : (dims : List Dim) (before : List Var) (var : Var) → fixed_total dims (before ++ var ∷ []) ≡ fixed_total dims before + (if is_record_var dims var then 0 else padded_size dims var)
-fixed-push dims before var =
-    ap (padded_total dims) (filter-append (λ (v : Var). not (is_record_var dims v)) before (var ∷ []))
-    ∙ padded_total-append dims (fixed_vars dims before) (fixed_vars dims (var ∷ []))
-    ∙ ap (λ (n : ℕ). fixed_total dims before + n) (one-fixed dims var (is_record_var dims var))
+fixed-push dims before var = grind (arith, filter-append, padded_total-append, one-fixed)
 
 one-slot : (is_sole : Bool) (dims : List Dim) (var : Var) (kind : Bool) → sum_by (slot is_sole dims) (cond kind (var ∷ []) []) ≡ (if kind then slot is_sole dims var else 0)
-one-slot is_sole dims var true = omega arith
-one-slot is_sole dims var false = refl
+one-slot is_sole dims var kind = grind arith
 
 slots-cons : (is_sole : Bool) (dims : List Dim) (var : Var) (vars : List Var) → slots is_sole dims (var ∷ vars) ≡ (if is_record_var dims var then slot is_sole dims var else 0) + slots is_sole dims vars
 slots-cons is_sole dims var vars =
@@ -90,15 +58,11 @@ slots-cons is_sole dims var vars =
     ∙ ap (λ (n : ℕ). n + slots is_sole dims vars) (one-slot is_sole dims var (is_record_var dims var))
 
 pub slots-push : (is_sole : Bool) (dims : List Dim) (before : List Var) (var : Var) → slots is_sole dims (before ++ var ∷ []) ≡ slots is_sole dims before + (if is_record_var dims var then slot is_sole dims var else 0)
-slots-push is_sole dims before var =
-    ap (sum_by (slot is_sole dims)) (filter-append (is_record_var dims) before (var ∷ []))
-    ∙ sum_by-append (slot is_sole dims) (record_vars dims before) (record_vars dims (var ∷ []))
-    ∙ ap (λ (n : ℕ). slots is_sole dims before + n) (one-slot is_sole dims var (is_record_var dims var))
+slots-push is_sole dims before var = grind (arith, filter-append, sum_by-append, one-slot)
 
 -- a record is its slots
 sole-size : (dims : List Dim) (var : Var) (narrow : Bool) → (if narrow then slab_size dims var else padded_size dims var) ≡ slot narrow dims var
-sole-size dims var true = refl
-sole-size dims var false = refl
+sole-size dims var narrow = grind arith
 
 pub record_size_of-slots : (dims : List Dim) (vars : List Var) → record_size_of dims (record_vars dims vars) ≡ slots (is_sole_narrow (record_vars dims vars)) dims vars
 record_size_of-slots dims vars = of (record_vars dims vars)
@@ -115,10 +79,7 @@ sole-first (w ∷ []) x ys e = absurd cc
 sole-first (w ∷ z ∷ xs) x ys e = absurd cc
 
 slots-before : (is_sole : Bool) (dims : List Dim) (xs : List Var) → (is_sole ≡ true → xs ≡ []) → padded_total dims xs ≡ sum_by (slot is_sole dims) xs
-slots-before false dims xs none = sum-map (padded_size dims) xs
-slots-before true dims xs none =
-    let e = none refl in
-    ap (padded_total dims) e ∙ ap (sum_by (slot true dims)) (sym e)
+slots-before is_sole dims xs h = grind (arith, sum-map)
 
 kept-cons : (dims : List Dim) (var : Var) (vars : List Var) → is_record_var dims var ≡ true → record_vars dims (var ∷ vars) ≡ var ∷ record_vars dims vars
 kept-cons dims var vars growing = ap (λ (b : Bool). cond b (var ∷ record_vars dims vars) (record_vars dims vars)) growing
@@ -126,11 +87,7 @@ kept-cons dims var vars growing = ap (λ (b : Bool). cond b (var ∷ record_vars
 -- what stands before a record variable in a record
 pub before-slots : (dims : List Dim) (all before : List Var) (var : Var) (vars : List Var) → all ≡ before ++ var ∷ vars → is_record_var dims var ≡ true
     → padded_total dims (record_vars dims before) ≡ slots (is_sole_narrow (record_vars dims all)) dims before
-before-slots dims all before var vars is growing =
-    let cut : record_vars dims all ≡ record_vars dims before ++ var ∷ record_vars dims vars =
-    ap (record_vars dims) is ∙ filter-append (is_record_var dims) before (var ∷ vars) ∙ ap (λ (xs : List Var). record_vars dims before ++ xs) (kept-cons dims var vars growing) in
-    slots-before (is_sole_narrow (record_vars dims all)) dims (record_vars dims before)
-    (λ sole. sole-first (record_vars dims before) var (record_vars dims vars) (ap is_sole_narrow (sym cut) ∙ sole))
+before-slots dims all before var vars is growing = grind (arith, filter-append, kept-cons, slots-before, sole-first)
 
 -- ---- slabs of an array
 
@@ -144,34 +101,25 @@ record-len dims n var array is growing =
     let f : slab_count dims var * n * size_of var.ty ≡ n * (slab_count dims var * size_of var.ty) = omega arith in e ∙ f
 
 length-slab : (dims : List Dim) (n : ℕ) (var : Var) (array : List ℕ) (r : ℕ) → IsArray dims n var array → is_record_var dims var ≡ true → r < n → length (slab_in dims var array r) ≡ slab_size dims var
-length-slab dims n var array r is growing lt =
-    let s = slab_size dims var in
-    let len = record-len dims n var array is growing in
-    let up : (r + 1) * s ≤ n * s = mul-le-mul_right s (let h : r + 1 ≤ n = omega arith in h) in
-    let more : (r + 1) * s ≡ r * s + s = omega arith in
-    omega (arith, length-take s (drop (r * s) array), length-drop (r * s) array)
+length-slab dims n var array r is growing lt = grind (arith, record-len, mul-le-mul_right, length-take, length-drop)
 
 abbrev placed_slab : Bool → Var → List ℕ → List ℕ
 placed_slab is_sole var slab = if is_sole then slab else padded_slab var slab
 
 length-placed : (is_sole : Bool) (dims : List Dim) (var : Var) (slab : List ℕ) → length slab ≡ slab_size dims var → length (placed_slab is_sole var slab) ≡ slot is_sole dims var
-length-placed true dims var slab len = len
-length-placed false dims var slab len = length-padded dims var slab len
+length-placed is_sole dims var slab h = grind (arith, length-padded)
 
 stands-placed : (is_sole : Bool) (var : Var) (slab bytes : List ℕ) (at : ℕ) → IsAt (placed_slab is_sole var slab) at bytes → IsAt slab at bytes
 unfolding padded_slab
-stands-placed true var slab bytes at s = s
-stands-placed false var slab bytes at s = stands-first slab (fill_bytes var (padding_len (length slab))) bytes at s
+stands-placed is_sole var slab bytes at h = grind (arith, stands-first)
 
 -- ---- lengths
 
 length-if : (kind : Bool) (slab : List ℕ) (len : ℕ) → (kind ≡ true → length slab ≡ len) → length (if kind then slab else []) ≡ (if kind then len else 0)
-length-if true slab len h = h refl
-length-if false slab len h = refl
+length-if kind slab len h = grind arith
 
 length-unless : (kind : Bool) (slab : List ℕ) (len : ℕ) → (kind ≡ false → length slab ≡ len) → length (if kind then [] else slab) ≡ (if kind then 0 else len)
-length-unless true slab len h = refl
-length-unless false slab len h = h refl
+length-unless kind slab len h = grind arith
 
 length-block : (dims : List Dim) (n : ℕ) (var : Var) (array : List ℕ) → IsArray dims n var array
     → length (if is_record_var dims var then [] else padded_slab var array) ≡ (if is_record_var dims var then 0 else padded_size dims var)
@@ -180,30 +128,20 @@ length-block dims n var array is =
 
 length-part : (is_sole : Bool) (dims : List Dim) (n : ℕ) (var : Var) (array : List ℕ) (r : ℕ) → r < n → IsArray dims n var array
     → length (if is_record_var dims var then placed_slab is_sole var (slab_in dims var array r) else []) ≡ (if is_record_var dims var then slot is_sole dims var else 0)
-length-part is_sole dims n var array r lt is =
-    length-if (is_record_var dims var) (placed_slab is_sole var (slab_in dims var array r)) (slot is_sole dims var)
-    (λ growing. length-placed is_sole dims var (slab_in dims var array r) (length-slab dims n var array r is growing lt))
+length-part is_sole dims n var array r lt is = grind (arith, length-if, length-placed, length-slab)
 
 pub length-blocks : (dims : List Dim) (n : ℕ) (vars : List Var) (arrays : List (List ℕ)) → AreArrays dims n vars arrays → length (blocks dims vars arrays) ≡ fixed_total dims vars
 length-blocks dims n [] [] are = refl
-length-blocks dims n [] (array ∷ arrays) are = absurd are
-length-blocks dims n (var ∷ vars) [] are = absurd are
 length-blocks dims n (var ∷ vars) (array ∷ arrays) are =
-    length-append (if is_record_var dims var then [] else padded_slab var array) (blocks dims vars arrays)
-    ∙ ap (λ (k : ℕ). k + length (blocks dims vars arrays)) (length-block dims n var array are.0)
-    ∙ ap (λ (k : ℕ). (if is_record_var dims var then 0 else padded_size dims var) + k) (length-blocks dims n vars arrays are.1)
-    ∙ sym (fixed-cons dims var vars)
+    grind (arith, length-append, length-block, fixed-cons, length-blocks dims n vars arrays are.1)
+length-blocks dims n _ _ are = absurd are
 
 pub length-record : (is_sole : Bool) (dims : List Dim) (n r : ℕ) (vars : List Var) (arrays : List (List ℕ)) → r < n → AreArrays dims n vars arrays
     → length (record_of is_sole dims r vars arrays) ≡ slots is_sole dims vars
 length-record is_sole dims n r [] [] lt are = refl
-length-record is_sole dims n r [] (array ∷ arrays) lt are = absurd are
-length-record is_sole dims n r (var ∷ vars) [] lt are = absurd are
 length-record is_sole dims n r (var ∷ vars) (array ∷ arrays) lt are =
-    length-append (if is_record_var dims var then placed_slab is_sole var (slab_in dims var array r) else []) (record_of is_sole dims r vars arrays)
-    ∙ ap (λ (k : ℕ). k + length (record_of is_sole dims r vars arrays)) (length-part is_sole dims n var array r lt are.0)
-    ∙ ap (λ (k : ℕ). (if is_record_var dims var then slot is_sole dims var else 0) + k) (length-record is_sole dims n r vars arrays lt are.1)
-    ∙ sym (slots-cons is_sole dims var vars)
+    grind (arith, length-append, length-part, slots-cons, length-record is_sole dims n r vars arrays lt are.1)
+length-record is_sole dims n r _ _ lt are = absurd are
 
 -- ---- each variable
 
@@ -251,10 +189,8 @@ placed-next h bytes n stride is_sole before var vars array arrays is placed =
 -- a variable without records, whose array stands at its begin
 agrees-fixed : (h : Header) (bytes : List ℕ) (n : ℕ) (var : Var) (array : List ℕ) → is_record_var h.dims var ≡ false
     → length array ≡ slab_size h.dims var → IsAt array var.begin_at bytes → Agrees h bytes n var array
-agrees-fixed h bytes n var array fixed len s = record {
-  array_is = sym (stands-read array var.begin_at bytes (slab_size h.dims var) s len) ∙ sym (fixed-bytes h bytes var n fixed);
-  whole = fixed-whole h bytes var n fixed (omega (arith, stands-within array var.begin_at bytes s, len));
-}
+agrees-fixed h bytes n var array fixed len s =
+    grind (arith, stands-read array var.begin_at bytes (slab_size h.dims var) s len, fixed-bytes h bytes var n fixed, fixed-whole h bytes var n fixed, stands-within array var.begin_at bytes s)
 
 -- a record variable, whose slabs stand a record size apart
 agrees-record : (h : Header) (bytes : List ℕ) (n : ℕ) (var : Var) (array : List ℕ) → is_record_var h.dims var ≡ true
@@ -274,12 +210,10 @@ agrees-record h bytes n var array growing is stands =
 
 -- the prefix of what stands there, of either kind
 prefix-unless : (kind : Bool) (piece rest bytes : List ℕ) (at : ℕ) → kind ≡ false → IsAt ((if kind then [] else piece) ++ rest) at bytes → IsAt piece at bytes
-prefix-unless true piece rest bytes at e s = absurd cc
-prefix-unless false piece rest bytes at e s = stands-first piece rest bytes at s
+prefix-unless kind piece rest bytes at h h2 = grind (arith, stands-first)
 
 prefix-if : (kind : Bool) (piece rest bytes : List ℕ) (at : ℕ) → kind ≡ true → IsAt ((if kind then piece else []) ++ rest) at bytes → IsAt piece at bytes
-prefix-if true piece rest bytes at e s = stands-first piece rest bytes at s
-prefix-if false piece rest bytes at e s = absurd cc
+prefix-if kind piece rest bytes at h h2 = grind (arith, stands-first)
 
 agrees-one : (h : Header) (vs : List Var) (bytes : List ℕ) (n : ℕ) (before : List Var) (var : Var) (vars : List Var) (array : List ℕ) (arrays : List (List ℕ))
     → h.vars ≡ before ++ var ∷ vars → IsArray h.dims n var array
@@ -329,37 +263,29 @@ pub agree-all : (h : Header) (vs : List Var) (bytes : List ℕ) (n : ℕ) (befor
     → Agree (record h { vars = vs }) bytes n (vars_after h before vars) arrays
 unfolding Agree
 agree-all h vs bytes n before [] [] all are placed = tt
-agree-all h vs bytes n before [] (array ∷ arrays) all are placed = absurd are
-agree-all h vs bytes n before (var ∷ vars) [] all are placed = absurd are
 agree-all h vs bytes n before (var ∷ vars) (array ∷ arrays) all are placed = (
   agrees-one h vs bytes n before var vars array arrays all are.0 placed,
   agree-all h vs bytes n (before ++ var ∷ []) vars arrays (all ∙ sym (append_assoc before (var ∷ []) vars)) are.1
       (placed-next h bytes n (record_size (record h { vars = vs })) (is_sole_narrow (record_vars h.dims h.vars)) before var vars array arrays are.0 placed),
 )
+agree-all h vs bytes n before _ _ all are placed = absurd are
 
 pub agree-arrays : (h : Header) (bytes : List ℕ) (n : ℕ) (vars : List Var) (arrays : List (List ℕ)) → Agree h bytes n vars arrays
     → arrays ≡ map (λ (var : Var). concat (stored_bytes h bytes var n)) vars
 unfolding Agree
 agree-arrays h bytes n [] [] are = refl
-agree-arrays h bytes n [] (array ∷ arrays) are = absurd are
-agree-arrays h bytes n (var ∷ vars) [] are = absurd are
 agree-arrays h bytes n (var ∷ vars) (array ∷ arrays) are =
     ap (λ (x : List ℕ). x ∷ arrays) are.0.array_is ∙ ap (λ (xs : List (List ℕ)). concat (stored_bytes h bytes var n) ∷ xs) (agree-arrays h bytes n vars arrays are.1)
+agree-arrays h bytes n _ _ are = absurd are
 
 pub agree-whole : (h : Header) (bytes : List ℕ) (n : ℕ) (vars : List Var) (arrays : List (List ℕ)) → Agree h bytes n vars arrays
     → All (λ (var : Var). first_missing h bytes var n ≡ None) vars
 unfolding Agree
 agree-whole h bytes n [] [] are = All-nil _
-agree-whole h bytes n [] (array ∷ arrays) are = absurd are
-agree-whole h bytes n (var ∷ vars) [] are = absurd are
 agree-whole h bytes n (var ∷ vars) (array ∷ arrays) are =
     All-cons (λ (v : Var). first_missing h bytes v n ≡ None) var vars are.0.whole (agree-whole h bytes n vars arrays are.1)
+agree-whole h bytes n _ _ are = absurd are
 
 pub length-numbers : (ty : NcType) (values : List ℤ) → length (flat_map (bytes_of_number ty) values) ≡ length values * size_of ty
 length-numbers ty [] = let e : 0 ≡ 0 * size_of ty = omega arith in e
-length-numbers ty (x ∷ values) =
-    let here = length-number ty x in
-    let rest = length-numbers ty values in
-    let all = length-append (bytes_of_number ty x) (flat_map (bytes_of_number ty) values) in
-    let e : suc (length values) * size_of ty ≡ size_of ty + length values * size_of ty = grind arith in
-    omega (arith, here, rest, all, e)
+length-numbers ty (x ∷ values) = grind (arith, length-number, length-append, length-numbers ty values)

@@ -27,32 +27,14 @@ pub filled_append : (len last fill start : ℕ) (ends bytes more : List ℕ) →
 unfolding filled_rows
 filled_append len last fill start [] bytes more are held = refl
 filled_append len last fill start (end ∷ ends) bytes more are held =
-    let n : ℕ = end - start in
-    let past : end ≤ last = start-le-last len last end ends are.2 in
-    let here : n ≤ length bytes = omega (arith, held, past, are.0) in
-    let left : length (drop n bytes) ≡ length bytes - n = length-drop n bytes in
-    ap (λ (r : List ℕ). (r ++ replicate (len - n) fill) ++ filled_rows len fill end ends (drop n (bytes ++ more))) (take-append-le n bytes more here)
-    ∙ ap (λ (b : List ℕ). row len fill n bytes ++ filled_rows len fill end ends b) (drop-append-le n bytes more here)
-    ∙ ap (λ (b : List ℕ). row len fill n bytes ++ b) (filled_append len last fill end ends (drop n bytes) more are.2 (omega (arith, held, past, are.0, left)))
-    ∙ sym (append_assoc (row len fill n bytes) (filled_rows len fill end ends (drop n bytes)) more)
+    grind (arith, start-le-last, length-drop, take-append-le, row, drop-append-le, append_assoc, filled_append len last fill end ends)
 
 pub filled_end : (len last fill start : ℕ) (ends bytes : List ℕ) (end lacking : ℕ) → AreRowEnds len start ends last → start + length bytes ≡ end → last ≤ end → end + lacking ≡ last + len
     → filled_rows len fill start (ends ++ end ∷ []) bytes ≡ filled_rows len fill start ends bytes ++ replicate lacking fill
 unfolding filled_rows
-filled_end len last fill start [] bytes end lacking are whole after full =
-    let n : ℕ = end - start in
-    let all : length bytes ≤ n = omega (arith, whole) in
-    let lacks : len - n ≡ lacking = omega (arith, whole, after, full, are) in
-    ap (λ (b : List ℕ). row len fill n bytes ++ b) (drop_all n bytes all)
-    ∙ append-nil (row len fill n bytes)
-    ∙ ap (λ (b : List ℕ). b ++ replicate (len - n) fill) (take_all n bytes all)
-    ∙ ap (λ (k : ℕ). bytes ++ replicate k fill) lacks
+filled_end len last fill start [] bytes end lacking are whole after full = grind (arith, row, drop_all, append-nil, take_all)
 filled_end len last fill start (next ∷ ends) bytes end lacking are whole after full =
-    let n : ℕ = next - start in
-    let past : next ≤ last = start-le-last len last next ends are.2 in
-    let left : length (drop n bytes) ≡ length bytes - n = length-drop n bytes in
-    ap (λ (b : List ℕ). row len fill n bytes ++ b) (filled_end len last fill next ends (drop n bytes) end lacking are.2 (omega (arith, whole, left, past, after, are.0)) after full)
-    ∙ sym (append_assoc (row len fill n bytes) (filled_rows len fill next ends (drop n bytes)) (replicate lacking fill))
+    grind (arith, start-le-last, length-drop, row, append_assoc, filled_end len last fill next ends)
 
 pub ends_end : (len last start : ℕ) (ends : List ℕ) (end : ℕ) → AreRowEnds len start ends last → last ≤ end → end ≤ last + len
     → AreRowEnds len start (ends ++ end ∷ []) end
@@ -66,10 +48,7 @@ pub record AreSameEnds (len fill len' fill' last : ℕ) (ends : List ℕ) : Type
 
 pub no-rows : (len fill len' fill' last : ℕ) (ends : List ℕ) → ends ≡ [] → AreRowEnds len 0 ends last → AreSameEnds len fill len' fill' last ends
 unfolding filled_rows
-no-rows len fill len' fill' last [] none are = record { ends_are = are; same = λ bytes. refl }
-no-rows len fill len' fill' last (end ∷ ends) none are =
-    let some : length (end ∷ ends) ≡ 0 = ap length none in
-    absurd (omega (arith, some))
+no-rows len fill len' fill' last ends h h2 = grind arith
 
 pub like-rows : (len fill len' fill' last : ℕ) (ends : List ℕ) → len ≡ len' → fill ≡ fill' → AreRowEnds len 0 ends last → AreSameEnds len fill len' fill' last ends
 like-rows len fill len' fill' last ends long with are =
@@ -135,10 +114,7 @@ start_le_row len last start (end ∷ ends) (suc r) are = omega (arith, are.0, st
 pub drop_rows : (len last fill start : ℕ) (ends bytes : List ℕ) (r : ℕ) → AreRowEnds len start ends last → last - start ≤ length bytes → r ≤ length ends
     → drop (r * len) (filled_rows len fill start ends bytes) ≡ filled_rows len fill (row_start start ends r) (drop r ends) (drop (row_start start ends r - start) bytes)
 unfolding filled_rows row_start
-drop_rows len last fill start ends bytes zero are held within =
-    let none : 0 * len ≡ 0 = omega arith in
-    ap (λ (k : ℕ). drop k (filled_rows len fill start ends bytes)) none
-    ∙ ap (λ (k : ℕ). filled_rows len fill start ends (drop k bytes)) (sym (sub-same start))
+drop_rows len last fill start ends bytes zero are held within = grind (arith, sub-same)
 drop_rows len last fill start [] bytes (suc r) are held within = absurd (omega (arith, within))
 drop_rows len last fill start (end ∷ ends) bytes (suc r) are held within =
     let n : ℕ = end - start in
@@ -281,15 +257,9 @@ pub record RowOf (len last at : ℕ) (ends : List ℕ) : Type 0 where
 
 pub row-of : (len last at n : ℕ) (ends : List ℕ) → AreRowEnds len 0 ends last → n ≡ length ends → at < n * len → RowOf len last at ends
 row-of len last at n ends are all inside =
-    let some : 0 < len = some_right n len at inside in
-    let of : at / len < n = (div-lt_iff_lt-mul some).1 inside in
-    record { column = mod-lt at some; of = omega (arith, of, all); is = row_is len last 0 ends (at / len) 0 are (omega (arith, of, all)) }
+    grind (arith, some_right n len at inside, mod-lt at, row_is len last 0 ends (at / len) 0 are, div-lt_iff_lt-mul)
 
 -- the same, with each part replaced by an equal one
 pub stands-from : (filled filled' : List ℕ) (at at' : ℕ) (bytes bytes' : List ℕ) (count count' fill fill' : ℕ)
     → filled ≡ filled' → at ≡ at' → bytes ≡ bytes' → count ≡ count' → fill ≡ fill' → StandAt filled at bytes count fill → StandAt filled' at' bytes' count' fill'
-stands-from filled filled' at at' bytes bytes' count count' fill fill' same place run padding with is =
-    subst (λ (f : List ℕ). StandAt f at' bytes' count' fill') same
-    (subst (λ (k : ℕ). StandAt filled k bytes' count' fill') place
-    (subst (λ (b : List ℕ). StandAt filled at b count' fill') run
-    (subst (λ (k : ℕ). StandAt filled at bytes k fill') padding (subst (λ (k : ℕ). StandAt filled at bytes count k) with is))))
+stands-from filled filled' at at' bytes bytes' count count' fill fill' same place run padding with is = grind arith

@@ -1,12 +1,11 @@
 -- What is found at an index.
-use Rattle.std.proofs.Common.{◌≡◌, ℕ, List, refl, subst, Option, Some, None, slice_get, IfSome, All}
+use Rattle.std.proofs.Common.{◌≡◌, ℕ, List, subst, Option, Some, slice_get, IfSome, All, arith}
 use Rattle.std.proofs.lemmas.List.Elements.{All-get_or}
 use Rattle.std.proofs.lemmas.Option.{get_or_from_slice_get, slice_get_within}
 
 -- one fact of what is found gives another
 pub if-some : {X : Type 0} (P Q : X → Type 0) (o : Option X) → ((x : X) → o ≡ Some x → P x → Q x) → IfSome o P → IfSome o Q
-if-some P Q (Some x) f holds = f x refl holds
-if-some P Q None f holds = tt
+if-some P Q o h h2 = grind arith
 
 -- what holds of all elements holds of the one at an index
 pub all-at : {X : Type 0} (P : X → Type 0) (xs : List X) (i : ℕ) (x : X) → All P xs → slice_get xs i ≡ Some x → P x

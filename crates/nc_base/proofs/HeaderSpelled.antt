@@ -1,6 +1,6 @@
 -- The spelling of a sound header with valid names is one by the grammar.
-use Rattle.std.proofs.Common.{◌≡◌, ℕ, suc, ◌+◌, ◌-◌, ◌*◌, ◌/◌, ◌^◌, ◌<◌, ◌≤◌, Bool, true, false, cond, List, [], ◌∷◌, ◌++◌, length, replicate, refl, sym, ◌∙◌, ap, subst, arith, append_assoc, length-append, filter, All, nat_lt, ◌==◌, ◌||◌, IsTrue, if◌then◌else◌}
-use Rattle.nc_base.proofs.Prelude.{Width, w32, to_be_bytes, byte_len, flat_map, sum_by, mul-div_cancel, ltb-true, eq-eqb, append-nil, length-replicate, filter-append, All-head, All-tail, All-filter, All-weaker, sum-map, sum_by-append, Att, Dim, Var, Header, NumRecs, Known, Streaming, NcType, Byte, Char, Short, Int, Ubyte, Ushort, Uint, Int64, Uint64, Version, Cdf1, Cdf2, Cdf5, padding_len, code_of, size_of, version_byte, count_width, offset_width, count_limit, offset_limit, streaming_mark, has_type, IsName, is_record_var, slab_size, padded_size, padded_total, record_size_of, record_vars, slab_limit, record_limit, has_record_dim, IsDimid, AreDimids, IsSoundAtt, IsSoundVar, IsSoundDim, IsSoundNumRecs, IsSound, HasValidNames, dimension_tag, variable_tag, attribute_tag, SpellsNumber, SpellsCount, SpellsPadded, SpellsName, SpellsType, ElementSpelling, SpellsEach, SpellsCounted, SpellsList, absent, present, SpellsDim, SpellsAtt, SpellsAtts, SpellsDimid, IsWithinLimits, SpellsVar, SpellsNumRecs, SpellsHeader, word_spelling, magic_spelling, count_spelling, zero_padded, name_spelling, list_spelling, dim_spelling, att_spelling, atts_spelling, vsize_of, var_spelling, numrecs_spelling, header_spelling, not_none}
+use Rattle.std.proofs.Common.{◌≡◌, ℕ, ◌+◌, ◌*◌, ◌/◌, ◌^◌, ◌<◌, ◌≤◌, Bool, false, cond, List, [], ◌∷◌, ◌++◌, length, refl, sym, ◌∙◌, ap, subst, arith, append_assoc, length-append, filter, All, ◌==◌, ◌||◌, IsTrue, if◌then◌else◌}
+use Rattle.nc_base.proofs.Prelude.{Width, w32, to_be_bytes, byte_len, flat_map, mul-div_cancel, ltb-true, eq-eqb, append-nil, length-replicate, filter-append, All-head, All-tail, All-filter, All-weaker, sum-map, sum_by-append, Att, Dim, Var, Header, NumRecs, NcType, Version, code_of, size_of, version_byte, count_width, offset_width, count_limit, offset_limit, streaming_mark, has_type, IsName, is_record_var, slab_size, padded_size, padded_total, record_size_of, record_vars, slab_limit, record_limit, has_record_dim, IsDimid, AreDimids, IsSoundAtt, IsSoundVar, IsSoundDim, IsSoundNumRecs, IsSound, HasValidNames, dimension_tag, variable_tag, attribute_tag, SpellsNumber, SpellsCount, SpellsPadded, SpellsName, SpellsType, ElementSpelling, SpellsEach, SpellsCounted, SpellsList, absent, present, SpellsDim, SpellsAtt, SpellsAtts, SpellsDimid, IsWithinLimits, SpellsVar, SpellsNumRecs, SpellsHeader, word_spelling, magic_spelling, count_spelling, zero_padded, name_spelling, list_spelling, dim_spelling, att_spelling, atts_spelling, vsize_of, var_spelling, numrecs_spelling, header_spelling, not_none}
 use Rattle.nc_base.proofs.SoundLaws.{some_size}
 
 -- ---- numbers
@@ -13,33 +13,19 @@ unfolding word_spelling
 word n rest fits = number w32 n rest fits
 
 count-fits : (v : Version) (n : ℕ) → n < count_limit v → n < 256 ^ byte_len (count_width v)
-count-fits Cdf1 n lt = omega arith
-count-fits Cdf2 n lt = omega arith
-count-fits Cdf5 n lt = omega arith
+count-fits v n h = grind arith
 
 offset-fits : (v : Version) (n : ℕ) → n < offset_limit v → n < 256 ^ byte_len (offset_width v)
-offset-fits Cdf1 n lt = omega arith
-offset-fits Cdf2 n lt = omega arith
-offset-fits Cdf5 n lt = omega arith
+offset-fits v n h = grind arith
 
 count : (v : Version) (n : ℕ) (rest : List ℕ) → n < count_limit v → SpellsCount v (count_spelling v n ++ rest) n rest
 count v n rest lt = record { number = number (count_width v) n rest (count-fits v n lt); non_negative = lt }
 
 pub some-limit : (v : Version) → 0 < count_limit v
-some-limit Cdf1 = omega arith
-some-limit Cdf2 = omega arith
-some-limit Cdf5 = omega arith
+some-limit v = grind arith
 
 code-fits : (ty : NcType) → code_of ty < 256 ^ byte_len w32
-code-fits Byte = omega arith
-code-fits Char = omega arith
-code-fits Short = omega arith
-code-fits Int = omega arith
-code-fits Ubyte = omega arith
-code-fits Ushort = omega arith
-code-fits Uint = omega arith
-code-fits Int64 = omega arith
-code-fits Uint64 = omega arith
+code-fits ty = grind arith
 
 type : (v : Version) (ty : NcType) (rest : List ℕ) → IsTrue (has_type v ty) → SpellsType v (word_spelling (code_of ty) ++ rest) ty rest
 type v ty rest has = record { number = word (code_of ty) rest (code-fits ty); has = has }
@@ -47,21 +33,10 @@ type v ty rest has = record { number = word (code_of ty) rest (code-fits ty); ha
 -- ---- names
 
 padded : (content rest : List ℕ) → SpellsPadded (zero_padded content ++ rest) content rest
-padded content rest = record {
-  padding = replicate (padding_len (length content)) 0;
-  padded = length-replicate (padding_len (length content)) 0;
-  spelled = append_assoc content (replicate (padding_len (length content)) 0) rest;
-}
+padded content rest = grind (arith, length-replicate, append_assoc)
 
 name : (v : Version) (bytes rest : List ℕ) → length bytes < count_limit v → IsName bytes → SpellsName v (name_spelling v bytes ++ rest) bytes rest
-name v bytes rest lt valid =
-    subst (λ (b : List ℕ). SpellsName v b bytes rest) (sym (append_assoc (count_spelling v (length bytes)) (zero_padded bytes) rest))
-    (record {
-      after_count = zero_padded bytes ++ rest;
-      count = count v (length bytes) (zero_padded bytes ++ rest) lt;
-      valid = valid;
-      padded = padded bytes rest;
-    })
+name v bytes rest lt valid = grind (arith, append_assoc, count, padded)
 
 -- ---- lists
 
@@ -81,13 +56,7 @@ each {A = A} Element spelling all before (x ∷ xs) rest spelled is =
 
 counted : {A : Type 0} (v : Version) (Element : ElementSpelling A) (spelling : A → List ℕ) (xs : List A) (rest : List ℕ)
     → length xs < count_limit v → Spelled Element spelling xs → SpellsCounted v Element ((count_spelling v (length xs) ++ flat_map spelling xs) ++ rest) xs rest
-counted v Element spelling xs rest lt spelled =
-    subst (λ (b : List ℕ). SpellsCounted v Element b xs rest) (sym (append_assoc (count_spelling v (length xs)) (flat_map spelling xs) rest))
-    (record {
-      after_count = flat_map spelling xs ++ rest;
-      count = count v (length xs) (flat_map spelling xs ++ rest) lt;
-      each = each Element spelling xs [] xs rest spelled refl;
-    })
+counted v Element spelling xs rest lt spelled = grind (arith, append_assoc, count, each)
 
 list : {A : Type 0} (v : Version) (tag : ℕ) (Element : ElementSpelling A) (spelling : A → List ℕ) (xs : List A) (rest : List ℕ)
     → tag < 256 ^ byte_len w32 → length xs < count_limit v → Spelled Element spelling xs → SpellsList v tag Element (list_spelling v tag spelling xs ++ rest) xs rest
@@ -115,8 +84,7 @@ at-split {A = A} P all prefix x back is holds = following prefix (subst (All P) 
 
 none-here : (b : Bool) (dim : Dim) (dims : List Dim) → (length (filter (λ (d : Dim). d.len == 0) dims) ≡ 0 → has_record_dim dims ≡ false)
     → length (cond b (dim ∷ filter (λ (d : Dim). d.len == 0) dims) (filter (λ (d : Dim). d.len == 0) dims)) ≡ 0 → (b || has_record_dim dims) ≡ false
-none-here true dim dims below e = absurd (omega arith)
-none-here false dim dims below e = below e
+none-here b dim dims h h2 = grind arith
 
 filtered-none : (dims : List Dim) → length (filter (λ (dim : Dim). dim.len == 0) dims) ≡ 0 → has_record_dim dims ≡ false
 filtered-none [] e = refl
@@ -125,13 +93,7 @@ filtered-none (dim ∷ dims) e = none-here (dim.len == 0) dim dims (filtered-non
 -- no record dimension stands before one, where there is one at most
 first-record-dim : (all prefix : List Dim) (dim : Dim) (back : List Dim) → all ≡ prefix ++ dim ∷ back → length (filter (λ (d : Dim). d.len == 0) all) ≤ 1
     → dim.len ≡ 0 → has_record_dim prefix ≡ false
-first-record-dim all prefix dim back is one none =
-    let p : Dim → Bool = λ d. d.len == 0 in
-    let cut : length (filter p all) ≡ length (filter p prefix) + length (filter p (dim ∷ back)) =
-    ap (λ (ds : List Dim). length (filter p ds)) is ∙ ap (λ (ds : List Dim). length ds) (filter-append p prefix (dim ∷ back)) ∙ length-append (filter p prefix) (filter p (dim ∷ back)) in
-    let here : length (filter p (dim ∷ back)) ≡ suc (length (filter p back)) =
-    ap (λ (b : Bool). length (cond b (dim ∷ filter p back) (filter p back))) (eq-eqb dim.len 0 none) in
-    filtered-none prefix (omega arith)
+first-record-dim all prefix dim back is one none = grind (arith, filter-append, length-append, eq-eqb, filtered-none)
 
 dim-spelled : (v : Version) (dims : List Dim) → All (IsSoundDim v) dims → All (λ (dim : Dim). IsName dim.name) dims
     → length (filter (λ (dim : Dim). dim.len == 0) dims) ≤ 1 → Spelled (SpellsDim v) (dim_spelling v) dims
@@ -186,38 +148,19 @@ shape-at dims before (x ∷ prefix) id back are =
     subst (λ (xs : List ℕ). IsDimid dims xs id) (append_assoc before (x ∷ []) prefix) (shape-at dims (before ++ x ∷ []) prefix id back are.1)
 
 dimid-spelled : (v : Version) (dims : List Dim) (ids : List ℕ) → length dims < count_limit v → AreDimids dims [] ids → Spelled (SpellsDimid v dims) (count_spelling v) ids
-dimid-spelled v dims ids few are prefix id back rest is =
-    let known = shape-at dims [] prefix id back (subst (AreDimids dims []) is are) in
-    let lt : id < length dims = known.known in
-    record { number = number (count_width v) id rest (count-fits v id (omega arith)); known = known }
+dimid-spelled v dims ids few are prefix id back rest is = grind (arith, shape-at, number, count-fits)
 
 vsize-fits : (v : Version) (p : ℕ) → p < 2 ^ 49 → vsize_of v p < 256 ^ byte_len (count_width v)
-vsize-fits Cdf5 p lt = omega arith
-vsize-fits Cdf1 p lt = at (nat_lt p (2 ^ 32)) (λ e. ltb-true p (2 ^ 32) e)
-  where
-    at : (b : Bool) → (b ≡ true → p < 2 ^ 32) → (if b then p else (2 ^ 32 - 1)) < 256 ^ byte_len (count_width Cdf1)
-    at true h = let lt : p < 2 ^ 32 = h refl in omega arith
-    at false h = omega arith
-vsize-fits Cdf2 p lt = at (nat_lt p (2 ^ 32)) (λ e. ltb-true p (2 ^ 32) e)
-  where
-    at : (b : Bool) → (b ≡ true → p < 2 ^ 32) → (if b then p else (2 ^ 32 - 1)) < 256 ^ byte_len (count_width Cdf2)
-    at true h = let lt : p < 2 ^ 32 = h refl in omega arith
-    at false h = omega arith
+vsize-fits v p h = grind (arith, ltb-true)
 
 -- ---- the record limit
 
 pub total-append : (dims : List Dim) (xs ys : List Var) → padded_total dims (record_vars dims (xs ++ ys)) ≡ padded_total dims (record_vars dims xs) + padded_total dims (record_vars dims ys)
-total-append dims xs ys =
-    let f = padded_size dims in
-    ap (padded_total dims) (filter-append (is_record_var dims) xs ys)
-    ∙ sum-map f (record_vars dims xs ++ record_vars dims ys) ∙ sum_by-append f (record_vars dims xs) (record_vars dims ys)
-    ∙ ap (λ n. n + sum_by f (record_vars dims ys)) (sym (sum-map f (record_vars dims xs))) ∙ ap (λ n. padded_total dims (record_vars dims xs) + n) (sym (sum-map f (record_vars dims ys)))
+total-append dims xs ys = grind (arith, filter-append, sum-map, sum_by-append)
 
 -- the padded slabs of all record variables keep the limit too
 padded-limit : (dims : List Dim) (vars : List Var) → All (λ (var : Var). slab_size dims var ≤ slab_limit) vars → record_size_of dims vars ≤ record_limit → padded_total dims vars ≤ record_limit
-padded-limit dims [] small packed = packed
-padded-limit dims (var ∷ []) small packed = let s = All-head (λ (v : Var). slab_size dims v ≤ slab_limit) var [] small in omega (arith, s)
-padded-limit dims (var ∷ next ∷ vars) small packed = packed
+padded-limit dims vars h h2 = grind (arith, All-head)
 
 limit-at : (dims : List Dim) (all prefix : List Var) (var : Var) (back : List Var) → all ≡ prefix ++ var ∷ back → padded_total dims (record_vars dims all) ≤ record_limit
     → padded_total dims (record_vars dims (prefix ++ var ∷ [])) ≤ record_limit
@@ -286,13 +229,10 @@ var-spelled v dims vars few sound names places packed prefix var back rest is =
 -- ---- the whole
 
 mark-fits : (v : Version) → streaming_mark v < 256 ^ byte_len (count_width v)
-mark-fits Cdf1 = omega arith
-mark-fits Cdf2 = omega arith
-mark-fits Cdf5 = omega arith
+mark-fits v = grind arith
 
 numrecs : (v : Version) (n : NumRecs) (rest : List ℕ) → IsSoundNumRecs v n → SpellsNumRecs v (numrecs_spelling v n ++ rest) n rest
-numrecs v (Known n) rest lt = count v n rest lt
-numrecs v Streaming rest lt = number (count_width v) (streaming_mark v) rest (mark-fits v)
+numrecs v n rest h = grind (arith, count, number, mark-fits)
 
 pub header-spelled : (h : Header) (rest : List ℕ) → IsSound h → HasValidNames h → All (HasPlace h.version) h.vars → SpellsHeader (header_spelling h ++ rest) h rest
 unfolding header_spelling magic_spelling

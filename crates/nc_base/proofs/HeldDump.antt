@@ -1,8 +1,8 @@
 -- The dump of a file that holds a dataset is the text of that dataset.
-use Rattle.std.proofs.Common.{◌≡◌, ℕ, ℤ, suc, ◌+◌, ◌≤◌, Bool, ◌&&◌, ◌||◌, cond, List, [], ◌∷◌, length, get_or, map, refl, sym, ◌∙◌, ap, subst, arith, Option, Some, None, inl, inr, ◌==◌, codes, All, IsTrue, if◌then◌else◌, slice_index_or}
+use Rattle.std.proofs.Common.{◌≡◌, ℕ, ℤ, suc, ◌+◌, ◌≤◌, Bool, ◌&&◌, ◌||◌, List, [], ◌∷◌, length, map, refl, sym, ◌∙◌, ap, subst, arith, Option, Some, None, ◌==◌, codes, All, IsTrue, if◌then◌else◌, slice_index_or, rules}
 use Rattle.std.proofs.Math.Path.{fun_ext}
-use Rattle.nc_base.proofs.Prelude.{record_count, concat, list_all, position, position_or_len, bytes_eq, cases_lt, lt-ltb, ltb-false, length-map, All-head, All-tail, All-map, All-weaker, All-from_get_or, fails_before_first, Dim, Header, Known, Var, Dataset, size_of, numbers, bare_var, bare, escaped_name, fill_value, Look, look_of, concat_parts, SpellsHeader, bytes_at, value_offsets, stored_bytes, stored_values, ends_after, first_missing, HoldsDataset, Options, Ending, DataText, VariableValues, has_variable, has_values, IsFirstUnknown, KnowsChosen, IsFirstUnknownOf, is_selected, selection_of, values_in_file, values_in_dataset, with_variable, data_text, shown_data_text, data_word, closing_word, dump_text, IsDump, IsText, shown_data, stopped, unknown, shown}
-use Rattle.nc_base.specs.HeadText.{vars_text, var_lines, head_text, netcdf_word, variables_word, dims_text, gatts_text}
+use Rattle.nc_base.proofs.Prelude.{record_count, concat, list_all, position, position_or_len, bytes_eq, lt-ltb, ltb-false, length-map, All-head, All-tail, All-map, All-weaker, All-from_get_or, fails_before_first, Dim, Header, Known, Var, Dataset, numbers, bare_var, bare, escaped_name, fill_value, Look, look_of, concat_parts, SpellsHeader, stored_bytes, stored_values, ends_after, first_missing, HoldsDataset, Options, Ending, DataText, VariableValues, has_variable, has_values, IsFirstUnknown, KnowsChosen, IsFirstUnknownOf, is_selected, selection_of, values_in_file, values_in_dataset, with_variable, data_text, shown_data_text, data_word, dump_text, IsDump, IsText, shown_data, stopped, unknown, shown}
+use Rattle.nc_base.specs.HeadText.{vars_text, var_lines, head_text, netcdf_word, dims_text, gatts_text}
 use Rattle.nc_base.specs.FirstFault.{StopsAt}
 use Rattle.nc_base.specs.declared.fault.FormatFault.{FormatFault}
 use Rattle.nc_base.proofs.WholeValues.{map-map, numbers-concat, length-whole}
@@ -11,26 +11,14 @@ use Rattle.nc_base.proofs.WholeValues.{map-map, numbers-concat, length-whole}
 
 -- where none is found, each passes
 passes-all : (p : ℕ → Bool) (xs : List ℕ) → position p xs ≡ None → length xs ≤ position_or_len p xs
-passes-all p xs e =
-    elim (cases_lt (position_or_len p xs) (length xs)) [
-      | inl lt ↦ absurd (let f : position p xs ≡ Some (position_or_len p xs) = ap (λ (t : Bool). cond t (Some (position_or_len p xs)) None) (lt-ltb _ _ lt) in cc)
-      | inr le ↦ le
-    ]
+passes-all p xs e = grind (arith, lt-ltb)
 
 all-whole : (size : ℕ) (b xs : List ℕ) → position (ends_after size (length b)) xs ≡ None → All (λ offset. offset + size ≤ length b) xs
-all-whole size b xs none =
-    let following = passes-all (ends_after size (length b)) xs none in
-    All-from_get_or (λ (offset : ℕ). offset + size ≤ length b) xs 0
-    (λ i lt. ltb-false (length b) (get_or xs i 0 + size) (fails_before_first (ends_after size (length b)) xs i 0 (omega arith)))
+all-whole size b xs none = grind (arith, passes-all, All-from_get_or, ltb-false, fails_before_first)
 
 -- the numbers of a variable without a missing value
 pub whole-numbers : (h : Header) (b : List ℕ) (var : Var) (n : ℕ) → first_missing h b var n ≡ None → numbers var.ty (concat (stored_bytes h b var n)) ≡ stored_values h b var n
-whole-numbers h b var n none =
-    let size = size_of var.ty in
-    numbers-concat var.ty (stored_bytes h b var n)
-    (All-map (λ (xs : List ℕ). length xs ≡ size) (bytes_at size b) (value_offsets h var n)
-    (All-weaker (λ (offset : ℕ). offset + size ≤ length b) (λ (offset : ℕ). length (bytes_at size b offset) ≡ size) (length-whole size b) (value_offsets h var n)
-    (all-whole size b (value_offsets h var n) none)))
+whole-numbers h b var n none = search (rules, numbers-concat, All-map, All-weaker, length-whole, all-whole)
 
 -- ---- a header without its begins
 
@@ -40,9 +28,7 @@ lines-bare dims vars = map-map (var_lines dims) bare_var vars
 
 vars-bare : (dims : List Dim) (vars : List Var) → vars_text dims (map bare_var vars) ≡ vars_text dims vars
 unfolding vars_text
-vars-bare dims vars =
-    ap (λ (k : ℕ). if k == 0 then [] else concat_parts (variables_word ∷ concat_parts (map (var_lines dims) (map bare_var vars)) ∷ [])) (length-map vars bare_var)
-    ∙ ap (λ (t : List (List ℕ)). if length vars == 0 then [] else concat_parts (variables_word ∷ concat_parts t ∷ [])) (lines-bare dims vars)
+vars-bare dims vars = grind (arith, length-map, lines-bare)
 
 head-bare : (name : List ℕ) (h : Header) (n : ℕ) → head_text name (bare h n) n ≡ head_text name h n
 unfolding head_text
@@ -77,8 +63,6 @@ values-held : (h : Header) (bytes : List ℕ) (n width : ℕ) (d : Dataset) (var
     → ((k : ℕ) → slice_index_or d.arrays (v + k) [] ≡ slice_index_or (map (λ (var : Var). concat (stored_bytes h bytes var n)) vars) k [])
     → All (λ (var : Var). first_missing h bytes var n ≡ None) vars
     → data_text (shown_data (bare h n) (values_in_dataset d) n width) v (map bare_var vars) marks ≡ data_text (shown_data h (values_in_file h bytes n) n width) v vars marks
-values-held h bytes n width d [] v marks arrays whole = refl
-values-held h bytes n width d (var ∷ vars) v [] arrays whole = refl
 values-held h bytes n width d (var ∷ vars) v (mark ∷ marks) arrays whole =
     let Whole : Var → Type 0 = λ x. first_missing h bytes x n ≡ None in
     let none : first_missing h bytes var n ≡ None = All-head Whole var vars whole in
@@ -94,6 +78,7 @@ values-held h bytes n width d (var ∷ vars) v (mark ∷ marks) arrays whole =
     ap (λ (s : DataText). row shows v (look_of (bare h n) (bare_var var) n width) (values_in_dataset d v (bare_var var)) s) rest
     ∙ ap (λ (c : VariableValues). row shows v (look_of (bare h n) (bare_var var) n width) c (data_text (shown_data h (values_in_file h bytes n) n width) (v + 1) vars marks)) content
     ∙ ap (λ (l : Look). row shows v l (values_in_file h bytes n v var) (data_text (shown_data h (values_in_file h bytes n) n width) (v + 1) vars marks)) (look-bare h var n width)
+values-held h bytes n width d _ v _ arrays whole = refl
 
 -- ---- the dump
 
@@ -107,27 +92,17 @@ held-is bytes d s = ap (λ (h : Header). let x : Dataset = record { header = h; 
 
 shown-held : (h : Header) (bytes : List ℕ) (n : ℕ) (o : Options) → All (λ (var : Var). first_missing h bytes var n ≡ None) h.vars
     → shown_data_text (bare h n) o (values_in_dataset (held h bytes n)) n (selection_of (bare h n) o) ≡ shown_data_text h o (values_in_file h bytes n) n (selection_of h o)
-shown-held h bytes n o whole =
-    ap (λ (marks : List Bool). shown_data_text (bare h n) o (values_in_dataset (held h bytes n)) n marks) (selection-bare h o n)
-    ∙ values-held h bytes n o.width (held h bytes n) h.vars 0 (if o.head_only then [] else selection_of h o)
-    (λ k. ap (λ (i : ℕ). slice_index_or (held h bytes n).arrays i []) (let e : 0 + k ≡ k = omega arith in e)) whole
+shown-held h bytes n o whole = grind (arith, bare, held, selection-bare, values-held)
 
 text-held : (h : Header) (o : Options) (n : ℕ) (section : DataText) → dump_text (bare h n) o n section ≡ dump_text h o n section
-text-held h o n section =
-    ap (λ (t : List ℕ). concat_parts (t ∷ data_word (bare h n) o ∷ section.text ∷ closing_word section.ending ∷ [])) (head-bare o.name h n)
-    ∙ ap (λ (t : List ℕ). concat_parts (head_text o.name h n ∷ t ∷ section.text ∷ closing_word section.ending ∷ [])) (word-bare h o n)
+text-held h o n section = grind (arith, bare, head-bare, word-bare)
 
 knows-bare : (h : Header) (n : ℕ) (chosen : Option (List (List ℕ))) → KnowsChosen (bare h n) chosen ≡ KnowsChosen h chosen
 knows-bare h n None = refl
 knows-bare h n (Some names) = ap (λ (f : List ℕ → Bool). IsTrue (list_all f names)) (variables-bare h.vars)
 
 unknown-bare : (vars : List Var) (names : List (List ℕ)) (index : ℕ) → IsFirstUnknown (map bare_var vars) names index → IsFirstUnknown vars names index
-unknown-bare vars names index u = record {
-  name = u.name;
-  at = u.at;
-  unknown = sym (any-bare u.name vars) ∙ u.unknown;
-  others = λ k other lt at. sym (any-bare other vars) ∙ u.others k other lt at;
-}
+unknown-bare vars names index u = grind (arith, unknown, any-bare)
 
 unknown-held : (h : Header) (n : ℕ) (chosen : Option (List (List ℕ))) (index : ℕ) → IsFirstUnknownOf (bare h n) chosen index → IsFirstUnknownOf h chosen index
 unknown-held h n None index u = u
@@ -154,13 +129,8 @@ held-dump bytes d o t ending s is =
 -- ---- back
 
 unknown-from_held : (h : Header) (n : ℕ) (chosen : Option (List (List ℕ))) (index : ℕ) → IsFirstUnknownOf h chosen index → IsFirstUnknownOf (bare h n) chosen index
-unknown-from_held h n None index u = u
-unknown-from_held h n (Some names) index u = record {
-  name = u.name;
-  at = u.at;
-  unknown = any-bare u.name h.vars ∙ u.unknown;
-  others = λ k other lt at. any-bare other h.vars ∙ u.others k other lt at;
-}
+unknown-from_held h n None index u = grind (arith, unknown, any-bare)
+unknown-from_held h n _ index u = grind (arith, unknown, any-bare)
 
 -- bytes have one header
 abbrev pub HasOneHeader : List ℕ → Type 0
@@ -191,8 +161,7 @@ text-of-dump h bytes rest n o t ending one fine spelled counted whole (shown k m
 pub dump-held : (bytes : List ℕ) (d : Dataset) (o : Options) (t : List ℕ) (ending : Ending) → HasOneHeader bytes → HasNoFault bytes
     → HoldsDataset bytes d → IsDump bytes o t ending → IsText d o t ending
 dump-held bytes d o t ending one fine s is =
-    subst (λ (x : Dataset). IsText x o t ending) (sym (held-is bytes d s))
-    (text-of-dump s.header bytes s.rest s.records o t ending one fine s.spelled s.counted s.whole is)
+    grind (arith, held-is bytes d s, text-of-dump s.header bytes s.rest s.records o t ending one fine s.spelled s.counted s.whole is)
 
 -- one header is one dataset
 pub one-held : (bytes : List ℕ) (d e : Dataset) → HasOneHeader bytes → HoldsDataset bytes d → HoldsDataset bytes e → d ≡ e

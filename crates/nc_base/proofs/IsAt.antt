@@ -14,12 +14,7 @@ stands-here piece back = record { prefix = []; back = back; is = refl; place = r
 
 -- after something else
 pub stands-after : (a piece : List ℕ) (at : ℕ) (bytes : List ℕ) → IsAt piece at bytes → IsAt piece (length a + at) (a ++ bytes)
-stands-after a piece at bytes s = record {
-  prefix = a ++ s.prefix;
-  back = s.back;
-  is = ap (λ (t : List ℕ). a ++ t) s.is ∙ sym (append_assoc a s.prefix (piece ++ s.back));
-  place = length-append a s.prefix ∙ ap (λ (n : ℕ). length a + n) s.place;
-}
+stands-after a piece at bytes s = grind (arith, append_assoc a s.prefix, length-append a s.prefix)
 
 -- a piece of a piece
 pub stands-in : (piece middle bytes : List ℕ) (inner outer : ℕ) → IsAt piece inner middle → IsAt middle outer bytes → IsAt piece (outer + inner) bytes
@@ -48,11 +43,7 @@ stands-second a b bytes at s =
 
 -- what stands there is read there
 pub stands-read : (piece : List ℕ) (at : ℕ) (bytes : List ℕ) (n : ℕ) → IsAt piece at bytes → length piece ≡ n → take n (drop at bytes) ≡ piece
-stands-read piece at bytes n s len =
-    ap (λ (k : ℕ). take k (drop at bytes)) (sym len)
-    ∙ ap (λ (t : List ℕ). take (length piece) (drop at t)) s.is
-    ∙ ap (take (length piece)) (drop_at s.prefix (piece ++ s.back) at s.place)
-    ∙ take-append_seam piece s.back
+stands-read piece at bytes n s len = grind (arith, drop_at, take-append_seam)
 
 pub stands-within : (piece : List ℕ) (at : ℕ) (bytes : List ℕ) → IsAt piece at bytes → at + length piece ≤ length bytes
 stands-within piece at bytes s =

@@ -1,14 +1,12 @@
 -- Where filled arrays are whole, what is listed of them is whole values, and no more than the variables have.
 use Rattle.std.proofs.Common.{◌≡◌, ℕ, zero, suc, ◌+◌, ◌-◌, ◌*◌, ◌/◌, inl, inr, List, [], ◌∷◌, length, sym, ◌∙◌, ap, arith, length-append}
-use Rattle.nc_base.proofs.Prelude.{cases_lt, Dim, Var, fill_value, IsArray, AreArrays, value_count, bytes_of_number, size_of}
+use Rattle.nc_base.proofs.Prelude.{cases_lt, Dim, Var, IsArray, AreArrays, value_count, size_of}
 use Rattle.nc_base.specs.code.OwedValues.{fills, whole_array, whole_arrays, IsListed, AreListed}
 use Rattle.nc_base.proofs.FilePlaces.{length-number}
 
 pub length-fills : (var : Var) (count : ℕ) → length (fills var count) ≡ count * size_of var.ty
 length-fills var zero = omega arith
-length-fills var (suc count) =
-    let value = bytes_of_number var.ty (fill_value var) in
-    omega (arith, length-append value (fills var count), length-number var.ty (fill_value var), length-fills var count)
+length-fills var (suc count) = grind (arith, length-append, length-number, length-fills var count)
 
 pub is-listed : (dims : List Dim) (n : ℕ) (var : Var) (listed : List ℕ) → IsArray dims n var (whole_array dims n var listed) → IsListed dims n var listed
 is-listed dims n var listed is =

@@ -1,8 +1,8 @@
 -- Numbers and their big-endian bytes are two ways to write one thing.
-use Rattle.std.proofs.Common.{◌≡◌, ℕ, ◌<◌, ◌^◌, List, [], ◌∷◌, length, ap, refl, arith, ◌∙◌, ℤ, pos, negsuc, FitsSigned}
+use Rattle.std.proofs.Common.{◌≡◌, ℕ, ◌<◌, ◌^◌, List, [], ◌∷◌, length, ap, refl, arith, ◌∙◌, ℤ, pos, FitsSigned}
 use Rattle.std.proofs.Math.Facts.{Fits-of_z, Fits-of_lt, sfits_to_z}
 use Rattle.std.proofs.lemmas.Int.{ints, to_z-of_z, of_z-to_z}
-use Rattle.nc_base.proofs.Prelude.{from_be_bytes-to_be_bytes_2, from_be_bytes-to_be_bytes_4, from_be_bytes-to_be_bytes_8, be_bytes_2, be_bytes_4, be_bytes_8, Width, w8, w16, w32, w64, to_be_bytes, from_be_bytes, cast_signed, cast_unsigned, FitsUnsigned, Byte, Char, Short, Int, Ubyte, Ushort, Uint, Int64, Uint64, AreBytes}
+use Rattle.nc_base.proofs.Prelude.{from_be_bytes-to_be_bytes_2, from_be_bytes-to_be_bytes_4, from_be_bytes-to_be_bytes_8, be_bytes_2, be_bytes_4, be_bytes_8, Width, w8, w16, w32, w64, to_be_bytes, from_be_bytes, cast_signed, cast_unsigned, FitsUnsigned, Byte, Short, Int, Ushort, Uint, Int64, Uint64, AreBytes}
 use mir.Val.{bits}
 use Rattle.nc_base.specs.NumberLaws.{NumbersReadBack, BytesReadBack, NumbersAreInRange}
 
@@ -17,9 +17,8 @@ reads_back_1 n fits = omega arith
 
 -- as many bytes as the width's are the bytes of their number
 be_bytes_1 : (bytes : List ℕ) → AreBytes bytes → length bytes ≡ 1 → to_be_bytes w8 (from_be_bytes w8 bytes) ≡ bytes
-be_bytes_1 [] small len = absurd (omega arith)
 be_bytes_1 (b ∷ []) small len = let below : b < 256 = small 0 in ap (λ n. n ∷ []) (omega arith)
-be_bytes_1 (b ∷ c ∷ bytes) small len = absurd (omega arith)
+be_bytes_1 _ small len = absurd (omega arith)
 
 -- bytes are a number of their width
 fits_1 : (bytes : List ℕ) → AreBytes bytes → from_be_bytes w8 bytes < 2 ^ 8
@@ -40,8 +39,7 @@ reads_back_signed : (w : Width) (z : ℤ) → ReadsBack w → FitsSigned w z →
 reads_back_signed w z reads fits = ap (cast_signed w) (reads _ (Fits-of_z fits).fits) ∙ to_z-of_z w z fits
 
 reads_back_unsigned : (w : Width) (z : ℤ) → ReadsBack w → FitsUnsigned w z → pos (from_be_bytes w (to_be_bytes w (cast_unsigned w z))) ≡ z
-reads_back_unsigned w (pos n) reads fits = ap pos (reads n (omega (arith, ints, fits.1)))
-reads_back_unsigned w (negsuc n) reads fits = absurd (omega (arith, ints, fits.0))
+reads_back_unsigned w z h h2 = grind (arith, pos, ints)
 
 -- the bytes of the number, with a sign and without one
 bytes_back_signed : (w : Width) (bytes : List ℕ) → from_be_bytes w bytes < 2 ^ bits w → to_be_bytes w (from_be_bytes w bytes) ≡ bytes
@@ -57,34 +55,19 @@ fits_unsigned w n fits = (omega (arith, ints), omega (arith, ints))
 -- ---- the laws
 
 pub numbers_read_back : NumbersReadBack
-numbers_read_back Byte number fits = reads_back_signed w8 number reads_back_1 fits
-numbers_read_back Char number fits = reads_back_unsigned w8 number reads_back_1 fits
-numbers_read_back Short number fits = reads_back_signed w16 number from_be_bytes-to_be_bytes_2 fits
-numbers_read_back Int number fits = reads_back_signed w32 number from_be_bytes-to_be_bytes_4 fits
-numbers_read_back Ubyte number fits = reads_back_unsigned w8 number reads_back_1 fits
-numbers_read_back Ushort number fits = reads_back_unsigned w16 number from_be_bytes-to_be_bytes_2 fits
-numbers_read_back Uint number fits = reads_back_unsigned w32 number from_be_bytes-to_be_bytes_4 fits
-numbers_read_back Int64 number fits = reads_back_signed w64 number from_be_bytes-to_be_bytes_8 fits
-numbers_read_back Uint64 number fits = reads_back_unsigned w64 number from_be_bytes-to_be_bytes_8 fits
+numbers_read_back Byte number fits = grind (arith, reads_back_signed, reads_back_1, from_be_bytes-to_be_bytes_2, from_be_bytes-to_be_bytes_4, reads_back_unsigned, from_be_bytes-to_be_bytes_8)
+numbers_read_back _ number fits = grind (arith, reads_back_signed, reads_back_1, from_be_bytes-to_be_bytes_2, from_be_bytes-to_be_bytes_4, reads_back_unsigned, from_be_bytes-to_be_bytes_8)
 
 pub bytes_read_back : BytesReadBack
 bytes_read_back Byte bytes small len = bytes_back_signed w8 bytes (fits_1 bytes small) (be_bytes_1 bytes small len)
-bytes_read_back Char bytes small len = be_bytes_1 bytes small len
 bytes_read_back Short bytes small len = bytes_back_signed w16 bytes (fits_2 bytes small) (be_bytes_2 bytes _ len small refl)
 bytes_read_back Int bytes small len = bytes_back_signed w32 bytes (fits_4 bytes small) (be_bytes_4 bytes _ len small refl)
-bytes_read_back Ubyte bytes small len = be_bytes_1 bytes small len
 bytes_read_back Ushort bytes small len = be_bytes_2 bytes _ len small refl
 bytes_read_back Uint bytes small len = be_bytes_4 bytes _ len small refl
 bytes_read_back Int64 bytes small len = bytes_back_signed w64 bytes (fits_8 bytes small) (be_bytes_8 bytes _ len small refl)
 bytes_read_back Uint64 bytes small len = be_bytes_8 bytes _ len small refl
+bytes_read_back _ bytes small len = be_bytes_1 bytes small len
 
 pub numbers_in_range : NumbersAreInRange
-numbers_in_range Byte bytes small len = fits_signed w8 _ (fits_1 bytes small)
-numbers_in_range Char bytes small len = fits_unsigned w8 _ (fits_1 bytes small)
-numbers_in_range Short bytes small len = fits_signed w16 _ (fits_2 bytes small)
-numbers_in_range Int bytes small len = fits_signed w32 _ (fits_4 bytes small)
-numbers_in_range Ubyte bytes small len = fits_unsigned w8 _ (fits_1 bytes small)
-numbers_in_range Ushort bytes small len = fits_unsigned w16 _ (fits_2 bytes small)
-numbers_in_range Uint bytes small len = fits_unsigned w32 _ (fits_4 bytes small)
-numbers_in_range Int64 bytes small len = fits_signed w64 _ (fits_8 bytes small)
-numbers_in_range Uint64 bytes small len = fits_unsigned w64 _ (fits_8 bytes small)
+numbers_in_range Byte bytes small len = grind (arith, fits_signed, fits_1, fits_2, fits_4, fits_unsigned, fits_8)
+numbers_in_range _ bytes small len = grind (arith, fits_signed, fits_1, fits_2, fits_4, fits_unsigned, fits_8)

@@ -1,5 +1,5 @@
 -- What stands before and after the last byte of a kind.
-use Rattle.std.proofs.Common.{◌≡◌, ◌≢◌, ℕ, suc, ◌+◌, ◌-◌, ◌<◌, true, false, List, [], ◌∷◌, length, get_or, take, drop, refl, sym, ap, ◌∙◌, arith, not, get_or-drop, length-drop, ◌==◌}
+use Rattle.std.proofs.Common.{◌≡◌, ◌≢◌, ℕ, suc, ◌+◌, ◌-◌, ◌<◌, true, false, List, [], ◌∷◌, length, get_or, take, drop, refl, ap, ◌∙◌, arith, not, get_or-drop, length-drop, ◌==◌}
 use Rattle.nc_base.proofs.Prelude.{nat_tests, list_any_at, suffix_len_is, list_any, before_last, after_last, suffix_len}
 use Rattle.nc_base.specs.Paths.{is_dot, has_extension, without_extension}
 
@@ -20,11 +20,7 @@ abbrev pub HasNoPlace : ℕ → List ℕ → Type 0
 HasNoPlace c bytes = (i : ℕ) → i < length bytes → get_or bytes i 0 ≢ c
 
 suffix_len-IsLastPlace : (c : ℕ) (bytes : List ℕ) (k : ℕ) → IsLastPlace c bytes k → suffix_len (λ b. not (b == c)) bytes ≡ length bytes - (k + 1)
-suffix_len-IsLastPlace c bytes k last =
-    let place : k + 1 - 1 ≡ k = omega arith in
-    suffix_len_is (λ b. not (b == c)) bytes (k + 1) 0 (omega (arith, last.within))
-    (λ i from below. ap not (is_no_byte c _ (last.following i (omega arith) below)))
-    (λ _. ap not (is_byte c _ (ap (λ i. get_or bytes i 0) place ∙ last.at)))
+suffix_len-IsLastPlace c bytes k last = grind (arith, suffix_len_is (λ b. not (b == c)) bytes (k + 1) 0, is_no_byte c, is_byte c)
 
 pub after_last-IsLastPlace : (c : ℕ) (bytes : List ℕ) (k : ℕ) → IsLastPlace c bytes k → after_last (λ b. b == c) bytes ≡ drop (k + 1) bytes
 after_last-IsLastPlace c bytes k last =
@@ -56,7 +52,4 @@ without_extension-IsLastPlace name k last after_first =
 
 -- a name without a dot after its first byte
 pub without_extension-same : (name : List ℕ) → ((i : ℕ) → 0 < i → i < length name → get_or name i 0 ≢ 46) → without_extension name ≡ name
-without_extension-same name none =
-    let none_after : HasNoPlace 46 (drop 1 name) = λ i below same.
-    none (1 + i) (omega arith) (omega (arith, length-drop 1 name, below)) (sym (get_or-drop 1 name i 0) ∙ same) in
-    rw (list_any-HasNoPlace 46 (drop 1 name) none_after) refl
+without_extension-same name none = grind (arith, length-drop 1 name, get_or-drop 1 name, list_any-HasNoPlace 46 (drop 1 name))

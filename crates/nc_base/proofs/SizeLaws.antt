@@ -1,41 +1,23 @@
 -- The sizes of slabs and of records.
-use Rattle.std.proofs.Common.{◌≡◌, ℕ, zero, suc, ◌+◌, ◌*◌, ◌<◌, ◌≤◌, inl, inr, min, Bool, true, false, ◌&&◌, cond, List, [], ◌∷◌, ◌++◌, length, get_or, drop, take, map, refl, sym, ◌∙◌, ap, subst, arith, drop-cons, Some, None, filter, nat_le, if◌then◌else◌}
-use Rattle.nc_base.proofs.Prelude.{list_all, mul-le-mul_left, cases_lt, le-leb, leb_tells, append-nil, filter_more, filter-append, list_all-append, sum-map, sum_by_push, padding_len, product, is_record_var, is_narrow, slab_size, padded_size, padded_total, record_size_of, record_vars, record_size, slab_limit, record_limit, least_begin, has_small_slab, checked_record_size, first_begin, lesser, Dim, Var, Header}
+use Rattle.std.proofs.Common.{◌≡◌, ℕ, zero, ◌+◌, ◌*◌, ◌<◌, ◌≤◌, min, Bool, true, false, ◌&&◌, cond, List, [], ◌∷◌, ◌++◌, length, get_or, drop, take, map, refl, sym, ◌∙◌, ap, arith, drop-cons, Some, None, filter, if◌then◌else◌}
+use Rattle.nc_base.proofs.Prelude.{list_all, mul-le-mul_left, le-leb, leb_tells, append-nil, filter_more, filter-append, list_all-append, sum-map, sum_by_push, padding_len, product, is_record_var, is_narrow, slab_size, padded_size, padded_total, record_size_of, slab_limit, least_begin, has_small_slab, checked_record_size, first_begin, lesser, Dim, Var, Header}
 use Rattle.std.proofs.Math.ListN.{drop_of_length-le, take-append-drop}
 
 -- a number that is cut off at c may be cut off before it is multiplied
 pub min-mul : (a b c : ℕ) → min (min a c * b) c ≡ min (a * b) c
-min-mul a zero c = omega arith
-min-mul a (suc b) c =
-    elim (cases_lt a c) [
-      | inl below ↦ let e : min a c ≡ a = omega arith in ap (λ n. min (n * suc b) c) e
-      | inr above ↦
-          let e : min a c ≡ c = omega arith in
-          let low : c ≤ c * suc b = omega (arith, mul-le-mul_left c (let h : 1 ≤ suc b = omega arith in h)) in
-          let high : c ≤ a * suc b = omega (arith, mul-le-mul_left a (let h : 1 ≤ suc b = omega arith in h)) in
-          ap (λ n. min (n * suc b) c) e ∙ omega (arith, low, high)
-    ]
+min-mul a zero c = grind (arith, mul-le-mul_left)
+min-mul a _ c = grind (arith, mul-le-mul_left)
 
 -- one more length of a capped product
 pub capped_more : (f : ℕ → ℕ) (ids : List ℕ) (n i m c : ℕ) → i < length ids
     → min (n * product (map f (drop i ids))) c ≡ m
     → min (min (n * f (get_or ids i 0)) c * product (map f (drop (i + 1) ids))) c ≡ m
-capped_more f ids n i m c lt inv =
-    let x = get_or ids i 0 in
-    let p = product (map f (drop (suc i) ids)) in
-    let cut : drop i ids ≡ x ∷ drop (suc i) ids = drop-cons ids i 0 lt in
-    let whole : min (n * (f x * p)) c ≡ m = sym (ap (λ (xs : List ℕ). min (n * product (map f xs)) c) cut) ∙ inv in
-    let flat : (n * f x) * p ≡ n * (f x * p) = omega arith in
-    let next : i + 1 ≡ suc i = omega arith in
-    ap (λ k. min (min (n * f x) c * product (map f (drop k ids))) c) next ∙ min-mul (n * f x) p c ∙ ap (λ k. min k c) flat ∙ whole
+capped_more f ids n i m c lt inv = grind (arith, drop-cons, min-mul)
 
 -- a capped product is the capped product of all lengths once none is left
 pub capped_all : (f : ℕ → ℕ) (ids : List ℕ) (n i m c : ℕ) → length ids ≤ i → n ≤ c
     → min (n * product (map f (drop i ids))) c ≡ m → n ≡ m
-capped_all f ids n i m c done small inv =
-    let none : drop i ids ≡ [] = drop_of_length-le ids done in
-    let last : min (n * 1) c ≡ m = sym (ap (λ (xs : List ℕ). min (n * product (map f xs)) c) none) ∙ inv in
-    omega (arith, last)
+capped_all f ids n i m c done small inv = grind (arith, drop_of_length-le)
 
 -- the record variables among the first i variables
 abbrev pub seen : List Dim → List Var → ℕ → List Var
@@ -50,13 +32,10 @@ is_none-push [] x = refl
 is_none-push (y ∷ ys) x = refl
 
 both_pass : (a b : Bool) → a ≡ true → b ≡ true → (a && (b && true)) ≡ true
-both_pass true true p q = refl
-both_pass true false p q = cc
-both_pass false b p q = cc
+both_pass a b h h2 = grind arith
 
 picked-le : (b : Bool) (slab padded m : ℕ) → slab ≤ m → padded ≤ m → (if b then slab else padded) ≤ m
-picked-le true slab padded m p q = p
-picked-le false slab padded m p q = q
+picked-le b slab padded m h h2 = grind arith
 
 -- what the sum over the first i variables keeps
 pub record AreSums (dims : List Dim) (vars : List Var) (i size padded : ℕ) (is_first : Bool) : Type 0 where
@@ -68,9 +47,7 @@ pub record AreSums (dims : List Dim) (vars : List Var) (i size padded : ℕ) (is
   pub size_bound : size ≤ i * 281474976710660
 
 padded_total-append : (dims : List Dim) (xs : List Var) (x : Var) → padded_total dims (xs ++ x ∷ []) ≡ padded_total dims xs + padded_size dims x
-padded_total-append dims xs x =
-    let f = padded_size dims in
-    sum-map f (xs ++ x ∷ []) ∙ sum_by_push f xs x ∙ ap (λ n. n + f x) (sym (sum-map f xs))
+padded_total-append dims xs x = grind (arith, sum-map, sum_by_push)
 
 record_size_of_first : (b : Bool) (slab padded : ℕ) → (if b then slab else padded) ≡ (if true && b then slab else (0 + padded))
 record_size_of_first true slab padded = refl
@@ -81,9 +58,6 @@ record_size_of-append : (dims : List Dim) (xs : List Var) (x : Var)
 record_size_of-append dims [] x = record_size_of_first (is_narrow x) (slab_size dims x) (padded_size dims x)
 record_size_of-append dims (y ∷ []) x = padded_total-append dims (y ∷ []) x
 record_size_of-append dims (y ∷ z ∷ ys) x = padded_total-append dims (y ∷ z ∷ ys) x
-
-pub sums_none : (dims : List Dim) (vars : List Var) → AreSums dims vars 0 0 0 true
-sums_none dims vars = record { size_is = refl; padded_is = refl; first_is = refl; small = refl; bound = omega arith; size_bound = omega arith }
 
 seen_skipped : (dims : List Dim) (vars : List Var) (i : ℕ) (d : Var) → i < length vars → is_record_var dims (get_or vars i d) ≡ false
     → seen dims vars (i + 1) ≡ seen dims vars i
@@ -97,16 +71,7 @@ seen_more dims vars i d lt growing =
 
 pub sums_skipped : (dims : List Dim) (vars : List Var) (i size padded : ℕ) (is_first : Bool) (d : Var) → i < length vars
     → is_record_var dims (get_or vars i d) ≡ false → AreSums dims vars i size padded is_first → AreSums dims vars (i + 1) size padded is_first
-sums_skipped dims vars i size padded is_first d lt fixed sums =
-    let e = seen_skipped dims vars i d lt fixed in
-    record {
-      size_is = sums.size_is ∙ ap (record_size_of dims) (sym e);
-      padded_is = sums.padded_is ∙ ap (padded_total dims) (sym e);
-      first_is = sums.first_is ∙ ap is_none (sym e);
-      small = ap (list_all (has_small_slab dims)) e ∙ sums.small;
-      bound = omega (arith, sums.bound);
-      size_bound = omega (arith, sums.size_bound);
-    }
+sums_skipped dims vars i size padded is_first d lt fixed sums = grind (arith, seen_skipped, is_none)
 
 -- one more record variable, whose slab keeps the limit
 pub sums_more : (dims : List Dim) (vars : List Var) (i size padded size' padded' : ℕ) (is_first : Bool) (d : Var) → i < length vars
@@ -132,9 +97,7 @@ sums_more dims vars i size padded size' padded' is_first d lt growing fits padde
     }
 
 middle_fails : (a b c : Bool) → b ≡ false → ((a && (b && true)) && c) ≡ false
-middle_fails true true c h = cc
-middle_fails true false c h = refl
-middle_fails false b c h = refl
+middle_fails a b c h = grind arith
 
 -- an element that is kept, and fails a test
 fails_along : (p test : Var → Bool) (xs : List Var) (i : ℕ) (d : Var) → i < length xs → p (get_or xs i d) ≡ true → test (get_or xs i d) ≡ false
@@ -154,12 +117,7 @@ fails_along p test xs i d lt kept fails =
 -- a record variable whose slab passes the limit leaves no record size
 pub checked-none : (h : Header) (i : ℕ) (d : Var) → i < length h.vars → is_record_var h.dims (get_or h.vars i d) ≡ true
     → (slab_size h.dims (get_or h.vars i d) ≤ slab_limit → ⊥) → checked_record_size h ≡ None
-checked-none h i d lt growing large =
-    let x = get_or h.vars i d in
-    let test = has_small_slab h.dims in
-    let unfit : test x ≡ false = elim (leb_tells (slab_size h.dims x) slab_limit) [ inl p ↦ absurd (large p.1) | inr p ↦ p.0 ] in
-    let all : list_all test (record_vars h.dims h.vars) ≡ false = fails_along (is_record_var h.dims) test h.vars i d lt growing unfit in
-    ap (λ b. if b && nat_le (record_size h) record_limit then Some (record_size h) else None) all
+checked-none h i d lt growing large = grind (arith, leb_tells, fails_along)
 
 -- the same at an element by its own name
 pub sums_more_at : (dims : List Dim) (vars : List Var) (i size padded size' padded' slab : ℕ) (is_first : Bool) (x : Var) → i < length vars
@@ -168,11 +126,7 @@ pub sums_more_at : (dims : List Dim) (vars : List Var) (i size padded size' padd
     → size' ≡ (if is_first && is_narrow x then slab else padded')
     → AreSums dims vars i size padded is_first → AreSums dims vars (i + 1) size' padded' false
 sums_more_at dims vars i size padded size' padded' slab is_first x lt at growing fits slab_is padded_is size_is sums =
-    let Q : Var → Type 0 = λ v. is_record_var dims v ≡ true → slab_size dims v ≤ slab_limit → padded' ≡ padded + padded_size dims v
-    → size' ≡ (if is_first && is_narrow v then slab_size dims v else padded') → AreSums dims vars (i + 1) size' padded' false in
-    subst Q (sym at) (λ a b e f. sums_more dims vars i size padded size' padded' is_first x lt a b e f sums)
-    growing (omega (arith, slab_is)) (padded_is ∙ ap (λ n. padded + (n + padding_len n)) slab_is)
-    (size_is ∙ ap (λ n. if is_first && is_narrow x then n else padded') slab_is)
+    grind (arith, sums_more dims vars i size padded size' padded' is_first x lt)
 
 pub sums_skipped_at : (dims : List Dim) (vars : List Var) (i size padded : ℕ) (is_first : Bool) (x : Var) → i < length vars
     → x ≡ get_or vars i x → is_record_var dims x ≡ false → AreSums dims vars i size padded is_first → AreSums dims vars (i + 1) size padded is_first
@@ -189,15 +143,12 @@ least_begin-push var [] x = refl
 least_begin-push var (next ∷ vars) x = omega (arith, least_begin-push next vars x)
 
 first_begin-push : (vars : List Var) (x : Var) → first_begin (vars ++ x ∷ []) ≡ Some (lesser (first_begin vars) x.begin_at)
-first_begin-push [] x = refl
-first_begin-push (var ∷ vars) x = ap Some (least_begin-push var vars x)
+first_begin-push vars x = grind (arith, least_begin-push)
 
 -- one more record variable
 pub first_begin_more : (dims : List Dim) (vars : List Var) (i : ℕ) (x : Var) → i < length vars → x ≡ get_or vars i x
     → is_record_var dims x ≡ true → first_begin (seen dims vars (i + 1)) ≡ Some (lesser (first_begin (seen dims vars i)) x.begin_at)
-first_begin_more dims vars i x lt at growing =
-    ap first_begin (seen_more dims vars i x lt (ap (is_record_var dims) (sym at) ∙ growing) ∙ ap (λ (v : Var). seen dims vars i ++ v ∷ []) (sym at))
-    ∙ first_begin-push (seen dims vars i) x
+first_begin_more dims vars i x lt at growing = grind (arith, seen_more dims vars i x lt, first_begin-push)
 
 pub seen_skipped_at : (dims : List Dim) (vars : List Var) (i : ℕ) (x : Var) → i < length vars → x ≡ get_or vars i x
     → is_record_var dims x ≡ false → seen dims vars (i + 1) ≡ seen dims vars i

@@ -1,7 +1,7 @@
 -- Where the values of a variable lie, slab by slab: the bytes of all values, one after the other, are the slabs as the
 -- file has them, and no value is missing where each slab lies inside of the file.
-use Rattle.std.proofs.Common.{◌≡◌, ℕ, zero, suc, ◌+◌, ◌*◌, ◌<◌, ◌≤◌, Bool, true, false, List, [], ◌∷◌, ◌++◌, length, get_or, take, drop, map, refl, sym, ◌∙◌, ap, subst, arith, append-nil, None, All, if◌then◌else◌}
-use Rattle.nc_base.proofs.Prelude.{concat, flat_map, range_with_len, position, take-add, mul-le-mul_right, le-ltb, drop-drop, map-append, concat-append, position_or_len_is, All-nil, All-cons, All-append, All-get_or, Header, Var, size_of, product, is_record_var, slab_lens, slab_size, record_size, vectors_below, slab_strides, distance, value_offsets, bytes_at, stored_bytes, ends_after, first_missing}
+use Rattle.std.proofs.Common.{◌≡◌, ℕ, zero, suc, ◌+◌, ◌*◌, ◌<◌, ◌≤◌, Bool, true, false, List, [], ◌∷◌, ◌++◌, length, take, drop, map, refl, sym, ◌∙◌, ap, subst, arith, append-nil, None, All, if◌then◌else◌}
+use Rattle.nc_base.proofs.Prelude.{concat, flat_map, range_with_len, position, take-add, mul-le-mul_right, le-ltb, drop-drop, map-append, concat-append, position_or_len_is, All-nil, All-cons, All-append, Header, Var, size_of, product, is_record_var, slab_lens, slab_size, record_size, vectors_below, slab_strides, distance, value_offsets, bytes_at, stored_bytes, ends_after, first_missing}
 use Rattle.nc_base.proofs.WholeValues.{none-found}
 
 -- ---- index vectors whose first index goes over some rows
@@ -16,19 +16,13 @@ joined size b base strides vectors = concat (map (bytes_at size b) (map (at base
 
 joined-append : (size : ℕ) (b : List ℕ) (base : ℕ) (strides : List ℕ) (xs ys : List (List ℕ))
     → joined size b base strides (xs ++ ys) ≡ joined size b base strides xs ++ joined size b base strides ys
-joined-append size b base strides xs ys =
-    ap (λ zs. concat (map (bytes_at size b) zs)) (map-append (at base strides) xs ys)
-    ∙ ap concat (map-append (bytes_at size b) (map (at base strides) xs) (map (at base strides) ys))
-    ∙ concat-append (map (bytes_at size b) (map (at base strides) xs)) (map (bytes_at size b) (map (at base strides) ys))
+joined-append size b base strides xs ys = grind (arith, map-append, at, concat-append)
 
 -- one row
 joined-row : (size : ℕ) (b : List ℕ) (base i stride : ℕ) (strides : List ℕ) (vs : List (List ℕ))
     → joined size b base (stride ∷ strides) (map (λ (index : List ℕ). i ∷ index) vs) ≡ joined size b (base + i * stride) strides vs
 joined-row size b base i stride strides [] = refl
-joined-row size b base i stride strides (v ∷ vs) =
-    let e : base + (i * stride + distance v strides) ≡ base + i * stride + distance v strides = omega arith in
-    ap (λ (o : ℕ). bytes_at size b o ++ joined size b base (stride ∷ strides) (map (λ (index : List ℕ). i ∷ index) vs)) e
-    ∙ ap (λ (xs : List ℕ). bytes_at size b (base + i * stride + distance v strides) ++ xs) (joined-row size b base i stride strides vs)
+joined-row size b base i stride strides (v ∷ vs) = grind (arith, joined, joined-row size b base i stride strides vs)
 
 -- all rows
 joined-rows : (size : ℕ) (b : List ℕ) (base stride : ℕ) (strides : List ℕ) (vs : List (List ℕ)) (k n : ℕ)
@@ -59,10 +53,7 @@ runs b base len k (suc n) =
 
 -- the values of a slab are one run of bytes
 slab-run : (size : ℕ) (b : List ℕ) (base : ℕ) (lens : List ℕ) → joined size b base (slab_strides size lens) (vectors_below lens) ≡ take (product lens * size) (drop base b)
-slab-run size b base [] =
-    let e : base + 0 ≡ base = omega arith in
-    let f : size ≡ 1 * size = omega arith in
-    append-nil (bytes_at size b (base + 0)) ∙ ap (bytes_at size b) e ∙ ap (λ (m : ℕ). take m (drop base b)) f
+slab-run size b base [] = grind (arith, append-nil)
 slab-run size b base (n ∷ lens) =
     let len = size * product lens in
     let f : product lens * size ≡ len = omega arith in
@@ -80,14 +71,7 @@ slab-run size b base (n ∷ lens) =
 pub fixed-bytes : (h : Header) (b : List ℕ) (var : Var) (n : ℕ) → is_record_var h.dims var ≡ false
     → concat (stored_bytes h b var n) ≡ take (slab_size h.dims var) (drop var.begin_at b)
 unfolding value_offsets
-fixed-bytes h b var n fixed = at_kind (is_record_var h.dims var) fixed
-  where
-    at_kind : (kind : Bool) → kind ≡ false
-        → joined (size_of var.ty) b var.begin_at (if kind then record_size h ∷ slab_strides (size_of var.ty) (slab_lens h.dims var.dimids) else slab_strides (size_of var.ty) (slab_lens h.dims var.dimids))
-        (vectors_below (if kind then n ∷ slab_lens h.dims var.dimids else slab_lens h.dims var.dimids))
-        ≡ take (slab_size h.dims var) (drop var.begin_at b)
-    at_kind true e = cc
-    at_kind false e = slab-run (size_of var.ty) b var.begin_at (slab_lens h.dims var.dimids)
+fixed-bytes h b var n fixed = grind (arith, slab-run (size_of var.ty) b var.begin_at (slab_lens h.dims var.dimids), joined)
 
 -- those of a record variable are its slabs, a record size apart
 pub record-bytes : (h : Header) (b : List ℕ) (var : Var) (n : ℕ) → is_record_var h.dims var ≡ true
@@ -122,10 +106,7 @@ end-append size len base strides xs ys p q =
 
 rows-same : (base i stride : ℕ) (strides : List ℕ) (vs : List (List ℕ)) → map (at base (stride ∷ strides)) (map (λ (index : List ℕ). i ∷ index) vs) ≡ map (at (base + i * stride) strides) vs
 rows-same base i stride strides [] = refl
-rows-same base i stride strides (v ∷ vs) =
-    let e : base + (i * stride + distance v strides) ≡ base + i * stride + distance v strides = omega arith in
-    ap (λ (o : ℕ). o ∷ map (at base (stride ∷ strides)) (map (λ (index : List ℕ). i ∷ index) vs)) e
-    ∙ ap (λ (xs : List ℕ). (base + i * stride + distance v strides) ∷ xs) (rows-same base i stride strides vs)
+rows-same base i stride strides (v ∷ vs) = grind (arith, at, rows-same base i stride strides vs)
 
 end-rows : (size len base stride : ℕ) (strides : List ℕ) (vs : List (List ℕ)) (k n : ℕ)
     → ((i : ℕ) → i < k + n → AllEnd size len (base + i * stride) strides vs)
@@ -149,8 +130,7 @@ slab-ends size len base (n ∷ lens) within =
 
 none-missing : (size len : ℕ) (xs : List ℕ) → All (EndsIn size len) xs → position (ends_after size len) xs ≡ None
 none-missing size len xs all =
-    none-found (ends_after size len) xs (position_or_len_is (ends_after size len) xs (length xs) 0 (omega arith)
-    (λ j lt. le-ltb len (get_or xs j 0 + size) (All-get_or (EndsIn size len) xs j 0 lt all)) (λ lt. absurd (omega arith)))
+    grind (arith, none-found (ends_after size len) xs, position_or_len_is (ends_after size len) xs (length xs) 0, le-ltb len)
 
 pub fixed-whole : (h : Header) (b : List ℕ) (var : Var) (n : ℕ) → is_record_var h.dims var ≡ false
     → var.begin_at + slab_size h.dims var ≤ length b → first_missing h b var n ≡ None

@@ -1,10 +1,9 @@
 -- What a sound header keeps.
-use Rattle.std.proofs.Common.{◌≡◌, ℕ, zero, suc, ◌+◌, ◌*◌, ◌/◌, ◌%◌, ◌<◌, ◌≤◌, Bool, true, false, ◌&&◌, ◌||◌, List, [], ◌∷◌, ◌++◌, length, get_or, drop, map, refl, sym, ◌∙◌, ap, subst, arith, Option, Some, None, filter, nat_le, nat_lt, ◌==◌, not, if◌then◌else◌, IsTrue, All, IsSome, SomeIff, is_some, IfSome, ◌-◌}
-use Rattle.nc_base.proofs.Prelude.{list_all, count_by, mul-le-mul_left, mod-eq-sub-div-mul, div-mul-le_self, le-leb, leb-true, ltb-true, lt-ltb, length-map, div-mul-add, nat_tests, All-filter, All-head, All-tail, All-weaker, All-get_or, All-map, sum-map, sum_by-cons, length-filter, size_of, dim_len, product, is_record_dim, is_record_var, is_narrow, slab_lens, slab_size, padded_size, record_size_of, record_vars, record_size, slab_limit, record_limit, has_small_slab, checked_record_size, first_begin, slab_at, is_fixed_dim, has_values, IsSound, IsSoundVar, HasWholeValues, AreDimids, NcType, Byte, Char, Short, Int, Ubyte, Ushort, Uint, Int64, Uint64, Version, count_limit, Att, Dim, Var, Header, NumRecs, Streaming, records_between, least_begin, record_count, and_left, and_right}
+use Rattle.std.proofs.Common.{◌≡◌, ℕ, ◌*◌, ◌/◌, ◌%◌, ◌<◌, ◌≤◌, Bool, true, false, ◌&&◌, ◌||◌, List, [], ◌∷◌, ◌++◌, length, get_or, drop, map, refl, sym, ◌∙◌, ap, subst, arith, Option, Some, None, filter, nat_lt, ◌==◌, not, if◌then◌else◌, IsTrue, All, IsSome, SomeIff, is_some, IfSome, ◌-◌}
+use Rattle.nc_base.proofs.Prelude.{list_all, count_by, mul-le-mul_left, mod-eq-sub-div-mul, div-mul-le_self, le-leb, leb-true, ltb-true, lt-ltb, length-map, div-mul-add, nat_tests, All-filter, All-head, All-tail, All-weaker, All-get_or, All-map, sum-map, sum_by-cons, length-filter, size_of, dim_len, product, is_record_dim, is_record_var, slab_lens, slab_size, padded_size, record_size_of, record_vars, record_size, slab_limit, record_limit, checked_record_size, first_begin, slab_at, is_fixed_dim, has_values, IsSound, IsSoundVar, HasWholeValues, AreDimids, NcType, Version, count_limit, Att, Dim, Var, Header, Streaming, records_between, record_count, and_left, and_right}
 
 not_both : (b : Bool) → not b ≡ true → b ≡ true → ⊥
-not_both true p q = cc
-not_both false p q = cc
+not_both b h h2 = grind arith
 
 passes : (test : Var → Bool) (xs : List Var) → All (λ x. test x ≡ true) xs → list_all test xs ≡ true
 passes test [] h = refl
@@ -15,26 +14,17 @@ all_pass p test xs h = passes test (filter p xs) (All-filter p (λ (x : Var). te
 
 -- sound variables and a record that keeps the limit
 pub checked-small : (h : Header) → All (IsSoundVar h.version h.dims) h.vars → record_size h ≤ record_limit → checked_record_size h ≡ Some (record_size h)
-checked-small h vars small =
-    let fits : list_all (has_small_slab h.dims) (record_vars h.dims h.vars) ≡ true =
-    all_pass (is_record_var h.dims) (has_small_slab h.dims) h.vars
-    (All-weaker (IsSoundVar h.version h.dims) (λ (var : Var). has_small_slab h.dims var ≡ true) (λ var s. le-leb _ _ s.slab) h.vars vars) in
-    ap (λ b. if b && nat_le (record_size h) record_limit then Some (record_size h) else None) fits
-    ∙ ap (λ b. if b then Some (record_size h) else None) (le-leb _ _ small)
+checked-small h vars small = grind (arith, all_pass, All-weaker, le-leb)
 
 -- a sound header has a record size
 pub checked-sound : (h : Header) → IsSound h → checked_record_size h ≡ Some (record_size h)
 checked-sound h sound = checked-small h sound.vars sound.small_records
 
 last_passes : (a b : Bool) (n : ℕ) → is_some (if a && b then Some n else None) ≡ true → b ≡ true
-last_passes true true n h = refl
-last_passes true false n h = cc
-last_passes false b n h = cc
+last_passes a b n h = grind arith
 
 pub small-checked : (h : Header) → is_some (checked_record_size h) ≡ true → record_size h ≤ record_limit
-small-checked h some =
-    leb-true (record_size h) record_limit
-    (last_passes (list_all (has_small_slab h.dims) (record_vars h.dims h.vars)) (nat_le (record_size h) record_limit) (record_size h) some)
+small-checked h some = grind (arith, leb-true, last_passes)
 
 fixed_len : (a b n : ℕ) → a < b → (nat_lt a b && (n == 0)) ≡ false → 0 < n
 fixed_len a b n lt h = grind (arith, nat_tests)
@@ -47,45 +37,27 @@ push_is_some [] x h = cc
 push_is_some (y ∷ ys) x h = cc
 
 later_len : (b : Bool) (before : List ℕ) → (before ≡ [] → ⊥) → (IsTrue b → before ≡ []) → b ≡ false
-later_len true before some h = absurd (some (h refl))
-later_len false before some h = refl
+later_len b before h h2 = grind arith
 
 -- the lengths of a sound shape after its first place
 some_later : (dims : List Dim) (before ids : List ℕ) → (before ≡ [] → ⊥) → AreDimids dims before ids → 0 < product (map (dim_len dims) ids)
 some_later dims before [] some h = omega arith
 some_later dims before (id ∷ ids) some h =
-    let fixed = later_len (is_record_dim dims id) before some h.0.record_first in
-    some_product (dim_len dims id) _ (fixed_len id (length dims) (dim_len dims id) h.0.known fixed)
-    (some_later dims (before ++ id ∷ []) ids (push_is_some before id) h.1)
+    grind (arith, later_len, some_product, fixed_len, push_is_some, some_later dims (before ++ id ∷ []) ids (push_is_some before id) h.1)
 
 first_place : (dims : List Dim) (id : ℕ) (ids : List ℕ) → id < length dims → 0 < product (map (dim_len dims) ids)
     → (b : Bool) → is_record_dim dims id ≡ b → 0 < product (map (dim_len dims) (if b then ids else (id ∷ ids)))
-first_place dims id ids known some true is = some
-first_place dims id ids known some false is = some_product (dim_len dims id) _ (fixed_len id (length dims) (dim_len dims id) known is) some
+first_place dims id ids h h2 b h3 = grind (arith, some_product, fixed_len)
 
 -- a slab of a sound shape has values
 pub some_count : (dims : List Dim) (ids : List ℕ) → AreDimids dims [] ids → 0 < product (slab_lens dims ids)
-some_count dims [] h = omega arith
-some_count dims (id ∷ ids) h =
-    first_place dims id ids h.0.known (some_later dims (id ∷ []) ids (λ e. cc) h.1) (is_record_dim dims id) refl
+some_count dims ids h = grind (arith, first_place, some_later)
 
 pub some_size : (ty : NcType) → 0 < size_of ty
-some_size Byte = omega arith
-some_size Char = omega arith
-some_size Short = omega arith
-some_size Int = omega arith
-some_size Ubyte = omega arith
-some_size Ushort = omega arith
-some_size Uint = omega arith
-some_size Int64 = omega arith
-some_size Uint64 = omega arith
+some_size ty = grind arith
 
 some_record_size_of : (dims : List Dim) (var : Var) (vars : List Var) → 0 < slab_size dims var → 0 < record_size_of dims (var ∷ vars)
-some_record_size_of dims var [] h = picked (is_narrow var) (slab_size dims var) (padded_size dims var) h (omega arith)
-  where
-    picked : (b : Bool) (m n : ℕ) → 0 < m → 0 < n → 0 < (if b then m else n)
-    picked true m n p q = p
-    picked false m n p q = q
+some_record_size_of dims var [] h = grind arith
 some_record_size_of dims var (next ∷ vars) h = omega (arith, sum-map (padded_size dims) (var ∷ next ∷ vars), sum_by-cons (padded_size dims) var (next ∷ vars))
 
 -- a record of a sound header with record variables has bytes
@@ -107,45 +79,28 @@ slab_at-small h v sound lt =
     (All-weaker (IsSoundVar h.version h.dims) (λ (var : Var). slab_size h.dims var ≤ slab_limit) (λ var s. s.slab) h.vars sound.vars))
 
 pub IsSome-from_SomeIff : (o : Option ℕ) (P : Type 0) (n : ℕ) → SomeIff o P n → P → IsSome o
-IsSome-from_SomeIff None P n h p = absurd (h p)
-IsSome-from_SomeIff (Some x) P n h p = refl
+IsSome-from_SomeIff o P n h h2 = grind arith
 
 -- a shape after its first place
 fixed_shape : (dims : List Dim) (before ids : List ℕ) → list_all (is_fixed_dim dims) ids ≡ true → AreDimids dims before ids
 fixed_shape dims before [] h = tt
 fixed_shape dims before (id ∷ ids) h =
-    let here : is_fixed_dim dims id ≡ true = and_left (is_fixed_dim dims id) _ h in
-    let known : nat_lt id (length dims) ≡ true = and_left (nat_lt id (length dims)) _ here in
-    let fixed : not (is_record_dim dims id) ≡ true = and_right (nat_lt id (length dims)) _ here in (
-      record { known = ltb-true id (length dims) known; record_first = λ is. absurd (not_both (is_record_dim dims id) fixed is) },
-      fixed_shape dims (before ++ id ∷ []) ids (and_right (is_fixed_dim dims id) _ h),
-    )
+    grind (arith, and_left, and_right, ltb-true, not_both, fixed_shape dims (before ++ id ∷ []) ids (and_right (is_fixed_dim dims id) _ h))
 
 shape_fixed : (dims : List Dim) (before ids : List ℕ) → (before ≡ [] → ⊥) → AreDimids dims before ids → list_all (is_fixed_dim dims) ids ≡ true
 shape_fixed dims before [] some h = refl
 shape_fixed dims before (id ∷ ids) some h =
-    let fixed : is_record_dim dims id ≡ false = later_len (is_record_dim dims id) before some h.0.record_first in
-    let known : nat_lt id (length dims) ≡ true = lt-ltb id (length dims) h.0.known in
-    ap (λ b. (b && not (is_record_dim dims id)) && list_all (is_fixed_dim dims) ids) known
-    ∙ ap (λ b. not b && list_all (is_fixed_dim dims) ids) fixed
-    ∙ shape_fixed dims (before ++ id ∷ []) ids (push_is_some before id) h.1
+    grind (arith, later_len, lt-ltb, push_is_some, shape_fixed dims (before ++ id ∷ []) ids (push_is_some before id) h.1)
 
 pub sound_shape : (dims : List Dim) (ids : List ℕ) → 0 < length ids → get_or ids 0 0 < length dims
     → (IsTrue (list_all (is_fixed_dim dims) (drop 1 ids)) → AreDimids dims [] ids) × (AreDimids dims [] ids → IsTrue (list_all (is_fixed_dim dims) (drop 1 ids)))
-sound_shape dims [] some known = absurd (omega arith)
-sound_shape dims (id ∷ ids) some known = (
-  λ h. (record { known = known; record_first = λ _. refl }, fixed_shape dims (id ∷ []) ids h),
-  λ h. shape_fixed dims (id ∷ []) ids (λ e. cc) h.1,
-)
+sound_shape dims ids h h2 = grind (arith, fixed_shape, shape_fixed)
 
 pub whole_part : (n size : ℕ) → n % size ≡ 0 → n ≡ n / size * size
 whole_part n size none = omega (arith, mod-eq-sub-div-mul n size, div-mul-le_self n size)
 
 part_whole : (n size count : ℕ) → 0 < size → n ≡ count * size → (n % size ≡ 0) × (n / size ≡ count)
-part_whole n size count some whole =
-    let part : n / size ≡ count = ap (λ m. m / size) (let e : n ≡ count * size + 0 = omega arith in e) ∙ div-mul-add count size 0 some in
-    let same : n / size * size ≡ count * size = ap (λ m. m * size) part in
-    (omega (arith, mod-eq-sub-div-mul n size, same), part)
+part_whole n size count some whole = grind (arith, div-mul-add, mod-eq-sub-div-mul)
 
 pub whole_values-iff : (v : Version) (att : Att) → length att.vals % size_of att.ty ≡ 0
     → (IsTrue (nat_lt (length att.vals / size_of att.ty) (count_limit v)) → HasWholeValues v att)
@@ -155,41 +110,24 @@ whole_values-iff v att none = (
   λ w. lt-ltb _ _ (subst (λ n. n < count_limit v) (sym (part_whole (length att.vals) (size_of att.ty) w.count (some_size att.ty) w.whole).1) w.counted),
 )
 
-pub values_whole : (v : Version) (att : Att) → HasWholeValues v att → length att.vals % size_of att.ty ≡ 0
-values_whole v att w = (part_whole (length att.vals) (size_of att.ty) w.count (some_size att.ty) w.whole).0
-
 -- at most one dimension of length 0
 pub one_record_dim : (dims : List Dim) → length (filter (λ (dim : Dim). dim.len == 0) dims) ≡ count_by (λ (dim : Dim). dim.len == 0) dims
 one_record_dim dims = length-filter (λ (dim : Dim). dim.len == 0) dims
 
 -- the number of whole records after the first begin
 between : (size len begin : ℕ) (vars : List Var) → first_begin vars ≡ Some begin → records_between size vars len ≡ (len - begin) / size
-between size len begin [] e = absurd cc
-between size len begin (var ∷ vars) e = let same : least_begin var vars ≡ begin = cc in ap (λ (b : ℕ). (len - b) / size) same
+between size len begin vars h = grind arith
 
 -- where a sound header doesn't tell its number of records, it is that of the whole records
 pub streamed : (h : Header) (len begin quotient : ℕ) (size : Option ℕ) → h.numrecs ≡ Streaming → first_begin (record_vars h.dims h.vars) ≡ Some begin
     → size ≡ checked_record_size h → IfSome size (λ s. quotient ≡ (len - begin) / s) → IsSound h → quotient ≡ record_count h len
-streamed h len begin quotient size streaming found is_size divided sound =
-    subst (λ (s : Option ℕ). IfSome s (λ n. quotient ≡ (len - begin) / n)) (is_size ∙ checked-sound h sound) divided
-    ∙ sym (between (record_size h) len begin (record_vars h.dims h.vars) found)
-    ∙ subst (λ (n : NumRecs). records_between (record_size h) (record_vars h.dims h.vars) len ≡ record_count (record h { numrecs = n }) len) (sym streaming) refl
+streamed h len begin quotient size streaming found is_size divided sound = grind (arith, checked-sound, between)
 
 some_times : (c n : ℕ) → 0 < c → nat_lt 0 (c * n) ≡ nat_lt 0 n
-some_times c zero some = ap (nat_lt 0) (let e : c * 0 ≡ 0 = omega arith in e)
-some_times c (suc n) some = lt-ltb 0 (c * suc n) (some_product c (suc n) some (omega arith)) ∙ sym (lt-ltb 0 (suc n) (omega arith))
+some_times c n h = grind (arith, lt-ltb, some_product)
 
 count_tested : (c n : ℕ) (b : Bool) → 0 < c → nat_lt 0 (c * (if b then n else 1)) ≡ (nat_lt 0 n || not b)
-count_tested c n true some = some_times c n some ∙ sym (or_false (nat_lt 0 n))
-  where
-    or_false : (a : Bool) → (a || false) ≡ a
-    or_false true = refl
-    or_false false = refl
-count_tested c n false some = some_times c 1 some ∙ sym (or_true (nat_lt 0 n))
-  where
-    or_true : (a : Bool) → (a || true) ≡ true
-    or_true true = refl
-    or_true false = refl
+count_tested c n b h = grind (arith, some_times)
 
 -- a variable of a sound shape has values unless it has records and there are none
 pub has_values-unless_empty : (dims : List Dim) (var : Var) (n : ℕ) → AreDimids dims [] var.dimids → has_values dims n var ≡ (nat_lt 0 n || not (is_record_var dims var))

@@ -1,5 +1,5 @@
 -- A header that bytes spell is sound, and its names are valid.
-use Rattle.std.proofs.Common.{◌≡◌, ℕ, ◌+◌, ◌<◌, ◌≤◌, Bool, true, false, cond, List, [], ◌∷◌, ◌++◌, length, refl, sym, subst, append_assoc, arith, ◌==◌, ◌||◌, filter, All}
+use Rattle.std.proofs.Common.{◌≡◌, ℕ, ◌+◌, ◌<◌, ◌≤◌, Bool, true, false, cond, List, [], ◌∷◌, ◌++◌, length, refl, sym, subst, append_assoc, arith, ◌==◌, ◌||◌, filter, All, rules}
 use Rattle.nc_base.proofs.Prelude.{eqb-true, append-nil, length-append, All-from_recursion, filter-append, AllByRecursion, Att, Dim, Var, Header, NumRecs, Known, Streaming, Version, padding_len, count_limit, IsName, is_narrow, slab_size, padded_total, record_size_of, record_vars, record_limit, has_record_dim, AreDimids, IsSoundAtt, IsSoundVar, IsSoundDim, IsSoundNumRecs, IsSound, HasValidNames, ElementSpelling, SpellsEach, SpellsList, absent, present, SpellsDim, SpellsAtt, SpellsAtts, SpellsDimid, SpellsVar, SpellsNumRecs, SpellsHeader}
 
 -- ---- lists
@@ -31,17 +31,12 @@ each-by_recursion Element P gives (x ∷ xs) before bytes rest each =
 list-all : {A : Type 0} (v : Version) (tag : ℕ) (Element : ElementSpelling A) (P : A → Type 0) → Gives Element P
     → (bytes : List ℕ) (xs : List A) (rest : List ℕ) → SpellsList v tag Element bytes xs rest → All P xs
 list-all v tag Element P gives bytes xs rest s =
-    let l = listed v tag Element bytes xs rest s in
-    All-from_recursion P xs (each-by_recursion Element P gives xs [] l.prefix rest l.each)
+    grind (arith, listed v tag Element bytes xs rest s, All-from_recursion P xs, each-by_recursion Element P gives xs [])
 
 -- ---- attributes
 
 att-sound : (v : Version) → Gives (SpellsAtt v) (IsSoundAtt v)
-att-sound v before bytes att rest s = record {
-  name_len = s.prefix.named.count.non_negative;
-  ty = s.prefix.typed.has;
-  values = record { count = s.count; counted = s.prefix.counted.non_negative; whole = s.whole };
-}
+att-sound v before bytes att rest s = grind arith
 
 att-name : (v : Version) → Gives (SpellsAtt v) (λ (att : Att). IsName att.name)
 att-name v before bytes att rest s = s.prefix.named.valid
@@ -60,8 +55,7 @@ record_dims dims = filter (λ (dim : Dim). dim.len == 0) dims
 
 none-filtered : (b : Bool) (dim : Dim) (dims : List Dim) → (b || has_record_dim dims) ≡ false → (has_record_dim dims ≡ false → length (record_dims dims) ≡ 0)
     → length (cond b (dim ∷ record_dims dims) (record_dims dims)) ≡ 0
-none-filtered true dim dims e below = absurd cc
-none-filtered false dim dims e below = below e
+none-filtered b dim dims h h2 = grind arith
 
 no-record_dims : (dims : List Dim) → has_record_dim dims ≡ false → length (record_dims dims) ≡ 0
 no-record_dims [] e = refl
@@ -69,17 +63,12 @@ no-record_dims (dim ∷ dims) e = none-filtered (dim.len == 0) dim dims e (no-re
 
 one-more : (b : Bool) (before : List Dim) (dim : Dim) → (b ≡ true → length (record_dims before) ≡ 0) → length (record_dims before) ≤ 1
     → length (record_dims before ++ cond b (dim ∷ []) []) ≤ 1
-one-more true before dim first below = omega (arith, first refl, length-append (record_dims before) (dim ∷ []))
-one-more false before dim first below = omega (arith, below, length-append {A = Dim} (record_dims before) [])
+one-more b before dim h h2 = grind (arith, length-append)
 
 dims-one : (v : Version) (dims before : List Dim) (bytes rest : List ℕ) → SpellsEach (SpellsDim v) before bytes dims rest
     → length (record_dims before) ≤ 1 → length (record_dims (before ++ dims)) ≤ 1
 dims-one v [] before bytes rest each one = subst (λ (ds : List Dim). length (record_dims ds) ≤ 1) (sym (append-nil before)) one
-dims-one v (dim ∷ dims) before bytes rest each one =
-    let d = each.1 in
-    let more = one-more (dim.len == 0) before dim (λ e. no-record_dims before (d.one_record_dim (eqb-true dim.len 0 e))) one in
-    let all = subst (λ (ds : List Dim). length ds ≤ 1) (sym (filter-append (λ (x : Dim). x.len == 0) before (dim ∷ []))) more in
-    subst (λ (ds : List Dim). length (record_dims ds) ≤ 1) (append_assoc before (dim ∷ []) dims) (dims-one v dims (before ++ dim ∷ []) each.0 rest each.2 all)
+dims-one v (dim ∷ dims) before bytes rest each one = grind (arith, one-more, no-record_dims, eqb-true, filter-append, append_assoc, dims-one v dims)
 
 -- ---- variables
 
@@ -117,18 +106,14 @@ var-names v dims before bytes var rest s =
 vars-small : (v : Version) (dims : List Dim) (vars before : List Var) (bytes rest : List ℕ) → SpellsEach (SpellsVar v dims) before bytes vars rest
     → padded_total dims (record_vars dims before) ≤ record_limit → padded_total dims (record_vars dims (before ++ vars)) ≤ record_limit
 vars-small v dims [] before bytes rest each small = subst (λ (vs : List Var). padded_total dims (record_vars dims vs) ≤ record_limit) (sym (append-nil before)) small
-vars-small v dims (var ∷ vars) before bytes rest each small =
-    subst (λ (vs : List Var). padded_total dims (record_vars dims vs) ≤ record_limit) (append_assoc before (var ∷ []) vars)
-    (vars-small v dims vars (before ++ var ∷ []) each.0 rest each.2 each.1.typed.small.record_bytes)
+vars-small v dims (var ∷ vars) before bytes rest each small = grind (arith, append_assoc, vars-small v dims vars)
 
 one-record_size_of : (narrow : Bool) (slab padding : ℕ) → cond narrow slab (slab + padding) ≤ slab + padding
-one-record_size_of true slab padding = omega arith
-one-record_size_of false slab padding = omega arith
+one-record_size_of narrow slab padding = grind arith
 
 record_size_of-le-padded : (dims : List Dim) (vars : List Var) → record_size_of dims vars ≤ padded_total dims vars
-record_size_of-le-padded dims [] = omega arith
 record_size_of-le-padded dims (var ∷ []) = omega (arith, one-record_size_of (is_narrow var) (slab_size dims var) (padding_len (slab_size dims var)))
-record_size_of-le-padded dims (var ∷ next ∷ vars) = omega arith
+record_size_of-le-padded dims _ = omega arith
 
 -- ---- the whole
 
@@ -158,12 +143,4 @@ spelled-sound bytes h rest s =
     }
 
 pub spelled-names : (bytes : List ℕ) (h : Header) (rest : List ℕ) → SpellsHeader bytes h rest → HasValidNames h
-spelled-names bytes h rest s =
-    let v = h.version in
-    let gatts = s.prefix in
-    let dims = gatts.prefix in
-    record {
-      dims = list-all v _ (SpellsDim v) (λ (dim : Dim). IsName dim.name) (dim-name v) dims.after_start h.dims gatts.after_dims dims.dim_list;
-      gatts = atts-names v gatts.after_dims h.gatts s.after_gatts gatts.gatt_list;
-      vars = list-all v _ (SpellsVar v h.dims) HasNames (var-names v h.dims) s.after_gatts h.vars rest s.var_list;
-    }
+spelled-names bytes h rest s = search (rules, list-all, dim-name, atts-names, var-names)

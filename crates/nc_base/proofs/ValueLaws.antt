@@ -1,7 +1,6 @@
 -- The text of a variable's values, cut in pieces.
-use Rattle.std.proofs.Common.{◌≡◌, ℕ, zero, suc, ℤ, pos, negsuc, ◌+◌, ◌-◌, ◌*◌, ◌/◌, ◌%◌, ◌<◌, ◌≤◌, Bool, true, false, cond, eqb, not, nat_lt, List, [], ◌∷◌, ◌++◌, length, drop, reverse, sym, ◌∙◌, ap, refl, arith, append_assoc, length-append, length-drop, append-nil, ⊎_elim, codes, ◌==◌, ◌&&◌}
-use Rattle.nc_base.proofs.Prelude.{decimal, signed_decimal, digit_glyph, digits_onto, digits, suffix_len, prefix_len, mod-add-mod, mod_self, mod-lt, mod-zero, cases_lt, eq-eqb, eqb-true, eqb-false, cond-true, cond-false, reverse-append, length-reverse, drop-append-le, drop_all, prefix_len-append, prefix_len-le-length, mod-mul-add, Look, column, number_text, is_nul, row_so_far, held, piece, pieces, variable_opening, variable_prefix, later_pieces, flat_map-append, escaped_text, escaped_in_string, look_of, NcType, Header, Var, numbers_from, size_of}
-use Rattle.std.specs.Ordering.{int_eq}
+use Rattle.std.proofs.Common.{◌≡◌, ℕ, zero, suc, ℤ, pos, ◌+◌, ◌*◌, ◌/◌, ◌%◌, ◌<◌, ◌≤◌, Bool, true, false, cond, eqb, not, List, [], ◌∷◌, ◌++◌, length, drop, reverse, sym, ◌∙◌, ap, refl, arith, append_assoc, length-append, append-nil, ⊎_elim, codes, ◌==◌}
+use Rattle.nc_base.proofs.Prelude.{decimal, signed_decimal, digit_glyph, digits_onto, digits, suffix_len, prefix_len, mod-add-mod, mod_self, mod-lt, mod-zero, cases_lt, eq-eqb, eqb-true, eqb-false, cond-true, cond-false, reverse-append, length-reverse, drop-append-le, drop_all, prefix_len-append, mod-mul-add, Look, column, number_text, is_nul, held, piece, pieces, variable_opening, variable_prefix, later_pieces, flat_map-append, escaped_text, escaped_in_string, look_of, NcType, Header, Var, numbers_from, size_of}
 
 -- ---- cutting the values
 
@@ -15,15 +14,10 @@ pieces-append look before values (x ∷ xs) ys =
 
 pub prefix-append : (look : Look) (xs ys : List ℤ) → variable_prefix look (xs ++ ys) ≡ variable_prefix look xs ++ later_pieces look xs ys
 unfolding variable_prefix
-prefix-append look xs ys =
-    let start = variable_opening look in
-    ap (λ (r : List ℕ). start ++ r) (pieces-append look start [] xs ys)
-    ∙ sym (append_assoc start (pieces look start [] xs) (pieces look (start ++ pieces look start [] xs) xs ys))
+prefix-append look xs ys = grind (arith, variable_opening, pieces-append, append_assoc, pieces)
 
 pub later-append : (look : Look) (xs ys zs : List ℤ) → later_pieces look xs (ys ++ zs) ≡ later_pieces look xs ys ++ later_pieces look (xs ++ ys) zs
-later-append look xs ys zs =
-    pieces-append look (variable_prefix look xs) xs ys zs
-    ∙ ap (λ (t : List ℕ). later_pieces look xs ys ++ pieces look t (xs ++ ys) zs) (sym (prefix-append look xs ys))
+later-append look xs ys zs = grind (arith, pieces-append, pieces, prefix-append)
 
 -- one value alone
 pub later_one : (look : Look) (xs : List ℤ) (x : ℤ) → later_pieces look xs (x ∷ []) ≡ piece look (variable_prefix look xs) xs x
@@ -53,49 +47,29 @@ column-flat s t flat = column-append s t ∙ cond-true _ _ _ (eq-eqb _ _ flat) �
 
 -- after a text with a line feed
 pub column-broken : (s t : List ℕ) → column t < length t → column (s ++ t) ≡ column t
-column-broken s t broken = column-append s t ∙ cond-false _ _ _ (not_equal (column t) (length t) broken)
-  where
-    not_equal : (m n : ℕ) → m < n → eqb m n ≡ false
-    not_equal m n h = grind arith
+column-broken s t broken = grind (arith, column-append, cond-false, column)
 
 -- ---- numbers have no line feeds
 
 flat_cons : (b : ℕ) (t : List ℕ) → (b == 10) ≡ false → column t ≡ length t → column (b ∷ t) ≡ length (b ∷ t)
-flat_cons b t other flat =
-    let one : column (b ∷ []) ≡ 1 = ap (λ w. cond (not w) 1 0) other in
-    column-flat (b ∷ []) t flat ∙ (omega (arith, one))
+flat_cons b t other flat = grind (arith, column-flat (b ∷ []) t flat, column)
 
 glyph_other : (d : ℕ) → (digit_glyph false d == 10) ≡ false
-glyph_other d = at (nat_lt d 10)
-  where
-    at : (small : Bool) → (cond small (48 + d) (87 + d) == 10) ≡ false
-    at true = grind arith
-    at false = grind arith
+glyph_other d = grind arith
 
 onto_flat : (k n : ℕ) (acc : List ℕ) → column acc ≡ length acc → column (digits_onto k 10 false n acc) ≡ length (digits_onto k 10 false n acc)
 onto_flat zero n acc flat = flat
-onto_flat (suc k) n acc flat =
-    let next = flat_cons (digit_glyph false (n % 10)) acc (glyph_other (n % 10)) flat in
-    either _ _ (n / 10 == 0) next (onto_flat k (n / 10) (digit_glyph false (n % 10) ∷ acc) next)
-  where
-    either : (s t : List ℕ) (b : Bool) → column s ≡ length s → column t ≡ length t → column (cond b s t) ≡ length (cond b s t)
-    either s t true e f = e
-    either s t false e f = f
+onto_flat (suc k) n acc flat = grind (arith, flat_cons, glyph_other, column, onto_flat k (n / 10) (digit_glyph false (n % 10) ∷ acc))
 
 decimal_flat : (n : ℕ) → column (decimal n) ≡ length (decimal n)
 unfolding digits
 decimal_flat n = onto_flat 64 n [] refl
 
 signed_flat : (z : ℤ) → column (signed_decimal z) ≡ length (signed_decimal z)
-signed_flat (pos n) = decimal_flat n
-signed_flat (negsuc n) = flat_cons 45 (decimal (suc n)) refl (decimal_flat (suc n))
+signed_flat z = grind (arith, pos, decimal_flat, flat_cons, decimal)
 
 pub number_flat : (look : Look) (value : ℤ) → column (number_text look value) ≡ length (number_text look value)
-number_flat look value = either (look.prints_fill && int_eq value look.fill)
-  where
-    either : (b : Bool) → column (cond b (codes "_") (signed_decimal value)) ≡ length (cond b (codes "_") (signed_decimal value))
-    either true = refl
-    either false = signed_flat value
+number_flat look value = grind (arith, column, codes, signed_flat)
 
 -- ---- rows
 
@@ -122,53 +96,20 @@ suffix_push p xs x = ap (prefix_len p) (reverse-append xs (x ∷ []))
 
 -- after a value that is no NUL none is held
 pub held_other : (look : Look) (xs : List ℤ) (x : ℤ) → is_nul x ≡ false → held look (xs ++ x ∷ []) ≡ 0
-held_other look xs x other = by look.trimmed (length (xs ++ x ∷ []) - length (xs ++ x ∷ []) % look.row)
-  where
-    cut : (k : ℕ) → suffix_len is_nul (drop k (xs ++ x ∷ [])) ≡ 0
-    cut k = ⊎_elim
-        (λ (p : length xs < k). ap (suffix_len is_nul) (drop_all k (xs ++ x ∷ []) (omega (arith, length-append xs (x ∷ [])))))
-        (λ (p : k ≤ length xs). ap (suffix_len is_nul) (drop-append-le k xs (x ∷ []) p) ∙ suffix_push is_nul (drop k xs) x ∙ cond-false _ _ _ other)
-        (cases_lt (length xs) k)
-
-    by : (b : Bool) (k : ℕ) → cond b (suffix_len is_nul (drop k (xs ++ x ∷ []))) 0 ≡ 0
-    by true k = cut k
-    by false k = refl
+held_other look xs x other = grind (arith, drop_all, length-append, drop-append-le, suffix_push, cond-false)
 
 -- after one more NUL in the row one more is held
 pub held_nul : (look : Look) (xs : List ℤ) (x : ℤ) → look.trimmed ≡ true → is_nul x ≡ true → (length xs + 1) % look.row ≡ length xs % look.row + 1
     → held look (xs ++ x ∷ []) ≡ held look xs + 1
-held_nul look xs x trimmed nul place =
-    let n = length-append xs (x ∷ []) in
-    let e : length (xs ++ x ∷ []) - length (xs ++ x ∷ []) % look.row ≡ length xs - length xs % look.row = rw (n) (rw (place) (omega arith)) in
-    let row : row_so_far look (xs ++ x ∷ []) ≡ row_so_far look xs ++ x ∷ []
-    = ap (λ k. drop k (xs ++ x ∷ [])) e ∙ drop-append-le (length xs - length xs % look.row) xs (x ∷ []) (omega arith) in
-    let before = cond-true look.trimmed (suffix_len is_nul (row_so_far look xs)) 0 trimmed in
-    let following = cond-true look.trimmed (suffix_len is_nul (row_so_far look (xs ++ x ∷ []))) 0 trimmed in
-    let more = ap (suffix_len is_nul) row ∙ suffix_push is_nul (row_so_far look xs) x ∙ cond-true (is_nul x) (1 + suffix_len is_nul (row_so_far look xs)) 0 nul in
-    omega (arith, before, following, more)
+held_nul look xs x trimmed nul place = grind (arith, length-append, drop-append-le, cond-true, suffix_push)
 
 -- at a row's beginning none is held
 pub held_first : (look : Look) (xs : List ℤ) → length xs % look.row ≡ 0 → held look xs ≡ 0
-held_first look xs first = by look.trimmed
-  where
-    none : row_so_far look xs ≡ []
-    none = drop_all _ xs (omega arith)
-
-    by : (b : Bool) → cond b (suffix_len is_nul (row_so_far look xs)) 0 ≡ 0
-    by true = ap (suffix_len is_nul) none
-    by false = refl
+held_first look xs first = grind (arith, drop_all)
 
 -- in a variable that isn't trimmed none is held
 pub held_untrimmed : (look : Look) (xs : List ℤ) → look.trimmed ≡ false → held look xs ≡ 0
 held_untrimmed look xs untrimmed = cond-false look.trimmed _ 0 untrimmed
-
--- no more are held than values stand before
-pub held-le : (look : Look) (xs : List ℤ) → held look xs ≤ length xs
-held-le look xs = by look.trimmed
-  where
-    by : (b : Bool) → cond b (suffix_len is_nul (row_so_far look xs)) 0 ≤ length xs
-    by true = omega (arith, prefix_len-le-length is_nul (reverse (row_so_far look xs)), length-reverse (row_so_far look xs), length-drop (length xs - length xs % look.row) xs)
-    by false = omega arith
 
 pub escaped-append : (a b : List ℕ) → escaped_text (a ++ b) ≡ escaped_text a ++ escaped_text b
 unfolding escaped_text

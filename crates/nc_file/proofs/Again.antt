@@ -1,6 +1,6 @@
 -- The other direction: bytes, numbers, names and types that are spelled are read, and reading stops with the first wrong field.
-use Rattle.std.proofs.Common.{◌≡◌, ◌≢◌, ℕ, zero, suc, ◌<◌, ◌≤◌, Bool, true, false, cond, leb, List, [], ◌∷◌, ◌++◌, length, inl, inr, Option, Some, None, Ok, Err, refl, sym, ap, ◌∙◌, append_assoc, arith, ◌==◌, ◌||◌, ◌⊎◌}
-use Rattle.nc_file.proofs.Prelude.{append-nil, Width, w32, byte_len, to_be_bytes, FormatFault, HeaderTruncated, NcType, Byte, Char, Short, Int, Ubyte, Ushort, Uint, Int64, Uint64, Version, padding_len, code_of, type_of_code, count_width, has_type, SpellsNumber, SpellsCount, SpellsName, SpellsType, IsCutNumber, StopsInCount, cut_count, negative_count, StopsInName, in_name_len, cut_name, bad_name, cut_name_padding, StopsInType, cut_type, floating, bad_type, HeadFault, Format, Outcome, Part, next, done, stop, byte_or, number_at, count_at, bytes_at, skip_at, name_at, type_at, known_type, type_in, type_or_wrong}
+use Rattle.std.proofs.Common.{◌≡◌, ◌≢◌, ℕ, zero, suc, ◌<◌, ◌≤◌, Bool, true, false, cond, leb, List, [], ◌∷◌, ◌++◌, length, Option, Some, None, Ok, Err, refl, sym, ap, ◌∙◌, append_assoc, arith, ◌==◌, ◌||◌, ◌⊎◌, rules}
+use Rattle.nc_file.proofs.Prelude.{append-nil, Width, w32, byte_len, to_be_bytes, FormatFault, HeaderTruncated, NcType, Version, code_of, type_of_code, count_width, has_type, SpellsNumber, SpellsCount, SpellsName, SpellsType, IsCutNumber, StopsInCount, cut_count, negative_count, StopsInName, in_name_len, cut_name, bad_name, cut_name_padding, StopsInType, cut_type, floating, bad_type, HeadFault, Format, Outcome, Part, next, done, stop, byte_or, number_at, count_at, bytes_at, skip_at, name_at, type_at, known_type, type_in, type_or_wrong}
 use Rattle.nc_file.specs.code.Reading.{◌>>=◌}
 use Rattle.nc_file.proofs.FieldLaws.{IsWide, wide-32, count-wide, code-known, type_of_code-code_of}
 
@@ -36,8 +36,7 @@ other-test a b ne = grind (arith, ne)
 
 -- a test that cannot hold
 pub not-so : (b : Bool) → ¬ (b ≡ true) → b ≡ false
-not-so true h = absurd (h refl)
-not-so false h = refl
+not-so b h = grind arith
 
 -- ---- bytes
 
@@ -63,9 +62,8 @@ bytes-stops-again (suc n) prefix (b ∷ bytes) cut = bytes-stops-again n (prefix
 pub skip-again : (n : ℕ) (content rest : List ℕ) → length content ≡ n → (skip_at n).run (content ++ rest) ≡ Ok (tt, rest)
 unfolding skip_at ◌>>=◌ byte_or done
 skip-again zero [] rest count = refl
-skip-again zero (b ∷ content) rest count = absurd (omega (arith, count))
-skip-again (suc n) [] rest count = absurd (omega (arith, count))
 skip-again (suc n) (b ∷ content) rest count = skip-again n content rest (omega (arith, count))
+skip-again _ _ rest count = absurd (omega (arith, count))
 
 -- where the file ends in them, skipping stops
 pub skip-stops-again : (n : ℕ) (bytes : List ℕ) → length bytes < n → (skip_at n).run bytes ≡ Err (Format HeaderTruncated, [])
@@ -105,10 +103,7 @@ count-stops-again v bytes fault rest (negative_count n r number high) =
 -- a spelled name is read
 pub name-again : (v : Version) (bytes name rest : List ℕ) → SpellsName v bytes name rest → (name_at v).run bytes ≡ Ok (name, rest)
 unfolding name_at ◌>>=◌ done
-name-again v bytes name rest s =
-    then-ok _ (count-again v bytes (length name) s.after_count s.count)
-    (then-ok _ (bytes-again (length name) s.after_count name (s.padded.padding ++ rest) refl s.padded.spelled) (if-so _ _ s.valid
-    (then-ok _ (skip-again (padding_len (length name)) s.padded.padding rest s.padded.padded) refl)))
+name-again v bytes name rest s = search (rules, then-ok, count-again, bytes-again, if-so, skip-again)
 
 -- reading a name stops with its first wrong field
 pub name-stops-again : (v : Version) (bytes : List ℕ) (fault : FormatFault) (rest : List ℕ) → StopsInName v bytes fault rest → (name_at v).run bytes ≡ Err (Format fault, rest)
@@ -116,31 +111,19 @@ unfolding name_at ◌>>=◌ stop
 name-stops-again v bytes fault rest (in_name_len f r s) = then-err _ (count-stops-again v bytes f r s)
 name-stops-again v bytes fault rest (cut_name n body count cut) =
     then-ok _ (count-again v bytes n body count) (then-err _ (bytes-stops-again n [] body cut))
-name-stops-again v bytes fault rest (bad_name name r count invalid) =
-    then-ok _ (count-again v bytes (length name) (name ++ r) count)
-    (then-ok _ (bytes-again (length name) (name ++ r) name r refl refl) (if-not _ _ invalid refl))
+name-stops-again v bytes fault rest (bad_name name r count invalid) = search (rules, then-ok, count-again, bytes-again, if-not)
 name-stops-again v bytes fault rest (cut_name_padding name r count valid cut) =
-    then-ok _ (count-again v bytes (length name) (name ++ r) count)
-    (then-ok _ (bytes-again (length name) (name ++ r) name r refl refl) (if-so _ _ valid (then-err _ (skip-stops-again (padding_len (length name)) r cut))))
+    search (rules, then-ok, count-again, bytes-again, if-so, then-err, skip-stops-again)
 
 -- ---- types
 
 -- no type has a floating code
 is-whole : (ty : NcType) → ((code_of ty == 5) || (code_of ty == 6)) ≡ false
-is-whole Byte = refl
-is-whole Char = refl
-is-whole Short = refl
-is-whole Int = refl
-is-whole Ubyte = refl
-is-whole Ushort = refl
-is-whole Uint = refl
-is-whole Int64 = refl
-is-whole Uint64 = refl
+is-whole ty = grind arith
 
 -- the floating codes pass the test
 is-floating : (code : ℕ) → (code ≡ 5) ⊎ (code ≡ 6) → ((code == 5) || (code == 6)) ≡ true
-is-floating code (inl five) = rw five refl
-is-floating code (inr six) = rw six refl
+is-floating code h = grind arith
 
 -- other codes do not
 is-other : (code : ℕ) → code ≢ 5 → code ≢ 6 → ((code == 5) || (code == 6)) ≡ false
@@ -154,12 +137,7 @@ type_in-again v ty has = ap (known_type v) (type_of_code-code_of ty) ∙ ap (λ 
 -- a code that no type of the version has
 no-type : (v : Version) (code : ℕ) (known : Option NcType) → known ≡ type_of_code code
     → ((ty : NcType) → has_type v ty ≡ true → code_of ty ≢ code) → known_type v known ≡ None
-no-type v code None is none = refl
-no-type v code (Some ty) is none = at (has_type v ty) refl
-  where
-    at : (b : Bool) → has_type v ty ≡ b → cond b (Some ty) None ≡ None
-    at true has = absurd (none ty has (sym (code-known code ty (sym is))))
-    at false lacks = refl
+no-type v code known h h2 = grind (arith, code-known)
 
 -- so there is no type of the version with this code
 type_in-none : (v : Version) (code : ℕ) → ((ty : NcType) → has_type v ty ≡ true → code_of ty ≢ code) → type_in v code ≡ None

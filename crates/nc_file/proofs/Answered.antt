@@ -1,6 +1,6 @@
 -- What a reader of the code answers is what the grammar says.
 use Rattle.std.proofs.Common.{◌≡◌, ℕ, ◌+◌, ◌-◌, ◌≤◌, Bool, true, List, length, drop, Result, Ok, Err, sym, ap, ◌∙◌, subst, arith, length-drop}
-use Rattle.nc_file.proofs.Prelude.{OnTrue, OnTrue_at, OnTrue_from, FormatFault, Header, AreBytes, StopsWith, SpellsHeader, HeadFault, OutOfMemory, ReadFailed, Format, Window, Ghosts, Outcome, Reads, left_over, header_at, Kept, Read, left, source_of}
+use Rattle.nc_file.proofs.Prelude.{OnTrue, OnTrue_at, OnTrue_from, FormatFault, Header, AreBytes, StopsWith, SpellsHeader, HeadFault, Format, Window, Ghosts, Outcome, Reads, left_over, header_at, Kept, Read, left, source_of}
 use Rattle.nc_base.proofs.SoundSpelling.{spelled-sound, spelled-names}
 use Rattle.nc_file.specs.code.Answers.{EndsAt, header_end, fault_end, ReadUpTo, IsInterrupted, Answers, HasAnswered}
 use Rattle.nc_file.proofs.Means.{Means, spells, stops}
@@ -70,8 +70,7 @@ module _ {S : Type 0} {g : Ghosts S} (start now : Window S g) (base : start.base
     stops = record { rest = left now; stops = fault-of (read-from-start (Err (Format fault, left now)) reads); ends = ends-at };
     handed = handed-up-to (length bytes - length (left now)) (omega (arith, ends-at));
   }
-  answer (Err OutOfMemory) reads = broken-off reads
-  answer (Err ReadFailed) reads = broken-off reads
+  answer (Err _) reads = broken-off reads
 
 pub answered : {S : Type 0} {g : Ghosts S} (old new : Window S g) (result : Result Header HeadFault) → old.base ≡ 0 → old.filled ≡ 0 → old.pos ≡ 0
     → OnTrue g.is_transparent (AreBytes (source_of old).bytes) → Read old new header_at result

@@ -1,6 +1,6 @@
 -- Begins that are summed up as they go are those of the padded slabs before.
-use Rattle.std.proofs.Common.{◌≡◌, ℕ, ◌+◌, ◌-◌, ◌^◌, ◌≤◌, inl, inr, min, Ok, Err, Bool, true, false, ◌&&◌, List, [], ◌∷◌, ◌++◌, length, refl, sym, ◌∙◌, ap, subst, arith, if◌then◌else◌}
-use Rattle.nc_file.proofs.Prelude.{list_all, cases_lt, le-ltb, Dim, Var, Header, Version, Cdf1, Cdf2, Cdf5, is_record_var, padded_size, padded_total, record_vars, offset_limit, header_spelling, fixed_vars, begin_after, vars_after, with_begins, fits, after, is_below, offset_of, placed}
+use Rattle.std.proofs.Common.{◌≡◌, ℕ, ◌+◌, ◌-◌, ◌^◌, ◌≤◌, min, Ok, Err, Bool, true, false, ◌&&◌, List, [], ◌∷◌, ◌++◌, length, refl, sym, ◌∙◌, ap, arith, if◌then◌else◌, rules}
+use Rattle.nc_file.proofs.Prelude.{list_all, le-ltb, Dim, Var, Header, Version, padded_total, record_vars, offset_limit, header_spelling, fixed_vars, begin_after, vars_after, with_begins, fits, after, is_below, offset_of, placed}
 use Rattle.nc_base.proofs.FilePlaces.{fixed_total, fixed-push}
 use Rattle.nc_file.proofs.Totals.{total_of-append}
 use Rattle.nc_file.specs.declared.write.begins.NextBegins.{NextBegins}
@@ -19,21 +19,10 @@ same-offsets a b c d e f =
 
 -- one variable more
 after-push : (h : Header) (head : ℕ) (before : List Var) (var : Var) → after h.dims (offsets_after h head before) var ≡ offsets_after h head (before ++ var ∷ [])
-after-push h head before var = choose (is_record_var h.dims var) _ _ (fixed-push h.dims before var) (total_of-append h.dims before var)
-  where
-    choose : (b : Bool) (f g : ℕ) → f ≡ fixed_total h.dims before + (if b then 0 else padded_size h.dims var)
-        → g ≡ padded_total h.dims (record_vars h.dims before) + (if b then padded_size h.dims var else 0)
-        → let next = offsets_after h head before in let last : NextBegins = record { fixed_begin = head + f; record_begin = head + (fixed_total h.dims h.vars + g) } in
-        (if b then record next { record_begin = next.record_begin + padded_size h.dims var } else record next { fixed_begin = next.fixed_begin + padded_size h.dims var }) ≡ last
-    choose true f g e k = same-offsets _ _ _ _ (omega (arith, e)) (omega (arith, k))
-    choose false f g e k = same-offsets _ _ _ _ (omega (arith, e)) (omega (arith, k))
+after-push h head before var = search (rules, fixed-push, total_of-append, same-offsets)
 
 offset-begin : (h : Header) (before : List Var) (var : Var) → offset_of h.dims (offsets_after h (length (header_spelling h)) before) var ≡ begin_after h before var
-offset-begin h before var = choose (is_record_var h.dims var) (length (header_spelling h)) _ _
-  where
-    choose : (b : Bool) (head m n : ℕ) → (if b then head + m else head + n) ≡ head + (if b then m else n)
-    choose true head m n = refl
-    choose false head m n = refl
+offset-begin h before var = search rules
 
 placed-after : (h : Header) (before vars : List Var) → placed h.dims (offsets_after h (length (header_spelling h)) before) vars ≡ vars_after h before vars
 placed-after h before [] = refl
@@ -59,17 +48,13 @@ placed-whole h = ap (λ (next : NextBegins). placed h.dims next h.vars) (first-a
 -- ---- headers longer than the greatest u64
 
 limit-le : (v : Version) → offset_limit v ≤ 2 ^ 63
-limit-le Cdf1 = omega arith
-limit-le Cdf2 = omega arith
-limit-le Cdf5 = omega arith
+limit-le v = grind arith
 
 not-first : (a b : Bool) → a ≡ false → (a && b) ≡ false
-not-first true b e = cc
-not-first false b e = refl
+not-first a b h = grind arith
 
 picked-le : (b : Bool) (m n k : ℕ) → k ≤ m → k ≤ n → k ≤ (if b then m else n)
-picked-le true m n k e f = e
-picked-le false m n k e f = f
+picked-le b m n k h h2 = grind arith
 
 not-both : true ≡ false → ⊥
 not-both e = cc
@@ -77,17 +62,11 @@ not-both e = cc
 -- the first begin doesn't fit then, wherever the sum starts
 late-placed : (h : Header) (start : ℕ) (var : Var) (vars : List Var) → 2 ^ 63 ≤ start
     → list_all (is_below (offset_limit h.version)) (placed h.dims (first_offsets h start) (var ∷ vars)) ≡ false
-late-placed h start var vars late =
-    let begin : ℕ = offset_of h.dims (first_offsets h start) var in
-    let past : 2 ^ 63 ≤ begin = picked-le (is_record_var h.dims var) (start + fixed_total h.dims h.vars) start (2 ^ 63) (omega (arith, late)) late in
-    not-first _ _ (le-ltb begin (offset_limit h.version) (omega (arith, limit-le h.version, past)))
+late-placed h start var vars late = search (rules, picked-le, not-first, le-ltb, limit-le)
 
 late-after : (h : Header) (var : Var) (vars : List Var) → 2 ^ 63 ≤ length (header_spelling h)
     → list_all (is_below (offset_limit h.version)) (vars_after h [] (var ∷ vars)) ≡ false
-late-after h var vars late =
-    let begin : ℕ = begin_after h [] var in
-    let past : 2 ^ 63 ≤ begin = omega (arith, late) in
-    not-first _ _ (le-ltb begin (offset_limit h.version) (omega (arith, limit-le h.version, past)))
+late-after h var vars late = search (rules, not-first, le-ltb, limit-le)
 
 late-answer : (h : Header) (start : ℕ) (vars : List Var) → 2 ^ 63 ≤ start → 2 ^ 63 ≤ length (header_spelling h)
     → list_all (is_below (offset_limit h.version)) (placed h.dims (first_offsets h start) vars) ≡ list_all (is_below (offset_limit h.version)) (vars_after h [] vars)
@@ -112,13 +91,7 @@ placed-exact : (h : Header) → ArePlaced h (placed h.dims (first_offsets h (len
 placed-exact h = record { answer = ap (list_all (is_below (offset_limit h.version))) (placed-whole h); begins = λ e. placed-whole h }
 
 pub placed-capped : (h : Header) (start : ℕ) → start ≡ min (length (header_spelling h)) (2 ^ 64 - 1) → ArePlaced h (placed h.dims (first_offsets h start) h.vars)
-placed-capped h start e =
-    elim (cases_lt (length (header_spelling h)) (2 ^ 64 - 1)) [
-      | inl short ↦
-          let exact : length (header_spelling h) ≡ start = omega (arith, e, short) in
-          subst (λ (n : ℕ). ArePlaced h (placed h.dims (first_offsets h n) h.vars)) exact (placed-exact h)
-      | inr long ↦ placed-late h start (omega (arith, e, long)) (omega (arith, long))
-    ]
+placed-capped h start e = grind (arith, placed h.dims, placed-exact h, placed-late h start)
 
 -- the same of what the function sees: copies of the header's parts
 pub placed-as-seen : (h : Header) (dims dims' : List Dim) (vars vars' : List Var) (start total limit : ℕ)
@@ -150,5 +123,4 @@ is_ok true h k error e same = ap Ok same
 is_ok false h k error e same = absurd (not-both (sym e))
 
 pub is_err : {E : Type 0} (b : Bool) (k : Header) (error : E) → b ≡ false → Err error ≡ (if b then Ok k else Err error)
-is_err true k error e = absurd (not-both e)
-is_err false k error e = refl
+is_err b k error h = grind (arith, not-both)

@@ -1,30 +1,24 @@
 -- Reading many bytes at once is reading them one after the other.
-use Rattle.std.proofs.Common.{◌≡◌, ℕ, zero, suc, ◌+◌, ◌-◌, ◌<◌, ◌≤◌, List, [], ◌∷◌, ◌++◌, length, take, drop, true, Ok, Err, refl, sym, ap, ◌∙◌, append_assoc, arith}
-use Rattle.nc_file.proofs.Prelude.{sub-zero, append-nil, drop-drop, drop-take, take-take, length-take, length-drop, HeaderTruncated, Format, left_over, done, byte_or, bytes_at, skip_at, Part, OnTrue_from, Ghosts, Window, source_of, left, Read, Ready}
+use Rattle.std.proofs.Common.{◌≡◌, ℕ, zero, suc, ◌+◌, ◌-◌, ◌<◌, ◌≤◌, List, [], ◌∷◌, ◌++◌, length, take, drop, true, Ok, Err, refl, sym, ap, ◌∙◌, append_assoc, arith, rules}
+use Rattle.nc_file.proofs.Prelude.{sub-zero, append-nil, drop-drop, drop-take, take-take, length-take, length-drop, HeaderTruncated, Format, left_over, done, byte_or, bytes_at, skip_at, Part, Ghosts, Window, source_of, left, Read, Ready}
 use Rattle.nc_file.specs.code.Reading.{◌>>=◌}
-use Rattle.devices.specs.Sources.{SourceView}
 use Rattle.nc_file.proofs.Parts.{left_over-ok, left_over-err}
 
 -- the first k at once
 pub chunk : (n k : ℕ) (prefix bytes : List ℕ) → k ≤ n → k ≤ length bytes → (bytes_at n prefix).run bytes ≡ (bytes_at (n - k) (prefix ++ take k bytes)).run (drop k bytes)
 unfolding bytes_at ◌>>=◌ byte_or
 chunk n zero prefix bytes le in_range = rw (sub-zero, append-nil) refl
-chunk zero (suc k) prefix bytes le in_range = absurd (omega arith)
-chunk (suc n) (suc k) prefix [] le in_range = absurd (omega arith)
-chunk (suc n) (suc k) prefix (b ∷ bytes) le in_range =
-    let rest : suc n - suc k ≡ n - k = omega arith in
-    rw rest (chunk n k (prefix ++ b ∷ []) bytes (omega arith) (omega arith) ∙ ap (λ (f : List ℕ). (bytes_at (n - k) f).run (drop k bytes)) (append_assoc prefix (b ∷ []) (take k bytes)))
+chunk (suc n) (suc k) prefix (b ∷ bytes) le in_range = grind (arith, append_assoc prefix, chunk n k)
+chunk _ (suc k) prefix _ le in_range = absurd (omega arith)
 
 -- there is none
 pub short : (n : ℕ) (prefix : List ℕ) → 0 < n → (bytes_at n prefix).run [] ≡ Err (Format HeaderTruncated, [])
 unfolding bytes_at ◌>>=◌ byte_or
-short zero prefix lt = absurd (omega arith)
-short (suc n) prefix lt = refl
+short n prefix h = grind arith
 
 pub all_read : (n : ℕ) (prefix bytes : List ℕ) → n ≤ 0 → (bytes_at n prefix).run bytes ≡ Ok (prefix, bytes)
 unfolding bytes_at done
-all_read zero prefix bytes le = refl
-all_read (suc n) prefix bytes le = absurd (omega arith)
+all_read n prefix bytes h = grind arith
 
 -- what is left after k more bytes
 pub drop_more : (i k : ℕ) (xs : List ℕ) → drop (i + k) xs ≡ drop k (drop i xs)
@@ -55,15 +49,7 @@ module _ {S : Type 0} {g : Ghosts S} where
   piece_left w k within known = piece w.buf.now (source_of w).bytes w.base w.filled w.pos k (w.holds known) within
 
   pub is_ready : (w : Window S g) (most k : ℕ) → 0 < k → k ≤ most → w.pos + k ≤ w.filled → Ready w most (take (w.pos + k - w.pos) (drop w.pos w.buf.now))
-  is_ready w most k some le within =
-      let count : w.pos + k - w.pos ≡ k = omega arith in
-      let len : length (take k (drop w.pos w.buf.now)) ≡ k = omega (arith, length-take k (drop w.pos w.buf.now), length-drop w.pos w.buf.now, w.fits) in
-      rw count (record {
-        some = omega (arith, len);
-        within = omega (arith, len);
-        in_window = omega (arith, len);
-        same = rw len (OnTrue_from _ _ (piece_left w k within));
-      })
+  is_ready w most k some le within = search (rules, length-take, length-drop, piece_left)
 
   -- the window now is n bytes further on
   pub record IsAdvanced (w now : Window S g) (n : ℕ) : Type 0 where
@@ -77,25 +63,7 @@ module _ {S : Type 0} {g : Ghosts S} where
   pub reads_held : {A : Type 0} (w now : Window S g) (n : ℕ) (part : Part A) (x : A) → IsAdvanced w now n
       → (g.is_transparent ≡ true → w.pos + n ≤ w.filled → n ≤ length (left w) → part.run (left w) ≡ Ok (x, drop n (left w)))
       → Read w now part (Ok x)
-  reads_held w now n part x is reads =
-      let same : source_of now ≡ source_of w = ap (λ s. g.view s.now) is.source in
-      let within : w.pos + n ≤ w.filled = omega (arith, now.used, is.pos, is.filled) in
-      record {
-        kept = record {
-          same_source = ap (λ s. s.ghost_name) is.source;
-          bytes = ap (λ (s : SourceView). s.bytes) same;
-          same_buffer_len = ap (λ b. length b.now) is.buf;
-          handed = omega (arith, ap (λ (s : SourceView). s.handed) same, is.base, is.filled);
-        };
-        cause = ap (λ (s : SourceView). s.failures) same;
-        reads = OnTrue_from _ _ (λ known.
-            let bytes : List ℕ = (source_of w).bytes in
-            let some : n ≤ length (left w) = omega (arith, length-drop (w.base + w.pos) bytes, w.within) in
-            let next : w.base + w.pos + n ≡ now.base + now.pos = omega (arith, is.base, is.pos) in
-            let rest : drop n (left w) ≡ left now =
-            drop-drop n (w.base + w.pos) bytes ∙ ap (λ (k : ℕ). drop k bytes) next ∙ ap (λ (s : SourceView). drop (now.base + now.pos) s.bytes) (sym same) in
-            reads known within some ∙ ap (λ (xs : List ℕ). Ok (x, xs)) rest);
-      }
+  reads_held w now n part x is reads = search (rules, length-drop, drop-drop)
 
   -- bytes that the window holds whole
   pub array_held : (w now : Window S g) (n : ℕ) (xs : List ℕ) → IsAdvanced w now n → xs ≡ take n (drop w.pos w.buf.now) → Read w now (bytes_at n []) (Ok xs)

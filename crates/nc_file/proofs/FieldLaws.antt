@@ -1,6 +1,6 @@
 -- Bytes, numbers, names and types are read as the grammar says.
-use Rattle.std.proofs.Common.{◌≡◌, ◌≢◌, ℕ, zero, suc, ◌<◌, Bool, true, false, cond, leb, List, [], ◌∷◌, ◌++◌, length, inl, inr, Option, Some, None, refl, sym, ap, subst, ◌∙◌, append_assoc, arith, take, ◌^◌, ◌==◌, ◌||◌, ◌⊎◌, find, if◌then◌else◌}
-use Rattle.nc_file.proofs.Prelude.{cases_lt, leb-false, leb-true, eqb-true, eqb-false, append-nil, get_or-take, get_or_past, length-take, Width, w32, w64, byte_len, to_be_bytes, from_be_bytes, AllByRecursion, FormatFault, HeaderTruncated, NcType, Byte, Char, Short, Int, Ubyte, Ushort, Uint, Int64, Uint64, Version, Cdf1, Cdf2, Cdf5, AreBytes, padding_len, code_of, type_of_code, all_types, count_width, count_limit, offset_width, has_type, SpellsNumber, SpellsCount, SpellsPadded, SpellsName, SpellsType, StopsInCount, cut_count, negative_count, StopsInName, in_name_len, cut_name, bad_name, cut_name_padding, StopsInType, cut_type, floating, bad_type, done, stop, byte_or, number_at, count_at, bytes_at, skip_at, name_at, type_at, known_type, type_in, type_or_wrong}
+use Rattle.std.proofs.Common.{◌≡◌, ◌≢◌, ℕ, zero, suc, ◌<◌, Bool, true, false, cond, leb, List, [], ◌∷◌, ◌++◌, length, inl, inr, Option, Some, None, refl, sym, ap, subst, ◌∙◌, append_assoc, arith, take, ◌^◌, ◌==◌, ◌||◌, ◌⊎◌, find, if◌then◌else◌, rules}
+use Rattle.nc_file.proofs.Prelude.{leb-false, leb-true, eqb-true, eqb-false, append-nil, get_or-take, get_or_past, length-take, Width, w32, w64, byte_len, to_be_bytes, from_be_bytes, AllByRecursion, FormatFault, HeaderTruncated, NcType, Version, AreBytes, padding_len, code_of, type_of_code, all_types, count_width, count_limit, offset_width, has_type, SpellsNumber, SpellsCount, SpellsPadded, SpellsName, SpellsType, StopsInCount, cut_count, negative_count, StopsInName, in_name_len, cut_name, bad_name, cut_name_padding, StopsInType, cut_type, floating, bad_type, done, stop, byte_or, number_at, count_at, bytes_at, skip_at, name_at, type_at, known_type, type_in, type_or_wrong}
 use Rattle.std.proofs.Math.Seq.{take-append_seam}
 use Rattle.std.proofs.lemmas.Nat.{be_bytes_4, be_bytes_8, from_be_bytes-to_be_bytes_4, from_be_bytes-to_be_bytes_8}
 use Rattle.nc_base.specs.Names.{is_name, IsName}
@@ -25,11 +25,7 @@ pub record TakenAfter (n : ℕ) (prefix bytes all rest : List ℕ) : Type 0 wher
   pub joined : all ≡ prefix ++ content
 
 after-cons : (n b : ℕ) (prefix bytes all rest : List ℕ) → TakenAfter n (prefix ++ b ∷ []) bytes all rest → TakenAfter (suc n) prefix (b ∷ bytes) all rest
-after-cons n b prefix bytes all rest t = record {
-  content = b ∷ t.content;
-  taken = record { count = ap suc t.taken.count; spelled = ap (λ (x : List ℕ). b ∷ x) t.taken.spelled };
-  joined = t.joined ∙ append_assoc prefix (b ∷ []) t.content;
-}
+after-cons n b prefix bytes all rest t = grind (arith, append_assoc prefix)
 
 cut-cons : (n b : ℕ) (bytes : List ℕ) (fault : FormatFault) (rest : List ℕ) → CutBytes n bytes fault rest → CutBytes (suc n) (b ∷ bytes) fault rest
 cut-cons n b bytes fault rest (cut_bytes cut) = cut_bytes (omega (arith, cut))
@@ -69,37 +65,19 @@ pub record IsWide (w : Width) : Type 0 where
   pub back : (bytes : List ℕ) → length bytes ≡ byte_len w → AreBytes bytes → to_be_bytes w (from_be_bytes w bytes) ≡ bytes
 
 pub wide-32 : IsWide w32
-wide-32 = record {
-  len = λ n. refl;
-  again = λ n fits. from_be_bytes-to_be_bytes_4 n fits;
-  below = λ bytes fits. omega (arith, fits 0, fits 1, fits 2, fits 3);
-  back = λ bytes len fits. be_bytes_4 bytes _ len fits refl;
-}
+wide-32 = search (rules, from_be_bytes-to_be_bytes_4, be_bytes_4)
 
 wide-64 : IsWide w64
-wide-64 = record {
-  len = λ n. refl;
-  again = λ n fits. from_be_bytes-to_be_bytes_8 n fits;
-  below = λ bytes fits. omega (arith, fits 0, fits 1, fits 2, fits 3, fits 4, fits 5, fits 6, fits 7);
-  back = λ bytes len fits. be_bytes_8 bytes _ len fits refl;
-}
+wide-64 = search (rules, from_be_bytes-to_be_bytes_8, be_bytes_8)
 
 pub count-wide : (v : Version) → IsWide (count_width v)
-count-wide Cdf1 = wide-32
-count-wide Cdf2 = wide-32
-count-wide Cdf5 = wide-64
+count-wide v = grind (arith, wide-64, wide-32)
 
 pub offset-wide : (v : Version) → IsWide (offset_width v)
-offset-wide Cdf1 = wide-32
-offset-wide Cdf2 = wide-64
-offset-wide Cdf5 = wide-64
+offset-wide v = grind (arith, wide-32, wide-64)
 
 AreBytes-take : (n : ℕ) (bytes : List ℕ) → AreBytes bytes → AreBytes (take n bytes)
-AreBytes-take n bytes h i =
-    elim (cases_lt i n) [
-      | inl lt ↦ rw (get_or-take n bytes i 0 lt) (h i)
-      | inr le ↦ rw (get_or_past (take n bytes) i 0 (omega (arith, length-take n bytes))) (omega arith)
-    ]
+AreBytes-take n bytes h i = search (rules, get_or-take, get_or_past, length-take)
 
 content-bytes : (content rest : List ℕ) → AreBytes (content ++ rest) → AreBytes content
 content-bytes content rest fits = subst AreBytes (take-append_seam content rest) (AreBytes-take (length content) (content ++ rest) fits)
@@ -129,11 +107,7 @@ means-count v bytes fits =
 -- ---- bytes with padding, and names
 
 pub padded-at : (n : ℕ) (bytes content following rest : List ℕ) → Taken n bytes content following → Skipped (padding_len n) following rest → SpellsPadded bytes content rest
-padded-at n bytes content following rest taken skipped = record {
-  padding = skipped.content;
-  padded = skipped.taken.count ∙ ap padding_len (sym taken.count);
-  spelled = taken.spelled ∙ ap (λ (x : List ℕ). content ++ x) skipped.taken.spelled;
-}
+padded-at n bytes content following rest taken skipped = search rules
 
 -- a count after which n bytes stand
 counted-bytes : (v : Version) (n : ℕ) (bytes body content rest : List ℕ) → SpellsCount v bytes n body → Taken n body content rest → SpellsCount v bytes (length content) (content ++ rest)
@@ -149,12 +123,7 @@ cut-name_padding v bytes name following fault rest count valid (cut_bytes cut) =
 
 spelled-name : (v : Version) (n : ℕ) (bytes body name following rest : List ℕ)
     → SpellsCount v bytes n body → Taken n body name following → IsName name → Skipped (padding_len n) following rest → SpellsName v bytes name rest
-spelled-name v n bytes body name following rest count taken valid skipped = record {
-  after_count = body;
-  count = subst (λ (k : ℕ). SpellsCount v bytes k body) (sym taken.count) count;
-  valid = valid;
-  padded = padded-at n body name following rest taken skipped;
-}
+spelled-name v n bytes body name following rest count taken valid skipped = search (rules, padded-at)
 
 pub means-name : (v : Version) (bytes : List ℕ) → AreBytes bytes → Means (SpellsName v bytes) (StopsInName v bytes) ((name_at v).run bytes)
 unfolding name_at ◌>>=◌ done stop
@@ -173,20 +142,14 @@ means-name v bytes fits =
 -- ---- types
 
 first_found : {A : Type 0} (b : Bool) (y x : A) (others : Option A) → cond b (Some y) others ≡ Some x → ((b ≡ true) × (y ≡ x)) ⊎ (others ≡ Some x)
-first_found true y x others e = inl (refl, cc)
-first_found false y x others e = inr e
+first_found b y x others h = grind arith
 
 pub found : {A : Type 0} (test : A → Bool) (xs : List A) (x : A) → find test xs ≡ Some x → test x ≡ true
 found test [] x e = absurd cc
-found {A = A} test (y ∷ ys) x e =
-    elim (first_found (test y) y x (find test ys) e) [
-      | inl here ↦ subst (λ (z : A). test z ≡ true) here.1 here.0
-      | inr later ↦ found test ys x later
-    ]
+found {A = A} test (y ∷ ys) x e = search (rules, first_found, found test ys x)
 
 none_first : {A : Type 0} (b : Bool) (y : A) (others : Option A) → cond b (Some y) others ≡ None → (b ≡ false) × (others ≡ None)
-none_first true y others e = absurd cc
-none_first false y others e = (refl, e)
+none_first b y others h = grind arith
 
 none_found : {A : Type 0} (test : A → Bool) (xs : List A) → find test xs ≡ None → AllByRecursion (λ x. test x ≡ false) xs
 none_found test [] e = tt
@@ -196,36 +159,17 @@ pub code-known : (code : ℕ) (ty : NcType) → type_of_code code ≡ Some ty �
 code-known code ty e = eqb-true _ _ (found (λ (t : NcType). code == code_of t) all_types ty e)
 
 other-codes : (code : ℕ) → AllByRecursion (λ (t : NcType). (code == code_of t) ≡ false) all_types → (ty : NcType) → (code == code_of ty) ≡ false
-other-codes code h Byte = h.0
-other-codes code h Char = h.1.0
-other-codes code h Short = h.1.1.0
-other-codes code h Int = h.1.1.1.0
-other-codes code h Ubyte = h.1.1.1.1.0
-other-codes code h Ushort = h.1.1.1.1.1.0
-other-codes code h Uint = h.1.1.1.1.1.1.0
-other-codes code h Int64 = h.1.1.1.1.1.1.1.0
-other-codes code h Uint64 = h.1.1.1.1.1.1.1.1.0
+other-codes code h ty = grind arith
 
 code-unknown : (code : ℕ) → type_of_code code ≡ None → (ty : NcType) → code_of ty ≢ code
 code-unknown code e ty same = eqb-false _ _ (other-codes code (none_found (λ (t : NcType). code == code_of t) all_types e) ty) (sym same)
 
 pub type_of_code-code_of : (ty : NcType) → type_of_code (code_of ty) ≡ Some ty
-type_of_code-code_of Byte = refl
-type_of_code-code_of Char = refl
-type_of_code-code_of Short = refl
-type_of_code-code_of Int = refl
-type_of_code-code_of Ubyte = refl
-type_of_code-code_of Ushort = refl
-type_of_code-code_of Uint = refl
-type_of_code-code_of Int64 = refl
-type_of_code-code_of Uint64 = refl
+type_of_code-code_of ty = grind arith
 
 -- no type of the version has the code of a type that the version hasn't
 no-other : (v : Version) (code : ℕ) (ty other : NcType) → Some ty ≡ type_of_code code → has_type v ty ≡ false → has_type v other ≡ true → code_of other ≢ code
-no-other v code ty other is lacks has codes =
-    let same : Some other ≡ Some ty = sym (type_of_code-code_of other) ∙ ap type_of_code codes ∙ sym is in
-    let both : has_type v other ≡ has_type v ty = ap (has_type v) (cc) in
-    cc
+no-other v code ty other is lacks has codes = grind (arith, type_of_code-code_of other)
 
 -- the version's type with this code, or none
 type-means : (v : Version) (code : ℕ) (bytes rest : List ℕ) (known : Option NcType) → known ≡ type_of_code code
@@ -247,12 +191,10 @@ cut-type : (v : Version) (bytes : List ℕ) (fault : FormatFault) (rest : List �
 cut-type v bytes fault rest (cut_bytes cut) = cut_type cut
 
 or-false : (a b : Bool) → (a || b) ≡ false → (a ≡ false) × (b ≡ false)
-or-false true b e = absurd cc
-or-false false b e = (refl, e)
+or-false a b h = grind arith
 
 or-true : (a b : Bool) → (a || b) ≡ true → (a ≡ true) ⊎ (b ≡ true)
-or-true true b e = inl refl
-or-true false b e = inr e
+or-true a b h = grind arith
 
 floating-code : (code : ℕ) → ((code == 5) || (code == 6)) ≡ true → (code ≡ 5) ⊎ (code ≡ 6)
 floating-code code e = elim (or-true (code == 5) (code == 6) e) [ inl five ↦ inl (eqb-true _ _ five) | inr six ↦ inr (eqb-true _ _ six) ]

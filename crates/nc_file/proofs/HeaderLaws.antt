@@ -1,6 +1,6 @@
 -- A header is read as the grammar says.
-use Rattle.std.proofs.Common.{◌≡◌, ℕ, suc, true, false, leb, List, [], ◌∷◌, Option, Some, None, refl, sym, ap, subst, ◌∙◌, arith, ◌==◌, ◌&&◌}
-use Rattle.nc_file.proofs.Prelude.{eqb-true, eqb-false, leb-true, leb-false, byte_len, FormatFault, Known, Streaming, Version, Cdf1, Cdf2, Cdf5, AreBytes, version_byte, version_of_byte, count_width, count_limit, streaming_mark, SpellsNumber, SpellsMagic, SpellsNumRecs, SpellsStart, SpellsUpToDims, SpellsUpToGatts, SpellsHeader, StopsInMagic, cut_magic, other_magic, cut_version, bad_version, StopsInNumRecs, cut_numrecs, negative_numrecs, StopsWith, in_magic, in_numrecs, in_dims, in_gatts, in_vars, done, stop, byte_or, version_or, version_at, magic_at, numrecs_at, header_at, and_parts}
+use Rattle.std.proofs.Common.{◌≡◌, ℕ, suc, true, false, leb, List, [], ◌∷◌, Option, Some, None, refl, sym, subst, arith, ◌==◌, ◌&&◌, rules}
+use Rattle.nc_file.proofs.Prelude.{eqb-true, eqb-false, leb-true, leb-false, byte_len, FormatFault, Known, Streaming, Version, AreBytes, version_of_byte, count_width, count_limit, streaming_mark, SpellsNumber, SpellsMagic, SpellsNumRecs, SpellsStart, SpellsUpToDims, SpellsUpToGatts, SpellsHeader, StopsInMagic, cut_magic, other_magic, cut_version, bad_version, StopsInNumRecs, cut_numrecs, negative_numrecs, StopsWith, in_magic, in_numrecs, in_dims, in_gatts, in_vars, done, stop, byte_or, version_or, version_at, magic_at, numrecs_at, header_at, and_parts}
 use Rattle.nc_file.specs.code.Reading.{◌>>=◌}
 use Rattle.nc_file.proofs.Means.{Means, spells, stops, means-next, means-cond, AreBytes-tail}
 use Rattle.nc_file.proofs.FieldLaws.{CutBytes, cut_bytes, count-wide, means-number, found}
@@ -10,23 +10,16 @@ use Rattle.nc_file.proofs.VariableLaws.{means-vars}
 -- ---- the magic
 
 pub three-bytes : (a b c : ℕ) → ((a == 67) && (b == 68) && (c == 70)) ≡ true → (a ≡ 67) × (b ≡ 68) × (c ≡ 70)
-three-bytes a b c e =
-    let outer = and_parts ((a == 67) && (b == 68)) (c == 70) e in
-    let inner = and_parts (a == 67) (b == 68) outer.0 in
-    (eqb-true _ _ inner.0, eqb-true _ _ inner.1, eqb-true _ _ outer.1)
+three-bytes a b c e = search (rules, and_parts, eqb-true)
 
 other-bytes : (a b c : ℕ) → ((a == 67) && (b == 68) && (c == 70)) ≡ false → ¬ ((a ≡ 67) × (b ≡ 68) × (c ≡ 70))
-other-bytes a b c e h =
-    let all : ((a == 67) && (b == 68) && (c == 70)) ≡ true = rw (h.0, h.1, h.2) refl in
-    cc
+other-bytes a b c e h = search rules
 
 version-means : (bytes : List ℕ) (n : ℕ) (rest : List ℕ) (known : Option Version) → known ≡ version_of_byte n → bytes ≡ 67 ∷ 68 ∷ 70 ∷ n ∷ rest → AreBytes rest
     → Means (λ v more. SpellsMagic bytes v more) (StopsInMagic bytes) ((version_or n known).run rest)
 unfolding done stop
 version-means bytes n rest None is e fits = stops _ _ (bad_version n rest e (sym is))
-version-means bytes n rest (Some v) is e fits =
-    let same : n ≡ version_byte v = eqb-true _ _ (found (λ (w : Version). n == version_byte w) (Cdf1 ∷ Cdf2 ∷ Cdf5 ∷ []) v (sym is)) in
-    spells v rest (e ∙ ap (λ (k : ℕ). 67 ∷ 68 ∷ 70 ∷ k ∷ rest) same) fits
+version-means bytes n rest (Some v) is e fits = search (rules, eqb-true, found, spells)
 
 means-version : (bytes rest : List ℕ) → bytes ≡ 67 ∷ 68 ∷ 70 ∷ rest → AreBytes rest → Means (λ v more. SpellsMagic bytes v more) (StopsInMagic bytes) (version_at.run rest)
 unfolding version_at ◌>>=◌ byte_or
@@ -38,13 +31,11 @@ same-prefix a b c rest h = rw (h.0, h.1, h.2) refl
 
 pub means-magic : (bytes : List ℕ) → AreBytes bytes → Means (λ v rest. SpellsMagic bytes v rest) (StopsInMagic bytes) (magic_at.run bytes)
 unfolding magic_at ◌>>=◌ byte_or stop
-means-magic [] fits = stops _ _ (cut_magic (omega arith))
-means-magic (a ∷ []) fits = stops _ _ (cut_magic (omega arith))
-means-magic (a ∷ b ∷ []) fits = stops _ _ (cut_magic (omega arith))
 means-magic (a ∷ b ∷ c ∷ rest) fits =
     means-cond ((a == 67) && (b == 68) && (c == 70)) _ _ rest
     (λ is_magic. means-version (a ∷ b ∷ c ∷ rest) rest (same-prefix a b c rest (three-bytes a b c is_magic)) (λ i. fits (suc (suc (suc i)))))
     (λ is_other. stops _ _ (other_magic a b c rest refl (other-bytes a b c is_other)))
+means-magic _ fits = stops _ _ (cut_magic (omega arith))
 
 -- ---- the number of records
 

@@ -1,27 +1,22 @@
 -- The bytes of a header's spelling are those of its parts.
-use Rattle.std.proofs.Common.{◌≡◌, ℕ, ◌+◌, ◌*◌, ◌/◌, List, [], ◌∷◌, ◌++◌, length, refl, ◌∙◌, arith, length-append}
-use Rattle.nc_file.proofs.Prelude.{to_be_bytes, byte_len, flat_map, sum_by, length-replicate, sum_by-cons, Att, Dim, Header, NumRecs, Known, Streaming, Var, Version, Cdf1, Cdf2, Cdf5, padding_len, dimension_tag, padded_size, code_of, size_of, offset_width, streaming_mark, count_spelling, word_spelling, magic_spelling, zero_padded, name_spelling, list_head, list_spelling, dim_spelling, att_spelling, atts_spelling, vsize_of, var_spelling, numrecs_spelling, header_spelling}
+use Rattle.std.proofs.Common.{◌≡◌, ℕ, ◌+◌, ◌*◌, List, [], ◌∷◌, ◌++◌, length, refl, ◌∙◌, arith, length-append, rules}
+use Rattle.nc_file.proofs.Prelude.{to_be_bytes, byte_len, flat_map, sum_by, length-replicate, sum_by-cons, Att, Dim, Header, NumRecs, Var, Version, padding_len, offset_width, count_spelling, word_spelling, magic_spelling, zero_padded, name_spelling, list_head, list_spelling, dim_spelling, att_spelling, atts_spelling, var_spelling, numrecs_spelling, header_spelling}
 use Rattle.nc_file.specs.code.Lengths as len
 
 -- ---- numbers
 
 count-len : (v : Version) (n : ℕ) → length (count_spelling v n) ≡ len.count_len v
-count-len Cdf1 n = refl
-count-len Cdf2 n = refl
-count-len Cdf5 n = refl
+count-len v n = grind arith
 
 offset-len : (v : Version) (n : ℕ) → length (to_be_bytes (offset_width v) n) ≡ byte_len (offset_width v)
-offset-len Cdf1 n = refl
-offset-len Cdf2 n = refl
-offset-len Cdf5 n = refl
+offset-len v n = grind arith
 
 word-len : (n : ℕ) → length (word_spelling n) ≡ 4
 unfolding word_spelling
 word-len n = refl
 
 numrecs-len : (v : Version) (numrecs : NumRecs) → length (numrecs_spelling v numrecs) ≡ len.count_len v
-numrecs-len v (Known n) = count-len v n
-numrecs-len v Streaming = count-len v (streaming_mark v)
+numrecs-len v numrecs = grind (arith, count-len)
 
 magic-len : (v : Version) → length (magic_spelling v) ≡ 4
 unfolding magic_spelling
@@ -59,10 +54,7 @@ dim-len v dim = joined (name_spelling v dim.name) _ _ _ (name-len v dim.name) (c
 
 att-len : (v : Version) (att : Att) → length (att_spelling v att) ≡ len.att_len v att
 unfolding att_spelling
-att-len v att =
-    joined (name_spelling v att.name) _ _ _ (name-len v att.name)
-    (joined (word_spelling (code_of att.ty)) _ _ _ (word-len (code_of att.ty))
-    (joined (count_spelling v (length att.vals / size_of att.ty)) _ _ _ (count-len v (length att.vals / size_of att.ty)) (padded-len att.vals)))
+att-len v att = search (rules, joined, name-len, word-len, count-len, padded-len)
 
 atts-len : (v : Version) (atts : List Att) → length (atts_spelling v atts) ≡ len.atts_len v atts
 atts-len v atts = list-len v _ (att_spelling v) (len.att_len v) (att-len v) atts
@@ -73,23 +65,12 @@ ids-len v (id ∷ ids) = joined (count_spelling v id) _ _ _ (count-len v id) (id
 
 var-len : (v : Version) (dims : List Dim) (var : Var) → length (var_spelling v dims var) ≡ len.var_len v var
 unfolding var_spelling
-var-len v dims var =
-    joined (name_spelling v var.name) _ _ _ (name-len v var.name)
-    (joined (count_spelling v (length var.dimids) ++ flat_map (count_spelling v) var.dimids) _ _ _
-    (joined (count_spelling v (length var.dimids)) _ _ _ (count-len v (length var.dimids)) (ids-len v var.dimids))
-    (joined (atts_spelling v var.atts) _ _ _ (atts-len v var.atts)
-    (joined (word_spelling (code_of var.ty)) _ _ _ (word-len (code_of var.ty))
-    (joined (count_spelling v (vsize_of v (padded_size dims var))) _ _ _ (count-len v (vsize_of v (padded_size dims var))) (offset-len v var.begin_at)))))
+var-len v dims var = search (rules, joined, name-len, count-len, ids-len, atts-len, word-len, offset-len)
 
 -- ---- the whole
 
 pub header-len : (h : Header) → length (header_spelling h) ≡ len.header_len h
 unfolding header_spelling
-header-len h =
-    let v = h.version in
-    joined (magic_spelling v) _ _ _ (magic-len v)
-    (joined (numrecs_spelling v h.numrecs) _ _ _ (numrecs-len v h.numrecs)
-    (joined (list_spelling v dimension_tag (dim_spelling v) h.dims) _ _ _ (list-len v _ (dim_spelling v) (len.dim_len v) (dim-len v) h.dims)
-    (joined (atts_spelling v h.gatts) _ _ _ (atts-len v h.gatts) (list-len v _ (var_spelling v h.dims) (len.var_len v) (var-len v h.dims) h.vars))))
+header-len h = search (rules, joined, magic-len, numrecs-len, list-len, dim-len, atts-len, var-len)
 
 pub ruleset header_len = (header-len)

@@ -1,7 +1,7 @@
 -- The other direction: a header that is spelled is read, and reading stops with the first wrong field. So each list of bytes
 -- has one header or one first wrong field.
-use Rattle.std.proofs.Common.{◌≡◌, ◌≢◌, ℕ, ◌<◌, List, [], ◌∷◌, length, Option, Ok, Err, refl, ap, ◌∙◌, arith, ◌==◌, ◌&&◌}
-use Rattle.nc_file.proofs.Prelude.{eq-eqb, FormatFault, NotNetcdf, Header, NumRecs, Known, Streaming, Version, Cdf1, Cdf2, Cdf5, version_byte, count_width, count_limit, streaming_mark, SpellsMagic, SpellsNumRecs, SpellsHeader, StopsInMagic, cut_magic, other_magic, cut_version, bad_version, StopsInNumRecs, cut_numrecs, negative_numrecs, StopsWith, in_magic, in_numrecs, in_dims, in_gatts, in_vars, Format, done, stop, byte_or, version_or, version_at, magic_at, numrecs_at, header_at}
+use Rattle.std.proofs.Common.{◌≡◌, ◌≢◌, ℕ, ◌<◌, List, [], ◌∷◌, length, Option, Ok, Err, refl, ap, ◌∙◌, arith, ◌==◌, ◌&&◌, rules}
+use Rattle.nc_file.proofs.Prelude.{eq-eqb, FormatFault, NotNetcdf, Header, NumRecs, Version, Cdf1, version_byte, count_width, count_limit, streaming_mark, SpellsMagic, SpellsNumRecs, SpellsHeader, StopsInMagic, cut_magic, other_magic, cut_version, bad_version, StopsInNumRecs, cut_numrecs, negative_numrecs, StopsWith, in_magic, in_numrecs, in_dims, in_gatts, in_vars, Format, done, stop, byte_or, version_or, version_at, magic_at, numrecs_at, header_at}
 use Rattle.nc_file.specs.code.Reading.{◌>>=◌}
 use Rattle.nc_file.proofs.FieldLaws.{count-wide}
 use Rattle.nc_file.proofs.HeaderLaws.{three-bytes}
@@ -14,9 +14,7 @@ use Rattle.nc_file.proofs.VariablesAgain.{vars-again, vars-stop-again}
 -- `CDF` and a version's byte are read
 version-again : (v : Version) (rest : List ℕ) → magic_at.run (67 ∷ 68 ∷ 70 ∷ version_byte v ∷ rest) ≡ Ok (v, rest)
 unfolding magic_at version_at ◌>>=◌ byte_or done
-version-again Cdf1 rest = refl
-version-again Cdf2 rest = refl
-version-again Cdf5 rest = refl
+version-again v rest = grind arith
 
 -- a spelled magic is read
 pub magic-again : (bytes : List ℕ) (v : Version) (rest : List ℕ) → SpellsMagic bytes v rest → magic_at.run bytes ≡ Ok (v, rest)
@@ -25,10 +23,7 @@ magic-again bytes v rest s = ap magic_at.run s ∙ version-again v rest
 -- the file ends in `CDF`
 cut-magic-again : (bytes : List ℕ) → length bytes < 3 → magic_at.run bytes ≡ Err (Format NotNetcdf, [])
 unfolding magic_at ◌>>=◌ byte_or
-cut-magic-again [] cut = refl
-cut-magic-again (a ∷ []) cut = refl
-cut-magic-again (a ∷ b ∷ []) cut = refl
-cut-magic-again (a ∷ b ∷ c ∷ rest) cut = absurd (omega (arith, cut))
+cut-magic-again bytes h = grind arith
 
 -- reading the magic stops with its first wrong field
 pub magic-stops-again : (bytes : List ℕ) (fault : FormatFault) (rest : List ℕ) → StopsInMagic bytes fault rest → magic_at.run bytes ≡ Err (Format fault, rest)
@@ -45,17 +40,12 @@ magic-stops-again bytes fault rest (bad_version n r is none) =
 -- a number of records is not the mark
 no-mark : (v : Version) (n : ℕ) → n < count_limit v → n ≢ streaming_mark v
 no-mark Cdf1 n lt e = omega (arith, lt, e)
-no-mark Cdf2 n lt e = omega (arith, lt, e)
-no-mark Cdf5 n lt e = omega (arith, lt, e)
+no-mark _ n lt e = omega (arith, lt, e)
 
 -- a spelled number of records is read
 pub numrecs-again : (v : Version) (bytes : List ℕ) (numrecs : NumRecs) (rest : List ℕ) → SpellsNumRecs v bytes numrecs rest → (numrecs_at v).run bytes ≡ Ok (numrecs, rest)
 unfolding numrecs_at ◌>>=◌ done
-numrecs-again v bytes (Known n) rest s =
-    then-ok _ (number-again (count_width v) (count-wide v) bytes n rest s.number)
-    (if-not _ _ (other-test n (streaming_mark v) (no-mark v n s.non_negative)) (if-not _ _ (below-test _ _ s.non_negative) refl))
-numrecs-again v bytes Streaming rest s =
-    then-ok _ (number-again (count_width v) (count-wide v) bytes (streaming_mark v) rest s) (if-so _ _ (eq-eqb (streaming_mark v) (streaming_mark v) refl) refl)
+numrecs-again v bytes numrecs rest h = grind (arith, then-ok, number-again, count-wide, if-not, other-test, no-mark, below-test, if-so, eq-eqb)
 
 -- reading the number of records stops where it is wrong
 pub numrecs-stops-again : (v : Version) (bytes : List ℕ) (fault : FormatFault) (rest : List ℕ) → StopsInNumRecs v bytes fault rest → (numrecs_at v).run bytes ≡ Err (Format fault, rest)
@@ -70,14 +60,7 @@ numrecs-stops-again v bytes fault rest (negative_numrecs n r number high not_mar
 -- a spelled header is read
 pub header-again : (bytes : List ℕ) (h : Header) (rest : List ℕ) → SpellsHeader bytes h rest → header_at.run bytes ≡ Ok (h, rest)
 unfolding header_at ◌>>=◌ done
-header-again bytes h rest s =
-    let to_dims = s.prefix.prefix in
-    let start = to_dims.start in
-    then-ok _ (magic-again bytes h.version start.after_magic start.magic)
-    (then-ok _ (numrecs-again h.version start.after_magic h.numrecs to_dims.after_start start.records)
-    (then-ok _ (dims-again h.version to_dims.after_start h.dims s.prefix.after_dims to_dims.dim_list)
-    (then-ok _ (atts-again h.version s.prefix.after_dims h.gatts s.after_gatts s.prefix.gatt_list)
-    (then-ok _ (vars-again h.version h.dims s.after_gatts h.vars rest s.var_list) refl))))
+header-again bytes h rest s = search (rules, then-ok, magic-again, numrecs-again, dims-again, atts-again, vars-again)
 
 -- reading a header stops with its first wrong field
 pub header-stops-again : (bytes : List ℕ) (fault : FormatFault) (rest : List ℕ) → StopsWith bytes fault rest → header_at.run bytes ≡ Err (Format fault, rest)
@@ -86,20 +69,8 @@ header-stops-again bytes fault rest (in_magic f r s) = then-err _ (magic-stops-a
 header-stops-again bytes fault rest (in_numrecs v after_magic f r magic s) =
     then-ok _ (magic-again bytes v after_magic magic) (then-err _ (numrecs-stops-again v after_magic f r s))
 header-stops-again bytes fault rest (in_dims v numrecs after_start f r start s) =
-    then-ok _ (magic-again bytes v start.after_magic start.magic)
-    (then-ok _ (numrecs-again v start.after_magic numrecs after_start start.records)
-    (then-err _ (dims-stop-again v after_start f r s)))
+    search (rules, then-ok, magic-again, numrecs-again, then-err, dims-stop-again)
 header-stops-again bytes fault rest (in_gatts v numrecs dims after_dims f r prefix s) =
-    let start = prefix.start in
-    then-ok _ (magic-again bytes v start.after_magic start.magic)
-    (then-ok _ (numrecs-again v start.after_magic numrecs prefix.after_start start.records)
-    (then-ok _ (dims-again v prefix.after_start dims after_dims prefix.dim_list)
-    (then-err _ (atts-stop-again v after_dims f r s))))
+    search (rules, then-ok, magic-again, numrecs-again, dims-again, then-err, atts-stop-again)
 header-stops-again bytes fault rest (in_vars v numrecs dims gatts after_gatts f r prefix s) =
-    let to_dims = prefix.prefix in
-    let start = to_dims.start in
-    then-ok _ (magic-again bytes v start.after_magic start.magic)
-    (then-ok _ (numrecs-again v start.after_magic numrecs to_dims.after_start start.records)
-    (then-ok _ (dims-again v to_dims.after_start dims prefix.after_dims to_dims.dim_list)
-    (then-ok _ (atts-again v prefix.after_dims gatts after_gatts prefix.gatt_list)
-    (then-err _ (vars-stop-again v dims after_gatts f r s)))))
+    search (rules, then-ok, magic-again, numrecs-again, dims-again, atts-again, then-err, vars-stop-again)

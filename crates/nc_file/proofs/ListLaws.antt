@@ -1,5 +1,5 @@
 -- Lists, dimensions and attributes are read as the grammar says.
-use Rattle.std.proofs.Common.{◌≡◌, ◌≢◌, ℕ, zero, suc, ◌*◌, ◌<◌, Bool, true, false, cond, List, [], ◌∷◌, ◌++◌, length, inl, inr, refl, sym, ap, subst, ◌∙◌, append_assoc, arith, ◌==◌, ◌&&◌, not}
+use Rattle.std.proofs.Common.{◌≡◌, ◌≢◌, ℕ, zero, suc, ◌*◌, ◌<◌, Bool, true, false, cond, List, [], ◌∷◌, ◌++◌, length, inl, inr, refl, sym, subst, ◌∙◌, append_assoc, arith, ◌==◌, ◌&&◌, not, rules}
 use Rattle.nc_file.proofs.Prelude.{eqb-true, eqb-false, eq-eqb, append-nil, w32, FormatFault, HeaderTruncated, BadCount, Att, NcType, Version, AreBytes, padding_len, size_of, has_record_dim, ElementSpelling, dimension_tag, attribute_tag, SpellsNumber, SpellsCount, SpellsPadded, SpellsEach, SpellsCounted, SpellsList, absent, present, SpellsDim, SpellsAttPrefix, SpellsAtt, SpellsAtts, ElementStop, StopsInCount, StopsInEach, in_count, in_element, StopsInList, cut_tag, bad_tag, in_absent_count, absent_elements, in_present, StopsInDim, in_dim_name, in_dim_len, second_record_dim, StopsInAtt, in_att_name, in_att_type, in_att_count, cut_values, cut_value_padding, StopsInAtts, Part, next, done, stop, list_len_at, list_at, padded_at, each_at, dim_at, dim_after, dim_list_at, att_at, att_after, att_list_at, and_parts}
 use Rattle.nc_file.specs.code.Reading.{◌>>=◌}
 use Rattle.nc_file.proofs.Means.{Means, spells, stops, means-next, means-map, means-cond}
@@ -21,14 +21,10 @@ data IsTag (tag found : ℕ) : Type 0 where
   own_tag : found ≡ tag → (found == 0) ≡ false → IsTag tag found
 
 is-tag : (tag found : ℕ) (zero_test tag_test : Bool) → (found == 0) ≡ zero_test → (found == tag) ≡ tag_test → (not zero_test && not tag_test) ≡ false → IsTag tag found
-is-tag tag found true b z t e = no_tag (eqb-true _ _ z) z
-is-tag tag found false true z t e = own_tag (eqb-true _ _ t) z
-is-tag tag found false false z t e = absurd cc
+is-tag tag found zero_test tag_test h h2 h3 = grind (arith, eqb-true)
 
 other-tag : (tag found : ℕ) (zero_test tag_test : Bool) → (found == 0) ≡ zero_test → (found == tag) ≡ tag_test → (not zero_test && not tag_test) ≡ true → (found ≢ 0) × (found ≢ tag)
-other-tag tag found true b z t e = absurd cc
-other-tag tag found false true z t e = absurd cc
-other-tag tag found false false z t e = (eqb-false _ _ z, eqb-false _ _ t)
+other-tag tag found zero_test tag_test h h2 h3 = grind (arith, eqb-false)
 
 in-count : {A : Type 0} (v : Version) (tag found : ℕ) (Element : ElementSpelling A) (Stops : ElementStop A) (bytes after_tag : List ℕ) (fault : FormatFault) (rest : List ℕ)
     → IsTag tag found → SpellsNumber w32 bytes found after_tag → StopsInCount v after_tag fault rest → StopsInList v tag Element Stops bytes fault rest
@@ -76,12 +72,7 @@ ReadsElement {A = A} Element Stops element =
 
 pub more-cons : {A : Type 0} (Element : ElementSpelling A) (n : ℕ) (before : List A) (bytes middle : List ℕ) (x : A) (all : List A) (rest : List ℕ)
     → Element before bytes x middle → SpellsMore Element n (before ++ x ∷ []) middle all rest → SpellsMore Element (suc n) before bytes all rest
-more-cons Element n before bytes middle x all rest spelled s = record {
-  more = x ∷ s.more;
-  joined = s.joined ∙ append_assoc before (x ∷ []) s.more;
-  count = ap suc s.count;
-  each = (middle, spelled, s.each);
-}
+more-cons Element n before bytes middle x all rest spelled s = search (rules, append_assoc)
 
 pub means-each : {A : Type 0} (Element : ElementSpelling A) (Stops : ElementStop A) (element : List A → Part A)
     → ReadsElement Element Stops element
@@ -100,11 +91,7 @@ means-each Element Stops element reads (suc n) before bytes fits =
 -- a count and n elements
 pub counted : {A : Type 0} (v : Version) (Element : ElementSpelling A) (n : ℕ) (bytes body : List ℕ) (all : List A) (rest : List ℕ)
     → SpellsCount v bytes n body → SpellsMore Element n [] body all rest → SpellsCounted v Element bytes all rest
-counted {A = A} v Element n bytes body all rest count s = record {
-  after_count = body;
-  count = subst (λ (k : ℕ). SpellsCount v bytes k body) (sym s.count ∙ ap (λ (xs : List A). length xs) (sym s.joined)) count;
-  each = subst (λ (xs : List A). SpellsEach Element [] body xs rest) (sym s.joined) s.each;
-}
+counted {A = A} v Element n bytes body all rest count s = search rules
 
 -- ---- lists
 
@@ -144,8 +131,7 @@ means-list v tag Element Stops elements reads bytes fits =
 -- ---- dimensions
 
 and-false : (a b : Bool) → (a && b) ≡ false → b ≡ true → a ≡ false
-and-false true b e f = absurd cc
-and-false false b e f = refl
+and-false a b h h2 = grind arith
 
 dim-read : (v : Version) → ReadsElement (SpellsDim v) (StopsInDim v) (dim_after v)
 unfolding dim_at ◌>>=◌ done stop
@@ -163,9 +149,7 @@ dim-read v before bytes fits =
 pub means-dims : (v : Version) (bytes : List ℕ) → AreBytes bytes
     → Means (SpellsList v dimension_tag (SpellsDim v) bytes) (StopsInList v dimension_tag (SpellsDim v) (StopsInDim v) bytes) ((dim_list_at v).run bytes)
 unfolding list_at ◌>>=◌
-means-dims v bytes fits =
-    means-list v dimension_tag (SpellsDim v) (StopsInDim v) (λ n. each_at (dim_after v) n [])
-    (λ n. means-each (SpellsDim v) (StopsInDim v) (dim_after v) (dim-read v) n []) bytes fits
+means-dims v bytes fits = search (rules, means-list, means-each, dim-read)
 
 -- ---- attributes
 

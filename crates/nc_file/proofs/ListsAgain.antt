@@ -1,5 +1,5 @@
 -- The other direction: lists, dimensions and attributes that are spelled are read, and reading stops with their first wrong field.
-use Rattle.std.proofs.Common.{◌≡◌, ◌≢◌, ℕ, zero, suc, ◌*◌, ◌<◌, Bool, true, false, List, [], ◌∷◌, ◌++◌, length, inl, inr, Ok, Err, refl, sym, ap, subst, ◌∙◌, append_assoc, ◌==◌, ◌&&◌, not}
+use Rattle.std.proofs.Common.{◌≡◌, ◌≢◌, ℕ, zero, suc, ◌*◌, ◌<◌, Bool, true, false, List, [], ◌∷◌, ◌++◌, length, inl, inr, Ok, Err, refl, sym, ap, ◌∙◌, append_assoc, ◌==◌, ◌&&◌, not, arith, rules}
 use Rattle.nc_file.proofs.Prelude.{eqb-true, eq-eqb, append-nil, w32, FormatFault, HeaderTruncated, BadTag, BadCount, Att, Dim, Version, padding_len, size_of, has_record_dim, ElementSpelling, dimension_tag, attribute_tag, SpellsNumber, SpellsCount, SpellsPadded, SpellsEach, SpellsList, absent, present, SpellsDim, SpellsAtt, SpellsAtts, ElementStop, StopsInCount, StopsInEach, StopsInCounted, in_count, in_element, StopsInList, cut_tag, bad_tag, in_absent_count, absent_elements, in_present, StopsInDim, in_dim_name, in_dim_len, second_record_dim, StopsInAtt, in_att_name, in_att_type, in_att_count, cut_values, cut_value_padding, StopsInAtts, Format, Part, next, done, stop, list_len_at, list_at, padded_at, each_at, dim_at, dim_after, dim_list_at, att_at, att_after, att_list_at}
 use Rattle.nc_file.specs.code.Reading.{◌>>=◌}
 use Rattle.nc_file.proofs.FieldLaws.{wide-32}
@@ -14,8 +14,7 @@ IsListTag tag = (tag == 0) ≡ false
 
 -- a list's own tag is no wrong one
 own-tag : (tag : ℕ) (b : Bool) → (not b && not (tag == tag)) ≡ false
-own-tag tag true = refl
-own-tag tag false = rw (eq-eqb tag tag refl) refl
+own-tag tag b = grind (arith, eq-eqb)
 
 -- a tag that is neither zero nor the list's
 wrong-tag : (tag found : ℕ) → found ≢ 0 → found ≢ tag → (not (found == 0) && not (found == tag)) ≡ true
@@ -62,9 +61,7 @@ pub each-again : {A : Type 0} (Element : ElementSpelling A) (element : List A �
     → (each_at element (length xs) before).run bytes ≡ Ok (before ++ xs, rest)
 unfolding each_at ◌>>=◌ done
 each-again {A = A} Element element again [] before bytes rest s = ap (λ (r : List ℕ). Ok (before, r)) s ∙ ap (λ (xs : List A). Ok (xs, rest)) (sym (append-nil before))
-each-again {A = A} Element element again (x ∷ xs) before bytes rest s =
-    then-ok _ (again before bytes x s.0 s.1)
-    (each-again Element element again xs (before ++ x ∷ []) s.0 rest s.2 ∙ ap (λ (ys : List A). Ok (ys, rest)) (append_assoc before (x ∷ []) xs))
+each-again {A = A} Element element again (x ∷ xs) before bytes rest s = search (rules, then-ok, append_assoc, each-again Element element again xs)
 
 -- reading elements after others stops with the first wrong field of all
 pub each-stops-again : {A : Type 0} (Element : ElementSpelling A) (Stops : ElementStop A) (element : List A → Part A)
@@ -75,8 +72,7 @@ unfolding each_at ◌>>=◌
 each-stops-again Element Stops element again stops_again zero before bytes fault rest s = absurd s
 each-stops-again Element Stops element again stops_again (suc n) before bytes fault rest (inl s) = then-err _ (stops_again before bytes fault rest s)
 each-stops-again Element Stops element again stops_again (suc n) before bytes fault rest (inr s) =
-    then-ok _ (again before bytes s.0 s.1 s.2)
-    (each-stops-again Element Stops element again stops_again n (before ++ s.0 ∷ []) s.1 fault rest s.3)
+    search (rules, then-ok, each-stops-again Element Stops element again stops_again n (before ++ s.0 ∷ []) s.1 fault rest s.3)
 
 -- ---- lists
 
@@ -99,8 +95,7 @@ list-again {A = A} v tag Element elements is again bytes xs rest (absent after_t
     then-ok _ (list_len-again v tag bytes 0 rest is (absent_len after_tag number count refl))
     (again [] rest rest refl ∙ ap (λ (ys : List A). Ok (ys, rest)) (sym none))
 list-again v tag Element elements is again bytes xs rest (present after_tag number counted) =
-    then-ok _ (list_len-again v tag bytes (length xs) counted.after_count is (present_len after_tag number counted.count))
-    (again xs counted.after_count rest counted.each)
+    grind (arith, list_len-again v tag bytes (length xs) counted.after_count is (present_len after_tag number counted.count), present_len after_tag number counted.count, then-ok)
 
 -- reading a list stops in what stands after its own tag
 present-stops : {A : Type 0} (v : Version) (tag : ℕ) (Element : ElementSpelling A) (Stops : ElementStop A) (elements : ℕ → Part (List A))
@@ -158,9 +153,7 @@ list-stops-again v tag Element Stops elements is stop_again bytes fault rest (in
 
 -- no second record dimension
 single-test : (a b : Bool) → (b ≡ true → a ≡ false) → (a && b) ≡ false
-single-test true true h = h refl
-single-test true false h = refl
-single-test false b h = refl
+single-test a b h = grind arith
 
 -- a spelled dimension is read
 pub dim-again : (v : Version) → ElementAgain (SpellsDim v) (dim_after v)
@@ -191,19 +184,14 @@ dims-again v bytes dims rest s =
 -- reading a list of dimensions stops with its first wrong field
 pub dims-stop-again : (v : Version) (bytes : List ℕ) (fault : FormatFault) (rest : List ℕ) → StopsInList v dimension_tag (SpellsDim v) (StopsInDim v) bytes fault rest → (dim_list_at v).run bytes ≡ Err (Format fault, rest)
 unfolding list_at ◌>>=◌
-dims-stop-again v bytes fault rest s =
-    list-stops-again v dimension_tag (SpellsDim v) (StopsInDim v) (λ n. each_at (dim_after v) n []) refl
-    (λ n body f r each. each-stops-again (SpellsDim v) (StopsInDim v) (dim_after v) (dim-again v) (dim-stops-again v) n [] body f r each)
-    bytes fault rest s
+dims-stop-again v bytes fault rest s = search (rules, list-stops-again, each-stops-again, dim-again, dim-stops-again)
 
 -- ---- attributes
 
 -- n bytes and their padding are read
 pub padded-again : (n : ℕ) (bytes content rest : List ℕ) → length content ≡ n → SpellsPadded bytes content rest → (padded_at n).run bytes ≡ Ok (content, rest)
 unfolding padded_at ◌>>=◌ done
-padded-again n bytes content rest count s =
-    then-ok _ (bytes-again n bytes content (s.padding ++ rest) count s.spelled)
-    (then-ok _ (skip-again (padding_len n) s.padding rest (s.padded ∙ ap padding_len count)) refl)
+padded-again n bytes content rest count s = search (rules, then-ok, bytes-again, skip-again)
 
 -- the file ends in n bytes
 pub content-stops-again : (n : ℕ) (bytes : List ℕ) → length bytes < n → (padded_at n).run bytes ≡ Err (Format HeaderTruncated, [])
@@ -213,9 +201,7 @@ content-stops-again n bytes cut = then-err _ (bytes-stops-again n [] bytes cut)
 -- the file ends in their padding
 pub padding-stops-again : (n : ℕ) (content rest : List ℕ) → length content ≡ n → length rest < padding_len (length content) → (padded_at n).run (content ++ rest) ≡ Err (Format HeaderTruncated, [])
 unfolding padded_at ◌>>=◌
-padding-stops-again n content rest count cut =
-    then-ok _ (bytes-again n (content ++ rest) content rest count refl)
-    (then-err _ (skip-stops-again (padding_len n) rest (subst (λ (k : ℕ). length rest < padding_len k) count cut)))
+padding-stops-again n content rest count cut = search (rules, then-ok, bytes-again, then-err, skip-stops-again)
 
 -- a spelled attribute is read
 pub att-again : (v : Version) → ElementAgain (SpellsAtt v) (att_after v)
@@ -233,16 +219,11 @@ att-stops-again v before bytes fault rest (in_att_name f r s) = then-err _ (name
 att-stops-again v before bytes fault rest (in_att_type name after_name f r named s) =
     then-ok _ (name-again v bytes name after_name named) (then-err _ (type-stops-again v after_name f r s))
 att-stops-again v before bytes fault rest (in_att_count name after_name after_type ty f r named typed s) =
-    then-ok _ (name-again v bytes name after_name named)
-    (then-ok _ (type-again v after_name ty after_type typed) (then-err _ (count-stops-again v after_type f r s)))
+    search (rules, then-ok, name-again, type-again, then-err, count-stops-again)
 att-stops-again v before bytes fault rest (cut_values name body ty count prefix cut) =
-    then-ok _ (name-again v bytes name prefix.after_name prefix.named)
-    (then-ok _ (type-again v prefix.after_name ty prefix.after_type prefix.typed)
-    (then-ok _ (count-again v prefix.after_type count body prefix.counted) (then-err _ (content-stops-again (count * size_of ty) body cut))))
+    search (rules, then-ok, name-again, type-again, count-again, then-err, content-stops-again)
 att-stops-again v before bytes fault rest (cut_value_padding name vals r ty count prefix whole cut) =
-    then-ok _ (name-again v bytes name prefix.after_name prefix.named)
-    (then-ok _ (type-again v prefix.after_name ty prefix.after_type prefix.typed)
-    (then-ok _ (count-again v prefix.after_type count (vals ++ r) prefix.counted) (then-err _ (padding-stops-again (count * size_of ty) vals r whole cut))))
+    search (rules, then-ok, name-again, type-again, count-again, then-err, padding-stops-again)
 
 -- a spelled list of attributes is read
 pub atts-again : (v : Version) (bytes : List ℕ) (atts : List Att) (rest : List ℕ) → SpellsAtts v bytes atts rest → (att_list_at v).run bytes ≡ Ok (atts, rest)
@@ -255,7 +236,4 @@ atts-again v bytes atts rest s =
 -- reading a list of attributes stops with its first wrong field
 pub atts-stop-again : (v : Version) (bytes : List ℕ) (fault : FormatFault) (rest : List ℕ) → StopsInAtts v bytes fault rest → (att_list_at v).run bytes ≡ Err (Format fault, rest)
 unfolding list_at ◌>>=◌
-atts-stop-again v bytes fault rest s =
-    list-stops-again v attribute_tag (SpellsAtt v) (StopsInAtt v) (λ n. each_at (att_after v) n []) refl
-    (λ n body f r each. each-stops-again (SpellsAtt v) (StopsInAtt v) (att_after v) (att-again v) (att-stops-again v) n [] body f r each)
-    bytes fault rest s
+atts-stop-again v bytes fault rest s = search (rules, list-stops-again, each-stops-again, att-again, att-stops-again)

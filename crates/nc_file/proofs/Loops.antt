@@ -1,5 +1,5 @@
 -- A loop that reads element after element.
-use Rattle.std.proofs.Common.{◌≡◌, ℕ, suc, ◌+◌, ◌-◌, ◌<◌, ◌≤◌, Bool, true, false, ◌||◌, List, [], ◌∷◌, ◌++◌, length, take, set, Ok, refl, sym, ap, ◌∙◌, arith, ◌==◌}
+use Rattle.std.proofs.Common.{◌≡◌, ℕ, suc, ◌+◌, ◌-◌, ◌<◌, ◌≤◌, Bool, true, false, ◌||◌, List, [], ◌∷◌, ◌++◌, length, take, set, Ok, refl, sym, ap, ◌∙◌, arith, ◌==◌, rules}
 use Rattle.nc_file.proofs.Prelude.{sub-zero, take_all, OnTrue, OnTrue_at, OnTrue_from, Dim, has_record_dim, Ghosts, Window, Outcome, Part, next, done, next-shorter, byte_at, bytes_at, skip_at, each_at, Kept, Read, left, source_of}
 use Rattle.std.proofs.lemmas.Grind.{take-set_at}
 use Rattle.std.proofs.lemmas.List.Folds.{list_any-append}
@@ -34,28 +34,13 @@ bytes-end n i prefix le = let k : n - i ≡ 0 = omega arith in rw k refl
 pub ruleset array = (bytes-end, take_all, sub-zero, run-done, left_over-ok, left_over-err, next-shorter, bytes-step, run-bind)
 
 kept-then : {S : Type 0} {g : Ghosts S} {start mid now : Window S g} → Kept start mid → Kept mid now → Kept start now
-kept-then p q = record {
-  same_source = q.same_source ∙ p.same_source;
-  bytes = q.bytes ∙ p.bytes;
-  same_buffer_len = q.same_buffer_len ∙ p.same_buffer_len;
-  handed = omega (arith, p.handed, q.handed);
-}
+kept-then p q = search rules
 
 -- one more byte of an array
 pub array-next : {S : Type 0} {g : Ghosts S} (start mid now : Window S g) (n i b : ℕ) (xs : List ℕ) → i < n → length xs ≡ n
     → ReadsOn start mid (bytes_at (n - i) (take i xs)) (bytes_at n []) → Read mid now byte_at (Ok b)
     → ReadsOn start now (bytes_at (n - (i + 1)) (take (i + 1) (set xs i b))) (bytes_at n [])
-array-next {g = g} start mid now n i b xs lt len so_far read = record {
-  kept = kept-then so_far.kept read.kept;
-  failures = read.cause ∙ so_far.failures;
-  same = OnTrue_from _ _ (λ known.
-      let more : ℕ → Part (List ℕ) = λ c. bytes_at (n - (i + 1)) (take i xs ++ c ∷ []) in
-      let at : byte_at.run (left mid) ≡ Ok (b, left now) = OnTrue_at {P = byte_at.run (left mid) ≡ Ok (b, left now)} known read.reads in
-      let step : (bytes_at (n - i) (take i xs)).run (left mid) ≡ (more b).run (left now) =
-      ap (λ (p : Part (List ℕ)). p.run (left mid)) (bytes-step n i (take i xs) lt) ∙ run-bind byte_at more (left mid) ∙ ap (λ (o : Outcome ℕ). next o more) at in
-      ap (λ (ys : List ℕ). (bytes_at (n - (i + 1)) ys).run (left now)) (take-set_at xs i (i + 1) b refl (omega (arith, len)))
-      ∙ sym step ∙ OnTrue_at {P = (bytes_at (n - i) (take i xs)).run (left mid) ≡ (bytes_at n []).run (left start)} known so_far.same);
-}
+array-next {g = g} start mid now n i b xs lt len so_far read = search (rules, kept-then, bytes-step, run-bind, next, take-set_at)
 
 -- ---- elements
 

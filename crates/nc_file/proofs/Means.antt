@@ -1,5 +1,5 @@
 -- That a part of a header reads what the grammar says: how such facts are put together.
-use Rattle.std.proofs.Common.{◌≡◌, ℕ, suc, Bool, true, false, cond, List, ◌∷◌, Ok, Err, refl}
+use Rattle.std.proofs.Common.{◌≡◌, ℕ, suc, Bool, true, false, cond, List, ◌∷◌, Ok, Err, arith}
 use Rattle.nc_file.proofs.Prelude.{FormatFault, AreBytes, Format, Outcome, Part, next}
 
 -- What reading gives is what the grammar says: a value that is spelled and the rest, or what is wrong with the first wrong
@@ -31,8 +31,7 @@ means-map (stops fault rest q) on_value on_stop = stops fault rest (on_stop faul
 pub means-cond : {A : Type 0} {P : A → List ℕ → Type 0} {Q : FormatFault → List ℕ → Type 0} (b : Bool) (p q : Part A) (bytes : List ℕ)
     → (b ≡ true → Means P Q (p.run bytes)) → (b ≡ false → Means P Q (q.run bytes))
     → Means P Q ((cond b p q).run bytes)
-means-cond true p q bytes so otherwise = so refl
-means-cond false p q bytes so otherwise = otherwise refl
+means-cond b p q bytes h h2 = grind arith
 
 pub AreBytes-tail : (b : ℕ) (bytes : List ℕ) → AreBytes (b ∷ bytes) → AreBytes bytes
 AreBytes-tail b bytes fits i = fits (suc i)

@@ -1,6 +1,6 @@
 -- Bytes begin with one header or have one first wrong field.
-use Rattle.std.proofs.Common.{◌≡◌, ℕ, ◌-◌, ◌≤◌, List, length, inl, inr, Ok, Err, sym, ap, ◌∙◌, arith, ◌⊎◌}
-use Rattle.nc_file.proofs.Prelude.{FormatFault, Header, AreBytes, SpellsHeader, StopsWith, StopsAt, HeadFault, Format, Outcome, left_over, header_at}
+use Rattle.std.proofs.Common.{◌≡◌, ℕ, ◌-◌, ◌≤◌, List, length, inl, inr, Ok, Err, sym, ◌∙◌, arith, ◌⊎◌, rules}
+use Rattle.nc_file.proofs.Prelude.{FormatFault, Header, AreBytes, SpellsHeader, StopsWith, StopsAt, Format, Outcome, left_over, header_at}
 use Rattle.nc_file.specs.OneOutcome.{BeginsWithHeader, HasFirstFault, HasOneOutcome}
 use Rattle.nc_file.proofs.Means.{Means, spells, stops}
 use Rattle.nc_file.proofs.HeaderLaws.{means-header}
@@ -23,9 +23,7 @@ refused fault rest = Err (Format fault, rest)
 
 -- two values that one reading gives are one
 same-read : (h k : Header) (rest more : List ℕ) → read h rest ≡ read k more → (h ≡ k) × (rest ≡ more)
-same-read h k rest more e =
-    let both : (h, rest) ≡ (k, more) = cc in
-    (ap (λ (x : Header × List ℕ). x.0) both, ap (λ (x : Header × List ℕ). x.1) both)
+same-read h k rest more e = search rules
 
 -- a fault of the format is that of one fault of the reading
 same-format : (fault other : FormatFault) → Format fault ≡ Format other → fault ≡ other
@@ -33,9 +31,7 @@ same-format fault other e = cc
 
 -- two faults that one reading gives are one
 same-refused : (fault other : FormatFault) (rest more : List ℕ) → refused fault rest ≡ refused other more → (fault ≡ other) × (rest ≡ more)
-same-refused fault other rest more e =
-    let both : (Format fault, rest) ≡ (Format other, more) = cc in
-    (same-format fault other (ap (λ (x : HeadFault × List ℕ). x.0) both), ap (λ (x : HeadFault × List ℕ). x.1) both)
+same-refused fault other rest more e = grind (arith, same-format fault other)
 
 -- no reading gives both
 pub not-both : (h : Header) (fault : FormatFault) (rest more : List ℕ) → ¬ (read h rest ≡ refused fault more)
@@ -47,10 +43,7 @@ one-header bytes h k rest more s t = same-read h k rest more (sym (header-again 
 
 -- no two first wrong fields
 one-fault : (bytes : List ℕ) (fault other : FormatFault) (end last : ℕ) → StopsAt bytes fault end → StopsAt bytes other last → (fault ≡ other) × (end ≡ last)
-one-fault bytes fault other end last s t =
-    let same = same-refused fault other s.rest t.rest (sym (header-stops-again bytes fault s.rest s.stops) ∙ header-stops-again bytes other t.rest t.stops) in
-    let lens : length s.rest ≡ length t.rest = ap (λ (x : List ℕ). length x) same.1 in
-    (same.0, omega (arith, lens, s.ends, t.ends))
+one-fault bytes fault other end last s t = search (rules, same-refused, header-stops-again)
 
 -- the law
 pub one-outcome : (bytes : List ℕ) → AreBytes bytes → HasOneOutcome bytes

@@ -1,6 +1,6 @@
 -- The padded slabs of the record variables before a variable, and with it.
-use Rattle.std.proofs.Common.{◌≡◌, ℕ, ◌+◌, Bool, true, false, cond, leb, List, [], ◌∷◌, ◌++◌, Some, None, refl, ap, ◌∙◌, arith, sum, ◌&&◌}
-use Rattle.nc_file.proofs.Prelude.{Dim, Var, NcType, is_record_var, padded_size, padded_total, record_vars, slab_of, slab_limit, record_limit, total-append, record_part, total_with}
+use Rattle.std.proofs.Common.{◌≡◌, ℕ, ◌+◌, true, false, cond, List, [], ◌∷◌, ◌++◌, Some, refl, ap, ◌∙◌, arith, sum, rules}
+use Rattle.nc_file.proofs.Prelude.{Dim, Var, NcType, is_record_var, padded_size, padded_total, record_vars, total-append, record_part, total_with}
 
 -- the padded slabs of the record variables among these
 abbrev pub total_of : List Dim → List Var → ℕ
@@ -16,8 +16,4 @@ total_of-append dims before var = total-append dims before (var ∷ []) ∙ ap (
 -- what is counted, where the limits allow it
 pub counts : (dims : List Dim) (ids : List ℕ) (ty : NcType) (total sum : ℕ) → Some sum ≡ total_with dims ids ty total → sum ≡ total + record_part dims ids ty
 unfolding total_with
-counts dims ids ty total sum is = at (leb (slab_of dims ids ty) slab_limit && leb (total + record_part dims ids ty) record_limit) is
-  where
-    at : (b : Bool) → Some sum ≡ cond b (Some (total + record_part dims ids ty)) None → sum ≡ total + record_part dims ids ty
-    at true e = cc
-    at false e = absurd cc
+counts dims ids ty total sum is = search (rules, sum)

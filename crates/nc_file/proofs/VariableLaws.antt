@@ -1,6 +1,6 @@
 -- Variables are read as the grammar says.
-use Rattle.std.proofs.Common.{◌≡◌, ℕ, ◌+◌, ◌≤◌, Bool, true, false, cond, leb, ltb, List, [], ◌∷◌, length, Some, None, refl, sym, ap, subst, arith, ◌==◌, ◌||◌, ◌&&◌, not, sum}
-use Rattle.nc_file.proofs.Prelude.{eqb-true, leb-true, leb-false, ltb-true, byte_len, FormatFault, HeaderTruncated, BadOffset, TooLarge, Att, Dim, Var, NcType, Byte, Version, AreBytes, count_width, offset_width, offset_limit, is_record_dim, slab_of, slab_limit, record_limit, IsDimid, variable_tag, SpellsNumber, SpellsOffset, SpellsType, SpellsCounted, SpellsList, SpellsDimid, SpellsVar, SpellsVarPrefix, SpellsTypedVar, IsWithinLimits, IsCutNumber, StopsInCounted, in_count, in_element, StopsInList, StopsInDimid, cut_dimid, bad_dimid, StopsInVar, in_var_name, in_shape, in_var_atts, in_var_type, too_large, cut_vsize, cut_begin, negative_begin, SizedVar, next, done, stop, number_at, is_dimid, dimid_at, dimid_after, shape_at, offset_at, record_part, total_with, total_or_wrong, var_at, var_after, var_list_at, each_at, list_at, is_off, and_parts}
+use Rattle.std.proofs.Common.{◌≡◌, ℕ, ◌+◌, ◌≤◌, Bool, true, false, cond, leb, List, [], ◌∷◌, length, Some, None, refl, sym, subst, arith, ◌==◌, ◌||◌, ◌&&◌, not, sum, rules}
+use Rattle.nc_file.proofs.Prelude.{eqb-true, leb-true, leb-false, ltb-true, byte_len, FormatFault, HeaderTruncated, BadOffset, TooLarge, Att, Dim, Var, NcType, Byte, Version, AreBytes, count_width, offset_width, offset_limit, slab_of, slab_limit, record_limit, IsDimid, variable_tag, SpellsNumber, SpellsOffset, SpellsType, SpellsCounted, SpellsList, SpellsDimid, SpellsVar, SpellsVarPrefix, SpellsTypedVar, IsWithinLimits, IsCutNumber, StopsInCounted, in_count, in_element, StopsInList, StopsInDimid, cut_dimid, bad_dimid, StopsInVar, in_var_name, in_shape, in_var_atts, in_var_type, too_large, cut_vsize, cut_begin, negative_begin, SizedVar, next, done, stop, number_at, is_dimid, dimid_at, dimid_after, shape_at, offset_at, record_part, total_with, total_or_wrong, var_at, var_after, var_list_at, list_at, and_parts}
 use Rattle.nc_file.specs.code.Reading.{◌>>=◌}
 use Rattle.nc_file.proofs.Totals.{total_of, total_of-append}
 use Rattle.nc_file.proofs.Means.{Means, spells, stops, means-next, means-map, means-cond}
@@ -14,30 +14,20 @@ abbrev pub is_first : List ℕ → Bool
 is_first before = length before == 0
 
 first-or-fixed : (first record_dim : Bool) → (first || not record_dim) ≡ true → record_dim ≡ true → first ≡ true
-first-or-fixed true r e f = refl
-first-or-fixed false true e f = absurd cc
-first-or-fixed false false e f = absurd cc
+first-or-fixed first record_dim h h2 = grind arith
 
 length-none : {A : Type 0} (xs : List A) → (length xs == 0) ≡ true → xs ≡ []
 length-none [] e = refl
 length-none (x ∷ xs) e = let none : length (x ∷ xs) ≡ 0 = eqb-true _ _ e in absurd (omega arith)
 
 pub is-dimid : (dims : List Dim) (before : List ℕ) (id : ℕ) → is_dimid dims (is_first before) id ≡ true → IsDimid dims before id
-is-dimid dims before id e =
-    let h = and_parts (ltb id (length dims)) (is_first before || not (is_record_dim dims id)) e in
-    record { known = ltb-true _ _ h.0; record_first = λ r. length-none before (first-or-fixed (is_first before) (is_record_dim dims id) h.1 r) }
+is-dimid dims before id e = search (rules, and_parts, ltb-true, length-none, first-or-fixed)
 
 pub known-and-first : (a first r : Bool) → a ≡ true → (r ≡ true → first ≡ true) → (a && (first || not r)) ≡ true
-known-and-first true true r known first_of = refl
-known-and-first true false true known first_of = first_of refl
-known-and-first true false false known first_of = refl
-known-and-first false first r known first_of = absurd cc
+known-and-first a first r h h2 = grind arith
 
 no-dimid : (dims : List Dim) (before : List ℕ) (id : ℕ) → is_dimid dims (is_first before) id ≡ false → ¬ IsDimid dims before id
-no-dimid dims before id e h =
-    let known : ltb id (length dims) ≡ true = grind (arith, h.known) in
-    let all = known-and-first (ltb id (length dims)) (is_first before) (is_record_dim dims id) known (λ r. ap (λ (xs : List ℕ). length xs == 0) (h.record_first r)) in
-    cc
+no-dimid dims before id e h = search (rules, known-and-first)
 
 cut-dimid : (v : Version) (dims : List Dim) (before : List ℕ) (bytes : List ℕ) (fault : FormatFault) (rest : List ℕ) → CutBytes (byte_len (count_width v)) bytes fault rest → StopsInDimid v dims before bytes fault rest
 cut-dimid v dims before bytes fault rest (cut_bytes cut) = cut_dimid cut
@@ -186,6 +176,4 @@ var-element v dims before bytes fits =
 pub means-vars : (v : Version) (dims : List Dim) (bytes : List ℕ) → AreBytes bytes
     → Means (SpellsList v variable_tag (SpellsVar v dims) bytes) (StopsInList v variable_tag (SpellsVar v dims) (StopsInVar v dims) bytes) ((var_list_at v dims).run bytes)
 unfolding list_at ◌>>=◌
-means-vars v dims bytes fits =
-    means-list v variable_tag (SpellsVar v dims) (StopsInVar v dims) (λ n. each_at (var_after v dims) n [])
-    (λ n. means-each (SpellsVar v dims) (StopsInVar v dims) (var_after v dims) (var-element v dims) n []) bytes fits
+means-vars v dims bytes fits = search (rules, means-list, means-each, var-element)

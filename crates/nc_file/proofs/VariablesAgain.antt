@@ -1,6 +1,6 @@
 -- The other direction: variables that are spelled are read, and reading stops with their first wrong field.
-use Rattle.std.proofs.Common.{◌≡◌, ℕ, ◌+◌, ◌≤◌, Bool, true, cond, leb, ltb, List, [], length, Some, None, Ok, Err, refl, ap, ◌∙◌, arith, ◌==◌, ◌&&◌}
-use Rattle.nc_file.proofs.Prelude.{leb-true, FormatFault, HeaderTruncated, BadOffset, TooLarge, Att, Dim, Var, NcType, Version, count_width, offset_width, offset_limit, is_record_dim, slab_of, slab_limit, record_limit, IsDimid, variable_tag, SpellsNumber, SpellsOffset, SpellsCounted, SpellsList, SpellsDimid, SpellsVar, SpellsVarPrefix, SpellsTypedVar, IsCutNumber, StopsInCounted, in_count, in_element, StopsInList, StopsInDimid, cut_dimid, bad_dimid, StopsInVar, in_var_name, in_shape, in_var_atts, in_var_type, too_large, cut_vsize, cut_begin, negative_begin, Format, SizedVar, Outcome, Part, done, stop, number_at, type_at, is_dimid, dimid_at, dimid_after, shape_at, offset_at, record_part, total_with, total_or_wrong, var_at, var_after, var_list_at, each_at, list_at, and_both, and_parts}
+use Rattle.std.proofs.Common.{◌≡◌, ℕ, ◌+◌, ◌≤◌, true, List, [], Ok, Err, refl, arith, rules}
+use Rattle.nc_file.proofs.Prelude.{leb-true, FormatFault, HeaderTruncated, BadOffset, TooLarge, Att, Dim, Var, NcType, Version, count_width, offset_width, offset_limit, IsDimid, variable_tag, SpellsNumber, SpellsOffset, SpellsCounted, SpellsList, SpellsDimid, SpellsVar, SpellsVarPrefix, SpellsTypedVar, IsCutNumber, StopsInCounted, StopsInList, StopsInDimid, cut_dimid, bad_dimid, StopsInVar, in_var_name, in_shape, in_var_atts, in_var_type, too_large, cut_vsize, cut_begin, negative_begin, Format, SizedVar, Outcome, Part, done, stop, number_at, type_at, is_dimid, dimid_at, dimid_after, shape_at, offset_at, record_part, total_with, total_or_wrong, var_at, var_after, var_list_at, each_at, list_at, and_both, and_parts}
 use Rattle.nc_file.specs.code.Reading.{◌>>=◌}
 use Rattle.nc_file.proofs.FieldLaws.{count-wide, offset-wide}
 use Rattle.nc_file.proofs.Totals.{total_of}
@@ -12,9 +12,7 @@ use Rattle.nc_file.proofs.ListsAgain.{ElementAgain, ElementStopsAgain, each-agai
 
 -- a dimension id passes the test
 dimid-test : (dims : List Dim) (before : List ℕ) (id : ℕ) → IsDimid dims before id → is_dimid dims (is_first before) id ≡ true
-dimid-test dims before id h =
-    let known : ltb id (length dims) ≡ true = grind (arith, h.known) in
-    known-and-first (ltb id (length dims)) (is_first before) (is_record_dim dims id) known (λ r. ap (λ (xs : List ℕ). length xs == 0) (h.record_first r))
+dimid-test dims before id h = search (rules, known-and-first)
 
 -- a spelled dimension id is read
 pub dimid-again : (v : Version) (dims : List Dim) → ElementAgain (SpellsDimid v dims) (dimid_after v dims)
@@ -33,18 +31,13 @@ dimid-stops-again v dims before bytes fault rest (bad_dimid id r number unknown)
 -- a spelled shape is read
 pub shape-again : (v : Version) (dims : List Dim) (bytes ids rest : List ℕ) → SpellsCounted v (SpellsDimid v dims) bytes ids rest → (shape_at v dims).run bytes ≡ Ok (ids, rest)
 unfolding shape_at ◌>>=◌
-shape-again v dims bytes ids rest s =
-    then-ok _ (count-again v bytes (length ids) s.after_count s.count)
-    (each-again (SpellsDimid v dims) (dimid_after v dims) (dimid-again v dims) ids [] s.after_count rest s.each)
+shape-again v dims bytes ids rest s = search (rules, then-ok, count-again, each-again, dimid-again)
 
 -- reading a shape stops with its first wrong field
 pub shape-stops-again : (v : Version) (dims : List Dim) (bytes : List ℕ) (fault : FormatFault) (rest : List ℕ)
     → StopsInCounted v (SpellsDimid v dims) (StopsInDimid v dims) bytes fault rest → (shape_at v dims).run bytes ≡ Err (Format fault, rest)
 unfolding shape_at ◌>>=◌
-shape-stops-again v dims bytes fault rest (in_count f r s) = then-err _ (count-stops-again v bytes f r s)
-shape-stops-again v dims bytes fault rest (in_element n body f r count s) =
-    then-ok _ (count-again v bytes n body count)
-    (each-stops-again (SpellsDimid v dims) (StopsInDimid v dims) (dimid_after v dims) (dimid-again v dims) (dimid-stops-again v dims) n [] body f r s)
+shape-stops-again v dims bytes fault rest h = grind (arith, then-err, count-stops-again, then-ok, count-again, each-stops-again, dimid-again, dimid-stops-again)
 
 -- ---- offsets
 
@@ -71,19 +64,13 @@ negative-offset-again v bytes n rest number high =
 pub total-again : (dims : List Dim) (ids : List ℕ) (ty : NcType) (total : ℕ) (here : List ℕ) → Fits dims ids ty total
     → (total_or_wrong (total_with dims ids ty total)).run here ≡ Ok (total + record_part dims ids ty, here)
 unfolding total_with done
-total-again dims ids ty total here fits =
-    ap (λ b. (total_or_wrong (cond b (Some (total + record_part dims ids ty)) None)).run here)
-    (and_both (leb (slab_of dims ids ty) slab_limit) (leb (total + record_part dims ids ty) record_limit) (above-test _ _ fits.slab) (above-test _ _ fits.records))
+total-again dims ids ty total here fits = search (rules, and_both, above-test)
 
 -- where the limits are passed, reading stops
 pub total-stops-again : (dims : List Dim) (ids : List ℕ) (ty : NcType) (total : ℕ) (here : List ℕ) → ¬ Fits dims ids ty total
     → (total_or_wrong (total_with dims ids ty total)).run here ≡ Err (Format TooLarge, here)
 unfolding total_with stop
-total-stops-again dims ids ty total here large =
-    ap (λ b. (total_or_wrong (cond b (Some (total + record_part dims ids ty)) None)).run here)
-    (not-so (leb (slab_of dims ids ty) slab_limit && leb (total + record_part dims ids ty) record_limit)
-    (λ e. let h = and_parts (leb (slab_of dims ids ty) slab_limit) (leb (total + record_part dims ids ty) record_limit) e in
-    large (record { slab = leb-true _ _ h.0; records = leb-true _ _ h.1 })))
+total-stops-again dims ids ty total here large = search (rules, not-so, and_parts, leb-true)
 
 -- ---- variables
 
@@ -118,10 +105,7 @@ prefix-again : (v : Version) (dims : List Dim) (total : ℕ) (bytes : List ℕ) 
     → (after_prefix v dims total var.name var.dimids var.atts).run after_atts ≡ o
     → (var_at v dims total).run bytes ≡ o
 unfolding var_at ◌>>=◌
-prefix-again v dims total bytes var after_atts o prefix h =
-    then-ok _ (name-again v bytes var.name prefix.after_name prefix.name)
-    (then-ok _ (shape-again v dims prefix.after_name var.dimids prefix.after_shape prefix.shape)
-    (then-ok _ (atts-again v prefix.after_shape var.atts after_atts prefix.atts) h))
+prefix-again v dims total bytes var after_atts o prefix h = search (rules, then-ok, name-again, shape-again, atts-again)
 
 -- a variable up to its type, and what is read after it
 typed-again : (v : Version) (dims : List Dim) (before : List Var) (total : ℕ) (bytes : List ℕ) (var : Var) (after_type : List ℕ) (o : Outcome SizedVar)
@@ -129,10 +113,7 @@ typed-again : (v : Version) (dims : List Dim) (before : List Var) (total : ℕ) 
     → (after_type_at v var.name var.dimids var.atts var.ty (total + record_part dims var.dimids var.ty)).run after_type ≡ o
     → (var_at v dims total).run bytes ≡ o
 unfolding ◌>>=◌
-typed-again v dims before total bytes var after_type o same typed h =
-    prefix-again v dims total bytes var typed.after_atts o typed.prefix
-    (then-ok _ (type-again v typed.after_atts var.ty after_type typed.ty)
-    (then-ok _ (total-again dims var.dimids var.ty total after_type (fits-within dims before var total same typed.small)) h))
+typed-again v dims before total bytes var after_type o same typed h = search (rules, prefix-again, then-ok, type-again, total-again, fits-within)
 
 -- reading a variable stops with its first wrong field
 pub var-stops-again : (v : Version) (dims : List Dim) (before : List Var) (total : ℕ) (bytes : List ℕ) (fault : FormatFault) (rest : List ℕ) → total ≡ total_of dims before → StopsInVar v dims before bytes fault rest
@@ -142,8 +123,7 @@ var-stops-again v dims before total bytes fault rest same (in_var_name f r s) = 
 var-stops-again v dims before total bytes fault rest same (in_shape name after_name f r named s) =
     then-ok _ (name-again v bytes name after_name named) (then-err _ (shape-stops-again v dims after_name f r s))
 var-stops-again v dims before total bytes fault rest same (in_var_atts name after_name after_shape ids f r named shape s) =
-    then-ok _ (name-again v bytes name after_name named)
-    (then-ok _ (shape-again v dims after_name ids after_shape shape) (then-err _ (atts-stop-again v after_shape f r s)))
+    search (rules, then-ok, name-again, shape-again, then-err, atts-stop-again)
 var-stops-again v dims before total bytes fault rest same (in_var_type var after_atts f r prefix s) =
     prefix-again v dims total bytes var after_atts _ prefix (then-err _ (type-stops-again v after_atts f r s))
 var-stops-again v dims before total bytes fault rest same (too_large var after_atts r prefix typed large) =
@@ -179,6 +159,4 @@ vars-again v dims bytes vars rest s =
 pub vars-stop-again : (v : Version) (dims : List Dim) (bytes : List ℕ) (fault : FormatFault) (rest : List ℕ) → StopsInList v variable_tag (SpellsVar v dims) (StopsInVar v dims) bytes fault rest
     → (var_list_at v dims).run bytes ≡ Err (Format fault, rest)
 unfolding list_at ◌>>=◌
-vars-stop-again v dims bytes fault rest s =
-    list-stops-again v variable_tag (SpellsVar v dims) (StopsInVar v dims) (λ n. each_at (var_after v dims) n []) refl
-    (λ n body f r each. each-stops-again (SpellsVar v dims) (StopsInVar v dims) (var_after v dims) (var-element-again v dims) (var-element-stops-again v dims) n [] body f r each) bytes fault rest s
+vars-stop-again v dims bytes fault rest s = search (rules, list-stops-again, each-stops-again, var-element-again, var-element-stops-again)

@@ -105,10 +105,7 @@ module _ (is_transparent : Bool) (l : Slabs) (i n : ℕ) (had part : List ℕ) (
 -- values that come to the first cursor of a slab end with their own slab
 pub to_slab_end : (l : Slabs) (cursor next : Cursor) (n : ℕ) → 0 < n → cursor.within + n ≤ l.values_per_slab → number_at l next ≡ number_at l cursor + n
     → next.within ≡ 0 → cursor.within + n ≡ l.values_per_slab
-to_slab_end l cursor next n some le number first =
-    let further : cursor.slab < next.slab = lt_of_mul-lt-mul_right l.values_per_slab (let h : cursor.slab * l.values_per_slab < next.slab * l.values_per_slab = omega arith in h) in
-    let up : (cursor.slab + 1) * l.values_per_slab ≤ next.slab * l.values_per_slab = mul-le-mul_right l.values_per_slab (let h : cursor.slab + 1 ≤ next.slab = omega arith in h) in
-    omega (arith, up)
+to_slab_end l cursor next n some le number first = grind (arith, lt_of_mul-lt-mul_right, mul-le-mul_right)
 
 -- ---- a whole slab after the values
 
@@ -116,17 +113,7 @@ to_slab_end l cursor next n some le number first =
 pub whole_ready : (l : Slabs) (cursor : Cursor) (capacity len at : ℕ) → IsSized l → cursor.within ≡ 0 → IsOffset l (number_at l cursor) at
     → at + l.values_per_slab * l.size ≤ len → len < 2 ^ 64 → l.values_per_slab * l.size ≤ capacity
     → (at ≡ offset l (number_at l cursor)) × Ready l (number_at l cursor) capacity len l.values_per_slab
-whole_ready l cursor capacity len at sized first is fits small in_capacity =
-    let some : 1 * l.size ≤ l.values_per_slab * l.size = mul-le-mul_right l.size (let h : 1 ≤ l.values_per_slab = omega (arith, sized.values_per_slab) in h) in
-    let e : at ≡ offset l (number_at l cursor) = omega (arith, some, sized.some) in (
-      e,
-      record {
-        in_slab = omega (arith, mod-mul-add cursor.slab l.values_per_slab cursor.within (omega (arith, sized.values_per_slab)));
-        in_capacity = in_capacity;
-        whole = λ some. omega arith;
-        none = λ none. absurd (omega (arith, sized.values_per_slab));
-      },
-    )
+whole_ready l cursor capacity len at sized first is fits small in_capacity = grind (arith, mul-le-mul_right, mod-mul-add)
 
 -- the slab after it is a stride further on
 pub next_offset : (l : Slabs) (cursor next : Cursor) (n at : ℕ) → IsSized l → cursor.within ≡ 0 → next.within ≡ 0 → 0 < n → cursor.within + n ≤ l.values_per_slab

@@ -1,6 +1,6 @@
 -- What is written of all arrays is the data part of the file.
-use Rattle.std.proofs.Common.{◌≡◌, ℕ, zero, suc, ◌+◌, ◌*◌, ◌/◌, ◌<◌, ◌≤◌, Bool, true, false, List, [], ◌∷◌, ◌++◌, length, drop, replicate, refl, sym, ◌∙◌, ap, arith, length-take, length-drop, append-nil, if◌then◌else◌, nat_lt}
-use Rattle.nc_walk.proofs.Prelude.{concat, flat_map, range_with_len, mul-le-mul_right, nil_from_length, Dim, Var, Header, NcType, Byte, Char, Short, Int, Ubyte, Ushort, Uint, Int64, Uint64, padding_len, blocks, data_of, fill_bytes, known_records, is_sole_narrow, padded_slab, record_of, slab_in, whole_array, whole_arrays, IsListed, AreListed, is_record_var, is_narrow, record_vars, slab_count, slab_size, fill_value, bytes_of_number, size_of, flat_map-below, ArrayView, array_view, filled_slab, filled_blocks, filled_record, filled_records, filled_slabs, record_arrays}
+use Rattle.std.proofs.Common.{◌≡◌, ℕ, zero, suc, ◌+◌, ◌*◌, ◌/◌, ◌<◌, ◌≤◌, Bool, true, false, List, [], ◌∷◌, ◌++◌, length, drop, refl, sym, ◌∙◌, ap, arith, length-take, length-drop, append-nil, if◌then◌else◌, nat_lt}
+use Rattle.nc_walk.proofs.Prelude.{flat_map, range_with_len, mul-le-mul_right, nil_from_length, Dim, Var, Header, NcType, padding_len, blocks, data_of, fill_bytes, known_records, is_sole_narrow, padded_slab, record_of, slab_in, whole_array, whole_arrays, IsListed, AreListed, is_record_var, is_narrow, record_vars, slab_size, size_of, flat_map-below, ArrayView, array_view, filled_blocks, filled_records, filled_slabs, record_arrays}
 use Rattle.nc_base.proofs.IsAt.{runs-all}
 use Rattle.nc_walk.proofs.DataParts.{records-append}
 use Rattle.nc_walk.proofs.FilledArrays.{block-filled, record-filled, slabs-filled, whole-length}
@@ -19,14 +19,7 @@ pub blocks-filled : (dims : List Dim) (n : ℕ) (vars : List Var) (listed : List
 blocks-filled dims n [] [] are = refl
 blocks-filled dims n [] (array ∷ arrays) are = absurd are
 blocks-filled dims n (var ∷ vars) [] are = absurd are
-blocks-filled dims n (var ∷ vars) (array ∷ arrays) are =
-    ap (λ (x : List ℕ). x ++ filled_blocks dims vars arrays) (of_kind (is_record_var dims var) refl)
-    ∙ ap (λ (x : List ℕ). (if is_record_var dims var then [] else padded_slab var (whole_array dims n var array)) ++ x) (blocks-filled dims n vars arrays are.1)
-  where
-    of_kind : (kind : Bool) → is_record_var dims var ≡ kind
-        → (if kind then [] else filled_slab (array_view dims var array) array) ≡ (if kind then [] else padded_slab var (whole_array dims n var array))
-    of_kind true e = refl
-    of_kind false e = sym (block-filled dims n var array e are.0)
+blocks-filled dims n (var ∷ vars) (array ∷ arrays) are = grind (arith, block-filled, blocks-filled dims n vars arrays are.1)
 
 -- ---- records
 
@@ -36,15 +29,7 @@ record-filled-all dims n r [] [] lt are = refl
 record-filled-all dims n r [] (array ∷ arrays) lt are = absurd are
 record-filled-all dims n r (var ∷ vars) [] lt are = absurd are
 record-filled-all dims n r (var ∷ vars) (array ∷ arrays) lt are =
-    records-append r (if is_record_var dims var then array_view dims var array ∷ [] else []) (record_arrays dims vars arrays)
-    ∙ ap (λ (x : List ℕ). x ++ filled_records r (record_arrays dims vars arrays)) (of_kind (is_record_var dims var) refl)
-    ∙ ap (λ (x : List ℕ). (if is_record_var dims var then padded_slab var (slab_in dims var (whole_array dims n var array) r) else []) ++ x)
-    (record-filled-all dims n r vars arrays lt are.1)
-  where
-    of_kind : (kind : Bool) → is_record_var dims var ≡ kind
-        → filled_records r (if kind then array_view dims var array ∷ [] else []) ≡ (if kind then padded_slab var (slab_in dims var (whole_array dims n var array) r) else [])
-    of_kind true e = append-nil (filled_record r (array_view dims var array)) ∙ sym (record-filled dims n r var array lt e are.0)
-    of_kind false e = refl
+    grind (arith, records-append, append-nil, record-filled, record-filled-all dims n r vars arrays lt are.1)
 
 -- as many record variables as record arrays
 record-arrays-len : (dims : List Dim) (vars : List Var) (listed : List (List ℕ)) → length listed ≡ length vars → length (record_arrays dims vars listed) ≡ length (record_vars dims vars)
@@ -60,9 +45,7 @@ record-arrays-len dims (var ∷ vars) (array ∷ arrays) same = of_kind (is_reco
 
 -- none or several record variables
 not-sole : (vars : List Var) → (length vars ≡ 1 → ⊥) → is_sole_narrow vars ≡ false
-not-sole [] several = refl
-not-sole (x ∷ []) several = absurd (several refl)
-not-sole (x ∷ y ∷ xs) several = refl
+not-sole vars h = grind arith
 
 -- the records of variables, if none or several of them are record variables
 pub records-filled : (dims : List Dim) (n : ℕ) (vars : List Var) (listed : List (List ℕ)) → AreListed dims n vars listed → (length (record_arrays dims vars listed) ≡ 1 → ⊥)
@@ -88,16 +71,7 @@ none-of : (is_sole : Bool) (dims : List Dim) (n r : ℕ) (vars : List Var) (list
 none-of is_sole dims n r [] [] are none = refl
 none-of is_sole dims n r [] (array ∷ arrays) are none = absurd are
 none-of is_sole dims n r (var ∷ vars) [] are none = absurd are
-none-of is_sole dims n r (var ∷ vars) (array ∷ arrays) are none = of_kind (none-of is_sole dims n r vars arrays are.1) (is_record_var dims var) none
-  where
-    slab : List ℕ
-    slab = slab_in dims var (whole_array dims n var array) r
-
-    of_kind : (record_arrays dims vars arrays ≡ [] → record_of is_sole dims r vars (whole_arrays dims n vars arrays) ≡ []) → (kind : Bool)
-        → (if kind then array_view dims var array ∷ [] else []) ++ record_arrays dims vars arrays ≡ []
-        → (if kind then (if is_sole then slab else padded_slab var slab) else []) ++ record_of is_sole dims r vars (whole_arrays dims n vars arrays) ≡ []
-    of_kind later true e = absurd cc
-    of_kind later false e = later e
+none-of is_sole dims n r (var ∷ vars) (array ∷ arrays) are none = grind (arith, none-of is_sole dims n r vars arrays are.1)
 
 -- the sole record variable
 record IsSole (dims : List Dim) (n : ℕ) (vars : List Var) (listed : List (List ℕ)) (view : ArrayView) : Type 0 where
@@ -157,37 +131,16 @@ sole-found dims n (var ∷ vars) (array ∷ arrays) view are one = of_kind (sole
 
 -- values of four bytes or more are padded by nothing
 wide-padding : (ty : NcType) (c : ℕ) → nat_lt (size_of ty) 4 ≡ false → padding_len (c * size_of ty) ≡ 0
-wide-padding Byte c wide = absurd cc
-wide-padding Char c wide = absurd cc
-wide-padding Short c wide = absurd cc
-wide-padding Int c wide = omega arith
-wide-padding Ubyte c wide = absurd cc
-wide-padding Ushort c wide = absurd cc
-wide-padding Uint c wide = omega arith
-wide-padding Int64 c wide = omega arith
-wide-padding Uint64 c wide = omega arith
+wide-padding ty c h = grind arith
 
 no-values : (ty : NcType) → 0 / size_of ty ≡ 0
-no-values Byte = refl
-no-values Char = refl
-no-values Short = refl
-no-values Int = refl
-no-values Ubyte = refl
-no-values Ushort = refl
-no-values Uint = refl
-no-values Int64 = refl
-no-values Uint64 = refl
+no-values ty = grind arith
 
 -- the slab of a sole record variable stands without padding, whatever its type
 unpadded : (dims : List Dim) (var : Var) (slab : List ℕ) (narrow : Bool) → is_narrow var ≡ narrow → length slab ≡ slab_size dims var
     → (if narrow then slab else padded_slab var slab) ≡ slab
 unfolding padded_slab fill_bytes
-unpadded dims var slab true e long = refl
-unpadded dims var slab false e long =
-    let none : padding_len (length slab) ≡ 0 = ap (λ (k : ℕ). padding_len k) long ∙ wide-padding var.ty (slab_count dims var) e in
-    ap (λ (k : ℕ). slab ++ concat (replicate (k / size_of var.ty) (bytes_of_number var.ty (fill_value var)))) none
-    ∙ ap (λ (k : ℕ). slab ++ concat (replicate k (bytes_of_number var.ty (fill_value var)))) (no-values var.ty)
-    ∙ append-nil slab
+unpadded dims var slab narrow h h2 = grind (arith, wide-padding, no-values, append-nil)
 
 -- the records of a sole record variable are its array
 pub sole-filled : (dims : List Dim) (n : ℕ) (vars : List Var) (listed : List (List ℕ)) (view : ArrayView) → AreListed dims n vars listed → record_arrays dims vars listed ≡ view ∷ []
@@ -218,7 +171,4 @@ pub data-filled : (h : Header) (listed : List (List ℕ)) → AreListed h.dims (
     ≡ filled_blocks h.dims h.vars listed
     ++ flat_map (λ r. record_of (is_sole_narrow (record_vars h.dims h.vars)) h.dims r h.vars (whole_arrays h.dims (known_records h.numrecs) h.vars listed)) (range_with_len 0 (known_records h.numrecs))
 unfolding data_of
-data-filled h listed are =
-    ap (λ (x : List ℕ).
-    x ++ flat_map (λ r. record_of (is_sole_narrow (record_vars h.dims h.vars)) h.dims r h.vars (whole_arrays h.dims (known_records h.numrecs) h.vars listed)) (range_with_len 0 (known_records h.numrecs)))
-    (sym (blocks-filled h.dims (known_records h.numrecs) h.vars listed are))
+data-filled h listed are = grind (arith, blocks-filled)

@@ -8,12 +8,7 @@ pub blocks-left : (dims : List Dim) (vars : List Var) (arrays : List (List ℕ))
     → var ≡ get_or vars v var → array ≡ get_or arrays v array
     → filled_blocks dims (drop v vars) (drop v arrays)
     ≡ (if is_record_var dims var then [] else filled_slab (array_view dims var array) array) ++ filled_blocks dims (drop (v + 1) vars) (drop (v + 1) arrays)
-blocks-left dims vars arrays v var array p q at held =
-    ap (λ (xs : List Var). filled_blocks dims xs (drop v arrays)) (drop_more vars v var p ∙ ap (λ (x : Var). x ∷ drop (v + 1) vars) (sym at))
-    ∙ ap (λ (ys : List (List ℕ)). filled_blocks dims (var ∷ drop (v + 1) vars) ys) (drop_more arrays v array q ∙ ap (λ (y : List ℕ). y ∷ drop (v + 1) arrays) (sym held))
-
-pub blocks-none : (dims : List Dim) (vars : List Var) (arrays : List (List ℕ)) (v : ℕ) → length vars ≤ v → filled_blocks dims (drop v vars) (drop v arrays) ≡ []
-blocks-none dims vars arrays v le = ap (λ (xs : List Var). filled_blocks dims xs (drop v arrays)) (drop_all v vars le)
+blocks-left dims vars arrays v var array p q at held = grind (arith, drop_more)
 
 -- ---- records
 
@@ -25,9 +20,7 @@ records-append r (x ∷ xs) ys =
 -- one slab more of a list, of this array
 pub slab-left : (r : ℕ) (arrays : List (List ℕ)) (slabs : List RecordSlab) (i : ℕ) (d : RecordSlab) (array : ArrayView) → i < length slabs → array ≡ array_of arrays (get_or slabs i d)
     → filled_records r (map (array_of arrays) (drop i slabs)) ≡ filled_record r array ++ filled_records r (map (array_of arrays) (drop (i + 1) slabs))
-slab-left r arrays slabs i d array lt is =
-    ap (λ (xs : List RecordSlab). filled_records r (map (array_of arrays) xs)) (drop_more slabs i d lt)
-    ∙ ap (λ (a : ArrayView). filled_record r a ++ filled_records r (map (array_of arrays) (drop (i + 1) slabs))) (sym is)
+slab-left r arrays slabs i d array lt is = grind (arith, drop_more)
 
 pub slab-none : (r : ℕ) (arrays : List (List ℕ)) (slabs : List RecordSlab) (i : ℕ) → length slabs ≤ i → filled_records r (map (array_of arrays) (drop i slabs)) ≡ []
 slab-none r arrays slabs i le = ap (λ (xs : List RecordSlab). filled_records r (map (array_of arrays) xs)) (drop_all i slabs le)
@@ -35,6 +28,3 @@ slab-none r arrays slabs i le = ap (λ (xs : List RecordSlab). filled_records r 
 -- one record more
 pub rows-left : (f : ℕ → List ℕ) (r n : ℕ) → r < n → flat_map f (range_with_len r (n - r)) ≡ f r ++ flat_map f (range_with_len (r + 1) (n - (r + 1)))
 rows-left f r n lt = let e : n - r ≡ suc (n - (r + 1)) = omega arith in ap (λ (k : ℕ). flat_map f (range_with_len r k)) e
-
-pub rows-none : (f : ℕ → List ℕ) (r n : ℕ) → n ≤ r → flat_map f (range_with_len r (n - r)) ≡ []
-rows-none f r n le = let e : n - r ≡ 0 = omega arith in ap (λ (k : ℕ). flat_map f (range_with_len r k)) e

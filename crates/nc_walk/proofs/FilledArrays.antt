@@ -1,6 +1,6 @@
 -- A slab of an array whose last values are owed: what of it is listed, and fill values.
 use Rattle.std.proofs.Common.{◌≡◌, ℕ, zero, suc, ◌+◌, ◌-◌, ◌*◌, ◌/◌, ◌<◌, ◌≤◌, inl, inr, Bool, true, false, List, [], ◌++◌, length, take, drop, replicate, refl, sym, ◌∙◌, ap, arith, append_assoc, length-append, length-take, length-drop, if◌then◌else◌}
-use Rattle.nc_walk.proofs.Prelude.{concat, mul-div_cancel, mul-le-mul_right, mul-le-mul_left, take-append-add, cases_lt, take-append-le, take_all, append-nil, drop_at, drop-drop, drop_all, drop-append-le, Dim, Var, NcType, Byte, Char, Short, Int, Ubyte, Ushort, Uint, Int64, Uint64, padding_len, fill_value, fill_bytes, padded_slab, slab_in, value_count, bytes_of_number, fills, owed_count, whole_array, IsListed, is_record_var, slab_count, slab_size, size_of, length-number, whole-padding, some_size, array_view, repeated, filled_slab, filled_record, filled_slabs, length-replicated}
+use Rattle.nc_walk.proofs.Prelude.{concat, mul-div_cancel, mul-le-mul_right, mul-le-mul_left, take-append-add, cases_lt, take-append-le, take_all, append-nil, drop_at, drop-drop, drop_all, drop-append-le, Dim, Var, NcType, Byte, padding_len, fill_value, fill_bytes, padded_slab, slab_in, value_count, bytes_of_number, fills, owed_count, whole_array, IsListed, is_record_var, slab_count, slab_size, size_of, length-number, whole-padding, some_size, array_view, repeated, filled_slab, filled_record, filled_slabs, length-replicated}
 use Rattle.nc_walk.proofs.Repeats.{copies-add, repeated-by}
 
 -- ---- copies of one value
@@ -39,21 +39,11 @@ later-values var j m n le =
 -- copies of copies
 copies-of : (unit : List ℕ) (k q : ℕ) → concat (replicate k (concat (replicate q unit))) ≡ concat (replicate (k * q) unit)
 copies-of unit zero q = let e : 0 ≡ zero * q = omega arith in ap (λ (n : ℕ). concat (replicate n unit)) e
-copies-of unit (suc k) q =
-    let e : q + k * q ≡ suc k * q = omega arith in
-    ap (λ (x : List ℕ). concat (replicate q unit) ++ x) (copies-of unit k q) ∙ sym (copies-add unit q (k * q)) ∙ ap (λ (n : ℕ). concat (replicate n unit)) e
+copies-of unit (suc k) q = grind (arith, copies-add, copies-of unit k q)
 
 -- eight bytes are whole values of each type
 whole-unit : (ty : NcType) → 8 / size_of ty * size_of ty ≡ 8
-whole-unit Byte = refl
-whole-unit Char = refl
-whole-unit Short = refl
-whole-unit Int = refl
-whole-unit Ubyte = refl
-whole-unit Ushort = refl
-whole-unit Uint = refl
-whole-unit Int64 = refl
-whole-unit Uint64 = refl
+whole-unit ty = grind arith
 
 length-unit : (var : Var) → length (fill_bytes var 8) ≡ 8
 unfolding fill_bytes
@@ -75,25 +65,11 @@ repeated-values var n =
   where
     small : (ty : NcType) → size_of ty ≤ 8
     small Byte = omega arith
-    small Char = omega arith
-    small Short = omega arith
-    small Int = omega arith
-    small Ubyte = omega arith
-    small Ushort = omega arith
-    small Uint = omega arith
-    small Int64 = omega arith
-    small Uint64 = omega arith
+    small _ = omega arith
 
     one : (ty : NcType) → 1 ≤ 8 / size_of ty
     one Byte = omega arith
-    one Char = omega arith
-    one Short = omega arith
-    one Int = omega arith
-    one Ubyte = omega arith
-    one Ushort = omega arith
-    one Uint = omega arith
-    one Int64 = omega arith
-    one Uint64 = omega arith
+    one _ = omega arith
 
 -- ---- padded slabs
 
@@ -118,23 +94,12 @@ padded-filled dims var listed part m long =
 -- ---- whole arrays
 
 listed-count : (dims : List Dim) (n : ℕ) (var : Var) (listed : List ℕ) (is : IsListed dims n var listed) → owed_count dims n var listed ≡ value_count dims var n - is.count
-listed-count dims n var listed is =
-    let e : length listed / size_of var.ty ≡ is.count = ap (λ (k : ℕ). k / size_of var.ty) is.whole ∙ mul-div_cancel is.count (some_size var.ty) in
-    ap (λ (k : ℕ). value_count dims var n - k) e
+listed-count dims n var listed is = grind (arith, mul-div_cancel, some_size)
 
 -- the block of a variable without records
 pub block-filled : (dims : List Dim) (n : ℕ) (var : Var) (listed : List ℕ) → is_record_var dims var ≡ false → IsListed dims n var listed
     → padded_slab var (whole_array dims n var listed) ≡ filled_slab (array_view dims var listed) listed
-block-filled dims n var listed fixed is =
-    let size : ℕ = size_of var.ty in
-    let all : value_count dims var n ≡ slab_count dims var =
-    ap (λ (b : Bool). slab_count dims var * (if b then n else 1)) fixed ∙ (let e : slab_count dims var * 1 ≡ slab_count dims var = omega arith in e) in
-    let owed : owed_count dims n var listed ≡ slab_count dims var - is.count = listed-count dims n var listed is ∙ ap (λ (k : ℕ). k - is.count) all in
-    let sum : is.count + (slab_count dims var - is.count) ≡ slab_count dims var = omega (arith, is.within, all) in
-    let long : is.count * size + (slab_count dims var - is.count) * size ≡ slab_count dims var * size =
-    (let e : is.count * size + (slab_count dims var - is.count) * size ≡ (is.count + (slab_count dims var - is.count)) * size = omega arith in e) ∙ ap (λ (k : ℕ). k * size) sum in
-    ap (λ (k : ℕ). padded_slab var (listed ++ fills var k)) owed
-    ∙ padded-filled dims var listed listed (slab_count dims var - is.count) (ap (λ (k : ℕ). k + (slab_count dims var - is.count) * size) is.whole ∙ long)
+block-filled dims n var listed fixed is = grind (arith, listed-count, padded-filled)
 
 -- how many of the c values of slab r lack, where `count` are listed
 abbrev pub lacking : ℕ → ℕ → ℕ → ℕ

@@ -1,7 +1,7 @@
 -- Bytes that one read after another has brought.
-use Rattle.std.proofs.Common.{◌≡◌, ℕ, ◌+◌, ◌-◌, ◌<◌, ◌≤◌, Bool, true, false, List, ◌++◌, length, take, drop, refl, sym, ◌∙◌, ap, subst, arith, length-append, length-take, length-drop}
+use Rattle.std.proofs.Common.{◌≡◌, ℕ, ◌+◌, ◌-◌, ◌<◌, ◌≤◌, Bool, List, ◌++◌, length, take, drop, refl, ◌∙◌, ap, subst, arith, length-append, length-take, length-drop}
 use Rattle.nc_walk.proofs.Prelude.{OnTrue, drop-drop, take-append-le, take-add, take-append-add, take-append_seam, SourceView, having_read, BytesRead, NoneRead, ReadInFull, FailedReadInFull}
-use borrow.Rule.Slice.PartMut.{put_mid, post_of, same_len_mid}
+use borrow.Rule.Slice.PartMut.{put_mid, same_len_mid}
 
 -- n bytes from this cursor on stand at the start of the slice
 pub record Filling (is_transparent : Bool) (old new : SourceView) (at got : ℕ) (xs : List ℕ) : Type 0 where
@@ -12,16 +12,13 @@ pub record Filling (is_transparent : Bool) (old new : SourceView) (at got : ℕ)
 -- ---- facts of a source that is transparent
 
 pub transparent_any : (is_transparent : Bool) {P : Type 0} → P → OnTrue is_transparent P
-transparent_any true p = p
-transparent_any false p = tt
+transparent_any is_transparent h = grind arith
 
 pub transparent_map : (is_transparent : Bool) {P Q : Type 0} → (P → Q) → OnTrue is_transparent P → OnTrue is_transparent Q
-transparent_map true f p = f p
-transparent_map false f p = tt
+transparent_map is_transparent h h2 = grind arith
 
 pub transparent_both : (is_transparent : Bool) {P Q R : Type 0} → (P → Q → R) → OnTrue is_transparent P → OnTrue is_transparent Q → OnTrue is_transparent R
-transparent_both true f p q = f p q
-transparent_both false f p q = tt
+transparent_both is_transparent h h2 h3 = grind arith
 
 -- ---- one more read
 
@@ -30,36 +27,21 @@ after_after s m n = let e : s.handed + m + n ≡ s.handed + (m + n) = omega arit
 
 -- what was put after the first bytes stands after them
 pub prefix_then : (xs ys : List ℕ) (got k n : ℕ) → got ≤ length xs → n ≤ length ys → take (got + n) (put_mid got k xs ys) ≡ take got xs ++ take n ys
-prefix_then xs ys got k n within fits =
-    let len : length (take got xs) ≡ got = omega (arith, length-take got xs) in
-    let rest = ys ++ post_of got k xs in
-    ap (λ (m : ℕ). take (m + n) (take got xs ++ rest)) (sym len)
-    ∙ take-append-add (take got xs) rest n
-    ∙ ap (λ (zs : List ℕ). take got xs ++ zs) (take-append-le n ys (post_of got k xs) fits)
+prefix_then xs ys got k n within fits = grind (arith, length-take, take-append-add, take-append-le)
 
 -- and these stay
 pub prefix_still : (xs ys : List ℕ) (got k : ℕ) → got ≤ length xs → take got (put_mid got k xs ys) ≡ take got xs
-prefix_still xs ys got k within =
-    let len : length (take got xs) ≡ got = omega (arith, length-take got xs) in
-    let rest = ys ++ post_of got k xs in
-    ap (λ (m : ℕ). take m (take got xs ++ rest)) (sym len) ∙ take-append_seam (take got xs) rest
+prefix_still xs ys got k within = grind (arith, length-take got xs, take-append_seam)
 
 more_bytes : (b xs ys : List ℕ) (at got k n : ℕ) → got ≤ length xs → n ≤ length ys
     → take got xs ≡ take got (drop at b) → take n ys ≡ take n (drop (at + got) b)
     → take (got + n) (put_mid got k xs ys) ≡ take (got + n) (drop at b)
-more_bytes b xs ys at got k n within fits prefix next =
-    prefix_then xs ys got k n within fits
-    ∙ ap (λ (zs : List ℕ). take got xs ++ zs) (next ∙ ap (take n) (sym (drop-drop got at b)))
-    ∙ ap (λ (zs : List ℕ). zs ++ take n (drop got (drop at b))) prefix
-    ∙ sym (take-add got n (drop at b))
+more_bytes b xs ys at got k n within fits prefix next = grind (arith, prefix_then, drop-drop, take-add)
 
 pub more : (is_transparent : Bool) (old mid new : SourceView) (at got k n : ℕ) (xs ys : List ℕ) → length ys + got ≡ length xs → k ≡ length xs - got
     → Filling is_transparent old mid at got xs → BytesRead is_transparent mid new (at + got) ys n → Filling is_transparent old new at (got + n) (put_mid got k xs ys)
-more is_transparent old mid new at got k n xs ys len rest f h = record {
-  within = omega (arith, length-append (take got xs) (ys ++ post_of got k xs), length-append ys (post_of got k xs), length-take got xs, f.within, h.within);
-  same = h.same ∙ ap (λ (s : SourceView). having_read s n) f.same ∙ after_after old got n;
-  bytes = transparent_both is_transparent (more_bytes old.bytes xs ys at got k n f.within (omega (arith, h.within))) f.bytes (transparent_map is_transparent (λ e. e ∙ ap (λ (s : SourceView). take n (drop (at + got) s.bytes)) f.same) h.bytes);
-}
+more is_transparent old mid new at got k n xs ys len rest f h =
+    grind (arith, length-append, length-take, having_read, after_after, transparent_both, more_bytes, transparent_map)
 
 -- one read, and then others until the slice is full or the source has ended
 module _ (is_transparent : Bool) (old mid : SourceView) (at got : ℕ) (xs ys : List ℕ) (some_left : got < length xs)

@@ -17,48 +17,17 @@ unfolding repeated
 repeated-byte fill n = ap (take n) (copies-of-byte fill n) ∙ take-replicate n (n * 8) fill (omega arith)
 
 first-copies : (count n fill : ℕ) → take n (replicate count fill) ≡ replicate (min count n) fill
-first-copies count n fill =
-    elim (cases_lt count n) [
-      | inl past ↦
-          let lowest : count ≡ min count n = omega (arith, past) in
-          take_all n (replicate count fill) (omega (arith, past, length-replicate count fill)) ∙ ap (λ (k : ℕ). replicate k fill) lowest
-      | inr within ↦
-          let lowest : n ≡ min count n = omega (arith, within) in
-          take-replicate n count fill within ∙ ap (λ (k : ℕ). replicate k fill) lowest
-    ]
+first-copies count n fill = grind (arith, take_all, length-replicate, take-replicate)
 
 -- the first n bytes of a run: bytes, and filling after them
 pub first-of-run : (bytes : List ℕ) (count fill n : ℕ)
     → take n (bytes ++ replicate count fill) ≡ take (min (length bytes) n) bytes ++ replicate (min count (n - min (length bytes) n)) fill
-first-of-run bytes count fill n =
-    let len : ℕ = length bytes in
-    let padding : List ℕ = replicate count fill in
-    elim (cases_lt len n) [
-      | inl past ↦
-          let split : n ≡ len + (n - len) = omega (arith, past) in
-          let lowest : min len n ≡ len = omega (arith, past) in
-          ap (λ (k : ℕ). take k (bytes ++ padding)) split
-          ∙ take-append-add bytes padding (n - len)
-          ∙ ap (λ (b : List ℕ). bytes ++ b) (first-copies count (n - len) fill)
-          ∙ ap (λ (k : ℕ). bytes ++ replicate (min count (n - k)) fill) (sym lowest)
-          ∙ ap (λ (b : List ℕ). b ++ replicate (min count (n - min len n)) fill) (sym (take_all (min len n) bytes (omega (arith, lowest))))
-      | inr within ↦
-          let lowest : n ≡ min len n = omega (arith, within) in
-          let none : 0 ≡ min count (n - min len n) = omega (arith, within, lowest) in
-          take-append-le n bytes padding within
-          ∙ ap (λ (k : ℕ). take k bytes) lowest
-          ∙ sym (append-nil (take (min len n) bytes))
-          ∙ ap (λ (k : ℕ). take (min len n) bytes ++ replicate k fill) none
-    ]
+first-of-run bytes count fill n = grind (arith, take-append-add bytes, first-copies count, take-append-le n bytes, take_all, append-nil)
 
 -- the same, as two pieces that are written
 pub run-pieces : (bytes : List ℕ) (count fill n listed filling : ℕ) → listed ≡ min (length bytes) n → filling ≡ min count (n - listed)
     → take n (bytes ++ replicate count fill) ≡ take listed bytes ++ repeated (replicate 8 fill) filling
-run-pieces bytes count fill n listed filling is padded =
-    first-of-run bytes count fill n
-    ∙ ap (λ (k : ℕ). take k bytes ++ replicate (min count (n - k)) fill) (sym is)
-    ∙ ap (λ (k : ℕ). take listed bytes ++ replicate k fill) (sym padded)
-    ∙ ap (λ (b : List ℕ). take listed bytes ++ b) (sym (repeated-byte fill filling))
+run-pieces bytes count fill n listed filling is padded = grind (arith, first-of-run, repeated-byte)
 
 -- what is left from a place on is the rest of a run, and what comes after it
 pub next-run : (filled bytes : List ℕ) (at end count fill k : ℕ) → StandAt filled at bytes count fill → k ≡ min (end - at) (length bytes + count)
@@ -87,13 +56,4 @@ next-run filled bytes at end count fill k stands is =
 
 -- up to the end of the array
 pub part-whole : (filled : List ℕ) (start len end : ℕ) → end ≡ min (start + len) (length filled) → take len (drop start filled) ≡ take (end - start) (drop start filled)
-part-whole filled start len end is =
-    elim (cases_lt (length filled) (start + len)) [
-      | inl past ↦
-          let left : length (drop start filled) ≡ length filled - start = length-drop start filled in
-          take_all len (drop start filled) (omega (arith, past, left))
-          ∙ sym (take_all (end - start) (drop start filled) (omega (arith, past, left, is)))
-      | inr within ↦
-          let same : len ≡ end - start = omega (arith, within, is) in
-          ap (λ (k : ℕ). take k (drop start filled)) same
-    ]
+part-whole filled start len end is = grind (arith, length-drop, take_all)

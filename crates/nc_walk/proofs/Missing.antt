@@ -1,6 +1,6 @@
 -- The first missing value, and the values before it.
-use Rattle.std.proofs.Common.{◌≡◌, ℕ, ◌+◌, ◌<◌, ◌≤◌, Bool, true, false, cond, List, length, get_or, take, sym, ◌∙◌, ap, subst, arith, None, Some, inl, inr, length-take, not, All, unwrap_or}
-use Rattle.nc_walk.proofs.Prelude.{position, position_or_len, cases_lt, lt-ltb, le-ltb, ltb-false, get_or-take, All-get_or, All-from_get_or, Header, Var, size_of, value_count, ends_after, value_offsets, first_missing, IsWhole, whole_count, none-found}
+use Rattle.std.proofs.Common.{◌≡◌, ℕ, ◌+◌, ◌<◌, ◌≤◌, Bool, true, false, cond, List, length, get_or, take, ap, subst, arith, None, Some, inl, inr, length-take, All, unwrap_or}
+use Rattle.nc_walk.proofs.Prelude.{position, position_or_len, cases_lt, lt-ltb, le-ltb, ltb-false, get_or-take, All-from_get_or, Header, Var, size_of, value_count, ends_after, value_offsets, first_missing, IsWhole, whole_count, none-found}
 use Rattle.std.proofs.lemmas.List.Sums.{position_or_len_is, prefix_len-le-length, fails_before_first, passes_at_first}
 use Rattle.nc_walk.proofs.Orders.{count_of_offsets}
 
@@ -8,9 +8,7 @@ use Rattle.nc_walk.proofs.Orders.{count_of_offsets}
 
 -- a value among the first k
 whole_at : (size : ℕ) (b xs : List ℕ) (k j : ℕ) → k ≤ length xs → All (IsWhole size b) (take k xs) → j < k → ends_after size (length b) (get_or xs j 0) ≡ false
-whole_at size b xs k j le whole lt =
-    let here : IsWhole size b (get_or (take k xs) j 0) = All-get_or (IsWhole size b) (take k xs) j 0 (omega (arith, length-take k xs)) whole in
-    le-ltb (length b) (get_or xs j 0 + size) (subst (IsWhole size b) (get_or-take k xs j 0 lt) here)
+whole_at size b xs k j le whole lt = grind (arith, length-take, le-ltb, get_or-take)
 
 -- the first k are whole, and the next one isn't, if there is one
 position_at : (size : ℕ) (b xs : List ℕ) (k : ℕ) → k ≤ length xs → All (IsWhole size b) (take k xs) → (k < length xs → length b < get_or xs k 0 + size)
@@ -33,47 +31,28 @@ found p xs k lt e = rw e (ap (λ (t : Bool). cond t (Some k) None) (lt-ltb k (le
 
 -- the values before the first missing one are whole
 before_first : (size : ℕ) (b xs : List ℕ) (k : ℕ) → k ≤ position_or_len (ends_after size (length b)) xs → All (IsWhole size b) (take k xs)
-before_first size b xs k le = All-from_get_or (IsWhole size b) (take k xs) 0 (λ j lt.
-    let within : j < k = omega (arith, length-take k xs) in
-    let here : IsWhole size b (get_or xs j 0) = ltb-false (length b) (get_or xs j 0 + size) (fails_before_first (ends_after size (length b)) xs j 0 (omega arith)) in
-    subst (IsWhole size b) (sym (get_or-take k xs j 0 within)) here)
+before_first size b xs k le =
+    grind (arith, All-from_get_or (IsWhole size b) (take k xs) 0, length-take k xs, ltb-false (length b), fails_before_first (ends_after size (length b)) xs, get_or-take k xs)
 
 unwrap-position : (p : ℕ → Bool) (xs : List ℕ) (n : ℕ) → length xs ≡ n → position_or_len p xs ≤ n → unwrap_or (position p xs) n ≡ position_or_len p xs
-unwrap-position p xs n len le =
-    elim (cases_lt (position_or_len p xs) (length xs)) [
-      | inl lt ↦ ap (λ (t : Bool). unwrap_or (cond t (Some (position_or_len p xs)) None) n) (lt-ltb _ _ lt)
-      | inr ge ↦ ap (λ (t : Bool). unwrap_or (cond t (Some (position_or_len p xs)) None) n) (le-ltb _ _ ge) ∙ (let e : n ≡ position_or_len p xs = omega arith in e)
-    ]
+unwrap-position p xs n len le = grind (arith, lt-ltb, le-ltb)
 
 -- ---- of a variable
 
 pub missing_at : (h : Header) (var : Var) (n : ℕ) (b : List ℕ) (k : ℕ) → k < value_count h.dims var n → All (IsWhole (size_of var.ty) b) (take k (value_offsets h var n))
     → length b < get_or (value_offsets h var n) k 0 + size_of var.ty → first_missing h b var n ≡ Some k
-missing_at h var n b k lt whole short =
-    let xs = value_offsets h var n in
-    let len = count_of_offsets h var n in
-    found (ends_after (size_of var.ty) (length b)) xs k (omega (arith, len)) (position_at (size_of var.ty) b xs k (omega (arith, len)) whole (λ _. short))
+missing_at h var n b k lt whole short = grind (arith, count_of_offsets, found, position_at)
 
 pub none_missing : (h : Header) (var : Var) (n : ℕ) (b : List ℕ) (k : ℕ) → k ≡ value_count h.dims var n → All (IsWhole (size_of var.ty) b) (take k (value_offsets h var n))
     → first_missing h b var n ≡ None
-none_missing h var n b k all whole =
-    let xs = value_offsets h var n in
-    let len = count_of_offsets h var n in
-    let same : k ≡ length xs = omega (arith, len) in
-    none-found (ends_after (size_of var.ty) (length b)) xs (position_at (size_of var.ty) b xs k (omega arith) whole (λ lt. absurd (omega arith)) ∙ same)
+none_missing h var n b k all whole = grind (arith, count_of_offsets, none-found, position_at)
 
 whole_count-is : (h : Header) (var : Var) (n : ℕ) (b : List ℕ) → whole_count h b var n ≡ position_or_len (ends_after (size_of var.ty) (length b)) (value_offsets h var n)
-whole_count-is h var n b =
-    let xs = value_offsets h var n in
-    let p = ends_after (size_of var.ty) (length b) in
-    let len = count_of_offsets h var n in
-    unwrap-position p xs (value_count h.dims var n) len (omega (arith, len, prefix_len-le-length (λ x. not (p x)) xs))
+whole_count-is h var n b = grind (arith, count_of_offsets, unwrap-position, prefix_len-le-length)
 
 pub whole_count-ge : (h : Header) (var : Var) (n : ℕ) (b : List ℕ) (k : ℕ) → k ≤ value_count h.dims var n → All (IsWhole (size_of var.ty) b) (take k (value_offsets h var n))
     → k ≤ whole_count h b var n
-whole_count-ge h var n b k le whole =
-    let len = count_of_offsets h var n in
-    subst (λ m. k ≤ m) (sym (whole_count-is h var n b)) (position-ge (size_of var.ty) b (value_offsets h var n) k (omega (arith, len)) whole)
+whole_count-ge h var n b k le whole = grind (arith, count_of_offsets, whole_count-is, position-ge)
 
 pub whole_before : (h : Header) (var : Var) (n : ℕ) (b : List ℕ) (k : ℕ) → k ≤ whole_count h b var n → All (IsWhole (size_of var.ty) b) (take k (value_offsets h var n))
 whole_before h var n b k le = before_first (size_of var.ty) b (value_offsets h var n) k (subst (λ m. k ≤ m) (whole_count-is h var n b) le)

@@ -1,5 +1,5 @@
 -- One read of a walk, and what the walk is afterwards.
-use Rattle.std.proofs.Common.{◌≡◌, ℕ, zero, suc, ◌+◌, ◌-◌, ◌*◌, ◌/◌, ◌<◌, ◌≤◌, Bool, List, ◌++◌, length, take, drop, map, sym, ◌∙◌, ap, refl, subst, arith, length-append, length-take, Option, None, Some, Ok, All}
+use Rattle.std.proofs.Common.{◌≡◌, ℕ, ◌+◌, ◌-◌, ◌*◌, ◌/◌, ◌<◌, ◌≤◌, Bool, List, ◌++◌, length, take, drop, map, sym, ◌∙◌, ap, refl, subst, arith, length-append, length-take, Option, None, Some, Ok, All}
 use Rattle.nc_walk.proofs.Prelude.{concat, take-append-le, mul-div_cancel, mul-le-mul_right, le_of_mul-le-mul_right, div-mul-le_self, bytes_at, SourceView, having_read, Slabs, ReadInFull, FailedReadInFull, total, offset, offsets_from, offsets_after, Ready, IsSized, IsWhole, Exactly, ReturnsValues, Failing, Truncated, ReadValues, Steps, Advanced, standing, stopped, as_answer, count}
 use Rattle.nc_walk.specs.declared.fault.WalkFault.{WalkFault}
 use Rattle.nc_walk.proofs.FullReadSteps.{transparent_any, transparent_map, transparent_both}
@@ -14,16 +14,7 @@ none_left l done e = omega (arith, length-offsets l done (total l - done))
 -- no value is ready
 pub not_ready : (is_transparent : Bool) (l : Slabs) (done capacity : ℕ) (buf : List ℕ) (before : SourceView) (n : ℕ) → done < total l
     → Ready l done capacity (length before.bytes) n → n ≡ 0 → Truncated is_transparent (standing l done buf) before before done
-not_ready is_transparent l done capacity buf before n more ready none = record {
-  value = refl;
-  some = some_left l done more;
-  failures = refl;
-  missing = transparent_any is_transparent (
-      let first = first_offset l done (total l - done) (omega arith) in
-      let short = ready.none none in
-      (omega (arith, first, short), refl)
-      );
-}
+not_ready is_transparent l done capacity buf before n more ready none = grind (arith, some_left, transparent_any, first_offset, total)
 
 -- n values were requested, and `got` bytes came
 module _ (is_transparent : Bool) (l : Slabs) (done capacity : ℕ) (buf : List ℕ) (before now : SourceView) (ys rest : List ℕ) (n got : ℕ)
@@ -117,8 +108,7 @@ module _ (is_transparent : Bool) (l : Slabs) (done capacity : ℕ) (buf : List �
 -- ---- afterwards
 
 prefix : (buf : List ℕ) (m : ℕ) → 0 < m → as_answer buf (Ok m) ≡ Ok (Some (take m buf))
-prefix buf zero lt = absurd (omega arith)
-prefix buf (suc m) lt = refl
+prefix buf m h = grind arith
 
 -- values at the start of the buffer are handed out
 module _ (is_transparent : Bool) (l : Slabs) (done : ℕ) (had buf : List ℕ) (before now : SourceView) (n : ℕ) (sized : IsSized l) (within : done ≤ total l)

@@ -1,5 +1,5 @@
 -- The offsets of a variable's values by their index vectors are those by their numbers, in the same order.
-use Rattle.std.proofs.Common.{◌≡◌, ℕ, zero, suc, ◌+◌, ◌*◌, ◌/◌, ◌%◌, ◌<◌, Bool, true, false, List, [], ◌∷◌, ◌++◌, length, map, sym, ◌∙◌, ap, refl, arith, if◌then◌else◌}
+use Rattle.std.proofs.Common.{◌≡◌, ℕ, zero, suc, ◌+◌, ◌*◌, ◌/◌, ◌%◌, ◌<◌, Bool, List, [], ◌∷◌, ◌++◌, length, map, sym, ◌∙◌, ap, refl, arith, if◌then◌else◌}
 use Rattle.nc_walk.proofs.Prelude.{flat_map, range_with_len, map-append, length-map-range_with_len, div-mul-add, mod-mul-add, mod_below, div-add-mod', Var, Header, size_of, product, is_record_var, slab_lens, record_size, value_count, vectors_below, slab_strides, distance, value_offset, value_offsets, lens_over, Slabs, total, offset, offsets_from, slabs_of, AreSlabsOf, Starts, standing, map-map, some_right}
 use Rattle.nc_walk.proofs.Runs.{offset_at}
 
@@ -11,10 +11,7 @@ vector_at (n ∷ ns) i = i / product ns ∷ vector_at ns (i % product ns)
 -- ---- one offset
 
 distance_at : (size : ℕ) (ns : List ℕ) (i : ℕ) → i < product ns → distance (vector_at ns i) (slab_strides size ns) ≡ i * size
-distance_at size [] i lt =
-    let z : 0 ≡ i = omega arith in
-    let f : 0 ≡ 0 * size = omega arith in
-    f ∙ ap (λ (k : ℕ). k * size) z
+distance_at size [] i lt = grind arith
 distance_at size (n ∷ ns) i lt =
     let p = product ns in
     let below : i % p < p = mod_below i p (some_right n p i lt) in
@@ -22,10 +19,7 @@ distance_at size (n ∷ ns) i lt =
     ap (λ (k : ℕ). i / p * (size * p) + k) (distance_at size ns (i % p) below) ∙ e ∙ ap (λ (k : ℕ). k * size) (div-add-mod' i p)
 
 pub at_first : (l : Slabs) (i : ℕ) → i < l.values_per_slab → offset l i ≡ l.begin + i * l.size
-at_first l i lt =
-    let e : i ≡ 0 * l.values_per_slab + i = omega arith in
-    let f : l.begin + 0 * l.stride + i * l.size ≡ l.begin + i * l.size = omega arith in
-    ap (offset l) e ∙ offset_at l 0 i lt ∙ f
+at_first l i lt = grind (arith, offset_at)
 
 -- slabs of this shape, one for each of n records or one in all
 abbrev shaped : ℕ → ℕ → ℕ → Bool → List ℕ → ℕ → Slabs
@@ -37,18 +31,10 @@ over is_record lens n = if is_record then n ∷ lens else lens
 shaped_at : (begin size stride : ℕ) (is_record : Bool) (lens : List ℕ) (n i : ℕ) → i < total (shaped begin size stride is_record lens n)
     → begin + distance (vector_at (over is_record lens n) i) (if is_record then stride ∷ slab_strides size lens else slab_strides size lens)
     ≡ offset (shaped begin size stride is_record lens n) i
-shaped_at begin size stride true lens n i lt =
-    let p = product lens in
-    let below : i % p < p = mod_below i p (some_right n p i lt) in
-    let e : begin + (i / p * stride + i % p * size) ≡ begin + i / p * stride + i % p * size = omega arith in
-    ap (λ (k : ℕ). begin + (i / p * stride + k)) (distance_at size lens (i % p) below) ∙ e
-shaped_at begin size stride false lens n i lt =
-    let within : i < product lens = omega arith in
-    ap (λ (k : ℕ). begin + k) (distance_at size lens i within) ∙ sym (at_first (shaped begin size stride false lens n) i within)
+shaped_at begin size stride is_record lens n i h = grind (arith, mod_below, some_right, distance_at, at_first, shaped)
 
 shaped_total : (begin size stride : ℕ) (is_record : Bool) (lens : List ℕ) (n : ℕ) → product (over is_record lens n) ≡ total (shaped begin size stride is_record lens n)
-shaped_total begin size stride true lens n = refl
-shaped_total begin size stride false lens n = omega arith
+shaped_total begin size stride is_record lens n = grind arith
 
 -- the offset of value number i is that of the i-th index vector
 pub value_offset_at : (h : Header) (var : Var) (n i : ℕ) → i < total (slabs_of h var n) → value_offset h var (vector_at (lens_over h.dims var n) i) ≡ offset (slabs_of h var n) i
@@ -89,9 +75,7 @@ rows ns a (suc n) =
 
 pub vectors_in_order : (ns : List ℕ) → vectors_below ns ≡ map (vector_at ns) (range_with_len 0 (product ns))
 vectors_in_order [] = refl
-vectors_in_order (n ∷ ns) =
-    ap (λ vs. flat_map (λ i. map (λ (index : List ℕ). i ∷ index) vs) (range_with_len 0 n)) (vectors_in_order ns) ∙ rows ns 0 n
-    ∙ ap (λ (k : ℕ). map (λ (j : ℕ). j / product ns ∷ vector_at ns (j % product ns)) (range_with_len k (n * product ns))) (let e : 0 * product ns ≡ 0 = omega arith in e)
+vectors_in_order (n ∷ ns) = grind (arith, rows ns 0 n, vectors_in_order ns)
 
 -- ---- of a variable
 
@@ -111,20 +95,8 @@ offsets_in_order h var n =
 
 pub count_of_offsets : (h : Header) (var : Var) (n : ℕ) → length (value_offsets h var n) ≡ value_count h.dims var n
 unfolding offsets_from
-count_of_offsets h var n =
-    let l = slabs_of h var n in
-    let e : total l ≡ value_count h.dims var n = omega arith in
-    ap (λ (xs : List ℕ). length xs) (sym (offsets_in_order h var n)) ∙ length-map-range_with_len (offset l) 0 (total l) ∙ e
+count_of_offsets h var n = grind (arith, offsets_in_order h var n, total, length-map-range_with_len)
 
 -- a walk over the slabs of a variable starts at its first value
 pub starts : (h : Header) (v n : ℕ) (l : Slabs) (buf : List ℕ) → AreSlabsOf h v n l → Starts h v n (length buf) (standing l 0 buf)
-starts h v n l buf slabs = record {
-  var = slabs.var;
-  at = slabs.at;
-  size = slabs.size;
-  left = slabs.offsets;
-  count = ap (λ (xs : List ℕ). length xs) slabs.offsets ∙ count_of_offsets h slabs.var n;
-  done = refl;
-  fault = refl;
-  capacity = refl;
-}
+starts h v n l buf slabs = grind (arith, count_of_offsets)

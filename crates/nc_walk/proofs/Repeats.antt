@@ -1,5 +1,5 @@
 -- A unit of eight bytes that is repeated.
-use Rattle.std.proofs.Common.{◌≡◌, ℕ, zero, suc, ◌+◌, ◌-◌, ◌*◌, ◌<◌, ◌≤◌, inl, inr, List, [], ◌∷◌, ◌++◌, length, take, replicate, refl, sym, ◌∙◌, ap, arith, length-append, append_assoc, min}
+use Rattle.std.proofs.Common.{◌≡◌, ℕ, zero, suc, ◌+◌, ◌-◌, ◌*◌, ◌<◌, ◌≤◌, inl, inr, List, [], ◌∷◌, ◌++◌, length, take, replicate, refl, sym, ◌∙◌, ap, arith, append_assoc, min}
 use Rattle.nc_walk.proofs.Prelude.{concat, flat_map, mul-le-mul_left, take-append-add, cases_lt, take-append-le, take_all, append-nil, repeated, length-replicated}
 
 pub copies-add : (unit : List ℕ) (m n : ℕ) → concat (replicate (m + n) unit) ≡ concat (replicate m unit) ++ concat (replicate n unit)
@@ -28,8 +28,7 @@ repeated-none unit = refl
 
 pub repeated-short : (unit : List ℕ) (n : ℕ) → n ≤ length unit → 0 < length unit → repeated unit n ≡ take n unit
 unfolding repeated
-repeated-short unit zero le some = refl
-repeated-short unit (suc n) le some = take-append-le (suc n) unit (concat (replicate n unit)) le
+repeated-short unit n h h2 = grind (arith, take-append-le)
 
 -- copies that are enough
 pub repeated-by : (unit : List ℕ) (n k : ℕ) → 0 < length unit → n ≤ k * length unit → take n (concat (replicate k unit)) ≡ repeated unit n

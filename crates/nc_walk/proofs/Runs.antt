@@ -61,11 +61,7 @@ offset_along l i j lt =
     ap (offset l) e ∙ offset_at l q (m + j) lt ∙ f
 
 pub run_within : (l : Slabs) (i n : ℕ) → 0 < l.values_per_slab → i < total l → i % l.values_per_slab + n ≤ l.values_per_slab → i + n ≤ total l
-run_within l i n some lt le =
-    let q = i / l.values_per_slab in
-    let below : q < l.total_slabs = div_below i l.values_per_slab l.total_slabs some lt in
-    let up : (q + 1) * l.values_per_slab ≤ l.total_slabs * l.values_per_slab = mul-le-mul_right l.values_per_slab (let h : q + 1 ≤ l.total_slabs = omega arith in h) in
-    omega (arith, up, div-add-mod' i l.values_per_slab)
+run_within l i n some lt le = grind (arith, div_below, mul-le-mul_right, div-add-mod')
 
 -- each value that is ready is whole
 pub ready_whole : (l : Slabs) (b : List ℕ) (i capacity n : ℕ) → Ready l i capacity (length b) n → All (IsWhole l.size b) (offsets_from l i n)

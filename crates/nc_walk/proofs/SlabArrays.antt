@@ -1,5 +1,5 @@
 -- The slabs of a record are those of the arrays of the record variables.
-use Rattle.std.proofs.Common.{◌≡◌, ℕ, ◌+◌, ◌<◌, ◌≤◌, Bool, true, false, List, [], ◌∷◌, ◌++◌, All, length, get_or, map, drop, refl, sym, ◌∙◌, ap, arith, subst, if◌then◌else◌}
+use Rattle.std.proofs.Common.{◌≡◌, ℕ, ◌+◌, ◌<◌, ◌≤◌, Bool, true, false, List, [], ◌∷◌, ◌++◌, All, length, get_or, map, drop, refl, sym, ◌∙◌, ap, arith, if◌then◌else◌}
 use Rattle.nc_walk.proofs.Prelude.{drop_more, All-cons, All-nil, Dim, Var, AreListed, is_record_var, RecordSlab, ArrayView, array_view, record_arrays, array_of, record_slab, record_slabs}
 use Rattle.nc_walk.proofs.DataFilled.{listed-len}
 
@@ -23,16 +23,13 @@ arrays-from v dims (var ∷ vars) arrays same =
 
 pub arrays-of-slabs : (dims : List Dim) (n : ℕ) (vars : List Var) (arrays : List (List ℕ)) (slabs : List RecordSlab) → slabs ≡ record_slabs 0 dims vars → AreListed dims n vars arrays
     → map (array_of arrays) slabs ≡ record_arrays dims vars arrays
-arrays-of-slabs dims n vars arrays slabs is are =
-    let same = listed-len dims n vars arrays are in
-    ap (λ (xs : List RecordSlab). map (array_of arrays) xs) is ∙ arrays-from 0 dims vars arrays (omega (arith, same))
+arrays-of-slabs dims n vars arrays slabs is are = grind (arith, listed-len, arrays-from)
 
 -- one slab alone
 pub one-array : (arrays : List (List ℕ)) (slabs : List RecordSlab) (d : RecordSlab) (array : ArrayView) → 1 ≤ length slabs → length slabs < 2 → array ≡ array_of arrays (get_or slabs 0 d)
     → map (array_of arrays) slabs ≡ array ∷ []
-one-array arrays [] d array some one is = absurd (omega arith)
 one-array arrays (slab ∷ []) d array some one is = ap (λ (a : ArrayView). a ∷ []) (sym is)
-one-array arrays (slab ∷ other ∷ slabs) d array some one is = absurd (omega arith)
+one-array arrays _ d array some one is = absurd (omega arith)
 
 -- each has the index of a variable
 within-from : (v n : ℕ) (dims : List Dim) (vars : List Var) → v + length vars ≤ n → All (λ (slab : RecordSlab). slab.var_index < n) (record_slabs v dims vars)
@@ -46,6 +43,4 @@ within-from v n dims (var ∷ vars) le = of_kind (is_record_var dims var) (withi
 
 pub slabs-within : (dims : List Dim) (n : ℕ) (vars : List Var) (arrays : List (List ℕ)) (slabs : List RecordSlab) → slabs ≡ record_slabs 0 dims vars → AreListed dims n vars arrays
     → All (λ (slab : RecordSlab). slab.var_index < length arrays) slabs
-slabs-within dims n vars arrays slabs is are =
-    let same = listed-len dims n vars arrays are in
-    subst (λ (xs : List RecordSlab). All (λ (slab : RecordSlab). slab.var_index < length arrays) xs) (sym is) (within-from 0 (length arrays) dims vars (omega (arith, same)))
+slabs-within dims n vars arrays slabs is are = grind (arith, listed-len, within-from)

@@ -1,31 +1,18 @@
 -- The slabs of a variable of a sound header.
-use Rattle.std.proofs.Common.{◌≡◌, ℕ, ◌+◌, ◌-◌, ◌*◌, ◌/◌, ◌%◌, ◌<◌, ◌≤◌, length, get_or, map, sym, ◌∙◌, ap, refl, subst, arith, if◌then◌else◌}
-use Rattle.nc_walk.proofs.Prelude.{range_with_len, All-get_or, div-add-mod', mul-div_cancel, NcType, Byte, Char, Short, Int, Ubyte, Ushort, Uint, Int64, Uint64, Var, Header, size_of, is_record_var, record_size, slab_count, IsSound, IsSoundVar, some_count, some_size, Slabs, total, offset, offsets_from, offsets_after, slabs_of, IsSized, AreSlabsOf}
+use Rattle.std.proofs.Common.{◌≡◌, ℕ, ◌+◌, ◌-◌, ◌*◌, ◌/◌, ◌%◌, ◌<◌, ◌≤◌, length, get_or, map, sym, ◌∙◌, ap, subst, arith, if◌then◌else◌}
+use Rattle.nc_walk.proofs.Prelude.{range_with_len, All-get_or, div-add-mod', NcType, Var, Header, size_of, is_record_var, record_size, slab_count, IsSound, IsSoundVar, some_count, some_size, Slabs, total, offset, offsets_from, offsets_after, slabs_of, IsSized, AreSlabsOf}
 use Rattle.std.proofs.lemmas.Option.{slice_get_read}
 use Rattle.nc_walk.proofs.Orders.{at_first, shifted, offsets_in_order}
 
 small_size : (ty : NcType) → size_of ty ≤ 8
-small_size Byte = omega arith
-small_size Char = omega arith
-small_size Short = omega arith
-small_size Int = omega arith
-small_size Ubyte = omega arith
-small_size Ushort = omega arith
-small_size Uint = omega arith
-small_size Int64 = omega arith
-small_size Uint64 = omega arith
+small_size ty = grind arith
 
 -- the variable in a cursor is sound
 pub sound_var : (h : Header) (v : ℕ) (var : Var) → IsSound h → v < length h.vars → var ≡ get_or h.vars v var → IsSoundVar h.version h.dims var
 sound_var h v var sound lt at = subst (IsSoundVar h.version h.dims) (sym at) (All-get_or (IsSoundVar h.version h.dims) h.vars v var lt sound.vars)
 
 pub sized : (h : Header) (var : Var) (n : ℕ) → IsSound h → IsSoundVar h.version h.dims var → IsSized (slabs_of h var n)
-sized h var n sound s = record {
-  some = some_size var.ty;
-  small = small_size var.ty;
-  values_per_slab = some_count h.dims var.dimids s.shape;
-  stride = sound.small_records;
-}
+sized h var n sound s = grind (arith, some_size, small_size, some_count)
 
 -- ---- slabs side by side
 
@@ -61,15 +48,4 @@ sized_slabs h v n var l sound lt at same = subst IsSized (sym same) (sized h var
 
 pub are_slabs : (h : Header) (v n : ℕ) (var : Var) (l joined : Slabs) → v < length h.vars → var ≡ get_or h.vars v var → l ≡ slabs_of h var n
     → joined.size ≡ l.size → offsets_after joined 0 ≡ offsets_after l 0 → IsSized joined → AreSlabsOf h v n joined
-are_slabs h v n var l joined lt at same size offsets is_sized =
-    let all : total (slabs_of h var n) - 0 ≡ total (slabs_of h var n) = omega arith in record {
-      var = var;
-      at = slice_get_read h.vars (length h.vars) v var refl lt at;
-      size = size ∙ ap (λ (k : Slabs). k.size) same;
-      offsets = offsets ∙ ap (λ (k : Slabs). offsets_after k 0) same ∙ ap (offsets_from (slabs_of h var n) 0) all ∙ offsets_in_order h var n;
-      sized = is_sized;
-    }
-
--- the number of values in n bytes of them
-pub slab_count-of : (ty : NcType) (n slab : ℕ) → slab ≡ n * size_of ty → slab / size_of ty ≡ n
-slab_count-of ty n slab e = ap (λ m. m / size_of ty) e ∙ mul-div_cancel n (some_size ty)
+are_slabs h v n var l joined lt at same size offsets is_sized = grind (arith, slice_get_read h.vars, offsets_in_order h var n, total, sized)

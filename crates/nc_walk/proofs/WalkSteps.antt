@@ -1,6 +1,6 @@
 -- A walk from call to call, as its caller sees it.
-use Rattle.std.proofs.Common.{◌≡◌, ℕ, ◌+◌, ◌-◌, ◌*◌, ◌<◌, ◌≤◌, Bool, List, ◌++◌, length, get_or, take, drop, sym, ◌∙◌, ap, subst, arith, length-drop, None, Some, Ok, Err, All}
-use Rattle.nc_walk.proofs.Prelude.{OnTrue, concat, mul-le-mul_right, take-add, drop-drop, get_or-drop, All-nil, All-append, Header, Var, size_of, numbers, value_count, value_offsets, HasFailed, SourceView, having_read, WalkView, Answer, IsWhole, Starts, Exactly, ReturnsValues, Failing, Truncated, Steps, Advanced, count, Pass, offsets_in, stored_in, total_in, whole_in, going_on, Walked, HasRead, IsChunk, GivesChunk, GivesEnd, GivesCut, GivesFailure, Gives}
+use Rattle.std.proofs.Common.{◌≡◌, ℕ, ◌+◌, ◌-◌, ◌*◌, ◌≤◌, Bool, List, ◌++◌, length, take, drop, sym, ◌∙◌, ap, subst, arith, length-drop, None, Some, Ok, Err, All}
+use Rattle.nc_walk.proofs.Prelude.{mul-le-mul_right, take-add, drop-drop, get_or-drop, All-nil, All-append, Header, Var, size_of, numbers, value_count, value_offsets, HasFailed, SourceView, having_read, WalkView, Answer, IsWhole, Starts, Exactly, ReturnsValues, Failing, Truncated, Steps, Advanced, count, Pass, offsets_in, total_in, whole_in, going_on, Walked, HasRead, IsChunk, GivesChunk, GivesEnd, GivesCut, GivesFailure, Gives}
 use Rattle.nc_walk.specs.declared.fault.WalkFault.TheVariants.{ReadFailed, DataTruncated}
 use Rattle.nc_walk.proofs.FullReadSteps.{transparent_any, transparent_map, transparent_both, after_after}
 use Rattle.nc_walk.proofs.Missing.{missing_at, none_missing, whole_count-ge}
@@ -12,26 +12,14 @@ after_none v size = let e : v.handed ≡ v.handed + 0 * size = omega arith in ap
 
 -- a walk that starts has walked past no value
 pub begun : (p : Pass) (v : ℕ) (w : WalkView) (s : Starts p.header v p.records p.buffer_len w) → s.var ≡ p.var → p.source.after ≡ p.source.before → Walked p w 0
-begun p v w s var first = record {
-  size = s.size ∙ ap (λ (x : Var). size_of x.ty) var;
-  left = s.left ∙ ap (λ (x : Var). value_offsets p.header x p.records) var;
-  done = s.done;
-  within = omega arith;
-  fault = s.fault;
-  buf = s.capacity;
-  failures = ap (λ (x : SourceView). x.failures) first;
-  read = transparent_any p.is_transparent (record { whole = All-nil (IsWhole (size_of p.var.ty) p.source.before.bytes); handed = first ∙ after_none p.source.before (size_of p.var.ty) });
-}
+begun p v w s var first = grind (arith, transparent_any, All-nil, after_none)
 
 -- where the walk stands
 abbrev there : Pass → WalkView → ℕ → WalkView
 there p w k = record w { size = size_of p.var.ty; left = drop k (offsets_in p); done = k }
 
 stands : (p : Pass) (w : WalkView) (k : ℕ) → Walked p w k → w ≡ there p w k
-stands p w k s =
-    ap (λ (x : ℕ). record w { size = x }) s.size
-    ∙ ap (λ (x : List ℕ). record w { size = size_of p.var.ty; left = x }) s.left
-    ∙ ap (λ (x : ℕ). record w { size = size_of p.var.ty; left = drop k (offsets_in p); done = x }) s.done
+stands p w k s = grind arith
 
 -- what is left after the first k
 left_over : (h : Header) (var : Var) (n k : ℕ) → length (drop k (value_offsets h var n)) ≡ value_count h.dims var n - k
@@ -68,51 +56,16 @@ module _ (p : Pass) (w : WalkView) (c : SourceView) (k : ℕ) (s : Walked p w k)
       }
 
   is_chunk : (chunk : List ℕ) (j : ℕ) → HasRead p k → Exactly (there p w k) b c chunk j → IsChunk (going_on p c) k chunk j
-  is_chunk chunk j r e0 =
-      let e = subst (λ (v : SourceView). Exactly (there p w k) v c chunk j) r.handed e0 in
-      let bytes : chunk ≡ concat (take j (drop k (stored_in p))) = e.bytes ∙ chunk_bytes p.header a.bytes p.var p.records k j in
-      record {
-        bytes_are = bytes;
-        joined = ap (λ (zs : List ℕ). concat (take k (stored_in p)) ++ zs) bytes ∙ joined_bytes (stored_in p) k j;
-        numbers_are = ap (numbers p.var.ty) e.bytes ∙ numbers-whole p.var.ty a.bytes (take j (drop k xs)) e.whole ∙ chunk_values p.header a.bytes p.var p.records k j;
-      }
+  is_chunk chunk j r e0 = grind (arith, there, chunk_bytes, joined_bytes, numbers, numbers-whole, chunk_values)
 
   gives_chunk : (chunk : List ℕ) (j : ℕ) → ReturnsValues is_transparent (there p w k) b c chunk j → GivesChunk (going_on p c) k chunk j
-  gives_chunk chunk j x = record {
-    some = x.some;
-    within = omega (arith, x.within, left_here, s.within);
-    length_is = x.len;
-    capacity = omega (arith, x.len, x.capacity, s.buf);
-    failures = x.failures ∙ s.failures;
-    chunk_is = transparent_both is_transparent (is_chunk chunk j) s.read x.exactly;
-    read = transparent_both is_transparent (read_on chunk j x.len) s.read x.exactly;
-  }
+  gives_chunk chunk j x = grind (arith, left_here, transparent_both, is_chunk, read_on)
 
   gives_end : (length (drop k xs) ≡ 0) × (c ≡ b) → GivesEnd (going_on p c) k
-  gives_end x =
-      let all : k ≡ total_in p = omega (arith, x.0, left_here, s.within) in
-      record {
-        all = all;
-        failures = ap (λ (v : SourceView). v.failures) x.1 ∙ s.failures;
-        none_missing = transparent_map is_transparent (λ r. none_missing p.header p.var p.records a.bytes k all r.whole) s.read;
-        read = subst (λ (v : SourceView). OnTrue is_transparent (HasRead (going_on p v) k)) (sym x.1) s.read;
-      }
+  gives_end x = grind (arith, left_here, none_missing, transparent_map)
 
   gives_cut : (value : ℕ) → Truncated is_transparent (there p w k) b c value → GivesCut (going_on p c) k value
-  gives_cut value x =
-      let within : k < total_in p = omega (arith, x.some, left_here) in
-      record {
-        value_is = x.value;
-        within = within;
-        failures = x.failures ∙ s.failures;
-        missing = transparent_both is_transparent (λ r m.
-            let here : get_or (drop k xs) 0 0 ≡ get_or xs (k + 0) 0 = get_or-drop k xs 0 0 in
-            let e : k + 0 ≡ k = omega arith in
-            let at : get_or (drop k xs) 0 0 ≡ get_or xs k 0 = here ∙ ap (λ (i : ℕ). get_or xs i 0) e in
-            let same : length b.bytes ≡ length a.bytes = ap (λ (v : SourceView). length v.bytes) r.handed in
-            missing_at p.header p.var p.records a.bytes k within r.whole (omega (arith, m.0, at, same))) s.read x.missing;
-        read = transparent_both is_transparent (λ r m. subst (λ (v : SourceView). HasRead (going_on p v) k) (sym m.1) r) s.read x.missing;
-      }
+  gives_cut value x = grind (arith, left_here, transparent_both, get_or-drop, missing_at)
 
   gives_failure : (m : ℕ) → Failing (there p w k) b c m → GivesFailure (going_on p c) k
   gives_failure m x = record {

@@ -1,6 +1,6 @@
 -- The files of a few datasets, byte for byte: what a reader doesn't look at (padding, vsize, lists without elements) and the
 -- order of blocks are said by no law.
-use Rattle.std.proofs.Common.{◌≡◌, ℕ, ◌-◌, ◌^◌, List, [], ◌∷◌, refl, codes, replicate}
+use Rattle.std.proofs.Common.{◌≡◌, ◌-◌, ◌^◌, [], ◌∷◌, refl, codes, replicate}
 use Rattle.nc_base.proofs.Prelude.{Dataset, Streaming, Byte, Short, Version, Cdf1, Cdf2, Cdf5, numrecs_spelling, known_records, vsize_of, data_of, file_of}
 use Rattle.nc_base.proofs.examples.Written.{hex, dim, var, dataset, files_computed}
 

@@ -1,6 +1,7 @@
+use Rattle.std.proofs.lemmas.Grind.{common_steps}
 use Rattle.std.proofs.Common.{◌≡◌, ◌+◌, ◌*◌, min, get_or, drop, map, arith, ◌∙◌, ap}
 use Rattle.nc_base.specs.Sizes.{dim_len, product, slab_limit}
-use Rattle.nc_base.proofs.SizeLaws.{capped_more, capped_all}
+use Rattle.nc_base.proofs.SizeLaws.{capped_more}
 use Rattle.nc_base.proofs.sizes.capped_bytes.Goals as goal
 
 pub loop-id-preserved : goal.loop-id-preserved
@@ -14,5 +15,4 @@ loop-id-preserved c =
     )
 
 pub returns : goal.returns
-returns c =
-    capped_all (dim_len c.args.dims.now) c.args.dimids.now _ _ _ (slab_limit + 1) c.loop-id-test.false c.loop-id.invariant.1 c.loop-id.invariant.0
+returns c = grind (arith, common_steps)

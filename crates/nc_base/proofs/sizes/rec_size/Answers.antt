@@ -1,23 +1,11 @@
-use Rattle.std.proofs.Common.{◌≡◌, ℕ, ◌+◌, ◌<◌, ◌≤◌, ◌&&◌, List, length, get_or, sym, ◌∙◌, ap, subst, arith, true, if◌then◌else◌}
-use Rattle.nc_base.proofs.Prelude.{slab_of, is_record_var, is_narrow, slab_limit, Dim, Var}
+use Rattle.std.proofs.Common.{◌≡◌, ℕ, ◌+◌, ◌<◌, ◌&&◌, List, length, get_or, sym, ◌∙◌, ap, subst, arith, if◌then◌else◌}
+use Rattle.nc_base.proofs.Prelude.{slab_of, is_narrow, Var}
 use Rattle.nc_base.proofs.SizeLaws.{sums_more_at, sums_skipped_at, checked-none_at}
 use Rattle.nc_base.proofs.sizes.rec_size.Goals as goal
 use Rattle.nc_base.proofs.sizes.rec_size.Goals.{then-is_record_var+in_ok-slab, else-is_record_var}
 
 pub returns-in_err-slab : goal.returns-in_err-slab
-returns-in_err-slab c =
-    let h = c.args.header.now in
-    let x = c.var-item.result in
-    let same : c.as_slice-dims.result.now ≡ h.dims = c.as_slice-dims.ensures in
-    let items : c.as_slice-var-items.result.now ≡ h.vars = c.as_slice-var-items.ensures in
-    let lt : c.loop-var.var-index < length h.vars = subst (λ (vs : List Var). c.loop-var.var-index < length vs) items c.loop-var-test.true in
-    let at : x ≡ get_or h.vars c.loop-var.var-index x = c.var-item.is ∙ ap (λ (vs : List Var). get_or vs c.loop-var.var-index x) items in
-    let growing : is_record_var h.dims x ≡ true =
-    ap (λ (ds : List Dim). is_record_var ds x) (sym same) ∙ sym c.is_record_var.ensures ∙ c.if-is_record_var.true in
-    let slab : slab_of h.dims x.dimids x.ty ≡ slab_of c.as_slice-dims.result.now c.as_slice.result.now x.ty =
-    ap (λ (ds : List Dim). slab_of ds x.dimids x.ty) (sym same) ∙ ap (λ (ids : List ℕ). slab_of c.as_slice-dims.result.now ids x.ty) (sym c.as_slice.ensures) in
-    let large : slab_of h.dims x.dimids x.ty ≤ slab_limit → ⊥ = λ small. c.in_err-slab.ensures (subst (λ n. n ≤ slab_limit) slab small) in
-    c.from_residual.ensures ∙ sym (checked-none_at h c.loop-var.var-index x lt at growing large)
+returns-in_err-slab c = grind (arith, checked-none_at)
 
 pub loop-var-preserved : goal.loop-var-preserved
 loop-var-preserved c =

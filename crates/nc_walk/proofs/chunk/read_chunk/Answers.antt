@@ -9,15 +9,10 @@ rest n xs le = omega (arith, length-take (length xs - n) (drop n xs), length-dro
 
 capacity_left : (n capacity size : ℕ) (xs ys : List ℕ) → n ≤ capacity → n * size ≤ length xs → capacity * size ≤ length ys → length xs ≡ length ys
     → (capacity - n) * size ≤ length (take (length xs - n * size) (drop (n * size) xs))
-capacity_left n capacity size xs ys below fits most same =
-    let e : capacity ≡ capacity - n + n = omega arith in
-    let all : capacity * size ≡ (capacity - n) * size + n * size = ap (λ (k : ℕ). k * size) e ∙ (let h : (capacity - n + n) * size ≡ (capacity - n) * size + n * size = omega arith in h) in
-    omega (arith, all, rest (n * size) xs fits)
+capacity_left n capacity size xs ys below fits most same = grind (arith, rest)
 
 both_fit : (n m size : ℕ) (xs : List ℕ) → 0 < size → n * size ≤ length xs → m * size ≤ length (take (length xs - n * size) (drop (n * size) xs)) → n + m ≤ length xs
-both_fit n m size xs some fits more =
-    let up : (n + m) * 1 ≤ (n + m) * size = mul-le-mul_left (n + m) (let h : 1 ≤ size = omega (arith, some) in h) in
-    omega (arith, up, rest (n * size) xs fits)
+both_fit n m size xs some fits more = grind (arith, mul-le-mul_left, rest)
 
 -- the slab that follows is ready
 follows : (l : Slabs) (cursor : Cursor) (values capacity len at : ℕ) (into had : List ℕ) (before now : SourceView) (n : ℕ) → IsSized l → cursor.within ≡ 0 → IsOffset l (number_at l cursor) at
@@ -61,11 +56,7 @@ returns-in-Err-ReadFailed g c =
     _ (rw c.in-Err-ReadFailed.field-0-is at c.in-Err-ReadFailed.ensures.collects).1
 
 pub read_run-requires-2 : goal.read_run-requires-2
-read_run-requires-2 g c =
-    let test = c.if-not-continues_in_next_slab.ensures.0 refl in
-    let capacity = capacity_left c.loop-slabs.chunk.values c.args.capacity c.args.slabs.now.size c.loop-slabs.into c.args.into.now
-    (let below = test.fits in omega arith) c.loop-slabs.invariant.going.collected.fits c.requires.capacity (c.loop-slabs.auto.into ∙ c.read_run.auto.into) in
-    record { sized = search rules; is_cursor = search rules; more = test.more; some = (let below = test.fits in omega arith); capacity = capacity }
+read_run-requires-2 g c = grind (arith, capacity_left)
 
 pub overflow_add-result : goal.overflow_add-result
 overflow_add-result g c =

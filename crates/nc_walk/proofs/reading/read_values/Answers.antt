@@ -4,12 +4,7 @@ use Rattle.nc_walk.proofs.OneRead.{came, came_all, came_none, values_read, ran_a
 use Rattle.nc_walk.proofs.reading.read_values.Goals as goal
 
 pub returns-in_err-got-clause-reads : goal.returns-in_err-got-clause-reads
-returns-in_err-got-clause-reads g c =
-    let p = err_from_is_err_and c.from_residual.result c.from_residual.ensures.1 in
-    rw p.1 (rw p.2 (partway g.S.Source.is_transparent _ _ _ c.args.into.now _ _ c.read_full.new.into (drop (c.args.ready * c.args.slabs.now.size) c.args.into.now) c.args.ready 0
-    c.requires.sized c.requires.more (omega arith) c.requires.ready c.requires.some
-    (omega (arith, c.read_full.auto.into, c.requires.ready.in_capacity, length-take (c.args.ready * c.args.slabs.now.size) c.args.into.now))
-    c.in_err-got.ensures))
+returns-in_err-got-clause-reads g c = grind (arith, err_from_is_err_and, partway, length-take)
 
 pub returns-then-got-wanted-clause-reads : goal.returns-then-got-wanted-clause-reads
 returns-then-got-wanted-clause-reads g c =
@@ -41,9 +36,4 @@ returns-then-got-wanted-clause-values_read g c = λ full.
     (rw c.requires.at at c.in_ok-got.ensures) c.if-got-wanted.true
 
 pub returns-clause-values_read : goal.returns-clause-values_read
-returns-clause-values_read g c = λ full.
-    values_read g.S.Source.is_transparent _ _ _ c.args.into.now _ _ c.read_full.new.into (drop (c.args.ready * c.args.slabs.now.size) c.args.into.now) c.args.ready c.in_ok-got.got
-    c.requires.sized c.requires.more (omega arith) c.requires.ready c.requires.some
-    (omega (arith, c.read_full.auto.into, c.requires.ready.in_capacity, length-take (c.args.ready * c.args.slabs.now.size) c.args.into.now))
-    (rw c.requires.at at c.in_ok-got.ensures)
-    (omega (arith, full, c.requires.ready.in_slab, mod-mul-add c.args.cursor.slab c.args.slabs.now.values_per_slab c.args.cursor.within c.requires.is_cursor.within))
+returns-clause-values_read g c = grind (arith, values_read, length-take, mod-mul-add)

@@ -1,5 +1,5 @@
-use Rattle.std.proofs.Common.{ℕ, ◌≡◌, ◌+◌, ◌-◌, ◌∷◌, ◌++◌, List, [], length, ap, sym, ◌∙◌, subst, arith, replicate}
-use Rattle.nc_base.proofs.Prelude.{common_steps, nil_from_length, filled_rows, AreRowEnds}
+use Rattle.std.proofs.Common.{ℕ, ◌≡◌, ◌+◌, ◌-◌, ◌∷◌, ◌++◌, List, [], length, ap, sym, ◌∙◌, arith, replicate}
+use Rattle.nc_base.proofs.Prelude.{common_steps, nil_from_length, filled_rows}
 use Rattle.nc_base.proofs.FilledRows.{AreSameEnds, no-rows, like-rows, filled_end, ends_end}
 use Rattle.nc_base.proofs.listed_array.ListedArray.end_row.Goals as goal
 use Rattle.nc_base.proofs.listed_array.ListedArray.end_row.Goals.{then-is_empty, else-is_empty+then-row_len-self, else-is_empty+else-row_len-self}
@@ -15,13 +15,7 @@ ends_are c =
     ]
 
 pub invariant_of-self-2 : goal.invariant_of-self-2
-invariant_of-self-2 c =
-    let l = c.self.inside in
-    let len : ℕ = c.len-end.result - l.last_row_end + c.args.lacking in
-    let end : ℕ = c.len-end.result in
-    let whole : end ≡ length l.bytes.items = omega (arith, c.len-end.ensures, l.bytes.ok.0) in
-    let added : c.push.new.self.items ≡ l.row_ends.items ++ end ∷ [] = c.in_ok-push.ensures.items in
-    (subst (λ (ends : List ℕ). AreRowEnds len 0 ends end) (sym added) (ends_end len l.last_row_end 0 l.row_ends.items end (ends_are c).ends_are (omega (arith, whole, c.self.invariant.1)) (omega (arith, whole, c.self.invariant.1))), omega (arith, whole))
+invariant_of-self-2 c = grind (arith, ends_are c, ends_end)
 
 pub returns : goal.returns
 returns c =

@@ -1,32 +1,16 @@
-use Rattle.std.proofs.Common.{ℕ, ◌≡◌, ◌≤◌, ◌+◌, ◌-◌, ◌*◌, ◌/◌, ◌%◌, List, length, get_or, take, drop, min, max, refl, ap, sym, ◌∙◌, subst, arith}
+use Rattle.std.proofs.Common.{ℕ, ◌≡◌, ◌+◌, ◌-◌, ◌*◌, ◌/◌, ◌%◌, List, length, get_or, take, drop, min, max, refl, ap, sym, ◌∙◌, arith}
 use Rattle.nc_base.proofs.Prelude.{mod-add-div, take_all, length-drop, length-take, length-take-le, drop-drop, drop_min, row_start}
 use Rattle.nc_base.proofs.FilledRows.{row-of, in_row, after_rows, stands-from}
 use Rattle.nc_base.proofs.listed_array.ListedArray.run_of_rows.Goals as goal
 
 pub row_at-row-requires-clause-after : goal.row_at-row-requires-clause-after
-row_at-row-requires-clause-after c =
-    let l = c.self.inside in
-    let row = row-of l.row_len l.last_row_end c.args.at c.len.result l.row_ends.items c.self.invariant.0 (omega (arith, c.len.ensures, l.row_ends.ok.0)) c.if-at-in_rows.true in
-    subst (λ (ends : List ℕ). row_start 0 ends (c.args.at / l.row_len) ≤ get_or ends (c.args.at / l.row_len) 0) (sym c.as_slice-then-at-in_rows.ensures.value) row.is.after
+row_at-row-requires-clause-after c = grind (arith, row-of)
 
 pub row_at-row-requires-clause-inside : goal.row_at-row-requires-clause-inside
-row_at-row-requires-clause-inside c =
-    let l = c.self.inside in
-    let r : ℕ = c.args.at / l.row_len in
-    let row = row-of l.row_len l.last_row_end c.args.at c.len.result l.row_ends.items c.self.invariant.0 (omega (arith, c.len.ensures, l.row_ends.ok.0)) c.if-at-in_rows.true in
-    let end : get_or c.as_slice-then-at-in_rows.result.now r 0 ≡ get_or l.row_ends.items r 0 = ap (λ (ends : List ℕ). get_or ends r 0) c.as_slice-then-at-in_rows.ensures.value in
-    let long : length c.as_slice.result.now ≡ length l.bytes.items = ap length c.as_slice.ensures.value in
-    omega (arith, end, long, row.is.inside, c.self.invariant.1)
+row_at-row-requires-clause-inside c = grind (arith, row-of)
 
 pub run_in_row-requires-clause-listed : goal.run_in_row-requires-clause-listed
-run_in_row-requires-clause-listed c =
-    let l = c.self.inside in
-    let r : ℕ = c.args.at / l.row_len in
-    let row = row-of l.row_len l.last_row_end c.args.at c.len.result l.row_ends.items c.self.invariant.0 (omega (arith, c.len.ensures, l.row_ends.ok.0)) c.if-at-in_rows.true in
-    let ends : List ℕ = c.as_slice-then-at-in_rows.result.now in
-    let n : ℕ = get_or ends r 0 - row_start 0 ends r in
-    let ends_are : n ≡ get_or l.row_ends.items r 0 - row_start 0 l.row_ends.items r = ap (λ (es : List ℕ). get_or es r 0 - row_start 0 es r) c.as_slice-then-at-in_rows.ensures.value in
-    omega (arith, ap length c.row_at-row.ensures, length-take n (drop (row_start 0 ends r) c.as_slice.result.now), ends_are, row.is.within)
+run_in_row-requires-clause-listed c = grind (arith, row-of, length-take)
 
 pub returns-then-at-in_rows : goal.returns-then-at-in_rows
 returns-then-at-in_rows c =

@@ -1,13 +1,10 @@
-use Rattle.std.proofs.Common.{ℕ, ◌≡◌, ◌+◌, ◌-◌, take, drop, length, refl, ap, arith, subst, min}
-use Rattle.nc_walk.proofs.Prelude.{err_from_is_err_and, UpTo, up-start, up-next, up-partway, up-all}
+use Rattle.std.proofs.Common.{refl, arith, rules}
+use Rattle.nc_walk.proofs.Prelude.{err_from_is_err_and, up-start, up-next, up-partway}
 use Rattle.nc_walk.proofs.ListedRuns.{next-run, part-whole}
 use Rattle.nc_walk.proofs.write.part.put_part.Goals as goal
 
 pub loop-at-init : goal.loop-at-init
-loop-at-init g c =
-    let a = c.args in
-    let end : c.min-end.result ≡ min (a.start + a.len) (length a.listed.now) = omega (arith, c.min-end.ensures, c.saturating_add.ensures, c.len.ensures, c.len.type_inv) in
-    subst (UpTo _ _ _) (part-whole a.listed.now a.start a.len c.min-end.result end) (up-start _ _)
+loop-at-init g c = grind (arith, part-whole, up-start)
 
 pub loop-at-preserved : goal.loop-at-preserved
 loop-at-preserved g c =
@@ -23,6 +20,4 @@ returns-in_err-n g c =
     c.loop-at.invariant (c.in_err-n.ensures.writes))
 
 pub returns : goal.returns
-returns g c =
-    let none : c.min-end.result - c.loop-at.at ≡ 0 = omega (arith, c.loop-at-test.false) in
-    up-all _ _ _ _ (ap (λ (k : ℕ). take k (drop c.loop-at.at c.args.listed.now)) none) c.loop-at.invariant
+returns g c = search rules

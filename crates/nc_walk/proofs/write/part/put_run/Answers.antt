@@ -1,5 +1,5 @@
-use Rattle.std.proofs.Common.{ℕ, List, [], ◌++◌, take, replicate, refl, sym, ap, ◌∙◌, subst}
-use Rattle.nc_walk.proofs.Prelude.{err_from_is_err_and, repeated, append-nil, Appended, FailedPartway, up-start, up-partway}
+use Rattle.std.proofs.Common.{ℕ, List, [], ◌++◌, take, replicate, refl, sym, ap, ◌∙◌, subst, arith}
+use Rattle.nc_walk.proofs.Prelude.{err_from_is_err_and, repeated, append-nil, FailedPartway, up-start, up-partway}
 use Rattle.nc_walk.proofs.ListedRuns.{run-pieces}
 use Rattle.devices.proofs.Writes.{appended_then, appended_partway}
 use Rattle.nc_walk.proofs.write.part.put_run.Goals as goal
@@ -19,7 +19,4 @@ returns-in_err-put_fills-clause-writes g c =
     rw p.1 (subst (FailedPartway _ _) (sym (pieces ∙ ap (λ (b : List ℕ). take c.min-listed.result run.bytes.now ++ b) (sym (append-nil second)))) (appended_partway _ _ _ _ _ [] c.in_ok-put.ensures c.in_err-put_fills.ensures))
 
 pub returns-clause-writes : goal.returns-clause-writes
-returns-clause-writes g c =
-    let run = c.args.run in
-    subst (Appended _ _) (sym (run-pieces run.bytes.now run.filling run.fill c.args.n c.min-listed.result c.min-filling.result c.min-listed.ensures c.min-filling.ensures))
-    (appended_then _ _ _ _ _ c.in_ok-put.ensures c.in_ok-put_fills.ensures)
+returns-clause-writes g c = grind (arith, run-pieces, appended_then)

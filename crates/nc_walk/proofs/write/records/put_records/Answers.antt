@@ -1,21 +1,14 @@
 use Rattle.std.proofs.Common.{◌≡◌, ℕ, ◌<◌, ◌∙◌, [], List, length, map, arith, ap, sym, subst}
-use Rattle.nc_walk.proofs.Prelude.{flat_map, range_with_len, length-map, nil_from_length, All-get_or, Written, Appended, known_records, RecordSlab, ArrayView, filled_records, filled_slabs, record_arrays, array_of, appended-nothing}
+use Rattle.nc_walk.proofs.Prelude.{flat_map, range_with_len, length-map, nil_from_length, Written, Appended, known_records, RecordSlab, ArrayView, filled_records, filled_slabs, record_arrays, array_of, appended-nothing}
 use Rattle.nc_walk.proofs.DataFilled.{records-filled, no-records, sole-filled}
 use Rattle.nc_walk.proofs.SlabArrays.{arrays-of-slabs, one-array, slabs-within}
 use Rattle.nc_walk.proofs.write.records.put_records.Goals as goal
 
 pub writer_in-requires : goal.writer_in-requires
-writer_in-requires g c =
-    let h = c.args.header.now in
-    All-get_or (λ (slab : RecordSlab). slab.var_index < length c.args.arrays.now) c.args.slabs.now 0 _ (omega arith)
-    (slabs-within h.dims (known_records h.numrecs) h.vars c.args.arrays.now c.args.slabs.now c.requires.slabs c.requires.listed)
+writer_in-requires g c = grind (arith, slabs-within)
 
 pub put_each_record-requires : goal.put_each_record-requires
-put_each_record-requires g c =
-    let h = c.args.header.now in
-    λ k d lt.
-    All-get_or (λ (slab : RecordSlab). slab.var_index < length c.args.arrays.now) c.args.slabs.now k d lt
-    (slabs-within h.dims (known_records h.numrecs) h.vars c.args.arrays.now c.args.slabs.now c.requires.slabs c.requires.listed)
+put_each_record-requires g c = grind (arith, slabs-within)
 
 pub returns-in-empty : goal.returns-in-empty
 returns-in-empty g c =

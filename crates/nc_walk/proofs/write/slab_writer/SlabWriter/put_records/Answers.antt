@@ -13,14 +13,4 @@ returns-in_err-put_part g c =
     rw p.1 (up-partway _ _ _ _ _ _ _ whole (up-start _ _) c.in_err-put_part.ensures)
 
 pub returns : goal.returns
-returns g c =
-    let array = c.self.inside in
-    let n : ℕ = c.args.records in
-    let held : List ℕ = array.listed.now in
-    let all : held ≡ take c.len-listed.result held = sym (take_all c.len-listed.result held (omega (arith, c.len-listed.ensures))) in
-    let lacks : n * array.slab - length held ≡ c.saturating_sub.result = omega (arith, c.saturating_sub.ensures, c.len-listed.ensures) in
-    let whole =
-    ap (filled_slabs n) (sym c.self.view_is)
-    ∙ ap (λ (b : List ℕ). b ++ repeated array.fill_unit (n * array.slab - length held)) all
-    ∙ ap (λ (k : ℕ). take c.len-listed.result held ++ repeated array.fill_unit k) lacks in
-    up-then _ _ _ _ _ _ whole c.in_ok-put_part.ensures _ c.put_fills.ensures
+returns g c = grind (arith, take_all, up-then)
