@@ -153,7 +153,7 @@ first_lead look = rw (zero-mod look.row) (elim (look.in_rows) as (λ w. Closed (
 first_reads : (look : Look) (before : List ℕ) (x : ℤ) → unsigned_abs x < 2 ^ 64 → Reads (number_piece look before 0 x) (value_lexeme look x ∷ [])
 unfolding number_piece
 first_reads look before x fits =
-    grind (arith, first_lead look, break_closed look (before ++ number_lead look 0) 0 (length (number_text look x)), text_reads look x has_number, then_reads, closed_both, has_number)
+    grind (arith, first_lead look, break_closed look (before ++ number_lead look 0) 0 (length (number_text look x)), text_reads look x fits, then_reads, closed_both, fits)
 
 pub all_read : (look : Look) (before : List ℕ) (x : ℤ) (xs : List ℤ) → is_char look.ty ≡ false → (look.in_rows ≡ false → length (x ∷ xs) ≤ look.row) → AreSmall (x ∷ xs) →
     Reads (pieces look before [] (x ∷ xs)) (value_lexeme look x ∷ commas (map (value_lexeme look) xs))
