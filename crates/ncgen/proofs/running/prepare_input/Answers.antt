@@ -10,7 +10,7 @@ returns-in_err-prepare g c =
     rw (p.1, p.2) (record {
       text = c.in_ok-text.text;
       read = c.in_ok-text.ensures;
-      refused = subst (λ (text : List ℕ). Refuses (generated text c.args.options.now.kind) c.in_err-prepare.field-0) c.as_slice.ensures.value c.in_err-prepare.ensures;
+      refused = subst (λ (text : List ℕ). Refuses (generated text c.args.options.now.kind) c.in_err-prepare.field-0.0) c.as_slice.ensures.value c.in_err-prepare.ensures;
     })
 
 -- the text was read, and gives the file that is ready
