@@ -1,14 +1,12 @@
 -- Numbers that are printed a few at a time.
-use Rattle.std.proofs.Common.{◌≡◌, ℕ, ℤ, zero, suc, ◌+◌, ◌*◌, ◌/◌, ◌<◌, ◌≤◌, min, ⊎_elim, List, [], ◌∷◌, ◌++◌, length, take, drop, sym, ◌∙◌, ap, arith, length-take, append-nil}
-use Rattle.cdl_print.proofs.Prelude.{take-take, drop-take, drop-drop, take_all, length-drop, div-mul-le_self, le_of_mul-le-mul_right, mul-le-mul_right, mul-div_cancel, cases_lt, number_of, numbers, size_of, NcType, some_size}
+use Rattle.std.proofs.Common.{◌≡◌, ℕ, ℤ, zero, suc, ◌+◌, ◌*◌, ◌/◌, ◌<◌, ◌≤◌, min, List, [], ◌∷◌, ◌++◌, length, take, drop, sym, ◌∙◌, ap, arith, length-take, append-nil, rules}
+use Rattle.cdl_print.proofs.Prelude.{take-take, drop-take, drop-drop, take_all, length-drop, div-mul-le_self, le_of_mul-le-mul_right, mul-le-mul_right, mul-div_cancel, number_of, numbers, size_of, NcType, some_size}
 use Rattle.cdl_print.proofs.Joined.{numbers-cons, numbers-none}
 use Rattle.cdl_print.proofs.Takes.{length-numbers}
 
 pub numbers-split : (ty : NcType) (k : ℕ) (bytes : List ℕ) → k * size_of ty ≤ length bytes
     → numbers ty bytes ≡ numbers ty (take (k * size_of ty) bytes) ++ numbers ty (drop (k * size_of ty) bytes)
-numbers-split ty zero bytes le =
-    let none : 0 * size_of ty ≡ 0 = omega arith in
-    rw none (ap (λ (xs : List ℤ). xs ++ numbers ty bytes) (sym (numbers-none ty [] (some_size ty))))
+numbers-split ty zero bytes le = grind (arith, numbers-none ty [], some_size ty, numbers)
 numbers-split ty (suc k) bytes le =
     let size = size_of ty in
     let more : suc k * size ≡ size + k * size = omega arith in
@@ -28,53 +26,25 @@ numbers-split ty (suc k) bytes le =
 pub batch_parts : (ty : NcType) (size n : ℕ) (rest prefix others : List ℕ) → size ≡ size_of ty → n ≡ min (80 * size) (length rest) → prefix ≡ take n rest → others ≡ drop n rest
     → numbers ty rest ≡ numbers ty prefix ++ numbers ty others
 batch_parts ty size n rest prefix others is least f o =
-    rw (f, o)
-    (⊎_elim
-    (λ (h : 80 * size_of ty < length rest).
-    let all : n ≡ 80 * size_of ty = omega (arith, is, least) in
-    rw all (numbers-split ty 80 rest (omega arith)))
-    (λ (h : length rest ≤ 80 * size_of ty).
-    let all : n ≡ length rest = omega (arith, is, least) in
-    let prefix_is : take n rest ≡ rest = take_all n rest (omega (arith, all)) in
-    let none : numbers ty (drop n rest) ≡ [] = numbers-none ty (drop n rest) (omega (arith, all, length-drop n rest, some_size ty)) in
-    rw (prefix_is, none) (sym (append-nil (numbers ty rest))))
-    (cases_lt (80 * size_of ty) (length rest)))
+    search (rules, numbers-split, take_all, numbers, numbers-none, length-drop, some_size, append-nil)
 
 -- are few
 pub batch_few : (ty : NcType) (size n : ℕ) (rest prefix : List ℕ) → size ≡ size_of ty → n ≡ min (80 * size) (length rest) → prefix ≡ take n rest → length (numbers ty prefix) ≤ 80
-batch_few ty size n rest prefix is least f =
-    let short : length prefix ≤ 80 * size_of ty = omega (arith, is, least, ap length f, length-take n rest) in
-    let whole = div-mul-le_self (length prefix) (size_of ty) in
-    let few : length prefix / size_of ty * size_of ty ≤ 80 * size_of ty = omega (arith, short, whole) in
-    omega (arith, length-numbers ty prefix, le_of_mul-le-mul_right {k = size_of ty} few (some_size ty))
+batch_few ty size n rest prefix is least f = search (rules, length-take, div-mul-le_self, length-numbers, le_of_mul-le-mul_right, some_size)
 
 -- k whole values of this size have k * size bytes
 pub length_taken : (size k : ℕ) (bytes : List ℕ) → k ≤ length bytes / size → length (take (k * size) bytes) ≡ k * size
-length_taken size k bytes few =
-    let whole : k * size ≤ length bytes / size * size = mul-le-mul_right size few in
-    omega (arith, whole, div-mul-le_self (length bytes) size, length-take (k * size) bytes)
+length_taken size k bytes few = search (rules, mul-le-mul_right, div-mul-le_self, length-take)
 
 -- a count of values taken
 pub count_taken : (ty : NcType) (size k : ℕ) (bytes : List ℕ) → size ≡ size_of ty → k ≤ length bytes / size → length (numbers ty (take (k * size) bytes)) ≡ k
-count_taken ty size k bytes is few =
-    let some : 0 < size = omega (arith, is, some_size ty) in
-    length-numbers ty (take (k * size) bytes) ∙ ap (λ s. length (take (k * size) bytes) / s) (sym is) ∙ ap (λ n. n / size) (length_taken size k bytes few) ∙ mul-div_cancel k some
+count_taken ty size k bytes is few = search (rules, some_size, length-numbers, length_taken, mul-div_cancel)
 
 -- whole values with at least one byte are at least one value
 pub some_numbers : (ty : NcType) (bytes : List ℕ) → length bytes ≡ length (numbers ty bytes) * size_of ty → 0 < length bytes → 0 < length (numbers ty bytes)
-some_numbers ty bytes whole some = by (length (numbers ty bytes)) whole
-  where
-    by : (n : ℕ) → length bytes ≡ n * size_of ty → 0 < n
-    by zero e = absurd (omega (arith, e, some))
-    by (suc n) e = omega arith
+some_numbers ty bytes whole some = grind (arith, numbers ty bytes)
 
 -- the values that go on in a row and the others
 pub row_parts : (ty : NcType) (n : ℕ) (bytes row later : List ℕ) → length (take n bytes) ≡ length (numbers ty (take n bytes)) * size_of ty → n ≤ length bytes → row ≡ take n bytes → later ≡ drop n bytes
     → numbers ty bytes ≡ numbers ty row ++ numbers ty later
-row_parts ty n bytes row later whole_values within f o =
-    let k = length (numbers ty (take n bytes)) in
-    let whole : n ≡ k * size_of ty = omega (arith, whole_values, within, length-take n bytes) in
-    numbers-split ty k bytes (omega (arith, whole, within))
-    ∙ ap (λ m. numbers ty (take m bytes) ++ numbers ty (drop m bytes)) (sym whole)
-    ∙ ap (λ (x : List ℕ). numbers ty x ++ numbers ty (drop n bytes)) (sym f)
-    ∙ ap (λ (x : List ℕ). numbers ty row ++ numbers ty x) (sym o)
+row_parts ty n bytes row later whole_values within f o = search (rules, numbers, length-take, numbers-split)

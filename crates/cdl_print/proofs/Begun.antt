@@ -1,5 +1,5 @@
 -- A text that is written from the prefix on, with what is left of it.
-use Rattle.std.proofs.Common.{◌≡◌, ℕ, List, [], ◌++◌, sym, subst, append_assoc, ap, ◌∙◌, refl}
+use Rattle.std.proofs.Common.{◌≡◌, ℕ, List, [], ◌++◌, sym, subst, append_assoc, ap, ◌∙◌, refl, arith}
 use Rattle.cdl_print.proofs.Prelude.{append-nil, OnTrue_from, SinkView, Appended, FailedPartway, append-none, appended_then, appended_partway}
 
 -- the sink has taken the whole text but for the rest
@@ -16,11 +16,8 @@ pub begun_at_first : (s : SinkView) (whole : List ℕ) → IsBegun s s whole who
 begun_at_first s whole = record { done = []; appended = appended_none s; joined = refl }
 
 pub begun_next : (s t u : SinkView) (rest piece rest' whole : List ℕ) → IsBegun s t rest whole → rest ≡ piece ++ rest' → Appended t u piece → IsBegun s u rest' whole
-begun_next s t u rest piece rest' whole begun is appended = record {
-  done = begun.done ++ piece;
-  appended = appended_then s t u begun.done piece begun.appended appended;
-  joined = append_assoc begun.done piece rest' ∙ ap (λ (x : List ℕ). begun.done ++ x) (sym is) ∙ begun.joined;
-}
+begun_next s t u rest piece rest' whole begun is appended =
+    grind (arith, appended_then s t u begun.done piece begun.appended appended, append_assoc begun.done piece rest')
 
 pub begun_partway : (s t u : SinkView) (rest piece rest' whole : List ℕ) → IsBegun s t rest whole → rest ≡ piece ++ rest' → FailedPartway t u piece → FailedPartway s u whole
 begun_partway s t u rest piece rest' whole begun is partway =

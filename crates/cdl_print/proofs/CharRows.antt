@@ -1,13 +1,12 @@
 -- The characters of a variable, some after others.
-use Rattle.std.proofs.Common.{◌≡◌, ℕ, zero, suc, ℤ, pos, ◌+◌, ◌-◌, ◌%◌, ◌<◌, ◌≤◌, Bool, true, false, cond, not, ◌&&◌, ◌||◌, List, [], ◌∷◌, ◌++◌, length, map, max, take, drop, replicate, sym, ◌/◌, ◌∙◌, ap, refl, subst, arith, append_assoc, append-nil, length-append, Result, Ok, Err, ◌==◌, OnOk}
-use Rattle.cdl_print.proofs.Prelude.{list_all, prefix_len, false≢true, cond-false, cond-true, nat_tests, flat_map-append, nil_from_length, length-map, length-take-le, map-append, take-append-drop, prefix_len-le-length, escaped_in_string, escaped_text, is_literal, numbers, numbers_from, Look, is_char, begins_row, char_lead, char_text, char_piece, held, piece, pieces, variable_prefix, later_pieces, NcType, Byte, Char, Short, Int, Ubyte, Ushort, Uint, Int64, Uint64, place-add, held_other, held_nul, held_first, held_untrimmed, SinkView, Appended, FailedPartway, Written, IsRun, next_char_lead, run_text, run_bytes, row_index_after_run, IsAfterRun, IsAfter, values_after, IsAfterNext, WrittenNext, Progress, and_parts, or_second, escaped-append}
+use Rattle.std.proofs.Common.{◌≡◌, ℕ, zero, suc, ℤ, pos, ◌+◌, ◌-◌, ◌%◌, ◌<◌, ◌≤◌, Bool, true, false, cond, not, ◌&&◌, ◌||◌, List, [], ◌∷◌, ◌++◌, length, map, max, take, drop, replicate, sym, ◌/◌, ◌∙◌, ap, refl, subst, arith, append_assoc, append-nil, length-append, Result, Ok, Err, ◌==◌, OnOk, rules}
+use Rattle.cdl_print.proofs.Prelude.{list_all, prefix_len, false≢true, cond-false, cond-true, nat_tests, nil_from_length, length-map, length-take-le, map-append, take-append-drop, prefix_len-le-length, escaped_in_string, escaped_text, is_literal, numbers, numbers_from, Look, is_char, begins_row, char_lead, char_text, char_piece, held, piece, pieces, later_pieces, NcType, Char, place-add, held_other, held_nul, held_first, held_untrimmed, SinkView, Written, IsRun, next_char_lead, run_text, run_bytes, row_index_after_run, IsAfterRun, IsAfter, values_after, IsAfterNext, WrittenNext, Progress, and_parts, or_second, escaped-append}
 use Rattle.cdl_print.proofs.Begun.{IsBegun, begun_at_first}
 use Rattle.cdl_print.proofs.Runs.{flat_map_itself, literal_itself, prefix_is_run}
 
 -- a byte that stands for itself is no NUL
 literal_some : (b : ℕ) → is_literal b ≡ true → (b == 0) ≡ false
-literal_some zero h = absurd (false≢true h)
-literal_some (suc b) h = grind (arith, nat_tests)
+literal_some b h = grind (arith, false≢true, nat_tests)
 
 escaped_itself : (run : List ℕ) → list_all is_literal run ≡ true → escaped_text run ≡ run
 unfolding escaped_text
@@ -18,14 +17,11 @@ char_text_is : (look : Look) (nuls b : ℕ) → char_text look nuls (pos b) ≡ 
 char_text_is look nuls b = ap (λ (t : List ℕ). cond (look.trimmed && (b == 0)) [] t) (escaped-append (replicate nuls 0) (b ∷ []))
 
 and_false : (a b : Bool) → b ≡ false → (a && b) ≡ false
-and_false true b h = h
-and_false false b h = refl
+and_false a b h = grind arith
 
 -- the text of one that stands for itself
 literal_text : (look : Look) (nuls b : ℕ) → is_literal b ≡ true → char_text look nuls (pos b) ≡ escaped_text (replicate nuls 0) ++ (b ∷ [])
-literal_text look nuls b lit =
-    char_text_is look nuls b ∙ cond-false _ [] _ (and_false look.trimmed (b == 0) (literal_some b lit))
-    ∙ ap (λ (t : List ℕ). escaped_text (replicate nuls 0) ++ t) (escaped_itself (b ∷ []) (ap (λ x. x && true) lit))
+literal_text look nuls b lit = search (rules, char_text_is, cond-false, and_false, literal_some, escaped_itself)
 
 none_held : escaped_text (replicate 0 0) ≡ []
 unfolding escaped_text
@@ -39,11 +35,7 @@ piece_is look before xs x is = cond-true (is_char look.ty) _ _ is
 -- one that stands for itself, inside its row and after no NUL
 literal_piece : (look : Look) (before : List ℕ) (xs : List ℤ) (b : ℕ) → is_char look.ty ≡ true → is_literal b ≡ true → 0 < length xs % look.row → held look xs ≡ 0
     → piece look before xs (pos b) ≡ b ∷ []
-literal_piece look before xs b is lit inside none =
-    let begun : begins_row look (length xs) ≡ false = grind (arith, nat_tests) in
-    piece_is look before xs (pos b) is
-    ∙ ap (λ (t : List ℕ). t ++ char_text look (held look xs) (pos b)) (cond-false _ (char_lead look (length xs)) [] begun)
-    ∙ ap (λ n. char_text look n (pos b)) none ∙ literal_text look 0 b lit ∙ ap (λ (t : List ℕ). t ++ (b ∷ [])) none_held
+literal_piece look before xs b is lit inside none = search (rules, nat_tests, piece_is, pos, held, cond-false, literal_text, none_held)
 
 -- the place after one value more
 row_index_push : (look : Look) (xs : List ℤ) (x : ℤ) → length (xs ++ x ∷ []) % look.row ≡ cond (length xs % look.row + 1 == look.row) 0 (length xs % look.row + 1)
@@ -51,9 +43,7 @@ row_index_push look xs x = ap (λ n. n % look.row) (length-append xs (x ∷ []))
 
 -- the place after one value more that isn't the last of its row
 row_index_inside : (look : Look) (xs : List ℤ) (x : ℤ) → length xs % look.row + 1 < look.row → length (xs ++ x ∷ []) % look.row ≡ length xs % look.row + 1
-row_index_inside look xs x lt =
-    let e : (length xs % look.row + 1 == look.row) ≡ false = grind (arith, nat_tests) in
-    row_index_push look xs x ∙ cond-false _ 0 _ e
+row_index_inside look xs x lt = search (rules, nat_tests, row_index_push, cond-false)
 
 -- some that stand for themselves, in one row
 literal_pieces : (look : Look) (before : List ℕ) (xs : List ℤ) (run : List ℕ) → is_char look.ty ≡ true → list_all is_literal run ≡ true → held look xs ≡ 0
@@ -78,15 +68,11 @@ abbrev IsInRow : Look → List ℤ → List ℕ → Type 0
 IsInRow look xs run = 1 < length run → length xs % look.row + length run ≤ look.row
 
 all_literal : (b c : ℕ) (run : List ℕ) → IsRun is_literal (b ∷ c ∷ run) → list_all is_literal (b ∷ c ∷ run) ≡ true
-all_literal b c run literal =
-    let long : (length (b ∷ c ∷ run) == 1) ≡ false = grind (arith, nat_tests) in
-    or_second _ _ literal long
+all_literal b c run literal = search (rules, nat_tests, or_second)
 
 -- what stands before the run
 lead_is : (look : Look) (xs : List ℤ) (p : Progress) → IsAfter look xs p → next_char_lead look p ≡ cond (begins_row look (length xs)) (char_lead look (length xs)) []
-lead_is look xs p following =
-    ap (λ n. cond (n == 0) (char_lead look p.position) []) following.row_index
-    ∙ ap (λ n. cond (begins_row look (length xs)) (char_lead look n) []) following.position
+lead_is look xs p following = search rules
 
 one_text : (look : Look) (nuls b : ℕ) → run_text (look.trimmed && (b == 0)) nuls (b ∷ []) ≡ char_text look nuls (pos b)
 unfolding run_text
@@ -95,12 +81,7 @@ one_text look nuls b = sym (char_text_is look nuls b)
 some_text : (look : Look) (nuls b c : ℕ) (run : List ℕ) → list_all is_literal (b ∷ c ∷ run) ≡ true
     → run_text (look.trimmed && false) nuls (b ∷ c ∷ run) ≡ char_text look nuls (pos b) ++ (c ∷ run)
 unfolding run_text
-some_text look nuls b c run all =
-    let first = (and_parts (is_literal b) (list_all is_literal (c ∷ run)) all).0 in
-    cond-false _ [] _ (and_false look.trimmed false refl)
-    ∙ ap (λ (t : List ℕ). escaped_text (replicate nuls 0) ++ t) (escaped_itself (b ∷ c ∷ run) all)
-    ∙ sym (append_assoc (escaped_text (replicate nuls 0)) (b ∷ []) (c ∷ run))
-    ∙ ap (λ (t : List ℕ). t ++ (c ∷ run)) (sym (literal_text look nuls b first))
+some_text look nuls b c run all = search (rules, and_parts, cond-false, and_false, escaped_itself, append_assoc, literal_text)
 
 -- the others of a run after its first character
 others_are : (look : Look) (before : List ℕ) (xs : List ℤ) (b c : ℕ) (run : List ℕ) → is_char look.ty ≡ true → list_all is_literal (b ∷ c ∷ run) ≡ true → IsInRow look xs (b ∷ c ∷ run)
@@ -115,49 +96,16 @@ others_are look before xs b c run is all fits =
 bytes_are : (look : Look) (xs : List ℤ) (p : Progress) (run : List ℕ) → is_char look.ty ≡ true → 0 < length run → IsRun is_literal run → IsInRow look xs run → IsAfter look xs p
     → run_bytes look p run ≡ later_pieces look xs (map pos run)
 unfolding pieces
-bytes_are look xs p [] is some literal fits following = absurd (omega arith)
-bytes_are look xs p (b ∷ []) is some literal fits following =
-    let first = piece_is look (variable_prefix look xs) xs (pos b) is in
-    ap (λ (t : List ℕ). t ++ run_text (look.trimmed && (b == 0)) p.held_nuls (b ∷ [])) (lead_is look xs p following)
-    ∙ ap (λ (t : List ℕ). cond (begins_row look (length xs)) (char_lead look (length xs)) [] ++ t) (one_text look p.held_nuls b ∙ ap (λ n. char_text look n (pos b)) (following.held is))
-    ∙ sym first ∙ sym (append-nil (piece look (variable_prefix look xs) xs (pos b)))
-bytes_are look xs p (b ∷ c ∷ run) is some literal fits following =
-    let all = all_literal b c run literal in
-    let prefix = variable_prefix look xs in
-    let first = piece_is look prefix xs (pos b) is in
-    let others = (others_are look (prefix ++ piece look prefix xs (pos b)) xs b c run is all fits).0 in
-    let lead = cond (begins_row look (length xs)) (char_lead look (length xs)) [] in
-    ap (λ (t : List ℕ). t ++ run_text (look.trimmed && false) p.held_nuls (b ∷ c ∷ run)) (lead_is look xs p following)
-    ∙ ap (λ (t : List ℕ). lead ++ t) (some_text look p.held_nuls b c run all ∙ ap (λ n. char_text look n (pos b) ++ (c ∷ run)) (following.held is))
-    ∙ sym (append_assoc lead (char_text look (held look xs) (pos b)) (c ∷ run))
-    ∙ ap (λ (t : List ℕ). t ++ (c ∷ run)) (sym first)
-    ∙ ap (λ (t : List ℕ). piece look prefix xs (pos b) ++ t) (sym others)
+bytes_are look xs p run h h2 h3 h4 h5 = grind (arith, piece_is, pos, lead_is, one_text, append-nil, piece, all_literal, others_are, some_text, append_assoc, held)
 
 -- the NULs that are held after one character
 held_one : (look : Look) (xs : List ℤ) (h b row_index : ℕ) → h ≡ held look xs → row_index ≡ cond (length xs % look.row + 1 == look.row) 0 (length xs % look.row + 1)
     → cond ((row_index == 0) || not (look.trimmed && (b == 0))) 0 (h + 1) ≡ held look (xs ++ pos b ∷ [])
-held_one look xs h b row_index same at = by (row_index == 0) look.trimmed (b == 0) refl refl refl
-  where
-    here : length (xs ++ pos b ∷ []) % look.row ≡ row_index
-    here = row_index_push look xs (pos b) ∙ sym at
-
-    inside : (t : Bool) → cond t 0 (length xs % look.row + 1) ≡ row_index → (row_index == 0) ≡ false → row_index ≡ length xs % look.row + 1
-    inside true e none = let z : (row_index == 0) ≡ true = grind (arith, nat_tests) in absurd (false≢true (sym none ∙ z))
-    inside false e none = sym e
-
-    by : (first trimmed nul : Bool) → (row_index == 0) ≡ first → look.trimmed ≡ trimmed → (b == 0) ≡ nul → cond (first || not (trimmed && nul)) 0 (h + 1) ≡ held look (xs ++ pos b ∷ [])
-    by true trimmed nul e f k = sym (held_first look (xs ++ pos b ∷ []) (here ∙ (let z : row_index ≡ 0 = grind (arith, nat_tests) in z)))
-    by false false nul e f k = sym (held_untrimmed look (xs ++ pos b ∷ []) f)
-    by false true false e f k = sym (held_other look xs (pos b) k)
-    by false true true e f k =
-        let next : (length xs + 1) % look.row ≡ length xs % look.row + 1
-        = ap (λ n. n % look.row) (sym (length-append xs (pos b ∷ []))) ∙ here ∙ inside (length xs % look.row + 1 == look.row) (sym at) e in
-        ap (λ n. n + 1) same ∙ sym (held_nul look xs (pos b) f k next)
+held_one look xs h b row_index same at =
+    search (rules, pos, row_index_push, nat_tests, false≢true, held, held_first, held_untrimmed, held_other, length-append, held_nul)
 
 or_true : (a t : Bool) → (a || not (t && false)) ≡ true
-or_true true t = refl
-or_true false true = refl
-or_true false false = refl
+or_true a t = grind arith
 
 held_next : (look : Look) (xs : List ℤ) (p q : Progress) (run : List ℕ) → is_char look.ty ≡ true → 0 < length run → IsRun is_literal run → IsInRow look xs run → IsAfter look xs p → IsAfterRun look p run q
     → q.held_nuls ≡ held look (xs ++ map pos run)
@@ -170,9 +118,7 @@ held_next look xs p q (b ∷ c ∷ run) is some literal fits following next =
 
 row_index_next : (look : Look) (xs : List ℤ) (p q : Progress) (run : List ℕ) → 0 < length run → IsInRow look xs run → IsAfter look xs p → IsAfterRun look p run q → q.row_index ≡ length (xs ++ map pos run) % look.row
 row_index_next look xs p q run some fits following next =
-    next.row_index ∙ ap (λ n. cond (n + length run == look.row) 0 (n + length run)) following.row_index
-    ∙ sym (place-add (length xs) (length run) look.row some fits)
-    ∙ ap (λ n. n % look.row) (sym (length-append xs (map pos run) ∙ ap (λ n. length xs + n) (length-map run pos)))
+    grind (arith, place-add (length xs) (length run) look.row some fits, length-append xs (map pos run), length-map run pos, pos)
 
 after_next : (look : Look) (xs : List ℤ) (p q : Progress) (run : List ℕ) → is_char look.ty ≡ true → 0 < length run → IsRun is_literal run → IsInRow look xs run → IsAfter look xs p → IsAfterRun look p run q
     → IsAfter look (xs ++ map pos run) q
@@ -196,15 +142,7 @@ unfolding numbers
 numbers_of_chars bytes = ap (λ n. numbers_from Char n bytes) (let e : length bytes / 1 ≡ length bytes = omega arith in e) ∙ chars_from bytes
 
 pub chars_are : (ty : NcType) (bytes : List ℕ) → is_char ty ≡ true → map pos bytes ≡ numbers ty bytes
-chars_are Char bytes is = sym (numbers_of_chars bytes)
-chars_are Byte bytes is = absurd (false≢true is)
-chars_are Short bytes is = absurd (false≢true is)
-chars_are Int bytes is = absurd (false≢true is)
-chars_are Ubyte bytes is = absurd (false≢true is)
-chars_are Ushort bytes is = absurd (false≢true is)
-chars_are Uint bytes is = absurd (false≢true is)
-chars_are Int64 bytes is = absurd (false≢true is)
-chars_are Uint64 bytes is = absurd (false≢true is)
+chars_are ty bytes h = grind (arith, numbers_of_chars, false≢true)
 
 -- a run is printed, or the sink failed inside of its text
 pub after_run : {X E : Type 0} (look : Look) (run : List ℕ) (p q : Progress) (r : Result X E) → is_char look.ty ≡ true → 0 < length run → IsRun is_literal run
@@ -217,14 +155,7 @@ after_run look run p q (Err failure) is some literal fits next = tt
 
 pub run_written : {X E : Type 0} (look : Look) (run : List ℕ) (p : Progress) (old new : SinkView) (r : Result X E) → is_char look.ty ≡ true → 0 < length run → IsRun is_literal run
     → (1 < length run → p.row_index + length run ≤ look.row) → Written old new (run_bytes look p run) r → WrittenNext old new (values_after look p (numbers look.ty run)) r
-run_written look run p old new (Ok done) is some literal fits wrote = rw (← chars_are look.ty run is) (record {
-  failures = wrote.failures;
-  appended = λ xs following. subst (Appended old new) (bytes_are look xs p run is some literal (in_row_at look xs p run following fits) following) wrote;
-})
-run_written look run p old new (Err failure) is some literal fits wrote = rw (← chars_are look.ty run is) (record {
-  failures = wrote.failures;
-  partway = λ xs following. subst (FailedPartway old new) (bytes_are look xs p run is some literal (in_row_at look xs p run following fits) following) wrote;
-})
+run_written look run p old new r h h2 h3 h4 h5 = grind (arith, chars_are, bytes_are, in_row_at)
 
 -- ---- NULs
 
@@ -245,27 +176,19 @@ nuls_first s n = subst (λ m. IsBegun s s (escaped_text (replicate m 0)) (escape
 -- ---- the length of a run
 
 take_take : (n k : ℕ) (xs : List ℕ) → n ≤ k → take n (take k xs) ≡ take n xs
-take_take zero k xs le = refl
 take_take (suc n) zero xs le = absurd (omega arith)
-take_take (suc n) (suc k) [] le = refl
 take_take (suc n) (suc k) (x ∷ xs) le = ap (λ (ys : List ℕ). x ∷ ys) (take_take n k xs (omega arith))
+take_take _ _ _ le = refl
 
 first_alone : (xs : List ℕ) → 0 < length xs → IsRun is_literal (take 1 xs)
-first_alone [] some = absurd (omega arith)
-first_alone (x ∷ xs) some = refl
+first_alone xs h = grind arith
 
 -- what goes out next, by how many bytes are left in the row
 pub run_is : (n k row row_index : ℕ) (bytes : List ℕ) → 0 < length bytes → k ≤ length bytes → k ≤ row - row_index → n ≡ max 1 (prefix_len is_literal (take k bytes))
     → (n ≤ length bytes) × IsRun is_literal (take n bytes) × (1 < n → row_index + n ≤ row)
-run_is n zero row row_index bytes some within fits is =
-    let one : n ≡ 1 = is in
-    (omega arith, subst (λ m. IsRun is_literal (take m bytes)) (sym one) (first_alone bytes some), λ h. absurd (omega arith))
+run_is n zero row row_index bytes some within fits is = grind (arith, first_alone bytes some)
 run_is n (suc k) row row_index bytes some within fits is =
-    let prefix = take (suc k) bytes in
-    let len : length prefix ≡ suc k = length-take-le (suc k) bytes within in
-    let le : n ≤ suc k = omega (arith, prefix_len-le-length is_literal prefix) in
-    let piece : IsRun is_literal (take n prefix) = subst (λ m. IsRun is_literal (take m prefix)) (sym is) (prefix_is_run is_literal prefix (omega arith)) in
-    (omega arith, subst (IsRun is_literal) (take_take n (suc k) bytes le) piece, λ h. omega arith)
+    grind (arith, length-take-le (suc k) bytes within, prefix_len-le-length is_literal, prefix_is_run is_literal, take_take n (suc k) bytes, piece)
 
 -- ---- the loop over characters
 

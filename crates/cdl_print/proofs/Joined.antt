@@ -1,6 +1,6 @@
 -- Lists with a comma between each two: the numbers of an attribute, and the dimensions of a shape.
-use Rattle.std.proofs.Common.{◌≡◌, ℕ, ℤ, ◌-◌, ◌/◌, ◌<◌, ◌≤◌, ◌==◌, Bool, true, false, List, [], ◌∷◌, ◌++◌, length, take, drop, map, refl, sym, ap, ◌∙◌, arith, suc, if◌then◌else◌, codes, append_assoc, add-one, nat_lt}
-use Rattle.cdl_print.proofs.Prelude.{append-nil, length-drop, length-map, nat_tests, signed_decimal, NcType, Byte, Char, Short, Int, Ubyte, Ushort, Uint, Int64, Uint64, concat_parts, dim_name, joined, numbers_text, number_suffix, number_of, numbers, numbers_from, size_of, dim_text, div-eq-sub-div, div-eq_of_lt, some_size}
+use Rattle.std.proofs.Common.{◌≡◌, ℕ, ℤ, ◌-◌, ◌/◌, ◌<◌, ◌≤◌, ◌==◌, Bool, List, [], ◌∷◌, ◌++◌, length, take, drop, map, refl, ap, ◌∙◌, arith, suc, if◌then◌else◌, codes, append_assoc, add-one, nat_lt}
+use Rattle.cdl_print.proofs.Prelude.{append-nil, length-drop, length-map, nat_tests, signed_decimal, NcType, concat_parts, dim_name, joined, numbers_text, number_suffix, number_of, numbers, numbers_from, size_of, dim_text, div-eq-sub-div, div-eq_of_lt, some_size}
 use Rattle.nc_base.specs.declared.header.Dim.{Dim}
 use Rattle.cdl_print.specs.code.Pieces.{number_text}
 
@@ -9,10 +9,7 @@ abbrev pub following : Bool → List ℕ
 following is_last = if is_last then [] else codes ", "
 
 pub joined-cons : (x : List ℕ) (xs : List (List ℕ)) (is_last : Bool) → is_last ≡ (length xs == 0) → joined (x ∷ xs) ≡ x ++ (following is_last ++ joined xs)
-joined-cons x [] is_last e = rw e (sym (append-nil x))
-joined-cons x (y ∷ xs) is_last e =
-    let more : is_last ≡ false = grind (arith, nat_tests) in
-    rw more refl
+joined-cons x xs is_last h = grind (arith, append-nil, nat_tests)
 
 pub joined_names-cons : (dims : List Dim) (id : ℕ) (ids rest : List ℕ) (is_last : Bool) → rest ≡ id ∷ ids → is_last ≡ (length ids == 0) → joined (map (dim_name dims) rest) ≡ dim_text dims id is_last ++ joined (map (dim_name dims) ids)
 unfolding dim_text concat_parts
@@ -39,14 +36,7 @@ number_values-none ty bytes lt = rw (numbers-none ty bytes lt) refl
 
 -- whether there is none
 is_none : (ty : NcType) (bytes : List ℕ) (t : Bool) → nat_lt (length bytes) (size_of ty) ≡ t → t ≡ (length (numbers ty bytes) == 0)
-is_none ty bytes true e =
-    let short : length bytes < size_of ty = grind (arith, nat_tests) in
-    let none : length (numbers ty bytes) ≡ 0 = ap length (numbers-none ty bytes short) in
-    grind (arith, nat_tests)
-is_none ty bytes false e =
-    let enough : size_of ty ≤ length bytes = grind (arith, nat_tests) in
-    let some = ap length (numbers-cons ty bytes enough) in
-    grind (arith, nat_tests)
+is_none ty bytes t h = grind (arith, nat_tests, numbers, numbers-none, numbers-cons)
 
 regroup : (a b c d : List ℕ) → (a ++ b) ++ (c ++ d) ≡ (a ++ (b ++ (c ++ []))) ++ d
 regroup a b c d = simp (append_assoc, append-nil)
@@ -65,17 +55,9 @@ number_values-cons ty bytes is_last le last =
     ∙ regroup (signed_decimal n) (number_suffix ty) (following is_last) (joined (texts ty others))
 
 pub number_values-parts : (ty : NcType) (size : ℕ) (rest value others : List ℕ) (is_last : Bool) → size ≡ size_of ty → size ≤ length rest → value ≡ take size rest → others ≡ drop size rest → is_last ≡ nat_lt (length others) size → numbers_text ty rest ≡ number_text ty value is_last ++ numbers_text ty others
-number_values-parts ty size rest value others is_last is le prefix back last =
-    let long : size_of ty ≤ length rest = omega arith in
-    let value_is : value ≡ take (size_of ty) rest = rw (← is) prefix in
-    let others_is : others ≡ drop (size_of ty) rest = rw (← is) back in
-    let last_is : nat_lt (length (drop (size_of ty) rest)) (size_of ty) ≡ is_last = cc in
-    rw (value_is, others_is) (number_values-cons ty rest is_last long last_is)
+number_values-parts ty size rest value others is_last is le prefix back last = grind (arith, number_values-cons ty rest is_last)
 
 -- the first number and the others
 pub numbers_parts : (ty : NcType) (size : ℕ) (rest value others : List ℕ) → size ≡ size_of ty → size ≤ length rest → value ≡ take size rest → others ≡ drop size rest
     → numbers ty rest ≡ number_of ty value ∷ numbers ty others
-numbers_parts ty size rest value others is le prefix back =
-    let value_is : value ≡ take (size_of ty) rest = rw (← is) prefix in
-    let others_is : others ≡ drop (size_of ty) rest = rw (← is) back in
-    rw (value_is, others_is) (numbers-cons ty rest (omega arith))
+numbers_parts ty size rest value others is le prefix back = grind (arith, numbers-cons ty rest)

@@ -1,72 +1,39 @@
 -- The numbers of a variable, one after another.
-use Rattle.std.proofs.Common.{◌≡◌, ℕ, ℤ, pos, negsuc, unsigned_abs, ◌+◌, ◌-◌, ◌%◌, ◌<◌, ◌≤◌, Bool, true, false, cond, not, List, [], ◌∷◌, ◌++◌, length, take, sym, ◌∙◌, ap, refl, subst, arith, append_assoc, append-nil, length-append, ⊎_elim, nat_lt, Result, Ok, Err, codes, ◌==◌, ◌&&◌, unwrap_or}
-use Rattle.cdl_print.proofs.Prelude.{decimal, OnTrue_at, OnTrue_from, false≢true, cases_lt, cond-false, lt-ltb, nat_tests, Look, is_char, begins_row, column, number_text, number_lead, line_break, number_piece, piece, variable_prefix, later_pieces, prefix-append, later_one, column-flat, column-broken, number_flat, place-add, SinkView, append, is_transparent, Appended, FailedPartway, Written, IsFillOf, shows_below_100, gap_bytes, row_gap, gap_in_row, next_gap, columns_left_after, gathered, number_bytes, bytes_in_row, columns_left_in_row, text_in_row, columns_left_after_text, IsAfterNumber, IsAfter, values_after, NextValues, IsAfterNext, AppendedNext, WrittenNext, PrintedInRow, PutAt, PutInRow, Progress}
+use Rattle.std.proofs.Common.{◌≡◌, ℕ, ℤ, pos, unsigned_abs, ◌+◌, ◌-◌, ◌<◌, ◌≤◌, Bool, true, false, cond, not, List, [], ◌∷◌, ◌++◌, length, sym, ◌∙◌, ap, refl, subst, arith, append_assoc, append-nil, length-append, nat_lt, Result, codes, ◌==◌, ◌&&◌, unwrap_or, rules}
+use Rattle.cdl_print.proofs.Prelude.{decimal, OnTrue_at, OnTrue_from, false≢true, cond-false, lt-ltb, nat_tests, Look, is_char, column, number_text, number_lead, line_break, number_piece, piece, variable_prefix, later_pieces, prefix-append, later_one, column-flat, column-broken, number_flat, place-add, SinkView, append, is_transparent, Appended, Written, IsFillOf, shows_below_100, gap_bytes, row_gap, gap_in_row, next_gap, columns_left_after, gathered, number_bytes, bytes_in_row, columns_left_in_row, text_in_row, columns_left_after_text, IsAfterNumber, IsAfter, values_after, NextValues, IsAfterNext, AppendedNext, WrittenNext, PrintedInRow, PutAt, PutInRow, Progress}
 use Rattle.cdl_print.proofs.PrintingLaws.{after_then, next_appended, none_appended}
 use Rattle.cdl_print.specs.declared.{gap.Gap.Gap, number_line.LastLine.LastLine, printed_fill.PrintedFill.PrintedFill}
-use Rattle.cdl_print.specs.declared.gap.Gap.TheVariants.{Space, FirstRow, NextRow, Comma, NewLine}
-
--- a gap is short
-pub gap_short : (gap : Gap) → length (gap_bytes gap) ≤ 7
-gap_short Space = omega arith
-gap_short FirstRow = omega arith
-gap_short NextRow = omega arith
-gap_short Comma = omega arith
-gap_short NewLine = omega arith
+use Rattle.cdl_print.specs.declared.gap.Gap.TheVariants.{Comma, NewLine}
 
 -- a line that is full, by its columns left and by its columns
 columns_left_test : (width col columns_left len : ℕ) → columns_left ≡ width - col → nat_lt columns_left (len + 4) ≡ nat_lt width (col + 2 + len + 2)
-columns_left_test width col columns_left len is =
-    ⊎_elim
-    (λ (h : width < col + 2 + len + 2). let a : nat_lt columns_left (len + 4) ≡ true = lt-ltb _ _ (omega arith) in a ∙ sym (lt-ltb _ _ h))
-    (λ (h : col + 2 + len + 2 ≤ width). not_less columns_left (len + 4) (omega arith) ∙ sym (not_less _ _ h))
-    (cases_lt width (col + 2 + len + 2))
-  where
-    not_less : (a b : ℕ) → b ≤ a → nat_lt a b ≡ false
-    not_less a b h = grind (arith, nat_tests)
+columns_left_test width col columns_left len is = search (rules, lt-ltb, nat_tests)
 
 -- the columns left after a gap
 columns_left_is : (gap : Gap) (before : List ℕ) (columns_left width : ℕ) → columns_left ≡ width - column before → columns_left_after gap columns_left width ≡ width - column (before ++ gap_bytes gap)
-columns_left_is Space before columns_left width e = let c = column-flat before (codes " ") refl in omega (arith, e, c)
-columns_left_is FirstRow before columns_left width e = let c = column-broken before (codes "\n  ") (omega arith) in omega (arith, c)
-columns_left_is NextRow before columns_left width e = let c = column-broken before (codes ",\n  ") (omega arith) in omega (arith, c)
-columns_left_is Comma before columns_left width e = let c = column-flat before (codes ", ") refl in omega (arith, e, c)
-columns_left_is NewLine before columns_left width e = let c = column-broken before (codes ", \n    ") (omega arith) in omega (arith, c)
+columns_left_is gap before columns_left width h = grind (arith, column-flat, codes, column-broken)
 
 -- what stands before a row's first number, value i
 abbrev row_lead : Look → ℕ → List ℕ
 row_lead look i = cond look.in_rows (cond (i == 0) (codes "\n  ") (codes ",\n  ")) (codes " ")
 
 row_gap_is : (look : Look) (i : ℕ) → gap_bytes (row_gap look i) ≡ row_lead look i
-row_gap_is look i = by look.in_rows (i == 0)
-  where
-    by : (b c : Bool) → gap_bytes (cond b (cond c FirstRow NextRow) Space) ≡ cond b (cond c (codes "\n  ") (codes ",\n  ")) (codes " ")
-    by true true = refl
-    by true false = refl
-    by false c = refl
+row_gap_is look i = grind (arith, codes "\n ", codes ",\n ", codes " ")
 
 -- what stands before a number that isn't its row's first
 comma_gap : (breaks : Bool) → gap_bytes (cond breaks NewLine Comma) ≡ codes ", " ++ cond breaks (codes "\n    ") []
-comma_gap true = refl
-comma_gap false = refl
+comma_gap breaks = grind arith
 
 -- the gap is what stands before the number
 gap_at : (look : Look) (prefix : List ℕ) (i columns_left len : ℕ) (first : Bool) → columns_left ≡ look.width - column prefix
     → gap_bytes (cond first (row_gap look i) (cond (nat_lt columns_left (len + 4)) NewLine Comma))
     ≡ cond first (row_lead look i) (codes ", ")
     ++ cond (not first && nat_lt look.width (column (prefix ++ cond first (row_lead look i) (codes ", ")) + len + 2)) (codes "\n    ") []
-gap_at look prefix i columns_left len true is = row_gap_is look i ∙ sym (append-nil (row_lead look i))
-gap_at look prefix i columns_left len false is =
-    let col = column-flat prefix (codes ", ") refl in
-    comma_gap (nat_lt columns_left (len + 4))
-    ∙ ap (λ b. codes ", " ++ cond b (codes "\n    ") []) (columns_left_test look.width (column prefix) columns_left len is ∙ ap (λ n. nat_lt look.width (n + len + 2)) (sym col))
+gap_at look prefix i columns_left len first h = grind (arith, row_gap_is, append-nil, column-flat, codes, comma_gap, columns_left_test, column)
 
 gap_is : (look : Look) (xs : List ℤ) (p : Progress) (len : ℕ) → is_char look.ty ≡ false → IsAfter look xs p
     → gap_bytes (next_gap look p len) ≡ number_lead look (length xs) ++ line_break look (variable_prefix look xs ++ number_lead look (length xs)) (length xs) len
-gap_is look xs p len is following =
-    let full = nat_lt p.columns_left (len + 4) in
-    ap (λ b. gap_bytes (cond b (row_gap look p.position) (cond full NewLine Comma))) (ap (λ n. n == 0) following.row_index)
-    ∙ ap (λ n. gap_bytes (cond (begins_row look (length xs)) (row_gap look n) (cond full NewLine Comma))) following.position
-    ∙ gap_at look (variable_prefix look xs) (length xs) p.columns_left len (begins_row look (length xs)) (following.columns_left is)
+gap_is look xs p len is following = search (rules, gap_at)
 
 -- the next number's text is the next value's piece
 bytes_are : (look : Look) (xs : List ℤ) (p : Progress) (x : ℤ) → is_char look.ty ≡ false → IsAfter look xs p → number_bytes look p x ≡ later_pieces look xs (x ∷ [])
@@ -88,13 +55,7 @@ columns_left_next look xs p q x is following next =
 
 after_next : (look : Look) (xs : List ℤ) (p q : Progress) (x : ℤ) → is_char look.ty ≡ false → IsAfter look xs p → IsAfterNumber look p x q → IsAfter look (xs ++ x ∷ []) q
 after_next look xs p q x is following next =
-    let n = length-append xs (x ∷ []) in
-    record {
-      position = omega (arith, next.position, following.position, n);
-      row_index = next.row_index ∙ ap (λ m. cond (m + 1 == look.row) 0 (m + 1)) following.row_index ∙ sym (place-add (length xs) 1 look.row (omega arith) (λ h. absurd (omega arith))) ∙ ap (λ m. m % look.row) (sym n);
-      columns_left = λ _. columns_left_next look xs p q x is following next;
-      held = λ c. absurd (false≢true (sym is ∙ c));
-    }
+    grind (arith, length-append xs (x ∷ []), place-add (length xs) 1 look.row, columns_left_next look xs p q x is following next, false≢true)
 
 -- ---- what is gathered
 
@@ -112,22 +73,12 @@ after_number look x p q is next = record { position = next.position; following =
 
 pub number_appended : (look : Look) (x : ℤ) (p : Progress) (old new : List ℕ) → is_char look.ty ≡ false
     → new ≡ old ++ number_bytes look p x → AppendedNext (values_after look p (x ∷ [])) (gathered old) (gathered new)
-number_appended look x p old new is text = record {
-  failures = refl;
-  appended = λ xs following. subst (Appended (gathered old) (gathered new)) (bytes_are look xs p x is following) (gathered_appended old new (number_bytes look p x) text);
-}
+number_appended look x p old new is text = search (rules, bytes_are, gathered_appended, number_bytes)
 
 -- what was gathered is written in one piece
 pub gathered_written : {X E : Type 0} (n : NextValues) (text : List ℕ) (old new : SinkView) (r : Result X E)
     → AppendedNext n (gathered []) (gathered text) → Written old new text r → WrittenNext old new n r
-gathered_written n text old new (Ok done) put wrote = record {
-  failures = wrote.failures;
-  appended = λ xs following. subst (Appended old new) (gathered_is text _ (put.appended xs following)) wrote;
-}
-gathered_written n text old new (Err failure) put wrote = record {
-  failures = wrote.failures;
-  partway = λ xs following. subst (FailedPartway old new) (gathered_is text _ (put.appended xs following)) wrote;
-}
+gathered_written n text old new r h h2 = grind (arith, gathered_is)
 
 -- ---- numbers of one row
 
@@ -137,37 +88,19 @@ comma_before columns_left len short enough = let on_line : nat_lt columns_left (
 
 text_after_comma : (columns_left : ℕ) (before now new text : List ℕ) → length text ≤ 2 → 6 ≤ columns_left → now ≡ before ++ codes ", " → new ≡ now ++ text
     → new ≡ before ++ text_in_row columns_left text
-text_after_comma columns_left before now new text short enough comma written =
-    written
-    ∙ ap (λ (t : List ℕ). t ++ text) comma
-    ∙ append_assoc before (codes ", ") text
-    ∙ ap (λ g. before ++ (gap_bytes g ++ text)) (sym (comma_before columns_left (length text) short enough))
+text_after_comma columns_left before now new text short enough comma written = search (rules, append_assoc, codes, comma_before)
 
 columns_after_comma : (width columns_left len : ℕ) (text : List ℕ) → length text ≡ len → len ≤ 2 → 6 ≤ columns_left → columns_left - (2 + len) ≡ columns_left_after_text width columns_left text
-columns_after_comma width columns_left len text long short enough =
-    let comma = ap (λ g. columns_left_after g columns_left width - length text) (comma_before columns_left (length text) (omega (arith, long)) enough) in
-    omega (arith, comma, long)
+columns_after_comma width columns_left len text long short enough = search (rules, comma_before)
 
 -- a number below 100 that isn't the fill value prints in decimal
 pub shown_digits : (look : Look) (fill : PrintedFill) (number : ℤ) → IsFillOf look fill → shows_below_100 fill.below_100 number ≡ true → number_text look number ≡ decimal (unsigned_abs number)
-shown_digits look fill (pos n) is shown =
-    let parts = both (nat_lt n 100) (n == fill.below_100) shown in
-    let below : n < 100 = let lt = parts.0 in grind (arith, nat_tests) in
-    ap (λ b. cond b (codes "_") (decimal n)) (sym (is.below_100 n below) ∙ parts.1)
-  where
-    both : (a b : Bool) → (a && not b) ≡ true → (a ≡ true) × (b ≡ false)
-    both true false e = (refl, refl)
-    both true true e = absurd (false≢true e)
-    both false b e = absurd (false≢true e)
-shown_digits look fill (negsuc n) is shown = absurd (false≢true shown)
+shown_digits look fill number h h2 = grind (arith, pos, nat_tests, codes, decimal, false≢true)
 
 -- a text of one or two bytes is put after a comma
 pub put_after_comma : (width : ℕ) (line : LastLine) (old now new : List ℕ) (start len : ℕ) (text : List ℕ) → length text ≡ len → len ≤ 2 → 6 ≤ line.columns_left
     → PutAt line.end old start now (codes ", ") → PutAt start now (start + len) new text → PutInRow width text line old (record { end = start + len; columns_left = line.columns_left - (2 + len) }) new
-put_after_comma width line old now new start len text long short enough comma written = record {
-  text = text_after_comma line.columns_left (take line.end old) (take start now) (take (start + len) new) text (omega (arith, long, short)) enough comma written;
-  columns_left = columns_after_comma width line.columns_left len text long short enough;
-}
+put_after_comma width line old now new start len text long short enough comma written = search (rules, text_after_comma, columns_after_comma)
 
 -- no number
 pub in_row_none : (look : Look) (columns_left : ℕ) (text : List ℕ) → PrintedInRow look [] columns_left columns_left text text

@@ -1,48 +1,29 @@
 -- Values that are printed after others.
-use Rattle.std.proofs.Common.{◌≡◌, ℕ, ℤ, ◌+◌, List, [], ◌++◌, length, sym, ◌∙◌, ap, refl, subst, arith, append_assoc, length-append, append-nil}
-use Rattle.cdl_print.proofs.Prelude.{Look, later_pieces, later-append, later_none, SinkView, Appended, FailedPartway, appended_then, appended_partway, IsAfter, values_after, IsAfterNext, AppendedNext, FailedInNext, Progress}
-use Rattle.devices.specs.Failures.{HasFailed}
+use Rattle.std.proofs.Common.{◌≡◌, ℤ, ◌+◌, List, [], ◌++◌, length, sym, ◌∙◌, ap, refl, subst, arith, append_assoc, length-append, append-nil, rules}
+use Rattle.cdl_print.proofs.Prelude.{Look, later-append, later_none, SinkView, appended_then, appended_partway, values_after, IsAfterNext, AppendedNext, FailedInNext, Progress}
 use Rattle.cdl_print.proofs.Begun.{appended_none}
 
 -- ---- no value
 
 pub after_none : (look : Look) (p : Progress) → IsAfterNext (values_after look p []) p
-after_none look p = record {
-  position = omega arith;
-  following = λ xs following. subst (λ (ys : List ℤ). IsAfter look ys p) (sym (append-nil xs)) following;
-}
+after_none look p = search (rules, append-nil)
 
 pub none_appended : (look : Look) (p : Progress) (s : SinkView) → AppendedNext (values_after look p []) s s
-none_appended look p s = record {
-  failures = refl;
-  appended = λ xs following. subst (Appended s s) (sym (later_none look xs)) (appended_none s);
-}
+none_appended look p s = grind (arith, later_none look, appended_none s)
 
 -- ---- values after others
 
 pub after_then : (look : Look) (ys zs : List ℤ) (p q r : Progress) → IsAfterNext (values_after look p ys) q → IsAfterNext (values_after look q zs) r → IsAfterNext (values_after look p (ys ++ zs)) r
-after_then look ys zs p q r first second = record {
-  position = omega (arith, length-append ys zs, first.position, second.position);
-  following = λ xs following. subst (λ (ws : List ℤ). IsAfter look ws r) (append_assoc xs ys zs) (second.following (xs ++ ys) (first.following xs following));
-}
+after_then look ys zs p q r first second = grind (arith, length-append ys zs, append_assoc)
 
 pub next_appended : (look : Look) (ys zs : List ℤ) (p q : Progress) (s t u : SinkView)
     → IsAfterNext (values_after look p ys) q → AppendedNext (values_after look p ys) s t → AppendedNext (values_after look q zs) t u → AppendedNext (values_after look p (ys ++ zs)) s u
-next_appended look ys zs p q s t u after first second = record {
-  failures = second.failures ∙ first.failures;
-  appended = λ xs following. subst (Appended s u) (sym (later-append look xs ys zs)) (appended_then s t u (later_pieces look xs ys) (later_pieces look (xs ++ ys) zs) (first.appended xs following) (second.appended (xs ++ ys) (after.following xs following)));
-}
+next_appended look ys zs p q s t u after first second = grind (arith, later-append look, appended_then s t u)
 
 -- the sink failed after the values ys, inside the text of zs, and ws were to come
 next_failed : (look : Look) (ys zs ws : List ℤ) (p q : Progress) (s t u : SinkView)
     → IsAfterNext (values_after look p ys) q → AppendedNext (values_after look p ys) s t → FailedInNext (values_after look q zs) t u → FailedInNext (values_after look p (ys ++ (zs ++ ws))) s u
-next_failed look ys zs ws p q s t u after first failed = record {
-  failures = subst (λ n. HasFailed n u.failures) first.failures failed.failures;
-  partway = λ xs following.
-      let whole : later_pieces look xs (ys ++ (zs ++ ws)) ≡ later_pieces look xs ys ++ (later_pieces look (xs ++ ys) zs ++ later_pieces look ((xs ++ ys) ++ zs) ws)
-      = later-append look xs ys (zs ++ ws) ∙ ap (λ (x : List ℕ). later_pieces look xs ys ++ x) (later-append look (xs ++ ys) zs ws) in
-      subst (FailedPartway s u) (sym whole) (appended_partway s t u (later_pieces look xs ys) (later_pieces look (xs ++ ys) zs) (later_pieces look ((xs ++ ys) ++ zs) ws) (first.appended xs following) (failed.partway (xs ++ ys) (after.following xs following)));
-}
+next_failed look ys zs ws p q s t u after first failed = grind (arith, later-append look, appended_partway s t u)
 
 -- ---- the loop over values
 

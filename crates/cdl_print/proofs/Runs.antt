@@ -2,7 +2,6 @@
 use Rattle.std.proofs.Common.{◌≡◌, ℕ, ◌+◌, ◌<◌, ◌≤◌, ◌==◌, Bool, true, false, cond, List, [], ◌∷◌, ◌++◌, length, take, drop, max, refl, sym, ap, ◌∙◌, arith, rules, zero, suc, min, append_assoc, if◌then◌else◌, not, nat_lt, position, Some, None}
 use Rattle.cdl_print.proofs.Prelude.{common_steps, flat_map-append, prefix_len-le-length, append-nil, take-append-drop, concat_parts, broken_text, string_break, nat_tests, flat_map, list_all, prefix_len, position_or_len, escaped_name, is_reserved, escaped_text, escaped_in_string, is_literal, escaped_in, stands_for_itself, IsRun, line_len, line_text}
 use Rattle.nc_base.specs.declared.escape.Quoting.{Quoting}
-use Rattle.nc_base.specs.declared.escape.Quoting.TheVariants.{InName, InString}
 
 -- the length of a run, or of one byte
 abbrev pub run_len_of : (ℕ → Bool) → List ℕ → ℕ
@@ -20,10 +19,7 @@ list_all-prefix p (x ∷ xs) =
 prefix_is_run_at : (p : ℕ → Bool) (xs : List ℕ) (n : ℕ) → 0 < length xs → n ≡ prefix_len p xs → IsRun p (take (max 1 n) xs)
 prefix_is_run_at p [] zero h is = elim h [ ]
 prefix_is_run_at p (x ∷ xs) zero h is = refl
-prefix_is_run_at p xs (suc n) h is =
-    let all : list_all p (take (suc n) xs) ≡ true = rw is (list_all-prefix p xs) in
-    let longer : max 1 (suc n) ≡ suc n = omega arith in
-    rw (longer, all) (grind arith)
+prefix_is_run_at p xs (suc n) h is = grind (arith, list_all-prefix p xs)
 
 pub prefix_is_run : (p : ℕ → Bool) (xs : List ℕ) → 0 < length xs → IsRun p (take (run_len_of p xs) xs)
 prefix_is_run p xs h = prefix_is_run_at p xs (prefix_len p xs) h refl
@@ -34,10 +30,7 @@ flat_map_parts f n xs prefix back e d =
 
 pub flat_map_itself : (p : ℕ → Bool) (f : ℕ → List ℕ) → ((b : ℕ) → p b ≡ true → f b ≡ b ∷ []) → (piece : List ℕ) → list_all p piece ≡ true → flat_map f piece ≡ piece
 flat_map_itself p f at [] h = refl
-flat_map_itself p f at (b ∷ piece) h =
-    let first : p b ≡ true = grind arith in
-    let others : list_all p piece ≡ true = grind arith in
-    rw (at b first, flat_map_itself p f at piece others) refl
+flat_map_itself p f at (b ∷ piece) h = search (rules, flat_map_itself p f at piece)
 
 -- the name of no variable
 pub escaped_name-none : escaped_name [] ≡ []
@@ -53,12 +46,10 @@ line_len-position [] = refl
 line_len-position (b ∷ xs) = let e = line_len-position xs in grind (arith, common_steps)
 
 found_at : (k n at : ℕ) (t : Bool) → nat_lt k n ≡ t → cond t (Some k) None ≡ Some at → at + 1 ≡ min (k + 1) n
-found_at k n at true less e = let same : k ≡ at = cc in let below : k < n = grind (arith, nat_tests) in omega arith
-found_at k n at false less e = absurd cc
+found_at k n at t h h2 = grind (arith, nat_tests)
 
 found_none : (k n : ℕ) (t : Bool) → nat_lt k n ≡ t → k ≤ n → cond t (Some k) None ≡ None → n ≡ min (k + 1) n
-found_none k n true less le e = absurd cc
-found_none k n false less le e = let not_below : n ≤ k = grind (arith, nat_tests) in omega arith
+found_none k n t h h2 h3 = grind (arith, nat_tests)
 
 pub line_len-found : (xs : List ℕ) (at : ℕ) → position (λ b. b == 10) xs ≡ Some at → at + 1 ≡ line_len xs
 line_len-found xs at e = rw (line_len-position xs) (found_at (position_or_len (λ b. b == 10) xs) (length xs) at _ refl e)
@@ -79,8 +70,7 @@ pub literal_itself : (b : ℕ) → is_literal b ≡ true → escaped_in_string b
 literal_itself b h = grind (arith, nat_tests)
 
 pub plain_itself : (quoting : Quoting) (b : ℕ) → stands_for_itself quoting b ≡ true → escaped_in quoting b ≡ b ∷ []
-plain_itself InName b h = ap (λ t. cond t (b ∷ []) (92 ∷ b ∷ [])) h
-plain_itself InString b h = literal_itself b h
+plain_itself quoting b h = grind (arith, literal_itself)
 
 line_text-cons : (b : ℕ) (line : List ℕ) (is_last : Bool) → line_text (b ∷ line) is_last ≡ escaped_in_string b ++ line_text line is_last
 unfolding line_text escaped_text concat_parts
@@ -99,9 +89,7 @@ feed_line b is_last others e = rw (e, line_text-cons b [] false, line_text-none 
 -- the first line, and the lines after it
 broken_text-line : (xs : List ℕ) → 0 < length xs → broken_text xs ≡ line_text (take (line_len xs) xs) (length (drop (line_len xs) xs) == 0) ++ broken_text (drop (line_len xs) xs)
 broken_text-line [] h = elim h [ ]
-broken_text-line (b ∷ []) h =
-    elim (b == 10) as (λ t. escaped_in_string b ≡ line_text (take (if t then 1 else 1) (b ∷ [])) (length (drop (if t then 1 else 1) (b ∷ [])) == 0) ++ broken_text (drop (if t then 1 else 1) (b ∷ [])))
-    [ true ↦ last_line b | false ↦ last_line b ]
+broken_text-line (b ∷ []) h = grind (arith, last_line b)
 broken_text-line (b ∷ c ∷ bytes) h =
     let later = broken_text-line (c ∷ bytes) (search rules) in
     elim (b == 10) as (λ t. (b == 10) ≡ t → escaped_in_string b ++ ((if t then string_break else []) ++ broken_text (c ∷ bytes)) ≡ line_text (take (if t then 1 else suc (line_len (c ∷ bytes))) (b ∷ c ∷ bytes)) (length (drop (if t then 1 else suc (line_len (c ∷ bytes))) (b ∷ c ∷ bytes)) == 0) ++ broken_text (drop (if t then 1 else suc (line_len (c ∷ bytes))) (b ∷ c ∷ bytes))) [

@@ -1,6 +1,6 @@
 -- Decimal numbers, digit by digit.
 use Rattle.std.proofs.Common.{◌≡◌, ℕ, true, false, ◌+◌, ◌*◌, ◌-◌, ◌<◌, List, [], ◌∷◌, get_or, length, take, drop, refl, sym, ap, ◌∙◌, arith, Bool, Some, ◌==◌, nat_lt, option_map, slice_index}
-use Rattle.cdl_tokens.proofs.Prelude.{common_steps, prefix_len, take_while, Version, digit_value, is_digit, number_in, ReadsDigits, held, in_decimal, type_of_suffix}
+use Rattle.cdl_tokens.proofs.Prelude.{common_steps, prefix_len, take_while, Version, is_digit, number_in, ReadsDigits, held, in_decimal, type_of_suffix}
 use Rattle.nc_base.specs.declared.nc_type.NcType.{NcType}
 use Rattle.cdl_tokens.proofs.Steps.{take_one_more}
 
@@ -15,16 +15,7 @@ there : (bs : List ℕ) (i : ℕ) → i < length bs → drop i bs ≡ get_or bs 
 there bs i h = grind (arith, common_steps)
 
 pub one_digit : (bs : List ℕ) (i value : ℕ) → i < length bs → is_digit (get_or bs i 0) ≡ true → ReadsDigits bs i value → ReadsDigits bs (i + 1) (10 * value + (get_or bs i 0 - 0x30))
-one_digit bs i value h is read =
-    let cons = there bs i h in
-    let more = one_more (get_or bs i 0) (drop (i + 1) bs) is in
-    let n : prefix_len is_digit (drop i bs) ≡ 1 + prefix_len is_digit (drop (i + 1) bs) = ap (prefix_len is_digit) cons ∙ more.0 in
-    let worth : digit_value (get_or bs i 0) ≡ get_or bs i 0 - 0x30 = rw (is) refl in
-    record {
-      within = omega (arith, h);
-      count = omega (arith, n, read.count);
-      said = ap (λ w. number_in 10 (10 * value + w) (decimals (drop (i + 1) bs))) (sym worth) ∙ sym (ap (λ xs. number_in 10 value (decimals xs)) cons ∙ ap (number_in 10 value) more.1) ∙ read.said;
-    }
+one_digit bs i value h is read = grind (arith, there bs i h, one_more (get_or bs i 0) (drop (i + 1) bs) is)
 
 -- no digit follows those that were read: they are all
 pub all_read : (bs : List ℕ) (n value : ℕ) → ReadsDigits bs n value → is_digit (slice_index (drop n bs) 0) ≡ false → (prefix_len is_digit bs ≡ n) × (number_in 10 0 (take n bs) ≡ value)

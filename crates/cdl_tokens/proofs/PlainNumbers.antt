@@ -1,5 +1,5 @@
 -- What plain numbers say.
-use Rattle.std.proofs.Common.{◌≡◌, ℕ, zero, suc, ◌+◌, ◌<◌, ◌≤◌, Bool, true, false, List, [], ◌∷◌, length, take, drop, refl, sym, ap, ◌∙◌, arith, Some, ◌==◌, ◌&&◌, ◌||◌, nat_lt, option_map, slice_index, cond, if◌then◌else◌}
+use Rattle.std.proofs.Common.{◌≡◌, ℕ, zero, suc, ◌+◌, ◌<◌, ◌≤◌, Bool, true, false, List, [], ◌∷◌, length, take, drop, refl, sym, ap, ◌∙◌, arith, Some, ◌==◌, nat_lt, option_map, slice_index, cond, rules}
 use Rattle.cdl_tokens.proofs.Prelude.{prefix_len, get_or-drop, Int, Version, goes_on_number, is_digit, is_sign, number_in, held, parts, type_of_suffix, with_sign, AreDigits, Begins, begins_number}
 use Rattle.cdl_tokens.specs.declared.numeral.Numeral.{Numeral}
 use Rattle.cdl_tokens.proofs.Decimals.{said}
@@ -26,32 +26,22 @@ same_prefix (b ∷ bs) h = by (same_prefix bs) (is_digit b) refl h
 taken_digits : (bs : List ℕ) (n : ℕ) → n ≤ prefix_len is_digit bs → prefix_len is_digit (take n bs) ≡ n
 taken_digits bs zero h = refl
 taken_digits [] (suc n) h = absurd (let e : suc n ≤ 0 = h in omega (arith, e))
-taken_digits (b ∷ bs) (suc n) h = by (taken_digits bs n) (is_digit b) refl h
-  where
-    by : (n ≤ prefix_len is_digit bs → prefix_len is_digit (take n bs) ≡ n) → (d : Bool) → is_digit b ≡ d → suc n ≤ cond d (1 + prefix_len is_digit bs) 0 → cond (is_digit b) (1 + prefix_len is_digit (take n bs)) 0 ≡ suc n
-    by again true is h = rw (is) (rw (again (omega (arith, h))) (omega arith))
-    by again false is h = absurd (omega (arith, h))
+taken_digits (b ∷ bs) (suc n) h = search (rules, taken_digits bs n)
 
 taken_twice : (n : ℕ) (bs : List ℕ) → take n (take n bs) ≡ take n bs
-taken_twice zero bs = refl
-taken_twice (suc n) [] = refl
 taken_twice (suc n) (b ∷ bs) = ap (λ xs. b ∷ xs) (taken_twice n bs)
+taken_twice _ _ = refl
 
 nothing_after : (n : ℕ) (bs : List ℕ) → drop n (take n bs) ≡ []
-nothing_after zero bs = refl
-nothing_after (suc n) [] = refl
 nothing_after (suc n) (b ∷ bs) = nothing_after n bs
+nothing_after _ _ = refl
 
 pub first_taken : (n : ℕ) (bs : List ℕ) → 0 < n → slice_index (take n bs) 0 ≡ slice_index bs 0
-first_taken zero bs h = absurd (omega (arith, h))
-first_taken (suc n) [] h = refl
-first_taken (suc n) (b ∷ bs) h = refl
+first_taken n bs h = grind arith
 
 -- a zero by itself
 zero_said : (v : Version) (minus : Bool) (bs : List ℕ) (value : ℕ) → 1 ≤ length bs → slice_index bs 0 ≡ 0x30 → number_in 10 0 (take 1 bs) ≡ value → Some (int minus value) ≡ option_map held (with_sign v minus (take 1 bs))
-zero_said v minus [] value within naught is = absurd (let e : 1 ≤ 0 = within in omega (arith, e))
-zero_said v minus (b ∷ bs) value within naught is =
-    rw (← is) (rw (naught) (rw (no_suffix [] v refl) refl))
+zero_said v minus bs value h h2 h3 = grind (arith, no_suffix)
 
 -- the digits say their number
 pub digits_said : (v : Version) (minus : Bool) (bs : List ℕ) (n value : ℕ) → AreDigits bs n value → Some (int minus value) ≡ option_map held (with_sign v minus (take n bs))
@@ -81,21 +71,11 @@ sign_said v (b ∷ bs) rest n value sign is d =
 -- without a sign
 pub plain_said : (v : Version) (bs : List ℕ) (n value : ℕ) → is_sign (slice_index bs 0) ≡ false → AreDigits bs n value → Some (int false value) ≡ option_map held (parts v (take n bs))
 unfolding parts
-plain_said v bs n value sign d =
-    digits_said v false bs n value d ∙
-    ap (λ s. option_map held (if s then with_sign v (slice_index (take n bs) 0 == 0x2d) (drop 1 (take n bs)) else with_sign v false (take n bs))) (sym (ap is_sign (first_taken n bs d.some) ∙ sign))
+plain_said v bs n value sign d = grind (arith, digits_said v false bs n value d, first_taken n bs d.some, held)
 
 -- the first digit
 pub first_digit : (bs : List ℕ) (n value : ℕ) → AreDigits bs n value → is_digit (slice_index bs 0) ≡ true
-first_digit bs n value d = by bs (let e : 0 < prefix_len is_digit bs = omega (arith, d.some, d.count) in e)
-  where
-    by : (bs : List ℕ) → 0 < prefix_len is_digit bs → is_digit (slice_index bs 0) ≡ true
-    by [] h = absurd (let e : 0 < 0 = h in omega (arith, e))
-    by (b ∷ bs) h = on (is_digit b) refl h
-      where
-        on : (c : Bool) → is_digit b ≡ c → 0 < cond c (1 + prefix_len is_digit bs) 0 → is_digit b ≡ true
-        on true is h = is
-        on false is h = absurd (let e : 0 < 0 = h in omega (arith, e))
+first_digit bs n value d = search rules
 
 -- the token goes as far as its digits do
 pub len_of_digits : (bs : List ℕ) (n value : ℕ) → AreDigits bs n value → n ≡ prefix_len goes_on_number bs
@@ -103,25 +83,14 @@ len_of_digits bs n value d = sym (same_prefix bs (ap (λ m. goes_on_number (slic
 
 pub len_after_first : (bs : List ℕ) (n value : ℕ) → AreDigits bs n value → n ≡ 1 + prefix_len goes_on_number (drop 1 bs)
 len_after_first [] n value d = absurd (let e : n ≤ 0 = d.within in omega (arith, e, d.some))
-len_after_first (b ∷ bs) n value d =
-    let first : is_digit b ≡ true = first_digit (b ∷ bs) n value d in
-    let on : goes_on_number b ≡ true = grind (arith, first) in
-    len_of_digits (b ∷ bs) n value d ∙ rw (on) refl
+len_after_first (b ∷ bs) n value d = grind (arith, first_digit (b ∷ bs) n value d, len_of_digits (b ∷ bs) n value d)
 
 -- a sign and digits
 sign_begins : (bs rest : List ℕ) → is_sign (slice_index bs 0) ≡ true → drop 1 bs ≡ rest → is_digit (slice_index rest 0) ≡ true → begins_number bs ≡ true
-sign_begins [] rest sign is digit = cc
-sign_begins (b ∷ bs) rest sign is digit =
-    by (is_digit b) (b == 0x2e) (is_sign b) (is_digit (slice_index bs 0)) sign (ap (λ xs. is_digit (slice_index xs 0)) is ∙ digit)
-  where
-    by : (a p s d : Bool) → s ≡ true → d ≡ true → (a || p && d || s && d || s && (slice_index bs 0 == 0x2e) && is_digit (slice_index bs 1)) ≡ true
-    by a p s d sign digit = grind (arith, sign, digit)
+sign_begins bs rest h h2 h3 = grind arith
 
 sign_within : (bs rest : List ℕ) (n : ℕ) → is_sign (slice_index bs 0) ≡ true → drop 1 bs ≡ rest → n ≤ length rest → 1 + n ≤ length bs
-sign_within [] rest n sign is within = cc
-sign_within (b ∷ bs) rest n sign is within =
-    let len : length bs ≡ length rest = ap length is in
-    let e : 1 + n ≤ suc (length bs) = omega (arith, len, within) in e
+sign_within bs rest n h h2 h3 = grind arith
 
 is_one : (b k : ℕ) → (b == k) ≡ true → b ≡ k
 is_one b k h = grind (arith, h)

@@ -1,58 +1,37 @@
 -- Marks and numbers at the start of bytes: they are no other token, and have no line feed.
-use Rattle.std.proofs.Common.{◌≡◌, ℕ, zero, suc, ◌+◌, ◌<◌, ◌≤◌, Bool, true, false, cond, List, [], ◌∷◌, length, get_or, drop, take, sym, ◌∙◌, ap, refl, arith, subst, ◌==◌, ◌&&◌, ◌||◌, count_by, Some, length-drop}
+use Rattle.std.proofs.Common.{◌≡◌, ℕ, zero, suc, ◌+◌, ◌<◌, ◌≤◌, Bool, true, false, cond, List, [], ◌∷◌, length, get_or, drop, take, sym, ◌∙◌, ap, refl, arith, subst, ◌==◌, ◌||◌, count_by, Some, length-drop, rules}
 use Rattle.cdl_tokens.proofs.Prelude.{prefix_len, Number, Mark, may_begin_word, goes_on_number, is_mark_byte, is_blank, is_digit, is_sign, scan, token, gap, begins_number, begins_opening, get_or-drop, sum_by-append, false≢true, TokenKind, is_token, followed, tokens_at, line_at}
 use Rattle.cdl_tokens.proofs.Scans.{step_gap, step_token, line_more}
 use Rattle.cdl_tokens.proofs.Words.{and_false}
 
 pub no_opening : (bs : List ℕ) → (get_or bs 0 0 == 0x6e) ≡ false → begins_opening bs ≡ false
-no_opening [] h = refl
-no_opening (b ∷ bs) h = grind (arith, h)
+no_opening bs h = grind arith
 
 or_split : {P : Type 0} (a b : Bool) → (a || b) ≡ true → (a ≡ true → P) → (b ≡ true → P) → P
-or_split true b h first second = first refl
-or_split false b h first second = second h
+or_split a b h h2 h3 = grind arith
 
 at_byte : (P : ℕ → Type 0) (k b : ℕ) → P k → (b == k) ≡ true → P b
 at_byte P k b p h = subst P (let e : k ≡ b = grind (arith, h) in e) p
 
 -- what each mark has
 each_mark : (P : ℕ → Type 0) (b : ℕ) → P 0x3a → P 0x3b → P 0x3d → P 0x2c → P 0x28 → P 0x29 → P 0x7d → is_mark_byte b ≡ true → P b
-each_mark P b colon semicolon equals comma left right brace h =
-    or_split (b == 0x3a || b == 0x3b || b == 0x3d || b == 0x2c || b == 0x28 || b == 0x29) (b == 0x7d) h (λ h.
-    or_split (b == 0x3a || b == 0x3b || b == 0x3d || b == 0x2c || b == 0x28) (b == 0x29) h (λ h.
-    or_split (b == 0x3a || b == 0x3b || b == 0x3d || b == 0x2c) (b == 0x28) h (λ h.
-    or_split (b == 0x3a || b == 0x3b || b == 0x3d) (b == 0x2c) h (λ h.
-    or_split (b == 0x3a || b == 0x3b) (b == 0x3d) h (λ h.
-    or_split (b == 0x3a) (b == 0x3b) h (at_byte P 0x3a b colon) (at_byte P 0x3b b semicolon)) (at_byte P 0x3d b equals)) (at_byte P 0x2c b comma)) (at_byte P 0x28 b left)) (at_byte P 0x29 b right)) (at_byte P 0x7d b brace)
+each_mark P b colon semicolon equals comma left right brace h = search (rules, or_split, at_byte)
 
 -- the classes of bytes that no mark belongs to
 abbrev MarkClasses : ℕ → Type 0
 MarkClasses b = ((b == 0x6e) ≡ false) × (may_begin_word b ≡ false) × ((b == 0x5c) ≡ false) × (is_digit b ≡ false) × ((b == 0x2e) ≡ false) × (is_sign b ≡ false) × (is_blank b ≡ false) × ((b == 0x2f) ≡ false) × ((b == 0x22) ≡ false) × ((b == 0x0a) ≡ false)
 
 mark_classes : (b : ℕ) → is_mark_byte b ≡ true → MarkClasses b
-mark_classes b h = each_mark MarkClasses b
-    (refl, refl, refl, refl, refl, refl, refl, refl, refl, refl)
-    (refl, refl, refl, refl, refl, refl, refl, refl, refl, refl)
-    (refl, refl, refl, refl, refl, refl, refl, refl, refl, refl)
-    (refl, refl, refl, refl, refl, refl, refl, refl, refl, refl)
-    (refl, refl, refl, refl, refl, refl, refl, refl, refl, refl)
-    (refl, refl, refl, refl, refl, refl, refl, refl, refl, refl)
-    (refl, refl, refl, refl, refl, refl, refl, refl, refl, refl)
-    h
+mark_classes b h = search (rules, each_mark)
 
 -- a mark
 pub scan_mark : (at_start : Bool) (bs : List ℕ) → is_mark_byte (get_or bs 0 0) ≡ true → scan at_start bs ≡ token Mark 1
 unfolding scan
-scan_mark at_start bs h =
-    let (netcdf, word, escape, digit, point, sign, blank, slash, quote, feed) = mark_classes (get_or bs 0 0) h in
-    rw (no_opening bs netcdf) (rw (and_false at_start) (rw (word) (rw (escape) (rw (digit) (rw (point) (rw (sign) (rw (blank) (rw (slash) (rw (quote) (rw (h) refl))))))))))
+scan_mark at_start bs h = grind (arith, no_opening bs, and_false at_start, mark_classes)
 
 -- the first byte of a number
 number_low : (bs : List ℕ) → begins_number bs ≡ true → (get_or bs 0 0 ≤ 0x39) × (0x2b ≤ get_or bs 0 0)
-number_low bs h = by (get_or bs 0 0) (is_digit (get_or bs 1 0)) (get_or bs 1 0 == 0x2e) (is_digit (get_or bs 2 0)) h
-  where
-    by : (b : ℕ) (c p d : Bool) → (is_digit b || b == 0x2e && c || is_sign b && c || is_sign b && p && d) ≡ true → (b ≤ 0x39) × (0x2b ≤ b)
-    by b c p d h = (grind (arith, h), grind (arith, h))
+number_low bs h = search rules
 
 -- a digit begins a number
 pub digit_number : (bs : List ℕ) → is_digit (get_or bs 0 0) ≡ true → begins_number bs ≡ true
@@ -96,24 +75,14 @@ digits_flat (b ∷ bs) = by (goes_on_number b) refl (digits_flat bs)
     by false h on = refl
 
 pub number_flat : (bs : List ℕ) → begins_number bs ≡ true → count_by (λ b. b == 0x0a) (take (1 + prefix_len goes_on_number (drop 1 bs)) bs) ≡ 0
-number_flat [] h = absurd (false≢true h)
-number_flat (b ∷ bs) h =
-    let low = number_low (b ∷ bs) h in
-    let other : (b == 0x0a) ≡ false = grind (arith, low) in
-    let n = prefix_len goes_on_number bs in
-    ap (λ m. count_by (λ b. b == 0x0a) (take m (b ∷ bs))) (let e : 1 + n ≡ suc n = omega arith in e) ∙ feeds_on b (take n bs) other ∙ digits_flat bs
+number_flat bs h = grind (arith, false≢true, number_low, feeds_on, digits_flat)
 
 pub mark_flat : (bs : List ℕ) → is_mark_byte (get_or bs 0 0) ≡ true → count_by (λ b. b == 0x0a) (take 1 bs) ≡ 0
-mark_flat [] h = refl
-mark_flat (b ∷ bs) h =
-    let (netcdf, word, escape, digit, point, sign, blank, slash, quote, feed) = mark_classes b h in
-    feeds_on b [] feed
+mark_flat bs h = grind (arith, mark_classes, feeds_on)
 
 -- at a place of a text
 pub blank_at : (text : List ℕ) (at_start : Bool) (at : ℕ) → is_blank (get_or text at 0) ≡ true → scan at_start (drop at text) ≡ gap 1
-blank_at text at_start at h =
-    let here : get_or (drop at text) 0 0 ≡ get_or text at 0 = get_or-drop at text 0 0 ∙ ap (λ n. get_or text n 0) (let e : at + 0 ≡ at = omega arith in e) in
-    scan_blank at_start (drop at text) (ap is_blank here ∙ h)
+blank_at text at_start at h = grind (arith, get_or-drop at text 0 0, scan_blank at_start (drop at text))
 
 pub here_dropped : (text : List ℕ) (at : ℕ) → get_or (drop at text) 0 0 ≡ get_or text at 0
 here_dropped text at = get_or-drop at text 0 0 ∙ ap (λ n. get_or text n 0) (let e : at + 0 ≡ at = omega arith in e)

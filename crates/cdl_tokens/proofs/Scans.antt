@@ -1,36 +1,20 @@
 -- A scanner, one gap or token on.
 use Rattle.std.proofs.Common.{◌≡◌, ℕ, zero, suc, ◌+◌, ◌<◌, ◌≤◌, Bool, true, false, cond, List, [], ◌∷◌, ◌++◌, length, drop, take, sym, ◌∙◌, ap, refl, arith, ◌==◌, None, Some, count_by}
-use Rattle.cdl_tokens.proofs.Prelude.{sum_by-append, Scanned, Token, TokenKind, Opening, Word, Number, Text, Mark, Bad, End, scan, is_end, is_token, left, followed, tokens_at, line_at}
+use Rattle.cdl_tokens.proofs.Prelude.{sum_by-append, Scanned, Token, TokenKind, End, scan, is_end, is_token, left, followed, tokens_at, line_at}
 use Rattle.cdl_tokens.specs.declared.scanner.Scanner.{Scanner}
 use Rattle.cdl_tokens.proofs.Steps.{tokens_more, tokens_past}
 use Rattle.cdl_tokens.proofs.Words.{and_false, and_yes}
 
 pub followed_token : (t : Token) (kind : TokenKind) (rest : List Token) → is_token (Some kind) ≡ true → followed t kind rest ≡ t ∷ rest
-followed_token t Opening rest h = refl
-followed_token t Word rest h = refl
-followed_token t Number rest h = refl
-followed_token t Text rest h = refl
-followed_token t Mark rest h = refl
-followed_token t Bad rest h = refl
-followed_token t End rest h = cc
+followed_token t kind rest h = grind arith
 
 pub no_end : (kind : TokenKind) → is_end kind ≡ false → is_token (Some kind) ≡ true
-no_end Opening h = refl
-no_end Word h = refl
-no_end Number h = refl
-no_end Text h = refl
-no_end Mark h = refl
-no_end Bad h = refl
-no_end End h = cc
+no_end kind h = grind arith
 
 pub step_token : (text : List ℕ) (at_start : Bool) (at line : ℕ) (f : Scanned) (kind : TokenKind) → at < length text → f ≡ scan at_start (drop at text) → 0 < f.len → f.len ≤ length (drop at text) → is_token f.kind ≡ true → f.kind ≡ Some kind → line ≡ line_at text at →
     tokens_at text at_start at 0 (drop at text) ≡ followed (record { kind = kind; line = line; first = at; past = at + f.len }) kind (tokens_at text false (at + f.len) 0 (drop (at + f.len) text))
 step_token text at_start at line f kind h is some within token one on =
-    let t : Token = record { kind = kind; line = line; first = at; past = at + f.len } in
-    let rest = tokens_at text false (at + f.len) 0 (drop (at + f.len) text) in
-    let same : is_token (Some kind) ≡ true = ap is_token (sym one) ∙ token in
-    tokens_more text at_start at f h is some within ∙
-    rw (one) (rw (and_false at_start) (rw (followed_token t kind rest same) (rw (on) refl)))
+    grind (arith, tokens_more text at_start at f h is some within, and_false at_start, followed_token)
 
 pub step_gap : (text : List ℕ) (at_start : Bool) (at : ℕ) (f : Scanned) → at < length text → f ≡ scan at_start (drop at text) → 0 < f.len → f.len ≤ length (drop at text) → f.kind ≡ None →
     tokens_at text at_start at 0 (drop at text) ≡ tokens_at text at_start (at + f.len) 0 (drop (at + f.len) text)
@@ -42,13 +26,10 @@ left_of s text at_start at t f a =
     ap (λ x. tokens_at x s.at_start s.at 0 (drop s.at x)) t ∙ ap (λ x. tokens_at text x s.at 0 (drop s.at text)) f ∙ ap (λ x. tokens_at text at_start x 0 (drop x text)) a
 
 pub step_end : (text : List ℕ) (at_start : Bool) (at line : ℕ) → length text ≤ at → line ≡ line_at text at → tokens_at text at_start at 0 (drop at text) ≡ record { kind = End; line = line; first = at; past = at } ∷ []
-step_end text at_start at line h on =
-    let t : ℕ → ℕ → Token = λ l p. record { kind = End; line = l; first = at; past = p } in
-    tokens_past text at_start at h ∙ ap (λ l. t l (at + 0) ∷ []) (sym on) ∙ ap (λ p. t line p ∷ []) (let e : at + 0 ≡ at = omega arith in e)
+step_end text at_start at line h on = grind (arith, tokens_past text at_start at h)
 
 take_none : (n : ℕ) → take {A = ℕ} n [] ≡ []
-take_none zero = refl
-take_none (suc n) = refl
+take_none n = grind arith
 
 pub take_more : (text : List ℕ) (at n : ℕ) → take (at + n) text ≡ take at text ++ take n (drop at text)
 take_more text zero n = ap (λ m. take m text) (let e : 0 + n ≡ n = omega arith in e)

@@ -1,41 +1,28 @@
 -- What a stretch of bytes says of a search that goes on after it, and of a count.
-use Rattle.std.proofs.Common.{◌≡◌, ℕ, zero, suc, ◌+◌, ◌<◌, ◌≤◌, Bool, true, false, cond, eqb, List, [], ◌∷◌, ◌++◌, length, drop, take, count_by, sym, ap, ◌∙◌, refl, arith, ◌&&◌, ◌||◌, ◌==◌, not}
+use Rattle.std.proofs.Common.{◌≡◌, ℕ, zero, suc, ◌+◌, ◌<◌, ◌≤◌, Bool, false, cond, List, [], ◌∷◌, ◌++◌, length, drop, take, count_by, ap, ◌∙◌, refl, arith, ◌&&◌, ◌==◌, not, rules}
 use Rattle.cdl_tokens.proofs.Prelude.{list_any, prefix_len, drop-drop, prefix_len-le-length, sum_by-append, is_none_of, is_ordinary}
 use Rattle.std.proofs.lemmas.List.Folds.{prefix_len-append}
 use Rattle.cdl_tokens.proofs.Scans.{take_more}
 
 -- the search ends in the first stretch, or goes on after it
 pub stops_near : (p : ℕ → Bool) (bytes near far : List ℕ) → bytes ≡ near ++ far → prefix_len p near < length near → prefix_len p near ≡ prefix_len p bytes
-stops_near p bytes near far is h =
-    let e : eqb (prefix_len p near) (length near) ≡ false = grind (arith, h) in
-    sym (ap (prefix_len p) is ∙ prefix_len-append p near far ∙ ap (λ b. cond b (length near + prefix_len p far) (prefix_len p near)) e)
+stops_near p bytes near far is h = grind (arith, prefix_len-append p near far)
 
 pub goes_far : (p : ℕ → Bool) (bytes near far : List ℕ) → bytes ≡ near ++ far → length near ≤ prefix_len p near → prefix_len p near + prefix_len p far ≡ prefix_len p bytes
-goes_far p bytes near far is h =
-    let same : prefix_len p near ≡ length near = omega (arith, h, prefix_len-le-length p near) in
-    let e : eqb (prefix_len p near) (length near) ≡ true = grind (arith, same) in
-    ap (λ n. n + prefix_len p far) same ∙ sym (ap (prefix_len p) is ∙ prefix_len-append p near far ∙ ap (λ b. cond b (length near + prefix_len p far) (prefix_len p near)) e)
+goes_far p bytes near far is h = grind (arith, prefix_len-le-length p near, prefix_len-append p near far)
 
 -- a stretch without a byte that is searched
 pub clear_block : (p : ℕ → Bool) (bytes : List ℕ) (n : ℕ) → n ≤ length bytes → list_any (λ b. not (p b)) (take n bytes) ≡ false → prefix_len p bytes ≡ n + prefix_len p (drop n bytes)
 clear_block p bytes zero within none = omega arith
 clear_block p [] (suc n) within none = absurd (omega (arith, within))
-clear_block p (b ∷ bytes) (suc n) within none = by (p b) refl none (clear_block p bytes n (omega (arith, within)))
-  where
-    by : (c : Bool) → p b ≡ c → (not c || list_any (λ b. not (p b)) (take n bytes)) ≡ false →
-        (list_any (λ b. not (p b)) (take n bytes) ≡ false → prefix_len p bytes ≡ n + prefix_len p (drop n bytes)) → cond c (1 + prefix_len p bytes) 0 ≡ suc n + prefix_len p (drop n bytes)
-    by true is none rest = omega (arith, rest none)
-    by false is none rest = cc
+clear_block p (b ∷ bytes) (suc n) within none = search (rules, clear_block p bytes n)
 
 -- the same byte searched thrice
 thrice : (a : Bool) → (not a && not a && not a) ≡ not a
-thrice true = refl
-thrice false = refl
+thrice a = grind arith
 
 twice : (a b : Bool) → (not a && not b && not b) ≡ (not a && not b)
-twice true b = refl
-twice false true = refl
-twice false false = refl
+twice a b = grind arith
 
 same_run : (p q : ℕ → Bool) (bytes : List ℕ) → ((b : ℕ) → p b ≡ q b) → prefix_len p bytes ≡ prefix_len q bytes
 same_run p q [] same = refl
@@ -53,6 +40,4 @@ past_block p bytes at n within none = clear_block p (drop at bytes) n within non
 
 -- a count goes on after a stretch
 pub counted_block : (p : ℕ → Bool) (bytes block : List ℕ) (at n count few : ℕ) → block ≡ take n (drop at bytes) → length block ≡ n → count ≡ count_by p (take at bytes) → few ≡ count_by p block → count + few ≡ count_by p (take (at + length block) bytes)
-counted_block p bytes block at n count few is long before here =
-    let cut : take (at + length block) bytes ≡ take at bytes ++ block = ap (λ m. take (at + m) bytes) long ∙ take_more bytes at n ∙ ap (λ xs. take at bytes ++ xs) (sym is) in
-    rw (before) (rw (here) (sym (ap (count_by p) cut ∙ sum_by-append (λ b. cond (p b) 1 0) (take at bytes) block)))
+counted_block p bytes block at n count few is long before here = search (rules, take_more, sum_by-append)

@@ -30,13 +30,8 @@ small_product base value h k = let wide : base * value ≤ 16 * value = mul-le-m
 
 -- a digit more
 pub one_longer : (at value b : ℕ) → value < 10 ^ at → is_digit b ≡ true → 10 * value + (b - 0x30) < 10 ^ (at + 1)
-one_longer at value b small is =
-    let d : b ≤ 0x39 = grind (arith, is) in
-    let more : 10 ^ (at + 1) ≡ 10 ^ at * 10 = pow_more 10 at in
-    omega (arith, small, d, more)
+one_longer at value b small is = grind (arith, pow_more 10 at)
 
 -- numbers of few digits
 pub short_number : (at value : ℕ) → at < 19 → value < 10 ^ at → value < 1000000000000000000
-short_number at value few small =
-    let most : 10 ^ at ≤ 10 ^ 18 = pow-le-pow_right {n = 10} (omega arith) {i = at} {j = 18} (omega (arith, few)) in
-    let e : 10 ^ at ≤ 1000000000000000000 = most in omega (arith, small, e)
+short_number at value few small = grind (arith, pow-le-pow_right {n = 10})

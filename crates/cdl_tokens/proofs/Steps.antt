@@ -1,10 +1,9 @@
 -- The tokens, one gap or token on.
-use Rattle.std.proofs.Common.{◌≡◌, ℕ, zero, suc, ◌+◌, ◌-◌, ◌<◌, ◌≤◌, Bool, List, [], ◌∷◌, length, get_or, drop, take, ◌∙◌, ap, refl, subst, arith, ◌&&◌, is_none}
+use Rattle.std.proofs.Common.{◌≡◌, ℕ, zero, suc, ◌+◌, ◌-◌, ◌<◌, ◌≤◌, Bool, List, [], ◌∷◌, length, drop, take, ap, arith, ◌&&◌, is_none, rules}
 use Rattle.cdl_tokens.proofs.Prelude.{at_drop_more, at_drop_all, drop-drop, Scanned, End, scan, tokens_at, token_at, with_token}
 
 pub drop_some : (n b : ℕ) (bytes : List ℕ) → 0 < n → drop n (b ∷ bytes) ≡ drop (n - 1) bytes
-drop_some zero b bytes h = absurd (let e : 0 < 0 = h in omega (arith, e))
-drop_some (suc n) b bytes h = ap (λ m. drop m bytes) (let e : n ≡ suc n - 1 = omega arith in e)
+drop_some n b bytes h = grind arith
 
 pub drop_one_more : (b n : ℕ) (bytes : List ℕ) → drop (1 + n) (b ∷ bytes) ≡ drop n bytes
 drop_one_more b n bytes = ap (λ m. drop m (b ∷ bytes)) (let e : 1 + n ≡ suc n = omega arith in e)
@@ -18,28 +17,18 @@ pub tokens_skip : (text : List ℕ) (at_start : Bool) (more : ℕ) (at : ℕ) (b
 unfolding tokens_at
 tokens_skip text at_start zero at bytes h = ap (λ n. tokens_at text at_start n 0 bytes) (let e : at ≡ at + 0 = omega arith in e)
 tokens_skip text at_start (suc more) at [] h = absurd (let e : suc more ≤ 0 = h in omega (arith, e))
-tokens_skip text at_start (suc more) at (b ∷ bytes) h =
-    tokens_skip text at_start more (at + 1) bytes (let e : suc more ≤ suc (length bytes) = h in omega (arith, e)) ∙
-    ap (λ n. tokens_at text at_start n 0 (drop more bytes)) (let e : at + 1 + more ≡ at + suc more = omega arith in e)
+tokens_skip text at_start (suc more) at (b ∷ bytes) h = search (rules, tokens_skip text at_start more (at + 1) bytes)
 
 -- what stands at the scan
 tokens_at_start : (text : List ℕ) (at_start : Bool) (at : ℕ) (b : ℕ) (bytes : List ℕ) (f : Scanned) → f ≡ scan at_start (b ∷ bytes) → 0 < f.len → f.len ≤ length (b ∷ bytes) →
     tokens_at text at_start at 0 (b ∷ bytes) ≡ with_token text at f.kind f.len (tokens_at text (at_start && is_none f.kind) (at + f.len) 0 (drop f.len (b ∷ bytes)))
 unfolding tokens_at
-tokens_at_start text at_start at b bytes f is some within =
-    rw (← is)
-    (ap (with_token text at f.kind f.len)
-    (tokens_skip text (at_start && is_none f.kind) (f.len - 1) (at + 1) bytes (let w : f.len ≤ suc (length bytes) = within in omega (arith, w, some)) ∙
-    rw (drop_some f.len b bytes some) (ap (λ n. tokens_at text (at_start && is_none f.kind) n 0 (drop (f.len - 1) bytes)) (let e : at + 1 + (f.len - 1) ≡ at + f.len = omega (arith, some) in e))))
+tokens_at_start text at_start at b bytes f is some within = search (rules, tokens_skip, is_none, drop_some)
 
 -- at a state of the text
 pub tokens_more : (text : List ℕ) (at_start : Bool) (at : ℕ) (f : Scanned) → at < length text → f ≡ scan at_start (drop at text) → 0 < f.len → f.len ≤ length (drop at text) →
     tokens_at text at_start at 0 (drop at text) ≡ with_token text at f.kind f.len (tokens_at text (at_start && is_none f.kind) (at + f.len) 0 (drop (at + f.len) text))
-tokens_more text at_start at f h is some within =
-    let cut : drop at text ≡ get_or text at 0 ∷ drop (at + 1) text = at_drop_more (λ xs. xs) text at 0 h in
-    ap (tokens_at text at_start at 0) cut ∙
-    tokens_at_start text at_start at (get_or text at 0) (drop (at + 1) text) f (is ∙ ap (scan at_start) cut) some (subst (λ (xs : List ℕ). f.len ≤ length xs) cut within) ∙
-    rw (← cut) (rw (drop-drop f.len at text) refl)
+tokens_more text at_start at f h is some within = grind (arith, tokens_at_start text at_start at, drop-drop f.len at text, at_drop_more)
 
 pub tokens_past : (text : List ℕ) (at_start : Bool) (at : ℕ) → length text ≤ at → tokens_at text at_start at 0 (drop at text) ≡ token_at text at End 0 ∷ []
 unfolding tokens_at

@@ -1,5 +1,5 @@
 -- A string, one character on.
-use Rattle.std.proofs.Common.{◌≡◌, ℕ, zero, suc, ◌+◌, ◌-◌, ◌<◌, ◌≤◌, Bool, true, false, cond, List, [], ◌∷◌, ◌++◌, length, get_or, take, drop, sym, ◌∙◌, ap, refl, arith, ◌==◌, map, not, Option, Some, is_some, unwrap_or}
+use Rattle.std.proofs.Common.{◌≡◌, ℕ, suc, ◌+◌, ◌-◌, ◌<◌, ◌≤◌, true, false, List, [], ◌∷◌, ◌++◌, length, get_or, take, drop, sym, ◌∙◌, ap, refl, arith, ◌==◌, map, Option, Some, is_some, unwrap_or, rules}
 use Rattle.cdl_tokens.proofs.Prelude.{list_all, prefix_len, append-nil, at_drop_more, at_drop_all, drop-drop, take_all, unescape, unescape_at, character, string_value, is_unescaped}
 use Rattle.cdl_tokens.specs.declared.scan.Character.{Character}
 use Rattle.cdl_tokens.proofs.Steps.{drop_some, drop_one_more, take_one_more}
@@ -14,9 +14,8 @@ bytes bs = map Some bs
 
 unescape_skip : (more : ℕ) (bs : List ℕ) → unescape_at more bs ≡ unescape_at 0 (drop more bs)
 unfolding unescape_at
-unescape_skip zero bs = refl
-unescape_skip (suc more) [] = refl
 unescape_skip (suc more) (b ∷ bs) = unescape_skip more bs
+unescape_skip _ _ = refl
 
 unescape_at_start : (b : ℕ) (bs : List ℕ) (c : Character) → c ≡ character (b ∷ bs) → 0 < c.len → unescape (b ∷ bs) ≡ c.value ∷ unescape (drop c.len (b ∷ bs))
 unfolding unescape_at
@@ -24,8 +23,7 @@ unescape_at_start b bs c is some = rw (← is) (rw (drop_some c.len b bs some) (
 
 pub unescape_more : (text : List ℕ) (at : ℕ) (c : Character) → at < length text → c ≡ character (drop at text) → 0 < c.len → unescape (drop at text) ≡ c.value ∷ unescape (drop (at + c.len) text)
 unescape_more text at c h is some =
-    let cut : drop at text ≡ get_or text at 0 ∷ drop (at + 1) text = at_drop_more (λ xs. xs) text at 0 h in
-    ap unescape cut ∙ unescape_at_start (get_or text at 0) (drop (at + 1) text) c (is ∙ ap character cut) some ∙ rw (← cut) (rw (drop-drop c.len at text) refl)
+    grind (arith, at_drop_more (λ xs. xs) text at 0 h, unescape_at_start (get_or text at 0) (drop (at + 1) text) c, drop-drop c.len at text)
 
 pub unescape_past : (text : List ℕ) (at : ℕ) → length text ≤ at → unescape (drop at text) ≡ []
 unfolding unescape_at
@@ -42,15 +40,7 @@ unescape_unescaped b bs off = unescape_at_start b bs (record { value = Some b; l
 
 unescape_after : (bs : List ℕ) → unescape bs ≡ bytes (take (prefix_len is_unescaped bs) bs) ++ unescape (drop (prefix_len is_unescaped bs) bs)
 unescape_after [] = refl
-unescape_after (b ∷ bs) = by (b == 0x5c) refl (unescape_after bs)
-  where
-    n : ℕ
-    n = prefix_len is_unescaped bs
-
-    by : (e : Bool) → (b == 0x5c) ≡ e → unescape bs ≡ bytes (take n bs) ++ unescape (drop n bs) →
-        unescape (b ∷ bs) ≡ bytes (take (cond (not e) (1 + n) 0) (b ∷ bs)) ++ unescape (drop (cond (not e) (1 + n) 0) (b ∷ bs))
-    by true is rest = refl
-    by false is rest = unescape_unescaped b bs is ∙ ap (λ xs. Some b ∷ xs) rest ∙ rw (drop_one_more b n bs) (rw (take_one_more b n bs) refl)
+unescape_after (b ∷ bs) = search (rules, bytes, unescape_unescaped, drop_one_more, take_one_more, unescape_after bs)
 
 unescape_run : (bs : List ℕ) (n : ℕ) → n ≡ prefix_len is_unescaped bs → unescape bs ≡ bytes (take n bs) ++ unescape (drop n bs)
 unescape_run bs n is = unescape_after bs ∙ ap (λ m. bytes (take m bs) ++ unescape (drop m bs)) (sym is)
@@ -58,9 +48,7 @@ unescape_run bs n is = unescape_after bs ∙ ap (λ m. bytes (take m bs) ++ unes
 -- bytes without a backslash stand for themselves
 pub plain_unescaped : (bs : List ℕ) → prefix_len is_unescaped bs ≡ length bs → unescape bs ≡ bytes bs
 plain_unescaped bs all =
-    unescape_run bs (length bs) (sym all) ∙
-    ap (λ xs. bytes (take (length bs) bs) ++ xs) (unescape_past bs (length bs) (omega arith)) ∙
-    append-nil (bytes (take (length bs) bs)) ∙ ap bytes (take_all (length bs) bs (omega arith))
+    grind (arith, unescape_run bs (length bs) (sym all), bytes (take (length bs) bs), unescape_past bs (length bs), append-nil (bytes (take (length bs) bs)), take_all (length bs) bs)
 
 -- ---- whether it is a string
 

@@ -1,5 +1,5 @@
 -- A word and a quoted text, one byte or escape on.
-use Rattle.std.proofs.Common.{◌≡◌, ℕ, ◌+◌, ◌<◌, ◌≤◌, Bool, true, false, cond, List, [], ◌∷◌, length, get_or, drop, sym, ◌∙◌, ap, refl, arith, length-drop, ◌&&◌, ◌||◌, ◌==◌, not, if◌then◌else◌, nat_lt, ⊎_elim, append_assoc, ◌++◌}
+use Rattle.std.proofs.Common.{◌≡◌, ℕ, ◌+◌, ◌<◌, ◌≤◌, Bool, true, false, List, [], ◌∷◌, length, get_or, drop, sym, ◌∙◌, ap, refl, arith, length-drop, ◌&&◌, ◌||◌, ◌==◌, if◌then◌else◌, nat_lt, ⊎_elim, append_assoc, ◌++◌, rules}
 use Rattle.cdl_tokens.proofs.Prelude.{prefix_len, is_ordinary, false≢true, cases_lt, at_drop_more, at_drop_all, drop-drop, get_or-drop, get_or_past, is_escape, goes_on_word, may_begin_word, word_len, len_until, word_value}
 use Rattle.cdl_tokens.proofs.Steps.{drop_one_more}
 
@@ -10,8 +10,7 @@ and_false a = elim a as (λ v. (v && false) ≡ false) [ true ↦ refl | false �
 pub word_at_start : (b : ℕ) (rest : List ℕ) →
     word_len (b ∷ rest) ≡ (if is_escape b (get_or rest 0 0) then 2 + word_len (drop 1 rest) else (if goes_on_word b then 1 + word_len rest else 0))
 unfolding word_len
-word_at_start b [] = rw (and_false (b == 0x5c)) refl
-word_at_start b (c ∷ rest) = refl
+word_at_start b rest = grind (arith, and_false)
 
 next_byte : (text : List ℕ) (at : ℕ) → get_or (drop (at + 1) text) 0 0 ≡ get_or text (at + 1) 0
 next_byte text at = get_or-drop (at + 1) text 0 0 ∙ ap (λ n. get_or text n 0) (let e : at + 1 + 0 ≡ at + 1 = omega arith in e)
@@ -40,10 +39,7 @@ and_yes a b e = rw (e) (elim a as (λ v. (v && true) ≡ v) [ true ↦ refl | fa
 pub until_at_start : (close b : ℕ) (rest : List ℕ) →
     len_until close (b ∷ rest) ≡ (if b == 0x5c && nat_lt 0 (length rest) then 2 + len_until close (drop 1 rest) else (if b == close then 0 else 1 + len_until close rest))
 unfolding len_until
-until_at_start close b [] = rw (and_false (b == 0x5c)) refl
-until_at_start close b (c ∷ rest) =
-    let e : nat_lt 0 (length (c ∷ rest)) ≡ true = grind arith in
-    rw (and_yes (b == 0x5c) (nat_lt 0 (length (c ∷ rest))) e) refl
+until_at_start close b rest = grind (arith, and_false, and_yes)
 
 is_more : (text : List ℕ) (at : ℕ) → at < length text → nat_lt 0 (length (drop (at + 1) text)) ≡ nat_lt (at + 1) (length text)
 is_more text at h = rw (length-drop (at + 1) text) (grind arith)
@@ -65,26 +61,10 @@ until_byte close text at h e is off other = until_at close text at h ∙ rw (←
 -- up to the first byte that escapes or closes
 until_ordinary : (close : ℕ) (bytes : List ℕ) → len_until close bytes ≡ prefix_len (is_ordinary close) bytes + len_until close (drop (prefix_len (is_ordinary close) bytes) bytes)
 until_ordinary close [] = omega arith
-until_ordinary close (b ∷ bytes) = by (b == 0x5c) (b == close) refl refl (until_ordinary close bytes)
-  where
-    n : ℕ
-    n = prefix_len (is_ordinary close) bytes
-
-    by : (e f : Bool) → (b == 0x5c) ≡ e → (b == close) ≡ f → len_until close bytes ≡ n + len_until close (drop n bytes) →
-        len_until close (b ∷ bytes) ≡ cond (not e && not f) (1 + n) 0 + len_until close (drop (cond (not e && not f) (1 + n) 0) (b ∷ bytes))
-    by true f is closes rest = omega arith
-    by false true is closes rest = omega arith
-    by false false is closes rest =
-        until_at_start close b bytes ∙ rw (is) (rw (closes) (
-        ap (λ m. 1 + m) rest ∙
-        (let e : 1 + (n + len_until close (drop n bytes)) ≡ 1 + n + len_until close (drop n bytes) = omega arith in e) ∙
-        ap (λ xs. 1 + n + len_until close xs) (sym (drop_one_more b n bytes))))
+until_ordinary close (b ∷ bytes) = search (rules, until_at_start, drop_one_more, until_ordinary close bytes)
 
 pub until_run : (close : ℕ) (text : List ℕ) (at n : ℕ) → n ≡ prefix_len (is_ordinary close) (drop at text) → len_until close (drop at text) ≡ n + len_until close (drop (at + n) text)
-until_run close text at n is =
-    until_ordinary close (drop at text) ∙
-    ap (λ m. m + len_until close (drop m (drop at text))) (sym is) ∙
-    ap (λ xs. n + len_until close xs) (drop-drop n at text)
+until_run close text at n is = grind (arith, until_ordinary close (drop at text), drop-drop n at text)
 
 -- a word has a byte
 pub word_some : (bytes : List ℕ) → 0 < length bytes → (may_begin_word (get_or bytes 0 0) || is_escape (get_or bytes 0 0) (get_or bytes 1 0)) ≡ true → 0 < word_len bytes
@@ -94,8 +74,7 @@ word_some bytes h k = grind (arith, word_at bytes 0 h, k)
 pub value_at_start : (b : ℕ) (rest : List ℕ) →
     word_value (b ∷ rest) ≡ (if is_escape b (get_or rest 0 0) then get_or rest 0 0 ∷ word_value (drop 1 rest) else b ∷ word_value rest)
 unfolding word_value
-value_at_start b [] = rw (and_false (b == 0x5c)) refl
-value_at_start b (c ∷ rest) = refl
+value_at_start b rest = grind (arith, and_false)
 
 pub value_at : (text : List ℕ) (at : ℕ) → at < length text →
     word_value (drop at text) ≡

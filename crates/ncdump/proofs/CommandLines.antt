@@ -1,5 +1,5 @@
 -- What a width and the whole command line read.
-use Rattle.std.proofs.Common.{ℕ, Bool, true, false, List, [], ◌∷◌, Option, Some, None, Result, Ok, Err, ◌≡◌, ◌<◌, ◌^◌, ◌∙◌, refl, ap, rules, tests, arith, length, ◌⊎◌, IsErrAnd, if◌then◌else◌, option_and_then}
+use Rattle.std.proofs.Common.{ℕ, Bool, true, List, [], ◌∷◌, Option, Some, None, Result, Ok, Err, ◌≡◌, ◌<◌, ◌^◌, ◌∙◌, refl, ap, rules, tests, arith, length, ◌⊎◌, IsErrAnd, if◌then◌else◌, option_and_then}
 use Rattle.ncdump.proofs.Prelude.{then_some, list_all, Row, fault_of, is_simple, is_simple_and_free, matches_of, AnswersBy, asked_by, asked_for, asked_in, ncdump, width_said}
 use Rattle.std.specs.Char.{is_ascii_digit}
 use Rattle.std.specs.Int.{is_in_range}
@@ -22,13 +22,8 @@ digits_read : {E : Type 0} (word : List ℕ) (r : Result ℕ E) → ParsesUnsign
     → OkIff r ((0 < length word) × (digits_value 10 word < 2 ^ 64)) (digits_value 10 word)
 digits_read word r h all = parse_digits digits 64 word r h all
 
--- a word that is not of digits alone writes no width
-pub width_of_other : (word : List ℕ) → list_all is_ascii_digit word ≡ false → width_said word ≡ None
-width_of_other word all = rw all refl
-
 then_some_if : (is : Bool) (n : ℕ) → (if is then Some n else None) ≡ then_some is n
-then_some_if true n = refl
-then_some_if false n = refl
+then_some_if is n = grind arith
 
 -- the width that a number is
 abbrev pub width_if : ℕ → Option ℕ
@@ -39,9 +34,7 @@ pub width_of_digits : (E : Type 0) (word : List ℕ) (r : Result ℕ E) → Pars
     → width_said word ≡ option_and_then width_if (result_ok r)
 width_of_digits E word (Ok n) h all = let n_is = (digits_read {E = E} word (Ok n) h all).1 in rw (all, n_is) (then_some_if (is_in_range 20 1000 (digits_value 10 word)) (digits_value 10 word))
 width_of_digits E [] (Err e) h all = refl
-width_of_digits E (b ∷ bs) (Err e) h all =
-    let refused = digits_read {E = E} (b ∷ bs) (Err e) h all in
-    grind (arith, tests, refused)
+width_of_digits E (b ∷ bs) (Err e) h all = grind (arith, digits_read {E = E} (b ∷ bs) (Err e) h all, tests)
 
 -- the parse says all of the command's matches
 pub is_plain : is_simple_and_free ncdump ≡ true

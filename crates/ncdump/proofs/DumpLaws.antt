@@ -1,6 +1,6 @@
 -- A dump from reading the header, selecting variables and showing them.
-use Rattle.std.proofs.Common.{◌≡◌, ℕ, ◌+◌, inl, inr, Bool, true, List, [], ◌++◌, length, Result, Ok, Err, refl, sym, ap, subst, ◌∙◌, append_assoc, ◌&&◌}
-use Rattle.ncdump.proofs.Prelude.{OnTrue, appended_none, Header, SpellsHeader, record_count, Options, DataText, closing_word, KnowsChosen, selection_of, dump_text, has_values, IsDump, stopped, unknown, shown, SourceView, SinkView, transparent_map, transparent_both, DumpFault, OutOfMemory, ReadFailed, WriteFailed, Format, NoSuchVariable, DataTruncated, Dumped, dumped, prefix_text, selected_values, values_from, unless_head_only, text_before, KeepsUpIn, Shows, Dumps, ReadsForward, IsAfterHeader, in_header, after_header, between}
+use Rattle.std.proofs.Common.{◌≡◌, ℕ, ◌+◌, inl, inr, Bool, true, List, [], ◌++◌, length, Result, Ok, Err, refl, sym, ap, subst, ◌∙◌, append_assoc, ◌&&◌, arith}
+use Rattle.ncdump.proofs.Prelude.{OnTrue, appended_none, Header, SpellsHeader, record_count, Options, DataText, closing_word, KnowsChosen, selection_of, dump_text, has_values, IsDump, stopped, unknown, shown, SourceView, SinkView, transparent_map, transparent_both, DumpFault, OutOfMemory, ReadFailed, WriteFailed, Format, NoSuchVariable, Dumped, dumped, prefix_text, selected_values, values_from, unless_head_only, text_before, KeepsUpIn, Shows, Dumps, ReadsForward, IsAfterHeader, in_header, between}
 use Rattle.nc_file.specs.code.Answers.{IsRead, Answers, HasAnswered, header_end, fault_end}
 use Rattle.nc_file.specs.declared.head_fault.HeadFault.{HeadFault}
 use Rattle.nc_file.specs.declared.head_fault.HeadFault.TheVariants as head
@@ -31,10 +31,7 @@ unselected : (o : Options) (a b : SourceView) (buffer_len : ℕ) (sink : SinkVie
 unselected o a b buffer_len sink h OutOfMemory read selects = (refl, record { end = read.end; ends = header_end h read.rest read.spelled read.ends; handed = read.handed })
 unselected o a b buffer_len sink h (NoSuchVariable index) read selects =
     (record { text = []; is_dump = unknown h read.rest index read.spelled selects; appended = appended_none sink }, record { end = read.end; ends = header_end h read.rest read.spelled read.ends; handed = read.handed })
-unselected o a b buffer_len sink h ReadFailed read selects = absurd selects
-unselected o a b buffer_len sink h WriteFailed read selects = absurd selects
-unselected o a b buffer_len sink h (Format fault) read selects = absurd selects
-unselected o a b buffer_len sink h (DataTruncated v k) read selects = absurd selects
+unselected o a b buffer_len sink h _ read selects = absurd selects
 
 pub transparent-unselected : (is_transparent : Bool) (o : Options) (a b : SourceView) (buffer_len : ℕ) (sink : SinkView) (h : Header) (fault : DumpFault)
     → OnTrue is_transparent (HasAnswered a.bytes a.handed b.handed buffer_len (Ok h)) → Selects h o (Err fault)
@@ -68,16 +65,6 @@ module _ (o : Options) (bytes : List ℕ) (h : Header) (rest : List ℕ) (buffer
       (ap (λ (bs : List ℕ). selected_values (record { header = h; bytes = bs; records = record_count h (length bytes); width = o.width }) (unless_head_only o (selection_of h o))) same)
 
   written : {A : Type 0} (result : Result A DumpFault) → Shows o h (record_count h (length bytes)) (selection_of h o) (call buffer_len b c old new) result → Dumps bytes o old new result
-  written (Ok done) s = record {
-    text = dump_text h o (record_count h (length bytes)) section;
-    is_dump = subst (IsDump bytes o (dump_text h o (record_count h (length bytes)) section)) s.ends is-dump;
-    appended = s.taken;
-  }
-  written (Err (DataTruncated v k)) s = record {
-    text = dump_text h o (record_count h (length bytes)) section;
-    is_dump = subst (IsDump bytes o (dump_text h o (record_count h (length bytes)) section)) s.ends is-dump;
-    appended = s.taken;
-  }
   written (Err WriteFailed) s = record {
     text = dump_text h o (record_count h (length bytes)) section;
     ending = section.ending;
@@ -103,16 +90,15 @@ module _ (o : Options) (bytes : List ℕ) (h : Header) (rest : List ℕ) (buffer
   written (Err OutOfMemory) s = absurd s
   written (Err (Format fault)) s = absurd s
   written (Err (NoSuchVariable i)) s = absurd s
+  written _ s = record {
+    text = dump_text h o (record_count h (length bytes)) section;
+    is_dump = subst (IsDump bytes o (dump_text h o (record_count h (length bytes)) section)) s.ends is-dump;
+    appended = s.taken;
+  }
 
 forward : (o : Options) (buffer_len : ℕ) (a c : SourceView) (old new : SinkView) (result : Result (Unit {0}) DumpFault)
     → IsAfterHeader o (call buffer_len a c old new) result → ReadsForward o (call buffer_len a c old new) result
-forward o buffer_len a c old new (Ok done) x = x
-forward o buffer_len a c old new (Err (DataTruncated v k)) x = x
-forward o buffer_len a c old new (Err WriteFailed) x = x
-forward o buffer_len a c old new (Err ReadFailed) x = after_header x
-forward o buffer_len a c old new (Err OutOfMemory) x = absurd x.shows
-forward o buffer_len a c old new (Err (Format fault)) x = absurd x.shows
-forward o buffer_len a c old new (Err (NoSuchVariable i)) x = absurd x.shows
+forward o buffer_len a c old new result h = grind arith
 
 pub transparent-shown : (is_transparent : Bool) (o : Options) (a b c : SourceView) (buffer_len buf : ℕ) (old new : SinkView) (h : Header) (selection : List Bool) (result : Result (Unit {0}) DumpFault)
     → OnTrue is_transparent (HasAnswered a.bytes a.handed b.handed buffer_len (Ok h)) → KnowsChosen h o.chosen → selection ≡ selection_of h o → b.bytes ≡ a.bytes → buf ≡ buffer_len

@@ -1,5 +1,5 @@
 -- A name more in a set.
-use Rattle.std.proofs.Common.{◌≡◌, ℕ, Bool, true, false, ◌||◌, List, Bor, refl, ap, ◌∙◌, cond}
+use Rattle.std.proofs.Common.{◌≡◌, ℕ, Bool, true, ◌||◌, List, Bor, ap, ◌∙◌, cond, arith}
 use Rattle.std.specs.BTreeSet.{BTreeSet, contains_by, Updates}
 use Rattle.std.specs.Cmp.Lexicographic.{slice_cmp}
 use Rattle.std.specs.Ordering.{nat_cmp}
@@ -7,10 +7,7 @@ use Rattle.std.specs.Str.{bytes_eq}
 use Rattle.std.proofs.lemmas.Map.Text.{is_eq-slice_cmp}
 
 cond-or : (added had : Bool) → cond added true had ≡ (had || added)
-cond-or true true = refl
-cond-or true false = refl
-cond-or false true = refl
-cond-or false false = refl
+cond-or added had = grind arith
 
 pub inserted : (name : Bor (List ℕ)) (old new : BTreeSet (Bor (List ℕ))) → Updates (λ x y. slice_cmp nat_cmp x.now y.now) old new name true
     → (other : List ℕ) → contains_by (λ k. slice_cmp nat_cmp other k.now) new ≡ (contains_by (λ k. slice_cmp nat_cmp other k.now) old || bytes_eq name.now other)

@@ -1,6 +1,6 @@
 -- There is one dump of a file.
-use Rattle.std.proofs.Common.{◌≡◌, ℕ, ◌<◌, false, List, [], length, get_or, refl, sym, ap, ◌∙◌, subst, arith, inl, inr, Option, Some, None, Result, Ok, Err, ◌⊎◌, IsTrue, not, position}
-use Rattle.ncdump.proofs.Prelude.{list_all, false≢true, slice_get_within, get_or_from_slice_get, Header, Var, record_count, SpellsHeader, Options, Ending, whole, wrong_field, no_such_variable, data_truncated, has_variable, KnowsChosen, IsFirstUnknown, IsFirstUnknownOf, DataText, values_in_file, shown_data_text, selection_of, dump_text, IsDump, stopped, unknown, shown, SinkView, Appended, DumpFault, OutOfMemory, ReadFailed, WriteFailed, Format, NoSuchVariable, DataTruncated}
+use Rattle.std.proofs.Common.{◌≡◌, ℕ, ◌<◌, List, [], length, refl, sym, ap, ◌∙◌, subst, arith, inl, inr, Option, Some, None, Result, Ok, Err, ◌⊎◌, IsTrue, not, position}
+use Rattle.ncdump.proofs.Prelude.{list_all, false≢true, slice_get_within, get_or_from_slice_get, Header, Var, record_count, SpellsHeader, Options, Ending, whole, wrong_field, no_such_variable, data_truncated, has_variable, KnowsChosen, IsFirstUnknown, IsFirstUnknownOf, DataText, values_in_file, shown_data_text, selection_of, dump_text, IsDump, stopped, unknown, shown, SinkView, Appended, DumpFault, Format, NoSuchVariable, DataTruncated}
 use Rattle.std.proofs.lemmas.List.Folds.{list_all_at}
 use Rattle.nc_file.specs.OneOutcome.{BeginsWithHeader, HasFirstFault, HasOneOutcome}
 use Rattle.nc_file.proofs.Outcomes.{one-outcome}
@@ -15,18 +15,14 @@ by-position vars names None e = inl (all-known vars names (has_variable vars) (�
 by-position vars names (Some index) e = inr (index, first-unknown vars names (has_variable vars) index (λ name. refl) e)
 
 choice : (h : Header) (chosen : Option (List (List ℕ))) → KnowsChosen h chosen ⊎ ((index : ℕ) × IsFirstUnknownOf h chosen index)
-choice h None = inl tt
-choice h (Some names) = by-position h.vars names (position (λ (name : List ℕ). not (has_variable h.vars name)) names) refl
+choice h chosen = grind (arith, by-position)
 
 -- two places can't both be the first
 not-before : (vars : List Var) (names : List (List ℕ)) (i j : ℕ) → IsFirstUnknown vars names i → IsFirstUnknown vars names j → ¬ (i < j)
 not-before vars names i j u w lt = false≢true (sym u.unknown ∙ w.others i u.name lt u.at)
 
 same-first : (vars : List Var) (names : List (List ℕ)) (i j : ℕ) → IsFirstUnknown vars names i → IsFirstUnknown vars names j → i ≡ j
-same-first vars names i j u w =
-    let a = not-before vars names i j u w in
-    let b = not-before vars names j i w u in
-    omega (arith, a, b)
+same-first vars names i j u w = grind (arith, not-before vars names i j u w, not-before vars names j i w u)
 
 same-first-of : (h : Header) (chosen : Option (List (List ℕ))) (i j : ℕ) → IsFirstUnknownOf h chosen i → IsFirstUnknownOf h chosen j → i ≡ j
 same-first-of h None i j u w = elim u [ ]
@@ -35,10 +31,7 @@ same-first-of h (Some names) i j u w = same-first h.vars names i j u w
 known-all : (h : Header) (chosen : Option (List (List ℕ))) (i : ℕ) → KnowsChosen h chosen → ¬ IsFirstUnknownOf h chosen i
 known-all h None i knows u = elim u [ ]
 known-all h (Some names) i knows u =
-    let test = has_variable h.vars in
-    let is : get_or names i u.name ≡ u.name = get_or_from_slice_get names i u.name u.name u.at in
-    let none : list_all test names ≡ false = list_all_at test names i u.name (slice_get_within names i u.name u.at) (ap test is ∙ u.unknown) in
-    false≢true (sym none ∙ knows)
+    grind (arith, get_or_from_slice_get names i u.name u.name u.at, slice_get_within names i u.name u.at, list_all_at, false≢true)
 
 -- ---- there is a dump
 
@@ -86,15 +79,7 @@ same-dump bytes o t u e f one (shown h rest n section s knows counted is) (shown
     )
 
 pub one-dump : BytesHaveOneDump
-one-dump bytes o fits =
-    let one = one-outcome bytes fits in
-    let it = some-dump bytes o one.either in
-    record {
-      text = it.0;
-      ending = it.1;
-      is_dump = it.2;
-      only = λ other end is. same-dump bytes o other it.0 end it.1 one is it.2;
-    }
+one-dump bytes o fits = grind (arith, one-outcome bytes fits, some-dump bytes o, same-dump bytes o)
 
 -- ---- calls that meet no failure
 
@@ -114,22 +99,8 @@ record Ends (bytes : List ℕ) (o : Options) (old new : SinkView) (answer : Resu
   answers : answer ≡ answer_of ending
 
 ended : (bytes : List ℕ) (o : Options) (old new : SinkView) (answer : Result (Unit {0}) DumpFault) → HasDumped bytes o old new answer → Ends bytes o old new answer
-ended bytes o old new (Ok done) has = record { text = has.dumps.text; ending = whole; is_dump = has.dumps.is_dump; appended = has.dumps.appended; answers = refl }
-ended bytes o old new (Err (DataTruncated v k)) has = record { text = has.dumps.text; ending = data_truncated v k; is_dump = has.dumps.is_dump; appended = has.dumps.appended; answers = refl }
-ended bytes o old new (Err (Format fault)) has = record { text = has.dumps.text; ending = wrong_field fault; is_dump = has.dumps.is_dump; appended = has.dumps.appended; answers = refl }
-ended bytes o old new (Err (NoSuchVariable index)) has = record { text = has.dumps.text; ending = no_such_variable index; is_dump = has.dumps.is_dump; appended = has.dumps.appended; answers = refl }
-ended bytes o old new (Err OutOfMemory) has = absurd has.met_none
-ended bytes o old new (Err ReadFailed) has = absurd has.met_none
-ended bytes o old new (Err WriteFailed) has = absurd has.met_none
+ended bytes o old new answer h = grind (arith, whole)
 
 pub dumps-agree : DumpsAgree
 dumps-agree bytes o a b c d answer other fits first second =
-    let x = ended bytes o a b answer first in
-    let y = ended bytes o c d other second in
-    let same = same-dump bytes o x.text y.text x.ending y.ending (one-outcome bytes fits) x.is_dump y.is_dump in
-    record {
-      text = x.text;
-      first = x.appended;
-      second = subst (Appended c d) (sym same.0) y.appended;
-      answers = x.answers ∙ ap answer_of same.1 ∙ sym y.answers;
-    }
+    grind (arith, ended bytes o a b answer first, ended bytes o c d other second, same-dump bytes o, one-outcome bytes fits)

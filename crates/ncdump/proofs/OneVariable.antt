@@ -1,5 +1,5 @@
 -- Showing one variable: a walk and a printer that go on together.
-use Rattle.std.proofs.Common.{◌≡◌, ℕ, ◌+◌, ◌*◌, ◌≤◌, inl, inr, Bool, List, [], ◌++◌, length, take, refl, sym, ap, ◌∙◌, append_assoc, subst, arith, Option, Some, None, Ok, Err, ℤ, slice_get, unwrap_or, IfSome}
+use Rattle.std.proofs.Common.{◌≡◌, ℕ, ◌+◌, ◌*◌, ◌≤◌, inl, inr, Bool, List, [], ◌++◌, length, take, refl, sym, ap, ◌∙◌, append_assoc, subst, arith, Option, Some, None, Ok, Err, ℤ, slice_get, unwrap_or, IfSome, rules}
 use Rattle.ncdump.proofs.Prelude.{OnTrue, take-add, append-nil, take_all, length-append, Header, Var, size_of, numbers, value_count, stored_values, first_missing, Look, look_of, variable_opening, variable_closing, variable_prefix, variable_text, later_pieces, no_data_text, whole, data_truncated, with_variable, prefix-append, prefix_nil, SourceView, having_read, SinkView, Appended, FailedPartway, appended_then, appended_partway, Pass, Walked, HasRead, IsChunk, GivesChunk, GivesEnd, GivesCut, GivesFailure, transparent_any, transparent_map, transparent_both, look_in, HasPrinted, Printed, Stopped, Takes, Dumped, dumped, whole_values, whole_bytes, Holds, IsShown, IsUnread, IsUnwritten, look-type}
 use Rattle.std.proofs.Math.Nat.{mul-le-mul_right}
 use Rattle.nc_walk.specs.code.Walks.{WalkView, Starts, Steps, Advanced, count}
@@ -24,8 +24,7 @@ pub record Showing (is_transparent : Bool) (h : Header) (v n width buffer_len : 
 
 -- what holds of an element that is there
 pub some-at : {X : Type 0} (P : X → Type 0) (o : Option X) (x : X) → o ≡ Some x → IfSome o P → P x
-some-at P (Some y) x is holds = subst P (cc) holds
-some-at P None x is holds = absurd cc
+some-at P o x h h2 = grind arith
 
 pub at-some : {X : Type 0} (P : X → Type 0) (o : Option X) (x : X) → o ≡ Some x → P x → IfSome o P
 at-some {X = X} P o x is holds = subst (λ (q : Option X). IfSome q P) (sym is) holds
@@ -37,15 +36,7 @@ total-of h var n width = refl
 -- where both begin
 pub showing-begins : (is_transparent : Bool) (h : Header) (v n width buffer_len : ℕ) (w : WalkView) (p : ValuePrinter) (a : SourceView) (old new : SinkView) (s : Starts h v n buffer_len w)
     → HasPrinted (look_of h s.var n width) [] p → Appended old new (variable_opening (look_of h s.var n width)) → Showing is_transparent h v n width buffer_len w p a a old new
-showing-begins is_transparent h v n width buffer_len w p a old new s has_printed appended = record {
-  var = s.var;
-  at = s.at;
-  xs = [];
-  walked = begun (pass is_transparent h s.var n buffer_len a a) v w s refl refl;
-  has_printed = has_printed;
-  values = transparent_any is_transparent refl;
-  appended = subst (Appended old new) (sym (prefix_nil (look_of h s.var n width))) appended;
-}
+showing-begins is_transparent h v n width buffer_len w p a old new s has_printed appended = search (rules, begun, transparent_any, prefix_nil)
 
 module _ (is_transparent : Bool) (h : Header) (v n width buffer_len : ℕ) (w : WalkView) (p : ValuePrinter) (a b : SourceView) (old new : SinkView)
     (s : Showing is_transparent h v n width buffer_len w p a b old new) where

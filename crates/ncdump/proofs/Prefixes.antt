@@ -1,13 +1,11 @@
 -- Fronts of a variable's text.
-use Rattle.std.proofs.Common.{◌≡◌, ℕ, ◌+◌, ◌-◌, ◌≤◌, List, [], ◌++◌, length, take, drop, sym, ap, ◌∙◌, append_assoc, arith, Option, Some, None, ℤ, unwrap_or}
-use Rattle.ncdump.proofs.Prelude.{take-add, take_all, length-map, Var, value_count, number_of, size_of, bytes_at, stored_values, stored_bytes, value_offsets, first_missing, Look, look_of, variable_prefix, variable_text, later_pieces, variable_closing, no_data_text, with_variable, prefix-append, Dumped, prefix_text, values_alone, whole_values}
+use Rattle.std.proofs.Common.{◌≡◌, ℕ, ◌+◌, ◌-◌, ◌≤◌, List, [], ◌++◌, length, take, drop, sym, ap, ◌∙◌, append_assoc, arith, Option, Some, None, ℤ, unwrap_or, rules}
+use Rattle.ncdump.proofs.Prelude.{take-add, take_all, length-map, Var, value_count, stored_values, first_missing, Look, look_of, variable_prefix, variable_text, later_pieces, variable_closing, no_data_text, with_variable, prefix-append, Dumped, prefix_text, values_alone, whole_values}
 use Rattle.nc_walk.proofs.Orders.{count_of_offsets}
 
 -- as many values are stored as the variable has
 pub count-stored : (d : Dumped) (var : Var) → length (stored_values d.header d.bytes var d.records) ≡ value_count d.header.dims var d.records
-count-stored d var =
-    length-map (stored_bytes d.header d.bytes var d.records) (number_of var.ty) ∙ length-map (value_offsets d.header var d.records) (bytes_at (size_of var.ty) d.bytes)
-    ∙ count_of_offsets d.header var d.records
+count-stored d var = search (rules, length-map, count_of_offsets)
 
 -- a prefix of the first values is a prefix of more of them
 prefix-more : (look : Look) (xs : List ℤ) (k i : ℕ) → (rest : List ℕ) × (variable_prefix look (take (k + i) xs) ≡ variable_prefix look (take k xs) ++ rest)

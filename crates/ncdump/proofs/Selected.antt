@@ -1,6 +1,6 @@
 -- Showing one selected variable after the other.
-use Rattle.std.proofs.Common.{◌≡◌, ℕ, suc, ◌+◌, ◌<◌, ◌≤◌, ◌⊎◌, inl, inr, Bool, true, false, List, [], ◌∷◌, ◌++◌, length, drop, get_or, refl, sym, ap, ◌∙◌, append_assoc, subst, arith, Option, Some, None, Result, Ok, Err, ℤ, slice_get, ◌&&◌, if◌then◌else◌, IfSome}
-use Rattle.ncdump.proofs.Prelude.{OnTrue, drop-cons, append-nil, drop_all, get_or_from_slice_get, slice_get_within, slice_get-get_or, Var, Look, look_of, DataText, no_data_text, whole, data_truncated, values_in_file, has_values, with_variable, data_text, shown_data, SourceView, having_read, SinkView, Appended, FailedPartway, appended_then, appended_partway, after_after, transparent_both, DumpFault, OutOfMemory, ReadFailed, WriteFailed, Format, NoSuchVariable, DataTruncated, Dumped, dumped, prefix_text, ShowsOne, ShowsAt, ShowsSelected, values_and, values_alone, values_from, whole_values, whole_bytes, bytes_of, Holds, KeepsUp, KeepsUpIn, IsBefore, IsShown, IsUnread, IsUnwritten, IsUpToDate, AreShown, AreUnread, AreUnwritten, between}
+use Rattle.std.proofs.Common.{◌≡◌, ℕ, ◌+◌, ◌<◌, ◌≤◌, ◌⊎◌, inl, inr, Bool, true, false, List, [], ◌∷◌, ◌++◌, length, drop, get_or, refl, sym, ap, ◌∙◌, append_assoc, subst, arith, Option, Some, None, Result, Ok, Err, ℤ, slice_get, ◌&&◌, if◌then◌else◌, IfSome, rules}
+use Rattle.ncdump.proofs.Prelude.{OnTrue, drop-cons, append-nil, drop_all, get_or_from_slice_get, slice_get_within, slice_get-get_or, Var, Look, look_of, DataText, no_data_text, whole, data_truncated, values_in_file, has_values, with_variable, data_text, shown_data, SourceView, having_read, SinkView, Appended, FailedPartway, appended_then, appended_partway, after_after, transparent_both, DumpFault, ReadFailed, WriteFailed, DataTruncated, Dumped, dumped, prefix_text, ShowsOne, ShowsAt, ShowsSelected, values_and, values_alone, values_from, whole_values, whole_bytes, bytes_of, Holds, KeepsUp, KeepsUpIn, IsBefore, IsShown, IsUnread, IsUnwritten, IsUpToDate, AreShown, AreUnread, AreUnwritten, between}
 use Rattle.ncdump.proofs.OneVariable.{some-at}
 use Rattle.nc_base.specs.declared.nc_type.NcType.TheVariants.{Byte}
 use Rattle.ncdump.proofs.Calls.{call}
@@ -10,27 +10,18 @@ use Rattle.ncdump.proofs.Held.{holds-all, holds-prefix, holds-after, holds-partw
 -- ---- the list from a place on
 
 from-place : {X : Type 0} (xs : List X) (v : ℕ) (x : X) → slice_get xs v ≡ Some x → drop v xs ≡ x ∷ drop (v + 1) xs
-from-place xs v x is =
-    let e : v + 1 ≡ suc v = omega arith in
-    drop-cons xs v x (slice_get_within xs v x is)
-    ∙ ap (λ y. y ∷ drop (suc v) xs) (get_or_from_slice_get xs v x x is) ∙ ap (λ i. x ∷ drop i xs) (sym e)
+from-place xs v x is = grind (arith, drop-cons xs v x (slice_get_within xs v x is), slice_get_within xs v x is, get_or_from_slice_get xs v x x is)
 
 -- the values of the variables from index v on, and their bytes, by whether the first of them is shown
 pub values-at : (d : Dumped) (selection : List Bool) (v : ℕ) (var : Var) (is_selected shown : Bool) → slice_get d.header.vars v ≡ Some var → slice_get selection v ≡ Some is_selected
     → shown ≡ (is_selected && has_values d.header.dims d.records var)
     → values_from d selection v ≡ (if shown then values_and d v var (values_from d selection (v + 1)) else values_from d selection (v + 1))
-values-at d selection v var is_selected shown at selected is =
-    ap (λ (vars : List Var). data_text (shown_data d.header (values_in_file d.header d.bytes d.records) d.records d.width) v vars (drop v selection)) (from-place d.header.vars v var at)
-    ∙ ap (λ (ms : List Bool). data_text (shown_data d.header (values_in_file d.header d.bytes d.records) d.records d.width) v (var ∷ drop (v + 1) d.header.vars) ms) (from-place selection v is_selected selected)
-    ∙ ap (λ (b : Bool). if b then values_and d v var (values_from d selection (v + 1)) else values_from d selection (v + 1)) (sym is)
+values-at d selection v var is_selected shown at selected is = search (rules, from-place)
 
 bytes-at : (d : Dumped) (selection : List Bool) (v : ℕ) (var : Var) (is_selected shown : Bool) → slice_get d.header.vars v ≡ Some var → slice_get selection v ≡ Some is_selected
     → shown ≡ (is_selected && has_values d.header.dims d.records var)
     → bytes_of d (drop v d.header.vars) (drop v selection) ≡ (if shown then whole_bytes d var else 0) + bytes_of d (drop (v + 1) d.header.vars) (drop (v + 1) selection)
-bytes-at d selection v var is_selected shown at selected is =
-    ap (λ (vars : List Var). bytes_of d vars (drop v selection)) (from-place d.header.vars v var at)
-    ∙ ap (λ (ms : List Bool). bytes_of d (var ∷ drop (v + 1) d.header.vars) ms) (from-place selection v is_selected selected)
-    ∙ ap (λ (b : Bool). (if b then whole_bytes d var else 0) + bytes_of d (drop (v + 1) d.header.vars) (drop (v + 1) selection)) (sym is)
+bytes-at d selection v var is_selected shown at selected is = search (rules, from-place)
 
 no-selection : (d : Dumped) (v : ℕ) (vars : List Var) → data_text (shown_data d.header (values_in_file d.header d.bytes d.records) d.records d.width) v vars [] ≡ no_data_text
 no-selection d v [] = refl
@@ -45,14 +36,12 @@ no-bytes d (var ∷ vars) = refl
 whole-and : (look : Look) (values : List ℤ) (missing : Option ℕ) (v : ℕ) (others : DataText) → (with_variable look values missing v no_data_text).ending ≡ whole
     → ((with_variable look values missing v others).text ≡ (with_variable look values missing v no_data_text).text ++ others.text)
     × ((with_variable look values missing v others).ending ≡ others.ending)
-whole-and look values None v others ends = (ap (λ (t : List ℕ). t ++ others.text) (sym (append-nil _)), refl)
-whole-and look values (Some k) v others ends = absurd cc
+whole-and look values missing v others h = grind (arith, append-nil)
 
 cut-and : (look : Look) (values : List ℤ) (missing : Option ℕ) (v w k : ℕ) (others : DataText) → (with_variable look values missing v no_data_text).ending ≡ data_truncated w k
     → ((with_variable look values missing v others).text ≡ (with_variable look values missing v no_data_text).text)
     × ((with_variable look values missing v others).ending ≡ data_truncated w k)
-cut-and look values None v w k others ends = absurd cc
-cut-and look values (Some m) v w k others ends = (refl, ends)
+cut-and look values missing v w k others h = grind arith
 
 pub more-and : (look : Look) (values : List ℤ) (missing : Option ℕ) (v : ℕ) (others : DataText)
     → (more : List ℕ) × ((with_variable look values missing v others).text ≡ (with_variable look values missing v no_data_text).text ++ more)
@@ -71,14 +60,7 @@ pub record Selected (d : Dumped) (selection : List Bool) (buffer_len v : ℕ) (a
   pub keeps_up : (b ≡ a) ⊎ KeepsUpIn d selection buffer_len (between a b) (Holds old new)
 
 pub selected-begins : (d : Dumped) (selection : List Bool) (buffer_len : ℕ) (a : SourceView) (old : SinkView) → Appended old old [] → Selected d selection buffer_len 0 a a old old
-selected-begins d selection buffer_len a old none = record {
-  prefix = [];
-  spent = 0;
-  is_before = record { text_is = refl; ending_is = refl; spent_is = omega arith };
-  appended = none;
-  handed = let e : a.handed ≡ a.handed + 0 = omega arith in ap (λ (k : ℕ). record a { handed = k }) e;
-  keeps_up = inl refl;
-}
+selected-begins d selection buffer_len a old none = search rules
 
 module _ (d : Dumped) (selection : List Bool) (buffer_len v : ℕ) (a b : SourceView) (old new : SinkView) (m : Selected d selection buffer_len v a b old new)
     (var : Var) (is_selected : Bool) (at : slice_get d.header.vars v ≡ Some var) (selected : slice_get selection v ≡ Some is_selected) where
@@ -109,26 +91,14 @@ module _ (d : Dumped) (selection : List Bool) (buffer_len v : ℕ) (a b : Source
     bytes-here = bytes-at d selection v var is_selected true at selected shown
 
     is-selected : (x y : Bool) → true ≡ (x && y) → x ≡ true
-    is-selected true y e = refl
-    is-selected false y e = absurd cc
+    is-selected x y h = grind arith
 
     has-some : (x y : Bool) → true ≡ (x && y) → y ≡ true
-    has-some true y e = sym e
-    has-some false y e = absurd cc
+    has-some x y h = grind arith
 
     -- the text of the variable's first values stands after what was shown before
     keeps-up-in : (Taken : List ℕ → Type 0) (k : KeepsUp d var buffer_len (between (having_read a m.spent) c) (λ (values : List ℕ). Taken (m.prefix ++ values))) → KeepsUpIn d selection buffer_len (between a c) Taken
-    keeps-up-in Taken k = record {
-      v = v;
-      var = var;
-      prefix = m.prefix;
-      spent = m.spent;
-      at = at;
-      selected = selected ∙ ap Some (is-selected is_selected _ shown);
-      some = has-some is_selected _ shown;
-      is_before = m.is_before;
-      keeps_up = k;
-    }
+    keeps-up-in Taken k = grind (arith, is-selected is_selected _ shown, has-some is_selected _ shown)
 
     -- all its values are shown
     pub selected-on : IsShown d v var whole (call buffer_len (having_read a m.spent) c new newer) → Selected d selection buffer_len (v + 1) a c old newer
@@ -160,29 +130,11 @@ module _ (d : Dumped) (selection : List Bool) (buffer_len v : ℕ) (a b : Source
     -- a value is missing
     pub selected-cut : (w k : ℕ) → IsShown d v var (data_truncated w k) (call buffer_len (having_read a m.spent) c new newer)
         → AreShown d selection (data_truncated w k) (between a c) (λ (section : DataText). Appended old newer section.text)
-    selected-cut w k s =
-        let split = cut-and _ _ _ v w k (values_from d selection (v + 1)) s.ends in
-        let handed : c ≡ having_read a (m.spent + whole_bytes d var) = s.handed ∙ after_after a m.spent (whole_bytes d var) in
-        record {
-          ends = m.is_before.ending_is ∙ ap (λ (x : DataText). x.ending) values-here ∙ split.1;
-          taken = subst (Appended old newer) (sym (m.is_before.text_is ∙ ap (λ (x : DataText). m.prefix ++ x.text) values-here ∙ ap (λ (t : List ℕ). m.prefix ++ t) split.0))
-              (appended_then old new newer m.prefix (values_alone d v var).text m.appended s.appended);
-          bytes = ap (λ (x : SourceView). x.bytes) handed;
-          most = omega (arith, ap (λ (x : SourceView). x.handed) handed, m.is_before.spent_is, bytes-here);
-        }
+    selected-cut w k s = search (rules, cut-and, having_read, after_after, values-here, appended_then, bytes-here)
 
     -- a read failed
     pub selected-unread : IsUnread d var (call buffer_len (having_read a m.spent) c new newer) → AreUnread d selection buffer_len (between a c) (Appended old newer)
-    selected-unread s = record {
-      bytes = s.bytes;
-      most = omega (arith, s.most, m.is_before.spent_is, bytes-here);
-      keeps_up = keeps-up-in (Appended old newer) (record {
-        k = s.keeps_up.k;
-        few = s.keeps_up.few;
-        taken = appended_then old new newer m.prefix (prefix_text d var s.keeps_up.k) m.appended s.keeps_up.taken;
-        handed = s.keeps_up.handed;
-      });
-    }
+    selected-unread s = search (rules, bytes-here, keeps-up-in, appended_then)
 
     -- a write failed
     pub selected-unwritten : IsUnwritten d v var (call buffer_len (having_read a m.spent) c new newer)
@@ -229,19 +181,7 @@ module _ (d : Dumped) (selection : List Bool) (buffer_len v : ℕ) (a b : Source
 -- all selected variables are shown
 pub selected-all : (d : Dumped) (selection : List Bool) (buffer_len v : ℕ) (a b : SourceView) (old new : SinkView) → length selection ≤ v → Selected d selection buffer_len v a b old new
     → AreShown d selection whole (between a b) (λ (section : DataText). Appended old new section.text) × IsUpToDate d selection buffer_len (between a b) (Holds old new)
-selected-all d selection buffer_len v a b old new all m =
-    let none : drop v selection ≡ [] = drop_all v selection all in
-    let nothing : values_from d selection v ≡ no_data_text =
-    ap (λ (ms : List Bool). data_text (shown_data d.header (values_in_file d.header d.bytes d.records) d.records d.width) v (drop v d.header.vars) ms) none ∙ no-selection d v (drop v d.header.vars) in
-    let no-more : bytes_of d (drop v d.header.vars) (drop v selection) ≡ 0 = ap (bytes_of d (drop v d.header.vars)) none ∙ no-bytes d (drop v d.header.vars) in (
-      record {
-        ends = m.is_before.ending_is ∙ ap (λ (x : DataText). x.ending) nothing;
-        taken = subst (Appended old new) (sym (m.is_before.text_is ∙ ap (λ (x : DataText). m.prefix ++ x.text) nothing ∙ append-nil m.prefix)) m.appended;
-        bytes = ap (λ (x : SourceView). x.bytes) m.handed;
-        most = omega (arith, ap (λ (x : SourceView). x.handed) m.handed, m.is_before.spent_is, no-more);
-      },
-      m.keeps_up,
-    )
+selected-all d selection buffer_len v a b old new all m = search (rules, drop_all, no_data_text, no-selection, no-bytes, append-nil)
 
 -- ---- a turn of the loop
 
@@ -290,9 +230,7 @@ module _ (d : Dumped) (selection : List Bool) (v : ℕ) (shown : Bool) (there : 
     failed (DataTruncated w n) k s = selected-cut d selection buffer_len v a b old new k var-here (get_or selection v false) at-here selected-here c newer is-shown w n s
     failed ReadFailed k s = selected-unread d selection buffer_len v a b old new k var-here (get_or selection v false) at-here selected-here c newer is-shown s
     failed WriteFailed k s = selected-unwritten d selection buffer_len v a b old new k var-here (get_or selection v false) at-here selected-here c newer is-shown s
-    failed OutOfMemory k s = absurd s
-    failed (Format wrong) k s = absurd s
-    failed (NoSuchVariable i) k s = absurd s
+    failed _ k s = absurd s
 
     pub place-failed : (fault : DumpFault) → d ≡ dumped d.header a d.records d.width
         → OnTrue is_transparent (ShowsAt {A = Unit {0}} (dumped d.header b d.records d.width) v (call buf b c new newer) (Err fault))

@@ -1,6 +1,6 @@
 -- The text of a dump from its parts.
-use Rattle.std.proofs.Common.{◌≡◌, ℕ, inl, inr, Bool, List, [], ◌++◌, refl, sym, ap, ◌∙◌, append_assoc, subst, arith, Ok, Err}
-use Rattle.ncdump.proofs.Prelude.{append-nil, Header, head_text, Options, DataText, Ending, whole, data_truncated, data_word, closing_word, dump_text, SourceView, SinkView, Appended, FailedPartway, appended_then, appended_partway, DumpFault, OutOfMemory, ReadFailed, WriteFailed, Format, NoSuchVariable, DataTruncated, Dumped, dumped, prefix_text, selected_values, text_before, unless_head_only, KeepsUpIn, IsUpToDate, Holds, ShowsSelected, Shows, between}
+use Rattle.std.proofs.Common.{◌≡◌, ℕ, inl, inr, Bool, List, [], ◌++◌, refl, sym, ap, ◌∙◌, append_assoc, subst, Ok, Err, rules}
+use Rattle.ncdump.proofs.Prelude.{append-nil, Header, head_text, Options, DataText, Ending, whole, data_truncated, data_word, closing_word, dump_text, SourceView, SinkView, Appended, FailedPartway, appended_then, appended_partway, DumpFault, ReadFailed, WriteFailed, DataTruncated, Dumped, dumped, selected_values, text_before, unless_head_only, KeepsUpIn, IsUpToDate, Holds, ShowsSelected, Shows, between}
 use Rattle.nc_base.specs.Bytes.{concat_parts}
 use Rattle.cdl_print.specs.code.Words.{word_text}
 use Rattle.cdl_print.specs.declared.word.Word.TheVariants.{End}
@@ -10,22 +10,10 @@ use Rattle.ncdump.proofs.Held.{holds-after, holds-partway, partway-longer}
 -- the parts of a dump's text
 pub parts : (h : Header) (o : Options) (n : ℕ) (section : DataText) → dump_text h o n section ≡ text_before o h n ++ (section.text ++ closing_word section.ending)
 unfolding concat_parts
-parts h o n section =
-    ap (λ (t : List ℕ). head_text o.name h n ++ (data_word h o ++ (section.text ++ t))) (append-nil (closing_word section.ending))
-    ∙ sym (append_assoc (head_text o.name h n) (data_word h o) (section.text ++ closing_word section.ending))
+parts h o n section = search (rules, append-nil, append_assoc)
 
 keeps-map : (d : Dumped) (selection : List Bool) (buffer_len : ℕ) (a b : SourceView) (T U : List ℕ → Type 0) → ((t : List ℕ) → T t → U t) → KeepsUpIn d selection buffer_len (between a b) T → KeepsUpIn d selection buffer_len (between a b) U
-keeps-map d selection buffer_len a b T U f k = record {
-  v = k.v;
-  var = k.var;
-  prefix = k.prefix;
-  spent = k.spent;
-  at = k.at;
-  selected = k.selected;
-  some = k.some;
-  is_before = k.is_before;
-  keeps_up = record { k = k.keeps_up.k; few = k.keeps_up.few; taken = f (k.prefix ++ prefix_text d k.var k.keeps_up.k) k.keeps_up.taken; handed = k.keeps_up.handed };
-}
+keeps-map d selection buffer_len a b T U f k = search rules
 
 date-map : (d : Dumped) (selection : List Bool) (buffer_len : ℕ) (a b : SourceView) (T U : List ℕ → Type 0) → ((t : List ℕ) → T t → U t) → IsUpToDate d selection buffer_len (between a b) T → IsUpToDate d selection buffer_len (between a b) U
 date-map d selection buffer_len a b T U f up = elim up [ inl same ↦ inl same | inr k ↦ inr (keeps-map d selection buffer_len a b T U f k) ]
@@ -42,22 +30,11 @@ module _ (o : Options) (h : Header) (n : ℕ) (shown : List Bool) (buffer_len : 
 
   -- the head isn't written
   pub no-head : (new : SinkView) → FailedPartway old new (head_text o.name h n) → Shows {A = Unit {0}} o h n shown (call buffer_len a a old new) (Err WriteFailed)
-  no-head new partway = record {
-    bytes = refl;
-    most = omega arith;
-    partway = subst (FailedPartway old new) (sym (parts h o n section ∙ append_assoc (head_text o.name h n) (data_word h o) _)) (partway-longer old new (head_text o.name h n) _ partway);
-    keeps_up = inl refl;
-  }
+  no-head new partway = search (rules, parts, section, append_assoc, partway-longer)
 
   -- the word after it isn't
   pub no-word : (mid new : SinkView) → Appended old mid (head_text o.name h n) → FailedPartway mid new (data_word h o) → Shows {A = Unit {0}} o h n shown (call buffer_len a a old new) (Err WriteFailed)
-  no-word mid new head partway = record {
-    bytes = refl;
-    most = omega arith;
-    partway = subst (FailedPartway old new) (sym (parts h o n section ∙ append_assoc (head_text o.name h n) (data_word h o) _))
-        (appended_partway old mid new (head_text o.name h n) (data_word h o) _ head partway);
-    keeps_up = inl refl;
-  }
+  no-word mid new head partway = search (rules, parts, section, append_assoc, appended_partway)
 
   module _ (mid : SinkView) (before : Appended old mid (text_before o h n)) where
     cut-text : (v k : ℕ) → section.ending ≡ data_truncated v k → text_before o h n ++ section.text ≡ dump_text h o n section
@@ -67,26 +44,10 @@ module _ (o : Options) (h : Header) (n : ℕ) (shown : List Bool) (buffer_len : 
 
     -- the values aren't all shown
     pub no-values : (c : SourceView) (new : SinkView) (fault : DumpFault) → ShowsSelected {A = Unit {0}} d selection (call buffer_len a c mid new) (Err fault) → Shows {A = Unit {0}} o h n shown (call buffer_len a c old new) (Err fault)
-    no-values c new (DataTruncated v k) s = record {
-      ends = s.ends;
-      taken = subst (Appended old new) (cut-text v k s.ends) (appended_then old mid new (text_before o h n) section.text before s.taken);
-      bytes = s.bytes;
-      most = s.most;
-    }
-    no-values c new ReadFailed s = record {
-      bytes = s.bytes;
-      most = s.most;
-      keeps_up = keeps-map d selection buffer_len a c (Appended mid new) (λ (t : List ℕ). Appended old new (text_before o h n ++ t)) (λ t g. appended_then old mid new (text_before o h n) t before g) s.keeps_up;
-    }
-    no-values c new WriteFailed s = record {
-      bytes = s.bytes;
-      most = s.most;
-      partway = subst (FailedPartway old new) (sym (parts h o n section)) (appended_partway old mid new (text_before o h n) section.text (closing_word section.ending) before s.partway);
-      keeps_up = date-map d selection buffer_len a c (Holds mid new) (λ (t : List ℕ). Holds old new (text_before o h n ++ t)) (λ t g. holds-after old mid new (text_before o h n) t before g) s.keeps_up;
-    }
-    no-values c new OutOfMemory s = absurd s
-    no-values c new (Format wrong) s = absurd s
-    no-values c new (NoSuchVariable i) s = absurd s
+    no-values c new (DataTruncated v k) s = search (rules, cut-text, appended_then)
+    no-values c new ReadFailed s = search (rules, keeps-map, appended_then)
+    no-values c new WriteFailed s = search (rules, parts, section, appended_partway, date-map, holds-after)
+    no-values c new _ s = absurd s
 
     module _ (c : SourceView) (last : SinkView) (s : ShowsSelected {A = Unit {0}} d selection (call buffer_len a c mid last) (Ok tt)) where
       -- the closing brace isn't written
