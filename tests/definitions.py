@@ -8,7 +8,8 @@ crates/*/must-fail, but with paths from the top of the repository: those edits a
 stand above the definitions. A line 'law: CRATE LAW' names the law that has to refuse; where there is none, any law of cdl_laws
 may, where those stand that join a dump to what is read of it. The laws are proved here over the sources of the crates below,
 without the functions of these: so it is a law that refuses, or a lemma on its way. Worked examples are left out of the copy for
-the same reason. The last line is 'N passed, M failed'.
+the same reason. Each try begins with what the laws' proof without any edit left, and proves again what the edit changes and what
+stands on that. The last line is 'N passed, M failed'.
 """
 
 import re
@@ -70,29 +71,32 @@ def below(crate):
     return crates, sorted(needed - set(crates))
 
 
-def laws_with(crate, edit):
-    """What the prover says of the laws of a crate where an edit is applied, or None where nothing is changed."""
+def laws_with(crate, edit, kept, law=None):
+    """What the prover says of a law of a crate, or of all, over what a folder keeps, where an edit is applied, or None where nothing is
+    changed."""
     crates, libraries = below(crate)
     with tempfile.TemporaryDirectory() as folder:
         for each in [*crates, crate]:
             copy_crate(each, Path(folder, "crates", each))
         if edit:
             apply(edit, Path(folder))
-        words = [*prover.check_words(crate), *prover.built(["std", *libraries]), *prover.sources(crates), "--only", "laws"]
+        words = [*prover.check_words(crate), *prover.built(["std", *libraries]), *prover.sources(crates)]
+        words += ["--incremental", kept, "--only", f"laws::{law}" if law else "laws"]
         return prover.said(words, Path(folder, "crates", crate))
 
 
-def verdict(edit):
-    """Tries one edit. Returns whether it was refused, and a line that says so."""
+def verdict(edit, proved):
+    """Tries one edit, where the laws are proved as they stand in `proved`. Returns whether it was refused, and a line that says so."""
     crate, law = law_of(edit)
     try:
-        said = laws_with(crate, edit)
+        with prover.copied(proved / crate) as kept:
+            said = laws_with(crate, edit, kept, law)
     except ValueError as why:
         return False, f"{edit.stem}: BAD EDIT: {why}"
     refused = re.findall(r"^fn \w+::laws::(\w+): (?!proved)", said, re.M)
     errors = [line for line in said.splitlines() if ": error" in line]
     if not refused and re.search(r"^only=(\d+) proved=\1$", said, re.M):
-        return False, f"{edit.stem}: NOT REFUSED: every law is still proved"
+        return False, f"{edit.stem}: NOT REFUSED: {law or 'every law'} is still proved"
     if not refused or not errors or UNREAD.search(errors[0]) and "proofs/" not in errors[0]:
         return False, f"{edit.stem}: BAD EDIT: the laws did not reach the prover: {(errors or [said[-200:]])[0][:300]}"
     if law and law not in refused:
@@ -100,9 +104,9 @@ def verdict(edit):
     return True, f"{edit.stem}: refused, as it must be: {' '.join(refused)}"
 
 
-def unproved(crate):
-    """What is wrong with the laws of a crate where nothing is changed, or None."""
-    said = laws_with(crate, None)
+def unproved(crate, proved):
+    """What is wrong with the laws of a crate where nothing is changed, or None; `proved` keeps what was proved."""
+    said = laws_with(crate, None, proved / crate)
     return None if re.search(r"^only=(\d+) proved=\1$", said, re.M) else f"{crate}: its laws are not proved as they stand:\n{said[-2000:]}"
 
 
@@ -111,12 +115,13 @@ def main():
     if sys.argv[1:]:
         edits = [edit for edit in edits if edit.stem in sys.argv[1:]]
     crates, results = sorted({law_of(edit)[0] for edit in edits}), []
-    with ThreadPoolExecutor(prover.at_once()) as pool:
-        wrong = [it for it in pool.map(unproved, crates) if it]
+    with tempfile.TemporaryDirectory() as folder, ThreadPoolExecutor(prover.at_once()) as pool:
+        proved = Path(folder)
+        wrong = [it for it in pool.map(lambda crate: unproved(crate, proved), crates) if it]
         if wrong:
             print("\n".join(wrong))
             return 1
-        for result in pool.map(verdict, edits):
+        for result in pool.map(lambda edit: verdict(edit, proved), edits):
             results.append(result)
             print(result[1], flush=True)
     failed = sum(not is_refused for is_refused, _ in results)

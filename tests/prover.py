@@ -2,7 +2,10 @@
 
 import os
 import re
+import shutil
 import subprocess
+import tempfile
+from contextlib import contextmanager, suppress
 from functools import cache
 from pathlib import Path
 
@@ -51,6 +54,25 @@ def sources(crates):
     """The words for crates that are read from the folders beside the one that is checked, each after those that it stands on."""
     uses = lambda crate: ",".join(["std", *stands_on()[crate]])
     return [word for crate in crates for word in ["--lib", f"{crate}:{uses(crate)}=../{crate}/src/lib.rt"]]
+
+
+def link(one, other):
+    """Copies a file. What was proved gets a second name if it can: the prover replaces such a file, and never writes into it."""
+    if one.endswith(".oantt"):
+        # (on another disk it can't)
+        with suppress(OSError):
+            return os.link(one, other)
+    return shutil.copy2(one, other)
+
+
+@contextmanager
+def copied(kept):
+    """A copy of what a check kept, if it kept anything, which another check may begin with and change."""
+    with tempfile.TemporaryDirectory() as folder:
+        # a part serves too, where another check changes what is copied
+        with suppress(OSError):
+            shutil.copytree(kept, Path(folder, "kept"), copy_function=link)
+        yield Path(folder, "kept")
 
 
 def said(words, folder):

@@ -8,7 +8,11 @@ The first form asks the prover. crates/CRATE/wrong-bodies/NAME.edit changes the 
 function is proved over the contracts of what it calls and never over their bodies, so a body is refused or not whatever the other
 bodies are. Wrong bodies of different functions are therefore tried in one check, which takes a fifth of the time that a check for
 each takes. Each changed function has to be refused for itself: where the prover waits for one that it calls, which is refused too, its
-body is tried again in a check without that one's. What the check stands on are the crates below as rt ci has built them.
+body is tried again in a check without that one's. The second wrong body of a function is tried in a second check, where the other
+functions keep their first: the prover has kept what it said of these, and their own bodies it would have to prove.
+
+What a check stands on are the crates below as rt ci has built them. It begins with what a check of the crate left in its folder, if
+there was one, which saves the proof of what no edit changes.
 
 That a function isn't proved shows nothing by itself: a right body of another shape isn't proved by the stored proof either. So a
 body counts as refused by its contract only where the prover says so of a goal, and every stored answer to the function's other
@@ -47,6 +51,9 @@ PROVED = re.compile(r"proved|no holes")
 WAITS = re.compile(r"not proved; it calls|no proof: (it calls|the borrow checker's part in its proof is not made yet)")
 # a goal that stayed open, and what the search for a proof came to; such lines stand right before the line on their function
 OPEN = re.compile(r"^note: src/\S+ it is not proved that .*\((`\S+`)\)(.*)$")
+# an error in a function's stored proof, and the words of one that another function's proof may be the reason of
+UNFIT = re.compile(r"^\./proofs/(\S+?)/\w+\.antt:\S+ error(.*)$", re.M)
+OF_ANOTHER = re.compile(r"admitted|\.Met\b")
 FALSE = "the facts known there allow values at which this goal is false"
 
 
@@ -64,8 +71,9 @@ class Said:
                 self.verdicts[verdict[1]] = verdict[2]
                 self.goals[verdict[1]] = open_goals
                 open_goals = []
-        wrong = re.findall(r"^\./proofs/(\S+?)/\w+\.antt:\S+ error", text, re.M)
-        self.unfit = {f"{crate}::{it.replace('/', '::')}" for it in wrong}
+        named = [(f"{crate}::{path.replace('/', '::')}", why) for path, why in UNFIT.findall(text)]
+        self.unfit = {function for function, _ in named}
+        self.unfit_alone = {function for function, why in named if not OF_ANOTHER.search(why)}
 
     def refused(self):
         """The functions that are not proved."""
@@ -73,7 +81,7 @@ class Said:
 
     def waits(self, function):
         """Whether the prover says nothing of a function that is not proved, but that it calls such a function."""
-        return WAITS.match(self.verdicts[function])
+        return WAITS.match(self.verdicts[function]) and function not in self.unfit_alone
 
     def why(self, function):
         """What the prover says of a goal of a function, or None where only a proof doesn't fit."""
@@ -117,8 +125,9 @@ def verdict_on(edit, said, found):
     return None, f"{edit}: NO TEST: only a proof doesn't fit: {said.verdicts[found[0]]}"
 
 
-def judge(crate, edits, text):
-    """Whether each edit of a round was refused, and a line on each; and the edits that are still undecided."""
+def judge(crate, edits, earlier, text):
+    """Whether each edit of a round was refused, and a line on each; and the edits that are still undecided. `earlier`: those of earlier
+    rounds that were left in place."""
     said = Said(crate, text)
     if not said.verdicts or not text.splitlines()[-1].startswith("only="):
         errors = [line for line in text.splitlines() if "error" in line] or text.splitlines()[-3:]
@@ -131,21 +140,22 @@ def judge(crate, edits, text):
             waiting.append(edit)
         else:
             verdicts.append(verdict_on(edit, said, found))
-    others = [name for name in refused if not said.waits(name)]
+    known = {it for edit in earlier for it in edit.functions}
+    others = [name for name in refused if not said.waits(name) and not any(is_of(name, it) for it in known)]
     return verdicts + [(False, f"{crate}: {name} isn't proved, and no edit changes it") for name in others], waiting
 
 
-def try_round(crate, edits, kept):
-    """Checks the functions that the edits change, over what earlier rounds kept."""
+def try_round(crate, edits, earlier, kept):
+    """Checks the functions that the edits change, beside edits of earlier rounds and over what those kept."""
     with tempfile.TemporaryDirectory() as folder:
         for part in ["src", "specs", "proofs"]:
             if (CRATES / crate / part).is_dir():
                 shutil.copytree(CRATES / crate / part, Path(folder, part))
-        apply(edits, Path(folder))
+        apply([*earlier, *edits], Path(folder))
         only = [f"--only={it}" for edit in edits for it in sorted(edit.functions)]
         libraries = prover.built(["std", *prover.stands_on()[crate]])
         said = prover.said([*prover.check_words(crate), *libraries, "--incremental", kept, *only], folder)
-    return judge(crate, edits, said)
+    return judge(crate, edits, earlier, said)
 
 
 def try_crate(crate):
@@ -155,15 +165,18 @@ def try_crate(crate):
         edits = edits_of([crate])
     except BadEdit as why:
         return [(False, f"BAD EDIT: {why}")]
-    with tempfile.TemporaryDirectory() as kept:
-        rounds = rounds_of(edits)
-        while rounds:
-            round_ = rounds.pop(0)
-            tried, waiting = try_round(crate, round_, kept)
-            if len(waiting) == len(round_):
+    with prover.copied(CRATES / crate / "out" / "incremental") as kept:
+        rounds, alone, earlier = rounds_of(edits), [], []
+        while rounds or alone:
+            round_, earlier = (rounds.pop(0), earlier) if rounds else (alone.pop(0), [])
+            earlier = [it for it in earlier if not any(it.changed & other.changed for other in round_)]
+            tried, waiting = try_round(crate, round_, earlier, kept)
+            if len(waiting) == len(round_) and not earlier:
                 tried += [(False, f"{it}: BAD EDIT: what it calls isn't proved") for it in waiting]
             elif waiting:
-                rounds.append(waiting)
+                alone.append(waiting)
+            if any(is_refused for is_refused, _ in tried):
+                earlier += round_
             for _, line in tried:
                 print(line, flush=True)
             results += tried
