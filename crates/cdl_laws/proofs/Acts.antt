@@ -1,7 +1,6 @@
 -- What the statements of a dump make of a state.
-use Rattle.std.proofs.Common.{◌≡◌, ℕ, zero, suc, ◌<◌, ◌≤◌, true, false, List, [], ◌∷◌, ◌++◌, length, map, sym, ◌∙◌, ap, refl, arith, append_assoc, append-nil, ℤ, pos, IsTrue, ◌&&◌, ◌==◌, nat_lt, nat_le, None, Some, Result, Ok, rules}
-use Rattle.cdl_laws.proofs.Prelude.{flat_map, list_any, position, position_or_len, int_eq, bytes_eq, false≢true, eqb-true, bytes_eq-Decides, Att, Dim, NcType, Char, Version, has_name, has_record_dim, IsDimid, AreDimids, IsName, is_record_dim, type_word, count_limit, has_type, CdlKind, Value, Number, Characters, Draft, add_dim, dim_len_of, add_dimid, add_var, type_of, add_att, add_constant, first_type, same_type, at_named, at_variable, in_turn, some_or, int_within, has_number, extent_said, said_dim, AreDistinct, bytes_of_number, and_both, and_false}
-use Rattle.cdl_meaning.specs.State.{◌>>=◌}
+use Rattle.std.proofs.Common.{◌≡◌, ℕ, zero, suc, ◌<◌, ◌≤◌, true, false, List, [], ◌∷◌, ◌++◌, length, map, sym, ◌∙◌, ap, refl, arith, append_assoc, append-nil, ℤ, pos, ◌==◌, nat_lt, nat_le, None, Some, Result, Ok, rules}
+use Rattle.cdl_laws.proofs.Prelude.{flat_map, list_any, position, position_or_len, int_eq, bytes_eq, false≢true, eqb-true, bytes_eq-Decides, Att, Dim, NcType, Char, Version, has_name, has_record_dim, IsDimid, AreDimids, IsName, type_word, count_limit, has_type, CdlKind, Value, Number, Characters, Draft, add_dim, add_dimid, add_var, type_of, add_att, add_constant, first_type, same_type, at_named, at_variable, in_turn, some_or, int_within, has_number, said_dim, AreDistinct, bytes_of_number, and_both}
 use Rattle.cdl_laws.proofs.Bools.{or_left, or_right}
 use Rattle.cdl_laws.proofs.Lists.{Each}
 use Rattle.cdl_laws.proofs.Texts.{word}
@@ -27,13 +26,10 @@ not_zero n h = grind (arith, pos, false≢true)
 positive : (n : ℕ) → (n == 0) ≡ false → 0 < n
 positive n h = grind (arith, h)
 
-len_is : (v : Version) (dims : List Dim) (len : ℕ) → len < count_limit v → record_once dims len → dim_len_of v dims (extent_said len) ≡ Ok len
-len_is v dims len small once = grind (arith, pos, eqb-true, not_zero, between_is, positive)
-
 pub dim_added : (v : Version) (dims : List Dim) (dim : Dim) → IsName dim.name → list_any (λ (e : Dim). bytes_eq e.name dim.name) dims ≡ false → dim.len < count_limit v → record_once dims dim.len →
     add_dim v dims (said_dim dim) ≡ Ok (dims ++ dim ∷ [])
 unfolding add_dim
-dim_added v dims dim name new small once = grind (arith, len_is)
+dim_added v dims dim name new small once = grind (arith, pos, eqb-true, not_zero, between_is, positive)
 
 -- ---- attributes
 
@@ -80,14 +76,11 @@ named_past name f (b ∷ before) ds es new h =
 same_bytes : (name : List ℕ) → bytes_eq name name ≡ true
 same_bytes name = (bytes_eq-Decides name name).1 refl
 
-named_here : (f : Draft → Result Draft CdlKind) (d e : Draft) (ds : List Draft) → f d ≡ Ok e → at_named d.var.name f (d ∷ ds) ≡ Ok (e ∷ ds)
-named_here f d e ds h = rw (same_bytes d.var.name) (ap (λ r. r >>= (λ x. Ok (x ∷ ds))) h)
-
 -- what becomes of the variable after others
 pub variable_is : (f : Draft → Result Draft CdlKind) (before : List Draft) (d e : Draft) (after : List Draft) → IsName d.var.name → no_draft d.var.name before → f d ≡ Ok e →
     at_variable d.var.name f (before ++ d ∷ after) ≡ Ok (before ++ e ∷ after)
 unfolding at_variable
-variable_is f before d e after name new h = search (rules, named_past, named_here)
+variable_is f before d e after name new h = search (rules, named_past)
 
 -- ---- declarations
 
@@ -112,14 +105,10 @@ other_name d (e ∷ dims) (suc k) new h = other_name d dims k (or_right (bytes_e
 place_is : (dims : List Dim) (k : ℕ) → AreDistinctDims dims → k < length dims → position_or_len (λ (d : Dim). bytes_eq d.name (name_at dims k)) dims ≡ k
 place_is [] k distinct h = absurd (omega (arith, h))
 place_is (d ∷ dims) zero distinct h = rw (same_bytes d.name) refl
-place_is (d ∷ dims) (suc k) distinct h =
-    rw (other_name d dims k distinct.0 (omega (arith, h))) (let ih = place_is dims k distinct.1 (omega (arith, h)) in omega (arith, ih))
+place_is (d ∷ dims) (suc k) distinct h = search (rules, other_name, place_is dims k distinct.1)
 
 position_is : (dims : List Dim) (k : ℕ) → AreDistinctDims dims → k < length dims → position (λ (d : Dim). bytes_eq d.name (name_at dims k)) dims ≡ Some k
 position_is dims k distinct h = rw (place_is dims k distinct h) (let e : nat_lt k (length dims) ≡ true = grind (arith, h) in rw (e) refl)
-
-later_fixed : (dims : List Dim) (before : List ℕ) (k : ℕ) → (IsTrue (is_record_dim dims k) → before ≡ []) → (nat_lt 0 (length before) && is_record_dim dims k) ≡ false
-later_fixed dims before k first = grind (arith, and_false)
 
 -- the names of the dimensions are valid
 abbrev pub HaveNames : List Dim → Type 0
@@ -133,7 +122,7 @@ name_valid (d ∷ dims) (suc k) names h = name_valid dims k names.1 (omega (arit
 id_added : (dims : List Dim) (before : List ℕ) (k : ℕ) → AreDistinctDims dims → HaveNames dims → IsDimid dims before k → add_dimid dims before (name_at dims k) ≡ Ok (before ++ k ∷ [])
 unfolding add_dimid
 id_added dims before k distinct names is =
-    grind (arith, name_at dims k, name_valid dims k names is.known, position_is dims k distinct is.known, later_fixed dims before k is.record_first, some_or)
+    grind (arith, name_at dims k, name_valid dims k names is.known, position_is dims k distinct is.known, some_or)
 
 pub ids_added : (dims : List Dim) (before ids : List ℕ) → AreDistinctDims dims → HaveNames dims → AreDimids dims before ids → in_turn (add_dimid dims) before (map (name_at dims) ids) ≡ Ok (before ++ ids)
 ids_added dims before [] distinct names are = ap (λ bs. Ok bs) (sym (append-nil before))

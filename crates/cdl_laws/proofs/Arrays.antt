@@ -14,9 +14,6 @@ some_rows : (k row total : ℕ) → total ≡ k * row → 0 < total → WholeRow
 some_rows zero row total e some = grind arith
 some_rows _ _ total e some = grind arith
 
-two_long : (n : ℕ) → nat_lt (suc (suc n)) 2 ≡ false
-two_long n = grind arith
-
 table_rows : (dims : List Dim) (ids : List ℕ) (total m : ℕ) → not (nat_lt (length ids) 2) ≡ true → total ≡ product (slab_lens dims ids) * m → 0 < total → WholeRows total (row_len dims ids total)
 table_rows dims ids total m rank e some =
     let h = is_off (nat_lt (length ids) 2) rank in
@@ -31,7 +28,7 @@ look_rows h var n width rank some = table_rows h.dims var.dimids (value_count h.
 
 -- a record variable of rank 1 isn't trimmed
 never_trimmed : (dims : List Dim) (ids : List ℕ) (b : Bool) → not (nat_lt (length ids) 2) ≡ false → has_records dims ids ≡ true → (b && not (has_records dims ids && (length ids == 1))) ≡ false
-never_trimmed dims ids b h h2 = grind (arith, and_false, false≢true, two_long, is_on)
+never_trimmed dims ids b h h2 = grind (arith, and_false, false≢true, is_on)
 
 line_whole : (h : Header) (var : Var) (n width : ℕ) → (look_of h var n width).in_rows ≡ false → is_record_var h.dims var ≡ true → (look_of h var n width).trimmed ≡ false
 unfolding look_of

@@ -1,5 +1,5 @@
 -- The strings of a variable of characters are read back.
-use Rattle.std.proofs.Common.{◌≡◌, ℕ, suc, ◌+◌, ◌*◌, ◌%◌, ◌<◌, ◌≤◌, Bool, true, false, List, [], ◌∷◌, ◌++◌, length, map, sym, ◌∙◌, ap, refl, subst, arith, append_assoc, append-nil, length-append, ℤ, unsigned_abs, ◌&&◌, ◌==◌, if◌then◌else◌, replicate, codes}
+use Rattle.std.proofs.Common.{◌≡◌, ℕ, suc, ◌+◌, ◌*◌, ◌%◌, ◌<◌, ◌≤◌, Bool, true, false, List, [], ◌∷◌, ◌++◌, length, map, sym, ◌∙◌, ap, refl, subst, arith, append_assoc, append-nil, length-append, ℤ, unsigned_abs, ◌&&◌, ◌==◌, if◌then◌else◌, replicate, codes, rules}
 use Rattle.cdl_laws.proofs.Prelude.{flat_map, suffix_len, prefix_len, reverse-append, drop_all, mul-mod_left, drop-append_seam, escaped_name, escaped_in_string, escaped_text, IsName, Look, is_char, begins_row, char_lead, char_text, char_piece, held, row_so_far, is_nul, piece, pieces, variable_opening, variable_closing, variable_prefix, variable_text, Lexeme, lexemes_at, scan, and_left, and_right, escaped-append}
 use Rattle.std.proofs.lemmas.Nat.{mod-mul-add}
 use Rattle.cdl_laws.proofs.Lists.{Each}
@@ -46,15 +46,13 @@ waits_none : (look : Look) (p : List ℤ) (x : ℤ) → (look.trimmed && is_nul 
 waits_none look p x h = grind (arith, suffix_more)
 
 inside : (look : Look) (done p : List ℤ) (k : ℕ) → length done ≡ k * look.row → 0 < length p → length p < look.row → begins_row look (length (done ++ p)) ≡ false
-inside look done p k h some small =
-    rw (ap (λ n. n % look.row) (length-append done p ∙ ap (λ n. n + length p) h) ∙ mod-mul-add k look.row (length p) small) (grind (arith, some))
+inside look done p k h some small = search (rules, length-append, mod-mul-add)
 
 -- a character inside of a row
 char_inside : (look : Look) (done p : List ℤ) (k : ℕ) (x : ℤ) → length done ≡ k * look.row → 0 < length p → length p < look.row →
     char_piece look (done ++ p) x ≡ char_text look (waits look p) x
 unfolding char_piece
-char_inside look done p k x h some small =
-    rw (inside look done p k h some small) (ap (λ n. char_text look n x) (held_is look done p k h small))
+char_inside look done p k x h some small = search (rules, inside, held_is)
 
 pub shown_more : (t : Bool) (n : ℕ) (x : ℤ) (xs : List ℤ) → shown t n (x ∷ xs) ≡ (if t && is_nul x then shown t (n + 1) xs else (replicate n 0 ++ unsigned_abs x ∷ []) ++ shown t 0 xs)
 unfolding shown
@@ -70,7 +68,7 @@ in_row : (look : Look) (done p xs rest : List ℤ) (k : ℕ) → length done ≡
 unfolding chars shown escaped_text
 in_row look done p [] rest k h some small = ap (λ q. chars look (done ++ q) rest) (sym (append-nil p))
 in_row look done p (x ∷ xs) rest k h some small =
-    grind (arith, length-append, char_inside, append_assoc, joins, waits_more, waits_none, in_row look done (p ++ x ∷ []) xs rest k h)
+    grind (arith, length-append, char_inside, append_assoc, joins, waits_more, in_row look done (p ++ x ∷ []) xs rest k h, suffix_more)
 
 -- a row, with what stands before it
 starts : (look : Look) (done : List ℤ) (k : ℕ) → length done ≡ k * look.row → begins_row look (length done) ≡ true
@@ -80,7 +78,7 @@ zero_or : (t : Bool) (z : ℕ) → z ≡ 0 → (if t then z else 0) ≡ 0
 zero_or t z h = grind arith
 
 none_held : (look : Look) (done : List ℤ) (k : ℕ) → length done ≡ k * look.row → held look done ≡ 0
-none_held look done k h = grind (arith, mul-mod_left, drop_all, zero_or)
+none_held look done k h = grind (arith, mul-mod_left, drop_all)
 
 char_first : (look : Look) (done : List ℤ) (k : ℕ) (x : ℤ) → length done ≡ k * look.row → char_piece look done x ≡ char_lead look (length done) ++ char_text look 0 x
 unfolding char_piece

@@ -1,5 +1,5 @@
 -- The data section of a dump, variable after variable.
-use Rattle.std.proofs.Common.{◌≡◌, ℕ, ◌+◌, ◌<◌, ◌≤◌, Bool, true, false, List, [], ◌∷◌, ◌++◌, length, map, sym, ◌∙◌, ap, refl, subst, append_assoc, ℤ, pos, if◌then◌else◌, Option, None, Some, Ok, arith}
+use Rattle.std.proofs.Common.{◌≡◌, ℕ, ◌+◌, ◌<◌, ◌≤◌, Bool, true, false, List, [], ◌∷◌, ◌++◌, length, map, sym, ◌∙◌, ap, refl, subst, append_assoc, ℤ, pos, if◌then◌else◌, Option, None, Some, Ok, arith, rules}
 use Rattle.cdl_laws.proofs.Prelude.{Att, Dim, Header, Var, Version, VariableValues, whole, shown_data, with_variable, has_values, fill_value, IsName, is_record_var, Look, look_of, is_char, variable_text, Values, trimmed_var, Value, Characters, Listed, State, Draft, Listing, Numbers, Joined, Rows, Capacity, capacity_of, act, listing_of, values_in, filled, has_number}
 use Rattle.nc_base.specs.Dump.{DataText, data_text}
 use Rattle.cdl_laws.proofs.Lists.{Each}
@@ -120,8 +120,7 @@ one_taken v h gatts before after look var c o place others t true valid new all 
     (says_takes v (variable_text look c.values) (Listed var.name given.0.said) (state Values h.dims gatts (before ++ draft_of var ∷ after)) (state Values h.dims gatts (before ++ given_draft var o ∷ after)) given.0.says
     (listed_act v h.dims gatts before after look var c.values given.0 valid new ∙ ap (λ p. Ok (state Values h.dims gatts (before ++ given_draft var p ∷ after))) (sym given.1)))
     more)
-one_taken v h gatts before after look var c o place others t false valid new all given more =
-    subst (λ p. Takes v others.text (state Values h.dims gatts (before ++ given_draft var p ∷ after)) t) given more
+one_taken v h gatts before after look var c o place others t false valid new all given more = search rules
 
 pub data_taken : (v : Version) (h : Header) (content : ℕ → Var → VariableValues) (n width place : ℕ) (gatts : List Att) (before : List Draft) (vars : List Var) (os : List (Option Listing)) → AreGiven v h content n width place before vars os →
     Takes v (data_text (shown_data h content n width) place vars (all_marked vars)).text (state Values h.dims gatts (before ++ map draft_of vars)) (state Values h.dims gatts (before ++ given_drafts vars os))

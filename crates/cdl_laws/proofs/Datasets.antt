@@ -1,6 +1,6 @@
 -- A dataset that a text can declare is read back from its full dump.
-use Rattle.std.proofs.Common.{◌≡◌, ℕ, ◌+◌, ◌*◌, ◌-◌, ◌/◌, ◌<◌, max, true, false, List, [], ◌∷◌, ◌++◌, length, map, ◌∙◌, ap, refl, arith, append_assoc, length-append, if◌then◌else◌, Option, slice_index_or}
-use Rattle.cdl_laws.proofs.Prelude.{mul-add-div, div-eq_of_lt, Dataset, Dim, Header, Var, Version, values_in_dataset, fill_value, AreArrays, IsName, numbers, is_record_var, slab_count, record_vars, is_char, trimmed_var, array_of, listed_values, records_of, records_in, Draft, Listing}
+use Rattle.std.proofs.Common.{◌≡◌, ℕ, ◌+◌, ◌*◌, ◌-◌, ◌/◌, ◌<◌, true, List, [], ◌∷◌, ◌++◌, length, map, ◌∙◌, ap, refl, arith, append_assoc, length-append, Option, slice_index_or, rules}
+use Rattle.cdl_laws.proofs.Prelude.{mul-add-div, div-eq_of_lt, Dataset, Dim, Header, Var, Version, values_in_dataset, fill_value, AreArrays, IsName, numbers, slab_count, record_vars, is_char, trimmed_var, array_of, records_in, Draft, Listing}
 use Rattle.cdl_laws.proofs.Arrays.{IsBack, is_back}
 use Rattle.cdl_laws.proofs.Acts.{no_draft}
 use Rattle.cdl_laws.proofs.DataTexts.{AreGiven, given_draft, given_drafts}
@@ -73,34 +73,18 @@ vars_back v h n width _ _ backs = absurd backs
 counted : (slab n : ℕ) → 0 < slab → (slab * n + slab - 1) / slab ≡ n
 counted slab n some = grind (arith, mul-add-div, div-eq_of_lt)
 
-one_count : (v : Version) (h : Header) (n width : ℕ) (var : Var) (a : List ℕ) (b : IsBack v h n width var a) → 0 < slab_count h.dims var → is_record_var h.dims var ≡ true → records_of h.dims (given_draft var b.o) ≡ n
-one_count v h n width var a b some is = grind (arith, counted)
-
-no_count : (h : Header) (var : Var) (o : Option Listing) → is_record_var h.dims var ≡ false → records_of h.dims (given_draft var o) ≡ 0
-no_count h var o is = ap (λ w. if w then (length (listed_values h.dims (given_draft var o)) + slab_count h.dims var - 1) / slab_count h.dims var else 0) is
-
 -- it is the dataset's, where some variable is a record variable, and 0 where none is
 data Counts (dims : List Dim) (vars : List Var) (n r : ℕ) : Type 0 where
   none : record_vars dims vars ≡ [] → r ≡ 0 → Counts dims vars n r
   some : r ≡ n → Counts dims vars n r
 
-with_record : (dims : List Dim) (var : Var) (vars : List Var) (n m r : ℕ) → m ≡ n → Counts dims vars n r → Counts dims (var ∷ vars) n (max m r)
-with_record dims var vars n m r h h2 = grind arith
-
-with_other : (dims : List Dim) (var : Var) (vars : List Var) (n m r : ℕ) → is_record_var dims var ≡ false → m ≡ 0 → Counts dims vars n r → Counts dims (var ∷ vars) n (max m r)
-with_other dims var vars n m r h h2 h3 = grind arith
-
 count_all : (v : Version) (h : Header) (n width : ℕ) (vars : List Var) (arrays : List (List ℕ)) (backs : AreBack v h n width vars arrays) → Each (λ (var : Var). 0 < slab_count h.dims var) vars →
     Counts h.dims vars n (records_in h.dims (given_drafts vars (listings v h n width vars arrays backs)))
 count_all v h n width [] [] backs slabs = none refl refl
 count_all v h n width (var ∷ vars) (a ∷ arrays) backs slabs =
-    grind (arith, with_record h.dims var vars n, one_count v h n width var a backs.0 slabs.0, with_other h.dims var vars n, no_count h var backs.0.o, count_all v h n width vars arrays backs.1 slabs.1)
+    grind (arith, count_all v h n width vars arrays backs.1 slabs.1, counted)
 count_all v h n width _ _ backs slabs = absurd backs
-
-counts_are : (dims : List Dim) (vars : List Var) (n r : ℕ) → Counts dims vars n r → (record_vars dims vars ≡ [] → n ≡ 0) → r ≡ n
-counts_are dims vars n r h h2 = grind arith
 
 pub records_back : (v : Version) (h : Header) (n width : ℕ) (vars : List Var) (arrays : List (List ℕ)) (backs : AreBack v h n width vars arrays) → Each (λ (var : Var). 0 < slab_count h.dims var) vars → (record_vars h.dims vars ≡ [] → n ≡ 0) →
     records_in h.dims (given_drafts vars (listings v h n width vars arrays backs)) ≡ n
-records_back v h n width vars arrays backs slabs none_none =
-    counts_are h.dims vars n (records_in h.dims (given_drafts vars (listings v h n width vars arrays backs))) (count_all v h n width vars arrays backs slabs) none_none
+records_back v h n width vars arrays backs slabs none_none = search (rules, count_all)

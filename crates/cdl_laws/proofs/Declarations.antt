@@ -1,7 +1,6 @@
 -- The statements of a head, and what they say.
-use Rattle.std.proofs.Common.{◌≡◌, ℕ, ◌^◌, ◌<◌, true, false, List, [], ◌∷◌, ◌++◌, map, sym, ◌∙◌, ap, refl, subst, arith, append_assoc, append-nil, ℤ, pos, unsigned_abs, decimal, ◌==◌, not, if◌then◌else◌, None, Some, codes}
-use Rattle.cdl_laws.proofs.Prelude.{signed_decimal, flat_map, list_all, option_map, flat_map-append, list_all-append, concat_parts, Att, Dim, NcType, Version, escaped_name, escaped_in_string, joined, dim_len_text, dim_line, unlimited_word, currently_word, att_line, att_text, chars_text, broken_text, string_break, without_trailing_nuls, IsName, number_suffix, is_char, has_type, Section, Globals, Dimensions, Variables, is_digit, scan, Lexeme, said_dim, IsBeforeData, globals, dimensions, variables, lexemes_at, Value, Number, Characters, Statement, Declared, Attribute, each, both, constant, constants, typed, attribute, global, assigned, body, either, and_left, and_right, and_both}
-use Rattle.cdl_statements.specs.Shapes.{dimensions as dimensions_of}
+use Rattle.std.proofs.Common.{◌≡◌, ℕ, ◌^◌, ◌<◌, true, false, List, [], ◌∷◌, ◌++◌, map, sym, ◌∙◌, ap, refl, subst, arith, append_assoc, append-nil, ℤ, pos, unsigned_abs, decimal, ◌==◌, not, if◌then◌else◌, None, Some, codes, rules}
+use Rattle.cdl_laws.proofs.Prelude.{signed_decimal, flat_map, list_all, flat_map-append, list_all-append, concat_parts, Att, Dim, NcType, Version, escaped_name, escaped_in_string, joined, dim_len_text, dim_line, unlimited_word, currently_word, att_line, att_text, chars_text, broken_text, string_break, without_trailing_nuls, IsName, number_suffix, is_char, has_type, Section, Dimensions, Variables, is_digit, scan, Lexeme, said_dim, IsBeforeData, globals, dimensions, variables, lexemes_at, Value, Number, Characters, Statement, Declared, Attribute, each, both, constant, constants, typed, global, assigned, body, either, and_left, and_right, and_both}
 use Rattle.cdl_laws.proofs.Lists.{Each}
 use Rattle.cdl_laws.proofs.Texts.{Closed, Reads, closed_both, closed_by, mark, word, number, name_word}
 use Rattle.cdl_laws.proofs.Numerals.{number_reads, numeral_again, value_again, decimal_digits, on_suffix}
@@ -140,8 +139,7 @@ broken_here pre b bytes l ls ih =
 broken_closed : (pre bytes : List ℕ) → Closed (34 ∷ (esc pre ++ (broken_text bytes ++ 34 ∷ []))) (string (pre ++ first bytes) ∷ commas (map string (others bytes)))
 unfolding first others
 broken_closed pre [] = subst (λ bs. Closed (quoted pre) (string bs ∷ [])) (sym (append-nil pre)) (string_closed pre)
-broken_closed pre (b ∷ []) =
-    subst (λ bs. Closed (34 ∷ bs) (string (pre ++ b ∷ []) ∷ [])) (ap (λ bs. bs ++ 34 ∷ []) (esc_more pre b) ∙ append_assoc (esc pre) (escaped_in_string b) (34 ∷ [])) (string_closed (pre ++ b ∷ []))
+broken_closed pre (b ∷ []) = search (rules, append_assoc, string_closed, flat_map-append, append-nil)
 broken_closed pre (b ∷ c ∷ bytes) =
     let e = escaped_in_string b in
     let t = broken_text (c ∷ bytes) in
@@ -207,18 +205,9 @@ assigned_is v f att said list name = ap (λ o. both f o (constants v false (list
 abbrev pub takes_global : Section → Type 0
 takes_global section = (v : Version) (ls : List Lexeme) (s : Statement) → global v ls ≡ Some s → body v section ls ≡ Some s
 
-in_globals : takes_global Globals
-in_globals v ls s h = h
-
-in_dimensions : takes_global Dimensions
-in_dimensions v ls s h = ap (λ o. either o (option_map Declared (dimensions_of v ls))) h
-
-in_variables : takes_global Variables
-in_variables v ls s h = ap (λ o. either o (either (attribute v ls) (typed ls))) h
-
 global_in : (section : Section) → IsBeforeData section → takes_global section
-global_in section globals = grind (arith, in_globals, dimensions, in_dimensions, variables, in_variables)
-global_in section _ = grind (arith, in_globals, dimensions, in_dimensions, variables, in_variables)
+global_in section globals = grind (arith, dimensions, variables)
+global_in section _ = grind (arith, dimensions, variables)
 
 open_in : (section : Section) → IsBeforeData section → is_open section ≡ true
 open_in section h = grind arith

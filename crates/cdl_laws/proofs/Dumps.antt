@@ -1,6 +1,6 @@
 -- A full dump is read back.
-use Rattle.std.proofs.Common.{◌≡◌, ℕ, true, false, List, [], ◌∷◌, ◌++◌, length, map, sym, ◌∙◌, ap, refl, append_assoc, append-nil, ◌&&◌, ◌||◌, ◌==◌, not, if◌then◌else◌, Option, None, Ok, codes}
-use Rattle.cdl_laws.proofs.Prelude.{concat_parts, Dataset, Att, Dim, Header, Var, Version, Options, VariableValues, dump_text, shown_data_text, values_in_dataset, shown_data, selection_of, is_selected, is_chosen, data_word, closing_word, has_dimension, escaped_name, head_text, netcdf_word, dims_text, vars_text, gatts_text, Globals, Variables, Values, Ended, meaning, run, piece_read, empty, finished, is_small_enough, dataset_of, closing_line, statements, cut_lexemes, lexemes, pieces_of, IsFull, trimmed, trimmed_att, Listing, in_turn, not_none}
+use Rattle.std.proofs.Common.{◌≡◌, ℕ, true, false, List, [], ◌∷◌, ◌++◌, length, map, ◌∙◌, ap, refl, append_assoc, append-nil, ◌||◌, ◌==◌, if◌then◌else◌, Option, None, Ok, codes, arith, rules}
+use Rattle.cdl_laws.proofs.Prelude.{concat_parts, Dataset, Att, Dim, Header, Var, Version, Options, VariableValues, dump_text, shown_data_text, values_in_dataset, shown_data, selection_of, is_selected, data_word, closing_word, escaped_name, head_text, netcdf_word, dims_text, vars_text, gatts_text, Globals, Variables, Values, Ended, meaning, piece_read, empty, finished, is_small_enough, dataset_of, cut_lexemes, lexemes, pieces_of, IsFull, trimmed, trimmed_att, Listing, in_turn, not_none}
 use Rattle.nc_base.specs.Dump.{DataText, data_text}
 use Rattle.cdl_laws.proofs.Lists.{Each}
 use Rattle.cdl_laws.proofs.Takes.{is_open}
@@ -13,12 +13,7 @@ use Rattle.cdl_laws.proofs.Lines.{pieces_are, run_is}
 -- the parts of a dump
 regroup : (e d w g m s c : List ℕ) →
     (codes "netcdf " ++ (e ++ (codes " {\n" ++ (d ++ (w ++ (g ++ [])))))) ++ (m ++ (s ++ (c ++ []))) ≡ (codes "netcdf " ++ (e ++ codes " {")) ++ 10 ∷ (d ++ (w ++ (g ++ (m ++ (s ++ c)))))
-regroup e d w g m s c =
-    let x = m ++ (s ++ (c ++ [])) in
-    ap (λ bs. codes "netcdf " ++ bs)
-    (append_assoc e (codes " {\n" ++ (d ++ (w ++ (g ++ [])))) x ∙
-    ap (λ bs. e ++ (codes " {\n" ++ bs)) (append_assoc d (w ++ (g ++ [])) x ∙ ap (λ bs. d ++ bs) (append_assoc w (g ++ []) x ∙ ap (λ bs. w ++ (bs ++ x)) (append-nil g) ∙ ap (λ bs. w ++ (g ++ (m ++ (s ++ bs)))) (append-nil c))) ∙
-    sym (append_assoc e (codes " {") (10 ∷ (d ++ (w ++ (g ++ (m ++ (s ++ c))))))))
+regroup e d w g m s c = search (rules, codes, append_assoc, append-nil)
 
 dump_is : (h : Header) (o : Options) (n : ℕ) (section : DataText) →
     dump_text h o n section ≡ opening_bytes o.name ++ 10 ∷ (dims_text n h.dims ++ (vars_text h.dims h.vars ++ (gatts_text h.gatts ++ (data_word h o ++ (section.text ++ closing_word section.ending)))))
@@ -28,14 +23,10 @@ dump_is h o n section = regroup (escaped_name o.name) (dims_text n h.dims) (vars
 -- all variables are selected
 selected : (h : Header) (o : Options) (vars : List Var) → o.chosen ≡ None → o.coords ≡ false → map (is_selected h o) vars ≡ all_marked vars
 selected h o [] c d = refl
-selected h o (var ∷ vars) c d =
-    ap (λ b. b ∷ map (is_selected h o) vars) (ap (λ ch. is_chosen ch var.name && (not o.coords || has_dimension h.dims var.name)) c ∙ ap (λ co. not co || has_dimension h.dims var.name) d) ∙
-    ap (λ bs. true ∷ bs) (selected h o vars c d)
+selected h o (var ∷ vars) c d = search (rules, selected h o vars c d)
 
 shown_is : (h : Header) (o : Options) (content : ℕ → Var → VariableValues) (n : ℕ) → IsFull o → shown_data_text h o content n (selection_of h o) ≡ data_text (shown_data h content n o.width) 0 h.vars (all_marked h.vars)
-shown_is h o content n full =
-    ap (λ b. data_text (shown_data h content n o.width) 0 h.vars (if b then [] else selection_of h o)) full.values ∙
-    ap (data_text (shown_data h content n o.width) 0 h.vars) (selected h o h.vars full.chosen full.coords)
+shown_is h o content n full = grind (arith, selected h o h.vars full.chosen full.coords)
 
 -- after the head
 data_read : (v : Version) (h : Header) (o : Options) (content : ℕ → Var → VariableValues) (n : ℕ) (gatts : List Att) (os : List (Option Listing)) → IsFull o → (vars : List Var) → h.vars ≡ vars → AreGiven v h content n o.width 0 [] vars os →
@@ -100,6 +91,4 @@ unfolding finished
 text_back d o n os full ready section is =
     let v = d.header.version in
     let bytes = dump_text d.header o n section in
-    let s = state Ended d.header.dims (map trimmed_att d.header.gatts) (given_drafts d.header.vars os) in
-    let values_read : run bytes v empty (statements bytes) ≡ Ok s = run_is bytes v empty s (statements bytes) (ap (in_turn (piece_read v) empty) (pieces_are bytes) ∙ state_read d o n os full ready section is) in
-    ap (finished v (closing_line (statements bytes))) values_read ∙ rw (ready.small) (ap (λ (x : Dataset). Ok x) ready.back)
+    grind (arith, run_is bytes v empty, pieces_are bytes, state_read d o n os full ready section is)

@@ -1,9 +1,9 @@
 -- The opening, the section marks and the closing brace of a dump.
-use Rattle.std.proofs.Common.{◌≡◌, ℕ, ◌+◌, true, false, List, [], ◌∷◌, ◌++◌, length, map, sym, ◌∙◌, ap, refl, subst, arith, append_assoc, append-nil, length-append, ◌==◌, Some, Ok, codes}
-use Rattle.cdl_laws.proofs.Prelude.{false≢true, eqb-true, concat_parts, Att, Dim, Var, Version, escaped_name, is_plain, dim_line, dim_lines, dims_text, att_line, att_lines, var_lines, vars_text, gatts_text, dimensions_word, variables_word, global_word, IsName, Section, Globals, Dimensions, Variables, Values, Ended, scan, word_len, len_until, scan_opening, Lexeme, piece_read, empty, pieces_at, is_section, cut_lexemes, lexemes_at, lexemes, pieces_of, trimmed_att, Mark, shape, State, Draft, act, in_turn, IsBeforeData, globals, dimensions, variables, and_left, until_at_start, lt-ltb, not_none}
+use Rattle.std.proofs.Common.{◌≡◌, ℕ, ◌+◌, true, false, List, [], ◌∷◌, ◌++◌, length, map, sym, ◌∙◌, ap, refl, subst, arith, append_assoc, append-nil, length-append, ◌==◌, Some, Ok, codes, rules}
+use Rattle.cdl_laws.proofs.Prelude.{false≢true, eqb-true, concat_parts, Att, Dim, Var, Version, escaped_name, is_plain, dim_line, dim_lines, dims_text, att_line, att_lines, var_lines, vars_text, gatts_text, dimensions_word, variables_word, global_word, IsName, Section, Globals, Dimensions, Variables, Values, Ended, scan, word_len, len_until, Lexeme, piece_read, empty, pieces_at, is_section, cut_lexemes, lexemes_at, lexemes, pieces_of, trimmed_att, Mark, shape, State, Draft, act, in_turn, IsBeforeData, globals, dimensions, variables, and_left, until_at_start, lt-ltb, not_none}
 use Rattle.cdl_tokens.specs.declared.token.TokenKind.TheVariants as kinds
 use Rattle.cdl_laws.proofs.Lists.{Each}
-use Rattle.cdl_laws.proofs.NameTexts.{rest_of, begins_goes_on, Begins, marked, bare, begins}
+use Rattle.cdl_laws.proofs.NameTexts.{rest_of, Begins, marked, bare, begins}
 use Rattle.cdl_laws.proofs.Texts.{mark, word, prefix_again, some_name}
 use Rattle.cdl_laws.proofs.ValueTexts.{turn}
 use Rattle.cdl_laws.proofs.Heads.{feed_closed}
@@ -120,26 +120,18 @@ until_escape b rest = refl
 
 until_rest : (bs rest : List ℕ) → len_until 0x7b (rest_of bs ++ 32 ∷ 123 ∷ rest) ≡ length (rest_of bs) + 1
 until_rest [] rest = until_plain 0x7b 32 (123 ∷ rest) refl refl ∙ ap (λ n. 1 + n) (until_at_start 0x7b 123 rest)
-until_rest (b ∷ bs) rest = grind (arith, is_plain, until_plainly, until_escape, until_rest bs rest)
+until_rest (b ∷ bs) rest = grind (arith, is_plain, until_escape, until_rest bs rest, until_plain, no_backslash, no_brace)
 
 until_name : (b : ℕ) (bs rest : List ℕ) → Begins b bs → len_until 0x7b (escaped_name (b ∷ bs) ++ 32 ∷ 123 ∷ rest) ≡ length (escaped_name (b ∷ bs)) + 1
-until_name b bs rest h = grind (arith, marked, until_rest, until_escape, bare, until_plainly, begins_goes_on)
-
-until_valid : (name rest : List ℕ) → IsName name → len_until 0x7b (escaped_name name ++ 32 ∷ 123 ∷ rest) ≡ length (escaped_name name) + 1
-until_valid name rest h = grind (arith, false≢true, some_name, until_name, begins, and_left)
+until_name b bs rest h = grind (arith, marked, until_rest, until_escape, bare, until_plainly)
 
 -- the dataset's name, which is looked at no further
 abbrev pub opening_bytes : List ℕ → List ℕ
 opening_bytes name = codes "netcdf " ++ (escaped_name name ++ codes " {")
 
-opening_is : (e rest : List ℕ) → len_until 0x7b (e ++ 32 ∷ 123 ∷ 10 ∷ rest) ≡ length e + 1 →
-    scan_opening (32 ∷ (e ++ 32 ∷ 123 ∷ 10 ∷ rest)) (len_until 0x7b (32 ∷ (e ++ 32 ∷ 123 ∷ 10 ∷ rest))) ≡ record { kind = Some kinds.Opening; len = length (codes "netcdf " ++ (e ++ codes " {")) }
-opening_is e rest h = grind (arith, length-append, codes, until_plain, lt-ltb)
-
 opening_prefix_is : (name rest : List ℕ) → IsName name → scan true (opening_bytes name ++ 10 ∷ rest) ≡ record { kind = Some kinds.Opening; len = length (opening_bytes name) }
 unfolding scan
-opening_prefix_is name rest h =
-    ap (λ bs. scan_opening (32 ∷ bs) (len_until 0x7b (32 ∷ bs))) (append_assoc (escaped_name name) (codes " {") (10 ∷ rest)) ∙ opening_is (escaped_name name) rest (until_valid name (10 ∷ rest) h)
+opening_prefix_is name rest h = search (rules, append_assoc, codes, length-append, until_plain, lt-ltb, false≢true, some_name, until_name, begins, and_left)
 
 pub opening_lexemes : (name rest : List ℕ) → IsName name → lexemes (opening_bytes name ++ 10 ∷ rest) ≡ record { kind = kinds.Opening; bytes = opening_bytes name } ∷ lexemes_at false 0 rest
 opening_lexemes name rest h =

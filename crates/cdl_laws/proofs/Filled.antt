@@ -1,6 +1,6 @@
 -- What a row shows, filled up, is the row.
-use Rattle.std.proofs.Common.{◌≡◌, ℕ, zero, suc, ◌+◌, ◌-◌, ◌<◌, ◌≤◌, Bool, true, false, List, [], ◌∷◌, ◌++◌, length, map, sym, ◌∙◌, ap, refl, arith, append_assoc, append-nil, length-append, ℤ, pos, unsigned_abs, ◌||◌, if◌then◌else◌, nat_le, replicate, Some, Ok}
-use Rattle.cdl_laws.proofs.Prelude.{flat_map, eqb-true, map-append, length-replicate, replicate_more, Version, escaped_in_string, is_nul, is_char, string_value, stands_for, Characters, each, both, constant, constants, Capacity, Joined, Rows, add_characters, add_row, filled, in_turn, listing_of, values_in, le-leb, length-map}
+use Rattle.std.proofs.Common.{◌≡◌, ℕ, zero, suc, ◌+◌, ◌-◌, ◌≤◌, Bool, true, false, List, [], ◌∷◌, ◌++◌, length, map, sym, ◌∙◌, ap, refl, arith, append_assoc, append-nil, length-append, ℤ, pos, unsigned_abs, if◌then◌else◌, replicate, Some, Ok, rules}
+use Rattle.cdl_laws.proofs.Prelude.{flat_map, eqb-true, map-append, length-replicate, replicate_more, Version, escaped_in_string, is_nul, is_char, string_value, stands_for, Characters, each, both, constant, constants, Capacity, Joined, Rows, add_row, filled, in_turn, listing_of, values_in, le-leb, length-map}
 use Rattle.cdl_meaning.specs.State.{◌>>=◌}
 use Rattle.cdl_laws.proofs.Lists.{Each}
 use Rattle.cdl_laws.proofs.Characters.{shown, flat}
@@ -81,16 +81,11 @@ strings_said v takes_fill bytes all = constants_all v takes_fill (string bytes) 
 
 -- ---- what becomes of them
 
-row_added : (capacity : Capacity) (t : Bool) (before : List (List ℕ)) (r : List ℤ) → (capacity.is_open ≡ false → length before < capacity.rows) → length r ≡ capacity.row →
-    add_row capacity before (Characters (shown t 0 r)) ≡ Ok (before ++ shown t 0 r ∷ [])
-row_added capacity t before r wide len =
-    rw (room_for capacity.is_open (length before) capacity.rows wide) (rw (le-leb (length (shown t 0 r)) capacity.row (let s = shown_len t 0 r in omega (arith, s, len))) refl)
-
 rows_added : (capacity : Capacity) (t : Bool) (before : List (List ℕ)) (rows : List (List ℤ)) → (capacity.is_open ≡ false → length before + length rows ≤ capacity.rows) → Each (λ (r : List ℤ). (length r ≡ capacity.row) × Each IsCharacter r) rows →
     in_turn (add_row capacity) before (map Characters (map (shown t 0) rows)) ≡ Ok (before ++ map (shown t 0) rows)
 rows_added capacity t before [] wide all = ap Ok (sym (append-nil before))
 rows_added capacity t before (r ∷ rows) wide all =
-    grind (arith, length-append, turn, row_added, append_assoc, rows_added capacity t (before ++ shown t 0 r ∷ []) rows)
+    grind (arith, length-append, turn, append_assoc, rows_added capacity t (before ++ shown t 0 r ∷ []) rows, room_for, le-leb, shown_len)
 
 pub rows_listed : (capacity : Capacity) (t : Bool) (rows : List (List ℤ)) → is_char capacity.ty ≡ true → capacity.in_rows ≡ true → (capacity.is_open ≡ false → length rows ≤ capacity.rows) → Each (λ (r : List ℤ). (length r ≡ capacity.row) × Each IsCharacter r) rows →
     listing_of capacity (map Characters (map (shown t 0) rows)) ≡ Ok (Rows (map (shown t 0) rows))
@@ -100,15 +95,8 @@ rows_listed capacity t rows ty h wide all = rw (ty) (rw (h) (ap (λ items. items
 -- and the rows filled up are the rows that were shown
 pub rows_full : (capacity : Capacity) (t : Bool) (rows : List (List ℤ)) → (t ≡ true → capacity.fill ≡ pos 0) → Each (λ (r : List ℤ). (length r ≡ capacity.row) × Each IsCharacter r) rows → values_in capacity (Rows (map (shown t 0) rows)) ≡ flat rows
 rows_full capacity t [] fill all = refl
-rows_full capacity t (r ∷ rows) fill all =
-    ap (λ xs. xs ++ values_in capacity (Rows (map (shown t 0) rows))) (row_back t capacity.row capacity.fill r fill all.0.0 all.0.1) ∙ ap (λ xs. r ++ xs) (rows_full capacity t rows fill all.1)
-
-enough : (is_open : Bool) (m n : ℕ) → (is_open ≡ false → m ≤ n) → (is_open || nat_le m n) ≡ true
-enough is_open m n h = grind (arith, le-leb)
-
-line_added : (capacity : Capacity) (bytes : List ℕ) → (capacity.is_open ≡ false → length bytes ≤ capacity.count) → add_characters capacity [] (Characters bytes) ≡ Ok bytes
-line_added capacity bytes wide = rw (enough capacity.is_open (0 + length bytes) capacity.count (λ e. let f = wide e in omega (arith, f))) refl
+rows_full capacity t (r ∷ rows) fill all = search (rules, row_back, rows_full capacity t rows fill all.1)
 
 pub line_listed : (capacity : Capacity) (t : Bool) (r : List ℤ) → is_char capacity.ty ≡ true → capacity.in_rows ≡ false → (capacity.is_open ≡ false → length r ≤ capacity.count) → listing_of capacity (Characters (shown t 0 r) ∷ []) ≡ Ok (Joined (shown t 0 r))
 unfolding listing_of
-line_listed capacity t r ty h wide = grind (arith, turn, line_added, shown_len)
+line_listed capacity t r ty h wide = grind (arith, turn, shown_len)

@@ -1,6 +1,6 @@
 -- What holds of the dataset so far, of its attributes, dimensions and declarations.
 use Rattle.std.proofs.Common.{◌≡◌, ℕ, ◌+◌, ◌-◌, ◌*◌, ◌≤◌, ◌<◌, Bool, true, false, List, [], ◌∷◌, ◌++◌, length, map, sym, ◌∙◌, ap, refl, subst, arith, suc, append_assoc, append-nil, ℤ, pos, Option, Result, Ok, Err, filter, unsigned_abs, rules}
-use Rattle.cdl_laws.proofs.Prelude.{false≢true, eqb-true, length-append, map-append, list_any-append, w8, w16, w32, w64, to_be_bytes, list_any, position, bytes_eq, Att, Dim, NcType, Char, Version, has_name, has_record_dim, IsDimid, AreDimids, value_count, IsName, is_name, bytes_of_number, size_of, is_char, count_limit, has_type, AreDistinct, Value, Number, Characters, Underscore, Dimension, Variable, Draft, in_turn, when, some_or, int_within, has_number, same_type, dim_len_of, add_dim, add_dimid, add_var, at_named, at_variable, add_constant, first_type, add_att, with_att, listed_values, CdlKind, BadName, DuplicateName, MixedConstants, and_left, and_right, some_product, some_size, some-limit, none_before}
+use Rattle.cdl_laws.proofs.Prelude.{false≢true, eqb-true, length-append, map-append, list_any-append, list_any, position, bytes_eq, Att, Dim, NcType, Char, Version, has_name, has_record_dim, IsDimid, AreDimids, value_count, IsName, is_name, bytes_of_number, size_of, is_char, count_limit, has_type, AreDistinct, Value, Number, Characters, Underscore, Dimension, Variable, Draft, in_turn, when, some_or, int_within, has_number, same_type, dim_len_of, add_dim, add_dimid, add_var, at_named, at_variable, add_constant, first_type, add_att, with_att, listed_values, CdlKind, BadName, DuplicateName, MixedConstants, and_left, and_right, some_product, some_size, some-limit, none_before, unless, NumberRange}
 use Rattle.cdl_meaning.specs.State.{◌>>=◌}
 use Rattle.cdl_laws.proofs.Bools.{or_left, or_right}
 use Rattle.cdl_laws.proofs.Lists.{Each, each_map}
@@ -48,20 +48,8 @@ record IsPart (ty : NcType) (k : ℕ) (vals : List ℕ) : Type 0 where
   whole : length vals ≡ count * size_of ty
   bytes : Each IsByte vals
 
-bytes_8 : (n : ℕ) → Each IsByte (to_be_bytes w8 n)
-bytes_8 n = (omega arith, tt)
-
-bytes_16 : (n : ℕ) → Each IsByte (to_be_bytes w16 n)
-bytes_16 n = (omega arith, (omega arith, tt))
-
-bytes_32 : (n : ℕ) → Each IsByte (to_be_bytes w32 n)
-bytes_32 n = (omega arith, (omega arith, (omega arith, (omega arith, tt))))
-
-bytes_64 : (n : ℕ) → Each IsByte (to_be_bytes w64 n)
-bytes_64 n = (omega arith, (omega arith, (omega arith, (omega arith, (omega arith, (omega arith, (omega arith, (omega arith, tt))))))))
-
 pub number_bytes : (ty : NcType) (x : ℤ) → Each IsByte (bytes_of_number ty x)
-number_bytes ty x = grind (arith, bytes_16, bytes_32, bytes_64, bytes_8)
+number_bytes ty x = grind arith
 
 pub number_size : (ty : NcType) (x : ℤ) → length (bytes_of_number ty x) ≡ size_of ty
 number_size ty x = grind arith
@@ -74,7 +62,16 @@ one_times n m = grind arith
 
 constant_step : (v : Version) (ty : NcType) (k : ℕ) (vals : List ℕ) (x : Value) → IsPart ty k vals → IsFineValue v x → OkIs (IsPart ty (k + cost x)) (add_constant ty vals x)
 constant_step v ty k vals Underscore part fine = tt
-constant_step v ty k vals (Number n) part fine = search (rules, ok_unless, has_number, length-append, number_size, one_times, each_more, number_bytes)
+constant_step v ty k vals (Number n) part fine =
+    ok_unless (IsPart ty (k + 1)) (same_type n.ty ty) MixedConstants (λ u. unless (has_number ty n.value) NumberRange >>= (λ w. Ok (vals ++ bytes_of_number ty n.value))) (λ same.
+    ok_unless (IsPart ty (k + 1)) (has_number ty n.value) NumberRange (λ w. Ok (vals ++ bytes_of_number ty n.value)) (λ fit.
+    record {
+      count = suc part.count;
+      few = (let a = part.few in omega (arith, a));
+      many = (λ e. let a = part.many e in omega (arith, a));
+      whole = (let a = length-append vals (bytes_of_number ty n.value) in let b = number_size ty n.value in let c = part.whole in let d = one_times part.count (size_of ty) in omega (arith, a, b, c, d));
+      bytes = each_more IsByte vals (bytes_of_number ty n.value) part.bytes (number_bytes ty n.value);
+    }))
 constant_step v ty k vals (Characters bytes) part fine =
     ok_unless (IsPart ty (k + suc (length bytes))) (same_type Char ty) MixedConstants (λ u. Ok (vals ++ bytes)) (λ same.
     let e : ty ≡ Char = is_same_char ty same in
@@ -91,15 +88,6 @@ constant_step v ty k vals (Characters bytes) part fine =
       bytes = each_more IsByte vals bytes part.bytes fine;
     })
 
-has_char : (v : Version) → has_type v Char ≡ true
-has_char v = grind arith
-
-type_fine : (v : Version) (cs : List Value) → Each (IsFineValue v) cs → has_type v (first_type cs) ≡ true
-type_fine v cs h = grind (arith, has_char)
-
-some_cost : (cs : List Value) → is_char (first_type cs) ≡ false → 0 < total cost cs
-some_cost cs h = grind arith
-
 pub att_keeps : (v : Version) (N n m : ℕ) (name : List ℕ) (cs : List Value) (atts : List Att) → m ≤ N → AreFineValues v m name cs → AreFineAtts v N n atts → OkIs (AreFineAtts v N (n + m)) (add_att name cs atts)
 unfolding add_att
 att_keeps v N n m name cs atts small said fine =
@@ -113,19 +101,7 @@ att_keeps v N n m name cs atts small said fine =
     (turns (add_constant ty) (IsPart ty) cost (IsFineValue v) (constant_step v ty) 0 [] cs (record { count = 0; few = omega arith; many = (λ e. omega arith); whole = omega arith; bytes = tt }) said.2)
     (λ vals part. record {
       count = (let a = one_more atts (made vals) in let b = fine.count in let c = said.0 in omega (arith, a, b, c));
-      fine = each_more (IsFineAtt v N) atts (made vals ∷ []) fine.fine (
-        record {
-          name = named;
-          short = (let c = said.0 in omega (arith, c, small));
-          ty = type_fine v cs said.2;
-          count = part.count;
-          few = (let a = part.few in let c = said.1 in omega (arith, a, c, small));
-          whole = part.whole;
-          bytes = part.bytes;
-          some = (λ e. let a = some_cost cs e in let b = part.many e in let c = some_product part.count (size_of ty) (omega (arith, a, b)) (some_size ty) in let d = part.whole in omega (arith, c, d));
-        },
-        tt,
-      );
+      fine = search (rules, each_more, some_product, some_size);
       names = named_more att_name atts (made vals) fine.names new;
     })))
 
@@ -156,17 +132,14 @@ extent_fine v dims n h = grind (arith, pos, and_left, and_right, some-limit)
 len_fine : (v : Version) (dims : List Dim) (o : Option ℤ) → OkIs (IsFineLen v dims) (dim_len_of v dims o)
 len_fine v dims o = grind (arith, ok_when, some-limit, pos, int_within, ok_unless, extent_fine)
 
-once_more : (v : Version) (dims : List Dim) (d : Dim) → length (filter is_record dims) ≤ 1 → IsFineLen v dims d.len → length (filter is_record (dims ++ d ∷ [])) ≤ 1
-once_more v dims d once fine = grind (arith, filter_append, no_record, eqb-true)
-
 dim_step : (v : Version) (N : ℕ) (n : ℕ) (dims : List Dim) (d : Dimension) → AreFineDims v N n dims → dim_cost d ≤ N → OkIs (AreFineDims v N (n + dim_cost d)) (add_dim v dims d)
 unfolding add_dim
 dim_step v N n dims d fine small =
-    grind (arith, len_fine v dims d.len, one_more dims, named_more dim_name dims, once_more v dims, ok_unless, ok_when, ok_then, each_more)
+    grind (arith, len_fine v dims d.len, one_more dims, named_more dim_name dims, ok_unless, ok_when, ok_then, each_more, filter_append, no_record, eqb-true)
 
 pub dims_keep : (v : Version) (N n m : ℕ) (dims : List Dim) (ds : List Dimension) → m ≤ N → total dim_cost ds ≤ m → AreFineDims v N n dims → OkIs (AreFineDims v N (n + m)) (in_turn (add_dim v) dims ds)
 dims_keep v N n m dims ds small said fine =
-    grind (arith, turns (add_dim v) (AreFineDims v N) dim_cost (λ d. dim_cost d ≤ N) (dim_step v N) n dims ds fine, dim_step v N, each_under dim_cost N ds, total)
+    grind (arith, turns (add_dim v) (AreFineDims v N) dim_cost (λ d. dim_cost d ≤ N) (dim_step v N) n dims ds fine, each_under dim_cost N ds, total)
 
 -- ---- shapes
 
@@ -220,7 +193,7 @@ var_step : (v : Version) (N : ℕ) (dims : List Dim) (ty : NcType) → has_type 
     OkIs (AreFineDrafts v N (n + var_cost x) dims) (add_var dims ty drafts x)
 unfolding add_var
 var_step v N dims ty has n drafts x fine small =
-    grind (arith, all_later v N n, shape_fine dims x.dimensions, one_more drafts, named_more draft_name drafts, ok_unless, ok_when, ok_then, total, each_more)
+    grind (arith, shape_fine dims x.dimensions, one_more drafts, named_more draft_name drafts, ok_unless, ok_when, ok_then, total, each_more, each_map, later)
 
 pub vars_keep : (v : Version) (N n m : ℕ) (dims : List Dim) (ty : NcType) (drafts : List Draft) (xs : List Variable) → has_type v ty ≡ true → m ≤ N → total var_cost xs ≤ m → AreFineDrafts v N n dims drafts →
     OkIs (AreFineDrafts v N (n + m) dims) (in_turn (add_var dims ty) drafts xs)

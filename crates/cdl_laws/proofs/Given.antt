@@ -1,6 +1,6 @@
 -- The array of a variable is given back by the text of its values.
-use Rattle.std.proofs.Common.{◌≡◌, ℕ, zero, suc, ◌+◌, ◌*◌, ◌-◌, ◌<◌, ◌≤◌, Bool, true, false, List, [], ◌∷◌, ◌++◌, length, drop, take, map, sym, ◌∙◌, ap, refl, subst, arith, length-take, length-drop, ℤ, pos, ◌&&◌, ◌==◌, not, if◌then◌else◌, nat_lt, slice_index, find, None, Some}
-use Rattle.cdl_laws.proofs.Prelude.{flat_map, int_eq, lt_of_mul-lt-mul_right, false≢true, Decides-int_eq, ints, take-append-drop, Att, Dim, Header, Var, NcType, Char, Version, fill_value, fill_of_att, fill_or_default, is_fill_att, value_count, IsArray, IsName, numbers, bytes_of_number, IsInRange, dim_len, has_records, is_record_var, product, slab_lens, Look, look_of, is_char, row_len, trimmed_att, trimmed_var, capacity_of, filled, has_number, values_in, array_of, and_left, is_off, is_on, look-type, length-numbers_from}
+use Rattle.std.proofs.Common.{◌≡◌, ℕ, zero, suc, ◌*◌, ◌-◌, ◌<◌, ◌≤◌, Bool, true, false, List, [], ◌∷◌, length, drop, take, map, sym, ◌∙◌, ap, refl, subst, arith, length-take, length-drop, ℤ, pos, ◌&&◌, ◌==◌, not, nat_lt, slice_index, find, None, Some, rules}
+use Rattle.cdl_laws.proofs.Prelude.{flat_map, int_eq, lt_of_mul-lt-mul_right, false≢true, Decides-int_eq, take-append-drop, Att, Dim, Header, Var, NcType, Version, fill_value, fill_of_att, fill_or_default, is_fill_att, value_count, IsArray, IsName, numbers, bytes_of_number, IsInRange, dim_len, has_records, is_record_var, product, slab_lens, Look, look_of, is_char, row_len, trimmed_att, trimmed_var, capacity_of, filled, has_number, array_of, and_left, is_off, is_on, look-type, length-numbers_from}
 use Rattle.cdl_laws.proofs.Attributes.{numbers_back, numbers_range, all_fit, all_small, count_is}
 use Rattle.cdl_laws.proofs.Characters.{flat}
 use Rattle.cdl_laws.proofs.DataTexts.{Gives, IsRoomFor, gives_numbers, gives_table, gives_line, given_draft}
@@ -24,12 +24,9 @@ same_fill var h = ap (fill_or_default var.ty) (same_own var.ty var.atts h)
 
 -- ---- rooms
 
-wide_enough : (c n : ℕ) (b : Bool) → b ≡ false → c * (if b then n else 1) ≤ c
-wide_enough c n b h = grind arith
-
 room_is : (h : Header) (var : Var) (n width m : ℕ) → m ≡ value_count h.dims var n → IsName var.name → fill_value (trimmed_var var) ≡ fill_value var → IsRoomFor (look_of h var n width) (capacity_of h.dims (trimmed_var var)) var m
 unfolding look_of capacity_of
-room_is h var n width m is name fill = grind (arith, wide_enough)
+room_is h var n width m is name fill = grind arith
 
 row_all : (h : Header) (var : Var) (n width : ℕ) → (look_of h var n width).in_rows ≡ false → (look_of h var n width).row ≡ value_count h.dims var n
 unfolding look_of
@@ -51,11 +48,8 @@ listed_numbers v h var n width (x ∷ xs) some len range other name =
 
 -- ---- characters at rank 0 and 1
 
-character_is : (x : ℤ) → IsInRange Char x → IsCharacter x
-character_is x h = grind (arith, pos, ints)
-
 are_characters : (ty : NcType) (xs : List ℤ) → is_char ty ≡ true → Each (IsInRange ty) xs → Each IsCharacter xs
-are_characters ty xs h h2 = grind (arith, each_map, character_is)
+are_characters ty xs h h2 = grind (arith, each_map)
 
 trimmed_fill : (h : Header) (var : Var) (n width : ℕ) → (look_of h var n width).trimmed ≡ true → fill_value var ≡ pos 0
 unfolding look_of
@@ -63,7 +57,7 @@ trimmed_fill h var n width e = (Decides-int_eq (fill_value var) (pos 0)).0 (and_
 
 listed_line : (v : Version) (h : Header) (var : Var) (n width : ℕ) (xs : List ℤ) → 0 < length xs → length xs ≡ value_count h.dims var n → Each (IsInRange var.ty) xs → is_char var.ty ≡ true → IsName var.name →
     fill_value (trimmed_var var) ≡ fill_value var → (look_of h var n width).in_rows ≡ false → (is_record_var h.dims var ≡ true → (look_of h var n width).trimmed ≡ false) → Gives v h.dims (look_of h var n width) var xs
-listed_line v h var n width [] some len range char name fill rank whole = grind (arith, gives_line, room_is, look-type, row_all, trimmed_fill, are_characters)
+listed_line v h var n width [] some len range char name fill rank whole = grind (arith, room_is, look-type)
 listed_line v h var n width _ some len range char name fill rank whole = grind (arith, gives_line, room_is, look-type, row_all, trimmed_fill, are_characters)
 
 -- ---- characters at rank 2 and up
@@ -83,8 +77,6 @@ pub record HasRows (dims : List Dim) (ids : List ℕ) : Type 0 where
   pub all : has_records dims ids ≡ false → rows ≡ product (map (dim_len dims) (take (length ids - 1) ids))
 
 pub slab_rows : (dims : List Dim) (ids : List ℕ) → nat_lt (length ids) 2 ≡ false → HasRows dims ids
-slab_rows dims [] h = cc
-slab_rows dims (a ∷ []) h = cc
 slab_rows dims (a ∷ b ∷ ids) h = by (has_records dims (a ∷ b ∷ ids)) refl
   where
     f : ℕ → ℕ
@@ -100,6 +92,7 @@ slab_rows dims (a ∷ b ∷ ids) h = by (has_records dims (a ∷ b ∷ ids)) ref
     by false is =
         let n = product (map f (take (suc (length ids)) (a ∷ b ∷ ids))) in
         record { rows = n; whole = rw (is) (last_divides f a (b ∷ ids) ∙ ap (λ m. n * m) row); all = λ no. ap (λ k. product (map f (take k (a ∷ b ∷ ids)))) (sym (last_place (length ids))) }
+slab_rows dims _ h = cc
 
 rows_of : ℕ → ℕ → List ℤ → List (List ℤ)
 rows_of zero row xs = []
@@ -109,13 +102,11 @@ flat_rows : (k row : ℕ) (xs : List ℤ) → length xs ≡ k * row → flat (ro
 unfolding rows_of
 flat_rows zero row [] h = refl
 flat_rows zero row (x ∷ xs) h = absurd (let e : suc (length xs) ≡ 0 * row = h in omega (arith, e))
-flat_rows (suc k) row xs h =
-    ap (λ ys. take row xs ++ ys) (flat_rows k row (drop row xs) (let e = length-drop row xs in let g : suc k * row ≡ row + k * row = grind arith in omega (arith, e, g, h))) ∙ take-append-drop row xs
+flat_rows (suc k) row xs h = search (rules, length-drop, take-append-drop, flat_rows k row (drop row xs))
 
 each_take : (P : ℤ → Type 0) (n : ℕ) (xs : List ℤ) → Each P xs → Each P (take n xs)
-each_take P zero xs h = tt
-each_take P (suc n) [] h = tt
 each_take P (suc n) (x ∷ xs) h = (h.0, each_take P n xs h.1)
+each_take P _ _ h = tt
 
 each_drop : (P : ℤ → Type 0) (n : ℕ) (xs : List ℤ) → Each P xs → Each P (drop n xs)
 each_drop P zero xs h = h
@@ -144,7 +135,7 @@ rows_within : (h : Header) (var : Var) (n width k : ℕ) → (look_of h var n wi
     (capacity_of h.dims (trimmed_var var)).is_open ≡ false → suc k ≤ (capacity_of h.dims (trimmed_var var)).rows
 unfolding capacity_of
 rows_within h var n width k rank split some closed =
-    grind (arith, slab_rows h.dims var.dimids (rank_two h var n width rank), rank_two h var n width rank, rank_row h var n width rank, lt_of_mul-lt-mul_right)
+    grind (arith, slab_rows h.dims var.dimids (rank_two h var n width rank), rank_row h var n width rank, lt_of_mul-lt-mul_right)
 
 look_fill : (h : Header) (var : Var) (n width : ℕ) → (look_of h var n width).fill ≡ fill_value var
 unfolding look_of
@@ -166,8 +157,7 @@ listed_table v h var n width k xs split some len range char name fill rank =
 -- a listed variable has its array again
 array_valued : (v : Version) (dims : List Dim) (look : Look) (var : Var) (values : List ℤ) (n : ℕ) (array : List ℕ) (g : Gives v dims look var values) → length values ≡ value_count dims var n → flat_map (bytes_of_number var.ty) values ≡ array →
     array_of dims n (given_draft var (Some g.listing)) ≡ array
-array_valued v dims look var values n array g len bytes =
-    ap (λ m. flat_map (bytes_of_number var.ty) (filled m (fill_value (trimmed_var var)) (values_in (capacity_of dims (trimmed_var var)) g.listing))) (sym len) ∙ ap (flat_map (bytes_of_number var.ty)) g.full ∙ bytes
+array_valued v dims look var values n array g len bytes = search (rules, filled)
 
 -- and one without values has none
 pub array_none : (dims : List Dim) (var : Var) (n : ℕ) → value_count dims var n ≡ 0 → array_of dims n (given_draft var None) ≡ []

@@ -1,18 +1,13 @@
 -- Tokens have places and lines, and lexemes have none: what all pieces make of a state is the same.
-use Rattle.std.proofs.Common.{◌≡◌, ℕ, zero, suc, ◌+◌, ◌-◌, Bool, true, false, List, [], ◌∷◌, drop, take, map, sym, ◌∙◌, ap, refl, arith, ◌&&◌, Option, None, Some, is_none, Result, Ok, Err}
+use Rattle.std.proofs.Common.{◌≡◌, ℕ, zero, suc, ◌+◌, ◌-◌, Bool, true, false, List, [], ◌∷◌, drop, take, map, sym, ◌∙◌, ap, refl, ◌&&◌, Option, None, Some, is_none, Result, Ok, Err, rules}
 use Rattle.cdl_laws.proofs.Prelude.{drop-drop, Version, CdlFault, CdlKind, TokenKind, Role, CutState, Token, scan, Lexeme, lexeme, first_role, role, run, piece_read, starting_line, statements, pieces_after, with_first, step, pieces_by_steps, cut_lexemes, lexemes_at, lexemes, with_lexeme, State, in_turn, tokens_at, tokens, with_token, token_at}
 use Rattle.cdl_tokens.specs.declared.token.TokenKind.TheVariants as kinds
 use Rattle.cdl_statements.specs.declared.piece.CutState.TheVariants as places
 
 -- ---- tokens
 
-none_on : (at n : ℕ) → at + n - at ≡ n
-none_on at n = omega arith
-
 one_lexeme : (text : List ℕ) (at : ℕ) (kind : TokenKind) (n : ℕ) (bytes : List ℕ) → drop at text ≡ bytes → lexeme text (token_at text at kind n) ≡ record { kind = kind; bytes = take n bytes }
-one_lexeme text at kind n bytes e =
-    let l : List ℕ → Lexeme = λ bs. record { kind = kind; bytes = bs } in
-    ap (λ m. l (take m (drop at text))) (none_on at n) ∙ ap (λ bs. l (take n bs)) e
+one_lexeme text at kind n bytes e = search rules
 
 with_same : (text : List ℕ) (at : ℕ) (k : Option TokenKind) (n : ℕ) (bytes : List ℕ) (ts : List Token) (ls : List Lexeme) → drop at text ≡ bytes → map (lexeme text) ts ≡ ls →
     map (lexeme text) (with_token text at k n ts) ≡ with_lexeme k (take n bytes) ls

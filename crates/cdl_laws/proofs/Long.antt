@@ -1,6 +1,6 @@
 -- The limit is needed: a text with an attribute of 2^31 characters has a meaning in the first version, which no file can hold.
-use Rattle.std.proofs.Common.{◌≡◌, ℕ, ◌-◌, ◌*◌, ◌^◌, ◌≤◌, ◌<◌, false, List, [], ◌∷◌, ◌++◌, length, sym, ◌∙◌, ap, refl, subst, arith, zero, suc, take, get_or, replicate, codes, None, Ok, ◌==◌, nat_lt, true}
-use Rattle.cdl_laws.proofs.Prelude.{take-length, length-replicate, get_or-replicate, suffix_len-take_no, list_all, suffix_len, is_utf8, chars, Dataset, Att, Known, Char, Cdf1, Options, shown_data_text, values_in_dataset, selection_of, dump_text, IsGood, without_trailing_nuls, IsName, meaning, is_small_enough, IsFull, trimmed, concat_parts, is_reserved, escaped_name, netcdf_word, global_word, numbers_text, chars_text, att_line, att_lines, dim_lines, dims_text, vars_text, gatts_text, head_text, broken_text, data_word, closing_word, LimitIsNeeded, and_left, and_right}
+use Rattle.std.proofs.Common.{◌≡◌, ℕ, ◌-◌, ◌^◌, ◌≤◌, ◌<◌, false, List, [], ◌∷◌, ◌++◌, length, ◌∙◌, ap, refl, arith, zero, suc, get_or, replicate, codes, None, Ok, ◌==◌, nat_lt, true, rules}
+use Rattle.cdl_laws.proofs.Prelude.{take-length, length-replicate, get_or-replicate, suffix_len-take_no, list_all, is_utf8, chars, Dataset, Att, Known, Char, Cdf1, Options, shown_data_text, values_in_dataset, selection_of, dump_text, IsGood, without_trailing_nuls, IsName, meaning, is_small_enough, IsFull, trimmed, concat_parts, is_reserved, escaped_name, netcdf_word, global_word, numbers_text, chars_text, att_line, att_lines, dim_lines, dims_text, vars_text, gatts_text, head_text, broken_text, data_word, closing_word, LimitIsNeeded, and_left, and_right}
 use lib.Utf8.{encode}
 use Rattle.nc_base.specs.Dump.{DataText}
 use Rattle.cdl_laws.proofs.MeaningsAreGood.{are_bytes}
@@ -35,17 +35,7 @@ long_text n = dump_text (long n).header options 0 (section n)
 
 readable : (n : ℕ) → IsReadable (long n) 0 80 []
 unfolding is_small_enough
-readable n = record {
-  dims = tt;
-  distinct = tt;
-  names = tt;
-  vars = tt;
-  gatts = (char_speaks Cdf1 (att n) refl a_name, tt);
-  fresh = (refl, tt);
-  given = tt;
-  small = refl;
-  back = refl;
-}
+readable n = grind (arith, char_speaks Cdf1 (att n) refl a_name)
 
 long_means : (n : ℕ) → meaning (long_text n) Cdf1 ≡ Ok (trimmed (long n))
 long_means n = text_back (long n) options 0 [] full (readable n) (section n) refl
@@ -55,19 +45,13 @@ no_nuls n some =
     let xs : List ℕ = replicate n 97 in
     let len : length xs ≡ n = length-replicate n 97 in
     let last : get_or xs (length xs - 1) 0 ≡ 97 = ap (λ k. get_or xs (k - 1) 0) len ∙ get_or-replicate n (n - 1) 97 0 (omega (arith, some)) in
-    let s : suffix_len (λ b. b == 0) xs ≡ 0 =
-    ap (suffix_len (λ b. b == 0)) (sym (take-length xs)) ∙ suffix_len-take_no (λ b. b == 0) xs (length xs) 0 (omega (arith, len, some)) (omega arith) (ap (λ b. b == 0) last) in
-    let e : length xs - suffix_len (λ b. b == 0) xs ≡ length xs = omega (arith, s) in
-    ap (λ k. take k xs) e ∙ take-length xs
+    grind (arith, take-length xs, suffix_len-take_no (λ b. b == 0) xs (length xs) 0)
 
 -- no file of the version can hold it
 long_is_bad : (n : ℕ) → 2 ^ 31 ≤ n → IsGood (trimmed (long n)) → ⊥
 long_is_bad n big good =
     let values = (good.is_sound.gatts 0 (att n) (omega arith)).values in
-    let a = values.counted in
-    let b : length (without_trailing_nuls (replicate n 97)) ≡ values.count * 1 = values.whole in
-    let c : length (without_trailing_nuls (replicate n 97)) ≡ n = ap (λ (xs : List ℕ). length xs) (no_nuls n (omega (arith, big))) ∙ length-replicate n 97 in
-    absurd (omega (arith, a, b, c, big))
+    search (rules, no_nuls, length-replicate)
 
 broken_bytes : (n : ℕ) → Each IsByte (broken_text (replicate n 97))
 broken_bytes zero = tt
@@ -80,25 +64,12 @@ constant (b ∷ bytes) h = (grind (arith, and_left (nat_lt b 256) (list_all (λ 
 
 -- what follows an attribute's characters
 following : (bytes : List ℕ) → Each IsByte bytes → Each IsByte (bytes ++ codes "\"" ++ codes " ;\n" ++ [] ++ [] ++ [] ++ codes "}\n")
-following bytes h =
-    closed (bytes ++ codes "\"" ++ codes " ;\n" ++ [] ++ [] ++ []) (codes "}\n") refl (
-    closed (bytes ++ codes "\"" ++ codes " ;\n" ++ [] ++ []) [] refl (
-    closed (bytes ++ codes "\"" ++ codes " ;\n" ++ []) [] refl (
-    closed (bytes ++ codes "\"" ++ codes " ;\n") [] refl (
-    closed (bytes ++ codes "\"") (codes " ;\n") refl (
-    closed bytes (codes "\"") refl h)))))
-  where
-    closed : (scan end : List ℕ) → list_all (λ b. nat_lt b 256) end ≡ true → Each IsByte scan → Each IsByte (scan ++ end)
-    closed scan end e k = each_more IsByte scan end k (constant end e)
+following bytes h = search (rules, codes, each_more, constant)
 
 -- though it is a text of bytes
 long_bytes : (n : ℕ) → 0 < n → Each IsByte (long_text n)
 unfolding concat_parts numbers_text chars_text att_line att_lines dim_lines dims_text vars_text gatts_text head_text global_word netcdf_word data_word closing_word escaped_name is_reserved
-long_bytes n some =
-    let xs = without_trailing_nuls (replicate n 97) in
-    let h : Each IsByte (broken_text xs) = subst (λ (ys : List ℕ). Each IsByte (broken_text ys)) (sym (no_nuls n some)) (broken_bytes n) in
-    each_more IsByte (codes "netcdf a {\n\n// global attributes:\n\t\t:a = \"") (broken_text xs ++ codes "\"" ++ codes " ;\n" ++ [] ++ [] ++ [] ++ codes "}\n")
-    (constant (codes "netcdf a {\n\n// global attributes:\n\t\t:a = \"") refl) (following (broken_text xs) h)
+long_bytes n some = search (rules, no_nuls, broken_bytes, each_more, codes, constant, following)
 
 pub limit_is_needed : LimitIsNeeded
 limit_is_needed n big = (long_text n, trimmed (long n), are_bytes (long_text n) (long_bytes n (omega (arith, big))), long_means n, long_is_bad n big)

@@ -1,5 +1,5 @@
 -- What a text means is good.
-use Rattle.std.proofs.Common.{◌≡◌, ℕ, ◌+◌, ◌-◌, ◌*◌, ◌/◌, ◌≤◌, ◌<◌, Bool, true, false, List, [], ◌∷◌, length, map, ◌∙◌, ap, refl, subst, arith, zero, suc, ℤ, if◌then◌else◌, Option, None, Some, Result, Ok, Err, find, nat_le, codes, All, rules}
+use Rattle.std.proofs.Common.{◌≡◌, ℕ, ◌+◌, ◌-◌, ◌*◌, ◌/◌, ◌≤◌, ◌<◌, true, false, List, [], ◌∷◌, length, map, ap, refl, subst, arith, zero, suc, ℤ, if◌then◌else◌, Option, None, Some, Result, Ok, Err, nat_le, codes, All, rules}
 use Rattle.cdl_laws.proofs.Prelude.{length-map, div-lt_iff_lt-mul, lt-div-mul-add, mul_comm, mul-le-mul_left, flat_map, list_all, AreBytes, Dataset, Att, Dim, Known, Var, NcType, Version, IsGood, IsSound, IsSoundAtt, IsSoundVar, IsSoundDim, IsArray, AreArrays, bare_var, value_count, IsName, bytes_of_number, is_record_var, record_vars, slab_count, slab_size, record_size, slab_limit, array_limit, record_limit, size_of, count_limit, has_type, MeaningsAreGood, MeaningsAreNearlySayable, IsNearlySayable, NearlyIsSayable, text_limit, Lexeme, lexeme, statements, shaped, checked, piece_read, starting_line, run, empty, listed_values, records_of, records_in, array_of, header_of, dataset_of, is_small, is_small_enough, closing_line, finished, meaning, AreDistinct, AreSayableAtts, HasSomeNumber, Statement, Opening, Mark, Declared, Typed, Attribute, Listed, shape, first_bad, State, Draft, act, add_var, at_variable, with_att, with_values, type_of, some_or, in_turn, filled, CdlFault, CdlKind, Section, Token, and_left, and_right, some_count, length-numbers}
 use Rattle.cdl_meaning.specs.State.{◌>>=◌}
 use Rattle.cdl_laws.proofs.Lists.{Each, each_map}
@@ -9,7 +9,6 @@ use Rattle.cdl_laws.proofs.Said.{IsByte, HasBytes, mass}
 use Rattle.cdl_laws.proofs.Uttered.{late, IsSaid, shape_says, token_mass, all_mass, mass_is, piece_bytes}
 use Rattle.cdl_laws.proofs.Fine.{IsFineAtt, AreFineAtts, IsFineDim, AreFineDims, IsFineDraft, AreFineDrafts, att_keeps, dims_keep, vars_keep, at_keeps, with_att_keeps, all_later, number_bytes, one_times}
 use Rattle.cdl_laws.proofs.Roomy.{with_values_keeps, filled_len, up_to}
-use Rattle.cdl_laws.proofs.Numerals.{int_known}
 
 -- ---- states
 
@@ -26,21 +25,13 @@ dims_later v N n m dims f = record { count = (let a = f.count in omega (arith, a
 atts_later : (v : Version) (N n m : ℕ) (atts : List Att) → AreFineAtts v N n atts → AreFineAtts v N (n + m) atts
 atts_later v N n m atts f = record { count = (let a = f.count in omega (arith, a)); fine = f.fine; names = f.names }
 
-drafts_later : (v : Version) (N n m : ℕ) (dims : List Dim) (ds : List Draft) → AreFineDrafts v N n dims ds → AreFineDrafts v N (n + m) dims ds
-drafts_later v N n m dims ds f = all_later v N n (n + m) dims ds (omega arith) f
-
 -- the same dataset in another section
 advanced : (v : Version) (N n m : ℕ) (s : State) (next : Section) → (late next < 3 → late s.section < 3) → IsFineState v N n s → IsFineState v N (n + m) (record s { section = next })
-advanced v N n m s next back f = grind (arith, dims_later, atts_later, drafts_later)
-
-found_passes : {A : Type 0} (p : A → Bool) (xs : List A) → SomeIs (λ x. p x ≡ true) (find p xs)
-found_passes p [] = tt
-found_passes p (x ∷ xs) =
-    elim (p x) as (λ b. p x ≡ b → SomeIs (λ y. p y ≡ true) (if b then Some x else find p xs)) [ true ↦ (λ e. e) | false ↦ (λ e. found_passes p xs) ] refl
+advanced v N n m s next back f = grind (arith, dims_later, atts_later, all_later)
 
 type_has : (v : Version) (word : Lexeme) → OkIs (λ ty. has_type v ty ≡ true) (type_of v word)
 unfolding type_of
-type_has v word = grind (arith, in_if, codes, some_or, int_known, found_passes, and_left)
+type_has v word = grind (arith, in_if, codes, some_or, and_left)
 
 none_left : (n : ℕ) (ds es : List Draft) → (n < 3 → ds ≡ []) → length es ≡ length ds → n < 3 → es ≡ []
 none_left n ds [] early len h = refl
@@ -62,7 +53,7 @@ act_keeps v N n m s (Typed word vs) small f said =
       early = λ h. absurd (let a = said.0 in omega (arith, a, h));
     }))
 act_keeps v N n m s (Attribute None name cs) small f said =
-    grind (arith, att_keeps v N n m name cs s.gatts small said f.gatts, dims_later v N n m s.dims f.dims, drafts_later v N n m s.dims s.drafts f.drafts, ok_then)
+    grind (arith, att_keeps v N n m name cs s.gatts small said f.gatts, dims_later v N n m s.dims f.dims, ok_then, all_later)
 act_keeps v N n m s (Attribute (Some variable) name cs) small f said =
     ok_then (λ es. AreFineDrafts v N (n + m) s.dims es × (length es ≡ length s.drafts)) (IsFineState v N (n + m)) (at_variable variable (with_att name cs) s.drafts) (λ drafts. Ok (record s { drafts = drafts }))
     (at_keeps v N n m s.dims variable (with_att name cs) (with_att_keeps v N n m s.dims name cs small said) s.drafts f.drafts) (λ es h.
@@ -179,8 +170,7 @@ each_both P Q R (x ∷ xs) f p q = (f x p.0 q.0, each_both P Q R xs f p.1 q.1)
 
 bare_same : (v : Version) (N n : ℕ) (dims : List Dim) (ds : List Draft) → Each (IsFineDraft v N n dims) ds → map (λ (d : Draft). d.var) ds ≡ map bare_var (map (λ (d : Draft). d.var) ds)
 bare_same v N n dims [] f = refl
-bare_same v N n dims (d ∷ ds) f =
-    ap (λ b. record d.var { begin_at = b } ∷ map (λ (e : Draft). e.var) ds) f.0.bare ∙ ap (λ vs. bare_var d.var ∷ vs) (bare_same v N n dims ds f.1)
+bare_same v N n dims (d ∷ ds) f = search (rules, bare_same v N n dims ds f.1)
 
 att_sound : (v : Version) (N : ℕ) → N < count_limit v → (a : Att) → IsFineAtt v N a → IsSoundAtt v a
 att_sound v N lim a f = grind arith
@@ -189,7 +179,7 @@ atts_sound : (v : Version) (N n : ℕ) → N < count_limit v → (atts : List At
 atts_sound v N n lim atts f = all_of (IsSoundAtt v) atts (each_map (IsFineAtt v N) (IsSoundAtt v) atts (att_sound v N lim) f.fine)
 
 var_sound : (v : Version) (N n : ℕ) (dims : List Dim) (r : ℕ) → N < count_limit v → n ≤ N → (d : Draft) → IsFineDraft v N n dims d → IsSmall dims r d → IsSoundVar v dims d.var
-var_sound v N n dims r lim under d f small = grind (arith, atts_sound v N n lim d.var.atts f.atts, shape)
+var_sound v N n dims r lim under d f small = grind (arith, shape, all_of, each_map, att_sound)
 
 sound : (v : Version) (N n : ℕ) (s : State) → N < count_limit v → n ≤ N → IsFineState v N n s → is_small_enough v s ≡ true → IsSound (header_of v s)
 unfolding is_small_enough
@@ -206,8 +196,7 @@ sound v N n s lim under f small =
       gatt_count = (let a = f.gatts.count in omega (arith, a, lim, under));
       gatts = atts_sound v N n lim s.gatts f.gatts;
       var_count = (let a = f.drafts.count in let b = length-map s.drafts (λ (d : Draft). d.var) in omega (arith, a, b, lim, under));
-      vars = all_of (IsSoundVar v s.dims) (map (λ (d : Draft). d.var) s.drafts) (each_of_map (IsSoundVar v s.dims) (λ (d : Draft). d.var) s.drafts
-          (each_both (IsFineDraft v N n s.dims) (IsSmall s.dims r) (λ (d : Draft). IsSoundVar v s.dims d.var) s.drafts (var_sound v N n s.dims r lim under) f.drafts.fine smalls));
+      vars = search (rules, all_of, each_of_map, each_both, var_sound);
       small_records = up_to (record_size (header_of v s)) record_limit (and_right all rec_ small);
     }
 
@@ -218,8 +207,7 @@ abbrev all_bytes : (v : Version) (N n : ℕ) (atts : List Att) → AreFineAtts v
 all_bytes v N n atts f = all_of (λ (a : Att). AreBytes a.vals) atts (each_map (IsFineAtt v N) (λ (a : Att). AreBytes a.vals) atts (λ a g. are_bytes a.vals g.bytes) f.fine)
 
 over_drafts : (v : Version) (N n : ℕ) (s : State) (P : Var → Type 0) → IsFineState v N n s → ((d : Draft) → IsFineDraft v N n s.dims d → P d.var) → All P (map (λ (d : Draft). d.var) s.drafts)
-over_drafts v N n s P f g =
-    all_of P (map (λ (d : Draft). d.var) s.drafts) (each_of_map P (λ (d : Draft). d.var) s.drafts (each_map (IsFineDraft v N n s.dims) (λ (d : Draft). P d.var) s.drafts g f.drafts.fine))
+over_drafts v N n s P f g = search (rules, all_of, each_of_map, each_map)
 
 good : (v : Version) (N n : ℕ) (s : State) → N < count_limit v → n ≤ N → IsFineState v N n s → is_small_enough v s ≡ true → IsGood (dataset_of v s)
 unfolding is_small_enough
@@ -234,10 +222,7 @@ good v N n s lim under f small =
         gatts = all_named v N n s.gatts f.gatts;
         vars = over_drafts v N n s (λ (var : Var). IsName var.name × All (λ (a : Att). IsName a.name) var.atts) f (λ d g. (g.name, all_named v N n d.var.atts g.atts));
       };
-      values = record {
-        gatts = all_bytes v N n s.gatts f.gatts;
-        vars = over_drafts v N n s (λ (var : Var). All (λ (a : Att). AreBytes a.vals) var.atts) f (λ d g. all_bytes v N n d.var.atts g.atts);
-      };
+      values = grind (arith, all_bytes v N n s.gatts f.gatts, over_drafts v N n s (λ (var : Var). All (λ (a : Att). AreBytes a.vals) var.atts) f, all_bytes v N n);
       arrays = arrays_are v N n s.dims r s.drafts f.drafts.fine (each_small s.dims r s.drafts (and_left (list_all (is_small s.dims r) s.drafts) (nat_le (record_size (header_of v s)) record_limit) small)) (omega arith);
     }
 

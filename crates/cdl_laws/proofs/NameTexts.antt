@@ -1,6 +1,6 @@
 -- A valid name, escaped, is one word that stands for it.
-use Rattle.std.proofs.Common.{◌≡◌, ℕ, Bool, true, false, List, [], ◌∷◌, ◌++◌, length, get_or, ◌∙◌, refl, arith, nat_le, ◌&&◌, ◌||◌, ◌==◌, if◌then◌else◌, not, rules}
-use Rattle.cdl_laws.proofs.Prelude.{is_ascii_digit, is_in_range, flat_map, list_all, bytes_eq, false≢true, eqb-true, bytes_eq-Decides, is_plain, is_name_mark, escaped_in_name, escaped_name, is_reserved, reserved_words, begins_with_digit_or_mark, may_begin_name, may_follow_in_name, is_beyond_ascii, is_escape, is_escapable, goes_on_word, may_begin_word, word_len, begins_a_word, word_value, and_left, and_right, word_at_start, value_at_start}
+use Rattle.std.proofs.Common.{◌≡◌, ℕ, Bool, true, false, List, [], ◌∷◌, ◌++◌, length, get_or, ◌∙◌, refl, arith, nat_le, ◌&&◌, ◌||◌, ◌==◌, if◌then◌else◌, not, ap}
+use Rattle.cdl_laws.proofs.Prelude.{is_ascii_digit, is_in_range, flat_map, list_all, bytes_eq, false≢true, eqb-true, bytes_eq-Decides, is_plain, is_name_mark, escaped_in_name, escaped_name, is_reserved, reserved_words, begins_with_digit_or_mark, may_begin_name, may_follow_in_name, is_beyond_ascii, is_escape, is_escapable, goes_on_word, may_begin_word, word_len, word_value, and_left, and_right, word_at_start, value_at_start}
 use Rattle.cdl_laws.proofs.Bools.{or_left, or_right, of_any}
 
 -- ---- bytes
@@ -57,7 +57,14 @@ rest_len (b ∷ name) rest h e =
 pub rest_value : (name : List ℕ) → list_all may_follow_in_name name ≡ true → word_value (rest_of name) ≡ name
 unfolding word_value
 rest_value [] h = refl
-rest_value (b ∷ name) h = search (rules, and_right, escapable, and_left, is_plain, value_at_start, no_escape, rest_value name)
+rest_value (b ∷ name) h =
+    let more = and_right (may_follow_in_name b) (list_all may_follow_in_name name) h in
+    let one : is_escapable b ≡ true = escapable b (and_left (may_follow_in_name b) (list_all may_follow_in_name name) h) in
+    let ih = rest_value name more in
+    elim (is_plain b) as (λ w. is_plain b ≡ w → word_value ((if w then b ∷ [] else 0x5c ∷ b ∷ []) ++ rest_of name) ≡ b ∷ name) [
+      | true ↦ (λ g. value_at_start b (rest_of name) ∙ rw (no_escape b (get_or (rest_of name) 0 0) g) (ap (λ xs. b ∷ xs) ih))
+      | false ↦ (λ g. value_at_start 0x5c (b ∷ rest_of name) ∙ rw (one) (ap (λ xs. b ∷ xs) ih))
+    ] refl
 
 -- ---- the first byte
 
@@ -66,34 +73,20 @@ pub data Begins (b : ℕ) (bs : List ℕ) : Type 0 where
   marked : is_escapable b ≡ true → escaped_name (b ∷ bs) ≡ 0x5c ∷ b ∷ rest_of bs → Begins b bs
   bare : may_begin_word b ≡ true → is_reserved (b ∷ bs) ≡ false → escaped_name (b ∷ bs) ≡ b ∷ rest_of bs → Begins b bs
 
-first_plain : List ℕ → Bool
-first_plain [] = false
-first_plain (b ∷ bs) = is_plain b
-
-reserved_plain : (b : ℕ) (bs : List ℕ) → is_reserved (b ∷ bs) ≡ true → is_plain b ≡ true
-unfolding is_reserved first_plain
-reserved_plain b bs h = of_any first_plain (b ∷ bs) reserved_words refl h
-
-flagged_plain : (b : ℕ) (bs : List ℕ) → (begins_with_digit_or_mark (b ∷ bs) || is_reserved (b ∷ bs)) ≡ true → is_plain b ≡ true
-flagged_plain b bs h = grind (arith, is_plain, marked_plain, reserved_plain)
-
 escaped_is : (b : ℕ) (bs : List ℕ) → escaped_name (b ∷ bs) ≡ (if begins_with_digit_or_mark (b ∷ bs) || is_reserved (b ∷ bs) then 92 ∷ [] else []) ++ (escaped_in_name b ++ rest_of bs)
 unfolding escaped_name
 escaped_is b bs = refl
 
 pub begins : (b : ℕ) (bs : List ℕ) → may_begin_name b ≡ true → Begins b bs
-begins b bs h = grind (arith, escapable, first_may_follow, escaped_is, flagged_plain, is_plain, bare_begins, or_left, or_right)
+begins b bs h = grind (arith, escapable, first_may_follow, escaped_is, is_plain, bare_begins, or_left, or_right)
 
 -- ---- names
 
 pub name_len : (b : ℕ) (bs rest : List ℕ) → Begins b bs → list_all may_follow_in_name bs ≡ true → word_len rest ≡ 0 → word_len (escaped_name (b ∷ bs) ++ rest) ≡ length (escaped_name (b ∷ bs))
-name_len b bs rest h h2 h3 = grind (arith, rest_len, word_at_start, no_escape, begins_goes_on)
-
-pub name_begins : (b : ℕ) (bs rest : List ℕ) → Begins b bs → begins_a_word (escaped_name (b ∷ bs) ++ rest) ≡ true
-name_begins b bs rest h = grind arith
+name_len b bs rest h h2 h3 = grind (arith, rest_len, word_at_start, no_escape, begins_plainly)
 
 pub name_value : (b : ℕ) (bs : List ℕ) → Begins b bs → list_all may_follow_in_name bs ≡ true → word_value (escaped_name (b ∷ bs)) ≡ b ∷ bs
-name_value b bs h h2 = grind (arith, value_at_start, rest_value, no_escape, begins_goes_on)
+name_value b bs h h2 = grind (arith, value_at_start, rest_value, no_escape, begins_plainly)
 
 -- a reserved word stands for itself
 stands : List ℕ → Bool
@@ -109,4 +102,4 @@ marked_free bs = refl
 
 pub name_free : (b : ℕ) (bs : List ℕ) → Begins b bs → list_all may_follow_in_name bs ≡ true → is_reserved (escaped_name (b ∷ bs)) ≡ false
 name_free b bs (marked one is) h = rw (is) (marked_free (b ∷ rest_of bs))
-name_free b bs (bare one free is) h = grind (arith, reserved_stand (escaped_name (b ∷ bs)), name_value b bs (bare one free is) h)
+name_free b bs (bare one free is) h = grind (arith, reserved_stand (escaped_name (b ∷ bs)), value_at_start, rest_value, no_escape, begins_goes_on)

@@ -9,15 +9,12 @@ use Rattle.cdl_laws.proofs.Texts.{Reads, number, digits_read, minus_reads}
 glyph : (n : ℕ) → digit_glyph false (n % 10) ≡ 48 + n % 10
 glyph n = let e : nat_lt (n % 10) 10 ≡ true = grind arith in rw (e) refl
 
-glyph_digit : (n : ℕ) → is_digit (digit_glyph false (n % 10)) ≡ true
-glyph_digit n = rw (glyph n) (grind arith)
-
 glyph_value : (n : ℕ) → digit_value (digit_glyph false (n % 10)) ≡ n % 10
 glyph_value n = rw (glyph n) (let e : is_digit (48 + n % 10) ≡ true = grind arith in rw (e) (omega arith))
 
 onto_digits : (k n : ℕ) (acc : List ℕ) → list_all is_digit acc ≡ true → list_all is_digit (digits_onto k 10 false n acc) ≡ true
 onto_digits zero n acc h = h
-onto_digits (suc k) n acc h = grind (arith, glyph_digit, onto_digits k (n / 10))
+onto_digits (suc k) n acc h = grind (arith, onto_digits k (n / 10))
 
 onto_value : (k n : ℕ) (acc : List ℕ) → n < 10 ^ k → number_in 10 0 (digits_onto k 10 false n acc) ≡ number_in 10 n acc
 onto_value zero n acc h = ap (λ m. number_in 10 m acc) (let e : 0 ≡ n = (let f : n < 1 = h in omega (arith, f)) in e)
@@ -125,7 +122,7 @@ unsigned_reads [] suf h some k = grind (arith, digits_read, and_left, list_all-a
 unsigned_reads _ suf h some k = grind (arith, digits_read, and_left, list_all-append, and_both, goes_on, and_right)
 
 signed_reads : (ds suf : List ℕ) → list_all is_digit ds ≡ true → 0 < length ds → list_all goes_on_number suf ≡ true → Reads (45 ∷ (ds ++ suf)) (number (45 ∷ (ds ++ suf)) ∷ [])
-signed_reads [] suf h some k = grind (arith, minus_reads, and_left, list_all-append, and_both, goes_on)
+signed_reads [] suf h some k = grind (arith, and_left, list_all-append, and_both, goes_on)
 signed_reads _ suf h some k = grind (arith, minus_reads, and_left, list_all-append, and_both, goes_on)
 
 pub number_reads : (n : ℤ) (suf : List ℕ) → unsigned_abs n < 2 ^ 64 → list_all goes_on_number suf ≡ true → Reads (signed_decimal n ++ suf) (number (signed_decimal n ++ suf) ∷ [])

@@ -77,8 +77,7 @@ turns {S = S} f P cost Q step n s (x ∷ xs) p q =
 -- each of a list has its shape, of no greater total
 pub each_total : {A B : Type 0} (w : A → ℕ) (c : B → ℕ) (f : A → Option B) → ((a : A) → SomeIs (λ b. c b ≤ w a) (f a)) → (xs : List A) → SomeIs (λ ys. total c ys ≤ total w xs) (each f xs)
 each_total w c f g [] = omega arith
-each_total w c f g (x ∷ xs) =
-    some_both (λ b. c b ≤ w x) (λ ys. total c ys ≤ total w xs) (λ ys. total c ys ≤ w x + total w xs) (λ y ys. y ∷ ys) (f x) (each f xs) (g x) (each_total w c f g xs) (λ y ys a b. omega (arith, a, b))
+each_total w c f g (x ∷ xs) = grind (arith, total c, each f xs, some_both, each_total w c f g xs)
 
 -- ---- lists
 

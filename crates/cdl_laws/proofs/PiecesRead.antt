@@ -7,7 +7,7 @@ use Rattle.cdl_laws.proofs.Declarations.{dim_says, global_says, owned_says}
 use Rattle.cdl_laws.proofs.Ends.{dimensions_says, variables_says, data_says, opening_lexemes, opening_piece as opening_cut}
 use Rattle.cdl_laws.proofs.Lines.{pieces_are}
 use Rattle.cdl_laws.proofs.Lists.{Each, each_of, each_map, all_of}
-use Rattle.cdl_laws.proofs.Sayables.{atts_speak, limit_small}
+use Rattle.cdl_laws.proofs.Sayables.{atts_speak}
 use Rattle.cdl_laws.proofs.Takes.{Says}
 use Rattle.cdl_laws.proofs.Texts.{word}
 use Rattle.cdl_laws.proofs.Typings.{typed_line, shape_of, typed_says}
@@ -79,7 +79,7 @@ marks_read_back v = record {
 -- ---- dimensions
 
 pub dimensions_read_back : DimensionsReadBack
-dimensions_read_back d records s k dim h = grind (arith, is_statement, dim_says, limit_small)
+dimensions_read_back d records s k dim h = grind (arith, is_statement, dim_says)
 
 -- ---- declarations
 
@@ -124,5 +124,4 @@ global_attributes_read_back d section s before =
     let g = s.good in
     let v = d.header.version in
     let atts = d.header.gatts in
-    all_of (AttributeReadsBack v section None) atts
-    (each_map (Speaks v) (AttributeReadsBack v section None) atts (global_back v section before) (atts_speak v atts g.is_sound.gatts g.values.gatts s.gatts.some g.names.gatts))
+    grind (arith, global_back v section before, atts_speak v atts g.is_sound.gatts g.values.gatts s.gatts.some g.names.gatts, all_of, each_map)

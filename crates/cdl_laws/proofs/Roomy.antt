@@ -1,6 +1,6 @@
 -- No more is listed of a variable than it has values, over as many records as the text has bytes.
 use Rattle.std.proofs.Common.{◌≡◌, ℕ, ◌+◌, ◌-◌, ◌*◌, ◌≤◌, ◌<◌, Bool, true, false, List, [], ◌∷◌, ◌++◌, length, replicate, sym, ◌∙◌, ap, refl, arith, zero, suc, ℤ, pos, if◌then◌else◌, Result, Ok, ◌||◌, not, nat_lt, nat_le, rules}
-use Rattle.cdl_laws.proofs.Prelude.{length-append, length-replicate, length-map, flat_map-append, mul-le-mul_right, mul_comm, mul-le-mul, Dim, Var, Version, is_char, Value, Number, Characters, Underscore, Draft, Listing, Numbers, Joined, Rows, Capacity, capacity_of, in_turn, has_number, filled, add_number, add_characters, add_row, listed_by, listing_of, values_in, with_values, CdlKind, TooManyValues, is_off, or_second, some_count}
+use Rattle.cdl_laws.proofs.Prelude.{length-append, length-replicate, length-map, flat_map-append, mul-le-mul_right, mul_comm, mul-le-mul, Dim, Var, Version, is_char, Value, Number, Characters, Underscore, Draft, Listing, Numbers, Joined, Rows, Capacity, capacity_of, in_turn, has_number, filled, add_number, add_characters, add_row, listed_by, listing_of, values_in, with_values, CdlKind, is_off, or_second, some_count}
 use Rattle.cdl_laws.proofs.Given.{slab_rows}
 use Rattle.cdl_laws.proofs.Outcomes.{OkIs, ok_then, ok_unless, ok_when, total, turns}
 use Rattle.cdl_laws.proofs.Said.{cost}
@@ -31,22 +31,17 @@ grown : (capacity : Capacity) (count unit k n m c l : ℕ) (before after : Listi
     ((fill : ℤ) → length (values_in (by fill capacity) after) ≡ length (values_in (by fill capacity) before) + m * unit) → IsRoomy capacity count unit (k + c) l after
 grown capacity count unit k n m c l before after is len cheap wide more = grind arith
 
--- where there was room for one
-one_wide : (capacity : Capacity) (n count : ℕ) → (capacity.is_open || nat_lt n count) ≡ true → capacity.is_open ≡ false → n + 1 ≤ count
-one_wide capacity n count test e = under n count (or_second capacity.is_open (nat_lt n count) test e)
-
 -- ---- each kind of listing
 
 abbrev AreNumbers : Capacity → ℕ → List ℤ → Type 0
 AreNumbers capacity k values = IsRoomy capacity capacity.count 1 k (length values) (Numbers values)
 
 single : (capacity : Capacity) (k : ℕ) (before : List ℤ) (x : ℤ) → AreNumbers capacity k before → (capacity.is_open || nat_lt (length before) capacity.count) ≡ true → AreNumbers capacity (k + 1) (before ++ x ∷ [])
-single capacity k before x is test = grind (arith, length-append, grown, one_wide)
+single capacity k before x is test = grind (arith, length-append, grown)
 
 number_step : (capacity : Capacity) (k : ℕ) (before : List ℤ) (x : Value) → AreNumbers capacity k before → Unit {0} → OkIs (AreNumbers capacity (k + cost x)) (add_number capacity before x)
 number_step capacity k before (Characters bytes) is u = tt
-number_step capacity k before Underscore is u =
-    ok_unless (AreNumbers capacity (k + 1)) (capacity.is_open || nat_lt (length before) capacity.count) TooManyValues (λ u. Ok (before ++ capacity.fill ∷ [])) (λ t. single capacity k before capacity.fill is t)
+number_step capacity k before Underscore is u = search (rules, ok_unless, single)
 number_step capacity k before (Number n) is u = search (rules, ok_unless, has_number, single)
 
 abbrev AreJoined : Capacity → ℕ → List ℕ → Type 0
@@ -58,11 +53,8 @@ joined_step capacity k before x h h2 = grind (arith, ok_unless, length-append, l
 abbrev AreRows : Capacity → ℕ → List (List ℕ) → Type 0
 AreRows capacity k rows = IsRoomy capacity capacity.rows capacity.row k (length rows) (Rows rows)
 
-row_more : (capacity : Capacity) (before : List (List ℕ)) (bytes : List ℕ) → length bytes ≤ capacity.row → (fill : ℤ) → length (values_in (by fill capacity) (Rows (before ++ bytes ∷ []))) ≡ length (values_in (by fill capacity) (Rows before)) + 1 * capacity.row
-row_more capacity before bytes short fill = grind (arith, filled, pos, length-map, flat_map-append, length-append, by, filled_len)
-
 row_step : (capacity : Capacity) (k : ℕ) (before : List (List ℕ)) (x : Value) → AreRows capacity k before → Unit {0} → OkIs (AreRows capacity (k + cost x)) (add_row capacity before x)
-row_step capacity k before x h h2 = search (rules, ok_unless, grown, length-append, one_wide, row_more, up_to)
+row_step capacity k before x h h2 = search (rules, ok_unless, grown, length-append, up_to, under, or_second, filled, pos, length-map, flat_map-append, by, filled_len)
 
 -- ---- what is listed
 

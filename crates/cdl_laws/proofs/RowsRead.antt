@@ -1,5 +1,5 @@
 -- The values that the text of a variable lists give its array.
-use Rattle.std.proofs.Common.{◌≡◌, ℕ, zero, suc, true, false, List, [], ◌∷◌, sym, ◌∙◌, ap, refl, subst, arith, ℤ, All, Some, slice_get, slice_index_or}
+use Rattle.std.proofs.Common.{◌≡◌, ℕ, zero, suc, true, List, [], ◌∷◌, sym, ◌∙◌, ap, subst, arith, ℤ, All, Some, slice_get, slice_index_or, rules}
 use Rattle.cdl_laws.proofs.Prelude.{Dataset, Att, Dim, Header, Known, Var, values_in_dataset, fill_value, IsArray, AreArrays, value_count, IsName, IsSayable, IsSayableVar, trimmed_var, is_char, look_of, array_of, capacity_of, filled, DataReadsBack, all-at}
 use Rattle.cdl_laws.specs.RowLaws.{RowReadsBack, RowsReadBack, EmptyRowsReadBack}
 use Rattle.cdl_laws.proofs.Arrays.{row_back, no_bytes}
@@ -28,8 +28,7 @@ is_array d records place var s known at =
 -- ---- the fill value
 
 same_value : (var : Var) → (is_char var.ty ≡ true → fill_value (trimmed_var var) ≡ fill_value var) → fill_value (trimmed_var var) ≡ fill_value var
-same_value var char =
-    elim (is_char var.ty) as (λ b. is_char var.ty ≡ b → fill_value (trimmed_var var) ≡ fill_value var) [ true ↦ char | false ↦ same_fill var ] refl
+same_value var char = grind (arith, same_fill var)
 
 same_room : (dims : List Dim) (var : Var) → fill_value (trimmed_var var) ≡ fill_value var → capacity_of dims (trimmed_var var) ≡ capacity_of dims var
 unfolding capacity_of
@@ -50,8 +49,7 @@ rows_read_back d records width place var s known at some =
     let is = is_array d records place var s known at in
     let name = (all-at (λ (w : Var). IsName w.name × All (λ (att : Att). IsName att.name) w.atts) h.vars place var s.good.names.vars at).0 in
     let keeps = (all-at IsSayableVar h.vars place var s.vars at).fill in
-    let back = row_back h.version h records width var array is (grind (arith, some)) name keeps in
-    row_of d records width place var is (same_value var keeps) back.0 back.1
+    search (rules, row_back h.version h records width var array is, row_of d records width place var is (same_value var keeps), same_value var keeps)
 
 pub empty_rows_read_back : EmptyRowsReadBack
 empty_rows_read_back d records place var s known at none =
@@ -59,5 +57,4 @@ empty_rows_read_back d records place var s known at none =
     no_bytes (slice_index_or d.arrays place []) (value_count d.header.dims var records) _ is.whole (grind (arith, none))
 
 pub data_reads_back : DataReadsBack
-data_reads_back d records width place var s known at some =
-    let row = rows_read_back d records width place var s known at some in (row.values, row.statement)
+data_reads_back d records width place var s known at some = grind (arith, rows_read_back d records width place var s known at some)

@@ -1,6 +1,6 @@
 -- What the shapes give: names, counts and types of what a statement says, against the bytes of its tokens.
-use Rattle.std.proofs.Common.{◌≡◌, ℕ, ◌+◌, ◌-◌, ◌≤◌, ◌<◌, Bool, true, false, List, [], ◌∷◌, length, refl, arith, zero, suc, find, if◌then◌else◌, Option, None, Some, drop, ◌&&◌, ◌||◌, not, ◌==◌, slice_index, codes, map, nat_lt}
-use Rattle.cdl_laws.proofs.Prelude.{length-take, length-drop, option_map, is_reserved, NcType, Version, has_type, is_escape, number_in, up_to_255, character, escaped_character, inner, number_escape, unescape_at, word_value, or_zero, Lexeme, is_word_kind, is_mark, name_of, Parts, parts, number, Numeral, numeral, type_of_suffix, has_suffix, in_base, with_sign, Value, Number, Characters, Underscore, Dimension, Variable, both, each, if_so, into_first, members_in, members, dimension, constant_of, constant, constants, name_alone, before_mark, variable, TokenKind, and_right, plain_small}
+use Rattle.std.proofs.Common.{◌≡◌, ℕ, ◌+◌, ◌-◌, ◌≤◌, ◌<◌, Bool, true, false, List, [], ◌∷◌, length, arith, zero, suc, Option, None, Some, drop, ◌&&◌, ◌||◌, not, ◌==◌, slice_index, codes, map, rules}
+use Rattle.cdl_laws.proofs.Prelude.{length-take, length-drop, is_reserved, Version, has_type, is_escape, character, inner, unescape_at, word_value, or_zero, Lexeme, is_word_kind, is_mark, name_of, Parts, parts, number, Numeral, numeral, type_of_suffix, in_base, with_sign, Value, Number, Characters, Underscore, Dimension, Variable, both, each, if_so, into_first, members_in, members, dimension, constant_of, constant, constants, name_alone, before_mark, variable, TokenKind}
 use Rattle.cdl_statements.specs.Shapes.{dimensions}
 use Rattle.cdl_tokens.specs.declared.scan.Character.{Character}
 use Rattle.cdl_laws.proofs.Lists.{Each}
@@ -43,8 +43,7 @@ before_mass b (l ∷ m ∷ ls) = grind (arith, some_map, some_weaker, before_mas
 pub before_each : (P : Lexeme → Type 0) (b : ℕ) (ls : List Lexeme) → Each P ls → SomeIs (Each P) (before_mark b ls)
 before_each P b [] h = tt
 before_each P b (l ∷ []) h = some_given (Each P) (is_mark b l) (Some []) (λ e. tt)
-before_each P b (l ∷ m ∷ ls) h =
-    some_map (Each P) (λ xs. l ∷ xs) (before_mark b (m ∷ ls)) (some_weaker (Each P) (λ xs. Each P (l ∷ xs)) (before_mark b (m ∷ ls)) (before_each P b (m ∷ ls) h.1) (λ xs k. (h.0, k)))
+before_each P b (l ∷ m ∷ ls) h = search (rules, some_map, some_weaker, before_each P b (m ∷ ls) h.1)
 
 -- ---- words
 
@@ -64,17 +63,13 @@ name_short l = in_if (SomeIs (λ name. length name ≤ length l.bytes)) (is_word
 abbrev pub HasTypeOf : Version → Numeral → Type 0
 HasTypeOf v n = has_type v n.ty ≡ true
 
-suffix_has : (v : Version) (bs : List ℕ) (tys : List NcType) → SomeIs (λ ty. has_type v ty ≡ true) (find (λ ty. has_suffix bs ty && has_type v ty) tys)
-suffix_has v bs [] = tt
-suffix_has v bs (ty ∷ tys) = grind (arith, and_right, suffix_has v bs tys)
-
 -- the same of its parts
 abbrev HasType : Version → Parts → Type 0
 HasType v p = has_type v p.ty ≡ true
 
 based : (v : Version) (minus : Bool) (base n : ℕ) (bs : List ℕ) → SomeIs (HasType v) (in_base v minus base n bs)
 unfolding type_of_suffix
-based v minus base n bs = grind (arith, in_if, some_map, suffix_has)
+based v minus base n bs = grind (arith, in_if, some_map)
 
 unsigned_has : (v : Version) (minus : Bool) (bs : List ℕ) → SomeIs (HasType v) (with_sign v minus bs)
 unsigned_has v minus bs = grind (arith, in_if, based)
@@ -92,27 +87,12 @@ numeral_has v bs = some_map (HasTypeOf v) number (parts v bs) (parts_have v bs)
 abbrev ByteOrNone : Option ℕ → Type 0
 ByteOrNone o = SomeIs IsByte o
 
-byte_is : (n : ℕ) → ByteOrNone (up_to_255 n)
-byte_is n =
-    elim (nat_lt 255 n) as (λ b. nat_lt 255 n ≡ b → ByteOrNone (if b then None else Some n)) [ true ↦ (λ e. tt) | false ↦ (λ e. grind (arith, e)) ] refl
-
-prefix_byte : (bs : List ℕ) → Each IsByte bs → slice_index bs 0 < 256
-prefix_byte [] h = omega arith
-prefix_byte (b ∷ bs) h = h.0
-
 abbrev IsFine : Character → Type 0
 IsFine c = ByteOrNone c.value
 
-number_fine : (mark base : ℕ) (digits : List ℕ) → IsFine (number_escape mark base digits)
-number_fine mark base digits = in_if ByteOrNone (length digits == 0) None (up_to_255 (number_in base 0 digits)) tt (byte_is (number_in base 0 digits))
-
-escape_fine : (bs : List ℕ) → Each IsByte bs → IsFine (escaped_character bs)
-escape_fine bs h = grind (arith, in_if, number_fine, plain_small, prefix_byte)
-
 character_fine : (bs : List ℕ) → Each IsByte bs → IsFine (character bs)
 unfolding character
-character_fine bs h =
-    in_if IsFine (slice_index bs 0 == 0x5c) (escaped_character (drop 1 bs)) (record { value = Some (slice_index bs 0); len = 1 }) (escape_fine (drop 1 bs) (each_drop IsByte 1 bs h)) (prefix_byte bs h)
+character_fine bs h = search (rules, in_if, each_drop)
 
 zero_fine : (o : Option ℕ) → ByteOrNone o → or_zero o < 256
 zero_fine o h = grind arith
@@ -142,11 +122,8 @@ IsFineValue v (Number n) = HasTypeOf v n
 IsFineValue v (Characters bytes) = Each IsByte bytes
 IsFineValue v Underscore = Unit {0}
 
-blank_fine : (v : Version) (b : Bool) → SomeIs (IsFineValue v) (if_so b (Some Underscore))
-blank_fine v b = some_given (IsFineValue v) b (Some Underscore) (λ e. tt)
-
 one_fine : (v : Version) (takes_fill : Bool) (l : Lexeme) (k : TokenKind) → HasBytes l → SomeIs (IsFineValue v) (constant_of v takes_fill l k)
-one_fine v takes_fill l k h = grind (arith, some_map, numeral_has, stands_fine, each_take, each_drop, blank_fine, codes)
+one_fine v takes_fill l k h = grind (arith, some_map, numeral_has, stands_fine, each_take, each_drop, codes)
 
 blank_short : (n : ℕ) (b : Bool) → SomeIs (λ x. cost x ≤ suc n) (if_so b (Some Underscore))
 blank_short n b = some_given (λ x. cost x ≤ suc n) b (Some Underscore) (λ e. omega arith)
@@ -154,32 +131,24 @@ blank_short n b = some_given (λ x. cost x ≤ suc n) b (Some Underscore) (λ e.
 inner_short : (bs : List ℕ) → length (inner bs) ≤ length bs
 inner_short bs = let a = length-take (length bs - 2) (drop 1 bs) in let b = length-drop 1 bs in omega (arith, a, b)
 
-number_short : (n : ℕ) (o : Option Numeral) → SomeIs (λ x. cost x ≤ suc n) (option_map Number o)
-number_short n o = grind arith
-
 one_short : (v : Version) (takes_fill : Bool) (l : Lexeme) (k : TokenKind) → SomeIs (λ x. cost x ≤ weight l) (constant_of v takes_fill l k)
-one_short v takes_fill l k = grind (arith, number_short, stands_short, inner_short, blank_short, codes)
+one_short v takes_fill l k = grind (arith, stands_short, inner_short, blank_short, codes)
 
 constant_fine : (v : Version) (takes_fill : Bool) (l : Lexeme) → HasBytes l → SomeIs (IsFineValue v) (constant v takes_fill l)
 constant_fine v takes_fill l h = one_fine v takes_fill l l.kind h
 
-constant_short : (v : Version) (takes_fill : Bool) (l : Lexeme) → SomeIs (λ x. cost x ≤ weight l) (constant v takes_fill l)
-constant_short v takes_fill l = one_short v takes_fill l l.kind
-
 pub constants_fine : (v : Version) (takes_fill : Bool) (ls : List Lexeme) → Each HasBytes ls → SomeIs (Each (IsFineValue v)) (constants v takes_fill ls)
 constants_fine v takes_fill [] h = tt
-constants_fine v takes_fill (l ∷ []) h =
-    some_both (IsFineValue v) (Each (IsFineValue v)) (Each (IsFineValue v)) (λ x xs. x ∷ xs) (constant v takes_fill l) (Some []) (constant_fine v takes_fill l h.0) tt (λ x xs a b. (a, b))
+constants_fine v takes_fill (l ∷ []) h = search (rules, some_both, constant, one_fine)
 constants_fine v takes_fill (l ∷ c ∷ ls) h =
     some_given (Each (IsFineValue v)) (is_mark 0x2c c) (both (λ x xs. x ∷ xs) (constant v takes_fill l) (constants v takes_fill ls)) (λ q.
     some_both (IsFineValue v) (Each (IsFineValue v)) (Each (IsFineValue v)) (λ x xs. x ∷ xs) (constant v takes_fill l) (constants v takes_fill ls) (constant_fine v takes_fill l h.0) (constants_fine v takes_fill ls h.1.1) (λ x xs a b. (a, b)))
 
 pub constants_short : (v : Version) (takes_fill : Bool) (ls : List Lexeme) → SomeIs (λ xs. total cost xs ≤ mass ls) (constants v takes_fill ls)
 constants_short v takes_fill [] = tt
-constants_short v takes_fill (l ∷ []) =
-    some_both (λ x. cost x ≤ weight l) (λ xs. total cost xs ≤ 0) (λ xs. total cost xs ≤ mass (l ∷ [])) (λ x xs. x ∷ xs) (constant v takes_fill l) (Some []) (constant_short v takes_fill l) (omega arith) (λ x xs a b. omega (arith, a, b))
+constants_short v takes_fill (l ∷ []) = search (rules, some_both, total, constant, one_short)
 constants_short v takes_fill (l ∷ c ∷ ls) =
-    grind (arith, some_given, total, both, constant, constants, some_both, constant_short, constants_short v takes_fill ls)
+    grind (arith, some_given, total, both, constant, constants, some_both, constants_short v takes_fill ls, one_short)
 
 -- ---- dimensions and variables
 
@@ -196,11 +165,10 @@ any_some : {A : Type 0} (o : Option A) → SomeIs (λ a. Unit {0}) o
 any_some o = grind arith
 
 dimension_short : (v : Version) (n e l : Lexeme) → SomeIs (λ d. dim_cost d ≤ weight n) (dimension v n e l)
-dimension_short v n e l = grind (arith, some_given, both, some_both, name_short, any_some)
+dimension_short v n e l = grind (arith, some_given, both, some_both, name_short)
 
 pub dimensions_short : (v : Version) (ls : List Lexeme) → SomeIs (λ ds. total dim_cost ds ≤ mass ls) (dimensions v ls)
-dimensions_short v (n ∷ e ∷ l ∷ []) =
-    some_both (λ d. dim_cost d ≤ weight n) (λ ds. total dim_cost ds ≤ 0) (λ ds. total dim_cost ds ≤ mass (n ∷ e ∷ l ∷ [])) (λ d ds. d ∷ ds) (dimension v n e l) (Some []) (dimension_short v n e l) (omega arith) (λ d ds a b. omega (arith, a, b))
+dimensions_short v (n ∷ e ∷ l ∷ []) = grind (arith, total dim_cost, some_both, some_given, both, name_short, any_some)
 dimensions_short v (n ∷ e ∷ l ∷ c ∷ ls) = grind (arith, some_given, total, both, dimensions, some_both, dimension_short, dimensions_short v ls)
 dimensions_short v _ = tt
 
@@ -209,11 +177,11 @@ alone_short ls = grind (arith, some_weaker, name_short)
 
 names_short : (ls : List Lexeme) → SomeIs (λ ns. total name_cost ns ≤ mass ls) (each name_alone (members ls))
 names_short ls =
-    grind (arith, total name_cost, each name_alone (members ls), each_total mass name_cost name_alone alone_short (members ls), members_mass false ls, some_weaker, alone_short)
+    grind (arith, total name_cost, each name_alone (members ls), each_total mass name_cost name_alone alone_short (members ls), members_mass false ls, some_weaker)
 
 variable_short : (ls : List Lexeme) → SomeIs (λ x. var_cost x ≤ mass ls) (variable ls)
 variable_short ls = grind (arith, some_map, dimensions, some_weaker, name_short, each, some_given, both, some_both, total, some_then, before_mass, names_short)
 
 pub variables_short : (ls : List Lexeme) → SomeIs (λ xs. total var_cost xs ≤ mass ls) (each variable (members ls))
 variables_short ls =
-    grind (arith, total var_cost, each variable (members ls), each_total mass var_cost variable variable_short (members ls), members_mass false ls, some_weaker, variable_short)
+    grind (arith, total var_cost, each variable (members ls), each_total mass var_cost variable variable_short (members ls), members_mass false ls, some_weaker)

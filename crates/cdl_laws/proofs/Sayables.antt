@@ -1,5 +1,5 @@
 -- What a dataset that a text can declare gives for each of its parts.
-use Rattle.std.proofs.Common.{◌≡◌, ℕ, ◌+◌, ◌^◌, ◌<◌, ◌≤◌, Bool, true, false, List, [], ◌∷◌, ◌++◌, length, map, sym, ◌∙◌, ap, refl, subst, arith, append_assoc, ◌||◌, ◌==◌, All, filter}
+use Rattle.std.proofs.Common.{◌≡◌, ℕ, ◌+◌, ◌^◌, ◌<◌, ◌≤◌, Bool, true, false, List, [], ◌∷◌, ◌++◌, length, map, sym, ◌∙◌, ap, refl, subst, arith, append_assoc, ◌||◌, ◌==◌, All, filter, rules}
 use Rattle.cdl_laws.proofs.Prelude.{list_any, bytes_eq, false≢true, map-append, list_any-append, bytes_eq-Decides, AreBytes, Att, Dim, Var, Version, has_name, has_record_dim, IsSoundAtt, IsSoundVar, IsSoundDim, IsName, count_limit, AreDistinct, IsSayableVar, HasSomeNumber, trimmed_att, Draft}
 use Rattle.cdl_laws.proofs.Acts.{record_once, no_draft}
 use Rattle.cdl_laws.proofs.Attributes.{speaks}
@@ -18,7 +18,7 @@ AreFresh done names = Each (λ name. has_name done name ≡ false) names
 
 pub fresh_more : (done : List (List ℕ)) (n : List ℕ) (names : List (List ℕ)) → AreFresh done names → has_name names n ≡ false → AreFresh (done ++ n ∷ []) names
 fresh_more done n [] fresh new = tt
-fresh_more done n (m ∷ names) fresh new = grind (arith, list_any-append, swapped, or_left, or_right, fresh_more done n names fresh.1)
+fresh_more done n (m ∷ names) fresh new = grind (arith, list_any-append, or_left, or_right, fresh_more done n names fresh.1, false≢true, bytes_eq-Decides)
 
 pub any_map : {X : Type 0} (name : X → List ℕ) (n : List ℕ) (xs : List X) → list_any (λ x. bytes_eq (name x) n) xs ≡ has_name (map name xs) n
 any_map name n [] = refl
@@ -45,13 +45,8 @@ new_atts done (a ∷ atts) fresh distinct = (
 pub atts_new : (atts : List Att) → AreDistinct (map att_name atts) → AreNewAtts [] atts
 atts_new atts distinct = new_atts [] atts (none_before (map att_name atts)) distinct
 
-all_speak : (v : Version) (atts : List Att) → Each (IsSoundAtt v) atts → Each (λ (a : Att). AreBytes a.vals) atts → Each HasSomeNumber atts → Each (λ (a : Att). IsName a.name) atts → Each (Speaks v) atts
-all_speak v [] sound small some names = tt
-all_speak v (a ∷ atts) sound small some names = (speaks v a sound.0 small.0 some.0 names.0, all_speak v atts sound.1 small.1 some.1 names.1)
-
 pub atts_speak : (v : Version) (atts : List Att) → All (IsSoundAtt v) atts → All (λ (a : Att). AreBytes a.vals) atts → All HasSomeNumber atts → All (λ (a : Att). IsName a.name) atts → Each (Speaks v) atts
-atts_speak v atts sound small some names =
-    all_speak v atts (each_of (IsSoundAtt v) atts sound) (each_of (λ (a : Att). AreBytes a.vals) atts small) (each_of HasSomeNumber atts some) (each_of (λ (a : Att). IsName a.name) atts names)
+atts_speak v atts sound small some names = search (rules, each_of, speaks)
 
 -- ---- dimensions
 
@@ -89,8 +84,7 @@ new_dims v done (d ∷ ds) fresh distinct sound names few = (
 )
 
 pub dims_new : (v : Version) (ds : List Dim) → AreDistinct (map dim_name ds) → All (IsSoundDim v) ds → All (λ (d : Dim). IsName d.name) ds → length (filter is_record ds) ≤ 1 → AreNewDims v [] ds
-dims_new v ds distinct sound names few =
-    new_dims v [] ds (none_before (map dim_name ds)) distinct (each_of (IsSoundDim v) ds sound) (each_of (λ (d : Dim). IsName d.name) ds names) few
+dims_new v ds distinct sound names few = search (rules, new_dims, none_before, each_of)
 
 -- ---- variables
 
@@ -110,7 +104,7 @@ pub record IsSayableHead (v : Version) (dims : List Dim) (var : Var) : Type 0 wh
   pub bare : var.begin_at ≡ 0
 
 fit : (v : Version) (dims : List Dim) (before : List Draft) (var : Var) → IsSayableHead v dims var → no_draft var.name before → IsFit v dims before var
-fit v dims before var head new = grind (arith, atts_speak, atts_new)
+fit v dims before var head new = grind (arith, atts_speak, new_atts, none_before)
 
 fits_all : (v : Version) (dims : List Dim) (before : List Draft) (vars : List Var) → AreFresh (map draft_name before) (map var_name vars) → AreDistinct (map var_name vars) → Each (IsSayableHead v dims) vars → AreFit v dims before vars
 fits_all v dims before [] fresh distinct heads = tt

@@ -1,21 +1,13 @@
 -- An escaped string between quotes is one token that stands for it.
-use Rattle.std.proofs.Common.{◌≡◌, ℕ, suc, ◌+◌, ◌-◌, ◌/◌, ◌%◌, ◌<◌, true, false, List, [], ◌∷◌, ◌++◌, length, drop, take, sym, ◌∙◌, ap, refl, subst, arith, append_assoc, length-append, ◌==◌, nat_lt, map, Some, is_some, rules}
-use Rattle.cdl_laws.proofs.Prelude.{is_ascii_control, flat_map, list_all, false≢true, eqb-true, take-append_seam, escaped_in_string, octal_escape, digit_value, is_octal, is_digit, number_in, len_until, scan, scan_text, character, up_to_255, plain_escape, unescape, unescape_at, Lexeme, until_at_start}
+use Rattle.std.proofs.Common.{◌≡◌, ℕ, ◌+◌, ◌-◌, ◌/◌, ◌%◌, ◌<◌, true, false, List, [], ◌∷◌, ◌++◌, length, drop, take, sym, ◌∙◌, ap, refl, subst, arith, append_assoc, length-append, ◌==◌, nat_lt, map, Some, is_some, rules}
+use Rattle.cdl_laws.proofs.Prelude.{is_ascii_control, flat_map, list_all, eqb-true, take-append_seam, escaped_in_string, octal_escape, is_octal, number_in, len_until, scan, scan_text, character, up_to_255, plain_escape, unescape, unescape_at, Lexeme, until_at_start}
 use Rattle.cdl_tokens.specs.declared.token.TokenKind.TheVariants as kinds
 use Rattle.cdl_laws.proofs.Texts.{Closed, prefix_again}
 
 -- ---- the characters
 
-not_octal : (b c : ℕ) → is_octal c ≡ false → is_octal b ≡ true → (b == c) ≡ false
-not_octal b c o on = elim (b == c) as (λ w. (b == c) ≡ w → w ≡ false) [ true ↦ (λ e. absurd (false≢true (sym o ∙ subst (λ n. is_octal n ≡ true) (eqb-true b c e) on))) | false ↦ (λ e. refl) ] refl
-
 pub until_plain : (close b : ℕ) (rest : List ℕ) → (b == 0x5c) ≡ false → (b == close) ≡ false → len_until close (b ∷ rest) ≡ 1 + len_until close rest
 until_plain close b rest h k = until_at_start close b rest ∙ rw (h) (rw (k) refl)
-
-until_octal : (d e f : ℕ) (rest : List ℕ) → is_octal e ≡ true → is_octal f ≡ true → len_until 0x22 (0x5c ∷ d ∷ e ∷ f ∷ rest) ≡ 4 + len_until 0x22 rest
-unfolding len_until
-until_octal d e f rest h k =
-    ap (λ n. 2 + n) (until_plain 0x22 e (f ∷ rest) (not_octal e 0x5c refl h) (not_octal e 0x22 refl h) ∙ ap (λ n. 1 + n) (until_plain 0x22 f rest (not_octal f 0x5c refl k) (not_octal f 0x22 refl k))) ∙ (omega arith)
 
 character_octal : (d e f : ℕ) (rest : List ℕ) → is_octal d ≡ true → is_octal e ≡ true → is_octal f ≡ true →
     character (0x5c ∷ d ∷ e ∷ f ∷ rest) ≡ record { value = up_to_255 (number_in 8 0 (d ∷ e ∷ f ∷ [])); len = 4 }
@@ -68,16 +60,13 @@ middle_octal b = grind arith
 low_octal : (b : ℕ) → is_octal (48 + b % 8) ≡ true
 low_octal b = grind arith
 
-digit_octal : (n : ℕ) → n < 8 → digit_value (48 + n) ≡ n
-digit_octal n h = let e : is_digit (48 + n) ≡ true = grind arith in rw (e) (omega arith)
-
 octal_value : (b : ℕ) → b < 256 → up_to_255 (number_in 8 0 ((48 + b / 64) ∷ (48 + b / 8 % 8) ∷ (48 + b % 8) ∷ [])) ≡ Some b
-octal_value b h = search (rules, digit_octal)
+octal_value b h = search rules
 
 -- one byte
 until_one : (b : ℕ) (rest : List ℕ) → IsEscapedAs b → len_until 0x22 (escaped_in_string b ++ rest) ≡ length (escaped_in_string b) + len_until 0x22 rest
 unfolding len_until
-until_one b rest h = search (rules, until_octal, middle_octal, low_octal, until_plain)
+until_one b rest h = search (rules, until_plain)
 
 letter_again : (c : ℕ) (rest : List ℕ) → is_octal c ≡ false → (c == 0x78) ≡ false → unescape (0x5c ∷ c ∷ rest) ≡ Some (plain_escape c) ∷ unescape rest
 unfolding unescape_at character
@@ -130,5 +119,4 @@ string_closed bytes rest =
 
 -- what is between its quotes
 pub between_quotes : (w : List ℕ) → take (length (0x22 ∷ (w ++ 0x22 ∷ [])) - 2) (drop 1 (0x22 ∷ (w ++ 0x22 ∷ []))) ≡ w
-between_quotes w =
-    ap (λ n. take n (w ++ 0x22 ∷ [])) (let g = length-append w (0x22 ∷ []) in let e : suc (length (w ++ 0x22 ∷ [])) - 2 ≡ length w = omega (arith, g) in e) ∙ take-append_seam w (0x22 ∷ [])
+between_quotes w = grind (arith, length-append w (0x22 ∷ []), take-append_seam w (0x22 ∷ []))

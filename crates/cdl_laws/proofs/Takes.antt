@@ -1,6 +1,6 @@
 -- What a text makes of a state, statement by statement.
-use Rattle.std.proofs.Common.{◌≡◌, ℕ, Bool, true, false, List, [], ◌∷◌, ◌++◌, ◌∙◌, ap, sym, refl, append_assoc, ◌&&◌, if◌then◌else◌, Option, None, Some, is_none, Ok, arith, rules}
-use Rattle.cdl_laws.proofs.Prelude.{list_all, option_map, Version, CdlKind, Section, Globals, Dimensions, Variables, Values, Role, Lexeme, first_role, role, piece_read, pieces_after, step, going, unless_end, with_first, is_section, pieces_by_steps, cut_lexemes, pieces_of, Statement, first_bad, token_fault, shape, before_mark, body, State, act, in_turn, and_left, and_right, and_both}
+use Rattle.std.proofs.Common.{◌≡◌, ℕ, Bool, true, false, List, [], ◌∷◌, ◌++◌, ◌∙◌, ap, refl, append_assoc, ◌&&◌, if◌then◌else◌, Option, None, Some, is_none, Ok, arith, rules}
+use Rattle.cdl_laws.proofs.Prelude.{list_all, option_map, Version, CdlKind, Section, Globals, Dimensions, Variables, Values, Role, Lexeme, first_role, role, piece_read, pieces_after, going, unless_end, with_first, is_section, pieces_by_steps, cut_lexemes, pieces_of, Statement, first_bad, token_fault, shape, before_mark, body, State, act, in_turn, and_left, and_right, and_both}
 use Rattle.cdl_statements.specs.declared.piece.Role.TheVariants as roles
 use Rattle.cdl_statements.specs.declared.piece.CutState.TheVariants.{Begins, Inside}
 use Rattle.cdl_laws.proofs.Texts as texts
@@ -31,12 +31,6 @@ is_end_role _ = false
 unless_going : (n : Role) → is_end_role n ≡ false → unless_end n Inside ≡ going Inside
 unless_going n h = grind arith
 
-inside_going : (r n : Role) → is_plain r ≡ true → is_end_role n ≡ false → step Inside r n ≡ going Inside
-inside_going r n h h2 = grind (arith, unless_going)
-
-begins_going : (r n : Role) → is_starter r ≡ true → is_end_role n ≡ false → step Begins r n ≡ going Inside
-begins_going r n h h2 = grind (arith, unless_going)
-
 plain_no_end : (r : Role) → is_plain r ≡ true → is_end_role r ≡ false
 plain_no_end r h = grind arith
 
@@ -50,16 +44,12 @@ next_no_end (t ∷ p) rest h = plain_no_end (role t) (and_left (is_plain (role t
 inside_one : (p rest : List Lexeme) → all_plain p ≡ true → pieces_after role Inside (p ++ semicolon ∷ rest) ≡ (p ++ semicolon ∷ []) ∷ pieces_after role Begins rest
 unfolding pieces_after
 inside_one [] rest h = refl
-inside_one (t ∷ p) rest h = grind (arith, is_plain, and_left, and_right, inside_going, semicolon, next_no_end, with_first, inside_one p rest)
+inside_one (t ∷ p) rest h = grind (arith, is_plain, and_left, and_right, semicolon, next_no_end, with_first, inside_one p rest, unless_going)
 
 one_by_steps : (t : Lexeme) (p rest : List Lexeme) → is_starter (role t) ≡ true → all_plain p ≡ true →
     pieces_after role Begins ((t ∷ p ++ semicolon ∷ []) ++ rest) ≡ (t ∷ p ++ semicolon ∷ []) ∷ pieces_after role Begins rest
 unfolding pieces_after
-one_by_steps t p rest start h = grind (arith, append_assoc, semicolon, begins_going, next_no_end, with_first, inside_one)
-
-pub one_piece : (t : Lexeme) (p rest : List Lexeme) → is_starter (role t) ≡ true → all_plain p ≡ true → cut_lexemes ((t ∷ p ++ semicolon ∷ []) ++ rest) ≡ (t ∷ p ++ semicolon ∷ []) ∷ cut_lexemes rest
-one_piece t p rest start h =
-    pieces_by_steps (λ l. l) ((t ∷ p ++ semicolon ∷ []) ++ rest) ∙ one_by_steps t p rest start h ∙ ap (λ ps. (t ∷ p ++ semicolon ∷ []) ∷ ps) (sym (pieces_by_steps (λ l. l) rest))
+one_by_steps t p rest start h = grind (arith, append_assoc, semicolon, next_no_end, with_first, inside_one, unless_going)
 
 -- ---- what a text makes of a state
 
@@ -130,4 +120,4 @@ shape_is v section a b p h = grind (arith, before_semicolon)
 pub statement_says : (v : Version) (section : Section) (bytes : List ℕ) (a b : Lexeme) (p : List Lexeme) (statement : Statement) → is_open section ≡ true →
     texts.Closed bytes ((a ∷ b ∷ p) ++ semicolon ∷ []) → is_starter (role a) ≡ true → list_all (is_fine v) (a ∷ b ∷ p) ≡ true → body v section (a ∷ b ∷ p) ≡ Some statement → Says v section bytes statement
 statement_says v section bytes a b p statement h reads start fine is =
-    search (rules, semicolon, one_piece, and_right, is_plain, fine_plain, fine_sound, shape_is)
+    search (rules, semicolon, and_right, is_plain, fine_plain, fine_sound, shape_is, pieces_by_steps, one_by_steps)

@@ -1,6 +1,6 @@
 -- The full dump of a dataset that a text can declare means that dataset, trimmed.
-use Rattle.std.proofs.Common.{◌≡◌, ℕ, ◌<◌, ◌≤◌, true, List, [], ◌∷◌, ◌++◌, map, sym, ◌∙◌, ap, refl, subst, arith, nat_le, All, Option, Ok}
-use Rattle.cdl_laws.proofs.Prelude.{list_all, map-append, AreBytes, Dataset, Att, Dim, Header, Known, Streaming, Var, Version, Options, Ending, whole, IsText, unknown, shown, dump_text, shown_data_text, values_in_dataset, selection_of, IsGood, IsSoundVar, bare, bare_var, IsName, slab_count, slab_size, slab_limit, record_limit, record_vars, record_size_of, Ended, meaning, is_small, is_small_enough, dataset_of, array_of, records_in, IsFull, TextReadsBack, trimmed, trimmed_att, trimmed_var, AreDistinct, IsSayable, IsSayableVar, Draft, Listing, and_both, some_count}
+use Rattle.std.proofs.Common.{◌≡◌, ℕ, ◌<◌, ◌≤◌, true, List, [], ◌∷◌, ◌++◌, map, sym, ◌∙◌, ap, refl, subst, arith, All, Option, Ok, rules}
+use Rattle.cdl_laws.proofs.Prelude.{list_all, map-append, AreBytes, Dataset, Att, Dim, Header, Known, Streaming, Var, Version, Options, Ending, whole, IsText, unknown, dump_text, shown_data_text, values_in_dataset, selection_of, IsGood, IsSoundVar, bare, bare_var, IsName, slab_count, slab_size, slab_limit, record_limit, record_vars, record_size_of, Ended, meaning, is_small, is_small_enough, records_in, IsFull, TextReadsBack, trimmed, trimmed_att, trimmed_var, AreDistinct, IsSayable, IsSayableVar, Draft, Listing, and_both, some_count}
 use Rattle.nc_base.specs.declared.header.NumRecs.{NumRecs}
 use Rattle.nc_base.specs.Dump.{DataText}
 use Rattle.cdl_laws.proofs.DataTexts.{given_draft, given_drafts}
@@ -33,24 +33,12 @@ number Streaming = 0
 heads : (v : Version) (dims : List Dim) (vars : List Var) → Each (IsSoundVar v dims) vars → Each (λ (var : Var). IsName var.name × All (λ (att : Att). IsName att.name) var.atts) vars → Each (λ (var : Var). All (λ (att : Att). AreBytes att.vals) var.atts) vars →
     Each IsSayableVar vars → Each (λ (var : Var). var.begin_at ≡ 0) vars → Each (IsSayableHead v dims) vars
 heads v dims [] sound names bytes say bare = tt
-heads v dims (var ∷ vars) sound names bytes say bare =
-    (record { name = names.0.0; sound = sound.0; names = names.0.1; bytes = bytes.0; sayable = say.0; bare = bare.0 }, heads v dims vars sound.1 names.1 bytes.1 say.1 bare.1)
-
-same_dataset : (v : Version) (dims : List Dim) (gatts : List Att) (drafts : List Draft) (vars : List Var) (arrays : List (List ℕ)) (n : ℕ) →
-    records_in dims drafts ≡ n → map (λ (d : Draft). d.var) drafts ≡ vars → map (array_of dims n) drafts ≡ arrays →
-    dataset_of v (state Ended dims gatts drafts) ≡ record { header = record { version = v; numrecs = Known n; dims = dims; gatts = gatts; vars = vars }; arrays = arrays }
-same_dataset v dims gatts drafts vars arrays n r vs xs =
-    ap (λ (k : ℕ). record { header = record { version = v; numrecs = Known k; dims = dims; gatts = gatts; vars = map (λ (d : Draft). d.var) drafts }; arrays = map (array_of dims k) drafts }) r ∙
-    ap (λ (ws : List Var). record { header = record { version = v; numrecs = Known n; dims = dims; gatts = gatts; vars = ws }; arrays = map (array_of dims n) drafts }) vs ∙
-    ap (λ (ys : List (List ℕ)). record { header = record { version = v; numrecs = Known n; dims = dims; gatts = gatts; vars = vars }; arrays = ys }) xs
+heads v dims (var ∷ vars) sound names bytes say bare = search (rules, bare, heads v dims vars sound.1 names.1 bytes.1 say.1 bare.1)
 
 small_all : (v : Version) (dims : List Dim) (gatts : List Att) (drafts : List Draft) (vars : List Var) (n : ℕ) → records_in dims drafts ≡ n → map (λ (d : Draft). d.var) drafts ≡ vars →
     list_all (is_small dims n) drafts ≡ true → record_size_of dims (record_vars dims vars) ≤ record_limit → is_small_enough v (state Ended dims gatts drafts) ≡ true
 unfolding is_small_enough
-small_all v dims gatts drafts vars n r vs small limit =
-    and_both (list_all (is_small dims (records_in dims drafts)) drafts) (nat_le (record_size_of dims (record_vars dims (map (λ (d : Draft). d.var) drafts))) record_limit)
-    (ap (λ k. list_all (is_small dims k) drafts) r ∙ small)
-    (ap (λ ws. nat_le (record_size_of dims (record_vars dims ws)) record_limit) vs ∙ grind (arith, limit))
+small_all v dims gatts drafts vars n r vs small limit = search (rules, and_both)
 
 ready : (d : Dataset) (o : Options) → IsSayable d → IsFull o → (section : DataText) → (g : IsGood d) → section ≡ shown_data_text d.header o (values_in_dataset d) g.records (selection_of d.header o) →
     meaning (dump_text d.header o g.records section) d.header.version ≡ Ok (trimmed d)
@@ -82,15 +70,11 @@ ready d o s full section g is =
       fresh = atts_new h.gatts s.gatts.names;
       given = all_given v d n o.width 0 [] h.vars d.arrays backs (stand_after [] d.arrays) (new_vars [] h.vars os (none_before (map var_name h.vars)) s.names (each_map (IsSayableHead v h.dims) (λ (var : Var). IsName var.name) h.vars (λ var x. x.name) head));
       small = small_all v h.dims gatts drafts (map trimmed_var h.vars) n count vars (all_small v h n o.width h.vars d.arrays backs g.arrays limits) (subst (λ m. m ≤ record_limit) (sym (same_record h.dims h.vars)) g.is_sound.small_records);
-      back = same_dataset v h.dims gatts drafts (map trimmed_var h.vars) d.arrays n count vars (arrays_back v h n o.width h.vars d.arrays backs) ∙
-          ap (λ (r : NumRecs). record { header = record { version = v; numrecs = r; dims = h.dims; gatts = gatts; vars = map trimmed_var h.vars }; arrays = d.arrays }) (sym known);
+      back = search (rules, arrays_back);
     }) section is
 
 back_of : (d : Dataset) (o : Options) (text : List ℕ) (e : Ending) → IsSayable d → IsFull o → IsText d o text e → e ≡ whole → meaning text d.header.version ≡ Ok (trimmed d)
-back_of d o text e s full (unknown index known) h = cc
-back_of d o text e s full (shown n section knows numrecs is) h =
-    let same : s.good.records ≡ n = ap number (sym (ap (λ (k : Header). k.numrecs) s.good.is_bare) ∙ numrecs) in
-    subst (λ k. (x : DataText) → x ≡ shown_data_text d.header o (values_in_dataset d) k (selection_of d.header o) → meaning (dump_text d.header o k x) d.header.version ≡ Ok (trimmed d)) same (λ x y. ready d o s full x s.good y) section is
+back_of d o text e h h2 h3 h4 = grind (arith, unknown, number, ready)
 
 pub text_reads_back : TextReadsBack
 text_reads_back d o text s full is = back_of d o text whole s full is refl

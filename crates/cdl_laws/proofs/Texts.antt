@@ -1,8 +1,8 @@
 -- Texts that are put together are read apart again, token by token.
-use Rattle.std.proofs.Common.{◌≡◌, ℕ, suc, Bool, true, false, List, [], ◌∷◌, ◌++◌, length, get_or, drop, sym, ◌∙◌, ap, refl, arith, append_assoc, ◌&&◌, ◌||◌, ◌==◌, not, Option, Some, is_none}
+use Rattle.std.proofs.Common.{◌≡◌, ℕ, suc, Bool, true, false, List, [], ◌∷◌, ◌++◌, length, drop, ap, refl, arith, append_assoc, ◌&&◌, ◌||◌, ◌==◌, not, Option, Some, is_none, rules}
 use Rattle.cdl_laws.proofs.Prelude.{prefix_len, list_all, false≢true, drop-append_seam, take-append_seam, escaped_name, is_reserved, IsName, has_name_bytes, ends_with_space, is_utf8, is_digit, is_escape, goes_on_word, goes_on_number, may_begin_word, word_len, scan, begins_a_word, token, Lexeme, name_of, lexemes_at, with_lexeme, TokenKind, and_left, and_right, is_off, word_at_start}
 use Rattle.cdl_tokens.specs.declared.token.TokenKind.TheVariants as kinds
-use Rattle.cdl_laws.proofs.NameTexts.{rest_of, marked_plain, no_escape, Begins, marked, bare, begins, name_len, name_begins, name_value, name_free}
+use Rattle.cdl_laws.proofs.NameTexts.{rest_of, marked_plain, no_escape, Begins, marked, bare, begins, name_len, name_value, name_free}
 
 -- ---- one token, whatever follows
 
@@ -39,24 +39,17 @@ Reads bytes ls = (rest : List ℕ) → stops rest ≡ true → lexemes_at false 
 abbrev pub Stops : List ℕ → Type 0
 Stops bytes = (rest : List ℕ) → stops rest ≡ true → stops (bytes ++ rest) ≡ true
 
-pub closed_nothing : Closed [] []
-closed_nothing rest = refl
-
 pub closed_both : (a b : List ℕ) (la lb : List Lexeme) → Closed a la → Closed b lb → Closed (a ++ b) (la ++ lb)
-closed_both a b la lb p q rest =
-    ap (lexemes_at false 0) (append_assoc a b rest) ∙ p (b ++ rest) ∙ ap (λ ls. la ++ ls) (q rest) ∙ sym (append_assoc la lb (lexemes_at false 0 rest))
+closed_both a b la lb p q rest = search (rules, append_assoc)
 
 pub then_reads : (a b : List ℕ) (la lb : List Lexeme) → Closed a la → Reads b lb → Reads (a ++ b) (la ++ lb)
-then_reads a b la lb p q rest h =
-    ap (lexemes_at false 0) (append_assoc a b rest) ∙ p (b ++ rest) ∙ ap (λ ls. la ++ ls) (q rest h) ∙ sym (append_assoc la lb (lexemes_at false 0 rest))
+then_reads a b la lb p q rest h = search (rules, append_assoc)
 
 pub closed_by : (a b : List ℕ) (la lb : List Lexeme) → Reads a la → ((rest : List ℕ) → stops (b ++ rest) ≡ true) → Closed b lb → Closed (a ++ b) (la ++ lb)
-closed_by a b la lb p s q rest =
-    ap (lexemes_at false 0) (append_assoc a b rest) ∙ p (b ++ rest) (s rest) ∙ ap (λ ls. la ++ ls) (q rest) ∙ sym (append_assoc la lb (lexemes_at false 0 rest))
+closed_by a b la lb p s q rest = search (rules, append_assoc)
 
 pub reads_both : (a b : List ℕ) (la lb : List Lexeme) → Reads a la → Stops b → Reads b lb → Reads (a ++ b) (la ++ lb)
-reads_both a b la lb p s q rest h =
-    ap (lexemes_at false 0) (append_assoc a b rest) ∙ p (b ++ rest) (s rest h) ∙ ap (λ ls. la ++ ls) (q rest h) ∙ sym (append_assoc la lb (lexemes_at false 0 rest))
+reads_both a b la lb p s q rest h = search (rules, append_assoc)
 
 -- ---- marks
 
@@ -65,22 +58,19 @@ mark b = record { kind = kinds.Mark; bytes = b ∷ [] }
 
 -- ---- what stops a word or a number
 
-bare_stop : (b : ℕ) → is_stop b ≡ true → goes_on_word b ≡ false
-bare_stop b h = is_off (goes_on_word b) (and_left (not (goes_on_word b)) (not (b == 0x5c)) h)
-
 no_backslash : (b : ℕ) → is_stop b ≡ true → (b == 0x5c) ≡ false
 no_backslash b h = is_off (b == 0x5c) (and_right (not (goes_on_word b)) (not (b == 0x5c)) h)
 
 pub stop_word : (rest : List ℕ) → stops rest ≡ true → word_len rest ≡ 0
 unfolding word_len
-stop_word rest h = grind (arith, word_at_start, no_backslash, bare_stop)
+stop_word rest h = grind (arith, word_at_start, no_backslash, is_off, and_left)
 
 -- by the tests: digit, upper, lower, `_`, point, `@ + -`, beyond
 no_number : (d u l s p a c e x : Bool) → (((d || u) || l) || s || (p || a || c || e) || x) ≡ false → ((u || l) || d || s || p) ≡ false
 no_number d u l s p a c e x h = grind arith
 
 pub stop_number : (rest : List ℕ) → stops rest ≡ true → prefix_len goes_on_number rest ≡ 0
-stop_number rest h = grind (arith, no_number, bare_stop)
+stop_number rest h = grind (arith, no_number, is_off, and_left)
 
 -- ---- names
 
@@ -90,8 +80,7 @@ word bytes = record { kind = kinds.Word; bytes = bytes }
 pub word_reads : (b : ℕ) (w : List ℕ) → ((rest : List ℕ) → begins_a_word ((b ∷ w) ++ rest) ≡ true) → ((rest : List ℕ) → stops rest ≡ true → word_len ((b ∷ w) ++ rest) ≡ length (b ∷ w)) →
     Reads (b ∷ w) (word (b ∷ w) ∷ [])
 unfolding scan
-word_reads b w some len rest h =
-    prefix_again false (Some kinds.Word) b w rest (rw (some rest) (ap (token kinds.Word) (len rest h)))
+word_reads b w some len rest h = grind (arith, prefix_again false (Some kinds.Word) b w rest (rw (some rest) (ap (token kinds.Word) (len rest h))))
 
 pub some_name : (name : List ℕ) → IsName name → has_name_bytes name ≡ true
 some_name name h = and_left (has_name_bytes name) (not (ends_with_space name)) (and_left (has_name_bytes name && not (ends_with_space name)) (is_utf8 name) h)
@@ -109,7 +98,7 @@ begun_word b bs (bare one free is) some len = rw (is) (word_reads b (rest_of bs)
 
 pub name_word : (name : List ℕ) → IsName name → IsWordOf name
 unfolding name_of
-name_word name h = grind (arith, false≢true, some_name, and_left, and_right, begins, begun_word, name_begins, name_len, stop_word, name_free, name_value)
+name_word name h = grind (arith, false≢true, some_name, and_left, and_right, begins, begun_word, name_len, stop_word, name_free, name_value)
 
 -- ---- numbers
 
@@ -131,7 +120,7 @@ digit_no_escape b c h = no_escape b c (marked_plain b (rw (h) refl))
 pub digits_read : (b : ℕ) (w : List ℕ) → is_digit b ≡ true → list_all goes_on_number w ≡ true → Reads (b ∷ w) (number (b ∷ w) ∷ [])
 unfolding scan
 digits_read b w h all rest stop =
-    grind (arith, prefix_again false (Some kinds.Number) b w rest, digit_no_word b h, digit_no_escape b (get_or (w ++ rest) 0 0) h, all_on w rest all (stop_number rest stop), stop_number rest stop)
+    grind (arith, prefix_again false (Some kinds.Number) b w rest, all_on w rest all (stop_number rest stop), stop_number rest stop)
 
 -- the same after a minus
 pub minus_reads : (b : ℕ) (w : List ℕ) → is_digit b ≡ true → list_all goes_on_number (b ∷ w) ≡ true → Reads (45 ∷ b ∷ w) (number (45 ∷ b ∷ w) ∷ [])

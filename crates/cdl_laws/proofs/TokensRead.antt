@@ -1,12 +1,12 @@
 -- Names, strings and numbers are read back, each as one token.
-use Rattle.std.proofs.Common.{◌≡◌, ℕ, ◌+◌, ◌^◌, ◌<◌, Bool, true, false, List, [], ◌∷◌, ◌++◌, length, get_or, take, drop, sym, ◌∙◌, ap, refl, subst, arith, append_assoc, length-append, append-nil, ℤ, pos, unsigned_abs, decimal, ◌||◌, ◌==◌, nat_eq, codes, is_some, rules}
-use Rattle.cdl_laws.proofs.Prelude.{signed_decimal, prefix_len, list_all, starts_with, flat_map, false≢true, eqb-true, decimal_nonempty, take-append-drop, get_or-drop, list_all-append, bytes_eq-Decides, take-append_seam, escaped_text, escaped_in_string, is_reserved, IsName, within, is_digit, is_blank, goes_on_word, goes_on_number, inner, unescape, word_len, len_until, scan, token, begins_opening, begins_a_word, begins_number, Word, Text, stands_for, AreToken, BlanksAndMarksStop, StopsWord, NameReadsBack, NamesReadBack, quoted, StringsReadBack, StopsNumber, ConstantsReadBack, ValuesReadBack, and_left, and_right, and_both, word_at_start, and_false}
+use Rattle.std.proofs.Common.{◌≡◌, ℕ, ◌+◌, ◌<◌, Bool, true, false, List, [], ◌∷◌, ◌++◌, length, get_or, take, drop, sym, ◌∙◌, ap, refl, subst, arith, append_assoc, length-append, append-nil, pos, decimal, ◌||◌, ◌==◌, codes, is_some, rules}
+use Rattle.cdl_laws.proofs.Prelude.{signed_decimal, prefix_len, list_all, false≢true, eqb-true, decimal_nonempty, take-append-drop, get_or-drop, list_all-append, take-append_seam, escaped_text, is_reserved, IsName, within, is_digit, is_blank, goes_on_word, goes_on_number, unescape, word_len, len_until, scan, token, begins_opening, begins_a_word, begins_number, Word, Text, stands_for, AreToken, BlanksAndMarksStop, StopsWord, NameReadsBack, NamesReadBack, quoted, StringsReadBack, StopsNumber, ConstantsReadBack, ValuesReadBack, and_left, and_right, and_both, word_at_start, and_false}
 use Rattle.cdl_tokens.specs.Bytes.{is_mark_byte}
 use Rattle.cdl_tokens.specs.declared.token.TokenKind.TheVariants.{Number}
 use Rattle.cdl_laws.proofs.Attributes.{small_is}
 use Rattle.cdl_laws.proofs.Heads.{no_section}
-use Rattle.cdl_laws.proofs.NameTexts.{begins, name_len, name_begins, name_value, name_free}
-use Rattle.cdl_laws.proofs.Numerals.{decimal_digits, goes_on, on_suffix, numeral_again, value_again}
+use Rattle.cdl_laws.proofs.NameTexts.{begins, name_len, name_value, name_free}
+use Rattle.cdl_laws.proofs.Numerals.{decimal_digits, goes_on, numeral_again, value_again}
 use Rattle.cdl_laws.proofs.Strings.{is_string, until_all, unescape_all, text_len, between_quotes}
 use Rattle.cdl_laws.proofs.Texts.{all_on, digit_no_word, digit_no_escape, name_word, some_name}
 
@@ -21,17 +21,12 @@ prefix_number : (fresh : Bool) (bs : List ℕ) → begins_opening bs ≡ false �
 unfolding scan
 prefix_number fresh bs h k l = rw (h) (rw (and_false fresh) (rw (k) (rw (l) refl)))
 
--- an opening begins with six letters
-opening_word : (bs : List ℕ) → begins_opening bs ≡ true → codes "netcdf" ≡ take 6 bs
-opening_word bs h =
-    (bytes_eq-Decides (codes "netcdf") (take 6 bs)).0 (and_left (starts_with nat_eq bs (codes "netcdf")) (is_blank (get_or bs 6 0) || get_or bs 6 0 == 0x7b) h)
-
 first_taken : (bs : List ℕ) → get_or (take 6 bs) 0 0 ≡ get_or bs 0 0
 first_taken bs = grind arith
 
 -- bytes that don't begin with an `n` don't begin an opening
 other_begins : (bs : List ℕ) → (get_or bs 0 0 == 110) ≡ false → begins_opening bs ≡ false
-other_begins bs h = grind (arith, false≢true, opening_word, first_taken)
+other_begins bs h = grind (arith, false≢true, first_taken)
 
 -- ---- what stops words and numbers
 
@@ -61,7 +56,7 @@ opens_stop : (b : ℕ) → (is_blank b || b == 0x7b) ≡ true → IsStop b
 opens_stop b h = one_of (is_blank b) (b == 0x7b) (blank_stop b) (literal b 0x7b (record { word = refl; slash = refl; number = refl })) h
 
 pub blanks_and_marks_stop : BlanksAndMarksStop
-blanks_and_marks_stop b rest h = grind (arith, one_of (is_blank b) (is_mark_byte b) (blank_stop b) (mark_stop b) h, blank_stop b, mark_stop b)
+blanks_and_marks_stop b rest h = grind (arith, one_of (is_blank b) (is_mark_byte b) (blank_stop b) (mark_stop b) h)
 
 -- ---- names
 
@@ -79,7 +74,7 @@ six_letters bs = ap (λ n. 1 + (1 + (1 + (1 + (1 + n))))) (word_at_start 102 bs)
 
 -- the word that an opening begins with is `netcdf`
 opening_len : (bs : List ℕ) → begins_opening bs ≡ true → word_len bs ≡ 6
-opening_len bs h = grind (arith, opening_word, get_or-drop, ends_word, and_right, codes, take-append-drop, six_letters)
+opening_len bs h = grind (arith, get_or-drop, ends_word, and_right, codes, take-append-drop, six_letters)
 
 netcdf_reserved : is_reserved (codes "netcdf") ≡ true
 unfolding is_reserved
@@ -88,11 +83,11 @@ netcdf_reserved = refl
 -- so no other word begins one
 free_begins : (w rest : List ℕ) → is_reserved w ≡ false → word_len (w ++ rest) ≡ length w → begins_opening (w ++ rest) ≡ false
 free_begins w rest free len =
-    grind (arith, opening_len (w ++ rest), opening_word (w ++ rest), take-append_seam w rest, codes, false≢true, netcdf_reserved)
+    grind (arith, opening_len (w ++ rest), take-append_seam w rest, codes, false≢true, netcdf_reserved)
 
 name_back : (b : ℕ) (bs : List ℕ) → IsName (b ∷ bs) → NameReadsBack (b ∷ bs)
 name_back b bs h =
-    grind (arith, and_left, some_name, and_right, begins, name_free, name_len, stop_word, prefix_word, free_begins, name_begins, no_section, name_value, name_word)
+    grind (arith, and_left, some_name, and_right, begins, name_free, name_len, stop_word, prefix_word, free_begins, no_section, name_value, name_word)
 
 pub names_read_back : NamesReadBack
 names_read_back [] h = absurd (false≢true (some_name [] h))
@@ -108,13 +103,9 @@ string_token : (bytes rest : List ℕ) → AreToken Text (quoted bytes) rest
 unfolding escaped_text
 string_token bytes rest fresh = grind (arith, append_assoc, quote_prefix, until_all, is_string, length-append)
 
-inner_is : (bytes : List ℕ) → inner (quoted bytes) ≡ flat_map escaped_in_string bytes
-unfolding escaped_text
-inner_is bytes = between_quotes (flat_map escaped_in_string bytes)
-
 pub strings_read_back : StringsReadBack
 unfolding escaped_text
-strings_read_back bytes = grind (arith, string_token, inner_is, unescape_all, stands_for)
+strings_read_back bytes = grind (arith, string_token, unescape_all, stands_for, between_quotes)
 
 -- ---- numbers
 
@@ -122,30 +113,21 @@ stop_number : (rest : List ℕ) → StopsNumber rest → prefix_len goes_on_numb
 stop_number [] h = refl
 stop_number (b ∷ rest) h = rw (h) refl
 
-digit_opens_none : (b : ℕ) → is_digit b ≡ true → (b == 110) ≡ false
-digit_opens_none b h = grind (arith, h)
-
 digits_token : (b : ℕ) (w rest : List ℕ) → is_digit b ≡ true → list_all goes_on_number w ≡ true → StopsNumber rest → AreToken Number (b ∷ w) rest
 digits_token b w rest h all stop fresh =
-    search (rules, prefix_number, other_begins, digit_opens_none, digit_no_word, digit_no_escape, all_on, stop_number)
-
-minus_token : (b : ℕ) (w rest : List ℕ) → is_digit b ≡ true → list_all goes_on_number (b ∷ w) ≡ true → StopsNumber rest → AreToken Number (45 ∷ b ∷ w) rest
-minus_token b w rest h all stop fresh = grind (arith, prefix_number, other_begins, all_on, stop_number)
+    search (rules, prefix_number, other_begins, digit_no_word, digit_no_escape, all_on, stop_number)
 
 unsigned_token : (ds suf rest : List ℕ) → list_all is_digit ds ≡ true → 0 < length ds → list_all goes_on_number suf ≡ true → StopsNumber rest → AreToken Number (ds ++ suf) rest
-unsigned_token [] suf rest h some k stop = grind (arith, digits_token, and_left, list_all-append, and_both, goes_on, and_right)
+unsigned_token [] suf rest h some k stop = grind (arith, and_left, list_all-append, and_both, goes_on, and_right)
 unsigned_token _ suf rest h some k stop = grind (arith, digits_token, and_left, list_all-append, and_both, goes_on, and_right)
 
 signed_token : (ds suf rest : List ℕ) → list_all is_digit ds ≡ true → 0 < length ds → list_all goes_on_number suf ≡ true → StopsNumber rest → AreToken Number (45 ∷ (ds ++ suf)) rest
-signed_token [] suf rest h some k stop = grind (arith, minus_token, and_left, list_all-append, and_both, goes_on)
-signed_token _ suf rest h some k stop = grind (arith, minus_token, and_left, list_all-append, and_both, goes_on)
-
-number_token : (n : ℤ) (suf rest : List ℕ) → unsigned_abs n < 2 ^ 64 → list_all goes_on_number suf ≡ true → StopsNumber rest → AreToken Number (signed_decimal n ++ suf) rest
-number_token n suf rest h h2 h3 = grind (arith, pos, unsigned_token, decimal, decimal_digits, decimal_nonempty, signed_token)
+signed_token [] suf rest h some k stop = grind (arith, and_left, list_all-append, and_both, goes_on)
+signed_token _ suf rest h some k stop = grind (arith, and_left, list_all-append, and_both, goes_on, prefix_number, other_begins, all_on, stop_number)
 
 pub constants_read_back : ConstantsReadBack
-constants_read_back v ty n other known range = grind (arith, number_token, small_is, on_suffix, numeral_again)
+constants_read_back v ty n other known range = grind (arith, small_is, numeral_again, pos, unsigned_token, decimal, decimal_digits, decimal_nonempty, signed_token)
 
 pub values_read_back : ValuesReadBack
 values_read_back v ty n other known range =
-    grind (arith, append-nil (signed_decimal n), number_token n [], small_is ty n range, value_again v n (small_is ty n range))
+    grind (arith, append-nil (signed_decimal n), small_is ty n range, value_again v n (small_is ty n range), pos, unsigned_token, decimal, decimal_digits, decimal_nonempty, signed_token)

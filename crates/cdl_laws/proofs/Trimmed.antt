@@ -1,6 +1,6 @@
 -- A dataset without the NULs at the end of its attributes.
-use Rattle.std.proofs.Common.{◌≡◌, ℕ, ◌+◌, ◌-◌, ◌*◌, ◌≤◌, ◌<◌, Bool, true, false, List, [], ◌∷◌, length, map, sym, ◌∙◌, ap, refl, subst, arith, zero, suc, take, get_or, if◌then◌else◌, ◌==◌, All, Ok}
-use Rattle.cdl_laws.proofs.Prelude.{take-length, length-take, length-map, suffix_len-take_yes, suffix_len-take_no, suffix_len, AreBytes, Dataset, Att, Dim, Header, Known, Var, NcType, Char, Version, fill_value, IsGood, IsSound, IsSoundAtt, IsSoundVar, AreArrays, bare, bare_var, without_trailing_nuls, IsName, record_vars, record_limit, size_of, is_char, count_limit, TrimsOnce, TrimmedIsSayable, SecondTripIsSame, AreDistinct, AreSayableAtts, IsSayableVar, HasSomeNumber, trimmed, trimmed_att, trimmed_var, trimmed_header}
+use Rattle.std.proofs.Common.{◌≡◌, ℕ, ◌+◌, ◌-◌, ◌*◌, ◌≤◌, ◌<◌, Bool, true, false, List, [], ◌∷◌, length, map, sym, ◌∙◌, ap, refl, subst, arith, zero, suc, take, get_or, if◌then◌else◌, ◌==◌, All, rules}
+use Rattle.cdl_laws.proofs.Prelude.{take-length, length-take, length-map, suffix_len-take_yes, suffix_len-take_no, suffix_len, AreBytes, Dataset, Att, Dim, Header, Known, Var, NcType, Version, fill_value, IsGood, IsSound, IsSoundAtt, IsSoundVar, AreArrays, bare, bare_var, without_trailing_nuls, IsName, record_vars, size_of, is_char, count_limit, TrimsOnce, TrimmedIsSayable, SecondTripIsSame, AreDistinct, AreSayableAtts, IsSayableVar, HasSomeNumber, trimmed, trimmed_att, trimmed_var, trimmed_header}
 use Rattle.cdl_laws.proofs.Attributes.{take_bytes}
 use Rattle.cdl_laws.proofs.Limits.{same_record, record_trimmed}
 use Rattle.cdl_laws.proofs.Lists.{each_of, each_map}
@@ -30,23 +30,13 @@ stripped xs (suc m) h =
     ] refl
 
 pub none_left : (xs : List ℕ) → suffix_len nul (without_trailing_nuls xs) ≡ 0
-none_left xs =
-    ap (λ (ys : List ℕ). suffix_len nul (take (length xs - suffix_len nul ys) xs)) (sym (take-length xs)) ∙ stripped xs (length xs) (omega arith)
+none_left xs = grind (arith, take-length xs, stripped xs)
 
 bytes_once : (xs : List ℕ) → without_trailing_nuls (without_trailing_nuls xs) ≡ without_trailing_nuls xs
-bytes_once xs =
-    let ys = without_trailing_nuls xs in
-    let n = none_left xs in
-    let e : length ys - suffix_len nul ys ≡ length ys = omega (arith, n) in
-    ap (λ k. take k ys) e ∙ take-length ys
+bytes_once xs = search (rules, none_left, take-length)
 
 att_once : (att : Att) → trimmed_att (trimmed_att att) ≡ trimmed_att att
-att_once att =
-    ap (λ (vals : List ℕ). record att { vals = vals })
-    (elim (is_char att.ty) as (λ b. (if b then without_trailing_nuls (if b then without_trailing_nuls att.vals else att.vals) else (if b then without_trailing_nuls att.vals else att.vals)) ≡ (if b then without_trailing_nuls att.vals else att.vals)) [
-      | true ↦ bytes_once att.vals
-      | false ↦ refl
-    ])
+att_once att = grind (arith, bytes_once att.vals)
 
 map_once : {X : Type 0} (f : X → X) → ((x : X) → f (f x) ≡ f x) → (xs : List X) → map f (map f xs) ≡ map f xs
 map_once f e [] = refl
@@ -56,9 +46,7 @@ var_once : (var : Var) → trimmed_var (trimmed_var var) ≡ trimmed_var var
 var_once var = ap (λ (atts : List Att). record var { atts = atts }) (map_once trimmed_att att_once var.atts)
 
 pub trims_once : TrimsOnce
-trims_once d =
-    ap (λ (atts : List Att). record d { header = record d.header { gatts = atts; vars = map trimmed_var (map trimmed_var d.header.vars) } }) (map_once trimmed_att att_once d.header.gatts) ∙
-    ap (λ (vars : List Var). record d { header = record d.header { gatts = map trimmed_att d.header.gatts; vars = vars } }) (map_once trimmed_var var_once d.header.vars)
+trims_once d = search (rules, bytes_once, map_once, att_once)
 
 -- ---- still sayable
 
@@ -66,8 +54,7 @@ shorter : (xs : List ℕ) → length (without_trailing_nuls xs) ≤ length xs
 shorter xs = let a = length-take (length xs - suffix_len nul xs) xs in omega (arith, a)
 
 char_size : (ty : NcType) → is_char ty ≡ true → size_of ty ≡ 1
-char_size Char h = refl
-char_size _ h = cc
+char_size ty h = grind arith
 
 -- as many values as before, or fewer
 whole_still : (limit size : ℕ) (char : Bool) (vals : List ℕ) (n : ℕ) → (char ≡ true → size ≡ 1) → n < limit → length vals ≡ n * size →
@@ -89,35 +76,13 @@ over_map : {X : Type 0} (P : X → Type 0) (f : X → X) (xs : List X) → ((x :
 over_map P f xs g all = all_of P (map f xs) (each_of_map P f xs (each_map P (λ x. P (f x)) xs g (each_of P xs all)))
 
 att_bytes : (att : Att) → AreBytes att.vals → AreBytes (trimmed_att att).vals
-att_bytes att h =
-    elim (is_char att.ty) as (λ b. AreBytes (if b then without_trailing_nuls att.vals else att.vals)) [
-      | true ↦ take_bytes (length att.vals - suffix_len nul att.vals) att.vals h
-      | false ↦ h
-    ]
+att_bytes att h = grind (arith, take_bytes (length att.vals - suffix_len nul att.vals) att.vals h)
 
 var_sound : (v : Version) (dims : List Dim) (var : Var) → IsSoundVar v dims var → IsSoundVar v dims (trimmed_var var)
-var_sound v dims var s = record {
-  name_len = s.name_len;
-  rank = s.rank;
-  shape = s.shape;
-  ty = s.ty;
-  slab = s.slab;
-  att_count = (let a = length-map var.atts trimmed_att in let b = s.att_count in omega (arith, a, b));
-  atts = over_map (IsSoundAtt v) trimmed_att var.atts (att_sound v) s.atts;
-}
+var_sound v dims var s = search (rules, length-map, over_map, att_sound)
 
 sound_still : (h : Header) → IsSound h → IsSound (trimmed_header h)
-sound_still h s = record {
-  numrecs = s.numrecs;
-  dim_count = s.dim_count;
-  dims = s.dims;
-  one_record_dim = s.one_record_dim;
-  gatt_count = (let a = length-map h.gatts trimmed_att in let b = s.gatt_count in omega (arith, a, b));
-  gatts = over_map (IsSoundAtt h.version) trimmed_att h.gatts (att_sound h.version) s.gatts;
-  var_count = (let a = length-map h.vars trimmed_var in let b = s.var_count in omega (arith, a, b));
-  vars = over_map (IsSoundVar h.version h.dims) trimmed_var h.vars (var_sound h.version h.dims) s.vars;
-  small_records = subst (λ n. n ≤ record_limit) (sym (same_record h.dims h.vars)) s.small_records;
-}
+sound_still h s = search (rules, length-map, over_map, att_sound, var_sound, same_record)
 
 bare_trimmed : (vars : List Var) → map trimmed_var (map bare_var vars) ≡ map bare_var (map trimmed_var vars)
 bare_trimmed [] = refl
@@ -156,10 +121,7 @@ some_still : (att : Att) → HasSomeNumber att → HasSomeNumber (trimmed_att at
 some_still att h e = subst (λ b. 0 < length (if b then without_trailing_nuls att.vals else att.vals)) (sym e) (h e)
 
 atts_still : (atts : List Att) → AreSayableAtts atts → AreSayableAtts (map trimmed_att atts)
-atts_still atts s = record {
-  names = subst AreDistinct (names_same (λ (a : Att). a.name) trimmed_att (λ a. refl) atts) s.names;
-  some = over_map HasSomeNumber trimmed_att atts some_still s.some;
-}
+atts_still atts s = grind (arith, names_same (λ (a : Att). a.name) trimmed_att, over_map HasSomeNumber trimmed_att atts some_still s.some)
 
 var_still : (var : Var) → IsSayableVar var → IsSayableVar (trimmed_var var)
 var_still var s = record { atts = atts_still var.atts s.atts; fill = λ e. ap fill_value (var_once var) }
@@ -179,5 +141,4 @@ trimmed_is_sayable d s = record {
 }
 
 pub second_trip_is_same : SecondTripIsSame
-second_trip_is_same d o p first second s full full_again text text_again =
-    (text_reads_back d o first s full text, text_reads_back (trimmed d) p second (trimmed_is_sayable d s) full_again text_again ∙ ap Ok (trims_once d))
+second_trip_is_same d o p first second s full full_again text text_again = search (rules, text_reads_back, trimmed_is_sayable, map_once, att_once, var_once)

@@ -1,5 +1,5 @@
 -- The declaration of a variable, and what it says.
-use Rattle.std.proofs.Common.{◌≡◌, ℕ, true, List, [], ◌∷◌, ◌++◌, map, ◌∙◌, ap, refl, Some, codes, arith}
+use Rattle.std.proofs.Common.{◌≡◌, ℕ, true, List, [], ◌∷◌, ◌++◌, map, ◌∙◌, ap, refl, Some, codes, arith, rules}
 use Rattle.cdl_laws.proofs.Prelude.{list_all, option_map, option_and_then, list_all-append, concat_parts, NcType, Version, escaped_name, joined, IsName, type_word, Variables, Lexeme, Typed, members, members_in, into_first, each, both, variable, name_alone, before_mark, body, and_both}
 use Rattle.cdl_laws.proofs.Lists.{Each}
 use Rattle.cdl_laws.proofs.Texts.{Closed, Reads, closed_both, closed_by, mark, word, name_word}
@@ -101,8 +101,7 @@ array_is v ty name n ns h all =
     ap (λ o. both (λ m ds. record { name = m; dimensions = ds }) o (option_and_then (λ inner. each name_alone (members inner)) (before_mark 0x29 ls))) (name_word name h).stands ∙
     ap (λ o. both (λ m ds. record { name = m; dimensions = ds }) (Some name) (option_and_then (λ inner. each name_alone (members inner)) o)) (before_end (shape_lexemes n ns)) ∙
     ap (both (λ m ds. record { name = m; dimensions = ds }) (Some name)) names in
-    ap (λ ms. option_map (Typed (word (type_word ty))) (each variable ms)) one ∙
-    ap (λ o. option_map (Typed (word (type_word ty))) (both (λ y ys. y ∷ ys) o (Some []))) said
+    search (rules, word, each, both)
 
 array_says : (v : Version) (ty : NcType) (name n : List ℕ) (ns : List (List ℕ)) → IsName name → AreNames (n ∷ ns) →
     Says v Variables (typed_line (type_word ty) name (shape_of (n ∷ ns))) (Typed (word (type_word ty)) (record { name = name; dimensions = n ∷ ns } ∷ []))

@@ -1,6 +1,6 @@
 -- What each statement of a text says, and how many bytes and tokens all of them have.
-use Rattle.std.proofs.Common.{◌≡◌, ℕ, ◌+◌, ◌-◌, ◌*◌, ◌≤◌, ◌<◌, Bool, true, false, List, [], ◌∷◌, length, map, ◌∙◌, ap, refl, arith, zero, suc, Option, None, Some, drop, ◌&&◌, nat_lt, is_none, rules}
-use Rattle.cdl_laws.proofs.Prelude.{length-take, length-drop, option_map, option_and_then, Version, scan, Lexeme, lexeme, is_mark, is_opening_kind, is_end_kind, name_of, first_role, role, pieces_after, with_first, step, pieces_by_steps, Value, Statement, Opening, Mark, Declared, Typed, Attribute, Listed, Brace, End, each, either, constants, assigned, global, typed, attribute, body, section_number, mark_after, section_mark, alone, shape, before_mark, tokens, tokens_at, with_token, statements, Section, Unopened, Globals, Dimensions, Variables, Values, Closed, Ended, CutState, Role, Token, TokenKind}
+use Rattle.std.proofs.Common.{◌≡◌, ℕ, ◌+◌, ◌-◌, ◌*◌, ◌≤◌, ◌<◌, Bool, true, false, List, [], ◌∷◌, length, map, ◌∙◌, ap, refl, arith, zero, suc, Option, None, drop, ◌&&◌, is_none, rules}
+use Rattle.cdl_laws.proofs.Prelude.{length-take, length-drop, option_map, option_and_then, Version, scan, Lexeme, lexeme, is_mark, is_opening_kind, is_end_kind, name_of, first_role, role, pieces_after, with_first, step, pieces_by_steps, Value, Statement, Opening, Mark, Declared, Typed, Attribute, Listed, Brace, End, each, either, constants, assigned, global, typed, attribute, body, section_number, section_mark, alone, shape, before_mark, tokens, tokens_at, statements, Section, Unopened, Globals, Dimensions, Variables, Values, Closed, Ended, CutState, Role, Token}
 use Rattle.cdl_statements.specs.Shapes as shapes
 use Rattle.cdl_statements.specs.Shapes.{dimensions}
 use Rattle.cdl_statements.specs.declared.piece.CutState.TheVariants as places
@@ -46,9 +46,7 @@ global_says v section (c ∷ ls) h =
 attribute_says : (v : Version) (section : Section) (ls : List Lexeme) → Each HasBytes ls → SomeIs (IsSaid v section (mass ls)) (attribute v ls)
 attribute_says v section (n ∷ c ∷ ls) h =
     let P : Statement → Type 0 = IsSaid v section (mass (n ∷ c ∷ ls)) in
-    some_given P (is_mark 0x3a c) (option_and_then (λ name. assigned v false (Attribute (Some name)) ls) (name_of n)) (λ q.
-    some_then (λ (name : List ℕ). length name ≤ length n.bytes) P (λ name. assigned v false (Attribute (Some name)) ls) (name_of n) (name_short n)
-    (λ var short. assigned_says P v false (Attribute (Some var)) ls h.1.1 (λ name cs k. let a = k.0 in let b = k.1 in (omega (arith, a), omega (arith, b), k.2))))
+    grind (arith, some_given P, some_then (λ (name : List ℕ). length name ≤ length n.bytes) P, name_short n, assigned_says P v false)
 attribute_says v section _ h = tt
 
 typed_says : (v : Version) (ls : List Lexeme) → SomeIs (IsSaid v Variables (mass ls)) (typed ls)
@@ -67,12 +65,9 @@ body_says v _ ls h = tt
 said_more : (v : Version) (section : Section) (m n : ℕ) (s : Statement) → m ≤ n → IsSaid v section m s → IsSaid v section n s
 said_more v section m n s h h2 = grind arith
 
-mark_says : (v : Version) (n : ℕ) (before s : Section) → SomeIs (IsSaid v before n) (mark_after before s)
-mark_says v n before s = some_given (IsSaid v before n) (nat_lt (section_number before) (section_number s)) (Some (Mark s)) (λ e. grind (arith, e))
-
 marks_say : (v : Version) (n : ℕ) (before : Section) (ls : List Lexeme) → SomeIs (IsSaid v before n) (section_mark before ls)
-marks_say v n before (l ∷ c ∷ []) = grind (arith, some_given, some_then, mark_says)
-marks_say v n before _ = grind (arith, some_given, some_then, mark_says)
+marks_say v n before (l ∷ c ∷ []) = grind (arith, some_given, some_then)
+marks_say v n before _ = grind (arith, some_given, some_then)
 
 alone_says : {A : Type 0} (P : A → Type 0) (test : Lexeme → Bool) (a : A) (ls : List Lexeme) → P a → SomeIs P (alone test a ls)
 alone_says P test a ls h = grind (arith, some_given)
@@ -102,18 +97,13 @@ shape_says v Values ls h = inside v Values ls h
 abbrev pub token_mass : List ℕ → List Token → ℕ
 token_mass text ts = total (λ t. weight (lexeme text t)) ts
 
-with_mass : (text : List ℕ) (at n m : ℕ) (k : Option TokenKind) (ts : List Token) → length text ≤ at + suc m → token_mass text ts ≤ 1 + 2 * (m - (n - 1)) → token_mass text (with_token text at k n ts) ≤ 1 + 2 * suc m
-with_mass text at n m k ts h h2 = grind (arith, length-take, length-drop)
-
 mass_at : (text : List ℕ) (fresh : Bool) (at more : ℕ) (bytes : List ℕ) → length text ≤ at + length bytes → token_mass text (tokens_at text fresh at more bytes) ≤ 1 + 2 * (length bytes - more)
 unfolding tokens_at
 mass_at text fresh at more [] h = let a = length-take (at + 0 - at) (drop at text) in omega (arith, a)
 mass_at text fresh at (suc more) (b ∷ bytes) h = let ih = mass_at text fresh (at + 1) more bytes (omega (arith, h)) in omega (arith, ih)
 mass_at text fresh at zero (b ∷ bytes) h =
     let f = scan fresh (b ∷ bytes) in
-    let ih = mass_at text (fresh && is_none f.kind) (at + 1) (f.len - 1) bytes (omega (arith, h)) in
-    let r = with_mass text at f.len (length bytes) f.kind (tokens_at text (fresh && is_none f.kind) (at + 1) (f.len - 1) bytes) (omega (arith, h)) ih in
-    omega (arith, r)
+    search (rules, is_none, mass_at text (fresh && is_none f.kind) (at + 1) (f.len - 1) bytes, length-take, length-drop)
 
 pieces_total : {X : Type 0} (w : X → ℕ) (ends : Bool) (t : X) (ps : List (List X)) → total (total w) (with_first ends t ps) ≡ w t + total (total w) ps
 pieces_total w ends t ps = grind arith
@@ -129,8 +119,7 @@ pub all_mass : (text : List ℕ) → total (token_mass text) (statements text) �
 all_mass text =
     let a =
     ap (total (token_mass text)) (pieces_by_steps (lexeme text) (tokens text)) ∙ all_pieces (λ t. weight (lexeme text t)) (λ t. role (lexeme text t)) places.Begins (tokens text) in
-    let b = mass_at text true 0 0 text (omega arith) in
-    omega (arith, a, b)
+    search (rules, mass_at)
 
 pub mass_is : (text : List ℕ) (p : List Token) → mass (map (lexeme text) p) ≡ token_mass text p
 mass_is text [] = refl

@@ -3,7 +3,7 @@ use Rattle.std.proofs.Common.{◌≡◌, ℕ, ◌+◌, ◌^◌, ◌<◌, ◌≤�
 use Rattle.cdl_laws.proofs.Prelude.{signed_decimal, flat_map, list_all, int_eq, mod-eq_of_lt, zero-mod, false≢true, concat_parts, escaped_name, Int, Version, IsName, Look, is_char, number_text, number_lead, line_break, begins_row, column, number_piece, piece, pieces, variable_opening, variable_closing, variable_prefix, variable_text, CdlKind, Lexeme, is_mark, lexemes_at, scan, Value, Number, Underscore, members, each, both, constant, constants, Capacity, Numbers, add_number, has_number, in_turn, listing_of, and_left, and_right, is_off, word_at_start, lt-ltb}
 use Rattle.cdl_meaning.specs.State.{◌>>=◌}
 use Rattle.cdl_laws.proofs.Lists.{Each}
-use Rattle.cdl_laws.proofs.Texts.{Closed, Reads, Stops, closed_both, then_reads, closed_by, reads_both, closed_nothing, mark, word, number, name_word, word_reads, stop_word}
+use Rattle.cdl_laws.proofs.Texts.{Closed, Reads, Stops, closed_both, then_reads, closed_by, reads_both, mark, word, number, name_word, word_reads, stop_word}
 use Rattle.cdl_laws.proofs.Numerals.{number_reads, value_again}
 
 -- one turn
@@ -26,13 +26,10 @@ is_member l = not (is_mark 0x2c l) && not (is_mark 0x28 l)
 pub members_last : (l : Lexeme) → is_member l ≡ true → members (l ∷ []) ≡ (l ∷ []) ∷ []
 members_last l h = grind (arith, is_off, and_left)
 
-pub members_more : (l : Lexeme) (ls : List Lexeme) → is_member l ≡ true → members (l ∷ comma ∷ ls) ≡ (l ∷ []) ∷ members ls
-members_more l ls h = grind (arith, is_off, and_left, and_right)
-
 pub members_all : (l : Lexeme) (ls : List Lexeme) → list_all is_member (l ∷ ls) ≡ true → members (l ∷ commas ls) ≡ map (λ m. m ∷ []) (l ∷ ls)
 members_all l [] h = members_last l (and_left (is_member l) true h)
 members_all l (m ∷ ls) h =
-    grind (arith, members_more, and_left, and_right, members_all m ls (and_right (is_member l) (list_all is_member (m ∷ ls)) h))
+    grind (arith, and_left, and_right, members_all m ls (and_right (is_member l) (list_all is_member (m ∷ ls)) h))
 
 -- a list of constants
 pub constants_all : (v : Version) (takes_fill : Bool) (l : Lexeme) (ls : List Lexeme) → constants v takes_fill (l ∷ commas ls) ≡ each (constant v takes_fill) (l ∷ ls)
@@ -64,7 +61,7 @@ unfolding lexemes_at scan
 broken rest = refl
 
 either_closed : (b : Bool) → Closed (if b then codes "\n    " else []) []
-either_closed b = grind (arith, broken, closed_nothing)
+either_closed b = grind (arith, broken)
 
 break_closed : (look : Look) (before : List ℕ) (i len : ℕ) → Closed (line_break look before i len) []
 break_closed look before i len = either_closed (not (begins_row look i) && nat_lt look.width (column before + len + 2))
@@ -74,11 +71,8 @@ data Gap (lead : List ℕ) : Type 0 where
   next : lead ≡ codes ", " → Gap lead
   row : lead ≡ codes ",\n  " → Gap lead
 
-no_row : (look : Look) (i : ℕ) → 0 < i → i < look.row → begins_row look i ≡ false
-no_row look i some small = rw (mod-eq_of_lt small) (grind (arith, some))
-
 gap : (look : Look) (i : ℕ) → 0 < i → (look.in_rows ≡ false → i < look.row) → Gap (number_lead look i)
-gap look i some small = grind (arith, codes, false≢true, no_row)
+gap look i some small = grind (arith, codes, false≢true, mod-eq_of_lt)
 
 next_closed : Closed (codes ", ") (comma ∷ [])
 unfolding lexemes_at scan
@@ -90,9 +84,6 @@ row_closed rest = refl
 
 gap_closed : (lead : List ℕ) → Gap lead → Closed lead (comma ∷ [])
 gap_closed lead h = grind (arith, next_closed, row_closed)
-
-gap_stops : (lead more : List ℕ) → Gap lead → Stops (lead ++ more)
-gap_stops lead more h = grind arith
 
 -- ---- the numbers after the first
 
@@ -107,7 +98,7 @@ piece_reads look before i x some small fits =
 
 piece_stops : (look : Look) (before : List ℕ) (i : ℕ) (x : ℤ) (more : List ℕ) → 0 < i → (look.in_rows ≡ false → i < look.row) → Stops (number_piece look before i x ++ more)
 unfolding number_piece
-piece_stops look before i x more some small = grind (arith, append_assoc, gap_stops, gap)
+piece_stops look before i x more some small = grind (arith, append_assoc, gap)
 
 -- the values fit
 abbrev pub AreSmall : List ℤ → Type 0
@@ -127,8 +118,8 @@ unfolding pieces
 pieces_none look before values = refl
 
 more_stop : (look : Look) (before : List ℕ) (values xs : List ℤ) → is_char look.ty ≡ false → 0 < length values → (look.in_rows ≡ false → length values + length xs ≤ look.row) → Stops (pieces look before values xs)
-more_stop look before values [] h some small = grind (arith, pieces_none, pieces_first, piece_stops, pieces, piece)
-more_stop look before values _ h some small = grind (arith, pieces_none, pieces_first, piece_stops, pieces, piece)
+more_stop look before values [] h some small = grind (arith, pieces_none, pieces_first, pieces, piece)
+more_stop look before values _ h some small = grind (arith, pieces_first, piece_stops, pieces, piece)
 
 pub more_read : (look : Look) (before : List ℕ) (values xs : List ℤ) → is_char look.ty ≡ false → 0 < length values → (look.in_rows ≡ false → length values + length xs ≤ look.row) → AreSmall xs →
     Reads (pieces look before values xs) (commas (map (value_lexeme look) xs))
@@ -207,25 +198,20 @@ values_all v look [] fit = refl
 values_all v look (x ∷ xs) fit = grind (arith, both, constant, word, codes, number, value_again, values_all v look xs fit.1)
 
 pub values_said : (v : Version) (look : Look) (x : ℤ) (xs : List ℤ) → AreSmall (x ∷ xs) → constants v true (value_lexeme look x ∷ commas (map (value_lexeme look) xs)) ≡ Some (map (value_said look) (x ∷ xs))
-values_said v look x xs fit =
-    constants_all v true (value_lexeme look x) (map (value_lexeme look) xs) ∙ values_all v look (x ∷ xs) fit
+values_said v look x xs fit = grind (arith, constants_all v true (value_lexeme look x) (map (value_lexeme look) xs), values_all v look (x ∷ xs) fit)
 
 -- ---- what becomes of them
 
 pub room_for : (is_open : Bool) (m n : ℕ) → (is_open ≡ false → m < n) → (is_open || nat_lt m n) ≡ true
 room_for is_open m n h = grind (arith, lt-ltb)
 
-one_added : (look : Look) (capacity : Capacity) (before : List ℤ) (x : ℤ) → capacity.fill ≡ look.fill → (capacity.is_open ≡ false → length before < capacity.count) → has_number capacity.ty x ≡ true →
-    add_number capacity before (value_said look x) ≡ Ok (before ++ x ∷ [])
-one_added look capacity before x same wide fit = grind (arith, room_for, and_right)
-
-all_added : (look : Look) (capacity : Capacity) (before xs : List ℤ) → capacity.fill ≡ look.fill → (capacity.is_open ≡ false → length before + length xs ≤ capacity.count) → Each (λ x. has_number capacity.ty x ≡ true) xs →
+all_added : (look : Look) (capacity : Capacity) (before xs : List ℤ) → capacity.fill ≡ look.fill → (capacity.is_open ≡ false → length before + length xs ≤ capacity.count) → Each (λ x. fits capacity.ty x ≡ true) xs →
     in_turn (add_number capacity) before (map (value_said look) xs) ≡ Ok (before ++ xs)
 all_added look capacity before [] same wide fit = ap Ok (sym (append-nil before))
 all_added look capacity before (x ∷ xs) same wide fit =
-    grind (arith, length-append, turn, one_added, append_assoc, all_added look capacity (before ++ x ∷ []) xs same)
+    grind (arith, length-append, turn, append_assoc, all_added look capacity (before ++ x ∷ []) xs same)
 
-pub numbers_listed : (look : Look) (capacity : Capacity) (xs : List ℤ) → is_char capacity.ty ≡ false → capacity.fill ≡ look.fill → (capacity.is_open ≡ false → length xs ≤ capacity.count) → Each (λ x. has_number capacity.ty x ≡ true) xs →
+pub numbers_listed : (look : Look) (capacity : Capacity) (xs : List ℤ) → is_char capacity.ty ≡ false → capacity.fill ≡ look.fill → (capacity.is_open ≡ false → length xs ≤ capacity.count) → Each (λ x. fits capacity.ty x ≡ true) xs →
     listing_of capacity (map (value_said look) xs) ≡ Ok (Numbers xs)
 unfolding listing_of
 numbers_listed look capacity xs h same wide fit = rw (h) (ap (λ values. values >>= (λ ys. Ok (Numbers ys))) (all_added look capacity [] xs same (λ e. let f = wide e in omega (arith, f)) fit))

@@ -94,8 +94,7 @@ owned_act v dims gatts before name ids done ty a said valid new h = grind (arith
 
 pub owned_taken : (v : Version) (dims : List Dim) (gatts : List Att) (before : List Draft) (name ids : List ℕ) (done more : List Att) (ty : NcType) → IsName name → no_draft name before → Each (Speaks v) more → AreNewAtts done more →
     Takes v (concat_parts (map (att_line (escaped_name name)) more)) (state Variables dims gatts (before ++ bare_draft name ids done ty ∷ [])) (state Variables dims gatts (before ++ bare_draft name ids (done ++ map trimmed_att more) ty ∷ []))
-owned_taken v dims gatts before name ids done [] ty valid new speak fresh =
-    none_taken v (state Variables dims gatts (before ++ bare_draft name ids done ty ∷ [])) (state Variables dims gatts (before ++ bare_draft name ids (done ++ []) ty ∷ [])) (ap (λ atts. state Variables dims gatts (before ++ bare_draft name ids atts ty ∷ [])) (sym (append-nil done)))
+owned_taken v dims gatts before name ids done [] ty valid new speak fresh = grind (arith, append-nil done, none_taken)
 owned_taken v dims gatts before name ids done (a ∷ more) ty valid new speak fresh =
     let now : List Att → State = λ atts. state Variables dims gatts (before ++ bare_draft name ids atts ty ∷ []) in
     lines_taken v (att_line (escaped_name name) a) (map (att_line (escaped_name name)) more) (now done) (now (done ++ trimmed_att a ∷ [])) (now (done ++ map trimmed_att (a ∷ more)))

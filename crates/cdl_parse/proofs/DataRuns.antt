@@ -1,5 +1,5 @@
 -- A run over the data section, statement by statement.
-use Rattle.std.proofs.Common.{◌≡◌, ℕ, false, List, [], length, sym, ◌∙◌, subst, Ok, replicate, rules}
+use Rattle.std.proofs.Common.{◌≡◌, ℕ, false, List, [], length, Ok, replicate, rules}
 use Rattle.cdl_parse.proofs.Prelude.{Var, after, is_done, pieces_left, text_of, version_of, words, Cutter, Values, piece_read, run, State, Draft, unlisted_drafts, AllSuit, names_of, Target, IsInDataSection}
 use Rattle.cdl_parse.proofs.DataStates.{none_listed}
 use Rattle.cdl_parse.proofs.RunSteps.{goes_on}
@@ -18,5 +18,4 @@ module _ (start c : Cutter) (text : text_of c ≡ text_of start) (version : vers
   -- a statement more
   pub values_on : (vars : List Var) (s : State) (ts us : List Target) (arrays others : List (List ℕ)) (rest : Cutter) → pieces_left rest ≡ after c → (so : SoFar vars s start ts arrays c) →
       (ds : List Draft) × (piece_read (version_of c) (record s { drafts = so.0 }) (words c) ≡ Ok (record s { drafts = ds })) × IsInDataSection vars (names_of so.0) us others (record s { drafts = ds }) → SoFar vars s start us others rest
-  values_on vars s ts us arrays others rest on so found =
-      (found.0, subst (λ names. IsInDataSection vars names us others (record s { drafts = found.0 })) (sym so.1.named) found.2, so.2 ∙ goes_on start c text version more (record s { drafts = so.0 }) (record s { drafts = found.0 }) rest found.1 on)
+  values_on vars s ts us arrays others rest on so found = search (rules, goes_on)

@@ -1,12 +1,12 @@
 -- A declaration, token by token.
-use Rattle.std.proofs.Common.{◌≡◌, ℕ, Bool, true, false, List, [], ◌∷◌, ◌++◌, drop, refl, sym, ap, ◌∙◌, subst, Result, Ok, Err, IfOk, ◌&&◌, ◌||◌, not, if◌then◌else◌, arith, rules}
-use Rattle.cdl_parse.proofs.Prelude.{false≢true, is_name, Dim, NcType, Version, Declaration, declaration_said, with_name, completes, is_whole, next, word_value, Lexeme, is_mark, is_mark_kind, Due, AfterVariable, VariableName, CdlKind, BadName, DuplicateName, Draft, add_dimid, add_var, some_or, in_turn, type_of, unless, when, ContinuesRead, FailsRead, Leaves, ReadError, added, continued, declared, is_open_after, next_dimid, read_on, type_first, with_begun, ReadsDimension, draft, is_variable_name, with_new_draft, duplicate_name_or, PartialVariable}
+use Rattle.std.proofs.Common.{◌≡◌, ℕ, Bool, true, false, List, [], ◌∷◌, ◌++◌, drop, refl, sym, ap, ◌∙◌, Result, Ok, IfOk, ◌&&◌, ◌||◌, not, if◌then◌else◌, arith, rules}
+use Rattle.cdl_parse.proofs.Prelude.{false≢true, is_name, Dim, NcType, Version, Declaration, declaration_said, with_name, completes, is_whole, next, word_value, Lexeme, is_mark, is_mark_kind, Due, AfterVariable, VariableName, BadName, Draft, add_dimid, add_var, some_or, in_turn, type_of, unless, ContinuesRead, FailsRead, Leaves, ReadError, added, continued, declared, is_open_after, next_dimid, read_on, with_begun, ReadsDimension, is_variable_name, with_new_draft, duplicate_name_or, PartialVariable}
 use Rattle.std.specs.Prelude.{⊤}
 use Rattle.cdl_statements.specs.code.DueTokens.{is_name as is_name_token}
 use Rattle.cdl_statements.proofs.VariableNames.{name_kind}
 use Rattle.cdl_meaning.specs.State.{◌>>=◌}
 use Rattle.cdl_parse.proofs.AttributeReads.{fails_then}
-use Rattle.cdl_parse.proofs.TakenNames.{fails_after, named}
+use Rattle.cdl_parse.proofs.TakenNames.{named}
 use Rattle.cdl_parse.proofs.StatementWords.{goes_past}
 
 -- ---- one token on
@@ -27,18 +27,12 @@ module _ (dims : List Dim) (ty : NcType) (drafts : List Draft) where
   unfolding add_var
   variable_first name rest = search (rules, named)
 
-  added_first : (l : Lexeme) (ls : List Lexeme) → is_mark_kind l.kind ≡ false →
-      added dims ty drafts (l ∷ ls) ≡ (unless (is_name (word_value l.bytes)) BadName >>= (λ u. continued dims ty drafts (word_value l.bytes) [] (declaration_said false ls)))
-  added_first l ls off = ap (λ (d : Declaration). in_turn (add_var dims ty) drafts d.variables) (said_name false l ls off) ∙ variable_first (word_value l.bytes) (declaration_said false ls)
-
   pub begin_fails : (l : Lexeme) (ls : List Lexeme) (e : ReadError) → is_mark_kind l.kind ≡ false → FailsRead e (unless (is_name (word_value l.bytes)) BadName) → FailsRead e (added dims ty drafts (l ∷ ls))
-  begin_fails l ls e off h =
-      subst (FailsRead e) (sym (added_first l ls off)) (fails_then e (unless (is_name (word_value l.bytes)) BadName) (λ u. continued dims ty drafts (word_value l.bytes) [] (declaration_said false ls)) h)
+  begin_fails l ls e off h = grind (arith, fails_then, said_name, variable_first)
 
   pub begins : (l : Lexeme) (ls : List Lexeme) (name ids : List ℕ) → is_mark_kind l.kind ≡ false → name ≡ word_value l.bytes → is_name (word_value l.bytes) ≡ true → ids ≡ [] →
       added dims ty drafts (l ∷ ls) ≡ continued dims ty drafts name ids (declaration_said false ls)
-  begins l ls name ids off is allowed none =
-      added_first l ls off ∙ named (is_name (word_value l.bytes)) _ allowed ∙ ap (λ n. continued dims ty drafts n [] (declaration_said false ls)) (sym is) ∙ ap (λ all. continued dims ty drafts name all (declaration_said false ls)) (sym none)
+  begins l ls name ids off is allowed none = search (rules, named, said_name, variable_first)
 
   -- ---- a token after a variable's name
 
@@ -46,28 +40,15 @@ module _ (dims : List Dim) (ty : NcType) (drafts : List Draft) where
       continued dims ty drafts name ids (declaration_said parens (l ∷ ls)) ≡ continued dims ty drafts name ids (declaration_said after ls)
   after_mark name ids parens after l ls on is = ap (continued dims ty drafts name ids) (said_mark parens l ls on ∙ ap (λ p. declaration_said p ls) (sym is))
 
-  -- the dimensions that a name more leads to
-  abbrev with_more : List ℕ → Declaration → Result (List ℕ) CdlKind → Result (List Draft) CdlKind
-  with_more name rest r =
-      elim r as (λ z. Result (List ℕ) CdlKind) [ Ok ids ↦ in_turn (add_dimid dims) ids rest.dimensions | Err e ↦ Err e ] >>= (λ all. in_turn (add_var dims ty) (drafts ++ draft name all ty [] ∷ []) rest.variables)
-
   id_first : (ids name : List ℕ) → add_dimid dims ids name ≡ (next_dimid dims ids name >>= (λ k. Ok (ids ++ k ∷ [])))
   unfolding add_dimid
   id_first ids name = search (rules, named, some_or)
 
-  -- the same, where the name is new
-  abbrev checked : List ℕ → Declaration → Result (List ℕ) CdlKind → Result (List Draft) CdlKind
-  checked name rest r = when (is_variable_name name drafts) DuplicateName >>= (λ u. with_more name rest r)
-
-  dimension_first : (name ids word : List ℕ) (rest : Declaration) → continued dims ty drafts name ids (with_name true word rest) ≡ checked name rest (next_dimid dims ids word >>= (λ k. Ok (ids ++ k ∷ [])))
-  dimension_first name ids word rest = ap (checked name rest) (id_first ids word)
-
   pub dimension_ok : (name ids more word : List ℕ) (k : ℕ) (rest : Declaration) → next_dimid dims ids word ≡ Ok k → more ≡ ids ++ k ∷ [] → continued dims ty drafts name ids (with_name true word rest) ≡ continued dims ty drafts name more rest
-  dimension_ok name ids more word k rest is e =
-      dimension_first name ids word rest ∙ ap (λ (r : Result ℕ CdlKind). checked name rest (r >>= (λ m. Ok (ids ++ m ∷ [])))) is ∙ ap (λ all. continued dims ty drafts name all rest) (sym e)
+  dimension_ok name ids more word k rest is e = grind (arith, id_first)
 
   pub dimension_fails : (name ids word : List ℕ) (e : ReadError) (rest : Declaration) → FailsRead e (next_dimid dims ids word) → FailsRead (duplicate_name_or (is_variable_name name drafts) e) (continued dims ty drafts name ids (with_name true word rest))
-  dimension_fails name ids word e rest h = grind (arith, dimension_first name ids word rest, fails_after)
+  dimension_fails name ids word e rest h = grind (arith, id_first)
 
   -- the next variable, or no further one
   pub none_left : (name ids : List ℕ) (parens : Bool) → continued dims ty drafts name ids (declaration_said parens []) ≡ with_new_draft drafts name ids ty
@@ -77,9 +58,6 @@ module _ (dims : List Dim) (ty : NcType) (drafts : List Draft) where
   one_more : (name ids : List ℕ) (more : List Draft) (rest : Declaration) → rest.dimensions ≡ [] → with_new_draft drafts name ids ty ≡ Ok more → continued dims ty drafts name ids rest ≡ in_turn (add_var dims ty) more rest.variables
   one_more name ids more rest none h = search rules
 
-  pub put_fails : (name ids : List ℕ) (rest : Declaration) (e : ReadError) → rest.dimensions ≡ [] → FailsRead e (with_new_draft drafts name ids ty) → FailsRead e (continued dims ty drafts name ids rest)
-  put_fails name ids rest e h h2 = grind arith
-
 -- ---- a variable that is begun
 
 module _ (dims : List Dim) (drafts : List Draft) where
@@ -87,19 +65,12 @@ module _ (dims : List Dim) (drafts : List Draft) where
       ReadsDimension dims drafts begun l.bytes r → ContinuesRead (λ (b : PartialVariable). read_on dims drafts b ls) r (read_on dims drafts begun (l ∷ ls))
   dimension_on begun l ls r off opened is reads = search (rules, read_on, said_name)
 
-  -- the next variable
-  next_is : (begun : PartialVariable) (l : Lexeme) (ls : List Lexeme) → is_mark_kind l.kind ≡ false → begun.is_open ≡ false →
-      read_on dims drafts begun (l ∷ ls) ≡ continued dims begun.ty drafts begun.name.items begun.dimids.items (with_name false (word_value l.bytes) (declaration_said false ls))
-  next_is begun l ls off closed =
-      ap (λ p. continued dims begun.ty drafts begun.name.items begun.dimids.items (declaration_said p (l ∷ ls))) closed ∙ ap (continued dims begun.ty drafts begun.name.items begun.dimids.items) (said_name false l ls off)
-
   pub next_variable : (begun : PartialVariable) (more : List Draft) (l : Lexeme) (ls : List Lexeme) → is_mark_kind l.kind ≡ false → begun.is_open ≡ false → with_begun drafts begun ≡ Ok more →
       read_on dims drafts begun (l ∷ ls) ≡ added dims begun.ty more (l ∷ ls)
-  next_variable begun more l ls off closed is = search (rules, next_is, one_more, said_name)
+  next_variable begun more l ls off closed is = search (rules, one_more, said_name)
 
   pub next_fails : (begun : PartialVariable) (l : Lexeme) (ls : List Lexeme) (e : ReadError) → is_mark_kind l.kind ≡ false → begun.is_open ≡ false → FailsRead e (with_begun drafts begun) → FailsRead e (read_on dims drafts begun (l ∷ ls))
-  next_fails begun l ls e off closed h =
-      subst (FailsRead e) (sym (next_is begun l ls off closed)) (put_fails dims begun.ty drafts begun.name.items begun.dimids.items (with_name false (word_value l.bytes) (declaration_said false ls)) e refl h)
+  next_fails begun l ls e off closed h = grind arith
 
   pub all_read : (ws : List Lexeme) (start after : List Draft) (l : Lexeme) (before begun : PartialVariable) (ends : Bool) (rest : List Lexeme) → ws ≡ l ∷ (if ends then [] else rest) → ends ≡ true →
       read_on dims start before (l ∷ []) ≡ read_on dims drafts begun [] → (r : Result ⊤ ReadError) → Leaves after r (with_begun drafts begun) → Leaves after r (read_on dims start before ws)
@@ -120,5 +91,4 @@ pub begins_name : (l : Lexeme) (ws all : List Lexeme) → all ≡ l ∷ ws → c
 begins_name l ws all first on = name_kind l (goes_name l false ws all first on).1
 
 pub typed : (v : Version) (dims : List Dim) (drafts : List Draft) (l : Lexeme) (ty : NcType) (names all : List Lexeme) → all ≡ l ∷ drop 1 all → drop 1 all ≡ names → type_of v l ≡ Ok ty → declared v dims drafts all ≡ added dims ty drafts names
-typed v dims drafts l ty names all first others is =
-    ap (λ (ws : List Lexeme). type_first v ws >>= (λ t. added dims t drafts (drop 1 all))) first ∙ ap (λ (r : Result NcType CdlKind). r >>= (λ t. added dims t drafts (drop 1 all))) is ∙ ap (added dims ty drafts) others
+typed v dims drafts l ty names all first others is = grind (arith, added dims, added dims ty drafts)

@@ -3,7 +3,6 @@ use Rattle.std.proofs.Common.{◌≡◌, Bool, true, false, List, [], ◌∷◌,
 use Rattle.std.specs.Prelude.{⊤}
 use Rattle.cdl_parse.proofs.Prelude.{false≢true, Att, Dim, Version, attribute_said, dimensions_said, mark_said, other_said, statement_said, variable_said, is_done, next_token, text_of, words, Cutter, completes, opens_section_after, is_whole, next, only, word_value, Lexeme, lexeme, is_mark, is_word_kind, Brace, End, Statement, first_bad, section_of, shape, Due, CdlKind, Syntax, Section, Unopened, Globals, Dimensions, Variables, Closed, Ended, piece_read, State, Draft, act, add_att, add_dim, at_variable, in_turn, with_att, Leaves, name_first, ReadError, OutOfMemory, Fault, constants_said, declared, Makes, after_mark, is_defining, is_over, state_of}
 use Rattle.cdl_statements.specs.code.DueTokens.{is_name}
-use Rattle.cdl_statements.specs.Shapes.{Declared}
 use Rattle.cdl_statements.specs.declared.due.Due.TheVariants as dues
 use Rattle.cdl_statements.proofs.Options.{none_of}
 use Rattle.cdl_meaning.specs.State.{◌>>=◌}
@@ -70,13 +69,9 @@ makes_first_mark v s l ls ws section off other is = search (rules, said_other, m
 
 -- ---- the section of the dimensions
 
-said_dimension : (v : Version) (l : Lexeme) (ls : List Lexeme) (b : Bool) → opens_section_after Dimensions l ≡ b → other_said v Dimensions l ls ≡ (if b then mark_said (section_of l) else Declared (dimensions_said v (l ∷ ls)))
-said_dimension v l ls b is = rw (is) refl
-
 pub makes_dimension_mark : (v : Version) (s : State) (l : Lexeme) (ls ws : List Lexeme) → is_mark 0x7d l ≡ false → is_mark 0x3a l ≡ false → opens_section_after Dimensions l ≡ true → ws ≡ l ∷ ls →
     act v s (statement_said v Dimensions ws) ≡ Ok (record s { section = after_mark (section_of l) })
-makes_dimension_mark v s l ls ws off other on is =
-    ap (λ all. act v s (statement_said v Dimensions all)) is ∙ ap (act v s) (said_other v Dimensions l ls refl off other ∙ said_dimension v l ls true on) ∙ mark_acts v s (section_of l)
+makes_dimension_mark v s l ls ws off other on is = search (rules, said_other, mark_acts)
 
 pub goes_dimensions : (l : Lexeme) (ls ws : List Lexeme) → is_mark 0x7d l ≡ false → is_mark 0x3a l ≡ false → opens_section_after Dimensions l ≡ false → ws ≡ l ∷ ls → completes (dues.First Dimensions) ws ≡ true → completes dues.DimensionName ws ≡ true
 unfolding completes next
@@ -85,7 +80,7 @@ goes_dimensions l ls ws off other no-mark is whole = search rules
 pub makes_dimensions : (v : Version) (s : State) (l : Lexeme) (ls ws : List Lexeme) (dims : List Dim) (r : Result ⊤ ReadError) → is_mark 0x7d l ≡ false → is_mark 0x3a l ≡ false → opens_section_after Dimensions l ≡ false → ws ≡ l ∷ ls →
     Leaves dims r (in_turn (add_dim v) s.dims (dimensions_said v ws)) → Makes (record s { dims = dims }) r (act v s (statement_said v Dimensions ws))
 unfolding act
-makes_dimensions v s l ls ws dims r off other no-mark is h = search (rules, said_other, said_dimension, makes_then)
+makes_dimensions v s l ls ws dims r off other no-mark is h = search (rules, said_other, makes_then)
 
 -- ---- the section of the variables
 
@@ -98,23 +93,16 @@ pub goes_word : (l : Lexeme) (ends : Bool) (ls ws : List Lexeme) → is_mark 0x7
 goes_word l ends ls ws off other first whole =
     goes_past (dues.First Variables) (dues.AfterWord (is_name l) (opens_section_after Variables l)) l (is_word_kind l.kind) ends ls ws (next_variables l off other) refl first whole
 
-said_variable : (v : Version) (l c : Lexeme) (ls : List Lexeme) → is_mark 0x7d l ≡ false → is_mark 0x3a l ≡ false → statement_said v Variables (l ∷ c ∷ ls) ≡ variable_said v l (c ∷ ls)
-said_variable v l c ls off other = said_other v Variables l (c ∷ ls) refl off other
-
 -- no colon comes second
 pub goes_declaration : (named section : Bool) (c : Lexeme) (rest ls : List Lexeme) → is_mark 0x3a c ≡ false → ls ≡ c ∷ rest → completes (dues.AfterWord named section) ls ≡ true → completes dues.VariableName ls ≡ true
 unfolding completes next
-goes_declaration named section c rest ls off is whole =
-    ap (completes dues.VariableName) is ∙ ap (λ d. completes d rest) (let e : next dues.VariableName c ≡ next (dues.AfterWord named section) c = rw (off) refl in e) ∙ sym (ap (completes (dues.AfterWord named section)) is) ∙ whole
-
-bind_twice : {A B C : Type 0} (r : Result A CdlKind) (f : A → Result B CdlKind) (g : B → Result C CdlKind) → (r >>= (λ x. f x >>= g)) ≡ ((r >>= f) >>= g)
-bind_twice r f g = grind arith
+goes_declaration named section c rest ls off is whole = search (rules, next)
 
 pub makes_declaration : (v : Version) (s : State) (l c : Lexeme) (rest ls ws : List Lexeme) (drafts : List Draft) (r : Result ⊤ ReadError) →
     is_mark 0x7d l ≡ false → is_mark 0x3a l ≡ false → is_mark 0x3a c ≡ false → ls ≡ c ∷ rest → ws ≡ l ∷ ls →
     Leaves drafts r (declared v s.dims s.drafts ws) → Makes (record s { drafts = drafts }) r (act v s (statement_said v Variables ws))
 unfolding act
-makes_declaration v s l c rest ls ws drafts r off other no-colon second first h = search (rules, said_variable, bind_twice, makes_then)
+makes_declaration v s l c rest ls ws drafts r off other no-colon second first h = search (rules, makes_then, said_other)
 
 -- a colon comes second
 next_colon : (named section : Bool) (c : Lexeme) → is_mark 0x3a c ≡ true → named ≡ true → next (dues.AfterWord named section) c ≡ dues.AttributeName
@@ -134,12 +122,12 @@ pub makes_attribute : (v : Version) (s : State) (l c : Lexeme) (rest ls ws : Lis
     is_mark 0x7d l ≡ false → is_mark 0x3a l ≡ false → is_mark 0x3a c ≡ true → is_name l ≡ true → ls ≡ c ∷ rest → ws ≡ l ∷ ls → completes (dues.AfterWord (is_name l) (opens_section_after Variables l)) ls ≡ true →
     Leaves drafts r (at_variable (name_first ws) (with_att (name_first (drop 2 ws)) (constants_said v (drop 2 ws))) s.drafts) → Makes (record s { drafts = drafts }) r (act v s (statement_said v Variables ws))
 makes_attribute v s l c rest ls ws drafts r off other on named second first whole h =
-    search (rules, said_variable, name_first, said_attribute, goes_attribute, makes_then)
+    search (rules, name_first, said_attribute, goes_attribute, makes_then, said_other)
 
 pub makes_variable_mark : (v : Version) (s : State) (l c : Lexeme) (rest ls ws : List Lexeme) →
     is_mark 0x7d l ≡ false → is_mark 0x3a l ≡ false → is_mark 0x3a c ≡ true → is_name l ≡ false → ls ≡ c ∷ rest → ws ≡ l ∷ ls →
     act v s (statement_said v Variables ws) ≡ Ok (record s { section = after_mark (section_of l) })
-makes_variable_mark v s l c rest ls ws off other on nameless second first = search (rules, said_variable, mark_acts)
+makes_variable_mark v s l c rest ls ws off other on nameless second first = search (rules, mark_acts, said_other)
 
 -- another section, and the rest as it was
 pub gone : (old new : Definitions) (o : Option Section) → new.section ≡ after_mark o → new.dims ≡ old.dims → new.gatts ≡ old.gatts → new.variables ≡ old.variables → record (state_of old) { section = after_mark o } ≡ state_of new

@@ -84,4 +84,4 @@ record_too_large v s line n kept none =
 
 pub is_declared : (v : Version) (s : State) (line n : ℕ) → records_kept s.dims s.drafts ≡ Some n → is_some (checked_record_size (header_with v n s)) ≡ true →
     finished v line (Ok s) ≡ or_too_large line (Some (record { header = header_with v n s; listed = map (listed_of s.dims) s.drafts }))
-is_declared v s line n kept there = grind (arith, record_checked v s, same_header v s n, answer v s line true, enough_is v s true true, some_of)
+is_declared v s line n kept there = grind (arith, same_header v s n, answer v s line true, enough_is v s true true, some_of)

@@ -1,16 +1,12 @@
 -- A run over the statements that a cutter has left, one statement on.
-use Rattle.std.proofs.Common.{◌≡◌, ℕ, ◌<◌, false, List, ◌∷◌, length, sym, ap, ◌∙◌, arith, Ok, Err, map}
-use Rattle.cdl_parse.proofs.Prelude.{after, first_line, first_piece, is_done, next_token, other_pieces, pieces_left, text_of, version_of, words, Lexeme, lexeme, Cutter, CdlKind, Token, piece_read, run, State, FailsRead, ReadError, FailsAt, at_line, run_after}
-use Rattle.cdl_parse.proofs.Runs.{fails_at, run_first}
+use Rattle.std.proofs.Common.{◌≡◌, ℕ, ◌<◌, false, length, sym, ap, ◌∙◌, arith, Ok, Err}
+use Rattle.cdl_parse.proofs.Prelude.{after, first_line, is_done, pieces_left, text_of, version_of, words, Cutter, CdlKind, piece_read, run, State, FailsRead, ReadError, FailsAt, at_line, run_after}
+use Rattle.cdl_parse.proofs.Runs.{run_first}
 use Rattle.cdl_parse.proofs.StatementWords.{begins}
-
--- fewer statements are left
-fewer_pieces : (text : List ℕ) (all : List (List Token)) (l : Lexeme) (ls : List Lexeme) → map (lexeme text) (first_piece all) ≡ l ∷ ls → length (other_pieces all) < length all
-fewer_pieces text all l ls h = grind arith
 
 pub fewer : (c rest : Cutter) → is_done c ≡ false → pieces_left rest ≡ after c → length (pieces_left rest) < length (pieces_left c)
 unfolding words after
-fewer c rest more on = grind (arith, begins c more, fewer_pieces (text_of c) (pieces_left c) (lexeme (text_of c) (next_token c)))
+fewer c rest more on = grind (arith, begins c more)
 
 module _ (start c : Cutter) (text : text_of c ≡ text_of start) (version : version_of c ≡ version_of start) (more : is_done c ≡ false) where
   run_on : (s : State) → run (text_of start) (version_of start) s (pieces_left c) ≡ run_after (text_of start) (version_of start) (first_line (pieces_left c)) (after c) (piece_read (version_of c) s (words c))
@@ -22,7 +18,7 @@ module _ (start c : Cutter) (text : text_of c ≡ text_of start) (version : vers
 
   -- the statement's fault is that of the run
   pub stops : (s : State) (e : ReadError) (line : ℕ) → line ≡ first_line (pieces_left c) → FailsRead e (piece_read (version_of c) s (words c)) → FailsAt (at_line line e) (run (text_of start) (version_of start) s (pieces_left c))
-  stops s e line is h = grind (arith, run_on s, after c, words c, fails_at)
+  stops s e line is h = grind (arith, after c, words c, run_first, after, words)
 
   pub fault_stops : (s : State) (kind : CdlKind) (line : ℕ) → line ≡ first_line (pieces_left c) → piece_read (version_of c) s (words c) ≡ Err kind → run (text_of start) (version_of start) s (pieces_left c) ≡ Err (record { line = line; kind = kind })
   fault_stops s kind line is h = run_on s ∙ ap (run_after (text_of start) (version_of start) (first_line (pieces_left c)) (after c)) h ∙ ap (λ n. Err (record { line = n; kind = kind })) (sym is)

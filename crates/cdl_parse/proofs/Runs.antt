@@ -1,19 +1,15 @@
 -- A run over statements, one statement on.
-use Rattle.std.proofs.Common.{◌≡◌, ℕ, true, false, List, ◌∷◌, refl, Result, Ok, Err, map, arith}
-use Rattle.cdl_parse.proofs.Prelude.{Version, after, first_line, first_piece, is_done, other_pieces, next_token, pieces_left, text_of, words, Lexeme, lexeme, pieces_after, Cutter, CdlKind, Token, starting_line, piece_read, run, State, FailsRead, ReadError, FailsAt, at_line, run_after}
+use Rattle.std.proofs.Common.{◌≡◌, ℕ, true, false, List, ◌∷◌, refl, Ok, map, arith}
+use Rattle.cdl_parse.proofs.Prelude.{Version, after, first_line, first_piece, is_done, other_pieces, next_token, pieces_left, text_of, words, Lexeme, lexeme, pieces_after, Cutter, Token, starting_line, piece_read, run, State, run_after}
 use Rattle.cdl_parse.proofs.StatementWords.{begins}
 
 pub line_is : (p : List Token) (ps : List (List Token)) → first_line (p ∷ ps) ≡ starting_line p
 line_is p ps = grind arith
 
-with_line : (text : List ℕ) (v : Version) (ps : List (List Token)) (r : Result State CdlKind) (line other : ℕ) → line ≡ other →
-    elim r [ Ok t ↦ run text v t ps | Err kind ↦ Err (record { line = line; kind = kind }) ] ≡ run_after text v other ps r
-with_line text v ps r line other h = grind arith
-
 run_pieces : (text : List ℕ) (v : Version) (s : State) (all : List (List Token)) (l : Lexeme) (ls : List Lexeme) → map (lexeme text) (first_piece all) ≡ l ∷ ls →
     run text v s all ≡ run_after text v (first_line all) (other_pieces all) (piece_read v s (map (lexeme text) (first_piece all)))
 unfolding run
-run_pieces text v s all l ls h = grind (arith, with_line, line_is)
+run_pieces text v s all l ls h = grind (arith, line_is)
 
 -- the first statement decides, or the others after it
 pub run_first : (v : Version) (s : State) (c : Cutter) → is_done c ≡ false → run (text_of c) v s (pieces_left c) ≡ run_after (text_of c) v (first_line (pieces_left c)) (after c) (piece_read v s (words c))
@@ -24,7 +20,3 @@ run_first v s c more = let begun = begins c more in run_pieces (text_of c) v s (
 pub run_none : (text : List ℕ) (v : Version) (s : State) (c : Cutter) → is_done c ≡ true → run text v s (pieces_left c) ≡ Ok s
 unfolding run pieces_left pieces_after
 run_none text v s c done = rw (done) refl
-
--- a statement's fault is that of the run
-pub fails_at : (text : List ℕ) (v : Version) (line : ℕ) (others : List (List Token)) (e : ReadError) (read : Result State CdlKind) → FailsRead e read → FailsAt (at_line line e) (run_after text v line others read)
-fails_at text v line others e read h = grind arith

@@ -1,7 +1,7 @@
 -- Every statement keeps the shapes: each variable's dimensions are known ones, and the record dimension stands first.
-use Rattle.std.proofs.Common.{◌≡◌, ℕ, ◌<◌, IsTrue, List, [], ◌∷◌, ◌++◌, length, map, sym, ap, ◌∙◌, subst, arith, append_assoc, None, Some, Result, Ok, Err, IfOk, slice_index, slice_index_or, rules}
+use Rattle.std.proofs.Common.{◌≡◌, ℕ, ◌<◌, List, [], ◌∷◌, ◌++◌, length, map, sym, ap, ◌∙◌, subst, arith, append_assoc, None, Some, Result, Ok, Err, IfOk, slice_index, slice_index_or, rules}
 use Rattle.std.specs.Prelude.{⊤}
-use Rattle.cdl_parse.proofs.Prelude.{append-nil, get_or_append_left, length-append, length-map, map-append, Dim, Version, AreDimids, dim_len, is_record_dim, Lexeme, Dimension, Statement, Value, Typed, Attribute, Listed, shape, CdlKind, piece_read, shaped, State, Draft, act, add_att, add_dim, at_variable, in_turn, type_of, with_att, with_values, AreShaped}
+use Rattle.cdl_parse.proofs.Prelude.{append-nil, get_or_append_left, length-append, length-map, map-append, Dim, Version, AreDimids, dim_len, Lexeme, Dimension, Statement, Value, Typed, Attribute, Listed, shape, CdlKind, piece_read, shaped, State, Draft, act, add_att, add_dim, at_variable, in_turn, type_of, with_att, with_values, AreShaped}
 use Rattle.cdl_statements.specs.Shapes.{Declared}
 use Rattle.cdl_parse.proofs.Shapes.{Keeps, added_shaped, att_keeps, ok_then, variable_shaped}
 
@@ -36,13 +36,10 @@ mapped_inside dims id known = subst (λ n. id < n) (sym (length-map dims (λ (d 
 same_len : (dims more : List Dim) (id : ℕ) → id < length dims → dim_len (dims ++ more) id ≡ dim_len dims id
 same_len dims more id known = ap (λ lens. slice_index lens id) (map-append (λ (d : Dim). d.len) dims more) ∙ get_or_append_left (map (λ (d : Dim). d.len) dims) (map (λ (d : Dim). d.len) more) 0 id (mapped_inside dims id known)
 
-still_first : (dims more : List Dim) (before : List ℕ) (id : ℕ) → id < length dims → (IsTrue (is_record_dim dims id) → before ≡ []) → IsTrue (is_record_dim (dims ++ more) id) → before ≡ []
-still_first dims more before id known first h = grind (arith, same_len dims more id known)
-
 still_shaped : (dims more : List Dim) (before ids : List ℕ) → AreDimids dims before ids → AreDimids (dims ++ more) before ids
 still_shaped dims more before [] are = tt
 still_shaped dims more before (id ∷ ids) are =
-    grind (arith, length-append dims more, still_first dims more before id are.0.known are.0.record_first, still_shaped dims more (before ++ id ∷ []) ids are.1)
+    grind (arith, length-append dims more, still_shaped dims more (before ++ id ∷ []) ids are.1, same_len)
 
 grown_shapes : (dims all : List Dim) (drafts : List Draft) → Grows dims all → AreShaped dims drafts → AreShaped all drafts
 grown_shapes dims all drafts grown are = λ k d inside. subst (λ ds. AreDimids ds [] (slice_index_or drafts k d).var.dimids) (sym grown.1) (still_shaped dims grown.0 [] (slice_index_or drafts k d).var.dimids (are k d inside))

@@ -83,20 +83,14 @@ with_all_is dims (d ∷ drafts) e =
 
 -- ---- the arrays over n records
 
-le_both : (a b n : ℕ) → a ≤ b → nat_le b n ≡ (nat_le a n && nat_le b n)
-le_both a b n h = grind (arith, h)
-
-le_either : (a b n : ℕ) → b ≤ a → nat_le a n ≡ (nat_le a n && nat_le b n)
-le_either a b n h = grind (arith, h)
-
 none_wide : (n : ℕ) → nat_le (n * 0) array_limit ≡ true
 none_wide n = le-leb (n * 0) array_limit (omega arith)
 
 le_max : (n a b m : ℕ) → nat_le (n * max a b) m ≡ (nat_le (n * a) m && nat_le (n * b) m)
-le_max n a b m = search (rules, le_both, mul-le-mul_left, le_either)
+le_max n a b m = search (rules, mul-le-mul_left)
 
 one_small : (dims : List Dim) (n : ℕ) (d : Draft) → is_small dims n d ≡ (has_small dims d && nat_le (n * wide dims d) array_limit)
-one_small dims n d = search (rules, mul_right_comm, mul_comm, none_wide)
+one_small dims n d = search (rules, mul_right_comm, mul_comm)
 
 pub all_small : (dims : List Dim) (n : ℕ) (drafts : List Draft) → list_all (is_small dims n) drafts ≡ (list_all (has_small dims) drafts && nat_le (n * widest_in dims drafts) array_limit)
 all_small dims n [] = sym (none_wide n)
@@ -118,7 +112,7 @@ reach dims drafts = record { records = records_in dims drafts; widest = widest_i
 
 pub records_are : (dims : List Dim) (drafts : List Draft) → AreShaped dims drafts →
     records_within (reach dims drafts) ≡ (if nat_le (records_in dims drafts * widest_in dims drafts) array_limit then Some (records_in dims drafts) else None)
-records_are dims drafts shaped = search (rules, le_both, within_wide, some_wide)
+records_are dims drafts shaped = search (rules, within_wide, some_wide)
 
 -- ---- what the code finds
 
@@ -135,7 +129,7 @@ kept_is dims drafts = grind (arith, all_small dims (records_in dims drafts) draf
 
 -- a slab passes the limit
 pub none_kept : (dims : List Dim) (vars : List Var) (arrays : List (List ℕ)) (drafts : List Draft) → AllList dims vars arrays drafts → with_all dims (Some nothing) vars arrays ≡ None → records_kept dims drafts ≡ None
-none_kept dims vars arrays drafts lists none = search (rules, kept_is, from_nothing)
+none_kept dims vars arrays drafts lists none = search (rules, all_small, all_are, with_all_is, reached)
 
 pub some_kept : (dims : List Dim) (vars : List Var) (arrays : List (List ℕ)) (drafts : List Draft) (e : Extent) → AllList dims vars arrays drafts → AreShaped dims drafts → with_all dims (Some nothing) vars arrays ≡ Some e →
     records_within e ≡ records_kept dims drafts

@@ -1,7 +1,7 @@
 -- The bytes of an attribute's constants.
-use Rattle.std.proofs.Common.{◌≡◌, ℕ, zero, suc, ◌-◌, ◌<◌, true, List, [], ◌∷◌, ◌++◌, length, take, drop, refl, sym, ap, ◌∙◌, append_assoc, arith, pos, None, Result, Ok, Err, slice_index, map, rules}
+use Rattle.std.proofs.Common.{◌≡◌, ℕ, zero, suc, ◌-◌, ◌<◌, true, List, [], ◌∷◌, ◌++◌, length, take, drop, refl, ap, ◌∙◌, append_assoc, arith, pos, None, Result, Ok, Err, slice_index, map, rules}
 use Rattle.std.specs.Prelude.{⊤}
-use Rattle.cdl_values.proofs.Prelude.{bytes_of_number, NcType, Char, Version, value_of, values, Lexeme, TokenKind, number_in, up_to_255, character, escaped_character, inner, number_escape, string_value, unescape_at, or_zero, word, held, Parts, number, Value, Number, Characters, CdlKind, NumberRange, add_constant, has_number, in_turn, same_type, type_said, unless, Adds, ContinuesRead, Leaves, char_bytes, held_bytes, joined, number_bytes, text_bytes, ReadError, OutOfMemory, Fault, plain_small}
+use Rattle.cdl_values.proofs.Prelude.{bytes_of_number, NcType, Char, Version, value_of, values, Lexeme, TokenKind, character, inner, string_value, unescape_at, or_zero, word, held, Parts, number, Value, Number, Characters, CdlKind, NumberRange, add_constant, has_number, in_turn, same_type, type_said, unless, Adds, ContinuesRead, Leaves, char_bytes, held_bytes, joined, number_bytes, text_bytes, ReadError, OutOfMemory, Fault}
 use Rattle.cdl_tokens.specs.declared.token.TokenKind.TheVariants as kinds
 use Rattle.cdl_tokens.specs.declared.numeral.Numeral.{Numeral as Held}
 use Rattle.cdl_meaning.specs.State.{◌>>=◌}
@@ -28,12 +28,9 @@ range_first ty before p = grind (arith, has_number ty (number p).value, number p
 pub number_of_type : (ty : NcType) (before : List ℕ) (p : Parts) → same_type p.ty ty ≡ true → add_constant ty before (Number (number p)) ≡ joined (Ok before) (held_bytes ty p.minus (word p.magnitude))
 number_of_type ty before p same = rw (same) (range_first ty before p ∙ ap (joined (Ok before)) (held_is ty p))
 
-joined_left : (before after : List ℕ) (r : Result ⊤ ReadError) (bytes read : Result (List ℕ) CdlKind) → read ≡ joined (Ok before) bytes → Adds before after r bytes → Leaves after r read
-joined_left before after r bytes read h h2 = grind (arith, joined)
-
 pub number_left : (ty : NcType) (before after : List ℕ) (p : Parts) (n : Held) (r : Result ⊤ ReadError) → n ≡ held p → same_type n.ty ty ≡ true →
     Adds before after r (held_bytes ty n.minus n.magnitude) → Leaves after r (add_constant ty before (Number (number p)))
-number_left ty before after p n r is same h = search (rules, joined_left, number, number_of_type, joined)
+number_left ty before after p n r is same h = search (rules, number, number_of_type, joined)
 
 -- a token that is no number says characters, if anything
 pub no_number : (v : Version) (l : Lexeme) (kind : TokenKind) → (kind ≡ kinds.Number → ⊥) → type_said (value_of v l kind) ≡ Char
@@ -41,9 +38,6 @@ unfolding value_of
 no_number v l kind h = grind arith
 
 -- ---- the characters of a string are bytes
-
-small_byte : (n : ℕ) → or_zero (up_to_255 n) < 256
-small_byte n = search rules
 
 abbrev pub AreBytes : List ℕ → Type 0
 AreBytes bs = (k : ℕ) → slice_index bs k < 256
@@ -74,21 +68,14 @@ first_stay n bs h = bytes_stay (take n bs) (first_ones n bs h)
 
 chars_joined : (xs ys : List ℕ) → char_bytes (xs ++ ys) ≡ char_bytes xs ++ char_bytes ys
 chars_joined [] ys = refl
-chars_joined (x ∷ xs) ys =
-    ap (λ bs. bytes_of_number Char (pos x) ++ bs) (chars_joined xs ys) ∙ sym (append_assoc (bytes_of_number Char (pos x)) (char_bytes xs) (char_bytes ys))
+chars_joined (x ∷ xs) ys = search (rules, pos, append_assoc, chars_joined xs ys)
 
 pub put_on : (before after first rest whole : List ℕ) → after ≡ before ++ char_bytes first → whole ≡ first ++ rest → after ++ char_bytes rest ≡ before ++ char_bytes whole
 put_on before after first rest whole is cut = search (rules, append_assoc, chars_joined)
 
-number_small : (mark base : ℕ) (digits : List ℕ) → or_zero (number_escape mark base digits).value < 256
-number_small mark base digits = grind (arith, small_byte (number_in base 0 digits))
-
-escape_small : (bs : List ℕ) → AreBytes bs → or_zero (escaped_character bs).value < 256
-escape_small bs h = search (rules, number_small, plain_small)
-
 character_small : (bs : List ℕ) → AreBytes bs → or_zero (character bs).value < 256
 unfolding character
-character_small bs h = search (rules, escape_small, without_first)
+character_small bs h = search (rules, without_first)
 
 stand_at : (more : ℕ) (bs : List ℕ) → AreBytes bs → char_bytes (map or_zero (unescape_at more bs)) ≡ map or_zero (unescape_at more bs)
 unfolding unescape_at
@@ -101,5 +88,4 @@ stand bytes h = stand_at 0 (inner bytes) (first_ones (length bytes - 2) (drop 1 
 
 pub characters_left : (ty : NcType) (before after bytes : List ℕ) (r : Result ⊤ ReadError) → same_type Char ty ≡ true → AreBytes bytes →
     Adds before after r (text_bytes None (Characters (string_value (inner bytes)))) → Leaves after r (add_constant ty before (Characters (string_value (inner bytes))))
-characters_left ty before after bytes r same small h =
-    joined_left before after r (Ok (char_bytes (string_value (inner bytes)))) (add_constant ty before (Characters (string_value (inner bytes)))) (rw (same) (ap (λ bs. Ok (before ++ bs)) (sym (stand bytes small)))) h
+characters_left ty before after bytes r same small h = search (rules, string_value, stand)

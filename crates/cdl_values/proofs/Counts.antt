@@ -1,6 +1,6 @@
 -- A statement has fewer values than the greatest capacity, so that stands for all from there on.
 use Rattle.std.proofs.Common.{◌≡◌, ℕ, zero, suc, ◌+◌, ◌-◌, ◌≤◌, Bool, false, List, [], ◌∷◌, length, map, drop, refl, sym, ap, ◌∙◌, arith, Option, None, Some, Result, ◌&&◌, is_none, min, rules}
-use Rattle.cdl_values.proofs.Prelude.{Version, values, words, pieces_left, tokens_left, text_of, first_piece, Lexeme, followed, Value, Cutter, CdlKind, TokenKind, Capacity, listing_of, Fills, HasCapacity, as_bytes, capacity_for, most, packed, followed_by, value_bytes, row_bytes, is_full, Fill, Filling, Numbers, Rows}
+use Rattle.cdl_values.proofs.Prelude.{Version, values, words, pieces_left, text_of, first_piece, Lexeme, followed, Value, Cutter, CdlKind, TokenKind, Capacity, listing_of, Fills, HasCapacity, as_bytes, capacity_for, most, packed, followed_by, value_bytes, row_bytes, is_full, Fill, Filling, Numbers, Rows}
 use Rattle.cdl_statements.specs.code.Roles.{first_role}
 use Rattle.cdl_statements.specs.code.CutSteps.{pieces_after, step, with_first}
 use Rattle.cdl_tokens.specs.Scan.{scan}
@@ -48,13 +48,10 @@ map_len : (f : Token → Lexeme) (ts : List Token) → length (map f ts) ≡ len
 map_len f [] = refl
 map_len f (t ∷ ts) = ap suc (map_len f ts)
 
-left_len : (c : Cutter) → length (tokens_left c) ≤ length (text_of c) + 2
-left_len c = search (rules, tokens_len, drop_len, followed_len)
-
 -- each token but one at the end has a byte at least
 pub words_len : (c : Cutter) → length (words c) ≤ length (text_of c) + 2
 unfolding words pieces_left
-words_len c = search (rules, map_len, piece_len, left_len)
+words_len c = search (rules, map_len, piece_len, tokens_len, drop_len, followed_len)
 
 -- ---- what the greatest capacity stands for
 

@@ -39,16 +39,12 @@ one_listed dims d (Ok xs) (Ok bs) is name ds same =
 one_listed dims d (Err e) (Err g) is name ds same = let f : e ≡ g = cc in ap Err f
 one_listed dims d _ _ is name ds same = cc
 
-past_first : (dims : List Dim) (d : Draft) (ds : List Draft) (name : List ℕ) (p : Result (List ℕ) CdlKind) (after : Result (List Draft) CdlKind) → bytes_eq d.var.name name ≡ false → HasListed dims name ds p after →
-    HasListed dims name (d ∷ ds) p (after >>= (λ es. Ok (d ∷ es)))
-past_first dims d ds name p after h h2 = grind arith
-
 at_target : (v : Version) (dims : List Dim) (ts : List Target) (ds : List Draft) (name : List ℕ) (ws : List Lexeme) → AllSuit dims ts ds → length (values v ws) ≤ most →
     HasListed dims name ds (packed_for v ws (named (names_of ds) ts name)) (at_named name (with_values dims (values v ws)) ds)
 unfolding named
 at_target v dims [] [] name ws h few = refl
 at_target v dims (t ∷ ts) (d ∷ ds) name ws h few =
-    search (rules, values, one_listed, all_taken, named, past_first, at_target v dims ts ds name ws h.1 few)
+    search (rules, values, one_listed, all_taken, named, at_target v dims ts ds name ws h.1 few)
 at_target v dims _ _ name ws h few = absurd h
 
 -- by its name

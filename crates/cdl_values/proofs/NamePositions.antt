@@ -68,7 +68,7 @@ module _ (name : List ℕ) where
 
   no_hash : (i : ℕ) (names : List (List ℕ)) → position_from has_hash i names ≡ None → position_from is_same i names ≡ None
   no_hash i [] is = refl
-  no_hash i (x ∷ names) is = search (rules, other_hash, false≢true, no_hash (i + 1) names)
+  no_hash i (x ∷ names) is = search (rules, false≢true, no_hash (i + 1) names)
 
   hit_from : (i : ℕ) (names : List (List ℕ)) (q : ℕ) → position_from has_hash i names ≡ Some q → Hit i names q
   hit_from i [] q is = cc
@@ -113,9 +113,6 @@ module _ (name : List ℕ) where
   pub hit_elsewhere : (names : List (List ℕ)) (q : ℕ) (d : List ℕ) → first_with_hash (hash_of name) names ≡ Some q → is_same (get_or names q d) ≡ false → later_position names name ≡ position_of names name
   hit_elsewhere names q d is other = grind (arith, hit_from 0 names q is, cases_Bool)
 
-same_number : (n : ℕ) → (n == n) ≡ true
-same_number n = grind arith
-
 -- ---- names that items of a list lend
 
 module _ {X : Type 0} (name_of : X → List ℕ) (xs : List X) (name : List ℕ) (q : ℕ) (found : first_with_hash (hash_of name) (map name_of xs) ≡ Some q) where
@@ -145,11 +142,11 @@ module _ (names : List (List ℕ)) (name : List ℕ) (new : position_of names na
 
   -- another name stands where it stood, and so does the first with its hash
   later_kept : (other : List ℕ) → bytes_eq name other ≡ false → later_position more other ≡ later_position names other
-  later_kept other apart = search (rules, more, some_not_none, absent, firsts_kept, added, cond-false, kept_from)
+  later_kept other apart = search (rules, more, absent, firsts_kept, added, cond-false, kept_from)
 
   -- the name itself stands at the end, and is the first with its hash only if no other has it
   later_first : first_with_hash (hash_of name) names ≡ None → later_position more name ≡ None
-  later_first is = search (rules, more, added, cond-true, firsts_more, same_number)
+  later_first is = search (rules, more, added, cond-true)
 
   later_other : (q : ℕ) → first_with_hash (hash_of name) names ≡ Some q → later_position more name ≡ Some (length names)
   later_other q is = search (rules, hit_within, more, added, cond-true, firsts_kept, cond-false)
@@ -181,7 +178,7 @@ number_test a b = sym (unsigned_ties a b)
 pub first_added : (m n : NameIndex) (names : List (List ℕ)) (name : List ℕ) → IsIndex m names → position_of names name ≡ None → first_with_hash (hash_of name) names ≡ None → n.others ≡ m.others →
     tree.Updates nat_cmp m.first_of_hash n.first_of_hash (hash_of name) (Some (length names)) → IsIndex n (names ++ name ∷ [])
 first_added m n names name index new none same h =
-    search (rules, number_test, later_kept, apart, cases_Bool, firsts_more, cond-false, some_not_none, firsts_kept, bytes_decides, later_first)
+    search (rules, number_test, later_kept, apart, cases_Bool, firsts_more, cond-false, firsts_kept, bytes_decides, later_first)
 
 -- a name with the hash of an earlier one
 other_added_after : (m n : NameIndex) (names : List (List ℕ)) (key : Vec ℕ Global) (q : ℕ) → IsIndex m names → position_of names key.items ≡ None → first_with_hash (hash_of key.items) names ≡ Some q → n.first_of_hash ≡ m.first_of_hash →

@@ -19,7 +19,7 @@ pub one_packed : (filling : Filling) (capacity : Option ℕ) (v : Value) (vs : L
     bytes_of filling capacity v ≡ Ok ds → cs ≡ bs ++ ds →
     joined (Ok bs) (packed filling capacity (v ∷ vs)) ≡ joined (Ok cs) (packed filling (capacity_after filling ds capacity) vs)
 unfolding packed
-one_packed filling capacity v vs bs cs ds is e = search (rules, joined, joined_assoc)
+one_packed filling capacity v vs bs cs ds is e = search (rules, joined, append_assoc)
 
 -- a fault decides
 pub one_wrong : (filling : Filling) (capacity : Option ℕ) (v : Value) (vs : List Value) (e : CdlKind) (bs : List ℕ) →

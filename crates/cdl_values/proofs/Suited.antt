@@ -1,5 +1,5 @@
 -- Targets that suit a state's drafts: the premises of the data section's reader can be met.
-use Rattle.std.proofs.Common.{List, [], ◌∷◌, refl, false, rules, ◌^◌, ◌-◌, codes, Some, None, pos, neg_ℤ}
+use Rattle.std.proofs.Common.{List, [], ◌∷◌, false, rules, ◌^◌, ◌-◌, codes, Some, None, pos, neg_ℤ}
 use Rattle.nc_base.specs.Fill.{fill_value}
 use Rattle.cdl_values.proofs.Prelude.{Dim, Int, Char, Draft, capacity_of, has_number, AllSuit, Target, Fill, Numbers, Joined, Rows}
 
@@ -26,7 +26,4 @@ targets =
 
 suited : AllSuit dims targets drafts
 unfolding dims drafts int_fill targets capacity_of fill_value
-suited = (
-  record { given = refl; fills = (refl, refl, refl); takes = (refl, refl) },
-  (record { given = refl; fills = (refl, refl, refl, refl); takes = (refl, refl) }, (record { given = refl; fills = (refl, refl); takes = (refl, refl) }, (record { given = refl; fills = (refl, refl, refl); takes = (refl, refl) }, tt))),
-)
+suited = search rules

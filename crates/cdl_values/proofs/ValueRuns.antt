@@ -1,15 +1,12 @@
 -- A run of values, one value on.
 use Rattle.std.proofs.Common.{◌≡◌, ◌≤◌, ◌<◌, ℕ, ◌+◌, ◌-◌, Bool, true, false, List, ◌∷◌, length, drop, sym, ap, ◌∙◌, refl, subst, arith, Option, None, Ok, rules}
-use Rattle.cdl_values.proofs.Prelude.{Version, inner, string_value, value_of, values, is_done, version_of, words, completes, is_value_of, next, Lexeme, is_mark, is_mark_kind, IsAtComma, Passes, PassesNumber, PassesString, Characters, token_fault, lexeme_with, Cutter, Due, Separator, at_same_comma, same_after, same_words, good_on, bytes_of, capacity_after, held_bytes, is_full, joined, capacity_minus, packed, row_bytes, GoesOn, Place, TakesValues, Fill, Filling, Numbers, Rows, past_mark}
+use Rattle.cdl_values.proofs.Prelude.{Version, inner, string_value, value_of, values, is_done, version_of, words, completes, is_value_of, next, Lexeme, is_mark_kind, IsAtComma, Passes, PassesNumber, PassesString, Characters, token_fault, lexeme_with, Cutter, Due, Separator, at_same_comma, same_after, same_words, good_on, bytes_of, capacity_after, held_bytes, is_full, joined, capacity_minus, packed, row_bytes, GoesOn, Place, TakesValues, Fill, Filling, Numbers, Rows, past_mark}
 use Rattle.cdl_tokens.specs.declared.numeral.Numeral.{Numeral as Held}
 use Rattle.cdl_tokens.specs.declared.token.TokenKind.TheVariants as kinds
 use Rattle.cdl_statements.specs.code.NumberLists as lists
 use Rattle.cdl_statements.specs.declared.{number_list.NumberList.NumberList}
 use Rattle.cdl_values.proofs.PackedTokens.{added, is_after, one_packed, over_value}
 use Rattle.cdl_values.proofs.Ranges.{good_number, number_added}
-
-comma_good : (v : Version) (l : Lexeme) → is_mark 0x2c l ≡ true → (is_mark_kind l.kind ≡ true) × (token_fault v l.kind l.bytes ≡ None)
-comma_good v l h = search rules
 
 -- the place where a cutter has come to
 abbrev pub reached : Cutter → List ℕ → Option ℕ → Place
@@ -35,7 +32,7 @@ pub value_on : (takes_fill : Bool) (filling : Filling) (start rest : Place) (l :
     ((ls : List Lexeme) → joined (Ok start.bytes) (packed filling start.left (values (version_of start.cutter) (l ∷ ls))) ≡ joined (Ok rest.bytes) (packed filling rest.left (values (version_of start.cutter) ls))) →
     TakesValues takes_fill filling start rest
 unfolding completes next
-value_on takes_fill filling start rest l at passes good value packs = search (rules, words, comma_good, good_on, next, joined, values, past_mark)
+value_on takes_fill filling start rest l at passes good value packs = search (rules, words, good_on, next, joined, values, past_mark)
 
 -- one value is packed, and the capacity counts one less
 packs_one : (v : Version) (filling : Filling) (start rest : Place) (l : Lexeme) → is_mark_kind l.kind ≡ false → joined (Ok start.bytes) (bytes_of filling start.left (value_of v l l.kind)) ≡ Ok rest.bytes →

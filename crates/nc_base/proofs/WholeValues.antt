@@ -1,5 +1,5 @@
 -- Values that stand one after the other, and the first of them that is missing.
-use Rattle.std.proofs.Common.{◌≡◌, ℕ, ◌+◌, ◌*◌, ◌/◌, ◌≤◌, Bool, cond, List, [], ◌∷◌, length, drop, map, refl, ◌∙◌, ap, arith, length-append, length-take, length-drop, None, Some, All}
+use Rattle.std.proofs.Common.{◌≡◌, ℕ, ◌+◌, ◌*◌, ◌/◌, ◌≤◌, Bool, cond, List, [], ◌∷◌, length, drop, map, refl, ◌∙◌, ap, arith, length-append, length-take, length-drop, None, Some, All, ◌++◌}
 use Rattle.nc_base.proofs.Prelude.{concat, position, position_or_len, mul-div_cancel, le-ltb, take_at, drop_at, All-head, All-tail, NcType, size_of, number_of, numbers_from, numbers, bytes_at}
 use Rattle.nc_base.proofs.SoundLaws.{some_size}
 
@@ -12,12 +12,17 @@ map-map g f (x ∷ xs) = ap (λ ys. g (f x) ∷ ys) (map-map g f xs)
 length-concat : (size : ℕ) (xss : List (List ℕ)) → All (λ xs. length xs ≡ size) xss → length (concat xss) ≡ length xss * size
 length-concat size [] all = omega arith
 length-concat size (xs ∷ xss) all =
-    grind (arith, All-head, All-tail, length-append, length-concat size xss (All-tail (λ (x : List ℕ). length x ≡ size) xs xss all))
+    let here : length xs ≡ size = All-head (λ (x : List ℕ). length x ≡ size) xs xss all in
+    let rest = length-concat size xss (All-tail (λ (x : List ℕ). length x ≡ size) xs xss all) in
+    omega (arith, length-append xs (concat xss), here, rest)
 
 numbers_from-concat : (ty : NcType) (xss : List (List ℕ)) → All (λ xs. length xs ≡ size_of ty) xss → numbers_from ty (length xss) (concat xss) ≡ map (number_of ty) xss
 numbers_from-concat ty [] all = refl
 numbers_from-concat ty (xs ∷ xss) all =
-    grind (arith, All-head, take_at, drop_at, All-tail, numbers_from-concat ty xss (All-tail (λ (x : List ℕ). length x ≡ size_of ty) xs xss all))
+    let here : length xs ≡ size_of ty = All-head (λ (x : List ℕ). length x ≡ size_of ty) xs xss all in
+    ap (λ (x : List ℕ). number_of ty x ∷ numbers_from ty (length xss) (drop (size_of ty) (xs ++ concat xss))) (take_at xs (concat xss) (size_of ty) here)
+    ∙ ap (λ (x : List ℕ). number_of ty xs ∷ numbers_from ty (length xss) x) (drop_at xs (concat xss) (size_of ty) here)
+    ∙ ap (λ zs. number_of ty xs ∷ zs) (numbers_from-concat ty xss (All-tail (λ (x : List ℕ). length x ≡ size_of ty) xs xss all))
 
 pub numbers-concat : (ty : NcType) (xss : List (List ℕ)) → All (λ xs. length xs ≡ size_of ty) xss → numbers ty (concat xss) ≡ map (number_of ty) xss
 unfolding numbers
