@@ -10,8 +10,10 @@ use devices::{
     OpenFailed, Opener, ReadAhead, Sink, SinkFailed, Source, SourceFailed, SystemFiles,
     WriteFailed,
 };
+use std::fs::File;
 use std::io::{ErrorKind, Write};
 use std::process::Abort;
+use std::rt::Files;
 use std::test::*;
 use std::{fs, io};
 
@@ -109,25 +111,25 @@ fn reads_are_counted_and_not_tried_again(rt: HostRuntime) {
 
 #[test]
 fn memory_and_files_hand_over_their_bytes(rt: HostRuntime) -> Result<(), Fail> {
-    const OF_MEMORY: [Read; 4] = [
+    const OF_MEMORY: &[Read] = &[
         (0, Ok(4), b"abcd"),
         (2, Ok(4), b"cdef"),
         (5, Ok(2), b"fg"),
         (6, Ok(1), b"g"),
     ];
-    const OF_A_FILE: [Read; 3] = [(2, Ok(4), b"cdef"), (5, Ok(2), b"fg"), (0, Ok(4), b"abcd")];
+    const OF_A_FILE: &[Read] = &[(2, Ok(4), b"cdef"), (5, Ok(2), b"fg"), (0, Ok(4), b"abcd")];
     let mut memory = MemSource::new(b"abcdefg");
     assert!(rt; memory.len() == 7);
-    expect_reads(&rt, &mut memory, 4, &OF_MEMORY);
+    expect_reads(&rt, &mut memory, 4, OF_MEMORY);
     let mut file = source_of(&rt, "nc_file_source.bin", b"abcdefg")?;
     assert!(rt; file.len() == 7);
-    expect_reads(&rt, &mut file, 4, &OF_A_FILE);
+    expect_reads(&rt, &mut file, 4, OF_A_FILE);
     Ok(())
 }
 
 #[test]
 fn stretches_are_read_again_after_a_failure(rt: HostRuntime) {
-    const READS: [Read; 6] = [
+    const READS: &[Read] = &[
         (1, Ok(2), b"bc"),
         (2, Ok(2), b"cd"),
         (0, Err(SourceFailed), b""),
@@ -137,7 +139,7 @@ fn stretches_are_read_again_after_a_failure(rt: HostRuntime) {
     ];
     let mut source = ReadAhead::new(drip_of(&rt, b"abcdefg", 3, FailWhen::Read(1)));
     assert!(rt; source.len() == 7);
-    expect_reads(&rt, &mut source, 2, &READS);
+    expect_reads(&rt, &mut source, 2, READS);
 }
 
 #[test]
@@ -146,11 +148,11 @@ fn memory_and_writers_take_bytes(rt: HostRuntime) {
     expect_write(&rt, &mut memory, b"ab", Ok(2));
     expect_write(&rt, &mut memory, b"", Ok(0));
     expect_put(&rt, &mut memory, b"cdefg", Ok(()));
-    assert_eq!(rt; memory.as_slice(), b"abcdefg".as_slice());
+    assert!(rt; memory.as_slice() == b"abcdefg".as_slice());
     let mut writer = IoSink::new(Vec::new(rt.alloc()));
     expect_put(&rt, &mut writer, b"abcde", Ok(()));
-    assert_eq!(rt; writer.flush(), Ok(()));
-    assert_eq!(rt; writer.into_inner().as_slice(), b"abcde".as_slice());
+    assert!(rt; writer.flush() == Ok(()));
+    assert!(rt; writer.into_inner().as_slice() == b"abcde".as_slice());
 }
 
 /// Fails unless a writer that takes two bytes a call, or refuses each, takes the first of these bytes, in `calls` calls.
@@ -170,19 +172,18 @@ fn expect_two_by_two(
     });
     expect_put(rt, &mut sink, bytes, answer);
     let writer = sink.into_inner();
-    assert_eq!(rt; writer.bytes.as_slice(), taken);
-    assert_eq!(rt; writer.calls, calls);
+    assert!(rt; writer.bytes.as_slice() == taken && writer.calls == calls);
 }
 
 #[test]
 fn failed_writes_are_counted_and_not_tried_again(rt: HostRuntime) {
-    const ROWS: [(bool, &[u8], Result<(), WriteFailed>, &[u8], u32); 3] = [
+    const ROWS: &[(bool, &[u8], Result<(), WriteFailed>, &[u8], u32)] = &[
         (false, b"abcde", Ok(()), b"abcde\0\0\0", 3),
         (false, b"abcdefghij", Err(WriteFailed), b"abcdefgh", 5),
         (true, b"abcde", Err(WriteFailed), b"\0\0\0\0\0\0\0\0", 1),
     ];
     for (refuses, bytes, answer, taken, calls) in ROWS {
-        expect_two_by_two(&rt, refuses, bytes, answer, taken, calls);
+        expect_two_by_two(&rt, *refuses, *bytes, *answer, *taken, *calls);
     }
     let mut unflushed = IoSink::new(TwoByTwo {
         refuses: true,
@@ -190,7 +191,7 @@ fn failed_writes_are_counted_and_not_tried_again(rt: HostRuntime) {
         len: 0,
         calls: 0,
     });
-    assert_eq!(rt; unflushed.flush(), Err(SinkFailed));
+    assert!(rt; unflushed.flush() == Err(SinkFailed));
     let mut sink = Failing { failures: 0 };
     expect_put(&rt, &mut sink, b"abcde", Err(WriteFailed));
     assert!(rt; sink.failures == 1);
@@ -198,7 +199,7 @@ fn failed_writes_are_counted_and_not_tried_again(rt: HostRuntime) {
 }
 
 /// Three files. Two of them have the same path.
-const FILES: [MemFile<'static>; 3] = [
+const FILES: &[MemFile<'static>] = &[
     MemFile {
         path: "a.nc",
         bytes: b"abc",
@@ -215,11 +216,19 @@ const FILES: [MemFile<'static>; 3] = [
 
 #[test]
 fn first_file_of_a_path_opens(rt: HostRuntime) -> Result<(), Fail> {
-    let mut listed = MemFiles::new(&FILES);
+    let mut listed = MemFiles::new(FILES);
     let mut source = listed.open("b.nc")?;
     expect_read(&rt, &mut source, 8, &(1, Ok(3), b"efg"));
     assert!(rt; listed.open("c.nc").is_err());
     Ok(())
+}
+
+/// Fails unless nothing opens at the path.
+fn is_no_file<R: Files<File = File> + Abort>(rt: &R, path: &str) {
+    assert!(rt;
+        matches!(FileSource::open(rt, path), Err(OpenFailed)),
+        "{path}"
+    );
 }
 
 #[test]
@@ -231,11 +240,7 @@ fn only_a_file_of_the_system_opens(rt: HostRuntime) -> Result<(), Fail> {
     fs::remove_file(&rt, path)?;
     assert!(rt; source.len() == 7);
     assert!(rt; files.open(path).is_err());
-    for path in ["no_such_file.nc", "."] {
-        assert!(rt;
-            matches!(FileSource::open(&rt, path), Err(OpenFailed)),
-            "{path}"
-        );
-    }
+    is_no_file(&rt, "no_such_file.nc");
+    is_no_file(&rt, ".");
     Ok(())
 }

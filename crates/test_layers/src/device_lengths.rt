@@ -36,8 +36,11 @@ fn expect_pieces(rt: &impl Abort, bytes: &[u8], room: usize) {
     assert!(rt; 1 <= room && room <= MOST);
     let mut reader = CountedRead::new(bytes);
     for piece in bytes.chunks(room) {
-        assert!(rt; reader.read_some(&mut space[..room]) == Ok(piece.len()));
-        assert!(rt; space.starts_with(piece), "{room}");
+        let found = reader.read_some(&mut space[..room]);
+        assert!(rt;
+            found == Ok(piece.len()) && space.starts_with(piece),
+            "{room}"
+        );
     }
     assert!(rt; reader.read_some(&mut space[..room]) == Ok(0) && reader.failures() == 0);
 }
@@ -86,8 +89,10 @@ fn expect_read_at(
 ) {
     assert!(rt; !into.is_empty() && at < bytes.len() && (at as u64) < source.len());
     let n = source.read_at(at as u64, into);
-    assert!(rt; n == Ok(into.len()), "{at}");
-    assert!(rt; bytes[at..].starts_with(into), "{at}");
+    assert!(rt;
+        n == Ok(into.len()) && bytes[at..].starts_with(into),
+        "{at}"
+    );
 }
 
 /// Reads of every length at the start of a file, and of one byte so far apart that each of them asks the system.
@@ -120,7 +125,7 @@ fn holds_what_was_written<R: Files<File = File> + AllocGlobal + Abort>(
     }
     outputs.close(path, output)?;
     let file = fs::read(rt, path)?;
-    assert_eq!(rt; file.as_slice(), bytes);
+    assert!(rt; file.as_slice() == bytes);
     Ok(())
 }
 

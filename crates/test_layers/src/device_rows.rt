@@ -30,8 +30,7 @@ pub fn expect_read<S: Source>(rt: &impl Abort, source: &mut S, len: usize, read:
     let mut space = [0; 10];
     assert!(rt; 0 < len && len <= 10 && at < source.len());
     let found = source.read_at(at, &mut space[..len]);
-    assert_eq!(rt; found, answer, "at {at}");
-    assert!(rt; space.starts_with(want), "at {at}");
+    assert!(rt; found == answer && space.starts_with(want), "at {at}");
 }
 
 /// Fails unless reads of `len` bytes, one after the other, give these answers and bytes.
@@ -48,7 +47,7 @@ pub fn expect_put<W: Sink>(
     bytes: &[u8],
     answer: Result<(), WriteFailed>,
 ) {
-    assert_eq!(rt; put(sink, bytes), answer);
+    assert!(rt; put(sink, bytes) == answer);
 }
 
 /// Fails unless the sink answers so to one write of these bytes.
@@ -58,7 +57,7 @@ pub fn expect_write<W: Sink>(
     bytes: &[u8],
     answer: Result<usize, SinkFailed>,
 ) {
-    assert_eq!(rt; sink.write_some(bytes), answer);
+    assert!(rt; sink.write_some(bytes) == answer);
 }
 
 /// A source of a file of the system with these bytes, at this path, where the file is removed again.

@@ -4,13 +4,13 @@ use nc_base::{Att, Dim, Header, NcType, NumRecs, Sequence, Var, Version};
 use std::alloc::{AllocError, Global};
 
 /// The name and the length of a dimension.
-pub type NamedLength<'a> = (&'a [u8], u64);
+pub type NamedLength<'a> = (&'a str, u64);
 
-/// The name, the type and the bytes of the values of an attribute.
-pub type NamedValues<'a> = (&'a [u8], NcType, &'a [u8]);
+/// The name, the type and the values of an attribute. Each character of the values stands for a byte.
+pub type NamedValues<'a> = (&'a str, NcType, &'a str);
 
 /// The name of a variable, the ids of its dimensions, its type and where it begins.
-pub type NamedShape<'a> = (&'a [u8], &'a [u64], NcType, u64);
+pub type NamedShape<'a> = (&'a str, &'a [u64], NcType, u64);
 
 /// A header, whose variables have no attributes.
 #[derive(Clone, Copy)]
@@ -31,9 +31,18 @@ pub const EMPTY: HeaderRow<'static> = HeaderRow {
     vars: &[],
 };
 
-/// The bytes as a sequence.
-pub fn sequence(alloc: Global, bytes: &[u8]) -> Result<Sequence<u8>, AllocError> {
-    Ok(Sequence::from_vec(Vec::from_slice(alloc, bytes)?))
+/// The bytes that the characters stand for.
+pub fn bytes_of(alloc: Global, chars: &str) -> Result<Vec<u8>, AllocError> {
+    let mut bytes = Vec::new(alloc);
+    for char in chars.chars() {
+        bytes.push((char as u32 % 256) as u8)?;
+    }
+    Ok(bytes)
+}
+
+/// The bytes that the characters stand for, as a sequence.
+pub fn sequence(alloc: Global, chars: &str) -> Result<Sequence<u8>, AllocError> {
+    Ok(Sequence::from_vec(bytes_of(alloc, chars)?))
 }
 
 /// The dimensions of a row.
@@ -47,7 +56,7 @@ fn dims_of(alloc: Global, rows: &[NamedLength<'_>]) -> Result<Sequence<Dim>, All
 }
 
 /// An attribute of this name, with values of this type.
-pub fn att_of(alloc: Global, name: &[u8], ty: NcType, vals: &[u8]) -> Result<Att, AllocError> {
+pub fn att_of(alloc: Global, name: &str, ty: NcType, vals: &str) -> Result<Att, AllocError> {
     Ok(Att {
         name: sequence(alloc, name)?,
         ty,

@@ -35,7 +35,7 @@ fn expect_header(
     let mut space = [0; 4096];
     assert!(rt; 16 <= buffer_len && buffer_len <= 4096);
     let found = has_no_dims(alloc, source, &mut space[..buffer_len]);
-    assert_eq!(rt; found, want);
+    assert!(rt; found == want);
 }
 
 /// Reads the header with its nth read failing.
@@ -78,11 +78,11 @@ fn reads_header(
 #[test]
 fn headers_drip_in(rt: HostRuntime) {
     const CUT_OFF: HeadFault = HeadFault::Format(FormatFault::HeaderTruncated);
-    const FILES: [(&[u8], Result<bool, HeadFault>); 2] = [(&EMPTY, Ok(true)), (&CUT, Err(CUT_OFF))];
+    const FILES: &[(&[u8], Result<bool, HeadFault>)] = &[(&EMPTY, Ok(true)), (&CUT, Err(CUT_OFF))];
     for (file, want) in FILES {
         for step in [1, 3, 7] {
             for buffer_len in [16, 17, 31, 4096] {
-                reads_header(&rt, rt.alloc(), file, want, step, buffer_len);
+                reads_header(&rt, rt.alloc(), *file, *want, step, buffer_len);
             }
         }
     }
@@ -97,9 +97,8 @@ fn expect_drip(rt: &impl Abort, source: &mut DripSource<'_>, at: usize, step: us
     assert!(rt; at < past && past <= 10 && (at as u64) < source.len());
     let mut into = [0; 10];
     let found = source.read_at(at as u64, &mut into);
-    assert!(rt; found == Ok(past - at), "at {at}");
-    assert!(rt; into.starts_with(&TEXT[at..past]), "at {at}");
-    assert!(rt; source.handed() == past as u128, "at {at}");
+    let is_handed = found == Ok(past - at) && source.handed() == past as u128;
+    assert!(rt; is_handed && into.starts_with(&TEXT[at..past]), "at {at}");
 }
 
 #[test]
@@ -141,7 +140,7 @@ fn fills_slice(rt: &impl Abort, step: usize, len: usize) {
     let mut sink = SliceSink::new(&mut space[..len], step);
     let want = if len < 10 { Err(WriteFailed) } else { Ok(()) };
     expect_put(rt, &mut sink, &TEXT, want);
-    assert_eq!(rt; sink.taken(), &TEXT[..len]);
+    assert!(rt; sink.taken() == &TEXT[..len]);
     expect_write(rt, &mut sink, b"", Ok(0));
     expect_write(rt, &mut sink, b"k", Err(SinkFailed));
 }
@@ -156,5 +155,5 @@ fn slice_takes_what_fits(rt: HostRuntime) {
     let mut sink = SliceSink::new(&mut space, 7);
     expect_write(&rt, &mut sink, b"abcdefgh", Ok(7));
     expect_write(&rt, &mut sink, b"hijkl", Ok(3));
-    assert_eq!(rt; sink.taken(), b"abcdefghij".as_slice());
+    assert!(rt; sink.taken() == b"abcdefghij".as_slice());
 }

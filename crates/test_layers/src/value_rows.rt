@@ -1,6 +1,6 @@
 //! Rows of tests: a variable, its values and their text, printed for every cutting into calls and in sinks of every length.
 
-use crate::header_rows::{self, EMPTY, HeaderRow, att_of, sequence, var_of};
+use crate::header_rows::{self, EMPTY, HeaderRow, att_of, bytes_of, sequence, var_of};
 use cdl_print::ValuePrinter;
 use devices::{Sink, SliceSink, WriteFailed};
 use nc_base::{Dim, Header, NcType, NumRecs};
@@ -9,17 +9,27 @@ use std::process::Abort;
 use std::test::*;
 
 /// A variable, its values and the text that they are to have. Its dimensions have these lengths; 0 stands for the record
-/// dimension.
+/// dimension. Each character of the name, the fill value, the values and the text stands for a byte.
 #[derive(Clone, Copy)]
 pub struct Row<'a> {
-    pub name: &'a [u8],
+    pub name: &'a str,
     pub ty: NcType,
     pub lens: &'a [u64],
     pub records: u64,
-    pub fill: Option<&'a [u8]>,
+    pub fill: Option<&'a str>,
     pub width: usize,
-    pub bytes: &'a [u8],
-    pub text: &'a [u8],
+    pub bytes: &'a str,
+    pub text: &'a str,
+}
+
+/// What is printed of a row: its values, and the text that they are to have.
+#[derive(Clone, Copy)]
+struct Printed<'a> {
+    ty: NcType,
+    records: u64,
+    width: usize,
+    bytes: &'a [u8],
+    text: &'a [u8],
 }
 
 /// Rows that are of one kind, as these words say.
@@ -27,14 +37,14 @@ pub type Group = (&'static str, &'static [Row<'static>]);
 
 /// What rows have that say no more: the name `v`, two records, no fill value, and lines of 80 bytes.
 pub const V: Row<'static> = Row {
-    name: b"v",
+    name: "v",
     ty: NcType::Byte,
     lens: &[],
     records: 2,
     fill: None,
     width: 80,
-    bytes: b"",
-    text: b"",
+    bytes: "",
+    text: "",
 };
 
 /// A header with the variable.
@@ -43,14 +53,14 @@ pub fn header_of(alloc: Global, row: &Row<'_>) -> Result<Header, AllocError> {
     let mut header = header_rows::header_of(alloc, &HeaderRow { numrecs, ..EMPTY })?;
     let mut dimids = Vec::new(alloc);
     for (id, len) in row.lens.iter().enumerate() {
-        let name = sequence(alloc, b"d")?;
+        let name = sequence(alloc, "d")?;
         header.dims.push(Dim { name, len: *len })?;
         dimids.push(id as u64)?;
     }
     let shape = (row.name, dimids.as_slice(), row.ty, 0);
     let mut var = var_of(alloc, shape, &[])?;
     if let Some(fill) = row.fill {
-        let fill = att_of(alloc, b"_FillValue", row.ty, fill)?;
+        let fill = att_of(alloc, "_FillValue", row.ty, fill)?;
         var.atts.push(fill)?;
     }
     header.vars.push(var)?;
@@ -66,7 +76,7 @@ fn two_cuts(first: u32, second: u32) -> u64 {
 fn print<W: Sink>(
     rt: &impl Abort,
     header: &Header,
-    row: &Row<'_>,
+    row: &Printed<'_>,
     cuts: u64,
     sink: &mut W,
 ) -> Result<(), WriteFailed> {
@@ -97,14 +107,14 @@ fn is_same(bytes: &[u8], text: &[u8]) -> bool {
 }
 
 /// Returns true if this cutting gives the text.
-fn is_shown(rt: &impl Abort, header: &Header, row: &Row<'_>, cuts: u64) -> bool {
+fn is_shown(rt: &impl Abort, header: &Header, row: &Printed<'_>, cuts: u64) -> bool {
     let mut into = [0u8; 1200];
     let mut sink = SliceSink::new(&mut into, 1200);
     print(rt, header, row, cuts, &mut sink).is_ok() && is_same(sink.taken(), row.text)
 }
 
 /// Returns true if a sink of this length takes the prefix of the text.
-fn is_cut_off(rt: &impl Abort, header: &Header, row: &Row<'_>, len: usize) -> bool {
+fn is_cut_off(rt: &impl Abort, header: &Header, row: &Printed<'_>, len: usize) -> bool {
     let mut into = [0u8; 1200];
     assert!(rt; len <= 1200 && len <= row.text.len());
     let mut sink = SliceSink::new(&mut into[..len], 1 + len % 5);
@@ -122,6 +132,14 @@ pub fn shows(
     row: &Row<'_>,
 ) -> Result<(), Fail> {
     let header = header_of(alloc, row)?;
+    let (bytes, text) = (bytes_of(alloc, row.bytes)?, bytes_of(alloc, row.text)?);
+    let row = &Printed {
+        ty: row.ty,
+        records: row.records,
+        width: row.width,
+        bytes: bytes.as_slice(),
+        text: text.as_slice(),
+    };
     let count = row.bytes.len() as u64 / row.ty.size();
     let cuttings = if count <= 10 { 1024 } else { 0 };
     for cuts in 0..cuttings {

@@ -9,124 +9,124 @@ use std::test::*;
 
 const HELD_BACK_NULS: &[Row<'static>] = &[
     Row {
-        name: b"c",
+        name: "c",
         ty: NcType::Char,
         lens: &[5],
-        bytes: b"a\0\0b\0",
-        text: b"\n c = \"a\\000\\000b\" ;\n",
+        bytes: "a\0\0b\0",
+        text: "\n c = \"a\\000\\000b\" ;\n",
         ..V
     },
     Row {
-        name: b"c",
+        name: "c",
         ty: NcType::Char,
         lens: &[20],
-        bytes: b"a\0\0\0\0\0\0\0\0\0\0\0\0\0\0\0\0\0\0b",
-        text: b"\n c = \"a\\000\\000\\000\\000\\000\\000\\000\\000\\000\\000\\000\\000\\000\\000\\000\\000\\000\\000b\" ;\n",
+        bytes: "a\0\0\0\0\0\0\0\0\0\0\0\0\0\0\0\0\0\0b",
+        text: "\n c = \"a\\000\\000\\000\\000\\000\\000\\000\\000\\000\\000\\000\\000\\000\\000\\000\\000\\000\\000b\" ;\n",
         ..V
     },
 ];
 
 const HELD_BACK_NULS_IN_ROWS: &[Row<'static>] = &[
     Row {
-        name: b"c",
+        name: "c",
         ty: NcType::Char,
         lens: &[0, 3],
-        bytes: b"a\0\0\0\0\0",
-        text: b"\n c =\n  \"a\",\n  \"\" ;\n",
+        bytes: "a\0\0\0\0\0",
+        text: "\n c =\n  \"a\",\n  \"\" ;\n",
         ..V
     },
     Row {
-        name: b"c",
+        name: "c",
         ty: NcType::Char,
         lens: &[3, 2],
-        bytes: b"\0a\0\0b\0",
-        text: b"\n c =\n  \"\\000a\",\n  \"\",\n  \"b\" ;\n",
+        bytes: "\0a\0\0b\0",
+        text: "\n c =\n  \"\\000a\",\n  \"\",\n  \"b\" ;\n",
         ..V
     },
 ];
 
 const NULS_THAT_ARE_SHOWN: &[Row<'static>] = &[
     Row {
-        name: b"c",
+        name: "c",
         ty: NcType::Char,
         lens: &[0],
-        bytes: b"\0\0",
-        text: b"\n c = \"\\000\\000\" ;\n",
+        bytes: "\0\0",
+        text: "\n c = \"\\000\\000\" ;\n",
         ..V
     },
     Row {
-        name: b"c",
+        name: "c",
         ty: NcType::Char,
         lens: &[0, 3],
-        fill: Some(b"x"),
-        bytes: b"a\0\0\0\0\0",
-        text: b"\n c =\n  \"a\\000\\000\",\n  \"\\000\\000\\000\" ;\n",
+        fill: Some("x"),
+        bytes: "a\0\0\0\0\0",
+        text: "\n c =\n  \"a\\000\\000\",\n  \"\\000\\000\\000\" ;\n",
         ..V
     },
 ];
 
 const CHARACTERS_ARE_ESCAPED: &[Row<'static>] = &[Row {
-    name: b"c",
+    name: "c",
     ty: NcType::Char,
     lens: &[6],
-    bytes: b"\x09\x22\x5c\x7f\xc3\xa9",
-    text: b"\n c = \"\\t\\\"\\\\\\177\xc3\xa9\" ;\n",
+    bytes: "\x09\x22\x5c\x7f\u{c3}\u{a9}",
+    text: "\n c = \"\\t\\\"\\\\\\177\u{c3}\u{a9}\" ;\n",
     ..V
 }];
 
 const FILL_OF_BYTES: &[Row<'static>] = &[
     Row {
-        name: b"b",
+        name: "b",
         ty: NcType::Byte,
-        bytes: b"\x81",
-        text: b"\n b = -127 ;\n",
+        bytes: "\u{81}",
+        text: "\n b = -127 ;\n",
         ..V
     },
     Row {
-        name: b"b",
+        name: "b",
         ty: NcType::Byte,
-        fill: Some(b"\x81"),
-        bytes: b"\x81",
-        text: b"\n b = _ ;\n",
+        fill: Some("\u{81}"),
+        bytes: "\u{81}",
+        text: "\n b = _ ;\n",
         ..V
     },
 ];
 
 const FILL_OF_UNSIGNED_BYTES: &[Row<'static>] = &[
     Row {
-        name: b"b",
+        name: "b",
         ty: NcType::Ubyte,
         lens: &[0],
         records: 3,
-        bytes: b"\xff\xfe\x01",
-        text: b"\n b = 255, 254, 1 ;\n",
+        bytes: "\u{ff}\u{fe}\x01",
+        text: "\n b = 255, 254, 1 ;\n",
         ..V
     },
     Row {
-        name: b"a",
+        name: "a",
         ty: NcType::Ubyte,
-        fill: Some(b"\xff"),
-        bytes: b"\xff",
-        text: b"\n a = _ ;\n",
+        fill: Some("\u{ff}"),
+        bytes: "\u{ff}",
+        text: "\n a = _ ;\n",
         ..V
     },
 ];
 
 const FILL_OF_OTHERS: &[Row<'static>] = &[
     Row {
-        name: b"s",
+        name: "s",
         ty: NcType::Short,
         lens: &[3],
-        bytes: b"\0\x01\x80\x01\0\x03",
-        text: b"\n s = 1, _, 3 ;\n",
+        bytes: "\0\x01\u{80}\x01\0\x03",
+        text: "\n s = 1, _, 3 ;\n",
         ..V
     },
     Row {
-        name: b"b",
+        name: "b",
         ty: NcType::Uint64,
         lens: &[],
-        bytes: b"\xff\xff\xff\xff\xff\xff\xff\xfe",
-        text: b"\n b = _ ;\n",
+        bytes: "\u{ff}\u{ff}\u{ff}\u{ff}\u{ff}\u{ff}\u{ff}\u{fe}",
+        text: "\n b = _ ;\n",
         ..V
     },
 ];
@@ -135,65 +135,65 @@ const FILL_VALUES_OF_FEW_DIGITS: &[Row<'static>] = &[
     Row {
         ty: NcType::Byte,
         lens: &[3],
-        fill: Some(b"\x09"),
-        bytes: b"\x01\x09\x0a",
-        text: b"\n v = 1, _, 10 ;\n",
+        fill: Some("\x09"),
+        bytes: "\x01\x09\x0a",
+        text: "\n v = 1, _, 10 ;\n",
         ..V
     },
     Row {
         ty: NcType::Ubyte,
         lens: &[6],
-        fill: Some(b"\x63"),
-        bytes: b"\0\x09\x0a\x63\x64\xc8",
-        text: b"\n v = 0, 9, 10, _, 100, 200 ;\n",
+        fill: Some("\x63"),
+        bytes: "\0\x09\x0a\x63\x64\u{c8}",
+        text: "\n v = 0, 9, 10, _, 100, 200 ;\n",
         ..V
     },
     Row {
         ty: NcType::Short,
         lens: &[3],
-        fill: Some(b"\0\0"),
-        bytes: b"\0\x01\0\0\0\x0a",
-        text: b"\n v = 1, _, 10 ;\n",
+        fill: Some("\0\0"),
+        bytes: "\0\x01\0\0\0\x0a",
+        text: "\n v = 1, _, 10 ;\n",
         ..V
     },
     Row {
         ty: NcType::Ushort,
         lens: &[3],
-        fill: Some(b"\0\x63"),
-        bytes: b"\0\x62\0\x63\0\x64",
-        text: b"\n v = 98, _, 100 ;\n",
+        fill: Some("\0\x63"),
+        bytes: "\0\x62\0\x63\0\x64",
+        text: "\n v = 98, _, 100 ;\n",
         ..V
     },
     Row {
         ty: NcType::Int,
         lens: &[4],
-        fill: Some(b"\0\0\0\x64"),
-        bytes: b"\0\0\0\x01\0\0\0\x63\0\0\0\x64\0\0\0\x65",
-        text: b"\n v = 1, 99, _, 101 ;\n",
+        fill: Some("\0\0\0\x64"),
+        bytes: "\0\0\0\x01\0\0\0\x63\0\0\0\x64\0\0\0\x65",
+        text: "\n v = 1, 99, _, 101 ;\n",
         ..V
     },
     Row {
         ty: NcType::Uint,
         lens: &[4],
-        fill: Some(b"\0\0\0\x0a"),
-        bytes: b"\0\0\0\x01\0\0\0\x09\0\0\0\x0a\0\0\0\x0b",
-        text: b"\n v = 1, 9, _, 11 ;\n",
+        fill: Some("\0\0\0\x0a"),
+        bytes: "\0\0\0\x01\0\0\0\x09\0\0\0\x0a\0\0\0\x0b",
+        text: "\n v = 1, 9, _, 11 ;\n",
         ..V
     },
     Row {
         ty: NcType::Int64,
         lens: &[4],
-        fill: Some(b"\xff\xff\xff\xff\xff\xff\xff\xff"),
-        bytes: b"\0\0\0\0\0\0\0\x01\xff\xff\xff\xff\xff\xff\xff\xff\0\0\0\0\0\0\0\x63\0\0\0\0\0\0\0\x64",
-        text: b"\n v = 1, _, 99, 100 ;\n",
+        fill: Some("\u{ff}\u{ff}\u{ff}\u{ff}\u{ff}\u{ff}\u{ff}\u{ff}"),
+        bytes: "\0\0\0\0\0\0\0\x01\u{ff}\u{ff}\u{ff}\u{ff}\u{ff}\u{ff}\u{ff}\u{ff}\0\0\0\0\0\0\0\x63\0\0\0\0\0\0\0\x64",
+        text: "\n v = 1, _, 99, 100 ;\n",
         ..V
     },
     Row {
         ty: NcType::Uint64,
         lens: &[3],
-        fill: Some(b"\0\0\0\0\0\0\0\x01"),
-        bytes: b"\0\0\0\0\0\0\0\x01\0\0\0\0\0\0\0\x63\0\0\0\0\0\0\0\x64",
-        text: b"\n v = _, 99, 100 ;\n",
+        fill: Some("\0\0\0\0\0\0\0\x01"),
+        bytes: "\0\0\0\0\0\0\0\x01\0\0\0\0\0\0\0\x63\0\0\0\0\0\0\0\x64",
+        text: "\n v = _, 99, 100 ;\n",
         ..V
     },
 ];
@@ -202,67 +202,67 @@ const FILL_VALUES_AFTER_THE_FIRST: &[Row<'static>] = &[
     Row {
         ty: NcType::Byte,
         lens: &[3],
-        fill: Some(b"\x80"),
-        bytes: b"\x01\x81\x80",
-        text: b"\n v = 1, -127, _ ;\n",
+        fill: Some("\u{80}"),
+        bytes: "\x01\u{81}\u{80}",
+        text: "\n v = 1, -127, _ ;\n",
         ..V
     },
     Row {
         ty: NcType::Byte,
         lens: &[2],
-        bytes: b"\x01\x81",
-        text: b"\n v = 1, -127 ;\n",
+        bytes: "\x01\u{81}",
+        text: "\n v = 1, -127 ;\n",
         ..V
     },
     Row {
         ty: NcType::Ushort,
         lens: &[2],
-        bytes: b"\0\x01\xff\xff",
-        text: b"\n v = 1, _ ;\n",
+        bytes: "\0\x01\u{ff}\u{ff}",
+        text: "\n v = 1, _ ;\n",
         ..V
     },
     Row {
         ty: NcType::Int,
         lens: &[3],
-        bytes: b"\0\0\0\x01\x80\0\0\x01\x80\0\0\0",
-        text: b"\n v = 1, _, -2147483648 ;\n",
+        bytes: "\0\0\0\x01\u{80}\0\0\x01\u{80}\0\0\0",
+        text: "\n v = 1, _, -2147483648 ;\n",
         ..V
     },
     Row {
         ty: NcType::Uint,
         lens: &[2],
-        bytes: b"\0\0\0\x01\xff\xff\xff\xff",
-        text: b"\n v = 1, _ ;\n",
+        bytes: "\0\0\0\x01\u{ff}\u{ff}\u{ff}\u{ff}",
+        text: "\n v = 1, _ ;\n",
         ..V
     },
     Row {
         ty: NcType::Int64,
         lens: &[3],
-        bytes: b"\0\0\0\0\0\0\0\x01\x80\0\0\0\0\0\0\x02\x80\0\0\0\0\0\0\x01",
-        text: b"\n v = 1, _, -9223372036854775807 ;\n",
+        bytes: "\0\0\0\0\0\0\0\x01\u{80}\0\0\0\0\0\0\x02\u{80}\0\0\0\0\0\0\x01",
+        text: "\n v = 1, _, -9223372036854775807 ;\n",
         ..V
     },
     Row {
         ty: NcType::Uint64,
         lens: &[3],
-        bytes: b"\0\0\0\0\0\0\0\x01\xff\xff\xff\xff\xff\xff\xff\xfe\xff\xff\xff\xff\xff\xff\xff\xff",
-        text: b"\n v = 1, _, 18446744073709551615 ;\n",
+        bytes: "\0\0\0\0\0\0\0\x01\u{ff}\u{ff}\u{ff}\u{ff}\u{ff}\u{ff}\u{ff}\u{fe}\u{ff}\u{ff}\u{ff}\u{ff}\u{ff}\u{ff}\u{ff}\u{ff}",
+        text: "\n v = 1, _, 18446744073709551615 ;\n",
         ..V
     },
     Row {
         ty: NcType::Uint64,
         lens: &[3],
-        fill: Some(b"\x7f\xff\xff\xff\xff\xff\xff\xff"),
-        bytes: b"\0\0\0\0\0\0\0\x01\x7f\xff\xff\xff\xff\xff\xff\xff\x80\0\0\0\0\0\0\0",
-        text: b"\n v = 1, _, 9223372036854775808 ;\n",
+        fill: Some("\x7f\u{ff}\u{ff}\u{ff}\u{ff}\u{ff}\u{ff}\u{ff}"),
+        bytes: "\0\0\0\0\0\0\0\x01\x7f\u{ff}\u{ff}\u{ff}\u{ff}\u{ff}\u{ff}\u{ff}\u{80}\0\0\0\0\0\0\0",
+        text: "\n v = 1, _, 9223372036854775808 ;\n",
         ..V
     },
     Row {
         ty: NcType::Uint64,
         lens: &[3],
-        fill: Some(b"\x80\0\0\0\0\0\0\0"),
-        bytes: b"\0\0\0\0\0\0\0\x01\x7f\xff\xff\xff\xff\xff\xff\xff\x80\0\0\0\0\0\0\0",
-        text: b"\n v = 1, 9223372036854775807, _ ;\n",
+        fill: Some("\u{80}\0\0\0\0\0\0\0"),
+        bytes: "\0\0\0\0\0\0\0\x01\x7f\u{ff}\u{ff}\u{ff}\u{ff}\u{ff}\u{ff}\u{ff}\u{80}\0\0\0\0\0\0\0",
+        text: "\n v = 1, 9223372036854775807, _ ;\n",
         ..V
     },
 ];
@@ -271,29 +271,29 @@ const LEAST_AND_GREATEST_OF_SIGNED_TYPES: &[Row<'static>] = &[
     Row {
         ty: NcType::Byte,
         lens: &[12],
-        bytes: b"\x80\x7f\x9c\x9d\xf6\xf7\xff\x00\x09\x0a\x63\x64",
-        text: b"\n v = -128, 127, -100, -99, -10, -9, -1, 0, 9, 10, 99, 100 ;\n",
+        bytes: "\u{80}\x7f\u{9c}\u{9d}\u{f6}\u{f7}\u{ff}\x00\x09\x0a\x63\x64",
+        text: "\n v = -128, 127, -100, -99, -10, -9, -1, 0, 9, 10, 99, 100 ;\n",
         ..V
     },
     Row {
         ty: NcType::Short,
         lens: &[12],
-        bytes: b"\0\0\0\x09\0\x0a\0\x63\0\x64\xff\xff\xff\xf7\xff\xf6\xff\x9d\xff\x9c\x80\0\x7f\xff",
-        text: b"\n v = 0, 9, 10, 99, 100, -1, -9, -10, -99, -100, -32768, 32767 ;\n",
+        bytes: "\0\0\0\x09\0\x0a\0\x63\0\x64\u{ff}\u{ff}\u{ff}\u{f7}\u{ff}\u{f6}\u{ff}\u{9d}\u{ff}\u{9c}\u{80}\0\x7f\u{ff}",
+        text: "\n v = 0, 9, 10, 99, 100, -1, -9, -10, -99, -100, -32768, 32767 ;\n",
         ..V
     },
     Row {
         ty: NcType::Int,
         lens: &[12],
-        bytes: b"\0\0\0\0\0\0\0\x09\0\0\0\x0a\0\0\0\x63\0\0\0\x64\xff\xff\xff\xff\xff\xff\xff\xf7\xff\xff\xff\xf6\xff\xff\xff\x9d\xff\xff\xff\x9c\x80\0\0\0\x7f\xff\xff\xff",
-        text: b"\n v = 0, 9, 10, 99, 100, -1, -9, -10, -99, -100, -2147483648, 2147483647 ;\n",
+        bytes: "\0\0\0\0\0\0\0\x09\0\0\0\x0a\0\0\0\x63\0\0\0\x64\u{ff}\u{ff}\u{ff}\u{ff}\u{ff}\u{ff}\u{ff}\u{f7}\u{ff}\u{ff}\u{ff}\u{f6}\u{ff}\u{ff}\u{ff}\u{9d}\u{ff}\u{ff}\u{ff}\u{9c}\u{80}\0\0\0\x7f\u{ff}\u{ff}\u{ff}",
+        text: "\n v = 0, 9, 10, 99, 100, -1, -9, -10, -99, -100, -2147483648, 2147483647 ;\n",
         ..V
     },
     Row {
         ty: NcType::Int64,
         lens: &[12],
-        bytes: b"\0\0\0\0\0\0\0\0\0\0\0\0\0\0\0\x09\0\0\0\0\0\0\0\x0a\0\0\0\0\0\0\0\x63\0\0\0\0\0\0\0\x64\xff\xff\xff\xff\xff\xff\xff\xff\xff\xff\xff\xff\xff\xff\xff\xf7\xff\xff\xff\xff\xff\xff\xff\xf6\xff\xff\xff\xff\xff\xff\xff\x9d\xff\xff\xff\xff\xff\xff\xff\x9c\x80\0\0\0\0\0\0\0\x7f\xff\xff\xff\xff\xff\xff\xff",
-        text: b"\n v = 0, 9, 10, 99, 100, -1, -9, -10, -99, -100, -9223372036854775808, \n    9223372036854775807 ;\n",
+        bytes: "\0\0\0\0\0\0\0\0\0\0\0\0\0\0\0\x09\0\0\0\0\0\0\0\x0a\0\0\0\0\0\0\0\x63\0\0\0\0\0\0\0\x64\u{ff}\u{ff}\u{ff}\u{ff}\u{ff}\u{ff}\u{ff}\u{ff}\u{ff}\u{ff}\u{ff}\u{ff}\u{ff}\u{ff}\u{ff}\u{f7}\u{ff}\u{ff}\u{ff}\u{ff}\u{ff}\u{ff}\u{ff}\u{f6}\u{ff}\u{ff}\u{ff}\u{ff}\u{ff}\u{ff}\u{ff}\u{9d}\u{ff}\u{ff}\u{ff}\u{ff}\u{ff}\u{ff}\u{ff}\u{9c}\u{80}\0\0\0\0\0\0\0\x7f\u{ff}\u{ff}\u{ff}\u{ff}\u{ff}\u{ff}\u{ff}",
+        text: "\n v = 0, 9, 10, 99, 100, -1, -9, -10, -99, -100, -9223372036854775808, \n    9223372036854775807 ;\n",
         ..V
     },
 ];
@@ -302,50 +302,50 @@ const LEAST_AND_GREATEST_OF_UNSIGNED_TYPES: &[Row<'static>] = &[
     Row {
         ty: NcType::Char,
         lens: &[2],
-        bytes: b"\x00\xff",
-        text: b"\n v = \"\\000\xff\" ;\n",
+        bytes: "\x00\u{ff}",
+        text: "\n v = \"\\000\u{ff}\" ;\n",
         ..V
     },
     Row {
         ty: NcType::Ubyte,
         lens: &[6],
-        bytes: b"\x00\x09\x0a\x63\x64\xff",
-        text: b"\n v = 0, 9, 10, 99, 100, 255 ;\n",
+        bytes: "\x00\x09\x0a\x63\x64\u{ff}",
+        text: "\n v = 0, 9, 10, 99, 100, 255 ;\n",
         ..V
     },
     Row {
         ty: NcType::Ushort,
         lens: &[6],
-        bytes: b"\0\0\0\x09\0\x0a\0\x63\0\x64\xff\xfe",
-        text: b"\n v = 0, 9, 10, 99, 100, 65534 ;\n",
+        bytes: "\0\0\0\x09\0\x0a\0\x63\0\x64\u{ff}\u{fe}",
+        text: "\n v = 0, 9, 10, 99, 100, 65534 ;\n",
         ..V
     },
     Row {
         ty: NcType::Uint,
         lens: &[6],
-        bytes: b"\0\0\0\0\0\0\0\x09\0\0\0\x0a\0\0\0\x63\0\0\0\x64\xff\xff\xff\xfe",
-        text: b"\n v = 0, 9, 10, 99, 100, 4294967294 ;\n",
+        bytes: "\0\0\0\0\0\0\0\x09\0\0\0\x0a\0\0\0\x63\0\0\0\x64\u{ff}\u{ff}\u{ff}\u{fe}",
+        text: "\n v = 0, 9, 10, 99, 100, 4294967294 ;\n",
         ..V
     },
     Row {
         ty: NcType::Uint,
         lens: &[4],
-        bytes: b"\x00\x00\x27\x0f\x00\x00\x27\x10\x05\xf5\xe0\xff\x05\xf5\xe1\x00",
-        text: b"\n v = 9999, 10000, 99999999, 100000000 ;\n",
+        bytes: "\x00\x00\x27\x0f\x00\x00\x27\x10\x05\u{f5}\u{e0}\u{ff}\x05\u{f5}\u{e1}\x00",
+        text: "\n v = 9999, 10000, 99999999, 100000000 ;\n",
         ..V
     },
     Row {
         ty: NcType::Uint64,
         lens: &[4],
-        bytes: b"\x00\x00\x00\xe8\xd4\xa5\x0f\xff\x00\x00\x00\xe8\xd4\xa5\x10\x00\x00\x23\x86\xf2\x6f\xc0\xff\xff\x00\x23\x86\xf2\x6f\xc1\x00\x00",
-        text: b"\n v = 999999999999, 1000000000000, 9999999999999999, 10000000000000000 ;\n",
+        bytes: "\x00\x00\x00\u{e8}\u{d4}\u{a5}\x0f\u{ff}\x00\x00\x00\u{e8}\u{d4}\u{a5}\x10\x00\x00\x23\u{86}\u{f2}\x6f\u{c0}\u{ff}\u{ff}\x00\x23\u{86}\u{f2}\x6f\u{c1}\x00\x00",
+        text: "\n v = 999999999999, 1000000000000, 9999999999999999, 10000000000000000 ;\n",
         ..V
     },
     Row {
         ty: NcType::Uint64,
         lens: &[8],
-        bytes: b"\0\0\0\0\0\0\0\0\0\0\0\0\0\0\0\x09\0\0\0\0\0\0\0\x0a\0\0\0\0\0\0\0\x63\0\0\0\0\0\0\0\x64\x7f\xff\xff\xff\xff\xff\xff\xff\x80\0\0\0\0\0\0\0\xff\xff\xff\xff\xff\xff\xff\xff",
-        text: b"\n v = 0, 9, 10, 99, 100, 9223372036854775807, 9223372036854775808, \n    18446744073709551615 ;\n",
+        bytes: "\0\0\0\0\0\0\0\0\0\0\0\0\0\0\0\x09\0\0\0\0\0\0\0\x0a\0\0\0\0\0\0\0\x63\0\0\0\0\0\0\0\x64\x7f\u{ff}\u{ff}\u{ff}\u{ff}\u{ff}\u{ff}\u{ff}\u{80}\0\0\0\0\0\0\0\u{ff}\u{ff}\u{ff}\u{ff}\u{ff}\u{ff}\u{ff}\u{ff}",
+        text: "\n v = 0, 9, 10, 99, 100, 9223372036854775807, 9223372036854775808, \n    18446744073709551615 ;\n",
         ..V
     },
 ];
@@ -354,17 +354,17 @@ const GREATEST_WHERE_IT_IS_NO_FILL_VALUE: &[Row<'static>] = &[
     Row {
         ty: NcType::Ushort,
         lens: &[2],
-        fill: Some(b"\0\x01"),
-        bytes: b"\0\0\xff\xff",
-        text: b"\n v = 0, 65535 ;\n",
+        fill: Some("\0\x01"),
+        bytes: "\0\0\u{ff}\u{ff}",
+        text: "\n v = 0, 65535 ;\n",
         ..V
     },
     Row {
         ty: NcType::Uint,
         lens: &[2],
-        fill: Some(b"\0\0\0\x01"),
-        bytes: b"\0\0\0\0\xff\xff\xff\xff",
-        text: b"\n v = 0, 4294967295 ;\n",
+        fill: Some("\0\0\0\x01"),
+        bytes: "\0\0\0\0\u{ff}\u{ff}\u{ff}\u{ff}",
+        text: "\n v = 0, 4294967295 ;\n",
         ..V
     },
 ];
@@ -418,7 +418,7 @@ fn prints(
 #[test]
 fn held_nuls_wait(rt: HostRuntime) -> Result<(), Fail> {
     const ROW: Row<'static> = Row {
-        name: b"c",
+        name: "c",
         ty: NcType::Char,
         lens: &[5],
         ..V

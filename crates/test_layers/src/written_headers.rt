@@ -19,14 +19,14 @@ const CDF1: HeaderRow<'static> = HeaderRow {
 
 /// `short s(x)`, x = 3.
 const ONE_VARIABLE: HeaderRow<'static> = HeaderRow {
-    dims: &[(b"x", 3)],
-    vars: &[(b"s", &[0], NcType::Short, 0)],
+    dims: &[("x", 3)],
+    vars: &[("s", &[0], NcType::Short, 0)],
     ..CDF1
 };
 
 /// `byte a(x)` and `byte b(x)`.
 const TWO_VARIABLES: HeaderRow<'static> = HeaderRow {
-    vars: &[(b"a", &[0], NcType::Byte, 0), (b"b", &[0], NcType::Byte, 0)],
+    vars: &[("a", &[0], NcType::Byte, 0), ("b", &[0], NcType::Byte, 0)],
     ..CDF1
 };
 
@@ -83,7 +83,7 @@ const ONE_VARIABLE_CDF5: &[u8] = b"CDF\x05\0\0\0\0\0\0\0\0\
 /// A header whose number of records is unknown, and its bytes.
 const STREAMING: HeaderRow<'static> = HeaderRow {
     numrecs: NumRecs::Streaming,
-    dims: &[(b"t", 0)],
+    dims: &[("t", 0)],
     ..CDF1
 };
 
@@ -95,7 +95,7 @@ const STREAMING_BYTES: &[u8] = b"CDF\x01\xff\xff\xff\xff\
 
 /// A header whose attribute is padded, and its bytes.
 const NOTED: HeaderRow<'static> = HeaderRow {
-    gatts: &[(b"note", NcType::Char, b"a\nbc\n")],
+    gatts: &[("note", NcType::Char, "a\nbc\n")],
     ..CDF1
 };
 
@@ -112,7 +112,7 @@ fn of_version(version: Version, row: HeaderRow<'static>) -> HeaderRow<'static> {
 
 #[test]
 fn headers_have_their_bytes(rt: HostRuntime) -> Result<(), Fail> {
-    const ROWS: [(Version, HeaderRow<'static>, &[u8]); 5] = [
+    const ROWS: &[(Version, HeaderRow<'static>, &[u8])] = &[
         (Version::Cdf1, ONE_VARIABLE, ONE_VARIABLE_CDF1),
         (Version::Cdf2, ONE_VARIABLE, ONE_VARIABLE_CDF2),
         (Version::Cdf5, ONE_VARIABLE, ONE_VARIABLE_CDF5),
@@ -120,11 +120,11 @@ fn headers_have_their_bytes(rt: HostRuntime) -> Result<(), Fail> {
         (Version::Cdf1, NOTED, NOTED_BYTES),
     ];
     for (version, row, want) in ROWS {
-        let header = header_of(rt.alloc(), &of_version(version, row))?;
+        let header = header_of(rt.alloc(), &of_version(*version, *row))?;
         assert!(rt; header_len(&header) == want.len() as u64);
         let mut sink = MemSink::new(rt.alloc());
         assert!(rt; writes(&rt, header, &mut sink));
-        assert_eq!(rt; sink.as_slice(), want);
+        assert!(rt; sink.as_slice() == *want);
     }
     Ok(())
 }
@@ -148,21 +148,21 @@ fn expect_begins(rt: &impl Abort, header: Header, len: u64, begins: Option<&[u64
 
 #[test]
 fn variables_begin_after_each_other(rt: HostRuntime) -> Result<(), Fail> {
-    const BYTE: NamedShape<'static> = (b"b", &[0], NcType::Byte, 0);
-    const SHORT: NamedShape<'static> = (b"s", &[0], NcType::Short, 0);
+    const BYTE: NamedShape<'static> = ("b", &[0], NcType::Byte, 0);
+    const SHORT: NamedShape<'static> = ("s", &[0], NcType::Short, 0);
     // records begin after the other variables
     const RECORDS: HeaderRow<'static> = HeaderRow {
-        dims: &[(b"t", 0), (b"y", 2), (b"x", 2)],
+        dims: &[("t", 0), ("y", 2), ("x", 2)],
         vars: &[
-            (b"a", &[0], NcType::Int, 0),
-            (b"b", &[0, 1, 2], NcType::Int, 0),
-            (b"c", &[], NcType::Int, 0),
+            ("a", &[0], NcType::Int, 0),
+            ("b", &[0, 1, 2], NcType::Int, 0),
+            ("c", &[], NcType::Int, 0),
         ],
         ..CDF1
     };
     // narrow records are padded in company
     const ALONE: HeaderRow<'static> = HeaderRow {
-        dims: &[(b"t", 0)],
+        dims: &[("t", 0)],
         vars: &[BYTE],
         ..CDF1
     };
@@ -172,18 +172,18 @@ fn variables_begin_after_each_other(rt: HostRuntime) -> Result<(), Fail> {
     };
     // offsets have a limit, but for that of CDF-2
     const TOO_LONG: HeaderRow<'static> = HeaderRow {
-        dims: &[(b"x", 2147483647)],
+        dims: &[("x", 2147483647)],
         ..TWO_VARIABLES
     };
     const AT_LIMIT: HeaderRow<'static> = HeaderRow {
-        dims: &[(b"x", 2147483532)],
+        dims: &[("x", 2147483532)],
         ..TWO_VARIABLES
     };
     const BELOW: HeaderRow<'static> = HeaderRow {
-        dims: &[(b"x", 2147483528)],
+        dims: &[("x", 2147483528)],
         ..TWO_VARIABLES
     };
-    const ROWS: [(Version, HeaderRow<'static>, u64, Option<&[u64]>); 7] = [
+    const ROWS: &[(Version, HeaderRow<'static>, u64, Option<&[u64]>)] = &[
         (Version::Cdf1, RECORDS, 180, Some(&[184, 188, 180])),
         (Version::Cdf1, ALONE, 80, Some(&[80])),
         (Version::Cdf1, BOTH, 116, Some(&[116, 120])),
@@ -193,31 +193,31 @@ fn variables_begin_after_each_other(rt: HostRuntime) -> Result<(), Fail> {
         (Version::Cdf1, BELOW, 116, Some(&[116, 2147483644])),
     ];
     for (version, row, len, begins) in ROWS {
-        let header = header_of(rt.alloc(), &of_version(version, row))?;
-        expect_begins(&rt, header, len, begins);
+        let header = header_of(rt.alloc(), &of_version(*version, *row))?;
+        expect_begins(&rt, header, *len, *begins);
     }
     Ok(())
 }
 
 /// `int a(x)`, x = 2147483647: a slab of 8589934588 bytes.
 const LONG_SLAB: HeaderRow<'static> = HeaderRow {
-    dims: &[(b"x", 2147483647)],
-    vars: &[(b"a", &[0], NcType::Int, 0)],
+    dims: &[("x", 2147483647)],
+    vars: &[("a", &[0], NcType::Int, 0)],
     ..CDF1
 };
 
 #[test]
 fn long_slabs_have_the_greatest_vsize(rt: HostRuntime) -> Result<(), Fail> {
-    const ROWS: [(Version, usize, &[u8]); 2] = [
+    const ROWS: &[(Version, usize, &[u8])] = &[
         (Version::Cdf2, 72, b"\xff\xff\xff\xff"),
         (Version::Cdf5, 112, b"\0\0\0\x01\xff\xff\xff\xfc"),
     ];
     for (version, at, want) in ROWS {
-        let header = header_of(rt.alloc(), &of_version(version, LONG_SLAB))?;
+        let header = header_of(rt.alloc(), &of_version(*version, LONG_SLAB))?;
         let mut sink = MemSink::new(rt.alloc());
         assert!(rt; writes(&rt, header, &mut sink));
-        let rest = sink.as_slice().get(at..).ok_or("too few bytes")?;
-        assert!(rt; rest.starts_with(want), "{version:?}");
+        let rest = sink.as_slice().get(*at..).ok_or("too few bytes")?;
+        assert!(rt; rest.starts_with(*want), "{version:?}");
     }
     Ok(())
 }

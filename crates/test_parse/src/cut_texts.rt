@@ -1,8 +1,8 @@
 //! A text, whole and cut: each of its prefixes and each of its suffixes.
 
-use crate::parsing::{NOTHING, PLAIN, Wanted, WantedVar, give, parsed, refuses};
+use crate::parsing::{give, parsed, refuses};
 use cdl_parse::CdlKind;
-use nc_base::{NcType, Version};
+use nc_base::Version;
 use std::test::*;
 
 /// A text of one variable of three shorts, over seven lines.
@@ -10,19 +10,13 @@ const THREE_SHORTS: &'static [u8] =
     b"netcdf t {\ndimensions:\n x = 3 ;\nvariables:\n short s(x) ;\ndata:\n s = 1, _, 3 ;\n}\n";
 
 #[test]
-fn three_shorts(rt: HostRuntime) {
-    const WANT: Wanted<'static> = Wanted {
-        dims: &[(b"x", 3)],
-        vars: &[WantedVar {
-            name: b"s",
-            ty: NcType::Short,
-            dimids: &[0],
-            values: b"\x00\x01\x80\x01\x00\x03",
-            ..PLAIN
-        }],
-        ..NOTHING
-    };
-    give(&rt, rt.alloc(), THREE_SHORTS, &WANT);
+fn three_shorts(rt: HostRuntime) -> Result<(), Fail> {
+    const WANT: &str = r#"Known(0)
+x = 3
+s Short [0]
+= "\x00\x01\x80\x01\x00\x03""#;
+    give(&rt, rt.alloc(), THREE_SHORTS, WANT)?;
+    Ok(())
 }
 
 /// How many line feeds the bytes have.

@@ -1,27 +1,26 @@
 //! Texts with each of the 256 bytes.
 
-use crate::parsing::{NOTHING, gives, joined, refuses};
+use crate::parsing::{NOTHING, between, gives};
 use cdl_parse::CdlKind;
 use nc_base::Version;
-use std::alloc::Global;
+use std::alloc::{AllocError, Global};
 use std::process::Abort;
 use std::test::*;
 
-/// Fails unless the text of these parts has this fault, or gives a dataset in which nothing is declared.
+/// Fails unless the byte between what stands before and after it has this fault, or gives a dataset in which nothing is declared.
 fn answers(
     rt: &impl Abort,
     alloc: Global,
-    parts: &[&[u8]],
+    (before, byte, after): (&str, u8, &str),
     line: u64,
     want: Option<CdlKind>,
-) -> Result<(), Fail> {
-    let text = joined(alloc, parts)?;
-    let text = text.as_slice();
-    match want {
-        Some(kind) => refuses(rt, alloc, Version::Cdf1, text, line, kind),
-        None => gives(rt, alloc, Version::Cdf1, text, &NOTHING),
-    }
-    Ok(())
+) -> Result<(), AllocError> {
+    let text = between(alloc, before, &[byte], after)?;
+    let want = match want {
+        Some(kind) => format!(in alloc; "{line} {kind:?}")?,
+        None => String::from_str(alloc, NOTHING)?,
+    };
+    gives(rt, alloc, Version::Cdf1, text.as_slice(), want.as_str())
 }
 
 /// The fault of a byte between the braces of a text; none for white space.
@@ -73,20 +72,20 @@ fn fault_before_braces(byte: u8) -> Option<CdlKind> {
 }
 
 /// Fails unless texts with this byte have their faults.
-fn answers_byte(rt: &impl Abort, alloc: Global, byte: u8) -> Result<(), Fail> {
+fn answers_byte(rt: &impl Abort, alloc: Global, byte: u8) -> Result<(), AllocError> {
     let line = if byte == b'\n' { 2 } else { 1 };
-    answers(rt, alloc, &[&[byte]], line, Some(fault_alone(byte)))?;
+    answers(rt, alloc, ("", byte, ""), line, Some(fault_alone(byte)))?;
     let within = fault_within(byte);
-    answers(rt, alloc, &[b"netcdf t {", &[byte], b"}"], 1, within)?;
+    answers(rt, alloc, ("netcdf t {", byte, "}"), 1, within)?;
     let (line, want) = (line_of_fault(byte), fault_on_a_line(byte));
-    answers(rt, alloc, &[b"netcdf t {\n", &[byte], b"\n}"], line, want)?;
+    answers(rt, alloc, ("netcdf t {\n", byte, "\n}"), line, want)?;
     let in_name = match byte {
         b'{' => Some(CdlKind::BadToken),
         _ => None,
     };
-    answers(rt, alloc, &[b"netcdf ", &[byte], b"t\n{}"], 1, in_name)?;
+    answers(rt, alloc, ("netcdf ", byte, "t\n{}"), 1, in_name)?;
     let before = fault_before_braces(byte);
-    answers(rt, alloc, &[b"netcdf", &[byte], b"{}"], 1, before)
+    answers(rt, alloc, ("netcdf", byte, "{}"), 1, before)
 }
 
 #[test]

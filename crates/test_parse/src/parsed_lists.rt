@@ -2,110 +2,122 @@
 //! among them, and with a fault.
 
 use crate::number_ranges::{Number, RANGES, ends_of};
-use crate::parsing::{Group, VERSIONS, joined, parsed, refuse_groups, refuses, refuses_in_all};
+use crate::parsing::{Group, VERSIONS, gives, joined, refuse_groups, refuses_in_all, values_of};
 use cdl_parse::{CdlFault, CdlKind};
 use nc_base::Version;
 use std::alloc::{AllocError, Global};
 use std::process::Abort;
 use std::test::*;
 
-/// Fails unless the text gives one variable with these values.
-fn has_values(rt: &impl Abort, alloc: Global, version: Version, text: &[u8], want: &[u8]) {
-    match parsed(alloc, version, text) {
-        Ok(dataset) => {
-            assert!(rt; dataset.arrays.len() == 1);
-            for array in dataset.arrays.as_slice() {
-                assert!(rt; array.as_slice() == want, "{want:?}");
-            }
-        }
-        Err(fault) => assert!(rt; false, "{fault:?}: {text:?}"),
-    }
+/// Fails unless the text gives one variable with these values, which are escaped.
+fn has_values(
+    rt: &impl Abort,
+    alloc: Global,
+    version: Version,
+    text: &[u8],
+    want: &str,
+) -> Result<(), AllocError> {
+    let found = values_of(alloc, version, text)?;
+    let want = joined(alloc, &["\n= \"", want, "\""])?;
+    assert!(rt; found.as_str() == want.as_str(), "{found}: {text:?}");
+    Ok(())
 }
 
-/// Fails unless the text gives one variable with these values, whatever the version.
-fn have_values(rt: &impl Abort, alloc: Global, text: &[u8], want: &[u8]) {
-    for version in VERSIONS {
-        has_values(rt, alloc, version, text, want);
-    }
+/// Fails unless the text gives one variable with these values, which are escaped, whatever the version.
+fn have_values(rt: &impl Abort, alloc: Global, text: &[u8], want: &str) -> Result<(), AllocError> {
+    has_values(rt, alloc, Version::Cdf1, text, want)?;
+    has_values(rt, alloc, Version::Cdf2, text, want)?;
+    has_values(rt, alloc, Version::Cdf5, text, want)
 }
 
-/// A text up to the values of its variable, written values, and the values that the variable has then.
-type List = (&'static [u8], &'static [u8], &'static [u8]);
+/// A text up to the values of its variable, written values, and the values that the variable has then, which are escaped.
+type List = (&'static str, &'static str, &'static str);
 
 /// The text of six bytes, and of four rows of three characters.
-const SIX: &[u8] = b"netcdf t {\ndimensions: x = 6 ;\nvariables: byte b(x) ;\ndata: b = ";
+const SIX: &str = "netcdf t {\ndimensions: x = 6 ;\nvariables: byte b(x) ;\ndata: b = ";
 
-const ROWS: &[u8] =
-    b"netcdf t {\ndimensions: r = 4, x = 3 ;\nvariables: char c(r, x) ;\ndata: c = ";
+const ROWS: &str = "netcdf t {\ndimensions: r = 4, x = 3 ;\nvariables: char c(r, x) ;\ndata: c = ";
 
 /// Lists with the values that they give.
 const LISTS: &[List] = &[
     // missing values are -127
-    (SIX, b"1", b"\x01\x81\x81\x81\x81\x81"),
-    (SIX, b"1, 2", b"\x01\x02\x81\x81\x81\x81"),
-    (SIX, b"1, 2, 3", b"\x01\x02\x03\x81\x81\x81"),
-    (SIX, b"1, 2, 3, 4", b"\x01\x02\x03\x04\x81\x81"),
-    (SIX, b"1, 2, 3, 4, 5, 6", b"\x01\x02\x03\x04\x05\x06"),
-    (SIX, b"1,2,3,4,5,6", b"\x01\x02\x03\x04\x05\x06"),
-    (SIX, b"1 ,2  ,3 ,  4  ,  5 ,6", b"\x01\x02\x03\x04\x05\x06"),
+    (SIX, "1", r"\x01\x81\x81\x81\x81\x81"),
+    (SIX, "1, 2", r"\x01\x02\x81\x81\x81\x81"),
+    (SIX, "1, 2, 3", r"\x01\x02\x03\x81\x81\x81"),
+    (SIX, "1, 2, 3, 4", r"\x01\x02\x03\x04\x81\x81"),
+    (SIX, "1, 2, 3, 4, 5, 6", r"\x01\x02\x03\x04\x05\x06"),
+    (SIX, "1,2,3,4,5,6", r"\x01\x02\x03\x04\x05\x06"),
+    (SIX, "1 ,2  ,3 ,  4  ,  5 ,6", r"\x01\x02\x03\x04\x05\x06"),
     (
         SIX,
-        b"1\n,\n2\n\n,3\t,\r\n4\x0b,\x0c5\n ,\n 6",
-        b"\x01\x02\x03\x04\x05\x06",
+        "1\n,\n2\n\n,3\t,\r\n4\x0b,\x0c5\n ,\n 6",
+        r"\x01\x02\x03\x04\x05\x06",
     ),
-    (SIX, b"1, -2, +3, -0, +0, 6", b"\x01\xfe\x03\0\0\x06"),
+    (SIX, "1, -2, +3, -0, +0, 6", r"\x01\xfe\x03\x00\x00\x06"),
+    (SIX, "1, 127, -128, 100, -99, 6", r"\x01\x7f\x80d\x9d\x06"),
+    (SIX, "1, 010, 2, -010, 3, 00", r"\x01\x08\x02\xf8\x03\x00"),
+    (SIX, "1,010,2,3", r"\x01\x08\x02\x03\x81\x81"),
     (
         SIX,
-        b"1, 127, -128, 100, -99, 6",
-        b"\x01\x7f\x80\x64\x9d\x06",
+        "1, 0x10, 2, -0X1f, 3, 0x0",
+        r"\x01\x10\x02\xe1\x03\x00",
     ),
-    (SIX, b"1, 010, 2, -010, 3, 00", b"\x01\x08\x02\xf8\x03\0"),
-    (SIX, b"1,010,2,3", b"\x01\x08\x02\x03\x81\x81"),
-    (SIX, b"1, 0x10, 2, -0X1f, 3, 0x0", b"\x01\x10\x02\xe1\x03\0"),
-    (SIX, b"1, 2b, 3, 4s, 5, 6L", b"\x01\x02\x03\x04\x05\x06"),
-    (SIX, b"1, 2, _, 4, _, 6", b"\x01\x02\x81\x04\x81\x06"),
+    (SIX, "1, 2b, 3, 4s, 5, 6L", r"\x01\x02\x03\x04\x05\x06"),
+    (SIX, "1, 2, _, 4, _, 6", r"\x01\x02\x81\x04\x81\x06"),
     (
         SIX,
-        b"1, 2, // 3,\n 4, 5 // 6\n, 7",
-        b"\x01\x02\x04\x05\x07\x81",
+        "1, 2, // 3,\n 4, 5 // 6\n, 7",
+        r"\x01\x02\x04\x05\x07\x81",
     ),
-    (SIX, b"1//,\n, 2 // 3\n, 4, 5", b"\x01\x02\x04\x05\x81\x81"),
-    (ROWS, b"\"\"", b"\0\0\0\0\0\0\0\0\0\0\0\0"),
-    (ROWS, b"\"a\", \"bc\"", b"a\0\0bc\0\0\0\0\0\0\0"),
-    (ROWS, b"\"abc\",\"def\",\"ghi\",\"jkl\"", b"abcdefghijkl"),
+    (SIX, "1//,\n, 2 // 3\n, 4, 5", r"\x01\x02\x04\x05\x81\x81"),
     (
         ROWS,
-        b"\"abc\"\n,\t\"de\" ,\n\n  \"\", \"f\"",
-        b"abcde\0\0\0\0f\0\0",
+        "\"\"",
+        r"\x00\x00\x00\x00\x00\x00\x00\x00\x00\x00\x00\x00",
     ),
     (
         ROWS,
-        b"\"a\", \"\\n\\x41\", \"b\", \"\\\"\\\\\"",
-        b"a\0\0\nA\0b\0\0\"\\\0",
+        "\"a\", \"bc\"",
+        r"a\x00\x00bc\x00\x00\x00\x00\x00\x00\x00",
+    ),
+    (ROWS, "\"abc\",\"def\",\"ghi\",\"jkl\"", r"abcdefghijkl"),
+    (
+        ROWS,
+        "\"abc\"\n,\t\"de\" ,\n\n  \"\", \"f\"",
+        r"abcde\x00\x00\x00\x00f\x00\x00",
     ),
     (
         ROWS,
-        b"\"a\", \"b\nc\", \"d\", \"e\"",
-        b"a\0\0b\ncd\0\0e\0\0",
+        "\"a\", \"\\n\\x41\", \"b\", \"\\\"\\\\\"",
+        r#"a\x00\x00\nA\x00b\x00\x00\"\\\x00"#,
     ),
     (
         ROWS,
-        b"\"a\", \"\\t\", \"b\", \"c\"",
-        b"a\0\0\t\0\0b\0\0c\0\0",
+        "\"a\", \"b\nc\", \"d\", \"e\"",
+        r"a\x00\x00b\ncd\x00\x00e\x00\x00",
     ),
     (
         ROWS,
-        b"\"a\", // \"b\", \"long\",\n \"c\" // \"d\"\n, \"e\"",
-        b"a\0\0c\0\0e\0\0\0\0\0",
+        "\"a\", \"\\t\", \"b\", \"c\"",
+        r"a\x00\x00\t\x00\x00b\x00\x00c\x00\x00",
     ),
-    (ROWS, b"\"'\", \"//\", \",;}\", \"_\"", b"'\0\0//\0,;}_\0\0"),
+    (
+        ROWS,
+        "\"a\", // \"b\", \"long\",\n \"c\" // \"d\"\n, \"e\"",
+        r"a\x00\x00c\x00\x00e\x00\x00\x00\x00\x00",
+    ),
+    (
+        ROWS,
+        "\"'\", \"//\", \",;}\", \"_\"",
+        r"\'\x00\x00//\x00,;}_\x00\x00",
+    ),
 ];
 
 #[test]
 fn lists_have_their_values(rt: HostRuntime) -> Result<(), Fail> {
     for (before, values, want) in LISTS {
-        let text = joined(rt.alloc(), &[*before, *values, b" ;\n}\n"])?;
-        have_values(&rt, rt.alloc(), text.as_slice(), *want);
+        let text = joined(rt.alloc(), &[*before, *values, " ;\n}\n"])?;
+        have_values(&rt, rt.alloc(), text.as_bytes(), *want)?;
     }
     Ok(())
 }
@@ -178,49 +190,43 @@ fn faults_in_lists(rt: HostRuntime) -> Result<(), Fail> {
 }
 
 /// A text with three rows of these letters. These escapes follow the second row.
-fn with_escapes(alloc: Global, letters: &[u8], escapes: &[u8]) -> Result<Vec<u8>, AllocError> {
-    let parts: [&[u8]; 8] = [
-        b"netcdf t {\ndimensions: r = 3, x = 202 ;\nvariables: char c(r, x) ;\ndata: c = \"",
+fn with_escapes(alloc: Global, letters: &str, escapes: &str) -> Result<String, AllocError> {
+    let parts = [
+        "netcdf t {\ndimensions: r = 3, x = 202 ;\nvariables: char c(r, x) ;\ndata: c = \"",
         letters,
-        b"\", \"",
+        "\", \"",
         letters,
         escapes,
-        b"\", \"",
+        "\", \"",
         letters,
-        b"\" ; }",
+        "\" ; }",
     ];
     joined(alloc, &parts)
 }
 
-/// Fails unless such a text of `len` letters has its values, and is refused where it has a bad escape.
-fn is_read(rt: &impl Abort, alloc: Global, len: usize) -> Result<(), Fail> {
+/// Fails unless such a text of these letters has its values, and is refused where it has a bad escape. Escaped NULs fill up a row.
+fn is_read(rt: &impl Abort, alloc: Global, letters: &str, nuls: &str) -> Result<(), AllocError> {
     const BAD: CdlFault = CdlFault {
         line: 4,
         kind: CdlKind::BadToken,
     };
-    let letters = Vec::from_elem(alloc, b'a', len.min(200))?;
-    let padding = Vec::from_elem(alloc, 0u8, 202 - letters.len())?;
-    let bad = with_escapes(alloc, letters.as_slice(), b"\\n\\x")?;
-    refuses_in_all(rt, alloc, "a bad escape", bad.as_slice(), BAD);
-    let text = with_escapes(alloc, letters.as_slice(), b"\\n\\\"")?;
-    let rows: [&[u8]; 7] = [
-        letters.as_slice(),
-        padding.as_slice(),
-        letters.as_slice(),
-        b"\n\"",
-        &padding.as_slice()[2..],
-        letters.as_slice(),
-        padding.as_slice(),
+    let bad = with_escapes(alloc, letters, "\\n\\x")?;
+    refuses_in_all(rt, alloc, "a bad escape", bad.as_bytes(), BAD);
+    let text = with_escapes(alloc, letters, "\\n\\\"")?;
+    let two_nuls = r"\x00\x00";
+    let rows = [
+        letters, nuls, two_nuls, letters, r#"\n\""#, nuls, letters, nuls, two_nuls,
     ];
     let want = joined(alloc, &rows)?;
-    have_values(rt, alloc, text.as_slice(), want.as_slice());
-    Ok(())
+    have_values(rt, alloc, text.as_bytes(), want.as_str())
 }
 
 #[test]
 fn strings_of_every_length(rt: HostRuntime) -> Result<(), Fail> {
     for len in 0..150 {
-        is_read(&rt, rt.alloc(), len)?;
+        let letters = "a".repeat(rt.alloc(), len)?;
+        let nuls = r"\x00".repeat(rt.alloc(), 200 - len)?;
+        is_read(&rt, rt.alloc(), letters.as_str(), nuls.as_str())?;
     }
     Ok(())
 }
@@ -229,41 +235,42 @@ fn strings_of_every_length(rt: HostRuntime) -> Result<(), Fail> {
 fn refuses_after_lines(
     rt: &impl Abort,
     alloc: Global,
-    last: &[u8],
+    last: &str,
     kind: CdlKind,
 ) -> Result<(), Fail> {
-    let feeds = Vec::from_elem(alloc, b'\n', 10000)?;
-    let letters = Vec::from_elem(alloc, b'a', 100)?;
-    let parts: [&[u8]; 15] = [
-        b"netcdf t {\ndimensions: x = 6, y = 10000 ;\nvariables: byte b(x), c(x) ; char m(x, y), s(y) ;\ndata: b = 1, 2, 3",
-        feeds.as_slice(),
-        b", ",
-        feeds.as_slice(),
-        b"4, 5, 6 ; m = \"ab\", \"c\", ",
-        feeds.as_slice(),
-        b"\"d\ne\", \"",
-        letters.as_slice(),
-        b"\n",
-        letters.as_slice(),
-        b"\", \"f\" ; s = \"",
-        feeds.as_slice(),
-        b"\" ; c = ",
+    let feeds = "\n".repeat(alloc, 10000)?;
+    let letters = "a".repeat(alloc, 100)?;
+    let (feeds, letters) = (feeds.as_str(), letters.as_str());
+    let parts = [
+        "netcdf t {\ndimensions: x = 6, y = 10000 ;\nvariables: byte b(x), c(x) ; char m(x, y), s(y) ;\ndata: b = 1, 2, 3",
+        feeds,
+        ", ",
+        feeds,
+        "4, 5, 6 ; m = \"ab\", \"c\", ",
+        feeds,
+        "\"d\ne\", \"",
+        letters,
+        "\n",
+        letters,
+        "\", \"f\" ; s = \"",
+        feeds,
+        "\" ; c = ",
         last,
-        b" ;\n}\n",
+        " ;\n}\n",
     ];
     let text = joined(alloc, &parts)?;
     let want = CdlFault { line: 40006, kind };
-    refuses_in_all(rt, alloc, "a fault after lines", text.as_slice(), want);
+    refuses_in_all(rt, alloc, "a fault after lines", text.as_bytes(), want);
     Ok(())
 }
 
 #[test]
 fn faults_after_many_lines(rt: HostRuntime) -> Result<(), Fail> {
-    const ROWS: &[(&[u8], CdlKind)] = &[
-        (b"1, 128, 3", CdlKind::NumberRange),
-        (b"1, 2, 3, 4, 5, 6, 7, 8", CdlKind::TooManyValues),
-        (b"1, 2, 3 4", CdlKind::Syntax),
-        (b"1, \"a\", 3", CdlKind::WrongKind),
+    const ROWS: &[(&str, CdlKind)] = &[
+        ("1, 128, 3", CdlKind::NumberRange),
+        ("1, 2, 3, 4, 5, 6, 7, 8", CdlKind::TooManyValues),
+        ("1, 2, 3 4", CdlKind::Syntax),
+        ("1, \"a\", 3", CdlKind::WrongKind),
     ];
     for (last, kind) in ROWS {
         refuses_after_lines(&rt, rt.alloc(), *last, *kind)?;
@@ -271,37 +278,29 @@ fn faults_after_many_lines(rt: HostRuntime) -> Result<(), Fail> {
     Ok(())
 }
 
-/// The bytes of a value between zeros, one before it and two after it.
-fn between_zeros(alloc: Global, bytes: &[u8]) -> Result<Vec<u8>, AllocError> {
-    const ZEROS: &[u8] = b"\0\0\0\0\0\0\0\0";
-    let zero = &ZEROS[..bytes.len().min(8)];
-    joined(alloc, &[zero, bytes, zero, zero])
-}
-
-/// Fails unless a number between others of a list has these bytes, or is out of the range.
+/// Fails unless a number between others of a list has these escaped bytes, or is out of the range.
 fn is_listed(
     rt: &impl Abort,
     alloc: Global,
     version: Version,
-    word: &'static [u8],
-    number: Number,
-    want: Option<&[u8]>,
-) -> Result<(), Fail> {
-    let parts: [&[u8]; 6] = [
-        b"netcdf t {\ndimensions: x = 4 ;\nvariables: ",
-        word,
-        b" v(x) ;\ndata: v = 0, ",
-        number.sign,
-        number.decimal,
-        b", 0, 0 ; }",
-    ];
-    let text = joined(alloc, &parts)?;
+    (word, number): (&str, &Number),
+    want: Option<&str>,
+) -> Result<(), AllocError> {
+    const ZEROS: &str = r"\x00\x00\x00\x00\x00\x00\x00\x00";
+    let before = "netcdf t {\ndimensions: x = 4 ;\nvariables: ";
+    let digits = number.decimal;
+    let text = format!(in alloc;
+        "{before}{word} v(x) ;\ndata: v = 0, {}{digits}, 0, 0 ; }}",
+        number.sign
+    )?;
     match want {
         Some(bytes) => {
-            let values = between_zeros(alloc, bytes)?;
-            has_values(rt, alloc, version, text.as_slice(), values.as_slice());
+            // each byte of an end of a range is escaped in as many letters as a zero
+            let zero = ZEROS.get(..bytes.len()).unwrap_or("");
+            let values = format!(in alloc; "{zero}{bytes}{zero}{zero}")?;
+            has_values(rt, alloc, version, text.as_bytes(), values.as_str())?;
         }
-        None => refuses(rt, alloc, version, text.as_slice(), 4, CdlKind::NumberRange),
+        None => gives(rt, alloc, version, text.as_bytes(), "4 NumberRange")?,
     }
     Ok(())
 }
@@ -312,7 +311,7 @@ fn ends_of_ranges_in_lists(rt: HostRuntime) -> Result<(), Fail> {
         for range in RANGES {
             if version.has_type(range.ty) {
                 for (number, want) in ends_of(range) {
-                    is_listed(&rt, rt.alloc(), version, range.word, number, want)?;
+                    is_listed(&rt, rt.alloc(), *version, (range.word, &number), want)?;
                 }
             }
         }
@@ -321,27 +320,31 @@ fn ends_of_ranges_in_lists(rt: HostRuntime) -> Result<(), Fail> {
 }
 
 /// Fails unless a list of three values, and 300 times as many as are written so before the last, are ones.
-fn are_ones(rt: &impl Abort, alloc: Global, written: &[u8], values: usize) -> Result<(), Fail> {
-    let mut text = Vec::from_slice(
-        alloc,
-        b"netcdf t {\ndimensions: t = UNLIMITED ;\nvariables: byte b(t) ;\ndata: b = 0x1, 1, ",
-    )?;
+fn are_ones(
+    rt: &impl Abort,
+    alloc: Global,
+    written: &str,
+    values: usize,
+) -> Result<(), AllocError> {
+    let before =
+        "netcdf t {\ndimensions: t = UNLIMITED ;\nvariables: byte b(t) ;\ndata: b = 0x1, 1, ";
+    let mut text = String::from_str(alloc, before)?;
     for _ in 0..300 {
-        text.extend_from_slice(written)?;
+        text.push_str(written)?;
     }
-    text.extend_from_slice(b"1 ; }")?;
-    let ones = Vec::from_elem(alloc, 1u8, 3 + 300 * values.min(9))?;
-    have_values(rt, alloc, text.as_slice(), ones.as_slice());
+    text.push_str("1 ; }")?;
+    let ones = r"\x01".repeat(alloc, 3 + 300 * values.min(9))?;
+    have_values(rt, alloc, text.as_bytes(), ones.as_str())?;
     Ok(())
 }
 
 #[test]
 fn long_lists(rt: HostRuntime) -> Result<(), Fail> {
-    const ROWS: &[(&[u8], usize)] = &[
-        (b"1,", 1),
-        (b"1 , +1,\n", 2),
-        (b"0x1, 1,", 2),
-        (b"1b, 1, 1, ", 3),
+    const ROWS: &[(&str, usize)] = &[
+        ("1,", 1),
+        ("1 , +1,\n", 2),
+        ("0x1, 1,", 2),
+        ("1b, 1, 1, ", 3),
     ];
     for (written, values) in ROWS {
         are_ones(&rt, rt.alloc(), *written, *values)?;

@@ -1,9 +1,9 @@
 //! Names with each byte, as it is and escaped, and names that are reserved words.
 
-use crate::parsing::{gives_attribute, joined, refuses};
+use crate::parsing::{NOTHING, between, gives, joined};
 use cdl_parse::CdlKind;
-use nc_base::{NcType, Version};
-use std::alloc::Global;
+use nc_base::Version;
+use std::alloc::{AllocError, Global};
 use std::process::Abort;
 use std::test::*;
 
@@ -13,17 +13,13 @@ fn names(
     alloc: Global,
     word: &[u8],
     want: Result<&[u8], CdlKind>,
-) -> Result<(), Fail> {
-    let text = joined(alloc, &[b"netcdf t {\n:", word, b" = 1b ; }"])?;
-    let version = Version::Cdf1;
-    match want {
-        Ok(name) => {
-            let att = (name, NcType::Byte, b"\x01".as_slice());
-            gives_attribute(rt, alloc, version, text.as_slice(), &att);
-        }
-        Err(kind) => refuses(rt, alloc, version, text.as_slice(), 2, kind),
-    }
-    Ok(())
+) -> Result<(), AllocError> {
+    let text = between(alloc, "netcdf t {\n:", word, " = 1b ; }")?;
+    let want = match want {
+        Ok(name) => format!(in alloc; "{NOTHING}\n:{} Byte \"\\x01\"", name.escape_ascii())?,
+        Err(kind) => format!(in alloc; "2 {kind:?}")?,
+    };
+    gives(rt, alloc, Version::Cdf1, text.as_slice(), want.as_str())
 }
 
 /// The name that a word with this byte, escaped, in its middle gives, or its fault.
@@ -48,7 +44,7 @@ fn name_with(byte: u8, name: &[u8]) -> Result<&[u8], CdlKind> {
 }
 
 /// Fails unless a word with this byte, as it is and escaped, in its middle gives its name, or has its fault.
-fn names_with(rt: &impl Abort, alloc: Global, byte: u8) -> Result<(), Fail> {
+fn names_with(rt: &impl Abort, alloc: Global, byte: u8) -> Result<(), AllocError> {
     let name = [b'n', byte, b'm'];
     if byte != b'\\' {
         names(rt, alloc, &name, name_with(byte, &name))?;
@@ -67,7 +63,7 @@ fn each_byte_in_a_word(rt: HostRuntime) -> Result<(), Fail> {
 
 #[test]
 fn names_follow_the_rule_of_the_format(rt: HostRuntime) -> Result<(), Fail> {
-    const ROWS: [(&[u8], Result<&[u8], CdlKind>); 20] = [
+    const ROWS: &[(&[u8], Result<&[u8], CdlKind>)] = &[
         (b"_", Ok(b"_")),
         (b"\\_", Ok(b"_")),
         (b"\\2", Ok(b"2")),
@@ -90,23 +86,23 @@ fn names_follow_the_rule_of_the_format(rt: HostRuntime) -> Result<(), Fail> {
         (b"\xf4\x8f\xbf\xbf", Ok(b"\xf4\x8f\xbf\xbf")),
     ];
     for (word, want) in ROWS {
-        names(&rt, rt.alloc(), word, want)?;
+        names(&rt, rt.alloc(), *word, *want)?;
     }
     Ok(())
 }
 
 /// Fails unless the word is no name, but with a backslash before it, or a letter more.
-fn is_reserved(rt: &impl Abort, alloc: Global, word: &[u8]) -> Result<(), Fail> {
-    names(rt, alloc, word, Err(CdlKind::Syntax))?;
-    let escaped = joined(alloc, &[b"\\", word])?;
-    names(rt, alloc, escaped.as_slice(), Ok(word))?;
-    let longer = joined(alloc, &[word, b"_"])?;
-    names(rt, alloc, longer.as_slice(), Ok(longer.as_slice()))
+fn is_reserved(rt: &impl Abort, alloc: Global, word: &str) -> Result<(), AllocError> {
+    names(rt, alloc, word.as_bytes(), Err(CdlKind::Syntax))?;
+    let escaped = joined(alloc, &["\\", word])?;
+    names(rt, alloc, escaped.as_bytes(), Ok(word.as_bytes()))?;
+    let longer = joined(alloc, &[word, "_"])?;
+    names(rt, alloc, longer.as_bytes(), Ok(longer.as_bytes()))
 }
 
 #[test]
 fn reserved_words_are_no_names(rt: HostRuntime) -> Result<(), Fail> {
-    const WORDS: [&str; 20] = [
+    const WORDS: &[&str] = &[
         "netcdf",
         "dimensions",
         "variables",
@@ -129,7 +125,7 @@ fn reserved_words_are_no_names(rt: HostRuntime) -> Result<(), Fail> {
         "UNLIMITED",
     ];
     for word in WORDS {
-        is_reserved(&rt, rt.alloc(), word.as_bytes())?;
+        is_reserved(&rt, rt.alloc(), *word)?;
     }
     Ok(())
 }

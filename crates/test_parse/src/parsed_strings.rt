@@ -1,29 +1,40 @@
 //! Strings with each byte and with each escape.
 
-use crate::parsing::{gives_attribute, joined, refuses};
-use cdl_parse::CdlKind;
-use nc_base::{NcType, Version};
-use std::alloc::Global;
+use crate::parsing::{NOTHING, between, gives};
+use nc_base::Version;
+use std::alloc::{AllocError, Global};
 use std::process::Abort;
 use std::test::*;
 
-/// Fails unless a string with these bytes between its quotes stands for these characters, or is a bad token.
+/// Fails unless a string with these bytes between its quotes stands for these characters, which are escaped, or is a bad token.
+fn is_string(
+    rt: &impl Abort,
+    alloc: Global,
+    inside: &[u8],
+    want: Option<&str>,
+) -> Result<(), AllocError> {
+    let text = between(alloc, "netcdf t {\n\n:a = \"", inside, "\" ; }")?;
+    let want = match want {
+        Some(vals) => format!(in alloc; "{NOTHING}\n:a Char \"{vals}\"")?,
+        None => String::from_str(alloc, "3 BadToken")?,
+    };
+    gives(rt, alloc, Version::Cdf1, text.as_slice(), want.as_str())
+}
+
+/// The same of characters that are not escaped.
 fn stands_for(
     rt: &impl Abort,
     alloc: Global,
     inside: &[u8],
     want: Option<&[u8]>,
-) -> Result<(), Fail> {
-    let text = joined(alloc, &[b"netcdf t {\n\n:a = \"", inside, b"\" ; }"])?;
-    let version = Version::Cdf1;
+) -> Result<(), AllocError> {
     match want {
         Some(vals) => {
-            let att = (b"a".as_slice(), NcType::Char, vals);
-            gives_attribute(rt, alloc, version, text.as_slice(), &att);
+            let vals = format!(in alloc; "{}", vals.escape_ascii())?;
+            is_string(rt, alloc, inside, Some(vals.as_str()))
         }
-        None => refuses(rt, alloc, version, text.as_slice(), 3, CdlKind::BadToken),
+        None => is_string(rt, alloc, inside, None),
     }
-    Ok(())
 }
 
 /// What an escape of one byte stands for, or none for `x`.
@@ -51,7 +62,7 @@ fn escaped(byte: u8) -> Option<u8> {
 
 /// Fails unless this byte stands for itself, or is a bad token, and an escape of it for its character, or is one, also with a minus
 /// sign after it.
-fn escapes_one_byte(rt: &impl Abort, alloc: Global, byte: u8) -> Result<(), Fail> {
+fn escapes_one_byte(rt: &impl Abort, alloc: Global, byte: u8) -> Result<(), AllocError> {
     let itself = [byte];
     let want = match byte {
         b'"' | b'\\' => None,
@@ -108,7 +119,7 @@ fn escapes_two_octal_digits(
     alloc: Global,
     first: u8,
     second: u8,
-) -> Result<(), Fail> {
+) -> Result<(), AllocError> {
     let (a, b) = (octal(first), octal(second));
     let char = ((first as u32 * 8 + second as u32) % 256) as u8;
     stands_for(rt, alloc, &[b'\\', a, b], Some(&[char]))?;
@@ -122,7 +133,7 @@ fn escapes_three_octal_digits(
     first: u8,
     second: u8,
     third: u8,
-) -> Result<(), Fail> {
+) -> Result<(), AllocError> {
     let number = first as u32 * 64 + second as u32 * 8 + third as u32;
     let inside = [b'\\', octal(first), octal(second), octal(third), b'1'];
     let vals = [(number % 256) as u8, b'1'];
@@ -148,7 +159,11 @@ fn each_octal_escape(rt: HostRuntime) -> Result<(), Fail> {
 }
 
 /// Fails unless an escape of this hexadecimal digit stands for its character, also with a letter after it that is no digit.
-fn escapes_one_hexadecimal_digit(rt: &impl Abort, alloc: Global, digit: u8) -> Result<(), Fail> {
+fn escapes_one_hexadecimal_digit(
+    rt: &impl Abort,
+    alloc: Global,
+    digit: u8,
+) -> Result<(), AllocError> {
     let inside = [b'\\', b'x', lower(digit)];
     stands_for(rt, alloc, &inside, Some(&[digit]))?;
     let inside = [b'\\', b'x', upper(digit), b'g'];
@@ -161,7 +176,7 @@ fn escapes_two_hexadecimal_digits(
     alloc: Global,
     first: u8,
     second: u8,
-) -> Result<(), Fail> {
+) -> Result<(), AllocError> {
     let char = ((first as u32 * 16 + second as u32) % 256) as u8;
     let inside = [b'\\', b'x', lower(first), upper(second), b'f'];
     stands_for(rt, alloc, &inside, Some(&[char, b'f']))?;
@@ -181,27 +196,27 @@ fn each_hexadecimal_escape(rt: HostRuntime) -> Result<(), Fail> {
 }
 
 #[test]
-fn escapes_side_by_side(rt: HostRuntime) -> Result<(), Fail> {
-    const ROWS: [(&[u8], Option<&[u8]>); 16] = [
-        (b"", Some(b"")),
-        (b"\\\"", Some(b"\"")),
-        (b"\\\\", Some(b"\\")),
-        (b"\\\\\\\"\\'", Some(b"\\\"'")),
-        (b"\\\n", Some(b"\n")),
-        (b"a\nb", Some(b"a\nb")),
-        (b"// ; }", Some(b"// ; }")),
-        (b"\\0\\00\\000\\0000", Some(b"\0\0\0\x000")),
-        (b"\\377\\3777", Some(b"\xff\xff7")),
-        (b"\\400", None),
-        (b"\\777\\0", None),
-        (b"\\x41\\x4\\x414", Some(b"A\x04A4")),
-        (b"\\x", None),
-        (b"\\xg1", None),
-        (b"\\X41", Some(b"X41")),
-        (b"\\\\x \\\\400", Some(b"\\x \\400")),
+fn escapes_side_by_side(rt: HostRuntime) -> Result<(), AllocError> {
+    const ROWS: &[(&str, Option<&str>)] = &[
+        ("", Some(r"")),
+        ("\\\"", Some(r#"\""#)),
+        ("\\\\", Some(r"\\")),
+        ("\\\\\\\"\\'", Some(r#"\\\"\'"#)),
+        ("\\\n", Some(r"\n")),
+        ("a\nb", Some(r"a\nb")),
+        ("// ; }", Some(r"// ; }")),
+        ("\\0\\00\\000\\0000", Some(r"\x00\x00\x00\x000")),
+        ("\\377\\3777", Some(r"\xff\xff7")),
+        ("\\400", None),
+        ("\\777\\0", None),
+        ("\\x41\\x4\\x414", Some(r"A\x04A4")),
+        ("\\x", None),
+        ("\\xg1", None),
+        ("\\X41", Some(r"X41")),
+        ("\\\\x \\\\400", Some(r"\\x \\400")),
     ];
     for (inside, want) in ROWS {
-        stands_for(&rt, rt.alloc(), inside, want)?;
+        is_string(&rt, rt.alloc(), inside.as_bytes(), *want)?;
     }
     Ok(())
 }
