@@ -205,13 +205,13 @@ values_said v look x xs fit = grind (arith, constants_all v true (value_lexeme l
 pub room_for : (is_open : Bool) (m n : ℕ) → (is_open ≡ false → m < n) → (is_open || nat_lt m n) ≡ true
 room_for is_open m n h = grind (arith, lt-ltb)
 
-all_added : (look : Look) (capacity : Capacity) (before xs : List ℤ) → capacity.fill ≡ look.fill → (capacity.is_open ≡ false → length before + length xs ≤ capacity.count) → Each (λ x. fits capacity.ty x ≡ true) xs →
+all_added : (look : Look) (capacity : Capacity) (before xs : List ℤ) → capacity.fill ≡ look.fill → (capacity.is_open ≡ false → length before + length xs ≤ capacity.count) → Each (λ x. has_number capacity.ty x ≡ true) xs →
     in_turn (add_number capacity) before (map (value_said look) xs) ≡ Ok (before ++ xs)
 all_added look capacity before [] same wide fit = ap Ok (sym (append-nil before))
 all_added look capacity before (x ∷ xs) same wide fit =
     grind (arith, length-append, turn, append_assoc, all_added look capacity (before ++ x ∷ []) xs same)
 
-pub numbers_listed : (look : Look) (capacity : Capacity) (xs : List ℤ) → is_char capacity.ty ≡ false → capacity.fill ≡ look.fill → (capacity.is_open ≡ false → length xs ≤ capacity.count) → Each (λ x. fits capacity.ty x ≡ true) xs →
+pub numbers_listed : (look : Look) (capacity : Capacity) (xs : List ℤ) → is_char capacity.ty ≡ false → capacity.fill ≡ look.fill → (capacity.is_open ≡ false → length xs ≤ capacity.count) → Each (λ x. has_number capacity.ty x ≡ true) xs →
     listing_of capacity (map (value_said look) xs) ≡ Ok (Numbers xs)
 unfolding listing_of
 numbers_listed look capacity xs h same wide fit = rw (h) (ap (λ values. values >>= (λ ys. Ok (Numbers ys))) (all_added look capacity [] xs same (λ e. let f = wide e in omega (arith, f)) fit))

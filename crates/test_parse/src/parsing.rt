@@ -122,7 +122,7 @@ fn dims_said(alloc: Global, dims: &[Dim]) -> Result<String, AllocError> {
     Ok(said)
 }
 
-/// The attributes of the variable, or of the dataset where its name is empty, each on a line of its own.
+/// The attributes of the variable, or of the dataset if its name is empty, each on a line of its own.
 fn atts_said(alloc: Global, of: &[u8], atts: &[Att]) -> Result<String, AllocError> {
     let of = of.escape_ascii();
     let mut said = String::new(alloc);
