@@ -62,7 +62,7 @@ pub const SHORTS: Range = Range {
 };
 
 /// The types of numbers.
-pub const RANGES: &[Range] = &[
+const RANGES: &[Range] = &[
     Range {
         ty: NcType::Byte,
         word: "byte",
@@ -325,6 +325,11 @@ pub fn zeros(count: usize) -> &'static str {
 /// `count` digits 9, up to 400.
 pub fn nines(count: usize) -> &'static str {
     NINES.get(..count).unwrap_or(NINES)
+}
+
+/// The types of numbers.
+pub fn ranges() -> &'static [Range] {
+    RANGES
 }
 
 /// The numbers at the ends of the range, with their escaped bytes, and the two past them.

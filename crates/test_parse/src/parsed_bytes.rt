@@ -1,6 +1,6 @@
 //! Texts with each of the 256 bytes.
 
-use crate::parsing::{NOTHING, between, gives};
+use crate::parsing::{NOTHING, between, fault_said, gives};
 use cdl_parse::CdlKind;
 use nc_base::Version;
 use std::alloc::{AllocError, Global};
@@ -17,7 +17,7 @@ fn answers(
 ) -> Result<(), AllocError> {
     let text = between(alloc, before, &[byte], after)?;
     let want = match want {
-        Some(kind) => format!(in alloc; "{line} {kind:?}")?,
+        Some(kind) => fault_said(alloc, line, kind)?,
         None => String::from_str(alloc, NOTHING)?,
     };
     gives(rt, alloc, Version::Cdf1, text.as_slice(), want.as_str())

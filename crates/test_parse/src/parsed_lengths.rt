@@ -1,7 +1,7 @@
 //! Lengths of dimensions: at the ends of their ranges and one past them, in each base, after up to 399 zeros.
 
 use crate::number_ranges::{COUNTS, Number, zeros};
-use crate::parsing::{NOTHING, VERSIONS, gives, joined};
+use crate::parsing::{NOTHING, VERSIONS, fault_said, gives, joined};
 use cdl_parse::CdlKind;
 use nc_base::Version;
 use std::alloc::{AllocError, Global};
@@ -20,7 +20,7 @@ fn is_length(
     let text = joined(alloc, &[before, base, zeros, digits, " ; }"])?;
     let want = match want {
         Ok(len) => format!(in alloc; "{NOTHING}\nx = {len}")?,
-        Err(kind) => format!(in alloc; "2 {kind:?}")?,
+        Err(kind) => fault_said(alloc, 2, kind)?,
     };
     gives(rt, alloc, version, text.as_bytes(), want.as_str())
 }

@@ -1,6 +1,6 @@
 //! Texts at the limits of what is declared: types of one version alone, values that are missing, and what is too long.
 
-use crate::parsing::{NOTHING, fault_unfilled, give, gives, parsed, refuses};
+use crate::parsing::{NOTHING, fault_unfilled, give, gives, parsed, refuses, variable_said};
 use cdl_parse::{CdlKind, declared};
 use nc_base::{NcType, NumRecs, Version};
 use std::alloc::{AllocError, Global};
@@ -46,11 +46,11 @@ fn is_of_cdf5(
     last: &str,
 ) -> Result<(), AllocError> {
     let unset = format!(in alloc; "netcdf t {{\nvariables: {word} v ; }}")?;
-    let want = format!(in alloc; "{NOTHING}\nv {ty:?} []\n= \"{fill}\"")?;
+    let want = variable_said(alloc, ty, fill)?;
     gives(rt, alloc, Version::Cdf5, unset.as_bytes(), want.as_str())?;
     let set = format!(in alloc; "netcdf t {{\nvariables: {word} v ; data: v = 255 ; }}")?;
     let set = set.as_bytes();
-    let want = format!(in alloc; "{NOTHING}\nv {ty:?} []\n= \"{last}\"")?;
+    let want = variable_said(alloc, ty, last)?;
     gives(rt, alloc, Version::Cdf5, set, want.as_str())?;
     gives(rt, alloc, Version::Cdf1, set, "2 UnknownType")?;
     gives(rt, alloc, Version::Cdf2, set, "2 UnknownType")

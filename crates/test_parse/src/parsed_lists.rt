@@ -1,7 +1,7 @@
 //! Lists of numbers and of rows: of each length up to one past a variable's, with white space, signs, escapes and other values
 //! among them, and with a fault.
 
-use crate::number_ranges::{Number, RANGES, ends_of};
+use crate::number_ranges::{Number, ends_of, ranges};
 use crate::parsing::{Group, VERSIONS, gives, joined, refuse_groups, refuses_in_all, values_of};
 use cdl_parse::{CdlFault, CdlKind};
 use nc_base::Version;
@@ -308,7 +308,7 @@ fn is_listed(
 #[test]
 fn ends_of_ranges_in_lists(rt: HostRuntime) -> Result<(), Fail> {
     for version in VERSIONS {
-        for range in RANGES {
+        for range in ranges() {
             if version.has_type(range.ty) {
                 for (number, want) in ends_of(range) {
                     is_listed(&rt, rt.alloc(), *version, (range.word, &number), want)?;

@@ -1,11 +1,17 @@
 //! Names with each byte, as it is and escaped, and names that are reserved words.
 
-use crate::parsing::{NOTHING, between, gives, joined};
+use crate::parsing::{attribute_said, between, fault_said, gives, joined};
 use cdl_parse::CdlKind;
-use nc_base::Version;
+use nc_base::{NcType, Version};
 use std::alloc::{AllocError, Global};
 use std::process::Abort;
 use std::test::*;
+
+/// What a text gives that declares nothing but an attribute of this name, with the byte 1 as its value.
+fn named(alloc: Global, name: &[u8]) -> Result<String, AllocError> {
+    let name = format!(in alloc; "{}", name.escape_ascii())?;
+    attribute_said(alloc, name.as_str(), NcType::Byte, r"\x01")
+}
 
 /// Fails unless a global attribute has this word as its name, or has this fault.
 fn names(
@@ -16,8 +22,8 @@ fn names(
 ) -> Result<(), AllocError> {
     let text = between(alloc, "netcdf t {\n:", word, " = 1b ; }")?;
     let want = match want {
-        Ok(name) => format!(in alloc; "{NOTHING}\n:{} Byte \"\\x01\"", name.escape_ascii())?,
-        Err(kind) => format!(in alloc; "2 {kind:?}")?,
+        Ok(name) => named(alloc, name)?,
+        Err(kind) => fault_said(alloc, 2, kind)?,
     };
     gives(rt, alloc, Version::Cdf1, text.as_slice(), want.as_str())
 }

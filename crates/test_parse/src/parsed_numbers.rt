@@ -1,7 +1,8 @@
 //! Numbers of texts: at the ends of the ranges of their types and one past them, in each base, and of up to 400 digits.
 
-use crate::number_ranges::{COUNTS, Number, RANGES, Range, SHORTS, ends_of, nines, zeros};
-use crate::parsing::{NOTHING, VERSIONS, gives, joined, parsed};
+use crate::number_ranges::{COUNTS, Number, Range, SHORTS, ends_of, nines, ranges, zeros};
+use crate::parsing::{VERSIONS, attribute_said, fault_said, gives, joined, parsed, variable_said};
+use cdl_parse::CdlKind;
 use nc_base::{NcType, Version};
 use std::alloc::{AllocError, Global};
 use std::process::Abort;
@@ -52,8 +53,8 @@ fn is_value(
     ];
     let text = joined(alloc, &parts)?;
     let want = match want {
-        Some(bytes) => format!(in alloc; "{NOTHING}\nv {:?} []\n= \"{bytes}\"", range.ty)?,
-        None => String::from_str(alloc, "3 NumberRange")?,
+        Some(bytes) => variable_said(alloc, range.ty, bytes)?,
+        None => fault_said(alloc, 3, CdlKind::NumberRange)?,
     };
     gives_where_it_is(rt, alloc, range.ty, text.as_str(), want.as_str())
 }
@@ -77,8 +78,8 @@ fn is_constant(
     ];
     let text = joined(alloc, &parts)?;
     let want = match want {
-        Some(vals) => format!(in alloc; "{NOTHING}\n:a {:?} \"{vals}\"", range.ty)?,
-        None => String::from_str(alloc, "2 NumberRange")?,
+        Some(vals) => attribute_said(alloc, "a", range.ty, vals)?,
+        None => fault_said(alloc, 2, CdlKind::NumberRange)?,
     };
     gives_where_it_is(rt, alloc, range.ty, text.as_str(), want.as_str())
 }
@@ -100,7 +101,7 @@ fn has_bytes(
 
 #[test]
 fn ends_of_ranges_in_decimal(rt: HostRuntime) -> Result<(), Fail> {
-    for range in RANGES {
+    for range in ranges() {
         for (number, want) in ends_of(range) {
             let decimal = Written {
                 sign: number.sign,
@@ -142,7 +143,7 @@ fn has_bytes_after_zeros(
 fn ends_of_ranges_after_zeros(rt: HostRuntime) -> Result<(), Fail> {
     for count in COUNTS {
         let zeros = zeros(*count);
-        for range in RANGES {
+        for range in ranges() {
             for (number, want) in ends_of(range) {
                 has_bytes_after_zeros(&rt, rt.alloc(), range, &number, zeros, want)?;
             }
@@ -193,11 +194,12 @@ fn has_nines(
 /// The ranges that this many nines are tried with: all of them up to 40 nines, which are more than 2^128 has, and then one, each in its
 /// turn.
 fn ranges_for(count: usize) -> &'static [Range] {
+    let ranges = ranges();
     if count <= 40 {
-        return RANGES;
+        return ranges;
     }
-    let one = (count % 8).min(RANGES.len());
-    &RANGES[one..(one + 1).min(RANGES.len())]
+    let one = count % 8;
+    ranges.get(one..one + 1).unwrap_or(ranges)
 }
 
 #[test]

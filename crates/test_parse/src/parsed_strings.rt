@@ -1,7 +1,8 @@
 //! Strings with each byte and with each escape.
 
-use crate::parsing::{NOTHING, between, gives};
-use nc_base::Version;
+use crate::parsing::{attribute_said, between, fault_said, gives};
+use cdl_parse::CdlKind;
+use nc_base::{NcType, Version};
 use std::alloc::{AllocError, Global};
 use std::process::Abort;
 use std::test::*;
@@ -15,8 +16,8 @@ fn is_string(
 ) -> Result<(), AllocError> {
     let text = between(alloc, "netcdf t {\n\n:a = \"", inside, "\" ; }")?;
     let want = match want {
-        Some(vals) => format!(in alloc; "{NOTHING}\n:a Char \"{vals}\"")?,
-        None => String::from_str(alloc, "3 BadToken")?,
+        Some(vals) => attribute_said(alloc, "a", NcType::Char, vals)?,
+        None => fault_said(alloc, 3, CdlKind::BadToken)?,
     };
     gives(rt, alloc, Version::Cdf1, text.as_slice(), want.as_str())
 }

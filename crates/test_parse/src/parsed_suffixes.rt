@@ -1,6 +1,6 @@
 //! Constants of attributes: the types and values of numbers with and without suffixes.
 
-use crate::parsing::{NOTHING, VERSIONS, gives, joined};
+use crate::parsing::{VERSIONS, attribute_said, fault_said, gives, joined};
 use cdl_parse::CdlKind;
 use nc_base::{NcType, Version};
 use std::alloc::Global;
@@ -20,8 +20,8 @@ fn is_typed(
 ) -> Result<(), Fail> {
     let text = joined(alloc, &["netcdf t {\n:a = ", digits, " ; }"])?;
     let want = match want {
-        Ok((ty, vals)) => format!(in alloc; "{NOTHING}\n:a {ty:?} \"{vals}\"")?,
-        Err(kind) => format!(in alloc; "2 {kind:?}")?,
+        Ok((ty, vals)) => attribute_said(alloc, "a", ty, vals)?,
+        Err(kind) => fault_said(alloc, 2, kind)?,
     };
     gives(rt, alloc, version, text.as_bytes(), want.as_str())?;
     Ok(())

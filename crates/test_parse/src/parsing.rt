@@ -1,7 +1,7 @@
 //! What texts give: a fault, or a dataset, which is written line by line so that it can be compared with a text.
 
 use cdl_parse::{CdlFault, CdlKind, declared, parse};
-use nc_base::{Att, Dataset, Dim, Sequence, Var, Version};
+use nc_base::{Att, Dataset, Dim, NcType, Sequence, Var, Version};
 use std::alloc::{AllocError, Global};
 use std::process::Abort;
 use std::test::*;
@@ -190,7 +190,7 @@ fn said(alloc: Global, version: Version, text: &[u8]) -> Result<String, AllocErr
             }
             dataset_said(alloc, &dataset)
         }
-        Err(fault) => format!(in alloc; "{} {:?}", fault.line, fault.kind),
+        Err(fault) => fault_said(alloc, fault.line, fault.kind),
     }
 }
 
@@ -198,7 +198,7 @@ fn said(alloc: Global, version: Version, text: &[u8]) -> Result<String, AllocErr
 pub fn values_of(alloc: Global, version: Version, text: &[u8]) -> Result<String, AllocError> {
     match parsed(alloc, version, text) {
         Ok(dataset) => values_said(alloc, dataset.arrays.as_slice()),
-        Err(fault) => format!(in alloc; "{} {:?}", fault.line, fault.kind),
+        Err(fault) => fault_said(alloc, fault.line, fault.kind),
     }
 }
 
@@ -220,4 +220,24 @@ pub fn give(rt: &impl Abort, alloc: Global, text: &[u8], want: &str) -> Result<(
     gives(rt, alloc, Version::Cdf1, text, want)?;
     gives(rt, alloc, Version::Cdf2, text, want)?;
     gives(rt, alloc, Version::Cdf5, text, want)
+}
+
+/// What a text with this fault gives.
+pub fn fault_said(alloc: Global, line: u64, kind: CdlKind) -> Result<String, AllocError> {
+    format!(in alloc; "{line} {kind:?}")
+}
+
+/// What a text gives that declares nothing but an attribute of the dataset, whose values are escaped.
+pub fn attribute_said(
+    alloc: Global,
+    name: &str,
+    ty: NcType,
+    vals: &str,
+) -> Result<String, AllocError> {
+    format!(in alloc; "{NOTHING}\n:{name} {ty:?} \"{vals}\"")
+}
+
+/// What a text gives that declares nothing but the variable `v` without dimensions, whose values are escaped.
+pub fn variable_said(alloc: Global, ty: NcType, values: &str) -> Result<String, AllocError> {
+    format!(in alloc; "{NOTHING}\nv {ty:?} []\n= \"{values}\"")
 }
