@@ -2,8 +2,9 @@
 
 use crate::rows::{self, Dump, Headed};
 use crate::wanted::{is_header, is_same};
+use devices::{DripSource, FailWhen, SliceSink};
 use nc_base::{Header, Sequence, Version};
-use nc_file::{DripSource, FailWhen, HeadFault, SliceSink, read_header};
+use nc_file::{HeadFault, read_header};
 use ncdump::{DumpFault, DumpOptions, dump, select};
 use std::alloc::{AllocError, Global};
 use std::process::Abort;

@@ -2,7 +2,7 @@
 //! of the text.
 
 use crate::runs::{WHOLE, options_of};
-use nc_file::{DripSource, FailWhen, IoSink};
+use devices::{DripSource, FailWhen, IoSink};
 use ncdump::dump;
 use std::alloc::{AllocError, Global};
 use std::io;
@@ -55,12 +55,12 @@ fn takes_few_calls(
 ) -> Result<(), Fail> {
     let options = options_of(alloc, &WHOLE)?;
     let mut source = DripSource::new(file, COUNT, FailWhen::Read(reads));
-    let mut sink = IoSink::new(Counting { calls: 0 });
+    let mut writer = Counting { calls: 0 };
+    let mut sink = IoSink::new(&mut writer);
     let answer = dump(alloc, &mut source, &options, &mut [0; 4096], &mut sink);
     assert!(rt; answer.is_ok(), "{reads} reads");
     assert!(rt; source.handed() <= file.len() as u128 + 4096);
-    let calls = sink.into_inner().calls;
-    assert!(rt; calls <= writes, "{calls}");
+    assert!(rt; writer.calls <= writes, "{}", writer.calls);
     Ok(())
 }
 
@@ -78,7 +78,7 @@ type Calls = (
 
 /// Files of many numbers, records and characters, and of a long attribute. Values of two record variables lie apart, so that each
 /// takes a read of its own, and none takes two.
-const FILES: [Calls; 4] = [
+const FILES: &[Calls] = &[
     (
         test_files::ONE_VARIABLE,
         80,
@@ -120,10 +120,10 @@ const FILES: [Calls; 4] = [
 #[test]
 fn dumps_of_long_files(rt: HostRuntime) -> Result<(), Fail> {
     for (bytes, len, (at, change), byte, tail, reads, writes) in FILES {
-        assert!(rt; len <= bytes.len());
-        let head = test_files::patched(rt.alloc(), &bytes[..len], at, change)?;
-        let file = long_file(rt.alloc(), head.as_slice(), (byte, COUNT), tail)?;
-        takes_few_calls(&rt, rt.alloc(), file.as_slice(), reads, writes)?;
+        let bytes = bytes.get(..*len).ok_or("too few bytes")?;
+        let head = test_files::patched(rt.alloc(), bytes, *at, *change)?;
+        let file = long_file(rt.alloc(), head.as_slice(), (*byte, COUNT), *tail)?;
+        takes_few_calls(&rt, rt.alloc(), file.as_slice(), *reads, *writes)?;
     }
     Ok(())
 }

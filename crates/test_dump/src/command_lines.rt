@@ -2,8 +2,7 @@
 
 use crate::rows::{COORDINATES_TEXT, GENERATED_TEXT, SELECTION_TEXT};
 use cli_base::OptFault;
-use devices::{Flush, MemSource, OpenFailed, Opener};
-use nc_file::{IoSink, MemFile, MemFiles, SliceSink};
+use devices::{Flush, IoSink, MemFile, MemFiles, MemSource, OpenFailed, Opener, SliceSink};
 use ncdump::{command, options_of, run_with};
 use std::alloc::Global;
 use std::io;
@@ -291,7 +290,7 @@ fn errors_of_memory_are_no_usage_faults(rt: HostRuntime) {
 
 #[test]
 fn truncated_data(rt: HostRuntime) {
-    const ROWS: [(usize, &[u8], &[u8]); 2] = [
+    const ROWS: &[(usize, &[u8], &[u8])] = &[
         (
             83,
             b"netcdf t {\ndimensions:\n\tx = 3 ;\nvariables:\n\tshort s(x) ;\ndata:\n\n s = 1",
@@ -304,13 +303,13 @@ fn truncated_data(rt: HostRuntime) {
         ),
     ];
     for (len, text, line) in ROWS {
-        assert!(rt; len <= test_files::ONE_VARIABLE.len());
+        assert!(rt; *len <= test_files::ONE_VARIABLE.len());
         let run = Run {
-            bytes: &test_files::ONE_VARIABLE[..len],
+            bytes: &test_files::ONE_VARIABLE[..*len],
             words: &["ncdump", "t.nc"],
             status: 1,
-            text,
-            line,
+            text: *text,
+            line: *line,
         };
         runs(&rt, rt.alloc(), run);
     }
@@ -331,10 +330,10 @@ fn every_number_of_words(rt: HostRuntime) -> Result<(), Fail> {
 /// The word after ten that ask for a dump is not passed over.
 #[test]
 fn eleventh_word(rt: HostRuntime) {
-    const WORDS: [&str; 6] = ["u.nc", "t.nc", "-q", "-h", "--", ""];
+    const WORDS: &[&str] = &["u.nc", "t.nc", "-q", "-h", "--", ""];
     for word in WORDS {
         let words = [
-            "ncdump", "-c", "-v", "v", "-n", "other", "-l", "20", "--", "t.nc", word,
+            "ncdump", "-c", "-v", "v", "-n", "other", "-l", "20", "--", "t.nc", *word,
         ];
         runs(
             &rt,
@@ -361,7 +360,7 @@ fn asks_for(
 
 #[test]
 fn widths_and_stems(rt: HostRuntime) -> Result<(), Fail> {
-    const ROWS: [(&[&str], usize, &[u8]); 6] = [
+    const ROWS: &[(&[&str], usize, &[u8])] = &[
         (&["ncdump", "-l", "20", "dir/a.b.nc"], 20, b"a.b"),
         (&["ncdump", "-l", "0080", "dir/a.b.nc"], 80, b"a.b"),
         (&["ncdump", "-l", "1000", ".nc"], 1000, b".nc"),
@@ -370,7 +369,7 @@ fn widths_and_stems(rt: HostRuntime) -> Result<(), Fail> {
         (&["ncdump", "dir/a"], 80, b"a"),
     ];
     for (words, width, name) in ROWS {
-        asks_for(&rt, rt.alloc(), words, width, name)?;
+        asks_for(&rt, rt.alloc(), *words, *width, *name)?;
     }
     Ok(())
 }
@@ -429,23 +428,23 @@ impl Write for HeldBack {
 
 #[test]
 fn failing_flush_of_standard_output(rt: HostRuntime) {
-    const ROWS: [(&[&str], &[u8]); 2] = [
+    const ROWS: &[(&[&str], &[u8])] = &[
         (&["ncdump", "t.nc"], b"ncdump: write failed\n"),
         (&["ncdump", "u.nc"], b"ncdump: u.nc: cannot open\n"),
     ];
     for (words, line) in ROWS {
-        let mut out = IoSink::new(HeldBack { flushes: 0 });
+        let mut writer = HeldBack { flushes: 0 };
+        let mut out = IoSink::new(&mut writer);
         let mut space = [0; 32];
         let mut err = SliceSink::new(&mut space, 5);
         let status = status_of(
             rt.alloc(),
             test_files::ONE_VARIABLE,
-            words,
+            *words,
             &mut out,
             &mut err,
         );
-        assert!(rt; status == 1);
-        assert!(rt; err.taken() == line);
-        assert!(rt; out.into_inner().flushes == 1);
+        assert!(rt; status == 1 && err.taken() == *line);
+        assert!(rt; writer.flushes == 1);
     }
 }

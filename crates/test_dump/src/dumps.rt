@@ -2,8 +2,8 @@
 
 use crate::rows::{ONE_VARIABLE, TWO_RECORDS};
 use crate::runs::{DumpRow, WHOLE, Want, dumps_through, expect_dump, expect_dumps, options_of};
+use devices::{DripSource, FailWhen, FileSource};
 use nc_base::FormatFault;
-use nc_file::{DripSource, FailWhen, FileSource};
 use ncdump::DumpFault;
 use std::fs;
 use std::fs::File;
@@ -68,7 +68,7 @@ fn heads(rt: HostRuntime) -> Result<(), Fail> {
 
 #[test]
 fn refused_headers(rt: HostRuntime) -> Result<(), Fail> {
-    const ROWS: [(&str, &[u8], FormatFault); 5] = [
+    const ROWS: &[(&str, &[u8], FormatFault)] = &[
         ("nothing", b"", FormatFault::NotNetcdf),
         ("three bytes", b"CDF", FormatFault::HeaderTruncated),
         (
@@ -88,11 +88,10 @@ fn refused_headers(rt: HostRuntime) -> Result<(), Fail> {
         ),
     ];
     for (about, bytes, fault) in ROWS {
-        let answer = Err(DumpFault::Format(fault));
         let row = DumpRow {
-            about,
-            bytes,
-            answer,
+            about: *about,
+            bytes: *bytes,
+            answer: Err(DumpFault::Format(*fault)),
             ..WHOLE
         };
         expect_dump(&rt, rt.alloc(), &row)?;
@@ -110,9 +109,10 @@ fn opened(rt: &impl Files<File = File>, path: &str, bytes: &[u8]) -> Result<File
 
 #[test]
 fn opened_files(rt: HostRuntime) -> Result<(), Fail> {
-    for row in [TWO_RECORDS, ONE_VARIABLE] {
+    const ROWS: &[DumpRow<'static>] = &[TWO_RECORDS, ONE_VARIABLE];
+    for row in ROWS {
         let mut source = opened(&rt, "acceptance_records.nc", row.bytes)?;
-        let options = options_of(rt.alloc(), &row)?;
+        let options = options_of(rt.alloc(), row)?;
         let want = Want {
             about: row.about,
             options: &options,

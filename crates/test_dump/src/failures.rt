@@ -4,7 +4,7 @@ use crate::rows::{
     NO_RECORDS, ONE_VARIABLE, ROWS, Row, SELECTION, SELECTION_TEXT, TWO_RECORDS, is_same,
 };
 use crate::runs::{DumpRow, WHOLE, Want, dumped, dumps_through, options_of};
-use nc_file::{DripSource, FailWhen, MemSink, MemSource, SliceSink};
+use devices::{DripSource, FailWhen, MemSink, MemSource, SliceSink};
 use ncdump::{DumpFault, DumpOptions};
 use std::alloc::Global;
 use std::process::Abort;
@@ -124,7 +124,7 @@ fn each_call_fails(rt: &impl Abort, alloc: Global, row: &Row<'_>) -> Result<(), 
 #[test]
 fn each_call_of_a_dump_fails(rt: HostRuntime) -> Result<(), Fail> {
     for row in ROWS {
-        each_call_fails(&rt, rt.alloc(), &row)?;
+        each_call_fails(&rt, rt.alloc(), row)?;
     }
     Ok(())
 }
@@ -185,14 +185,14 @@ fn cut_off(
 
 #[test]
 fn failing_sinks(rt: HostRuntime) -> Result<(), Fail> {
-    const STEPS: [(DumpRow<'static>, usize); 3] = [
+    const STEPS: &[(DumpRow<'static>, usize)] = &[
         (TWO_RECORDS, 1),
         (TWO_RECORDS, 3),
         (NO_RECORDS, 7),
     ];
     for (row, step) in STEPS {
         for room in 0..row.text.len() {
-            cut_off(&rt, rt.alloc(), &row, room, step)?;
+            cut_off(&rt, rt.alloc(), row, room, *step)?;
         }
     }
     cut_off(&rt, rt.alloc(), &ONE_VARIABLE, 12, 12)

@@ -1,7 +1,8 @@
 //! Headers of many variables, and selections from them.
 
 use crate::runs::{DumpRow, WHOLE, options_of};
-use nc_file::{MemSource, read_header};
+use devices::MemSource;
+use nc_file::read_header;
 use ncdump::{DumpOptions, select};
 use std::alloc::Global;
 use std::process::Abort;

@@ -185,7 +185,7 @@ const MANY_NULS_STOPS: &[Stop<'static>] = &[
 ];
 
 /// Dumps whose every call fails in turn.
-pub const ROWS: [Row<'static>; 6] = [
+pub const ROWS: &[Row<'static>] = &[
     Row {
         dump: ONE_VARIABLE,
         header_len: 80,

@@ -1,8 +1,8 @@
 //! What the tests of dumps have in common: rows of dumps, through buffers of every length, and in reads of several lengths.
 
 use crate::rows::is_same;
+use devices::{DripSource, FailWhen, MemSink, MemSource, Sink, Source};
 use nc_base::Sequence;
-use nc_file::{DripSource, FailWhen, MemSink, MemSource, Sink, Source};
 use ncdump::{DumpFault, DumpOptions, dump};
 use std::alloc::{AllocError, Global};
 use std::process::Abort;

@@ -2,8 +2,8 @@
 
 use crate::rows::{COORDINATES, NO_RECORDS};
 use crate::runs::{DumpRow, WHOLE, Want, dumps, expect_dump, expect_dumps, options_of};
+use devices::MemSource;
 use nc_base::Sequence;
-use nc_file::MemSource;
 use ncdump::{DumpFault, select};
 use std::alloc::{AllocError, Global};
 use std::process::Abort;
@@ -56,19 +56,19 @@ const CHOSEN: DumpRow<'static> = DumpRow {
 
 #[test]
 fn unknown_name(rt: HostRuntime) -> Result<(), Fail> {
-    const ROWS: [(&[&[u8]], usize); 4] = [
+    const ROWS: &[(&[&[u8]], usize)] = &[
         (&[b"s", b"nope"], 1),
         (&[b"nope", b"s", b"never"], 0),
         (&[b"s", b"", b"s"], 1),
         (&[b"s", b"s", b"x"], 2),
     ];
     for (names, index) in ROWS {
-        let chosen = Some(names);
+        let chosen = Some(*names);
         for head_only in [false, true] {
             let row = DumpRow {
                 head_only,
                 chosen,
-                answer: Err(DumpFault::NoSuchVariable(index)),
+                answer: Err(DumpFault::NoSuchVariable(*index)),
                 ..CHOSEN
             };
             expect_dump(&rt, rt.alloc(), &row)?;
@@ -86,11 +86,11 @@ fn selection(alloc: Global, row: &DumpRow<'_>) -> Result<Vec<bool>, DumpFault> {
 
 #[test]
 fn selected_variables(rt: HostRuntime) -> Result<(), Fail> {
-    const ROWS: [(bool, bool, Option<&[&[u8]]>, [bool; 2]); 4] = [
-        (true, false, None, [true, true]),
-        (true, true, None, [true, false]),
-        (false, false, Some(&[b"y", b"y"]), [false, true]),
-        (false, true, Some(&[b"y", b"y"]), [false, false]),
+    const ROWS: &[(bool, bool, Option<&[&[u8]]>, &[bool])] = &[
+        (true, false, None, &[true, true]),
+        (true, true, None, &[true, false]),
+        (false, false, Some(&[b"y", b"y"]), &[false, true]),
+        (false, true, Some(&[b"y", b"y"]), &[false, false]),
     ];
     const UNKNOWN: DumpRow<'static> = DumpRow {
         chosen: Some(&[b"y", b"z", b"a"]),
@@ -98,13 +98,13 @@ fn selected_variables(rt: HostRuntime) -> Result<(), Fail> {
     };
     for (head_only, coords, chosen, want) in ROWS {
         let row = DumpRow {
-            head_only,
-            coords,
-            chosen,
+            head_only: *head_only,
+            coords: *coords,
+            chosen: *chosen,
             ..WHOLE
         };
         let found = selection(rt.alloc(), &row)?;
-        assert!(rt; found.as_slice() == want.as_slice(), "{want:?}");
+        assert!(rt; found.as_slice() == *want, "{want:?}");
     }
     let answer = selection(rt.alloc(), &UNKNOWN);
     assert!(rt; matches!(answer, Err(DumpFault::NoSuchVariable(1))));

@@ -165,7 +165,7 @@ fn changed_files(rt: HostRuntime) -> Result<(), Fail> {
 type Cut = ((usize, usize), (usize, u128), &'static [u8]);
 
 /// Files that are cut there, each with the lines before its values.
-const CUT_FILES: [(DumpRow<'static>, &[Cut]); 4] = [
+const CUT_FILES: &[(DumpRow<'static>, &[Cut])] = &[
     (
         DumpRow {
             head: b"netcdf t {\ndimensions:\n\tx = 3 ;\nvariables:\n\tshort s(x) ;\ndata:\n\n",
@@ -252,7 +252,7 @@ fn expect_all_cuts(
 #[test]
 fn truncated_data(rt: HostRuntime) -> Result<(), Fail> {
     for (row, cuts) in CUT_FILES {
-        expect_all_cuts(&rt, rt.alloc(), &row, cuts)?;
+        expect_all_cuts(&rt, rt.alloc(), row, *cuts)?;
     }
     Ok(())
 }

@@ -61,12 +61,12 @@ fn reads_of_a_long_text(rt: HostRuntime) -> Result<(), Fail> {
 
 /// The file of the text has `len` bytes, and is written in at most `calls` calls.
 fn takes_few_writes(rt: &impl Abort, alloc: Global, text: &str, len: u64, calls: u64) {
-    let mut sink = IoSink::new(Counting { calls: 0, len: 0 });
+    let mut writer = Counting { calls: 0, len: 0 };
+    let mut sink = IoSink::new(&mut writer);
     let answer = writes(rt, alloc, Version::Cdf1, text.as_bytes(), &mut sink);
     assert!(rt; answer.is_ok());
-    let counts = sink.into_inner();
-    assert!(rt; counts.len == len, "{}", counts.len);
-    assert!(rt; counts.calls <= calls, "{}", counts.calls);
+    assert!(rt; writer.len == len, "{}", writer.len);
+    assert!(rt; writer.calls <= calls, "{}", writer.calls);
 }
 
 /// A text of a variable of 50,000 shorts, and its values.

@@ -2,7 +2,7 @@
 
 use crate::generating::{is_same, writes};
 use crate::rows::{self, Row};
-use nc_file::SliceSink;
+use devices::SliceSink;
 use ncgen::GenFault;
 use std::alloc::Global;
 use std::process::Abort;

@@ -3,8 +3,8 @@
 ghost use Rattle.std.specs.Prelude.{◌≤◌, length};
 ghost use Rattle.cdl_meaning.specs.Meaning.{text_limit};
 
+use devices::{MemSink, MemSource, Sink};
 use nc_base::{Sequence, Version};
-use nc_file::{MemSink, MemSource, Sink};
 use ncdump::{DumpOptions, dump};
 use ncgen::{GenFault, generate};
 use std::alloc::{AllocError, Global};

@@ -1,8 +1,8 @@
 //! Files of four gigabytes, as far as a sink has room for them. The headers are those that Unidata's ncgen 4.9.0 writes.
 
 use crate::generating::writes;
+use devices::SliceSink;
 use nc_base::Version;
-use nc_file::SliceSink;
 use ncgen::GenFault;
 use std::alloc::Global;
 use std::process::Abort;

@@ -2,8 +2,8 @@
 
 use crate::generating::{short_text, writes};
 use cdl_parse::{CdlFault, CdlKind};
+use devices::SliceSink;
 use nc_base::Version;
-use nc_file::SliceSink;
 use ncgen::{GenFault, prepare};
 use std::alloc::Global;
 use std::process::Abort;

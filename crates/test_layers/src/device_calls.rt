@@ -149,10 +149,11 @@ fn memory_and_writers_take_bytes(rt: HostRuntime) {
     expect_write(&rt, &mut memory, b"", Ok(0));
     expect_put(&rt, &mut memory, b"cdefg", Ok(()));
     assert!(rt; memory.as_slice() == b"abcdefg".as_slice());
-    let mut writer = IoSink::new(Vec::new(rt.alloc()));
+    let mut written = Vec::new(rt.alloc());
+    let mut writer = IoSink::new(&mut written);
     expect_put(&rt, &mut writer, b"abcde", Ok(()));
     assert!(rt; writer.flush() == Ok(()));
-    assert!(rt; writer.into_inner().as_slice() == b"abcde".as_slice());
+    assert!(rt; written.as_slice() == b"abcde".as_slice());
 }
 
 /// Fails unless a writer that takes two bytes a call, or refuses each, takes the first of these bytes, in `calls` calls.
@@ -164,14 +165,13 @@ fn expect_two_by_two(
     taken: &[u8],
     calls: u32,
 ) {
-    let mut sink = IoSink::new(TwoByTwo {
+    let mut writer = TwoByTwo {
         refuses,
         bytes: [0; 8],
         len: 0,
         calls: 0,
-    });
-    expect_put(rt, &mut sink, bytes, answer);
-    let writer = sink.into_inner();
+    };
+    expect_put(rt, &mut IoSink::new(&mut writer), bytes, answer);
     assert!(rt; writer.bytes.as_slice() == taken && writer.calls == calls);
 }
 

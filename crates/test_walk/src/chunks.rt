@@ -1,7 +1,7 @@
 //! Chunks of a walk: whole values, of one slab after the other, up to the first missing one.
 
 use crate::reading::{ends, gives, header_through, walk_over};
-use nc_file::{DripSource, FailWhen};
+use devices::{DripSource, FailWhen};
 use nc_walk::{WalkFault, laws};
 use std::alloc::Global;
 use std::process::Abort;

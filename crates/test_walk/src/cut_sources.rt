@@ -1,9 +1,9 @@
 //! A source that ends before the length that it reports is answered as the file that ends there: headers and walks.
 
 use crate::reading::{ends, gives, header_through, walk_over};
-use devices::ReadAhead;
+use devices::{MemSource, ReadAhead, Source};
 use nc_base::FormatFault;
-use nc_file::{HeadFault, MemSource, Source};
+use nc_file::HeadFault;
 use nc_walk::WalkFault;
 use std::test::Fail;
 use test_files::cut;

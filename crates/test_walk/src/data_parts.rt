@@ -6,8 +6,8 @@ ghost use Rattle.nc_walk.specs.code.DataPart.{AreListedOf};
 ghost use Rattle.test_walk.specs.code.DataParts.{IsListedAt};
 
 use crate::reading::header_through;
+use devices::{MemSource, SliceSink};
 use nc_base::{Header, ListedArray, value_count};
-use nc_file::{MemSource, SliceSink};
 use nc_walk::{record_slabs, write_data};
 use std::alloc::{AllocError, Global};
 use std::process::Abort;

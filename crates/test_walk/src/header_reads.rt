@@ -1,8 +1,9 @@
 //! Headers read from failing devices, and long ones.
 
 use crate::reading::header_through;
+use devices::{DripSource, FailWhen, MemSource};
 use nc_base::{FormatFault, Header};
-use nc_file::{DripSource, FailWhen, HeadFault, MemSource};
+use nc_file::HeadFault;
 use std::alloc::Global;
 use std::process::Abort;
 use std::test::Fail;

@@ -1,8 +1,9 @@
 //! Headers, read through buffers of every length.
 
 use crate::reading::header_through;
+use devices::{DripSource, FailWhen, MemSource, Source};
 use nc_base::{FormatFault, Header, NcType, NumRecs, Version};
-use nc_file::{DripSource, FailWhen, HeadFault, MemSource, Source};
+use nc_file::HeadFault;
 use std::alloc::Global;
 use std::process::Abort;
 use std::test::Fail;

@@ -1,7 +1,8 @@
 //! Headers, read through a buffer, and the chunks of walks.
 
+use devices::Source;
 use nc_base::Header;
-use nc_file::{HeadFault, Source, read_header};
+use nc_file::{HeadFault, read_header};
 use nc_walk::{Walk, WalkFault};
 use std::alloc::Global;
 use std::process::Abort;

@@ -2,7 +2,7 @@
 
 ghost use Rattle.std.specs.Prelude.{◌<◌, length};
 
-use nc_file::{FileSource, Source};
+use devices::{FileSource, Source};
 use std::alloc::{AllocError, Global};
 use std::fs;
 use std::process::Abort;

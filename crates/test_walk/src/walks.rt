@@ -1,8 +1,8 @@
 //! Walks over the values of whole files, through buffers of every length and in reads of every length.
 
 use crate::reading::{ends, header_through, next_len, walk_over};
+use devices::{DripSource, FailWhen, Source};
 use nc_base::{Header, records};
-use nc_file::{DripSource, FailWhen, Source};
 use nc_walk::{Walk, WalkFault};
 use std::alloc::Global;
 use std::process::Abort;
