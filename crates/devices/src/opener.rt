@@ -20,7 +20,7 @@ pub trait Opener {
     // The opener as contracts see it.
     ghost view: { Self → OpenerView };
 
-    /// OpensSource the path as a source that has read nothing yet.
+    /// Opens the path as a source that has read nothing yet.
     ///
     /// # Errors
     ///
