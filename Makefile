@@ -15,15 +15,6 @@ all: bin/ncdump bin/ncgen
 	bin/ncgen -k nc6 -o bin/stations.nc $(sample).cdl
 	bin/ncdump bin/stations.nc
 
-# The first time, the crates below ncdump are proved here, and side by side with them, in a copy, those that read CDL: rt locks the crates that
-# it works in. What it has proved in a copy it takes over.
-cdl = (cd $(1)crates/cdl_parse && rt lib && cd ../cdl_laws && rt lib)
-first:
-	cd crates/nc_base && rt lib
-	copy=$$(mktemp -d) && trap 'rm -rf "$$copy"' EXIT && cp -r crates crates.txt HANDLES "$$copy" && \
-	{ $(call cdl,"$$copy"/) & (cd crates/ncdump && rt lib); wait; $(call cdl,); }
-bin/ncdump bin/ncgen: $(if $(wildcard crates/ncgen/out),,first)
-
 # Prove and build a program. rt sees what has changed, and runs what it has built, here on the sample.
 bin/ncdump: FORCE
 	cd crates/ncdump_cli && rt run -- ../../$(sample).nc >/dev/null
@@ -99,4 +90,4 @@ clean:
 
 FORCE:
 
-.PHONY: all first test test-edits test-programs install dist check clean FORCE
+.PHONY: all test test-edits test-programs install dist check clean FORCE
