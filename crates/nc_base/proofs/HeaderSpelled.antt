@@ -123,15 +123,13 @@ att-spelled v atts sound names prefix att back rest is =
     subst (λ (x : List ℕ). SpellsAtt v prefix x att rest)
     (sym (append_assoc a (b ++ (c ++ d)) rest ∙ ap (λ (x : List ℕ). a ++ x) (append_assoc b (c ++ d) rest) ∙ ap (λ (x : List ℕ). a ++ (b ++ x)) (append_assoc c d rest)))
     (record {
-      count = n;
+      after_name = b ++ (c ++ (d ++ rest));
+      after_type = c ++ (d ++ rest);
       after_count = d ++ rest;
-      prefix = record {
-        after_name = b ++ (c ++ (d ++ rest));
-        after_type = c ++ (d ++ rest);
-        named = name v att.name (b ++ (c ++ (d ++ rest))) s.name_len (at-split (λ (x : Att). IsName x.name) atts prefix att back is names);
-        typed = type v att.ty (c ++ (d ++ rest)) s.ty;
-        counted = count v n (d ++ rest) (subst (λ (m : ℕ). m < count_limit v) (sym n_is) s.values.counted);
-      };
+      count = n;
+      named = name v att.name (b ++ (c ++ (d ++ rest))) s.name_len (at-split (λ (x : Att). IsName x.name) atts prefix att back is names);
+      typed = type v att.ty (c ++ (d ++ rest)) s.ty;
+      counted = count v n (d ++ rest) (subst (λ (m : ℕ). m < count_limit v) (sym n_is) s.values.counted);
       whole = s.values.whole ∙ ap (λ (m : ℕ). m * size_of att.ty) (sym n_is);
       values = padded att.vals rest;
     })
@@ -198,21 +196,17 @@ var-one v dims prefix var rest few s names place limits =
     ∙ ap (λ (x : List ℕ). a ++ (b ++ (c ++ x))) (append_assoc d (e ++ f) rest)
     ∙ ap (λ (x : List ℕ). a ++ (b ++ (c ++ (d ++ x)))) (append_assoc e f rest)))
     (record {
+      after_name = b ++ (c ++ (d ++ (e ++ (f ++ rest))));
+      after_shape = c ++ (d ++ (e ++ (f ++ rest)));
+      after_atts = d ++ (e ++ (f ++ rest));
       after_type = e ++ (f ++ rest);
       after_vsize = f ++ rest;
       vsize = n;
-      typed = record {
-        after_atts = d ++ (e ++ (f ++ rest));
-        prefix = record {
-          after_name = b ++ (c ++ (d ++ (e ++ (f ++ rest))));
-          after_shape = c ++ (d ++ (e ++ (f ++ rest)));
-          name = name v var.name (b ++ (c ++ (d ++ (e ++ (f ++ rest))))) s.name_len names.0;
-          shape = counted v (SpellsDimid v dims) (count_spelling v) var.dimids (c ++ (d ++ (e ++ (f ++ rest)))) s.rank (dimid-spelled v dims var.dimids few s.shape);
-          atts = atts v var.atts (d ++ (e ++ (f ++ rest))) s.att_count s.atts names.1;
-        };
-        ty = type v var.ty (e ++ (f ++ rest)) s.ty;
-        small = limits;
-      };
+      named = name v var.name (b ++ (c ++ (d ++ (e ++ (f ++ rest))))) s.name_len names.0;
+      shape = counted v (SpellsDimid v dims) (count_spelling v) var.dimids (c ++ (d ++ (e ++ (f ++ rest)))) s.rank (dimid-spelled v dims var.dimids few s.shape);
+      atts = atts v var.atts (d ++ (e ++ (f ++ rest))) s.att_count s.atts names.1;
+      typed = type v var.ty (e ++ (f ++ rest)) s.ty;
+      small = limits;
       any_vsize = number (count_width v) n (f ++ rest) (vsize-fits v (padded_size dims var) small);
       begin = record { number = number (offset_width v) var.begin_at rest (offset-fits v var.begin_at place); non_negative = place };
     })
@@ -245,17 +239,15 @@ header-spelled h rest sound names places =
     subst (λ (x : List ℕ). SpellsHeader (67 ∷ 68 ∷ 70 ∷ version_byte v ∷ x) h rest)
     (sym (append_assoc a (b ++ (c ++ d)) rest ∙ ap (λ (x : List ℕ). a ++ x) (append_assoc b (c ++ d) rest) ∙ ap (λ (x : List ℕ). a ++ (b ++ x)) (append_assoc c d rest)))
     (record {
+      after_magic = a ++ (b ++ (c ++ (d ++ rest)));
+      after_numrecs = b ++ (c ++ (d ++ rest));
+      after_dims = c ++ (d ++ rest);
       after_gatts = d ++ rest;
-      prefix = record {
-        after_dims = c ++ (d ++ rest);
-        prefix = record {
-          after_start = b ++ (c ++ (d ++ rest));
-          start = record { after_magic = a ++ (b ++ (c ++ (d ++ rest))); magic = refl; records = numrecs v h.numrecs (b ++ (c ++ (d ++ rest))) sound.numrecs };
-          dim_list = list v dimension_tag (SpellsDim v) (dim_spelling v) h.dims (c ++ (d ++ rest)) (omega arith) sound.dim_count
-              (dim-spelled v h.dims sound.dims names.dims sound.one_record_dim);
-        };
-        gatt_list = atts v h.gatts (d ++ rest) sound.gatt_count sound.gatts names.gatts;
-      };
+      magic = refl;
+      numrecs = numrecs v h.numrecs (b ++ (c ++ (d ++ rest))) sound.numrecs;
+      dim_list = list v dimension_tag (SpellsDim v) (dim_spelling v) h.dims (c ++ (d ++ rest)) (omega arith) sound.dim_count
+          (dim-spelled v h.dims sound.dims names.dims sound.one_record_dim);
+      gatt_list = atts v h.gatts (d ++ rest) sound.gatt_count sound.gatts names.gatts;
       var_list = list v variable_tag (SpellsVar v h.dims) (var_spelling v h.dims) h.vars rest (omega arith) sound.var_count
           (var-spelled v h.dims h.vars sound.dim_count sound.vars names.vars places sound.small_records);
     })

@@ -39,7 +39,7 @@ att-sound : (v : Version) → Gives (SpellsAtt v) (IsSoundAtt v)
 att-sound v before bytes att rest s = grind arith
 
 att-name : (v : Version) → Gives (SpellsAtt v) (λ (att : Att). IsName att.name)
-att-name v before bytes att rest s = s.prefix.named.valid
+att-name v before bytes att rest s = s.named.valid
 
 -- ---- dimensions
 
@@ -84,14 +84,14 @@ atts-names v bytes atts rest s = list-all v _ (SpellsAtt v) (λ (att : Att). IsN
 
 var-sound : (v : Version) (dims : List Dim) → Gives (SpellsVar v dims) (IsSoundVar v dims)
 var-sound v dims before bytes var rest s =
-    let prefix = s.typed.prefix in record {
-      name_len = prefix.name.count.non_negative;
-      rank = prefix.shape.count.non_negative;
-      shape = shape-known v dims var.dimids [] prefix.shape.after_count prefix.after_shape prefix.shape.each;
-      att_count = (listed v _ (SpellsAtt v) prefix.after_shape var.atts s.typed.after_atts prefix.atts).count;
-      atts = atts-sound v prefix.after_shape var.atts s.typed.after_atts prefix.atts;
-      ty = s.typed.ty.has;
-      slab = s.typed.small.slab;
+    record {
+      name_len = s.named.count.non_negative;
+      rank = s.shape.count.non_negative;
+      shape = shape-known v dims var.dimids [] s.shape.after_count s.after_shape s.shape.each;
+      att_count = (listed v _ (SpellsAtt v) s.after_shape var.atts s.after_atts s.atts).count;
+      atts = atts-sound v s.after_shape var.atts s.after_atts s.atts;
+      ty = s.typed.has;
+      slab = s.small.slab;
     }
 
 abbrev HasNames : Var → Type 0
@@ -99,7 +99,7 @@ HasNames var = IsName var.name × All (λ (att : Att). IsName att.name) var.atts
 
 var-names : (v : Version) (dims : List Dim) → Gives (SpellsVar v dims) HasNames
 var-names v dims before bytes var rest s =
-    let prefix = s.typed.prefix in (prefix.name.valid, atts-names v prefix.after_shape var.atts s.typed.after_atts prefix.atts)
+    (s.named.valid, atts-names v s.after_shape var.atts s.after_atts s.atts)
 
 -- ---- the record size
 
@@ -124,19 +124,17 @@ records-sound v bytes Streaming rest s = tt
 pub spelled-sound : (bytes : List ℕ) (h : Header) (rest : List ℕ) → SpellsHeader bytes h rest → IsSound h
 spelled-sound bytes h rest s =
     let v = h.version in
-    let gatts = s.prefix in
-    let dims = gatts.prefix in
-    let dim_list = listed v _ (SpellsDim v) dims.after_start h.dims gatts.after_dims dims.dim_list in
+    let dim_list = listed v _ (SpellsDim v) s.after_numrecs h.dims s.after_dims s.dim_list in
     let var_list = listed v _ (SpellsVar v h.dims) s.after_gatts h.vars rest s.var_list in
     let records = vars-small v h.dims h.vars [] var_list.prefix rest var_list.each (omega arith) in
     let packed = record_size_of-le-padded h.dims (record_vars h.dims h.vars) in
     record {
-      numrecs = records-sound v dims.start.after_magic h.numrecs dims.after_start dims.start.records;
+      numrecs = records-sound v s.after_magic h.numrecs s.after_numrecs s.numrecs;
       dim_count = dim_list.count;
-      dims = list-all v _ (SpellsDim v) (IsSoundDim v) (dim-sound v) dims.after_start h.dims gatts.after_dims dims.dim_list;
-      one_record_dim = dims-one v h.dims [] dim_list.prefix gatts.after_dims dim_list.each (omega arith);
-      gatt_count = (listed v _ (SpellsAtt v) gatts.after_dims h.gatts s.after_gatts gatts.gatt_list).count;
-      gatts = atts-sound v gatts.after_dims h.gatts s.after_gatts gatts.gatt_list;
+      dims = list-all v _ (SpellsDim v) (IsSoundDim v) (dim-sound v) s.after_numrecs h.dims s.after_dims s.dim_list;
+      one_record_dim = dims-one v h.dims [] dim_list.prefix s.after_dims dim_list.each (omega arith);
+      gatt_count = (listed v _ (SpellsAtt v) s.after_dims h.gatts s.after_gatts s.gatt_list).count;
+      gatts = atts-sound v s.after_dims h.gatts s.after_gatts s.gatt_list;
       var_count = var_list.count;
       vars = list-all v _ (SpellsVar v h.dims) (IsSoundVar v h.dims) (var-sound v h.dims) s.after_gatts h.vars rest s.var_list;
       small_records = omega (arith, packed, records);

@@ -1,6 +1,5 @@
 -- Definition. The grammar of a header, as the NetCDF Classic Format Specification has it: for each of its lines a relation between
--- bytes, the value at their start, and the rest after it. Padding and vsize may be any. A line that ends with `..` is the
--- beginning of one, for FirstFault.
+-- bytes, the value at their start, and the rest after it. Padding and vsize may be any.
 use Rattle.std.specs.Prelude.{ℕ, ◌≡◌, ◌*◌, ◌^◌, ◌<◌, ◌≤◌, true, false, List, [], ◌∷◌, ◌++◌, length, codes}
 use Rattle.std.specs.Int.{Width, w32, to_be_bytes, byte_len}
 use Rattle.nc_base.specs.declared.{header.Att.Att, header.Dim.Dim, header.Var.Var, header.Header.Header, header.NumRecs.NumRecs, nc_type.NcType.NcType, version.Version.Version}
@@ -40,6 +39,11 @@ pub record SpellsOffset (v : Version) (bytes : List ℕ) (n : ℕ) (rest : List 
   pub non_negative : n < offset_limit v
 
 -- ---- names and types
+
+-- n bytes
+pub record SpellsBytes (n : ℕ) (bytes content rest : List ℕ) : Type 0 where
+  pub count : length content ≡ n
+  pub spelled : bytes ≡ content ++ rest
 
 -- these bytes, and padding up to the next multiple of four
 pub record SpellsPadded (bytes content rest : List ℕ) : Type 0 where
@@ -95,19 +99,15 @@ pub record SpellsDim (v : Version) (before : List Dim) (bytes : List ℕ) (dim :
   pub len : SpellsCount v after_name dim.len rest
   pub one_record_dim : dim.len ≡ 0 → has_record_dim before ≡ false
 
--- attr = name nc_type nelems ..
-pub record SpellsAttPrefix (v : Version) (bytes name : List ℕ) (ty : NcType) (count : ℕ) (rest : List ℕ) : Type 0 where
-  pub after_name : List ℕ
-  pub after_type : List ℕ
-  pub named : SpellsName v bytes name after_name
-  pub typed : SpellsType v after_name ty after_type
-  pub counted : SpellsCount v after_type count rest
-
 -- attr = name nc_type nelems [values ...], whatever comes before it
 pub record SpellsAtt (v : Version) (before : List Att) (bytes : List ℕ) (att : Att) (rest : List ℕ) : Type 0 where
-  pub count : ℕ
+  pub after_name : List ℕ
+  pub after_type : List ℕ
   pub after_count : List ℕ
-  pub prefix : SpellsAttPrefix v bytes att.name att.ty count after_count
+  pub count : ℕ
+  pub named : SpellsName v bytes att.name after_name
+  pub typed : SpellsType v after_name att.ty after_type
+  pub counted : SpellsCount v after_type count after_count
   pub whole : length att.vals ≡ count * size_of att.ty
   pub values : SpellsPadded after_count att.vals rest
 
@@ -126,27 +126,19 @@ pub record IsWithinLimits (dims : List Dim) (before : List Var) (var : Var) : Ty
   pub slab : slab_size dims var ≤ slab_limit
   pub record_bytes : padded_total dims (record_vars dims (before ++ var ∷ [])) ≤ record_limit
 
--- var = name nelems [dimid ...] vatt_list ..: the type and the begin of var may still be any
-pub record SpellsVarPrefix (v : Version) (dims : List Dim) (bytes : List ℕ) (var : Var) (rest : List ℕ) : Type 0 where
+-- var = name nelems [dimid ...] vatt_list nc_type vsize begin, after the variables before it
+pub record SpellsVar (v : Version) (dims : List Dim) (before : List Var) (bytes : List ℕ) (var : Var) (rest : List ℕ) : Type 0 where
   pub after_name : List ℕ
   pub after_shape : List ℕ
-  pub name : SpellsName v bytes var.name after_name
-  pub shape : SpellsCounted v (SpellsDimid v dims) after_name var.dimids after_shape
-  pub atts : SpellsAtts v after_shape var.atts rest
-
--- var = name nelems [dimid ...] vatt_list nc_type .., after the variables before it
-pub record SpellsTypedVar (v : Version) (dims : List Dim) (before : List Var) (bytes : List ℕ) (var : Var) (rest : List ℕ) : Type 0 where
   pub after_atts : List ℕ
-  pub prefix : SpellsVarPrefix v dims bytes var after_atts
-  pub ty : SpellsType v after_atts var.ty rest
-  pub small : IsWithinLimits dims before var
-
--- var = name nelems [dimid ...] vatt_list nc_type vsize begin
-pub record SpellsVar (v : Version) (dims : List Dim) (before : List Var) (bytes : List ℕ) (var : Var) (rest : List ℕ) : Type 0 where
   pub after_type : List ℕ
   pub after_vsize : List ℕ
   pub vsize : ℕ
-  pub typed : SpellsTypedVar v dims before bytes var after_type
+  pub named : SpellsName v bytes var.name after_name
+  pub shape : SpellsCounted v (SpellsDimid v dims) after_name var.dimids after_shape
+  pub atts : SpellsAtts v after_shape var.atts after_atts
+  pub typed : SpellsType v after_atts var.ty after_type
+  pub small : IsWithinLimits dims before var
   pub any_vsize : SpellsNumber (count_width v) after_type vsize after_vsize
   pub begin : SpellsOffset v after_vsize var.begin_at rest
 
@@ -161,26 +153,14 @@ abbrev pub SpellsNumRecs : Version → List ℕ → NumRecs → List ℕ → Typ
 SpellsNumRecs v bytes (Known n) rest = SpellsCount v bytes n rest
 SpellsNumRecs v bytes Streaming rest = SpellsNumber (count_width v) bytes (streaming_mark v) rest
 
--- header = magic numrecs ..
-pub record SpellsStart (bytes : List ℕ) (v : Version) (numrecs : NumRecs) (rest : List ℕ) : Type 0 where
-  pub after_magic : List ℕ
-  pub magic : SpellsMagic bytes v after_magic
-  pub records : SpellsNumRecs v after_magic numrecs rest
-
--- header = magic numrecs dim_list ..
-pub record SpellsUpToDims (bytes : List ℕ) (v : Version) (numrecs : NumRecs) (dims : List Dim) (rest : List ℕ) : Type 0 where
-  pub after_start : List ℕ
-  pub start : SpellsStart bytes v numrecs after_start
-  pub dim_list : SpellsList v dimension_tag (SpellsDim v) after_start dims rest
-
--- header = magic numrecs dim_list gatt_list ..
-pub record SpellsUpToGatts (bytes : List ℕ) (v : Version) (numrecs : NumRecs) (dims : List Dim) (gatts : List Att) (rest : List ℕ) : Type 0 where
-  pub after_dims : List ℕ
-  pub prefix : SpellsUpToDims bytes v numrecs dims after_dims
-  pub gatt_list : SpellsAtts v after_dims gatts rest
-
 -- header = magic numrecs dim_list gatt_list var_list
 pub record SpellsHeader (bytes : List ℕ) (h : Header) (rest : List ℕ) : Type 0 where
+  pub after_magic : List ℕ
+  pub after_numrecs : List ℕ
+  pub after_dims : List ℕ
   pub after_gatts : List ℕ
-  pub prefix : SpellsUpToGatts bytes h.version h.numrecs h.dims h.gatts after_gatts
+  pub magic : SpellsMagic bytes h.version after_magic
+  pub numrecs : SpellsNumRecs h.version after_magic h.numrecs after_numrecs
+  pub dim_list : SpellsList h.version dimension_tag (SpellsDim h.version) after_numrecs h.dims after_dims
+  pub gatt_list : SpellsAtts h.version after_dims h.gatts after_gatts
   pub var_list : SpellsList h.version variable_tag (SpellsVar h.version h.dims) after_gatts h.vars rest

@@ -1,8 +1,9 @@
 -- The other direction: bytes, numbers, names and types that are spelled are read, and reading stops with the first wrong field.
-use Rattle.std.proofs.Common.{◌≡◌, ◌≢◌, ℕ, zero, suc, ◌<◌, ◌≤◌, Bool, true, false, cond, leb, List, [], ◌∷◌, ◌++◌, length, Option, Some, None, Ok, Err, refl, sym, ap, ◌∙◌, append_assoc, arith, ◌==◌, ◌||◌, ◌⊎◌, rules}
-use Rattle.nc_file.proofs.Prelude.{append-nil, Width, w32, byte_len, to_be_bytes, FormatFault, HeaderTruncated, NcType, Version, code_of, type_of_code, count_width, has_type, SpellsNumber, SpellsCount, SpellsName, SpellsType, IsCutNumber, StopsInCount, cut_count, negative_count, StopsInName, in_name_len, cut_name, bad_name, cut_name_padding, StopsInType, cut_type, floating, bad_type, HeadFault, Format, Outcome, Part, next, done, stop, byte_or, number_at, count_at, bytes_at, skip_at, name_at, type_at, known_type, type_in, type_or_wrong}
+use Rattle.std.proofs.Common.{◌≡◌, ◌≢◌, ℕ, zero, suc, ◌<◌, ◌≤◌, Bool, true, false, cond, leb, List, [], ◌∷◌, ◌++◌, length, Option, Some, None, Ok, Err, refl, sym, ap, ◌∙◌, append_assoc, arith, ◌==◌, ◌||◌, rules}
+use Rattle.nc_file.proofs.Prelude.{append-nil, Width, w32, byte_len, to_be_bytes, FormatFault, HeaderTruncated, BadType, NcType, Version, padding_len, code_of, type_of_code, count_width, offset_width, has_type, SpellsBytes, SpellsNumber, SpellsCount, SpellsOffset, SpellsName, SpellsType, IsCut, is_cut, Stops, Never, Then, in_part, in_next, Rule, breaks, keeps, InCount, InOffset, InName, InType, HeadFault, Format, Outcome, Part, next, done, stop, wrong, byte_or, number_at, count_at, offset_at, bytes_at, skip_at, name_at, type_at, known_type, type_in, type_or_wrong}
 use Rattle.nc_file.specs.code.Reading.{◌>>=◌}
-use Rattle.nc_file.proofs.FieldLaws.{IsWide, wide-32, count-wide, code-known, type_of_code-code_of}
+use Rattle.nc_base.specs.Names.{is_name}
+use Rattle.nc_file.proofs.FieldLaws.{IsWide, wide-32, count-wide, offset-wide, code-known, type_of_code-code_of}
 
 -- ---- steps
 
@@ -26,7 +27,10 @@ if-not p q {bytes = bytes} e h = ap (λ c. (cond c p q).run bytes) e ∙ h
 pub below-test : (a b : ℕ) → b < a → leb a b ≡ false
 below-test a b lt = grind arith
 
--- a number from a limit on reaches it
+-- a number that isn't below a limit reaches it
+pub reached-test : (a b : ℕ) → ¬ (b < a) → leb a b ≡ true
+reached-test a b high = grind arith
+
 pub above-test : (a b : ℕ) → a ≤ b → leb a b ≡ true
 above-test a b le = grind arith
 
@@ -38,6 +42,46 @@ other-test a b ne = grind (arith, ne)
 pub not-so : (b : Bool) → ¬ (b ≡ true) → b ≡ false
 not-so b h = grind arith
 
+-- a test that cannot fail
+pub not-false : (b : Bool) → ¬ (b ≡ false) → b ≡ true
+not-false b h = grind arith
+
+-- what the grammar says is read
+abbrev pub ReadAgain : {A : Type 0} → (List ℕ → A → List ℕ → Type 0) → Part A → Type 0
+ReadAgain {A = A} Spells part = (bytes : List ℕ) (x : A) (rest : List ℕ) → Spells bytes x rest → part.run bytes ≡ Ok (x, rest)
+
+-- reading stops with the first wrong field
+abbrev pub StopsAgain : {A : Type 0} → Stops → Part A → Type 0
+StopsAgain In part = (bytes : List ℕ) (fault : FormatFault) (rest : List ℕ) → In bytes fault rest → part.run bytes ≡ Err (Format fault, rest)
+
+pub then-stops : {A B : Type 0} {Spells : List ℕ → A → List ℕ → Type 0} {In : Stops} {InNext : A → Stops} (part : Part A) (f : A → Part B)
+    → ReadAgain Spells part → StopsAgain In part → ((x : A) → StopsAgain (InNext x) (f x)) → StopsAgain (Then Spells In InNext) (part >>= f)
+unfolding ◌>>=◌
+then-stops part f again stops after bytes fault rest (in_part s) = then-err f (stops bytes fault rest s)
+then-stops part f again stops after bytes fault rest (in_next x middle spelled s) = then-ok f (again bytes x middle spelled) (after x middle fault rest s)
+
+-- a part whose value is only passed on
+pub value-stop : {A B : Type 0} {In : Stops} (part : Part A) (f : A → Part B) → StopsAgain In part → StopsAgain In (part >>= f)
+unfolding ◌>>=◌
+value-stop part f stops bytes fault rest s = then-err f (stops bytes fault rest s)
+
+-- a rule whose test says that it is broken
+pub rule-stops : {A : Type 0} {Holds : Type 0} {broken : FormatFault} {InNext : Stops} (b : Bool) (part : Part A)
+    → (¬ Holds → b ≡ true) → (Holds → b ≡ false) → StopsAgain InNext part → StopsAgain (Rule Holds broken InNext) (cond b (wrong broken) part)
+unfolding stop
+rule-stops b part refuted kept after bytes _ _ (breaks not_so) = if-so _ _ (refuted not_so) refl
+rule-stops b part refuted kept after bytes _ _ (keeps fault rest so s) = if-not _ _ (kept so) (after bytes fault rest s)
+
+-- a rule whose test says that it is kept
+pub kept-stops : {A : Type 0} {Holds : Type 0} {broken : FormatFault} {InNext : Stops} (b : Bool) (part : Part A)
+    → (¬ Holds → b ≡ false) → (Holds → b ≡ true) → StopsAgain InNext part → StopsAgain (Rule Holds broken InNext) (cond b part (wrong broken))
+unfolding stop
+kept-stops b part refuted kept after bytes _ _ (breaks not_so) = if-not _ _ (refuted not_so) refl
+kept-stops b part refuted kept after bytes _ _ (keeps fault rest so s) = if-so _ _ (kept so) (after bytes fault rest s)
+
+pub never-stops : {A : Type 0} (part : Part A) → StopsAgain Never part
+never-stops part bytes fault rest s = absurd s
+
 -- ---- bytes
 
 -- bytes after others are read
@@ -46,17 +90,18 @@ unfolding bytes_at ◌>>=◌ byte_or done
 bytes-after [] prefix rest = ap (λ (x : List ℕ). Ok (x, rest)) (sym (append-nil prefix))
 bytes-after (b ∷ content) prefix rest = bytes-after content (prefix ++ b ∷ []) rest ∙ ap (λ (x : List ℕ). Ok (x, rest)) (append_assoc prefix (b ∷ []) content)
 
--- n bytes are read
-pub bytes-again : (n : ℕ) (bytes content rest : List ℕ) → length content ≡ n → bytes ≡ content ++ rest → (bytes_at n []).run bytes ≡ Ok (content, rest)
-bytes-again n bytes content rest count spelled =
-    ap (bytes_at n []).run spelled ∙ ap (λ (k : ℕ). (bytes_at k []).run (content ++ rest)) (sym count) ∙ bytes-after content [] rest
+pub bytes-again : (n : ℕ) → ReadAgain (SpellsBytes n) (bytes_at n [])
+bytes-again n bytes content rest s =
+    ap (bytes_at n []).run s.spelled ∙ ap (λ (k : ℕ). (bytes_at k []).run (content ++ rest)) (sym s.count) ∙ bytes-after content [] rest
 
--- where the file ends in them, reading stops
-pub bytes-stops-again : (n : ℕ) (prefix bytes : List ℕ) → length bytes < n → (bytes_at n prefix).run bytes ≡ Err (Format HeaderTruncated, [])
+bytes-stop_after : (n : ℕ) (prefix bytes : List ℕ) → length bytes < n → (bytes_at n prefix).run bytes ≡ Err (Format HeaderTruncated, [])
 unfolding bytes_at ◌>>=◌ byte_or
-bytes-stops-again zero prefix bytes cut = absurd (omega (arith, cut))
-bytes-stops-again (suc n) prefix [] cut = refl
-bytes-stops-again (suc n) prefix (b ∷ bytes) cut = bytes-stops-again n (prefix ++ b ∷ []) bytes (omega (arith, cut))
+bytes-stop_after zero prefix bytes cut = absurd (omega (arith, cut))
+bytes-stop_after (suc n) prefix [] cut = refl
+bytes-stop_after (suc n) prefix (b ∷ bytes) cut = bytes-stop_after n (prefix ++ b ∷ []) bytes (omega (arith, cut))
+
+pub bytes-stop : (n : ℕ) → StopsAgain (IsCut HeaderTruncated n) (bytes_at n [])
+bytes-stop n bytes _ _ (is_cut cut) = bytes-stop_after n [] bytes cut
 
 -- n bytes are skipped
 pub skip-again : (n : ℕ) (content rest : List ℕ) → length content ≡ n → (skip_at n).run (content ++ rest) ≡ Ok (tt, rest)
@@ -65,55 +110,58 @@ skip-again zero [] rest count = refl
 skip-again (suc n) (b ∷ content) rest count = skip-again n content rest (omega (arith, count))
 skip-again _ _ rest count = absurd (omega (arith, count))
 
--- where the file ends in them, skipping stops
-pub skip-stops-again : (n : ℕ) (bytes : List ℕ) → length bytes < n → (skip_at n).run bytes ≡ Err (Format HeaderTruncated, [])
+skip-stop_after : (n : ℕ) (bytes : List ℕ) → length bytes < n → (skip_at n).run bytes ≡ Err (Format HeaderTruncated, [])
 unfolding skip_at ◌>>=◌ byte_or
-skip-stops-again zero bytes cut = absurd (omega (arith, cut))
-skip-stops-again (suc n) [] cut = refl
-skip-stops-again (suc n) (b ∷ bytes) cut = skip-stops-again n bytes (omega (arith, cut))
+skip-stop_after zero bytes cut = absurd (omega (arith, cut))
+skip-stop_after (suc n) [] cut = refl
+skip-stop_after (suc n) (b ∷ bytes) cut = skip-stop_after n bytes (omega (arith, cut))
+
+pub skip-stop : (n : ℕ) → StopsAgain (IsCut HeaderTruncated n) (skip_at n)
+skip-stop n bytes _ _ (is_cut cut) = skip-stop_after n bytes cut
 
 -- ---- numbers
 
--- a spelled number is read
-pub number-again : (w : Width) → IsWide w → (bytes : List ℕ) (n : ℕ) (rest : List ℕ) → SpellsNumber w bytes n rest → (number_at w).run bytes ≡ Ok (n, rest)
+pub number-again : (w : Width) → IsWide w → ReadAgain (SpellsNumber w) (number_at w)
 unfolding number_at ◌>>=◌ done
 number-again w wide bytes n rest s =
-    then-ok _ (bytes-again (byte_len w) bytes (to_be_bytes w n) rest (wide.len n) s.spelled) (ap (λ (m : ℕ). Ok (m, rest)) (wide.again n s.fits))
+    then-ok _ (bytes-again (byte_len w) bytes (to_be_bytes w n) rest (record { count = wide.len n; spelled = s.spelled })) (ap (λ (m : ℕ). Ok (m, rest)) (wide.again n s.fits))
 
--- where the file ends in one, reading stops
-pub number-stops-again : (w : Width) (bytes : List ℕ) → IsCutNumber w bytes → (number_at w).run bytes ≡ Err (Format HeaderTruncated, [])
+pub number-stop : (w : Width) → StopsAgain (IsCut HeaderTruncated (byte_len w)) (number_at w)
 unfolding number_at ◌>>=◌
-number-stops-again w bytes cut = then-err _ (bytes-stops-again (byte_len w) [] bytes cut)
+number-stop w bytes fault rest cut = then-err _ (bytes-stop (byte_len w) bytes fault rest cut)
 
--- a spelled count is read
-pub count-again : (v : Version) (bytes : List ℕ) (n : ℕ) (rest : List ℕ) → SpellsCount v bytes n rest → (count_at v).run bytes ≡ Ok (n, rest)
+pub count-again : (v : Version) → ReadAgain (SpellsCount v) (count_at v)
 unfolding count_at ◌>>=◌ done
 count-again v bytes n rest s =
     then-ok _ (number-again (count_width v) (count-wide v) bytes n rest s.number) (if-not _ _ (below-test _ _ s.non_negative) refl)
 
--- reading a count stops where it is wrong
-pub count-stops-again : (v : Version) (bytes : List ℕ) (fault : FormatFault) (rest : List ℕ) → StopsInCount v bytes fault rest → (count_at v).run bytes ≡ Err (Format fault, rest)
-unfolding count_at ◌>>=◌ stop
-count-stops-again v bytes fault rest (cut_count cut) = then-err _ (number-stops-again (count_width v) bytes cut)
-count-stops-again v bytes fault rest (negative_count n r number high) =
-    then-ok _ (number-again (count_width v) (count-wide v) bytes n r number) (if-so _ _ (above-test _ _ high) refl)
+pub count-stop : (v : Version) → StopsAgain (InCount v) (count_at v)
+unfolding count_at
+count-stop v =
+    then-stops _ _ (number-again (count_width v) (count-wide v)) (number-stop (count_width v)) (λ n. rule-stops _ _ (reached-test _ _) (below-test _ _) (never-stops (done n)))
+
+pub offset-again : (v : Version) → ReadAgain (SpellsOffset v) (offset_at v)
+unfolding offset_at ◌>>=◌ done
+offset-again v bytes n rest s =
+    then-ok _ (number-again (offset_width v) (offset-wide v) bytes n rest s.number) (if-not _ _ (below-test _ _ s.non_negative) refl)
+
+pub offset-stop : (v : Version) → StopsAgain (InOffset v) (offset_at v)
+unfolding offset_at
+offset-stop v =
+    then-stops _ _ (number-again (offset_width v) (offset-wide v)) (number-stop (offset_width v)) (λ n. rule-stops _ _ (reached-test _ _) (below-test _ _) (never-stops (done n)))
 
 -- ---- names
 
--- a spelled name is read
-pub name-again : (v : Version) (bytes name rest : List ℕ) → SpellsName v bytes name rest → (name_at v).run bytes ≡ Ok (name, rest)
+pub name-again : (v : Version) → ReadAgain (SpellsName v) (name_at v)
 unfolding name_at ◌>>=◌ done
 name-again v bytes name rest s = search (rules, then-ok, count-again, bytes-again, if-so, skip-again)
 
--- reading a name stops with its first wrong field
-pub name-stops-again : (v : Version) (bytes : List ℕ) (fault : FormatFault) (rest : List ℕ) → StopsInName v bytes fault rest → (name_at v).run bytes ≡ Err (Format fault, rest)
-unfolding name_at ◌>>=◌ stop
-name-stops-again v bytes fault rest (in_name_len f r s) = then-err _ (count-stops-again v bytes f r s)
-name-stops-again v bytes fault rest (cut_name n body count cut) =
-    then-ok _ (count-again v bytes n body count) (then-err _ (bytes-stops-again n [] body cut))
-name-stops-again v bytes fault rest (bad_name name r count invalid) = search (rules, then-ok, count-again, bytes-again, if-not)
-name-stops-again v bytes fault rest (cut_name_padding name r count valid cut) =
-    search (rules, then-ok, count-again, bytes-again, if-so, then-err, skip-stops-again)
+pub name-stop : (v : Version) → StopsAgain (InName v) (name_at v)
+unfolding name_at
+name-stop v =
+    then-stops _ _ (count-again v) (count-stop v) (λ n.
+    then-stops _ _ (bytes-again n) (bytes-stop n) (λ name.
+    kept-stops (is_name name) _ (not-so _) (λ valid. valid) (value-stop _ _ (skip-stop (padding_len n)))))
 
 -- ---- types
 
@@ -121,42 +169,33 @@ name-stops-again v bytes fault rest (cut_name_padding name r count valid cut) =
 is-whole : (ty : NcType) → ((code_of ty == 5) || (code_of ty == 6)) ≡ false
 is-whole ty = grind arith
 
--- the floating codes pass the test
-is-floating : (code : ℕ) → (code ≡ 5) ⊎ (code ≡ 6) → ((code == 5) || (code == 6)) ≡ true
-is-floating code h = grind arith
-
--- other codes do not
-is-other : (code : ℕ) → code ≢ 5 → code ≢ 6 → ((code == 5) || (code == 6)) ≡ false
-is-other code not5 not6 = rw (other-test code 5 not5, other-test code 6 not6) refl
-
 -- a type of the version has its code
 type_in-again : (v : Version) (ty : NcType) → has_type v ty ≡ true → type_in v (code_of ty) ≡ Some ty
 unfolding type_in
 type_in-again v ty has = ap (known_type v) (type_of_code-code_of ty) ∙ ap (λ (b : Bool). cond b (Some ty) None) has
 
--- a code that no type of the version has
-no-type : (v : Version) (code : ℕ) (known : Option NcType) → known ≡ type_of_code code
-    → ((ty : NcType) → has_type v ty ≡ true → code_of ty ≢ code) → known_type v known ≡ None
-no-type v code known h h2 = grind (arith, code-known)
+abbrev IsType : Version → ℕ → Type 0
+IsType v code = (ty : NcType) × (code ≡ code_of ty) × (has_type v ty ≡ true)
 
--- so there is no type of the version with this code
-type_in-none : (v : Version) (code : ℕ) → ((ty : NcType) → has_type v ty ≡ true → code_of ty ≢ code) → type_in v code ≡ None
-unfolding type_in
-type_in-none v code none = no-type v code (type_of_code code) refl none
+none-unless : {A : Type 0} (b : Bool) (x : A) → ¬ (b ≡ true) → cond b (Some x) None ≡ None
+none-unless b x h = grind arith
 
--- a spelled type is read
-pub type-again : (v : Version) (bytes : List ℕ) (ty : NcType) (rest : List ℕ) → SpellsType v bytes ty rest → (type_at v).run bytes ≡ Ok (ty, rest)
+no-type : (v : Version) (code : ℕ) (known : Option NcType) → known ≡ type_of_code code → ¬ IsType v code → known_type v known ≡ None
+no-type v code None is none = refl
+no-type v code (Some ty) is none = none-unless (has_type v ty) ty (λ has. none (ty, code-known code ty (sym is), has))
+
+-- reading stops after a code of no type
+type-none : (v : Version) (code : ℕ) → StopsAgain (Rule (IsType v code) BadType Never) (type_or_wrong (type_in v code))
+unfolding type_in stop
+type-none v code bytes _ _ (breaks none) = ap (λ (known : Option NcType). (type_or_wrong known).run bytes) (no-type v code (type_of_code code) refl none)
+type-none v code bytes _ _ (keeps fault rest is s) = absurd s
+
+pub type-again : (v : Version) → ReadAgain (SpellsType v) (type_at v)
 unfolding type_at ◌>>=◌ done
 type-again v bytes ty rest s =
     then-ok _ (number-again w32 wide-32 bytes (code_of ty) rest s.number)
     (if-not _ _ (is-whole ty) (ap (λ (known : Option NcType). (type_or_wrong known).run rest) (type_in-again v ty s.has)))
 
--- reading a type stops where it is wrong
-pub type-stops-again : (v : Version) (bytes : List ℕ) (fault : FormatFault) (rest : List ℕ) → StopsInType v bytes fault rest → (type_at v).run bytes ≡ Err (Format fault, rest)
-unfolding type_at ◌>>=◌ stop
-type-stops-again v bytes fault rest (cut_type cut) = then-err _ (number-stops-again w32 bytes cut)
-type-stops-again v bytes fault rest (floating code r number is) =
-    then-ok _ (number-again w32 wide-32 bytes code r number) (if-so _ _ (is-floating code is) refl)
-type-stops-again v bytes fault rest (bad_type code r number not5 not6 none) =
-    then-ok _ (number-again w32 wide-32 bytes code r number)
-    (if-not _ _ (is-other code not5 not6) (ap (λ (known : Option NcType). (type_or_wrong known).run r) (type_in-none v code none)))
+pub type-stop : (v : Version) → StopsAgain (InType v) (type_at v)
+unfolding type_at
+type-stop v = then-stops _ _ (number-again w32 wide-32) (number-stop w32) (λ code. rule-stops _ _ (not-false _) (λ other. other) (type-none v code))

@@ -1,19 +1,19 @@
 -- What a reader of the code answers is what the grammar says.
 use Rattle.std.proofs.Common.{◌≡◌, ℕ, ◌+◌, ◌-◌, ◌≤◌, Bool, true, List, length, drop, Result, Ok, Err, sym, ap, ◌∙◌, subst, arith, length-drop}
-use Rattle.nc_file.proofs.Prelude.{OnTrue, OnTrue_at, OnTrue_from, FormatFault, Header, AreBytes, StopsWith, SpellsHeader, HeadFault, Format, Window, Ghosts, Outcome, Reads, left_over, header_at, Kept, Read, left, source_of}
+use Rattle.nc_file.proofs.Prelude.{OnTrue, OnTrue_at, OnTrue_from, FormatFault, Header, AreBytes, Stops, StopsWith, SpellsHeader, HeadFault, Format, Window, Ghosts, Outcome, Reads, left_over, header_at, Kept, Read, left, source_of}
 use Rattle.nc_base.proofs.SoundSpelling.{spelled-sound, spelled-names}
 use Rattle.nc_file.specs.code.Answers.{EndsAt, header_end, fault_end, ReadUpTo, IsInterrupted, Answers, HasAnswered}
 use Rattle.nc_file.proofs.Means.{Means, spells, stops}
 use Rattle.nc_file.proofs.HeaderLaws.{means-header}
 
-value-of : {A : Type 0} {P : A → List ℕ → Type 0} {Q : FormatFault → List ℕ → Type 0} {x : A} {rest : List ℕ} → Means P Q (Ok (x, rest)) → P x rest
+value-of : {A : Type 0} {P : A → List ℕ → Type 0} {In : Stops} {bytes : List ℕ} {x : A} {rest : List ℕ} → Means P In bytes (Ok (x, rest)) → P x rest
 value-of (spells x rest p fits) = p
 
-fault-of : {A : Type 0} {P : A → List ℕ → Type 0} {Q : FormatFault → List ℕ → Type 0} {fault : FormatFault} {rest : List ℕ} → Means P Q (Err (Format fault, rest)) → Q fault rest
+fault-of : {A : Type 0} {P : A → List ℕ → Type 0} {In : Stops} {bytes : List ℕ} {fault : FormatFault} {rest : List ℕ} → Means P In bytes (Err (Format fault, rest)) → In bytes fault rest
 fault-of (stops fault rest q) = q
 
 -- where the header ends, or its first wrong field, from how much is left over after it
-ends-of : (bytes : List ℕ) {o : Outcome Header} → Means (SpellsHeader bytes) (StopsWith bytes) o → left_over o ≤ length bytes → EndsAt bytes (length bytes - left_over o)
+ends-of : (bytes : List ℕ) {o : Outcome Header} → Means (SpellsHeader bytes) StopsWith bytes o → left_over o ≤ length bytes → EndsAt bytes (length bytes - left_over o)
 unfolding left_over
 ends-of bytes (spells h rest p fits) le = header_end h rest p (omega (arith, le))
 ends-of bytes (stops fault rest q) le = fault_end fault (record { rest = rest; stops = q; ends = omega (arith, le) })
@@ -39,8 +39,8 @@ module _ {S : Type 0} {g : Ghosts S} (start now : Window S g) (base : start.base
       omega (arith, len, le, within, kept.handed, now.used, now.fits, kept.same_buffer_len, base, filled)
 
   -- what is read from the start, as the grammar says
-  read-from-start : (o : Outcome Header) → header_at.run (left start) ≡ o → Means (SpellsHeader bytes) (StopsWith bytes) o
-  read-from-start o e = subst (Means (SpellsHeader bytes) (StopsWith bytes)) (sym (ap header_at.run at_start) ∙ e) (means-header bytes fits)
+  read-from-start : (o : Outcome Header) → header_at.run (left start) ≡ o → Means (SpellsHeader bytes) StopsWith bytes o
+  read-from-start o e = subst (Means (SpellsHeader bytes) StopsWith bytes) (sym (ap header_at.run at_start) ∙ e) (means-header bytes fits)
 
   broken-off : left_over (header_at.run (left start)) ≤ length (left now) → IsInterrupted bytes (source_of start).handed (source_of now).handed (length start.buf.now)
   broken-off reads =

@@ -1,13 +1,13 @@
 -- The other direction: a header that is spelled is read, and reading stops with the first wrong field. So each list of bytes
 -- has one header or one first wrong field.
-use Rattle.std.proofs.Common.{◌≡◌, ◌≢◌, ℕ, ◌<◌, List, [], ◌∷◌, length, Option, Ok, Err, refl, ap, ◌∙◌, arith, ◌==◌, ◌&&◌, rules}
-use Rattle.nc_file.proofs.Prelude.{eq-eqb, FormatFault, NotNetcdf, Header, NumRecs, Version, Cdf1, version_byte, count_width, count_limit, streaming_mark, SpellsMagic, SpellsNumRecs, SpellsHeader, StopsInMagic, cut_magic, other_magic, cut_version, bad_version, StopsInNumRecs, cut_numrecs, negative_numrecs, StopsWith, in_magic, in_numrecs, in_dims, in_gatts, in_vars, Format, done, stop, byte_or, version_or, version_at, magic_at, numrecs_at, header_at}
+use Rattle.std.proofs.Common.{◌≡◌, ◌≢◌, ℕ, ◌<◌, true, cond, leb, List, [], ◌∷◌, length, Option, Some, None, inl, inr, Ok, Err, refl, ap, ◌∙◌, arith, ◌==◌, ◌&&◌, ◌⊎◌, rules}
+use Rattle.nc_file.proofs.Prelude.{eq-eqb, NotNetcdf, UnknownVersion, BadCount, Known, Streaming, Version, Cdf1, version_byte, version_of_byte, count_width, count_limit, streaming_mark, SpellsMagic, SpellsNumRecs, SpellsHeader, is_cut, InMagic, InNumRecs, Never, Rule, breaks, keeps, StopsWith, in_part, in_next, Format, done, stop, wrong, byte_or, version_or, version_at, magic_at, numrecs_at, header_at}
 use Rattle.nc_file.specs.code.Reading.{◌>>=◌}
 use Rattle.nc_file.proofs.FieldLaws.{count-wide}
-use Rattle.nc_file.proofs.HeaderLaws.{three-bytes}
-use Rattle.nc_file.proofs.Again.{then-ok, then-err, if-so, if-not, below-test, above-test, other-test, not-so, number-again, number-stops-again}
-use Rattle.nc_file.proofs.ListsAgain.{dims-again, dims-stop-again, atts-again, atts-stop-again}
-use Rattle.nc_file.proofs.VariablesAgain.{vars-again, vars-stop-again}
+use Rattle.nc_file.proofs.HeaderLaws.{InVersion, is-word, version-is}
+use Rattle.nc_file.proofs.Again.{then-ok, if-so, if-not, below-test, reached-test, other-test, not-so, ReadAgain, StopsAgain, then-stops, value-stop, kept-stops, number-again, number-stop}
+use Rattle.nc_file.proofs.ListsAgain.{dims-again, dims-stop, atts-again, atts-stop}
+use Rattle.nc_file.proofs.VariablesAgain.{vars-again, vars-stop}
 
 -- ---- the magic
 
@@ -16,8 +16,7 @@ version-again : (v : Version) (rest : List ℕ) → magic_at.run (67 ∷ 68 ∷ 
 unfolding magic_at version_at ◌>>=◌ byte_or done
 version-again v rest = grind arith
 
--- a spelled magic is read
-pub magic-again : (bytes : List ℕ) (v : Version) (rest : List ℕ) → SpellsMagic bytes v rest → magic_at.run bytes ≡ Ok (v, rest)
+pub magic-again : ReadAgain SpellsMagic magic_at
 magic-again bytes v rest s = ap magic_at.run s ∙ version-again v rest
 
 -- the file ends in `CDF`
@@ -25,15 +24,32 @@ cut-magic-again : (bytes : List ℕ) → length bytes < 3 → magic_at.run bytes
 unfolding magic_at ◌>>=◌ byte_or
 cut-magic-again bytes h = grind arith
 
--- reading the magic stops with its first wrong field
-pub magic-stops-again : (bytes : List ℕ) (fault : FormatFault) (rest : List ℕ) → StopsInMagic bytes fault rest → magic_at.run bytes ≡ Err (Format fault, rest)
-unfolding magic_at version_at ◌>>=◌ byte_or stop
-magic-stops-again bytes fault rest (cut_magic cut) = cut-magic-again bytes cut
-magic-stops-again bytes fault rest (other_magic a b c r is other) =
-    ap magic_at.run is ∙ if-not _ _ (not-so ((a == 67) && (b == 68) && (c == 70)) (λ e. other (three-bytes a b c e))) refl
-magic-stops-again bytes fault rest (cut_version is) = ap magic_at.run is
-magic-stops-again bytes fault rest (bad_version n r is none) =
-    ap magic_at.run is ∙ ap (λ (known : Option Version). (version_or n known).run r) none
+no-version : (n : ℕ) (known : Option Version) → known ≡ version_of_byte n → ¬ ((v : Version) × (n ≡ version_byte v)) → known ≡ None
+no-version n None is none = refl
+no-version n (Some v) is none = absurd (none (v, version-is n v is))
+
+bad-byte : (n : ℕ) → StopsAgain (Rule ((v : Version) × (n ≡ version_byte v)) (UnknownVersion n) Never) (version_or n (version_of_byte n))
+unfolding stop
+bad-byte n bytes _ _ (breaks none) = ap (λ (known : Option Version). (version_or n known).run bytes) (no-version n (version_of_byte n) refl none)
+bad-byte n bytes _ _ (keeps fault rest is s) = absurd s
+
+version-stop : StopsAgain InVersion version_at
+unfolding version_at ◌>>=◌ byte_or
+version-stop [] fault rest (in_part (is_cut cut)) = refl
+version-stop (b ∷ bytes) fault rest (in_part (is_cut cut)) = absurd (omega (arith, cut))
+version-stop bytes fault rest (in_next n middle is s) = ap version_at.run is ∙ bad-byte n middle fault rest s
+
+word-test : (a b c : ℕ) → a ∷ b ∷ c ∷ [] ≡ 67 ∷ 68 ∷ 70 ∷ [] → ((a == 67) && (b == 68) && (c == 70)) ≡ true
+word-test a b c is = grind (arith, eq-eqb)
+
+three-stop : (a b c : ℕ) → StopsAgain (Rule (a ∷ b ∷ c ∷ [] ≡ 67 ∷ 68 ∷ 70 ∷ []) NotNetcdf InVersion) (cond ((a == 67) && (b == 68) && (c == 70)) version_at (wrong NotNetcdf))
+three-stop a b c = kept-stops _ _ (λ other. not-so _ (λ e. other (is-word a b c e))) (word-test a b c) version-stop
+
+pub magic-stop : StopsAgain InMagic magic_at
+unfolding magic_at ◌>>=◌ byte_or
+magic-stop bytes _ _ (in_part (is_cut cut)) = cut-magic-again bytes cut
+magic-stop bytes fault rest (in_next (a ∷ b ∷ c ∷ []) middle word s) = ap magic_at.run word.spelled ∙ three-stop a b c middle fault rest s
+magic-stop bytes fault rest (in_next _ middle word s) = absurd (omega (arith, word.count))
 
 -- ---- the number of records
 
@@ -43,34 +59,33 @@ no-mark Cdf1 n lt e = omega (arith, lt, e)
 no-mark _ n lt e = omega (arith, lt, e)
 
 -- a spelled number of records is read
-pub numrecs-again : (v : Version) (bytes : List ℕ) (numrecs : NumRecs) (rest : List ℕ) → SpellsNumRecs v bytes numrecs rest → (numrecs_at v).run bytes ≡ Ok (numrecs, rest)
+numrecs-again : (v : Version) → ReadAgain (SpellsNumRecs v) (numrecs_at v)
 unfolding numrecs_at ◌>>=◌ done
 numrecs-again v bytes numrecs rest h = grind (arith, then-ok, number-again, count-wide, if-not, other-test, no-mark, below-test, if-so, eq-eqb)
 
--- reading the number of records stops where it is wrong
-pub numrecs-stops-again : (v : Version) (bytes : List ℕ) (fault : FormatFault) (rest : List ℕ) → StopsInNumRecs v bytes fault rest → (numrecs_at v).run bytes ≡ Err (Format fault, rest)
-unfolding numrecs_at ◌>>=◌ stop
-numrecs-stops-again v bytes fault rest (cut_numrecs cut) = then-err _ (number-stops-again (count_width v) bytes cut)
-numrecs-stops-again v bytes fault rest (negative_numrecs n r number high not_mark) =
-    then-ok _ (number-again (count_width v) (count-wide v) bytes n r number)
-    (if-not _ _ (other-test n (streaming_mark v) not_mark) (if-so _ _ (above-test _ _ high) refl))
+high-stop : (v : Version) (n : ℕ) → StopsAgain (Rule ((n < count_limit v) ⊎ (n ≡ streaming_mark v)) BadCount Never)
+    (cond (n == streaming_mark v) (done Streaming) (cond (leb (count_limit v) n) (wrong BadCount) (done (Known n))))
+unfolding stop
+high-stop v n bytes _ _ (breaks high) =
+    if-not _ _ (other-test n (streaming_mark v) (λ e. high (inr e))) (if-so _ _ (reached-test _ _ (λ low. high (inl low))) refl)
+high-stop v n bytes _ _ (keeps fault rest low s) = absurd s
+
+numrecs-stop : (v : Version) → StopsAgain (InNumRecs v) (numrecs_at v)
+unfolding numrecs_at
+numrecs-stop v = then-stops _ _ (number-again (count_width v) (count-wide v)) (number-stop (count_width v)) (high-stop v)
 
 -- ---- the whole
 
 -- a spelled header is read
-pub header-again : (bytes : List ℕ) (h : Header) (rest : List ℕ) → SpellsHeader bytes h rest → header_at.run bytes ≡ Ok (h, rest)
+pub header-again : ReadAgain SpellsHeader header_at
 unfolding header_at ◌>>=◌ done
 header-again bytes h rest s = search (rules, then-ok, magic-again, numrecs-again, dims-again, atts-again, vars-again)
 
 -- reading a header stops with its first wrong field
-pub header-stops-again : (bytes : List ℕ) (fault : FormatFault) (rest : List ℕ) → StopsWith bytes fault rest → header_at.run bytes ≡ Err (Format fault, rest)
-unfolding header_at ◌>>=◌
-header-stops-again bytes fault rest (in_magic f r s) = then-err _ (magic-stops-again bytes f r s)
-header-stops-again bytes fault rest (in_numrecs v after_magic f r magic s) =
-    then-ok _ (magic-again bytes v after_magic magic) (then-err _ (numrecs-stops-again v after_magic f r s))
-header-stops-again bytes fault rest (in_dims v numrecs after_start f r start s) =
-    search (rules, then-ok, magic-again, numrecs-again, then-err, dims-stop-again)
-header-stops-again bytes fault rest (in_gatts v numrecs dims after_dims f r prefix s) =
-    search (rules, then-ok, magic-again, numrecs-again, dims-again, then-err, atts-stop-again)
-header-stops-again bytes fault rest (in_vars v numrecs dims gatts after_gatts f r prefix s) =
-    search (rules, then-ok, magic-again, numrecs-again, dims-again, atts-again, then-err, vars-stop-again)
+pub header-stops-again : StopsAgain StopsWith header_at
+unfolding header_at StopsWith
+header-stops-again =
+    then-stops _ _ magic-again magic-stop (λ v.
+    then-stops _ _ (numrecs-again v) (numrecs-stop v) (λ numrecs.
+    then-stops _ _ (dims-again v) (dims-stop v) (λ dims.
+    then-stops _ _ (atts-again v) (atts-stop v) (λ gatts. value-stop _ _ (vars-stop v dims)))))

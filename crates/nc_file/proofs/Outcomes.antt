@@ -7,7 +7,7 @@ use Rattle.nc_file.proofs.HeaderLaws.{means-header}
 use Rattle.nc_file.proofs.HeadersAgain.{header-again, header-stops-again}
 
 -- what reading gives is a header or the first wrong field
-either-of : (bytes : List ℕ) (o : Outcome Header) → left_over o ≤ length bytes → Means (SpellsHeader bytes) (StopsWith bytes) o → BeginsWithHeader bytes ⊎ HasFirstFault bytes
+either-of : (bytes : List ℕ) (o : Outcome Header) → left_over o ≤ length bytes → Means (SpellsHeader bytes) StopsWith bytes o → BeginsWithHeader bytes ⊎ HasFirstFault bytes
 unfolding left_over
 either-of bytes o shorter (spells h rest s fits) = inl (h, rest, s)
 either-of bytes o shorter (stops fault rest s) =

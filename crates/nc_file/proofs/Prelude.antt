@@ -3,10 +3,11 @@ pub use Rattle.devices.proofs.UpTo.{UpTo, each-left, up-next, up-partway, up-sta
 pub use Rattle.devices.specs.declared.source.Source.{Ghosts}
 pub use Rattle.nc_base.proofs.HeaderSpelled.{total-append}
 pub use Rattle.nc_base.specs.Bytes.{AreBytes, padding_len}
-pub use Rattle.nc_base.specs.FirstFault.{ElementStop, IsCutNumber, StopsAt, StopsInAtt, StopsInAtts, StopsInCount, StopsInCounted, StopsInDim, StopsInDimid, StopsInEach, StopsInList, StopsInMagic, StopsInName, StopsInNumRecs, StopsInType, StopsInVar, StopsWith, absent_elements, bad_dimid, bad_name, bad_tag, bad_type, bad_version, cut_begin, cut_count, cut_dimid, cut_magic, cut_name, cut_name_padding, cut_numrecs, cut_tag, cut_type, cut_value_padding, cut_values, cut_version, cut_vsize, floating, in_absent_count, in_att_count, in_att_name, in_att_type, in_count, in_dim_len, in_dim_name, in_dims, in_element, in_gatts, in_magic, in_name_len, in_numrecs, in_present, in_shape, in_var_atts, in_var_name, in_var_type, in_vars, negative_begin, negative_count, negative_numrecs, other_magic, second_record_dim, too_large}
+pub use Rattle.nc_base.specs.FirstFault.{ElementStops, InAtt, InAtts, InBytes, InCount, InCounted, InDim, InDimid, InEach, InList, InMagic, InName, InNumRecs, InNumber, InOffset, InPadding, InType, InVar, IsCut, Never, Rule, Stops, StopsAt, Then, breaks, in_next, in_part, is_cut, keeps}
+unfoldable pub use Rattle.nc_base.specs.FirstFault.{StopsWith}
 pub use Rattle.nc_base.specs.GeneratedFile.{atts_spelling, begin_after, count_spelling, fits, fixed_vars, list_head, list_spelling, name_spelling, numrecs_spelling, vars_after, vsize_of, zero_padded}
 unfoldable pub use Rattle.nc_base.specs.GeneratedFile.{att_spelling, dim_spelling, file_of, header_spelling, magic_spelling, var_spelling, with_begins, word_spelling}
-pub use Rattle.nc_base.specs.Grammar.{ElementSpelling, IsWithinLimits, SpellsAtt, SpellsAttPrefix, SpellsAtts, SpellsCount, SpellsCounted, SpellsDim, SpellsDimid, SpellsEach, SpellsHeader, SpellsList, SpellsMagic, SpellsName, SpellsNumRecs, SpellsNumber, SpellsOffset, SpellsPadded, SpellsStart, SpellsType, SpellsTypedVar, SpellsUpToDims, SpellsUpToGatts, SpellsVar, SpellsVarPrefix, absent, attribute_tag, dimension_tag, present, variable_tag}
+pub use Rattle.nc_base.specs.Grammar.{ElementSpelling, IsWithinLimits, SpellsAtt, SpellsAtts, SpellsBytes, SpellsCount, SpellsCounted, SpellsDim, SpellsDimid, SpellsEach, SpellsHeader, SpellsList, SpellsMagic, SpellsName, SpellsNumRecs, SpellsNumber, SpellsOffset, SpellsPadded, SpellsType, SpellsVar, absent, attribute_tag, dimension_tag, present, variable_tag}
 pub use Rattle.nc_base.specs.Headers.{AreDimids, IsDimid, has_record_dim}
 pub use Rattle.nc_base.specs.Sizes.{is_record_dim, is_record_var, padded_size, padded_total, record_limit, record_vars, slab_limit, slab_size}
 pub use Rattle.nc_base.specs.code.SizeParts.{slab_of}
@@ -14,13 +15,13 @@ pub use Rattle.nc_base.specs.Types.{all_types, code_of, size_of}
 pub use Rattle.nc_base.specs.code.TypeCodes.{type_of_code}
 pub use Rattle.nc_base.specs.Versions.{count_limit, count_width, has_type, offset_limit, offset_width, streaming_mark, version_byte, version_of_byte}
 pub use Rattle.nc_base.specs.declared.{fault.FormatFault.FormatFault, header.Att.Att, header.Dim.Dim, header.Header.Header, header.NumRecs.NumRecs, header.Var.Var, nc_type.NcType.NcType, version.Version.Version}
-pub use Rattle.nc_base.specs.declared.fault.FormatFault.TheVariants.{BadCount, BadOffset, BadTag, HeaderTruncated, NotNetcdf, TooLarge}
+pub use Rattle.nc_base.specs.declared.fault.FormatFault.TheVariants.{BadCount, BadOffset, BadTag, BadType, UnknownVersion, HeaderTruncated, NotNetcdf, TooLarge}
 pub use Rattle.nc_base.specs.declared.header.NumRecs.TheVariants.{Known, Streaming}
 pub use Rattle.nc_base.specs.declared.nc_type.NcType.TheVariants.{Byte, Char, Int, Int64, Short, Ubyte, Uint, Uint64, Ushort}
 pub use Rattle.nc_base.specs.declared.version.Version.TheVariants.{Cdf1, Cdf2, Cdf5}
 pub use Rattle.nc_file.specs.code.Begins.{after, is_below, offset_of, offset_too_large, placed}
 pub use Rattle.nc_file.specs.code.Lengths.{att_len, dim_len, list_head_len, var_len}
-pub use Rattle.nc_file.specs.code.Reading.{Outcome, Part, Reads, att_after, att_list_at, byte_at, byte_run, dim_after, dim_list_at, dimid_after, is_dimid, known_type, next, next-shorter, record_part, total_or_wrong, type_or_wrong, var_after, var_list_at, version_or}
+pub use Rattle.nc_file.specs.code.Reading.{Outcome, Part, Reads, att_after, att_list_at, byte_at, byte_run, dim_after, dim_list_at, dimid_after, is_dimid, known_type, next, next-shorter, record_part, total_or_wrong, type_or_wrong, var_after, var_list_at, version_or, wrong}
 unfoldable pub use Rattle.nc_file.specs.code.Reading.{att_at, byte_or, bytes_at, count_at, dim_at, dimid_at, done, each_at, header_at, left_over, list_at, list_len_at, magic_at, name_at, number_at, numrecs_at, offset_at, padded_at, shape_at, skip_at, stop, total_with, type_at, type_in, var_at, version_at}
 pub use Rattle.nc_file.specs.code.Window.{Kept, Read, Ready, left, source_of}
 pub use Rattle.nc_file.specs.declared.{head_fault.HeadFault.HeadFault, sized_var.SizedVar.SizedVar, window.Window.Window}
