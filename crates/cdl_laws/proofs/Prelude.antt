@@ -37,7 +37,8 @@ pub use Rattle.cdl_tokens.specs.declared.{scan.Scanned.Scanned, token.Token.Toke
 pub use Rattle.cdl_tokens.specs.declared.token.TokenKind.TheVariants.{Bad, Text, Word}
 pub use Rattle.nc_base.specs.Bytes.{AreBytes}
 unfoldable pub use Rattle.nc_base.specs.Bytes.{concat_parts}
-pub use Rattle.nc_base.specs.Dump.{VariableValues, Ending, IsText, Options, values_in_dataset, shown_data, dump_text, has_dimension, has_name, has_values, is_chosen, is_selected, selection_of, shown, shown_data_text, unknown, with_variable, whole}
+pub use Rattle.nc_base.specs.Dump.{VariableValues, Ending, Options, shown_data, dump_text, has_dimension, has_name, has_values, is_chosen, is_selected, selection_of, shown, shown_data_text, unknown, with_variable, whole}
+pub use Rattle.nc_base.specs.Datasets.{IsText, values_in_dataset}
 unfoldable pub use Rattle.nc_base.specs.Dump.{closing_word, data_word}
 pub use Rattle.nc_base.specs.Escapes.{begins_with_digit_or_mark, escaped_in_name, escaped_in_string, is_name_mark, is_plain, octal_escape, reserved_words}
 unfoldable pub use Rattle.nc_base.specs.Escapes.{escaped_name, escaped_text, is_reserved}
@@ -46,7 +47,9 @@ unfoldable pub use Rattle.nc_base.specs.Fill.{fill_value}
 unfoldable pub use Rattle.nc_base.specs.GeneratedFile.{file_of, var_spelling, with_begins}
 pub use Rattle.nc_base.specs.HeadText.{att_text, broken_text, dim_name, joined, without_trailing_nuls}
 unfoldable pub use Rattle.nc_base.specs.HeadText.{att_line, att_lines, chars_text, currently_word, dim_len_text, dim_line, dim_lines, dimensions_word, dims_text, gatts_text, global_word, head_text, netcdf_word, numbers_text, shape_text, string_break, unlimited_word, var_lines, variables_word, vars_text}
-pub use Rattle.nc_base.specs.Headers.{AreArrays, AreDimids, IsArray, IsDimid, IsGood, IsSound, IsSoundAtt, IsSoundDim, IsSoundVar, bare, bare_var, has_record_dim, value_count}
+pub use Rattle.nc_base.specs.Headers.{AreArrays, AreDimids, IsArray, IsGood, IsSound, IsSoundAtt, IsSoundDim, IsSoundVar, bare, bare_var}
+pub use Rattle.nc_base.specs.Grammar.{IsDimid}
+pub use Rattle.nc_base.specs.Sizes.{has_record_dim, value_count}
 pub use Rattle.nc_base.specs.Names.{IsName, ends_with_space, has_name_bytes, is_beyond_ascii, is_name, may_begin_name, may_follow_in_name}
 pub use Rattle.nc_base.specs.Numbers.{IsInRange, bytes_of_number, number_of, numbers_from}
 unfoldable pub use Rattle.nc_base.specs.Numbers.{numbers}

@@ -2,7 +2,8 @@
 use Rattle.std.specs.Prelude.{◌≡◌, ℕ, ℤ, pos, ◌==◌, if◌then◌else◌, true, List, [], ◌∷◌, ◌++◌, All, map, codes, slice_get, Option, None, Some, Ok}
 use Rattle.nc_base.specs.Bytes.{concat_parts}
 use Rattle.nc_base.specs.declared.{dataset.Dataset.Dataset, header.Att.Att, header.Dim.Dim, header.NumRecs.TheVariants.Known, header.Var.Var, version.Version.Version}
-use Rattle.nc_base.specs.Dump.{values_in_dataset, has_values}
+use Rattle.nc_base.specs.Dump.{has_values}
+use Rattle.nc_base.specs.Datasets.{values_in_dataset}
 use Rattle.nc_base.specs.Escapes.{escaped_name}
 use Rattle.nc_base.specs.HeadText.{netcdf_word, dimensions_word, variables_word, global_word, dim_line, shape_text, var_lines, att_line, att_lines}
 use Rattle.nc_base.specs.Names.{IsName}

@@ -1,8 +1,9 @@
 -- Law. The values that the text of a variable lists give its array.
 use Rattle.std.specs.Prelude.{◌≡◌, ℕ, true, false, List, [], length, slice_get, slice_index_or, Some, Ok}
 use Rattle.nc_base.specs.declared.{dataset.Dataset.Dataset, header.NumRecs.TheVariants.Known, header.Var.Var}
-use Rattle.nc_base.specs.Dump.{values_in_dataset, has_values}
-use Rattle.nc_base.specs.Headers.{value_count}
+use Rattle.nc_base.specs.Dump.{has_values}
+use Rattle.nc_base.specs.Datasets.{values_in_dataset}
+use Rattle.nc_base.specs.Sizes.{value_count}
 use Rattle.nc_base.specs.Sayable.{IsSayable}
 use Rattle.nc_base.specs.Sizes.{is_record_var}
 use Rattle.nc_base.specs.ValueText.{look_of, variable_text}

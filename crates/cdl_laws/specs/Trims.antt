@@ -2,7 +2,8 @@
 use Rattle.std.specs.Prelude.{◌≡◌, ◌↔◌, ℕ, ◌≤◌, Bool, true, false, ◌&&◌, ◌==◌, nat_lt, List, length, find, All, None, Some, Ok}
 use Rattle.nc_base.specs.Bytes.{AreBytes}
 use Rattle.nc_base.specs.declared.{dataset.Dataset.Dataset, header.Att.Att, header.Var.Var, version.Version.Version}
-use Rattle.nc_base.specs.Dump.{Options, whole, IsText}
+use Rattle.nc_base.specs.Dump.{Options, whole}
+use Rattle.nc_base.specs.Datasets.{IsText}
 use Rattle.nc_base.specs.Fill.{fill_value, is_fill_att}
 use Rattle.nc_base.specs.HeadText.{without_trailing_nuls}
 use Rattle.nc_base.specs.Sayable.{IsSayable, trimmed_var, trimmed}

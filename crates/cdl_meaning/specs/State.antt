@@ -7,7 +7,7 @@ use mir.Val.{bits, hbits}
 use Rattle.nc_base.specs.declared.{header.Att.Att, header.Dim.Dim, header.Var.Var, nc_type.NcType.NcType, version.Version.Version}
 use Rattle.nc_base.specs.declared.nc_type.NcType.TheVariants.{Char, Int}
 use Rattle.nc_base.specs.Fill.{fill_value}
-use Rattle.nc_base.specs.Headers.{has_record_dim}
+use Rattle.nc_base.specs.Sizes.{has_record_dim}
 use Rattle.nc_base.specs.Names.{is_name}
 use Rattle.nc_base.specs.Numbers.{bytes_of_number}
 use Rattle.nc_base.specs.Sizes.{dim_len, is_record_dim, is_record_var, product, slab_count}

@@ -46,7 +46,9 @@ pub use Rattle.cdl_values.specs.code.NameIndices.{IsIndex, is_new, position_of, 
 pub use Rattle.cdl_values.specs.declared.{data.Target.Target, read_error.ReadError.ReadError}
 pub use Rattle.cdl_values.specs.declared.read_error.ReadError.TheVariants.{Fault, OutOfMemory}
 unfoldable pub use Rattle.nc_base.specs.Fill.{fill_value}
-pub use Rattle.nc_base.specs.Headers.{AreDimids, IsDimid, value_count}
+pub use Rattle.nc_base.specs.Headers.{AreDimids}
+pub use Rattle.nc_base.specs.Grammar.{IsDimid}
+pub use Rattle.nc_base.specs.Sizes.{value_count}
 pub use Rattle.nc_base.specs.Names.{is_name}
 pub use Rattle.nc_base.specs.Numbers.{bytes_of_number}
 pub use Rattle.nc_base.specs.Sizes.{array_limit, dim_len, is_record_dim, is_record_var, product, record_limit, record_size, slab_count, slab_lens, slab_limit, slab_size}

@@ -3,7 +3,7 @@
 ghost use Rattle.std.specs.Prelude.{◌≡◌, ◌++◌, IfOk, OnOk, SomeIff, replicate};
 ghost use Rattle.std.specs.List.{concat};
 ghost use Rattle.nc_base.specs.Fill.{fill_value};
-ghost use Rattle.nc_base.specs.Headers.{value_count};
+ghost use Rattle.nc_base.specs.Sizes.{value_count};
 ghost use Rattle.nc_base.specs.Numbers.{bytes_of_number};
 ghost use Rattle.nc_base.specs.code.OwedValues.{fills, whole_array, whole_arrays};
 ghost use Rattle.cdl_parse.specs.code.OwedCounts.{CountsOwed, HasSmallSlab};

@@ -3,7 +3,7 @@
 ghost use Rattle.std.specs.Prelude.{◌≡◌, [], IfOk, OnErr, not};
 ghost use Rattle.std.specs.List.{position};
 ghost use Rattle.std.specs.Str.{bytes_eq};
-ghost use Rattle.nc_base.specs.Headers.{has_record_dim};
+ghost use Rattle.nc_base.specs.Sizes.{has_record_dim};
 ghost use Rattle.nc_base.specs.declared.header.Dim as header;
 ghost use Rattle.cdl_parse.specs.code.DimensionNames.{is_dimension_name, with_dim};
 
@@ -26,7 +26,7 @@ pub struct Dimensions {
 
 impl Model for Dimensions {
     ghost use Rattle.std.specs.Prelude.{List, ◌≡◌};
-    ghost use Rattle.nc_base.specs.Headers.{has_record_dim};
+    ghost use Rattle.nc_base.specs.Sizes.{has_record_dim};
     ghost use Rattle.nc_base.specs.declared.header.Dim.{Dim};
     ghost use Rattle.cdl_values.specs.code.NameIndices.{IsIndex};
     ghost use Rattle.cdl_parse.specs.code.DimensionNames.{dim_names};

@@ -3,7 +3,8 @@ use Rattle.std.proofs.Common.{Option, None, Result, Ok, Err, [], ◌∷◌, ◌�
 use Rattle.clap.specs.Kinds.{IsAmong, Kinds}
 use Rattle.clap.specs.declared.error.kind.ErrorKind.{ErrorKind}
 use Rattle.clap.specs.declared.error.kind.ErrorKind.TheVariants as kinds
-use Rattle.cli_base.specs.CommandLines.{AnswersBy, if_faultless}
+use Rattle.cli_base.specs.code.Answers.{AnswersBy}
+use Rattle.cli_base.specs.Arguments.{if_faultless}
 use Rattle.cli_base.specs.declared.fault.OptFault.{OptFault}
 use Rattle.cli_base.specs.declared.fault.OptFault.TheVariants.{OutOfMemory, Usage}
 

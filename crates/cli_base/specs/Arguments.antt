@@ -1,9 +1,9 @@
 -- Definition. The arguments of a command, as a parse reads them, and what its entries say of them.
 use Rattle.std.specs.Borrow.{Bor}
-use Rattle.std.specs.Prelude.{ℕ, Bool, true, false, List, codes, map, Option, Some, option_map, slice_get}
+use Rattle.std.specs.Prelude.{ℕ, Bool, true, false, List, [], ◌∷◌, codes, map, Option, Some, None, option_map, slice_get}
 use Rattle.std.specs.Option.{option_map_or}
 use Rattle.std.specs.Str.{bytes_eq}
-use Rattle.clap.specs.Words.{App, Row, Rule, new_rule, one_of}
+use Rattle.clap.specs.Words.{App, Kinds, Row, Rule, new_rule, one_of}
 use Rattle.clap.specs.declared.builder.ArgAction.TheVariants.{Set, SetTrue}
 
 -- an option of one letter that takes no value
@@ -18,14 +18,16 @@ option id letter = record (new_rule id) { short = slice_get letter 0; action = S
 abbrev pub quiet : App → App
 quiet app = record app { top = record app.top { disable_help_flag = true; disable_version_flag = true } }
 
--- the flag is given
 abbrev pub is_given : List Row → List ℕ → Bool
 is_given rows id = option_map_or (λ (value : List ℕ). bytes_eq value (codes "true")) (one_of id rows) false
 
--- the bytes of a text, if there is one
 abbrev pub text_of : Option (Bor (List ℕ)) → Option (List ℕ)
 text_of text = option_map (λ (t : Bor (List ℕ)). t.now) text
 
--- the bytes of each of the words
 abbrev pub texts_of : List (Bor (List ℕ)) → List (List ℕ)
 texts_of words = map (λ (w : Bor (List ℕ)). w.now) words
+
+-- what is asked for, if the words have no fault
+abbrev pub if_faultless : {A : Type 0} → Kinds → Option A → Option A
+if_faultless [] asked = asked
+if_faultless (kind ∷ kinds) asked = None

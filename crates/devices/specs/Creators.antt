@@ -1,5 +1,5 @@
 -- Definition. What creates outputs, as contracts see it.
-use Rattle.std.specs.Prelude.{ℕ, ◌≡◌, ◌+◌, List, [], ◌∷◌, ◌++◌, Option}
+use Rattle.std.specs.Prelude.{ℕ, ◌≡◌, List, [], ◌∷◌, ◌++◌, Option}
 use Rattle.devices.specs.Failures.{HasFailed}
 
 -- a path and the bytes that it was given; None if these came from an opaque sink
@@ -14,7 +14,6 @@ pub record CreatorView : Type 0 where
   pub creations : ℕ
   pub failures : ℕ
 
--- what paths were given, with these bytes for this path added
 abbrev pub give : List Output → List ℕ → Option (List ℕ) → List Output
 give given path bytes = given ++ (record { path = path; bytes = bytes } ∷ [])
 

@@ -17,6 +17,5 @@ pub record OpenerUse : Type 0 where
   pub before : OpenerView
   pub after : OpenerView
 
--- the record of an opener, from what it was and what it is
 abbrev pub opener_use : {Opener : Type 0} → Bool → (Opener → List ℕ → Option (List ℕ)) → (Opener → OpenerView) → Opener → Opener → OpenerUse
 opener_use is_transparent named view old new = record { is_transparent = is_transparent; named = named old; before = view old; after = view new }

@@ -16,6 +16,5 @@ abbrev pub left : Option (List ℕ) → Bool → Option (List ℕ)
 left remaining true = Some []
 left remaining false = remaining
 
--- a reader as contracts see it, given what is still to come of readers of its type
 abbrev pub view_of : {R : Type 0} → (R → Option (List ℕ)) → CountedRead R → ReaderView
 view_of remaining r = record { remaining = left (remaining r.reader) r.is_ended; failures = r.failures; reads = r.reads; handed = r.handed; is_ended = r.is_ended }

@@ -1,7 +1,7 @@
 -- The dump of a file that holds a dataset is the text of that dataset.
-use Rattle.std.proofs.Common.{◌≡◌, ℕ, ℤ, suc, ◌+◌, ◌≤◌, Bool, ◌&&◌, ◌||◌, List, [], ◌∷◌, length, map, refl, sym, ◌∙◌, ap, subst, arith, Option, Some, None, ◌==◌, codes, All, IsTrue, if◌then◌else◌, slice_index_or, rules}
+use Rattle.std.proofs.Common.{◌≡◌, ℕ, ℤ, suc, ◌+◌, ◌≤◌, Bool, ◌&&◌, ◌||◌, List, [], ◌∷◌, length, map, refl, sym, ◌∙◌, ap, subst, arith, Option, Some, None, ◌==◌, codes, All, not, if◌then◌else◌, slice_index_or, rules}
 use Rattle.std.proofs.Math.Path.{fun_ext}
-use Rattle.nc_base.proofs.Prelude.{record_count, concat, list_all, position, position_or_len, bytes_eq, lt-ltb, ltb-false, length-map, All-head, All-tail, All-map, All-weaker, All-from_get_or, fails_before_first, Dim, Header, Known, Var, Dataset, numbers, bare_var, bare, escaped_name, fill_value, Look, look_of, concat_parts, SpellsHeader, stored_bytes, stored_values, ends_after, first_missing, HoldsDataset, Options, Ending, DataText, VariableValues, has_variable, has_values, IsFirstUnknown, KnowsChosen, IsFirstUnknownOf, is_selected, selection_of, values_in_file, values_in_dataset, with_variable, data_text, shown_data_text, data_word, dump_text, IsDump, IsText, shown_data, stopped, unknown, shown}
+use Rattle.nc_base.proofs.Prelude.{record_count, concat, position, position_or_len, bytes_eq, lt-ltb, ltb-false, length-map, All-head, All-tail, All-map, All-weaker, All-from_get_or, fails_before_first, Dim, Header, Known, Var, Dataset, numbers, bare_var, bare, escaped_name, fill_value, Look, look_of, concat_parts, SpellsHeader, stored_bytes, stored_values, ends_after, first_missing, HoldsDataset, Options, Ending, DataText, VariableValues, has_variable, has_values, first_unknown, is_selected, selection_of, values_in_file, values_in_dataset, with_variable, data_text, shown_data_text, data_word, dump_text, IsDump, IsText, shown_data, stopped, unknown, shown, is_shown, is_unknown}
 use Rattle.nc_base.specs.HeadText.{vars_text, var_lines, head_text, netcdf_word, dims_text, gatts_text}
 use Rattle.nc_base.specs.FirstFault.{StopsAt}
 use Rattle.nc_base.specs.declared.fault.FormatFault.{FormatFault}
@@ -97,29 +97,22 @@ shown-held h bytes n o whole = grind (arith, bare, held, selection-bare, values-
 text-held : (h : Header) (o : Options) (n : ℕ) (section : DataText) → dump_text (bare h n) o n section ≡ dump_text h o n section
 text-held h o n section = grind (arith, bare, head-bare, word-bare)
 
-knows-bare : (h : Header) (n : ℕ) (chosen : Option (List (List ℕ))) → KnowsChosen (bare h n) chosen ≡ KnowsChosen h chosen
-knows-bare h n None = refl
-knows-bare h n (Some names) = ap (λ (f : List ℕ → Bool). IsTrue (list_all f names)) (variables-bare h.vars)
-
-unknown-bare : (vars : List Var) (names : List (List ℕ)) (index : ℕ) → IsFirstUnknown (map bare_var vars) names index → IsFirstUnknown vars names index
-unknown-bare vars names index u = grind (arith, unknown, any-bare)
-
-unknown-held : (h : Header) (n : ℕ) (chosen : Option (List (List ℕ))) (index : ℕ) → IsFirstUnknownOf (bare h n) chosen index → IsFirstUnknownOf h chosen index
-unknown-held h n None index u = u
-unknown-held h n (Some names) index u = unknown-bare h.vars names index u
+unknown-bare : (vars : List Var) (chosen : Option (List (List ℕ))) → first_unknown (map bare_var vars) chosen ≡ first_unknown vars chosen
+unknown-bare vars None = refl
+unknown-bare vars (Some names) = ap (λ (known : List ℕ → Bool). position (λ (name : List ℕ). not (known name)) names) (variables-bare vars)
 
 same-known : (m n : ℕ) → Known m ≡ Known n → m ≡ n
 same-known m n e = cc
 
 dump-of-held : (h : Header) (bytes rest : List ℕ) (n : ℕ) (o : Options) (t : List ℕ) (ending : Ending) → SpellsHeader bytes h rest → n ≡ record_count h (length bytes)
     → All (λ (var : Var). first_missing h bytes var n ≡ None) h.vars → IsText (held h bytes n) o t ending → IsDump bytes o t ending
-dump-of-held h bytes rest n o t ending spelled counted whole (unknown index u) = unknown h rest index spelled (unknown-held h n o.chosen index u)
-dump-of-held h bytes rest n o t ending spelled counted whole (shown m section knows known is) =
+dump-of-held h bytes rest n o t ending spelled counted whole (is_unknown index u) = unknown h rest index spelled (sym (unknown-bare h.vars o.chosen) ∙ u)
+dump-of-held h bytes rest n o t ending spelled counted whole (is_shown m section knows known is) =
     let same : m ≡ n = same-known m n (sym known) in
     let all : section ≡ shown_data_text h o (values_in_file h bytes n) n (selection_of h o) =
     is ∙ ap (λ (k : ℕ). shown_data_text (bare h n) o (values_in_dataset (held h bytes n)) k (selection_of (bare h n) o)) same ∙ shown-held h bytes n o whole in
     subst (λ (x : List ℕ). IsDump bytes o x section.ending) (sym (ap (λ (k : ℕ). dump_text (bare h n) o k section) same ∙ text-held h o n section))
-    (shown h rest n section spelled (subst (λ (X : Type 0). X) (knows-bare h n o.chosen) knows) counted all)
+    (shown h rest n section spelled (sym (unknown-bare h.vars o.chosen) ∙ knows) counted all)
 
 -- the text of the dataset is the dump of each file that holds it
 pub held-dump : (bytes : List ℕ) (d : Dataset) (o : Options) (t : List ℕ) (ending : Ending) → HoldsDataset bytes d → IsText d o t ending → IsDump bytes o t ending
@@ -127,10 +120,6 @@ held-dump bytes d o t ending s is =
     dump-of-held s.header bytes s.rest s.records o t ending s.spelled s.counted s.whole (subst (λ (x : Dataset). IsText x o t ending) (held-is bytes d s) is)
 
 -- ---- back
-
-unknown-from_held : (h : Header) (n : ℕ) (chosen : Option (List (List ℕ))) (index : ℕ) → IsFirstUnknownOf h chosen index → IsFirstUnknownOf (bare h n) chosen index
-unknown-from_held h n None index u = grind (arith, unknown, any-bare)
-unknown-from_held h n _ index u = grind (arith, unknown, any-bare)
 
 -- bytes have one header
 abbrev pub HasOneHeader : List ℕ → Type 0
@@ -145,10 +134,9 @@ text-of-dump : (h : Header) (bytes rest : List ℕ) (n : ℕ) (o : Options) (t :
     → All (λ (var : Var). first_missing h bytes var n ≡ None) h.vars → IsDump bytes o t ending → IsText (held h bytes n) o t ending
 text-of-dump h bytes rest n o t ending one fine spelled counted whole (stopped fault end stops) = absurd (fine h rest fault end spelled stops)
 text-of-dump h bytes rest n o t ending one fine spelled counted whole (unknown k more index s u) =
-    unknown index (unknown-from_held h n o.chosen index (subst (λ (x : Header). IsFirstUnknownOf x o.chosen index) (one k h more rest s spelled) u))
+    is_unknown index (unknown-bare h.vars o.chosen ∙ ap (λ (x : Header). first_unknown x.vars o.chosen) (one h k rest more spelled s) ∙ u)
 text-of-dump h bytes rest n o t ending one fine spelled counted whole (shown k more m section s knows count is) =
     let same : k ≡ h = one k h more rest s spelled in
-    let knows_h : KnowsChosen h o.chosen = subst (λ (x : Header). KnowsChosen x o.chosen) same knows in
     let m_is : m ≡ n = count ∙ ap (λ (x : Header). record_count x (length bytes)) same ∙ sym counted in
     let all : section ≡ shown_data_text (bare h n) o (values_in_dataset (held h bytes n)) n (selection_of (bare h n) o) =
     is ∙ ap (λ (x : Header). shown_data_text x o (values_in_file x bytes m) m (selection_of x o)) same
@@ -156,7 +144,7 @@ text-of-dump h bytes rest n o t ending one fine spelled counted whole (shown k m
     let words : dump_text k o m section ≡ dump_text (bare h n) o n section =
     ap (λ (x : Header). dump_text x o m section) same ∙ ap (λ (i : ℕ). dump_text h o i section) m_is ∙ sym (text-held h o n section) in
     subst (λ (x : List ℕ). IsText (held h bytes n) o x section.ending) (sym words)
-    (shown n section (subst (λ (X : Type 0). X) (sym (knows-bare h n o.chosen)) knows_h) refl all)
+    (is_shown n section (unknown-bare h.vars o.chosen ∙ ap (λ (x : Header). first_unknown x.vars o.chosen) (sym same) ∙ knows) refl all)
 
 pub dump-held : (bytes : List ℕ) (d : Dataset) (o : Options) (t : List ℕ) (ending : Ending) → HasOneHeader bytes → HasNoFault bytes
     → HoldsDataset bytes d → IsDump bytes o t ending → IsText d o t ending

@@ -13,12 +13,12 @@ is_fill_att att = bytes_eq att.name (codes "_FillValue")
 abbrev pub is_one_of_type : NcType → Att → Bool
 is_one_of_type ty att = (code_of att.ty == code_of ty) && (length att.vals == size_of ty)
 
--- the fill value that an attribute gives to a variable of this type
+-- what an attribute gives to a variable of this type
 abbrev pub fill_of_att : NcType → Option Att → Option ℤ
 fill_of_att ty None = None
 fill_of_att ty (Some att) = if is_one_of_type ty att then Some (number_of ty att.vals) else None
 
--- a variable's own fill value: that of its first attribute named `_FillValue`
+-- that of the first attribute named `_FillValue`
 abbrev pub own_fill : Var → Option ℤ
 own_fill var = fill_of_att var.ty (find is_fill_att var.atts)
 
@@ -26,7 +26,6 @@ abbrev pub fill_or_default : NcType → Option ℤ → ℤ
 fill_or_default ty None = default_fill_of ty
 fill_or_default ty (Some fill) = fill
 
--- a variable's fill value: its own, otherwise the default of its type
 unfoldable pub fill_value : Var → ℤ
 fill_value var = fill_or_default var.ty (own_fill var)
 

@@ -8,7 +8,8 @@ use Rattle.nc_base.specs.Bytes.{padding_len}
 use Rattle.nc_base.specs.Types.{code_of, size_of}
 use Rattle.nc_base.specs.Versions.{version_byte, count_width, offset_width, count_limit, offset_limit, streaming_mark, has_type}
 use Rattle.nc_base.specs.Names.{IsName}
-use Rattle.nc_base.specs.Headers.{has_record_dim, IsDimid}
+use Rattle.nc_base.specs.Grammar.{IsDimid}
+use Rattle.nc_base.specs.Sizes.{has_record_dim}
 use Rattle.nc_base.specs.Grammar.{ElementSpelling, dimension_tag, attribute_tag, variable_tag, SpellsBytes, SpellsNumber, SpellsCount, SpellsMagic, SpellsName, SpellsType, SpellsCounted, SpellsList, SpellsDim, SpellsAtt, SpellsAtts, SpellsDimid, SpellsVar, SpellsNumRecs, IsWithinLimits}
 
 -- ---- fields one after the other
@@ -22,46 +23,46 @@ abbrev pub Never : Stops
 Never bytes fault rest = ⊥
 
 -- n bytes: reading stops with this fault if the file has fewer
-pub data IsCut (cut : FormatFault) (n : ℕ) (bytes : List ℕ) : FormatFault → List ℕ → Type 0 where
-  is_cut : length bytes < n → IsCut cut n bytes cut []
+pub data EndsWithin (cut : FormatFault) (n : ℕ) (bytes : List ℕ) : FormatFault → List ℕ → Type 0 where
+  ends_within : length bytes < n → EndsWithin cut n bytes cut []
 
 -- A part and what follows it: reading stops in the part, or the part is spelled, and reading stops in what follows.
 pub data Then {A : Type 0} (Spells : List ℕ → A → List ℕ → Type 0) (InPart : Stops) (InNext : A → Stops) (bytes : List ℕ) (fault : FormatFault) (rest : List ℕ) : Type 0 where
   in_part : InPart bytes fault rest → Then Spells InPart InNext bytes fault rest
   in_next : (x : A) (middle : List ℕ) → Spells bytes x middle → InNext x middle fault rest → Then Spells InPart InNext bytes fault rest
 
--- A rule of the field just read, and what follows it: the field is wrong if it breaks the rule.
-pub data Rule (Holds : Type 0) (wrong : FormatFault) (InNext : Stops) (bytes : List ℕ) : FormatFault → List ℕ → Type 0 where
-  breaks : ¬ Holds → Rule Holds wrong InNext bytes wrong bytes
-  keeps : (fault : FormatFault) (rest : List ℕ) → Holds → InNext bytes fault rest → Rule Holds wrong InNext bytes fault rest
+-- The field just read is wrong if it breaks this rule. Otherwise reading stops in what follows.
+pub data Requires (Holds : Type 0) (wrong : FormatFault) (InNext : Stops) (bytes : List ℕ) : FormatFault → List ℕ → Type 0 where
+  breaks : ¬ Holds → Requires Holds wrong InNext bytes wrong bytes
+  keeps : (fault : FormatFault) (rest : List ℕ) → Holds → InNext bytes fault rest → Requires Holds wrong InNext bytes fault rest
 
 -- ---- numbers, names and types
 
 -- a number, and what follows it
 abbrev pub InNumber : Width → (ℕ → Stops) → Stops
-InNumber width InNext = Then (SpellsNumber width) (IsCut HeaderTruncated (byte_len width)) InNext
+InNumber width InNext = Then (SpellsNumber width) (EndsWithin HeaderTruncated (byte_len width)) InNext
 
 -- NON_NEG
 abbrev pub InCount : Version → Stops
-InCount v = InNumber (count_width v) (λ n. Rule (n < count_limit v) BadCount Never)
+InCount v = InNumber (count_width v) (λ n. Requires (n < count_limit v) BadCount Never)
 
 -- OFFSET
 abbrev pub InOffset : Version → Stops
-InOffset v = InNumber (offset_width v) (λ n. Rule (n < offset_limit v) BadOffset Never)
+InOffset v = InNumber (offset_width v) (λ n. Requires (n < offset_limit v) BadOffset Never)
 
 abbrev pub InBytes : ℕ → (List ℕ → Stops) → Stops
-InBytes n InNext = Then (SpellsBytes n) (IsCut HeaderTruncated n) InNext
+InBytes n InNext = Then (SpellsBytes n) (EndsWithin HeaderTruncated n) InNext
 
 abbrev pub InPadding : ℕ → Stops
-InPadding n = IsCut HeaderTruncated (padding_len n)
+InPadding n = EndsWithin HeaderTruncated (padding_len n)
 
 abbrev pub InName : Version → Stops
-InName v = Then (SpellsCount v) (InCount v) (λ n. InBytes n (λ name. Rule (IsName name) BadName (InPadding n)))
+InName v = Then (SpellsCount v) (InCount v) (λ n. InBytes n (λ name. Requires (IsName name) BadName (InPadding n)))
 
 abbrev pub InType : Version → Stops
 InType v = InNumber w32 (λ code.
-    Rule (((code == 5) || (code == 6)) ≡ false) FloatingType (
-    Rule ((ty : NcType) × (code ≡ code_of ty) × (has_type v ty ≡ true)) BadType Never))
+    Requires (((code == 5) || (code == 6)) ≡ false) FloatingType (
+    Requires ((ty : NcType) × (code ≡ code_of ty) × (has_type v ty ≡ true)) BadType Never))
 
 -- ---- lists
 
@@ -80,9 +81,9 @@ InCounted v Element InElement = Then (SpellsCount v) (InCount v) (λ n. InEach E
 -- a list: its tag is 0 or its own, and after a tag of 0 its count is 0
 abbrev pub InList : {A : Type 0} → Version → ℕ → ElementSpelling A → ElementStops A → Stops
 InList v tag Element InElement = InNumber w32 (λ found.
-    Rule ((found ≡ 0) ⊎ (found ≡ tag)) BadTag (
+    Requires ((found ≡ 0) ⊎ (found ≡ tag)) BadTag (
     Then (SpellsCount v) (InCount v) (λ n.
-    Rule (found ≡ 0 → n ≡ 0) BadCount (InEach Element InElement n []))))
+    Requires (found ≡ 0 → n ≡ 0) BadCount (InEach Element InElement n []))))
 
 -- ---- dimensions, attributes and variables
 
@@ -90,7 +91,7 @@ abbrev pub InDim : Version → ElementStops Dim
 InDim v before =
     Then (SpellsName v) (InName v) (λ name.
     Then (SpellsCount v) (InCount v) (λ len.
-    Rule (len ≡ 0 → has_record_dim before ≡ false) TwoRecordDims Never))
+    Requires (len ≡ 0 → has_record_dim before ≡ false) TwoRecordDims Never))
 
 abbrev pub InAtt : Version → ElementStops Att
 InAtt v before =
@@ -103,7 +104,7 @@ abbrev pub InAtts : Version → Stops
 InAtts v = InList v attribute_tag (SpellsAtt v) (InAtt v)
 
 abbrev pub InDimid : Version → List Dim → ElementStops ℕ
-InDimid v dims before = InNumber (count_width v) (λ id. Rule (IsDimid dims before id) BadShape Never)
+InDimid v dims before = InNumber (count_width v) (λ id. Requires (IsDimid dims before id) BadShape Never)
 
 -- if a variable is too large, its type is the wrong field
 abbrev pub InVar : Version → List Dim → ElementStops Var
@@ -112,7 +113,7 @@ InVar v dims before =
     Then (SpellsCounted v (SpellsDimid v dims)) (InCounted v (SpellsDimid v dims) (InDimid v dims)) (λ dimids.
     Then (SpellsAtts v) (InAtts v) (λ atts.
     Then (SpellsType v) (InType v) (λ ty.
-    Rule (IsWithinLimits dims before (record { name = name; dimids = dimids; atts = atts; ty = ty; begin_at = 0 })) TooLarge (
+    Requires (IsWithinLimits dims before (record { name = name; dimids = dimids; atts = atts; ty = ty; begin_at = 0 })) TooLarge (
     InNumber (count_width v) (λ vsize. InOffset v))))))
 
 -- ---- the whole
@@ -120,14 +121,14 @@ InVar v dims before =
 -- the three bytes `CDF`, and the version byte
 abbrev pub InMagic : Stops
 InMagic =
-    Then (SpellsBytes 3) (IsCut NotNetcdf 3) (λ word.
-    Rule (word ≡ codes "CDF") NotNetcdf (
-    Then (λ bytes n rest. bytes ≡ n ∷ rest) (IsCut HeaderTruncated 1) (λ n.
-    Rule ((v : Version) × (n ≡ version_byte v)) (UnknownVersion n) Never)))
+    Then (SpellsBytes 3) (EndsWithin NotNetcdf 3) (λ word.
+    Requires (word ≡ codes "CDF") NotNetcdf (
+    Then (λ bytes n rest. bytes ≡ n ∷ rest) (EndsWithin HeaderTruncated 1) (λ n.
+    Requires ((v : Version) × (n ≡ version_byte v)) (UnknownVersion n) Never)))
 
 -- NON_NEG or STREAMING
 abbrev pub InNumRecs : Version → Stops
-InNumRecs v = InNumber (count_width v) (λ n. Rule ((n < count_limit v) ⊎ (n ≡ streaming_mark v)) BadCount Never)
+InNumRecs v = InNumber (count_width v) (λ n. Requires ((n < count_limit v) ⊎ (n ≡ streaming_mark v)) BadCount Never)
 
 -- a header
 unfoldable pub StopsWith : Stops

@@ -1,5 +1,5 @@
 -- Definition. The file of a dataset: the one spelling of its header, and its values as one concatenation.
-use Rattle.std.specs.Prelude.{ℕ, ◌+◌, ◌-◌, ◌*◌, ◌/◌, ◌^◌, ◌<◌, ◌==◌, Bool, false, nat_lt, not, if◌then◌else◌, List, [], ◌∷◌, ◌++◌, length, filter, take, drop, replicate, All, codes}
+use Rattle.std.specs.Prelude.{ℕ, ◌+◌, ◌-◌, ◌*◌, ◌/◌, ◌^◌, ◌==◌, Bool, false, nat_lt, not, if◌then◌else◌, List, [], ◌∷◌, ◌++◌, length, filter, take, drop, replicate, codes}
 use Rattle.std.specs.Int.{w32, to_be_bytes}
 use Rattle.std.specs.List.{concat, flat_map, list_all, range_with_len}
 use Rattle.nc_base.specs.declared.{header.Att.Att, header.Dim.Dim, header.Var.Var, header.Header.Header, header.NumRecs.NumRecs, dataset.Dataset.Dataset, version.Version.Version, version.Version.TheVariants.Cdf5}
@@ -14,30 +14,28 @@ use Rattle.nc_base.specs.Grammar.{dimension_tag, variable_tag, attribute_tag}
 
 -- ---- the spelling of a header
 
--- NON_NEG: a count, a length, a dimension id, the number of records; also a vsize
+-- NON_NEG, a dimension id or a vsize
 abbrev pub count_spelling : Version → ℕ → List ℕ
 count_spelling v n = to_be_bytes (count_width v) n
 
--- a number of 32 bits in every version: a tag or the code of a type
+-- a tag, or the code of a type
 unfoldable pub word_spelling : ℕ → List ℕ
 word_spelling n = to_be_bytes w32 n
 
--- magic: `CDF` and the version byte
 unfoldable pub magic_spelling : Version → List ℕ
 magic_spelling v = codes "CDF" ++ version_byte v ∷ []
 
--- bytes, and zeros up to the next multiple of four
+-- up to the next multiple of four
 abbrev pub zero_padded : List ℕ → List ℕ
 zero_padded bytes = bytes ++ replicate (padding_len (length bytes)) 0
 
 abbrev pub name_spelling : Version → List ℕ → List ℕ
 name_spelling v name = count_spelling v (length name) ++ zero_padded name
 
--- what comes before n elements: their tag and their number; if there are none, ABSENT, whose tag is 0 too
+-- before n elements: their tag, or 0 if there are none, and their number
 abbrev pub list_head : Version → ℕ → ℕ → List ℕ
 list_head v tag n = word_spelling (if n == 0 then 0 else tag) ++ count_spelling v n
 
--- a list
 abbrev pub list_spelling : {A : Type 0} → Version → ℕ → (A → List ℕ) → List A → List ℕ
 list_spelling v tag spelling xs = list_head v tag (length xs) ++ flat_map spelling xs
 
@@ -82,33 +80,32 @@ fill_bytes var n = concat (replicate (n / size_of var.ty) (bytes_of_number var.t
 unfoldable pub padded_slab : Var → List ℕ → List ℕ
 padded_slab var slab = slab ++ fill_bytes var (padding_len (length slab))
 
--- the blocks of the variables that aren't record variables, in header order
+-- the variables that aren't record variables, in header order
 abbrev pub blocks : List Dim → List Var → List (List ℕ) → List ℕ
 blocks dims (var ∷ vars) (array ∷ arrays) = (if is_record_var dims var then [] else padded_slab var array) ++ blocks dims vars arrays
 blocks dims vars arrays = []
 
--- there is one record variable, and its values take less than four bytes; its slabs then have no padding
+-- the slabs of a sole record variable that is narrow have no padding
 abbrev pub is_sole_narrow : List Var → Bool
 is_sole_narrow (var ∷ []) = is_narrow var
 is_sole_narrow vars = false
 
--- the slab of record r in a variable's array
 abbrev pub slab_in : List Dim → Var → List ℕ → ℕ → List ℕ
 slab_in dims var array r = take (slab_size dims var) (drop (r * slab_size dims var) array)
 
--- record r: the slabs of the record variables, in header order
+-- record r: a slab of each record variable, in header order
 abbrev pub record_of : Bool → List Dim → ℕ → List Var → List (List ℕ) → List ℕ
 record_of is_sole dims r (var ∷ vars) (array ∷ arrays) =
     (if is_record_var dims var then (if is_sole then slab_in dims var array r else padded_slab var (slab_in dims var array r)) else [])
     ++ record_of is_sole dims r vars arrays
 record_of is_sole dims r vars arrays = []
 
--- the number of records in a header; that of a dataset is known
+-- that of a dataset is known
 abbrev pub known_records : NumRecs → ℕ
 known_records (Known n) = n
 known_records Streaming = 0
 
--- the values of a header's variables: the blocks, and after them one record after the other
+-- the blocks, and after them one record after the other
 unfoldable pub data_of : Header → List (List ℕ) → List ℕ
 data_of h arrays =
     blocks h.dims h.vars arrays
@@ -119,32 +116,24 @@ data_of h arrays =
 abbrev pub fixed_vars : List Dim → List Var → List Var
 fixed_vars dims vars = filter (λ (var : Var). not (is_record_var dims var)) vars
 
--- The begin of a variable: the length of the header, and the padded slabs before it. If it is a record variable, these are the
--- slabs of all variables without records, and of the record variables in `before`. Otherwise they are the slabs of the
--- variables without records in `before`. The header has the same length whatever begins it has.
+-- The length of the header, and the padded slabs before the variable: those of `before`, and for a record variable those of all variables
+-- without records. The header has the same length whatever begins it has.
 abbrev pub begin_after : Header → List Var → Var → ℕ
 begin_after h before var =
     length (header_spelling h)
     + (if is_record_var h.dims var then padded_total h.dims (fixed_vars h.dims h.vars) + padded_total h.dims (record_vars h.dims before)
     else padded_total h.dims (fixed_vars h.dims before))
 
--- these variables, after those before them, each with its begin
 abbrev pub vars_after : Header → List Var → List Var → List Var
 vars_after h before [] = []
 vars_after h before (var ∷ vars) = record var { begin_at = begin_after h before var } ∷ vars_after h (before ++ var ∷ []) vars
 
--- the header with the begin of each variable
 unfoldable pub with_begins : Header → Header
 with_begins h = record h { vars = vars_after h [] h.vars }
 
 -- each begin fits its field
-abbrev pub Fits : Header → Type 0
-Fits h = All (λ (var : Var). var.begin_at < offset_limit h.version) (with_begins h).vars
-
--- says whether each begin fits its field
 abbrev pub fits : Header → Bool
 fits h = list_all (λ (var : Var). nat_lt var.begin_at (offset_limit h.version)) (with_begins h).vars
 
--- the file of a dataset
 unfoldable pub file_of : Dataset → List ℕ
 file_of d = header_spelling (with_begins d.header) ++ data_of d.header d.arrays

@@ -1,6 +1,6 @@
 -- Definition. The grammar of a header, as the NetCDF Classic Format Specification has it: for each of its lines a relation between
 -- bytes, the value at their start, and the rest after it. Padding and vsize may be any.
-use Rattle.std.specs.Prelude.{ℕ, ◌≡◌, ◌*◌, ◌^◌, ◌<◌, ◌≤◌, true, false, List, [], ◌∷◌, ◌++◌, length, codes}
+use Rattle.std.specs.Prelude.{ℕ, ◌≡◌, ◌*◌, ◌^◌, ◌<◌, ◌≤◌, true, false, IsTrue, List, [], ◌∷◌, ◌++◌, length, codes}
 use Rattle.std.specs.Int.{Width, w32, to_be_bytes, byte_len}
 use Rattle.nc_base.specs.declared.{header.Att.Att, header.Dim.Dim, header.Var.Var, header.Header.Header, header.NumRecs.NumRecs, nc_type.NcType.NcType, version.Version.Version}
 use Rattle.nc_base.specs.declared.header.NumRecs.TheVariants.{Known, Streaming}
@@ -8,8 +8,7 @@ use Rattle.nc_base.specs.Bytes.{padding_len}
 use Rattle.nc_base.specs.Types.{code_of, size_of}
 use Rattle.nc_base.specs.Versions.{version_byte, count_width, offset_width, count_limit, offset_limit, streaming_mark, has_type}
 use Rattle.nc_base.specs.Names.{IsName}
-use Rattle.nc_base.specs.Sizes.{slab_size, padded_total, record_vars, slab_limit, record_limit}
-use Rattle.nc_base.specs.Headers.{has_record_dim, IsDimid}
+use Rattle.nc_base.specs.Sizes.{has_record_dim, is_record_dim, slab_size, padded_total, record_vars, slab_limit, record_limit}
 
 -- the tags of the lists: NC_DIMENSION, NC_VARIABLE, NC_ATTRIBUTE
 abbrev pub dimension_tag : ℕ
@@ -58,18 +57,17 @@ pub record SpellsName (v : Version) (bytes name rest : List ℕ) : Type 0 where
   pub valid : IsName name
   pub padded : SpellsPadded after_count name rest
 
--- nc_type = NC_BYTE | NC_CHAR | .. : one of the types that files of the version may have
+-- nc_type = NC_BYTE | NC_CHAR | ..
 pub record SpellsType (v : Version) (bytes : List ℕ) (ty : NcType) (rest : List ℕ) : Type 0 where
   pub number : SpellsNumber w32 bytes (code_of ty) rest
   pub has : has_type v ty ≡ true
 
 -- ---- lists
 
--- How an element is spelled: by the elements before it, the bytes, the element at their start, and the rest after it.
+-- an element, after the elements before it
 abbrev pub ElementSpelling : Type 0 → Type 1
 ElementSpelling A = List A → List ℕ → A → List ℕ → Type 0
 
--- [element ...]: one after the other
 abbrev pub SpellsEach : {A : Type 0} → ElementSpelling A → List A → List ℕ → List A → List ℕ → Type 0
 SpellsEach Element before bytes [] rest = bytes ≡ rest
 SpellsEach Element before bytes (x ∷ xs) rest =
@@ -92,14 +90,14 @@ pub data SpellsList {A : Type 0} (v : Version) (tag : ℕ) (Element : ElementSpe
 
 -- ---- dimensions and attributes
 
--- dim = name dim_length, after the dimensions before it: no two are the record dimension
+-- dim = name dim_length: no two are the record dimension
 pub record SpellsDim (v : Version) (before : List Dim) (bytes : List ℕ) (dim : Dim) (rest : List ℕ) : Type 0 where
   pub after_name : List ℕ
   pub name : SpellsName v bytes dim.name after_name
   pub len : SpellsCount v after_name dim.len rest
   pub one_record_dim : dim.len ≡ 0 → has_record_dim before ≡ false
 
--- attr = name nc_type nelems [values ...], whatever comes before it
+-- attr = name nc_type nelems [values ...]
 pub record SpellsAtt (v : Version) (before : List Att) (bytes : List ℕ) (att : Att) (rest : List ℕ) : Type 0 where
   pub after_name : List ℕ
   pub after_type : List ℕ
@@ -116,17 +114,22 @@ SpellsAtts v bytes atts rest = SpellsList v attribute_tag (SpellsAtt v) bytes at
 
 -- ---- variables
 
--- dimid, after those before it
+-- The id may follow these ids in a shape: the record dimension comes first, if at all.
+pub record IsDimid (dims : List Dim) (before : List ℕ) (id : ℕ) : Type 0 where
+  pub known : id < length dims
+  pub record_first : IsTrue (is_record_dim dims id) → before ≡ []
+
+-- dimid
 pub record SpellsDimid (v : Version) (dims : List Dim) (before : List ℕ) (bytes : List ℕ) (id : ℕ) (rest : List ℕ) : Type 0 where
   pub number : SpellsNumber (count_width v) bytes id rest
   pub known : IsDimid dims before id
 
--- this project's limits: for the variable's slab, and for the padded slabs of all record variables up to and with it, together
+-- this project's limits
 pub record IsWithinLimits (dims : List Dim) (before : List Var) (var : Var) : Type 0 where
   pub slab : slab_size dims var ≤ slab_limit
   pub record_bytes : padded_total dims (record_vars dims (before ++ var ∷ [])) ≤ record_limit
 
--- var = name nelems [dimid ...] vatt_list nc_type vsize begin, after the variables before it
+-- var = name nelems [dimid ...] vatt_list nc_type vsize begin
 pub record SpellsVar (v : Version) (dims : List Dim) (before : List Var) (bytes : List ℕ) (var : Var) (rest : List ℕ) : Type 0 where
   pub after_name : List ℕ
   pub after_shape : List ℕ

@@ -30,33 +30,30 @@ global_word = codes "\n// global attributes:\n"
 unfoldable pub netcdf_word : List ℕ
 netcdf_word = codes "netcdf "
 
--- what ends a line inside a string: the string is closed, and another begins on the next line
+-- closes a string, and begins another on the next line
 unfoldable pub string_break : List ℕ
 string_break = codes "\",\n\t\t\t\""
 
 -- ---- values of attributes
 
--- the pieces with `, ` between each two
+-- with `, ` between each two
 abbrev pub joined : List (List ℕ) → List ℕ
 joined [] = []
 joined (x ∷ []) = x
 joined (x ∷ y ∷ xs) = x ++ (codes ", " ++ joined (y ∷ xs))
 
--- the numbers of an attribute
 unfoldable pub numbers_text : NcType → List ℕ → List ℕ
 numbers_text ty vals = joined (map (λ (n : ℤ). signed_decimal n ++ number_suffix ty) (numbers ty vals))
 
--- without the NULs at its end
 abbrev pub without_trailing_nuls : List ℕ → List ℕ
 without_trailing_nuls bytes = take (length bytes - suffix_len (λ b. b == 0) bytes) bytes
 
--- the bytes of an attribute's strings: broken after each line feed that isn't the last byte
+-- broken after each line feed that isn't the last byte
 abbrev pub broken_text : List ℕ → List ℕ
 broken_text [] = []
 broken_text (b ∷ []) = escaped_in_string b
 broken_text (b ∷ c ∷ bytes) = escaped_in_string b ++ ((if b == byte "\n" then string_break else []) ++ broken_text (c ∷ bytes))
 
--- the characters of an attribute
 unfoldable pub chars_text : List ℕ → List ℕ
 chars_text vals = concat_parts (codes "\"" ∷ broken_text (without_trailing_nuls vals) ∷ codes "\"" ∷ [])
 
@@ -66,14 +63,14 @@ att_text ty vals = numbers_text ty vals
 
 -- ---- lines
 
--- an attribute of the variable with this name, which is escaped already; an empty name means the whole dataset
+-- the owner is a variable, or nothing for the whole dataset
 unfoldable pub att_line : List ℕ → Att → List ℕ
 att_line escaped_owner att = concat_parts (codes "\t\t" ∷ escaped_owner ∷ codes ":" ∷ escaped_name att.name ∷ codes " = " ∷ att_text att.ty att.vals ∷ codes " ;\n" ∷ [])
 
 unfoldable pub att_lines : List ℕ → List Att → List ℕ
 att_lines escaped_owner atts = concat_parts (map (att_line escaped_owner) atts)
 
--- the rest of a dimension's line: its length, or for the record dimension `UNLIMITED` with the number of records in a comment
+-- the record dimension has the number of records in a comment
 unfoldable pub dim_len_text : ℕ → ℕ → List ℕ
 dim_len_text records len =
     if len == 0 then concat_parts (unlimited_word ∷ decimal records ∷ currently_word ∷ [])
@@ -85,7 +82,6 @@ dim_line records dim = concat_parts (codes "\t" ∷ escaped_name dim.name ∷ co
 unfoldable pub dim_lines : ℕ → List Dim → List ℕ
 dim_lines records dims = concat_parts (map (dim_line records) dims)
 
--- the dimensions, if there are any
 unfoldable pub dims_text : ℕ → List Dim → List ℕ
 dims_text records dims = if length dims == 0 then [] else concat_parts (dimensions_word ∷ dim_lines records dims ∷ [])
 
@@ -93,29 +89,24 @@ abbrev pub name_or_none : Option Dim → List ℕ
 name_or_none None = []
 name_or_none (Some dim) = escaped_name dim.name
 
--- the name of the dimension with this id
 abbrev pub dim_name : List Dim → ℕ → List ℕ
 dim_name dims id = name_or_none (slice_get dims id)
 
--- the shape of a variable: nothing at rank 0
+-- nothing at rank 0
 unfoldable pub shape_text : List Dim → List ℕ → List ℕ
 shape_text dims ids = if length ids == 0 then [] else concat_parts (codes "(" ∷ joined (map (dim_name dims) ids) ∷ codes ")" ∷ [])
 
--- a variable's declaration, and its attributes
 unfoldable pub var_lines : List Dim → Var → List ℕ
 var_lines dims var =
     concat_parts (codes "\t" ∷ type_word var.ty ∷ codes " " ∷ escaped_name var.name ∷ shape_text dims var.dimids ∷ codes " ;\n"
     ∷ att_lines (escaped_name var.name) var.atts ∷ [])
 
--- the variables, if there are any
 unfoldable pub vars_text : List Dim → List Var → List ℕ
 vars_text dims vars = if length vars == 0 then [] else concat_parts (variables_word ∷ concat_parts (map (var_lines dims) vars) ∷ [])
 
--- the global attributes, if there are any
 unfoldable pub gatts_text : List Att → List ℕ
 gatts_text gatts = if length gatts == 0 then [] else concat_parts (global_word ∷ att_lines [] gatts ∷ [])
 
--- the head of a dump, up to `data:`
 unfoldable pub head_text : List ℕ → Header → ℕ → List ℕ
 head_text name h records =
     concat_parts (netcdf_word ∷ escaped_name name ∷ codes " {\n" ∷ dims_text records h.dims ∷ vars_text h.dims h.vars ∷ gatts_text h.gatts ∷ [])

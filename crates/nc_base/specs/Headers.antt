@@ -1,22 +1,13 @@
--- Definition. Sound headers, bare headers and good datasets.
-use Rattle.std.specs.Prelude.{ℕ, ◌≡◌, ◌*◌, ◌<◌, ◌≤◌, Bool, IsTrue, ◌==◌, if◌then◌else◌, List, [], ◌∷◌, ◌++◌, length, map, filter, All}
-use Rattle.std.specs.List.{list_any}
+-- Definition. Sound headers, and good datasets.
+use Rattle.std.specs.Prelude.{ℕ, ◌≡◌, ◌*◌, ◌<◌, ◌≤◌, IsTrue, ◌==◌, List, [], ◌∷◌, ◌++◌, length, map, filter, All}
 use Rattle.nc_base.specs.declared.{header.Att.Att, header.Dim.Dim, header.Var.Var, header.Header.Header, header.NumRecs.NumRecs, dataset.Dataset.Dataset, version.Version.Version}
 use Rattle.nc_base.specs.declared.header.NumRecs.TheVariants.{Known, Streaming}
 use Rattle.nc_base.specs.Bytes.{AreBytes}
 use Rattle.nc_base.specs.Types.{size_of}
 use Rattle.nc_base.specs.Versions.{count_limit, has_type}
 use Rattle.nc_base.specs.Names.{IsName}
-use Rattle.nc_base.specs.Sizes.{is_record_dim, is_record_var, slab_size, slab_count, record_size, slab_limit, array_limit, record_limit}
-
--- one of the dimensions is the record dimension
-abbrev pub has_record_dim : List Dim → Bool
-has_record_dim dims = list_any (λ (dim : Dim). dim.len == 0) dims
-
--- The id may follow these ids in a shape: a dimension has it, and the record dimension comes first, if at all.
-pub record IsDimid (dims : List Dim) (before : List ℕ) (id : ℕ) : Type 0 where
-  pub known : id < length dims
-  pub record_first : IsTrue (is_record_dim dims id) → before ≡ []
+use Rattle.nc_base.specs.Grammar.{IsDimid}
+use Rattle.nc_base.specs.Sizes.{value_count, slab_size, record_size, slab_limit, array_limit, record_limit}
 
 abbrev pub AreDimids : List Dim → List ℕ → List ℕ → Type 0
 AreDimids dims before [] = Unit {0}
@@ -78,10 +69,6 @@ bare_var var = record var { begin_at = 0 }
 -- a header without offsets, and with n records
 abbrev pub bare : Header → ℕ → Header
 bare h n = record h { numrecs = Known n; vars = map bare_var h.vars }
-
--- how many values a variable has over n records
-abbrev pub value_count : List Dim → Var → ℕ → ℕ
-value_count dims var n = slab_count dims var * (if is_record_var dims var then n else 1)
 
 -- a variable's array: as many values as it has, in no more bytes than an array may have
 pub record IsArray (dims : List Dim) (records : ℕ) (var : Var) (array : List ℕ) : Type 0 where

@@ -4,11 +4,9 @@ use Rattle.std.specs.Char.{is_ascii_alphabetic, is_ascii_digit}
 use Rattle.std.specs.List.{list_all}
 use Rattle.std.specs.Str.{byte, is_utf8}
 
--- part of a character beyond ASCII
 abbrev pub is_beyond_ascii : ℕ → Bool
 is_beyond_ascii b = nat_le 128 b
 
--- a letter, a digit, `_` or a character beyond ASCII
 abbrev pub may_begin_name : ℕ → Bool
 may_begin_name b = is_ascii_alphabetic b || is_ascii_digit b || (b == byte "_") || is_beyond_ascii b
 
@@ -23,8 +21,7 @@ has_name_bytes (first ∷ others) = may_begin_name first && list_all may_follow_
 abbrev pub ends_with_space : List ℕ → Bool
 ends_with_space name = slice_index name (length name - 1) == byte " "
 
--- a name of a dimension, a variable or an attribute: not empty, in UTF-8, of the bytes that names have, and without a
--- space at its end
+-- a name of a dimension, a variable or an attribute
 abbrev pub is_name : List ℕ → Bool
 is_name name = has_name_bytes name && not (ends_with_space name) && is_utf8 name
 

@@ -10,7 +10,6 @@ number_of ty bytes =
     let magnitude = from_be_bytes (width_of ty) bytes in
     if is_signed ty then cast_signed (width_of ty) magnitude else pos magnitude
 
--- the bytes of a number
 abbrev pub bytes_of_number : NcType → ℤ → List ℕ
 bytes_of_number ty number = to_be_bytes (width_of ty) (cast_unsigned (width_of ty) number)
 
@@ -23,6 +22,5 @@ abbrev pub numbers_from : NcType → ℕ → List ℕ → List ℤ
 numbers_from ty zero bytes = []
 numbers_from ty (suc n) bytes = number_of ty (take (size_of ty) bytes) ∷ numbers_from ty n (drop (size_of ty) bytes)
 
--- the numbers of an attribute or of an array
 unfoldable pub numbers : NcType → List ℕ → List ℤ
 numbers ty bytes = numbers_from ty (length bytes / size_of ty) bytes

@@ -9,7 +9,6 @@ is_slash b = b == byte "/"
 abbrev pub is_dot : ℕ → Bool
 is_dot b = b == byte "."
 
--- what comes after the last slash of a path, or all of it if it has none
 abbrev pub file_name_of : List ℕ → List ℕ
 file_name_of path = after_last is_slash path
 
@@ -17,10 +16,8 @@ file_name_of path = after_last is_slash path
 abbrev pub has_extension : List ℕ → Bool
 has_extension name = list_any is_dot (drop 1 name)
 
--- what comes before the last dot of a name, if there is a dot after its first byte
 abbrev pub without_extension : List ℕ → List ℕ
 without_extension name = if has_extension name then before_last is_dot name else name
 
--- the name of a path's file without its extension
 abbrev pub stem_of : List ℕ → List ℕ
 stem_of path = without_extension (file_name_of path)

@@ -1,12 +1,10 @@
 -- Definition. Where the values of a variable lie in a file, which of them the file has, and the dataset that it holds.
-use Rattle.std.specs.Prelude.{ℕ, ◌≡◌, ◌+◌, ◌*◌, nat_lt, Bool, ℤ, if◌then◌else◌, List, [], ◌∷◌, length, map, take, drop, All, Option, None}
-use Rattle.std.specs.List.{concat, flat_map, position, range_with_len}
-use Rattle.nc_base.specs.declared.{header.Dim.Dim, header.Var.Var, header.Header.Header, dataset.Dataset.Dataset}
+use Rattle.std.specs.Prelude.{ℕ, ◌+◌, ◌*◌, nat_lt, Bool, ℤ, if◌then◌else◌, List, [], ◌∷◌, length, map, take, drop, Option}
+use Rattle.std.specs.List.{flat_map, position, range_with_len}
+use Rattle.nc_base.specs.declared.{header.Dim.Dim, header.Var.Var, header.Header.Header}
 use Rattle.nc_base.specs.Types.{size_of}
 use Rattle.nc_base.specs.Numbers.{number_of}
-use Rattle.nc_base.specs.Sizes.{is_record_var, slab_lens, product, record_size, record_count}
-use Rattle.nc_base.specs.Headers.{bare}
-use Rattle.nc_base.specs.Grammar.{SpellsHeader}
+use Rattle.nc_base.specs.Sizes.{is_record_var, slab_lens, product, record_size}
 
 -- ---- index vectors
 
@@ -19,71 +17,52 @@ abbrev pub vectors_below : List ℕ → List (List ℕ)
 vectors_below [] = [] ∷ []
 vectors_below (n ∷ ns) = flat_map (λ i. map (λ index. i ∷ index) (vectors_below ns)) (range_with_len 0 n)
 
--- the index vectors of a variable's values over n records
 abbrev pub index_vectors : List Dim → Var → ℕ → List (List ℕ)
 index_vectors dims var n = vectors_below (lens_over dims var n)
 
 -- ---- offsets
 
--- The strides of a slab over these lengths: for each, how many bytes apart two values are whose index there differs by one. It
--- is the size of a value times the product of the later lengths.
+-- for each length, how many bytes apart two values are whose index there differs by one
 abbrev pub slab_strides : ℕ → List ℕ → List ℕ
 slab_strides size [] = []
 slab_strides size (n ∷ ns) = size * product ns ∷ slab_strides size ns
 
--- the strides of a variable: that of the record dimension is the record size
+-- the stride of the record dimension is the record size
 abbrev pub strides : Header → Var → List ℕ
 strides h var =
     if is_record_var h.dims var
     then record_size h ∷ slab_strides (size_of var.ty) (slab_lens h.dims var.dimids)
     else slab_strides (size_of var.ty) (slab_lens h.dims var.dimids)
 
--- the sum of each index times its stride
 abbrev pub distance : List ℕ → List ℕ → ℕ
 distance [] strides = 0
 distance (i ∷ index) [] = 0
 distance (i ∷ index) (stride ∷ strides) = i * stride + distance index strides
 
--- the offset of a value by its index vector
 abbrev pub value_offset : Header → Var → List ℕ → ℕ
 value_offset h var index = var.begin_at + distance index (strides h var)
 
--- the offsets of all values of a variable over n records, in row-major order
+-- in row-major order
 unfoldable pub value_offsets : Header → Var → ℕ → List ℕ
 value_offsets h var n = map (value_offset h var) (index_vectors h.dims var n)
 
 -- ---- values
 
--- the bytes of the value of this size at an offset: all of them, if they are inside the file
+-- the value of this size at an offset: all of its bytes, if they are inside the file
 abbrev pub bytes_at : ℕ → List ℕ → ℕ → List ℕ
 bytes_at size bytes offset = take size (drop offset bytes)
 
--- the bytes of each value of a variable over n records, in row-major order
+-- each value of a variable over n records
 abbrev pub stored_bytes : Header → List ℕ → Var → ℕ → List (List ℕ)
 stored_bytes h bytes var n = map (bytes_at (size_of var.ty) bytes) (value_offsets h var n)
 
--- the values themselves
 abbrev pub stored_values : Header → List ℕ → Var → ℕ → List ℤ
 stored_values h bytes var n = map (number_of var.ty) (stored_bytes h bytes var n)
 
--- the value of this size at an offset ends after the end of a file of this length
+-- the value of this size at an offset isn't wholly inside the file
 abbrev pub ends_after : ℕ → ℕ → ℕ → Bool
 ends_after size file_len offset = nat_lt file_len (offset + size)
 
--- the place, from 0, of the first missing value, if any: a value is missing if not all of its bytes are inside the file
+-- the place, from 0, of the first missing value, if any
 abbrev pub first_missing : Header → List ℕ → Var → ℕ → Option ℕ
 first_missing h bytes var n = position (ends_after (size_of var.ty) (length bytes)) (value_offsets h var n)
-
--- ---- datasets
-
--- The bytes of a file hold the dataset: its header is the one that they spell, with the file's number of records and
--- without offsets, no value is missing, and the array of each variable is its stored bytes, one value after the other.
-pub record HoldsDataset (bytes : List ℕ) (d : Dataset) : Type 0 where
-  pub header : Header
-  pub rest : List ℕ
-  pub records : ℕ
-  pub spelled : SpellsHeader bytes header rest
-  pub counted : records ≡ record_count header (length bytes)
-  pub is_bare : d.header ≡ bare header records
-  pub whole : All (λ (var : Var). first_missing header bytes var records ≡ None) header.vars
-  pub arrays : d.arrays ≡ map (λ (var : Var). concat (stored_bytes header bytes var records)) header.vars

@@ -1,18 +1,21 @@
 -- Definition. The sizes of a variable's slab and of a record, and the number of records. A slab is what a record variable has in
 -- one record. Of any other variable it is all that the variable has.
 use Rattle.std.specs.Prelude.{ℕ, ◌+◌, ◌-◌, ◌*◌, ◌/◌, ◌^◌, min, Bool, false, nat_lt, ◌==◌, ◌&&◌, if◌then◌else◌, List, [], ◌∷◌, length, map, filter, drop, slice_index, sum}
+use Rattle.std.specs.List.{list_any}
 use Rattle.nc_base.specs.declared.{header.Dim.Dim, header.Var.Var, header.Header.Header, header.NumRecs.NumRecs}
 use Rattle.nc_base.specs.declared.header.NumRecs.TheVariants.{Known, Streaming}
 use Rattle.nc_base.specs.Bytes.{padding_len}
 use Rattle.nc_base.specs.Types.{size_of}
 
--- the length of the dimension with this id
 abbrev pub dim_len : List Dim → ℕ → ℕ
 dim_len dims id = slice_index (map (λ (d : Dim). d.len) dims) id
 
--- the id is that of the record dimension, whose length is 0
+-- the record dimension is the one of length 0
 abbrev pub is_record_dim : List Dim → ℕ → Bool
 is_record_dim dims id = nat_lt id (length dims) && (dim_len dims id == 0)
+
+abbrev pub has_record_dim : List Dim → Bool
+has_record_dim dims = list_any (λ (dim : Dim). dim.len == 0) dims
 
 -- a shape's first dimension is the record dimension
 abbrev pub has_records : List Dim → List ℕ → Bool
@@ -22,7 +25,7 @@ has_records dims (id ∷ ids) = is_record_dim dims id
 abbrev pub is_record_var : List Dim → Var → Bool
 is_record_var dims var = has_records dims var.dimids
 
--- the lengths of the dimensions of a slab: all but the record dimension
+-- the lengths of all dimensions but the record dimension
 abbrev pub slab_lens : List Dim → List ℕ → List ℕ
 slab_lens dims ids = map (dim_len dims) (if has_records dims ids then drop 1 ids else ids)
 
@@ -30,15 +33,19 @@ abbrev pub product : List ℕ → ℕ
 product [] = 1
 product (n ∷ ns) = n * product ns
 
--- how many values a slab of this variable has
+-- how many values a slab has
 abbrev pub slab_count : List Dim → Var → ℕ
 slab_count dims var = product (slab_lens dims var.dimids)
+
+-- how many values a variable has over n records
+abbrev pub value_count : List Dim → Var → ℕ → ℕ
+value_count dims var n = slab_count dims var * (if is_record_var dims var then n else 1)
 
 -- the bytes of a slab
 abbrev pub slab_size : List Dim → Var → ℕ
 slab_size dims var = slab_count dims var * size_of var.ty
 
--- the bytes of a slab, with the padding up to the next multiple of four
+-- with the padding up to the next multiple of four
 abbrev pub padded_size : List Dim → Var → ℕ
 padded_size dims var = slab_size dims var + padding_len (slab_size dims var)
 
@@ -49,21 +56,19 @@ record_vars dims vars = filter (is_record_var dims) vars
 abbrev pub is_narrow : Var → Bool
 is_narrow var = nat_lt (size_of var.ty) 4
 
--- the padded slabs of these variables together
 abbrev pub padded_total : List Dim → List Var → ℕ
 padded_total dims vars = sum (map (padded_size dims) vars)
 
--- The bytes of a record of these variables: their padded slabs together. If there is only one variable and it is narrow, its slab has no
--- padding.
+-- the bytes of a record of these variables: a sole variable has no padding if it is narrow
 abbrev pub record_size_of : List Dim → List Var → ℕ
 record_size_of dims (var ∷ []) = if is_narrow var then slab_size dims var else padded_size dims var
 record_size_of dims vars = padded_total dims vars
 
--- the record size: the bytes from one record of a variable to its next
+-- the bytes from one record of a variable to its next
 abbrev pub record_size : Header → ℕ
 record_size h = record_size_of h.dims (record_vars h.dims h.vars)
 
--- this project's limits, in bytes: the greatest slab, the greatest array of a dataset, and the greatest record
+-- this project's limits, in bytes
 abbrev pub slab_limit : ℕ
 slab_limit = 2 ^ 48
 
@@ -73,18 +78,16 @@ array_limit = 2 ^ 48
 abbrev pub record_limit : ℕ
 record_limit = 2 ^ 62
 
--- the least begin of these variables
 abbrev pub least_begin : Var → List Var → ℕ
 least_begin var [] = var.begin_at
 least_begin var (next ∷ others) = min var.begin_at (least_begin next others)
 
--- How many whole records of this size are between the least begin of these variables and the end of a file of this number of
--- bytes. There are none if there are no such variables, or if the file ends before the least begin, as `-` is 0 then.
+-- How many whole records are between the least begin of these variables and the end of the file. If it ends before that, `-` is 0.
 abbrev pub records_between : ℕ → List Var → ℕ → ℕ
 records_between size [] file_len = 0
 records_between size (var ∷ vars) file_len = (file_len - least_begin var vars) / size
 
--- the number of records of a file of this length in bytes
+-- the number of records of a file of this length
 abbrev pub record_count : Header → ℕ → ℕ
 record_count h file_len = of_numrecs h.numrecs
   where

@@ -16,11 +16,9 @@ code_of Uint = 9
 code_of Int64 = 10
 code_of Uint64 = 11
 
--- all types
 abbrev pub all_types : List NcType
 all_types = Byte ∷ Char ∷ Short ∷ Int ∷ Ubyte ∷ Ushort ∷ Uint ∷ Int64 ∷ Uint64 ∷ []
 
--- the width of a value
 abbrev pub width_of : NcType → Width
 width_of Byte = w8
 width_of Char = w8
@@ -32,23 +30,17 @@ width_of Uint = w32
 width_of Int64 = w64
 width_of Uint64 = w64
 
--- the size of a value in bytes
+-- in bytes
 abbrev pub size_of : NcType → ℕ
 size_of ty = byte_len (width_of ty)
 
--- its values have a sign
 abbrev pub is_signed : NcType → Bool
 is_signed Byte = true
-is_signed Char = false
 is_signed Short = true
 is_signed Int = true
-is_signed Ubyte = false
-is_signed Ushort = false
-is_signed Uint = false
 is_signed Int64 = true
-is_signed Uint64 = false
+is_signed ty = false
 
--- the default fill value
 abbrev pub default_fill_of : NcType → ℤ
 default_fill_of Byte = neg_ℤ (pos 127)
 default_fill_of Char = pos 0
@@ -72,7 +64,7 @@ type_word Uint = codes "uint"
 type_word Int64 = codes "int64"
 type_word Uint64 = codes "uint64"
 
--- the suffix of a number of this type in an attribute (characters are written in strings, and have none)
+-- of a number in an attribute; characters are written in strings, and have none
 abbrev pub number_suffix : NcType → List ℕ
 number_suffix Byte = codes "b"
 number_suffix Char = []

@@ -8,7 +8,7 @@ use Rattle.nc_base.specs.declared.{header.Dim.Dim, header.Header.Header, header.
 use Rattle.nc_base.specs.Bytes.{concat_parts}
 use Rattle.nc_base.specs.Escapes.{escaped_name, escaped_text}
 use Rattle.nc_base.specs.Fill.{fill_value, own_fill, prints_fill}
-use Rattle.nc_base.specs.Headers.{value_count}
+use Rattle.nc_base.specs.Sizes.{value_count}
 use Rattle.nc_base.specs.Sizes.{dim_len, is_record_var}
 
 -- ---- what the text depends on
@@ -21,21 +21,20 @@ pub record Look : Type 0 where
   pub in_rows : Bool
   -- how many values a row has
   pub row : ℕ
-  -- how many values there are
   pub total : ℕ
   pub fill : ℤ
-  -- a value that equals the fill value prints as `_`
+  -- the fill value prints as `_`
   pub prints_fill : Bool
-  -- the NULs at the end of a row of characters aren't printed
+  -- NULs at the end of a row of characters aren't printed
   pub trimmed : Bool
-  -- the width at which lines of numbers are broken
+  -- lines of numbers are broken at this width
   pub width : ℕ
 
 abbrev pub is_char : NcType → Bool
 is_char Char = true
 is_char ty = false
 
--- how many values a row has: all of them at rank 0 and 1, otherwise as many as the last dimension is long
+-- at rank 0 and 1 there is one row
 abbrev pub row_len : List Dim → List ℕ → ℕ → ℕ
 row_len dims dimids total =
     if nat_lt (length dimids) 2 then total else dim_len dims (slice_index dimids (length dimids - 1))
@@ -44,7 +43,6 @@ row_len dims dimids total =
 abbrev pub is_trimmed : List Dim → Var → Bool
 is_trimmed dims var = int_eq (fill_value var) (pos 0) && not (is_record_var dims var && (length var.dimids == 1))
 
--- the look of a variable over n records, in lines of this width
 unfoldable pub look_of : Header → Var → ℕ → ℕ → Look
 look_of h var records width = record {
   name = var.name;
@@ -58,33 +56,31 @@ look_of h var records width = record {
   width = width;
 }
 
--- value i, counted from 0, is its row's first
+-- value i, from 0, is its row's first
 abbrev pub begins_row : Look → ℕ → Bool
 begins_row look i = i % look.row == 0
 
 -- ---- numbers
 
--- how many bytes come after the last line feed
 abbrev pub column : List ℕ → ℕ
 column before = suffix_len (λ b. not (b == byte "\n")) before
 
--- a number in decimal, or `_` for a fill value that prints so
 abbrev pub number_text : Look → ℤ → List ℕ
 number_text look value = if look.prints_fill && int_eq value look.fill then codes "_" else signed_decimal value
 
--- what comes before value i, a number, on its line
+-- what comes before value i
 abbrev pub number_lead : Look → ℕ → List ℕ
 number_lead look i =
     if begins_row look i then (if look.in_rows then (if i == 0 then codes "\n  " else codes ",\n  ") else codes " ")
     else codes ", "
 
--- What comes between a lead and value i, a number of this length, after the text `before`: a new line, if the number and two bytes after it
--- would pass the width. No line is broken before a row's first number.
+-- A new line between the lead and value i, of this length, if it and two bytes more would pass the width. No line is broken before a row's
+-- first number.
 abbrev pub line_break : Look → List ℕ → ℕ → ℕ → List ℕ
 line_break look before i len =
     if not (begins_row look i) && nat_lt look.width (column before + len + 2) then codes "\n    " else []
 
--- value i, a number, with what comes before it, by the text before
+-- value i after this text, with what comes before it
 unfoldable pub number_piece : Look → List ℕ → ℕ → ℤ → List ℕ
 number_piece look before i value =
     (number_lead look i ++ line_break look (before ++ number_lead look i) i (length (number_text look value)))
@@ -92,28 +88,26 @@ number_piece look before i value =
 
 -- ---- characters
 
--- what comes before value i, the first character of its row
+-- what comes before value i, its row's first
 abbrev pub char_lead : Look → ℕ → List ℕ
 char_lead look i = if look.in_rows then (if i == 0 then codes "\n  \"" else codes "\",\n  \"") else codes " \""
 
 abbrev pub is_nul : ℤ → Bool
 is_nul value = unsigned_abs value == 0
 
--- those of the values so far that are in the row of the next value
+-- those of the values that are in the row of the next one
 abbrev pub row_so_far : Look → List ℤ → List ℤ
 row_so_far look values = drop (length values - length values % look.row) values
 
--- if rows are trimmed: how many NULs come directly before the next value in its row. They aren't printed yet.
+-- how many NULs before the next value, in its row, aren't printed yet
 abbrev pub held : Look → List ℤ → ℕ
 held look values = if look.trimmed then suffix_len is_nul (row_so_far look values) else 0
 
--- A character after n NULs that aren't printed yet. If rows are trimmed, a NUL is printed only if a character other than NUL
--- follows it in its row.
+-- if rows are trimmed, a NUL is printed with the next other character of its row
 abbrev pub char_text : Look → ℕ → ℤ → List ℕ
 char_text look nuls value =
     if look.trimmed && is_nul value then [] else escaped_text (replicate nuls 0 ++ unsigned_abs value ∷ [])
 
--- a character after these values, with what comes before it
 unfoldable pub char_piece : Look → List ℤ → ℤ → List ℕ
 char_piece look values value =
     (if begins_row look (length values) then char_lead look (length values) else [])
@@ -121,12 +115,12 @@ char_piece look values value =
 
 -- ---- values
 
--- a value with what comes before it, by the text and all values before
+-- a value after this text and these values, with what comes before it
 unfoldable pub piece : Look → List ℕ → List ℤ → ℤ → List ℕ
 piece look before values value =
     if is_char look.ty then char_piece look values value else number_piece look before (length values) value
 
--- values, each with what comes before it, by the text and all values before the first of them
+-- values, after this text and the values before
 unfoldable pub pieces : Look → List ℕ → List ℤ → List ℤ → List ℕ
 pieces look before values [] = []
 pieces look before values (value ∷ others) =
@@ -137,14 +131,12 @@ pieces look before values (value ∷ others) =
 unfoldable pub variable_opening : Look → List ℕ
 variable_opening look = concat_parts (codes "\n " ∷ escaped_name look.name ∷ codes " =" ∷ [])
 
--- what comes after them
 unfoldable pub variable_closing : Look → List ℕ
 variable_closing look = if is_char look.ty then codes "\" ;\n" else codes " ;\n"
 
--- the opening and a variable's first values
+-- the opening and the first values
 unfoldable pub variable_prefix : Look → List ℤ → List ℕ
 variable_prefix look values = variable_opening look ++ pieces look (variable_opening look) [] values
 
--- a variable's values, from its opening to its closing
 unfoldable pub variable_text : Look → List ℤ → List ℕ
 variable_text look values = variable_prefix look values ++ variable_closing look

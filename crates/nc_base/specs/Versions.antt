@@ -12,7 +12,6 @@ version_byte Cdf1 = 1
 version_byte Cdf2 = 2
 version_byte Cdf5 = 5
 
--- the version with this byte
 abbrev pub version_of_byte : ℕ → Option Version
 version_of_byte b = find (λ v. b == version_byte v) (Cdf1 ∷ Cdf2 ∷ Cdf5 ∷ [])
 
@@ -32,7 +31,7 @@ offset_width Cdf5 = w64
 abbrev pub count_limit : Version → ℕ
 count_limit v = 2 ^ hbits (count_width v)
 
--- an OFFSET is below this: its top bit is 0
+-- an OFFSET is below this
 abbrev pub offset_limit : Version → ℕ
 offset_limit v = 2 ^ hbits (offset_width v)
 
@@ -40,7 +39,6 @@ offset_limit v = 2 ^ hbits (offset_width v)
 abbrev pub streaming_mark : Version → ℕ
 streaming_mark v = 2 ^ bits (count_width v) - 1
 
--- files of the version may have values of the type
 abbrev pub has_type : Version → NcType → Bool
 has_type Cdf5 ty = true
 has_type v Byte = true

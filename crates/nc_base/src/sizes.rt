@@ -7,7 +7,8 @@ ghost use Rattle.nc_base.specs.Sizes.{dim_len, is_record_dim, has_records, is_re
 ghost use Rattle.nc_base.specs.code.SizeParts.{slab_of, slab_at, checked_record_size, extent_sum, first_begin, lesser, CountsValues, IsCappedSlab};
 ghost use Rattle.nc_base.specs.GeneratedFile.{known_records};
 ghost use Rattle.nc_base.specs.code.Extents.{extent_end};
-ghost use Rattle.nc_base.specs.Headers.{IsSound, value_count};
+ghost use Rattle.nc_base.specs.Headers.{IsSound};
+ghost use Rattle.nc_base.specs.Sizes.{value_count};
 
 use crate::header::{Dim, Header, NumRecs, Var};
 use crate::nc_type::NcType;

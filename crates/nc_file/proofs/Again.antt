@@ -1,6 +1,6 @@
 -- The other direction: bytes, numbers, names and types that are spelled are read, and reading stops with the first wrong field.
 use Rattle.std.proofs.Common.{◌≡◌, ◌≢◌, ℕ, zero, suc, ◌<◌, ◌≤◌, Bool, true, false, cond, leb, List, [], ◌∷◌, ◌++◌, length, Option, Some, None, Ok, Err, refl, sym, ap, ◌∙◌, append_assoc, arith, ◌==◌, ◌||◌, rules}
-use Rattle.nc_file.proofs.Prelude.{append-nil, Width, w32, byte_len, to_be_bytes, FormatFault, HeaderTruncated, BadType, NcType, Version, padding_len, code_of, type_of_code, count_width, offset_width, has_type, SpellsBytes, SpellsNumber, SpellsCount, SpellsOffset, SpellsName, SpellsType, IsCut, is_cut, Stops, Never, Then, in_part, in_next, Rule, breaks, keeps, InCount, InOffset, InName, InType, HeadFault, Format, Outcome, Part, next, done, stop, wrong, byte_or, number_at, count_at, offset_at, bytes_at, skip_at, name_at, type_at, known_type, type_in, type_or_wrong}
+use Rattle.nc_file.proofs.Prelude.{append-nil, Width, w32, byte_len, to_be_bytes, FormatFault, HeaderTruncated, BadType, NcType, Version, padding_len, code_of, type_of_code, count_width, offset_width, has_type, SpellsBytes, SpellsNumber, SpellsCount, SpellsOffset, SpellsName, SpellsType, EndsWithin, ends_within, Stops, Never, Then, in_part, in_next, Requires, breaks, keeps, InCount, InOffset, InName, InType, HeadFault, Format, Outcome, Part, next, done, stop, wrong, byte_or, number_at, count_at, offset_at, bytes_at, skip_at, name_at, type_at, known_type, type_in, type_or_wrong}
 use Rattle.nc_file.specs.code.Reading.{◌>>=◌}
 use Rattle.nc_base.specs.Names.{is_name}
 use Rattle.nc_file.proofs.FieldLaws.{IsWide, wide-32, count-wide, offset-wide, code-known, type_of_code-code_of}
@@ -67,14 +67,14 @@ value-stop part f stops bytes fault rest s = then-err f (stops bytes fault rest 
 
 -- a rule whose test says that it is broken
 pub rule-stops : {A : Type 0} {Holds : Type 0} {broken : FormatFault} {InNext : Stops} (b : Bool) (part : Part A)
-    → (¬ Holds → b ≡ true) → (Holds → b ≡ false) → StopsAgain InNext part → StopsAgain (Rule Holds broken InNext) (cond b (wrong broken) part)
+    → (¬ Holds → b ≡ true) → (Holds → b ≡ false) → StopsAgain InNext part → StopsAgain (Requires Holds broken InNext) (cond b (wrong broken) part)
 unfolding stop
 rule-stops b part refuted kept after bytes _ _ (breaks not_so) = if-so _ _ (refuted not_so) refl
 rule-stops b part refuted kept after bytes _ _ (keeps fault rest so s) = if-not _ _ (kept so) (after bytes fault rest s)
 
 -- a rule whose test says that it is kept
 pub kept-stops : {A : Type 0} {Holds : Type 0} {broken : FormatFault} {InNext : Stops} (b : Bool) (part : Part A)
-    → (¬ Holds → b ≡ false) → (Holds → b ≡ true) → StopsAgain InNext part → StopsAgain (Rule Holds broken InNext) (cond b part (wrong broken))
+    → (¬ Holds → b ≡ false) → (Holds → b ≡ true) → StopsAgain InNext part → StopsAgain (Requires Holds broken InNext) (cond b part (wrong broken))
 unfolding stop
 kept-stops b part refuted kept after bytes _ _ (breaks not_so) = if-not _ _ (refuted not_so) refl
 kept-stops b part refuted kept after bytes _ _ (keeps fault rest so s) = if-so _ _ (kept so) (after bytes fault rest s)
@@ -100,8 +100,8 @@ bytes-stop_after zero prefix bytes cut = absurd (omega (arith, cut))
 bytes-stop_after (suc n) prefix [] cut = refl
 bytes-stop_after (suc n) prefix (b ∷ bytes) cut = bytes-stop_after n (prefix ++ b ∷ []) bytes (omega (arith, cut))
 
-pub bytes-stop : (n : ℕ) → StopsAgain (IsCut HeaderTruncated n) (bytes_at n [])
-bytes-stop n bytes _ _ (is_cut cut) = bytes-stop_after n [] bytes cut
+pub bytes-stop : (n : ℕ) → StopsAgain (EndsWithin HeaderTruncated n) (bytes_at n [])
+bytes-stop n bytes _ _ (ends_within cut) = bytes-stop_after n [] bytes cut
 
 -- n bytes are skipped
 pub skip-again : (n : ℕ) (content rest : List ℕ) → length content ≡ n → (skip_at n).run (content ++ rest) ≡ Ok (tt, rest)
@@ -116,8 +116,8 @@ skip-stop_after zero bytes cut = absurd (omega (arith, cut))
 skip-stop_after (suc n) [] cut = refl
 skip-stop_after (suc n) (b ∷ bytes) cut = skip-stop_after n bytes (omega (arith, cut))
 
-pub skip-stop : (n : ℕ) → StopsAgain (IsCut HeaderTruncated n) (skip_at n)
-skip-stop n bytes _ _ (is_cut cut) = skip-stop_after n bytes cut
+pub skip-stop : (n : ℕ) → StopsAgain (EndsWithin HeaderTruncated n) (skip_at n)
+skip-stop n bytes _ _ (ends_within cut) = skip-stop_after n bytes cut
 
 -- ---- numbers
 
@@ -126,7 +126,7 @@ unfolding number_at ◌>>=◌ done
 number-again w wide bytes n rest s =
     then-ok _ (bytes-again (byte_len w) bytes (to_be_bytes w n) rest (record { count = wide.len n; spelled = s.spelled })) (ap (λ (m : ℕ). Ok (m, rest)) (wide.again n s.fits))
 
-pub number-stop : (w : Width) → StopsAgain (IsCut HeaderTruncated (byte_len w)) (number_at w)
+pub number-stop : (w : Width) → StopsAgain (EndsWithin HeaderTruncated (byte_len w)) (number_at w)
 unfolding number_at ◌>>=◌
 number-stop w bytes fault rest cut = then-err _ (bytes-stop (byte_len w) bytes fault rest cut)
 
@@ -185,7 +185,7 @@ no-type v code None is none = refl
 no-type v code (Some ty) is none = none-unless (has_type v ty) ty (λ has. none (ty, code-known code ty (sym is), has))
 
 -- reading stops after a code of no type
-type-none : (v : Version) (code : ℕ) → StopsAgain (Rule (IsType v code) BadType Never) (type_or_wrong (type_in v code))
+type-none : (v : Version) (code : ℕ) → StopsAgain (Requires (IsType v code) BadType Never) (type_or_wrong (type_in v code))
 unfolding type_in stop
 type-none v code bytes _ _ (breaks none) = ap (λ (known : Option NcType). (type_or_wrong known).run bytes) (no-type v code (type_of_code code) refl none)
 type-none v code bytes _ _ (keeps fault rest is s) = absurd s

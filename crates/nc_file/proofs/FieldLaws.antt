@@ -1,6 +1,6 @@
 -- Bytes, numbers, names and types are read as the grammar says.
 use Rattle.std.proofs.Common.{◌≡◌, ◌≢◌, ℕ, zero, suc, ◌<◌, Bool, true, false, cond, leb, List, [], ◌∷◌, ◌++◌, length, Option, Some, None, refl, sym, ap, subst, ◌∙◌, append_assoc, arith, take, ◌^◌, ◌==◌, ◌||◌, find, ◌⊎◌, if◌then◌else◌, rules}
-use Rattle.nc_file.proofs.Prelude.{leb-false, leb-true, eqb-true, eqb-false, append-nil, get_or-take, get_or_past, length-take, Width, w32, w64, byte_len, to_be_bytes, from_be_bytes, AllByRecursion, FormatFault, HeaderTruncated, BadType, NcType, Version, AreBytes, padding_len, code_of, type_of_code, all_types, count_width, count_limit, offset_width, offset_limit, has_type, SpellsBytes, SpellsNumber, SpellsCount, SpellsOffset, SpellsPadded, SpellsName, SpellsType, IsCut, is_cut, Rule, breaks, Never, InCount, InOffset, InName, InType, done, stop, byte_or, number_at, count_at, offset_at, bytes_at, skip_at, name_at, type_at, known_type, type_in, type_or_wrong}
+use Rattle.nc_file.proofs.Prelude.{leb-false, leb-true, eqb-true, eqb-false, append-nil, get_or-take, get_or_past, length-take, Width, w32, w64, byte_len, to_be_bytes, from_be_bytes, AllByRecursion, FormatFault, HeaderTruncated, BadType, NcType, Version, AreBytes, padding_len, code_of, type_of_code, all_types, count_width, count_limit, offset_width, offset_limit, has_type, SpellsBytes, SpellsNumber, SpellsCount, SpellsOffset, SpellsPadded, SpellsName, SpellsType, EndsWithin, ends_within, Requires, breaks, Never, InCount, InOffset, InName, InType, done, stop, byte_or, number_at, count_at, offset_at, bytes_at, skip_at, name_at, type_at, known_type, type_in, type_or_wrong}
 use Rattle.std.proofs.Math.Seq.{take-append_seam}
 use Rattle.std.proofs.lemmas.Nat.{be_bytes_4, be_bytes_8, from_be_bytes-to_be_bytes_4, from_be_bytes-to_be_bytes_8}
 use Rattle.nc_base.specs.Names.{is_name, IsName}
@@ -18,17 +18,17 @@ pub record TakenAfter (n : ℕ) (prefix bytes all rest : List ℕ) : Type 0 wher
 after-cons : (n b : ℕ) (prefix bytes all rest : List ℕ) → TakenAfter n (prefix ++ b ∷ []) bytes all rest → TakenAfter (suc n) prefix (b ∷ bytes) all rest
 after-cons n b prefix bytes all rest t = grind (arith, append_assoc prefix)
 
-cut-cons : (n b : ℕ) (bytes : List ℕ) (fault : FormatFault) (rest : List ℕ) → IsCut HeaderTruncated n bytes fault rest → IsCut HeaderTruncated (suc n) (b ∷ bytes) fault rest
-cut-cons n b bytes fault rest (is_cut cut) = is_cut (omega (arith, cut))
+cut-cons : (n b : ℕ) (bytes : List ℕ) (fault : FormatFault) (rest : List ℕ) → EndsWithin HeaderTruncated n bytes fault rest → EndsWithin HeaderTruncated (suc n) (b ∷ bytes) fault rest
+cut-cons n b bytes fault rest (ends_within cut) = ends_within (omega (arith, cut))
 
-means-bytes_after : (n : ℕ) (prefix bytes : List ℕ) → AreBytes bytes → Means (TakenAfter n prefix bytes) (IsCut HeaderTruncated n) bytes ((bytes_at n prefix).run bytes)
+means-bytes_after : (n : ℕ) (prefix bytes : List ℕ) → AreBytes bytes → Means (TakenAfter n prefix bytes) (EndsWithin HeaderTruncated n) bytes ((bytes_at n prefix).run bytes)
 unfolding bytes_at ◌>>=◌ byte_or done
 means-bytes_after zero prefix bytes fits = spells prefix bytes (record { content = []; taken = record { count = refl; spelled = refl }; joined = sym (append-nil prefix) }) fits
-means-bytes_after (suc n) prefix [] fits = stops _ _ (is_cut (omega arith))
+means-bytes_after (suc n) prefix [] fits = stops _ _ (ends_within (omega arith))
 means-bytes_after (suc n) prefix (b ∷ bytes) fits =
     means-map (means-bytes_after n (prefix ++ b ∷ []) bytes (AreBytes-tail b bytes fits)) (λ all rest. after-cons n b prefix bytes all rest) (cut-cons n b bytes)
 
-pub means-bytes : (n : ℕ) → ReadsAs (SpellsBytes n) (IsCut HeaderTruncated n) (bytes_at n [])
+pub means-bytes : (n : ℕ) → ReadsAs (SpellsBytes n) (EndsWithin HeaderTruncated n) (bytes_at n [])
 means-bytes n bytes fits =
     means-map (means-bytes_after n [] bytes fits) (λ all rest t. subst (λ (x : List ℕ). SpellsBytes n bytes x rest) (sym t.joined) t.taken) (λ fault rest c. c)
 
@@ -40,10 +40,10 @@ pub record Skipped (n : ℕ) (bytes rest : List ℕ) : Type 0 where
 skipped-cons : (n b : ℕ) (bytes rest : List ℕ) → Skipped n bytes rest → Skipped (suc n) (b ∷ bytes) rest
 skipped-cons n b bytes rest s = record { content = b ∷ s.content; taken = record { count = ap suc s.taken.count; spelled = ap (λ (x : List ℕ). b ∷ x) s.taken.spelled } }
 
-pub means-skip : (n : ℕ) (bytes : List ℕ) → AreBytes bytes → Means (λ skipped. Skipped n bytes) (IsCut HeaderTruncated n) bytes ((skip_at n).run bytes)
+pub means-skip : (n : ℕ) (bytes : List ℕ) → AreBytes bytes → Means (λ skipped. Skipped n bytes) (EndsWithin HeaderTruncated n) bytes ((skip_at n).run bytes)
 unfolding skip_at ◌>>=◌ byte_or done
 means-skip zero bytes fits = spells tt bytes (record { content = []; taken = record { count = refl; spelled = refl } }) fits
-means-skip (suc n) [] fits = stops _ _ (is_cut (omega arith))
+means-skip (suc n) [] fits = stops _ _ (ends_within (omega arith))
 means-skip (suc n) (b ∷ bytes) fits = means-map (means-skip n bytes (AreBytes-tail b bytes fits)) (λ u rest. skipped-cons n b bytes rest) (cut-cons n b bytes)
 
 -- ---- numbers
@@ -73,7 +73,7 @@ AreBytes-take n bytes h i = search (rules, get_or-take, get_or_past, length-take
 content-bytes : (content rest : List ℕ) → AreBytes (content ++ rest) → AreBytes content
 content-bytes content rest fits = subst AreBytes (take-append_seam content rest) (AreBytes-take (length content) (content ++ rest) fits)
 
-pub means-number : (w : Width) → IsWide w → ReadsAs (SpellsNumber w) (IsCut HeaderTruncated (byte_len w)) (number_at w)
+pub means-number : (w : Width) → IsWide w → ReadsAs (SpellsNumber w) (EndsWithin HeaderTruncated (byte_len w)) (number_at w)
 unfolding number_at ◌>>=◌ done
 means-number w wide bytes fits =
     means-value _ (means-bytes (byte_len w) bytes fits)
@@ -162,7 +162,7 @@ no-type v code none ty = code-unknown code none ty.0 (sym ty.1)
 -- the version's type with this code, or none
 type-means : (v : Version) (code : ℕ) (bytes rest : List ℕ) (known : Option NcType) → known ≡ type_of_code code
     → SpellsNumber w32 bytes code rest → AreBytes rest
-    → Means (SpellsType v bytes) (Rule ((ty : NcType) × (code ≡ code_of ty) × (has_type v ty ≡ true)) BadType Never) rest ((type_or_wrong (known_type v known)).run rest)
+    → Means (SpellsType v bytes) (Requires ((ty : NcType) × (code ≡ code_of ty) × (has_type v ty ≡ true)) BadType Never) rest ((type_or_wrong (known_type v known)).run rest)
 unfolding done stop
 type-means v code bytes rest None is number fits = stops _ _ (breaks (no-type v code (sym is)))
 type-means v code bytes rest (Some ty) is number fits = at (has_type v ty) refl
@@ -171,7 +171,7 @@ type-means v code bytes rest (Some ty) is number fits = at (has_type v ty) refl
     same = code-known code ty (sym is)
 
     at : (b : Bool) → has_type v ty ≡ b
-        → Means (SpellsType v bytes) (Rule ((ty : NcType) × (code ≡ code_of ty) × (has_type v ty ≡ true)) BadType Never) rest ((type_or_wrong (if b then Some ty else None)).run rest)
+        → Means (SpellsType v bytes) (Requires ((ty : NcType) × (code ≡ code_of ty) × (has_type v ty ≡ true)) BadType Never) rest ((type_or_wrong (if b then Some ty else None)).run rest)
     at true has = spells ty rest (record { number = subst (λ (c : ℕ). SpellsNumber w32 bytes c rest) same number; has = has }) fits
     at false lacks = stops _ _ (breaks (no-other v code ty is lacks))
 

@@ -1,6 +1,6 @@
 -- That a part of a header reads what the grammar says: how such facts are put together.
 use Rattle.std.proofs.Common.{◌≡◌, ℕ, suc, Bool, true, false, cond, List, ◌∷◌, Ok, Err, refl}
-use Rattle.nc_file.proofs.Prelude.{FormatFault, AreBytes, Stops, Then, in_part, in_next, Rule, breaks, keeps, Format, Outcome, Part, next, stop, wrong}
+use Rattle.nc_file.proofs.Prelude.{FormatFault, AreBytes, Stops, Then, in_part, in_next, Requires, breaks, keeps, Format, Outcome, Part, next, stop, wrong}
 
 -- What reading gives is what the grammar says: a value and the rest, or what is wrong with the first wrong field of these bytes and
 -- the rest after it.
@@ -41,7 +41,7 @@ means-then f (stops fault rest q) go = stops fault rest (in_part q)
 pub means-rule : {A : Type 0} {Holds : Type 0} {broken : FormatFault} {InNext : Stops} {P : A → List ℕ → Type 0} (b : Bool) (part : Part A) (bytes : List ℕ)
     → (b ≡ true → ¬ Holds) → (b ≡ false → Holds)
     → (Holds → Means P InNext bytes (part.run bytes))
-    → Means P (Rule Holds broken InNext) bytes ((cond b (wrong broken) part).run bytes)
+    → Means P (Requires Holds broken InNext) bytes ((cond b (wrong broken) part).run bytes)
 unfolding stop
 means-rule true part bytes refuted kept go = stops _ _ (breaks (refuted refl))
 means-rule false part bytes refuted kept go = means-map (go (kept refl)) (λ x rest p. p) (λ fault rest q. keeps fault rest (kept refl) q)
@@ -50,7 +50,7 @@ means-rule false part bytes refuted kept go = means-map (go (kept refl)) (λ x r
 pub means-kept : {A : Type 0} {Holds : Type 0} {broken : FormatFault} {InNext : Stops} {P : A → List ℕ → Type 0} (b : Bool) (part : Part A) (bytes : List ℕ)
     → (b ≡ false → ¬ Holds) → (b ≡ true → Holds)
     → (Holds → Means P InNext bytes (part.run bytes))
-    → Means P (Rule Holds broken InNext) bytes ((cond b part (wrong broken)).run bytes)
+    → Means P (Requires Holds broken InNext) bytes ((cond b part (wrong broken)).run bytes)
 unfolding stop
 means-kept true part bytes refuted kept go = means-map (go (kept refl)) (λ x rest p. p) (λ fault rest q. keeps fault rest (kept refl) q)
 means-kept false part bytes refuted kept go = stops _ _ (breaks (refuted refl))

@@ -1,6 +1,6 @@
 -- Variables are read as the grammar says.
 use Rattle.std.proofs.Common.{◌≡◌, ℕ, ◌+◌, ◌≤◌, Bool, true, false, cond, leb, List, [], ◌∷◌, length, Some, None, refl, arith, ◌==◌, ◌||◌, ◌&&◌, not, rules}
-use Rattle.nc_file.proofs.Prelude.{eqb-true, leb-true, leb-false, ltb-true, TooLarge, Dim, Var, NcType, Version, AreBytes, count_width, slab_of, slab_limit, record_limit, IsDimid, variable_tag, SpellsCounted, SpellsList, SpellsDimid, SpellsVar, IsWithinLimits, InCounted, InList, InDimid, InVar, Rule, breaks, keeps, Stops, Part, SizedVar, next, done, stop, is_dimid, dimid_at, dimid_after, shape_at, record_part, total_with, total_or_wrong, var_at, var_after, var_list_at, and_parts}
+use Rattle.nc_file.proofs.Prelude.{eqb-true, leb-true, leb-false, ltb-true, TooLarge, Dim, Var, NcType, Version, AreBytes, count_width, slab_of, slab_limit, record_limit, IsDimid, variable_tag, SpellsCounted, SpellsList, SpellsDimid, SpellsVar, IsWithinLimits, InCounted, InList, InDimid, InVar, Requires, breaks, keeps, Stops, Part, SizedVar, next, done, stop, is_dimid, dimid_at, dimid_after, shape_at, record_part, total_with, total_or_wrong, var_at, var_after, var_list_at, and_parts}
 use Rattle.nc_file.specs.code.Reading.{◌>>=◌}
 use Rattle.nc_file.proofs.Totals.{total_of, total_of-append}
 use Rattle.nc_file.proofs.Means.{Means, spells, stops, ReadsAs, means-map, means-value, means-then, means-kept}
@@ -61,13 +61,13 @@ fits-within dims before var total same w =
 means-total : {P : SizedVar → List ℕ → Type 0} {InNext : Stops} (dims : List Dim) (before : List Var) (var : Var) (total : ℕ) (f : ℕ → Part SizedVar) (bytes : List ℕ)
     → total ≡ total_of dims before
     → ((sum : ℕ) → IsWithinLimits dims before var → Means P InNext bytes ((f sum).run bytes))
-    → Means P (Rule (IsWithinLimits dims before var) TooLarge InNext) bytes (next ((total_or_wrong (total_with dims var.dimids var.ty total)).run bytes) f)
+    → Means P (Requires (IsWithinLimits dims before var) TooLarge InNext) bytes (next ((total_or_wrong (total_with dims var.dimids var.ty total)).run bytes) f)
 unfolding total_with done stop
 means-total {P = P} {InNext = InNext} dims before var total f bytes same go = by-tests _ _ refl refl
   where
     by-tests : (slab_test record_test : Bool)
         → leb (slab_of dims var.dimids var.ty) slab_limit ≡ slab_test → leb (total + record_part dims var.dimids var.ty) record_limit ≡ record_test
-        → Means P (Rule (IsWithinLimits dims before var) TooLarge InNext) bytes
+        → Means P (Requires (IsWithinLimits dims before var) TooLarge InNext) bytes
         (next ((total_or_wrong (cond (slab_test && record_test) (Some (total + record_part dims var.dimids var.ty)) None)).run bytes) f)
     by-tests true true a b =
         let small : IsWithinLimits dims before var = within dims before var total same (record { slab = leb-true _ _ a; records = leb-true _ _ b }) in

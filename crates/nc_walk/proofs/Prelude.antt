@@ -11,7 +11,8 @@ pub use Rattle.nc_base.specs.Bytes.{padding_len}
 unfoldable pub use Rattle.nc_base.specs.Fill.{fill_value}
 pub use Rattle.nc_base.specs.GeneratedFile.{blocks, is_sole_narrow, known_records, record_of, slab_in}
 unfoldable pub use Rattle.nc_base.specs.GeneratedFile.{data_of, fill_bytes, padded_slab}
-pub use Rattle.nc_base.specs.Headers.{IsSound, IsSoundVar, value_count}
+pub use Rattle.nc_base.specs.Headers.{IsSound, IsSoundVar}
+pub use Rattle.nc_base.specs.Sizes.{value_count}
 pub use Rattle.nc_base.specs.Numbers.{bytes_of_number, number_of}
 unfoldable pub use Rattle.nc_base.specs.Numbers.{numbers}
 pub use Rattle.nc_base.specs.Places.{bytes_at, distance, ends_after, first_missing, lens_over, slab_strides, stored_bytes, stored_values, value_offset, vectors_below}

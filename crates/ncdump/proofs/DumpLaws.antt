@@ -1,10 +1,10 @@
 -- A dump from reading the header, selecting variables and showing them.
-use Rattle.std.proofs.Common.{◌≡◌, ℕ, ◌+◌, inl, inr, Bool, true, List, [], ◌++◌, length, Result, Ok, Err, refl, sym, ap, subst, ◌∙◌, append_assoc, ◌&&◌, arith}
-use Rattle.ncdump.proofs.Prelude.{OnTrue, appended_none, Header, SpellsHeader, record_count, Options, DataText, closing_word, KnowsChosen, selection_of, dump_text, has_values, IsDump, stopped, unknown, shown, SourceView, SinkView, transparent_map, transparent_both, DumpFault, OutOfMemory, ReadFailed, WriteFailed, Format, NoSuchVariable, Dumped, dumped, prefix_text, selected_values, values_from, unless_head_only, text_before, KeepsUpIn, Shows, Dumps, ReadsForward, IsAfterHeader, in_header, between}
+use Rattle.std.proofs.Common.{◌≡◌, ℕ, ◌+◌, inl, inr, Bool, true, List, [], ◌++◌, length, Result, Ok, Err, refl, sym, ap, subst, ◌∙◌, append_assoc, ◌&&◌, arith, None}
+use Rattle.ncdump.proofs.Prelude.{OnTrue, appended_none, Header, SpellsHeader, record_count, Options, DataText, closing_word, first_unknown, selection_of, dump_text, has_values, IsDump, stopped, unknown, shown, SourceView, SinkView, transparent_map, transparent_both, DumpFault, OutOfMemory, ReadFailed, WriteFailed, Format, NoSuchVariable, Dumped, dumped, prefix_text, selected_values, values_from, unless_head_only, text_before, KeepsUpIn, Shows, Dumps, ReadsForward, IsAfterHeader, in_header, between}
 use Rattle.nc_file.specs.code.Answers.{IsRead, Answers, HasAnswered, header_end, fault_end}
 use Rattle.nc_file.specs.declared.head_fault.HeadFault.{HeadFault}
 use Rattle.nc_file.specs.declared.head_fault.HeadFault.TheVariants as head
-use Rattle.ncdump.specs.Faults.{fault_of_head}
+use Rattle.ncdump.specs.code.HeadFaults.{fault_of_head}
 use Rattle.ncdump.specs.code.Selections.{Selects}
 use Rattle.ncdump.proofs.Calls.{call}
 use Rattle.ncdump.proofs.Prefixes.{prefix-in-text}
@@ -56,7 +56,7 @@ prefix-of-all d selection buffer_len a b Taken k =
     )
 
 module _ (o : Options) (bytes : List ℕ) (h : Header) (rest : List ℕ) (buffer_len : ℕ) (b c : SourceView) (old new : SinkView)
-    (spelled : SpellsHeader bytes h rest) (knows : KnowsChosen h o.chosen) (same : b.bytes ≡ bytes) where
+    (spelled : SpellsHeader bytes h rest) (knows : first_unknown h.vars o.chosen ≡ None) (same : b.bytes ≡ bytes) where
   abbrev pub section : DataText
   section = selected_values (dumped h b (record_count h (length bytes)) o.width) (unless_head_only o (selection_of h o))
 
@@ -101,7 +101,7 @@ forward : (o : Options) (buffer_len : ℕ) (a c : SourceView) (old new : SinkVie
 forward o buffer_len a c old new result h = grind arith
 
 pub transparent-shown : (is_transparent : Bool) (o : Options) (a b c : SourceView) (buffer_len buf : ℕ) (old new : SinkView) (h : Header) (selection : List Bool) (result : Result (Unit {0}) DumpFault)
-    → OnTrue is_transparent (HasAnswered a.bytes a.handed b.handed buffer_len (Ok h)) → KnowsChosen h o.chosen → selection ≡ selection_of h o → b.bytes ≡ a.bytes → buf ≡ buffer_len
+    → OnTrue is_transparent (HasAnswered a.bytes a.handed b.handed buffer_len (Ok h)) → first_unknown h.vars o.chosen ≡ None → selection ≡ selection_of h o → b.bytes ≡ a.bytes → buf ≡ buffer_len
     → OnTrue is_transparent (Shows o h (record_count h (length b.bytes)) selection (call buf b c old new) result)
     → OnTrue is_transparent (Dumps a.bytes o old new result × ReadsForward o (call buffer_len a c old new) result)
 transparent-shown is_transparent o a b c buffer_len buf old new h selection result answered knows is same wide shows = transparent_both is_transparent (λ x s0.

@@ -8,11 +8,12 @@ pub use Rattle.devices.specs.Sinks.{Appended, FailedPartway, IsPrefixIf, SinkVie
 unfoldable pub use Rattle.devices.specs.Sinks.{IsCut, append, taken_len, is_transparent}
 pub use Rattle.devices.specs.Sources.{SourceView, having_read}
 pub use Rattle.nc_base.proofs.ValueLaws.{prefix-append, prefix_nil, look-type}
-pub use Rattle.nc_base.specs.Dump.{Ending, IsDump, IsFirstUnknown, IsFirstUnknownOf, KnowsChosen, Options, DataText, values_in_file, shown_data, data_truncated, dump_text, has_values, has_variable, no_data_text, no_such_variable, selection_of, shown, shown_data_text, stopped, unknown, with_variable, data_text, whole, wrong_field}
+pub use Rattle.nc_base.specs.Dump.{Ending, IsDump, first_unknown, Options, DataText, values_in_file, shown_data, data_truncated, dump_text, has_values, has_variable, no_data_text, no_such_variable, selection_of, shown, shown_data_text, stopped, unknown, with_variable, data_text, whole, wrong_field}
 unfoldable pub use Rattle.nc_base.specs.Dump.{closing_word, data_word}
 pub use Rattle.nc_base.specs.Grammar.{SpellsHeader}
 unfoldable pub use Rattle.nc_base.specs.HeadText.{head_text}
-pub use Rattle.nc_base.specs.Headers.{IsSoundVar, value_count}
+pub use Rattle.nc_base.specs.Headers.{IsSoundVar}
+pub use Rattle.nc_base.specs.Sizes.{value_count}
 pub use Rattle.nc_base.specs.Numbers.{number_of}
 unfoldable pub use Rattle.nc_base.specs.Numbers.{numbers}
 pub use Rattle.nc_base.specs.Places.{bytes_at, first_missing, stored_bytes, stored_values}
@@ -26,8 +27,9 @@ pub use Rattle.nc_base.specs.declared.{header.Header.Header, header.Var.Var}
 pub use Rattle.nc_walk.proofs.FullReadSteps.{after_after, transparent_any, transparent_both, transparent_map}
 pub use Rattle.devices.specs.Uses.{between}
 pub use Rattle.nc_walk.specs.code.Walked.{GivesChunk, GivesCut, GivesEnd, GivesFailure, HasRead, IsChunk, Pass, Walked}
-pub use Rattle.cli_base.specs.CommandLines.{AnswersBy}
-pub use Rattle.ncdump.specs.CommandLine.{Asked, asked_for, width_said}
+pub use Rattle.cli_base.specs.code.Answers.{AnswersBy}
+pub use Rattle.ncdump.specs.CommandLine.{Asked, width_said}
+pub use Rattle.ncdump.specs.code.OptionsAsked.{asked_for}
 unfoldable pub use Rattle.ncdump.specs.CommandLine.{asked_by, asked_in, ncdump}
 pub use Rattle.ncdump.specs.Dumps.{Dumps, IsAfterHeader, ReadsForward, after_header, in_header, options_of}
 pub use Rattle.ncdump.specs.code.Names.{holds, holds_if}

@@ -10,6 +10,5 @@ pub record Call : Type 0 where
   pub source : Use SourceView
   pub sink : Use SinkView
 
--- the record of a call that borrows this buffer
 abbrev pub call_of : List ℕ → Use SourceView → Use SinkView → Call
 call_of buf source sink = record { buffer_len = length buf; source = source; sink = sink }

@@ -1,5 +1,5 @@
 -- Definition. What the words of the command line ask for.
-use Rattle.std.specs.Prelude.{ℕ, ◌==◌, ◌&&◌, List, [], ◌∷◌, codes, Option, Some, None, option_map, unwrap_or, fold, string_bytes, if◌then◌else◌}
+use Rattle.std.specs.Prelude.{ℕ, ◌==◌, ◌&&◌, List, [], ◌∷◌, codes, Option, Some, None, option_map, unwrap_or, fold, if◌then◌else◌}
 use Rattle.std.specs.Str.{byte}
 use Rattle.std.specs.Int.{is_in_range}
 use Rattle.std.specs.Char.{is_ascii_digit}
@@ -7,11 +7,9 @@ use Rattle.std.specs.List.{list_all, slice_split}
 use Rattle.std.specs.Str.Parse.{digits_value}
 use Rattle.clap.specs.Words.{App, Row, fault_of, first_of, matches_of, new_app, new_rule, with_rule}
 use Rattle.cli_base.specs.Arguments.{flag, is_given, option, quiet}
-use Rattle.cli_base.specs.CommandLines.{if_faultless}
+use Rattle.cli_base.specs.Arguments.{if_faultless}
 use Rattle.nc_base.specs.Dump.{Options}
 use Rattle.nc_base.specs.Paths.{stem_of}
-use Rattle.ncdump.specs.Dumps.{options_of}
-use Rattle.ncdump.specs.declared.options.DumpOptions.{DumpOptions}
 
 -- ---- the command, as a parse reads it
 
@@ -27,17 +25,16 @@ ncdump = fold with_rule (quiet (new_app (codes "ncdump"))) (
 
 -- ---- what its entries ask for
 
--- the width that a word of decimal digits writes, from 20 to 1000
+-- decimal digits, from 20 to 1000
 abbrev pub width_said : List ℕ → Option ℕ
 width_said word =
     if list_all is_ascii_digit word && is_in_range 20 1000 (digits_value 10 word) then Some (digits_value 10 word) else None
 
--- the width: that of `-l`, otherwise 80
+-- that of `-l`, otherwise 80
 abbrev pub width_in : Option (List ℕ) → Option ℕ
 width_in None = Some 80
 width_in (Some word) = width_said word
 
--- the names in a word, between its commas
 abbrev pub names_in : List ℕ → List (List ℕ)
 names_in word = slice_split (λ (b : ℕ). b == byte ",") word
 
@@ -46,9 +43,9 @@ pub record Asked : Type 0 where
   pub file : List ℕ
   pub options : Options
 
--- what to show of the file at this path, in lines of this width
-abbrev pub asked_of : List Row → List ℕ → ℕ → Asked
-asked_of rows path width = record {
+-- the entries, with the path and the width that they give
+abbrev pub asked_with : List Row → Option (List ℕ) → Option ℕ → Option Asked
+asked_with rows (Some path) (Some width) = Some (record {
   file = path;
   options = record {
     name = unwrap_or (first_of (codes "name") rows) (stem_of path);
@@ -57,24 +54,14 @@ asked_of rows path width = record {
     chosen = option_map names_in (first_of (codes "names") rows);
     width = width;
   };
-}
-
--- what the entries ask for, if they name a file and the width is valid
-abbrev pub asked_with : List Row → Option (List ℕ) → Option ℕ → Option Asked
-asked_with rows (Some path) (Some width) = Some (asked_of rows path width)
+})
 asked_with rows path width = None
 
--- What the entries ask for, if anything: the header alone and the values of coordinate variables exclude each other.
+-- `-h` and `-c` exclude each other
 unfoldable pub asked_in : List Row → Option Asked
 asked_in rows = if is_given rows (codes "head") && is_given rows (codes "coords") then None
     else asked_with rows (first_of (codes "file") rows) (width_in (first_of (codes "width") rows))
 
--- what the words ask for; the first word is the program's name
+-- the first word is the program's name
 unfoldable pub asked_by : List (List ℕ) → Option Asked
 asked_by words = if_faultless (fault_of ncdump words) (asked_in (matches_of ncdump words))
-
--- ---- what the words give
-
--- what the options are
-abbrev pub asked_for : DumpOptions → Asked
-asked_for o = record { file = string_bytes o.file; options = options_of o }

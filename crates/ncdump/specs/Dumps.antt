@@ -1,9 +1,9 @@
 -- Definition. What a dump has done.
-use Rattle.std.specs.Prelude.{ℕ, ◌≡◌, ◌+◌, ◌⊎◌, List, [], ◌++◌, length, Result, Ok, Err}
+use Rattle.std.specs.Prelude.{ℕ, ◌≡◌, ◌+◌, ◌⊎◌, List, [], ◌++◌, length, None, Result, Ok, Err}
 use Rattle.nc_base.specs.declared.header.Header.{Header}
 use Rattle.nc_base.specs.Grammar.{SpellsHeader}
 use Rattle.nc_base.specs.Sizes.{record_count}
-use Rattle.nc_base.specs.Dump.{Options, Ending, whole, wrong_field, no_such_variable, data_truncated, KnowsChosen, selection_of, IsDump}
+use Rattle.nc_base.specs.Dump.{Options, Ending, whole, wrong_field, no_such_variable, data_truncated, first_unknown, selection_of, IsDump}
 use Rattle.devices.specs.Failures.{HasFailed}
 use Rattle.devices.specs.Sources.{SourceView}
 use Rattle.nc_file.specs.code.Answers.{EndsAt, ReadUpTo}
@@ -14,7 +14,6 @@ use Rattle.ncdump.specs.code.Shows.{Shows}
 use Rattle.ncdump.specs.declared.{fault.DumpFault.DumpFault, options.DumpOptions.DumpOptions}
 use Rattle.ncdump.specs.declared.fault.DumpFault.TheVariants.{OutOfMemory, ReadFailed, WriteFailed, Format, NoSuchVariable, DataTruncated}
 
--- the options, without the path
 abbrev pub options_of : DumpOptions → Options
 options_of o = record { name = o.name; head_only = o.head_only; coords = o.coords; chosen = o.chosen; width = o.width }
 
@@ -50,8 +49,6 @@ pub record IsLeftOff (bytes : List ℕ) (o : Options) (old new : SinkView) : Typ
   pub is_dump : IsDump bytes o (prefix ++ rest) ending
   pub appended : Appended old new prefix
 
--- With success the whole dump was written. If a value is missing, the dump ends before it. If the header is wrong or a name is unknown, the
--- dump has no text. If a device or an allocation failed, nothing or a prefix of the dump was written.
 abbrev pub Dumps : {A : Type 0} → List ℕ → Options → SinkView → SinkView → Result A DumpFault → Type 0
 Dumps bytes o old new (Ok done) = IsWritten bytes o whole old new
 Dumps bytes o old new (Err (DataTruncated v k)) = IsWritten bytes o (data_truncated v k) old new
@@ -63,11 +60,11 @@ Dumps bytes o old new (Err WriteFailed) = IsCutShort bytes o old new
 
 -- ---- one forward pass
 
--- the rest of a call, from this state of its source on
+-- from this state of the source on
 abbrev pub rest_of : SourceView → Call → Call
 rest_of here call = record call { source = between here call.source.after }
 
--- The header was read, and at most one buffer more. Then the selected variables were shown.
+-- the header and at most one buffer more were read, and then the selected variables shown
 pub record IsAfterHeader {A : Type 0} (o : Options) (call : Call) (result : Result A DumpFault) : Type 0 where
   pub h : Header
   pub rest : List ℕ
@@ -75,12 +72,12 @@ pub record IsAfterHeader {A : Type 0} (o : Options) (call : Call) (result : Resu
   pub here : SourceView
   pub spelled : SpellsHeader call.source.before.bytes h rest
   pub ends : end + length rest ≡ length call.source.before.bytes
-  pub knows : KnowsChosen h o.chosen
+  pub knows : first_unknown h.vars o.chosen ≡ None
   pub bytes : here.bytes ≡ call.source.before.bytes
   pub handed : ReadUpTo call.source.before.handed here.handed end call.buffer_len
   pub shows : Shows o h (record_count h (length call.source.before.bytes)) (selection_of h o) (rest_of here call) result
 
--- no more was read than the bytes up to the header's end, or to that of the first wrong field, and one buffer
+-- at most one buffer was read after the end of the header, or of its first wrong field
 pub record IsInHeader (call : Call) : Type 0 where
   pub end : ℕ
   pub ends : EndsAt call.source.before.bytes end
@@ -91,8 +88,7 @@ pub data IsUnread {A : Type 0} (o : Options) (call : Call) (result : Result A Du
   in_header : IsInHeader call → call.sink.after ≡ call.sink.before → IsUnread o call result
   after_header : IsAfterHeader o call result → IsUnread o call result
 
--- Up to the header's end, or to that of its first wrong field, at most one buffer more was read. After the header, only values that are
--- shown were read.
+-- after the header, only values that are shown were read
 abbrev pub ReadsForward : {A : Type 0} → Options → Call → Result A DumpFault → Type 0
 ReadsForward o call (Ok done) = IsAfterHeader o call (Ok done)
 ReadsForward o call (Err (DataTruncated v k)) = IsAfterHeader {A = Unit {0}} o call (Err (DataTruncated v k))

@@ -3,20 +3,12 @@ use Rattle.std.specs.Prelude.{ℕ, List, [], ◌∷◌, codes, decimal, string_b
 use Rattle.nc_base.specs.Bytes.{concat_parts}
 use Rattle.nc_base.specs.declared.fault.FormatFault.{FormatFault}
 use Rattle.nc_base.specs.declared.fault.FormatFault.TheVariants.{NotNetcdf, UnknownVersion, HeaderTruncated, BadTag, BadCount, BadName, FloatingType, BadType, BadShape, TwoRecordDims, BadOffset, TooLarge}
-use Rattle.nc_file.specs.declared.head_fault.HeadFault.{HeadFault}
-use Rattle.nc_file.specs.declared.head_fault.HeadFault.TheVariants as head
 use Rattle.ncdump.specs.declared.{fault.DumpFault.DumpFault, fault.FileFault.FileFault, fault.Failure.Failure}
 use Rattle.ncdump.specs.declared.fault.DumpFault.TheVariants.{OutOfMemory, ReadFailed, WriteFailed, Format, NoSuchVariable, DataTruncated}
 use Rattle.cli_base.specs.declared.fault.OptFault.{OptFault}
 use Rattle.cli_base.specs.declared.fault.OptFault.TheVariants as opt
 use Rattle.ncdump.specs.declared.fault.FileFault.TheVariants.{CannotOpen, Dump}
 use Rattle.ncdump.specs.declared.fault.Failure.TheVariants.{CommandLine, File, Flush}
-
--- why reading the header failed, as a fault of the dump
-abbrev pub fault_of_head : HeadFault → DumpFault
-fault_of_head head.OutOfMemory = OutOfMemory
-fault_of_head head.ReadFailed = ReadFailed
-fault_of_head (head.Format fault) = Format fault
 
 unfoldable pub version_words : List ℕ
 version_words = codes "unknown version "
@@ -27,7 +19,6 @@ item_words = codes "no such variable: item "
 unfoldable pub truncated_words : List ℕ
 truncated_words = codes ": data truncated at value "
 
--- what the fault of a wrong field says
 unfoldable pub format_text : FormatFault → List ℕ
 format_text NotNetcdf = codes "not a netCDF classic file"
 format_text (UnknownVersion n) = concat_parts (version_words ∷ decimal n ∷ [])
@@ -42,7 +33,6 @@ format_text TwoRecordDims = codes "two record dimensions"
 format_text BadOffset = codes "bad offset"
 format_text TooLarge = codes "too large"
 
--- what a fault says
 unfoldable pub fault_text : DumpFault → List ℕ
 fault_text OutOfMemory = codes "out of memory"
 fault_text ReadFailed = codes "read failed"
@@ -54,18 +44,15 @@ fault_text (DataTruncated var value) = concat_parts (codes "variable " ∷ decim
 unfoldable pub program_words : List ℕ
 program_words = codes "ncdump: "
 
--- the line of a fault of the dump of this file
 unfoldable pub line_of : List ℕ → DumpFault → List ℕ
 line_of file fault = concat_parts (program_words ∷ file ∷ codes ": " ∷ fault_text fault ∷ codes "\n" ∷ [])
 
 unfoldable pub cannot_open_words : List ℕ
 cannot_open_words = codes ": cannot open\n"
 
--- the line for a path that can't be opened
 unfoldable pub cannot_open_line : List ℕ → List ℕ
 cannot_open_line path = concat_parts (program_words ∷ path ∷ cannot_open_words ∷ [])
 
--- the line of a fault of the file at this path
 unfoldable pub file_line : List ℕ → FileFault → List ℕ
 file_line path CannotOpen = cannot_open_line path
 file_line path (Dump fault) = line_of path fault
@@ -73,16 +60,14 @@ file_line path (Dump fault) = line_of path fault
 unfoldable pub usage_line : List ℕ
 usage_line = codes "usage: ncdump [-h] [-c] [-v names] [-n name] [-l width] file\n"
 
--- the line of a fault of the command line
 unfoldable pub opt_fault_line : OptFault → List ℕ
 opt_fault_line opt.OutOfMemory = codes "ncdump: out of memory\n"
 opt_fault_line opt.Usage = usage_line
 
--- the line for the last of a text, which was held back and could not be written
+-- the last of a text was held back, and could not be written
 unfoldable pub flush_fault_line : List ℕ
 flush_fault_line = codes "ncdump: write failed\n"
 
--- the line of a failure
 unfoldable pub line_of_failure : Failure → List ℕ
 line_of_failure (CommandLine fault) = opt_fault_line fault
 line_of_failure (File path fault) = file_line (string_bytes path) fault

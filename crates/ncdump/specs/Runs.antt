@@ -24,16 +24,11 @@ OfDump Holds Unopened (Ok done) = Holds (Ok done)
 OfDump Holds Unopened (Err (Dump fault)) = Holds (Err fault)
 OfDump Holds Unopened (Err CannotOpen) = Unopened
 
--- the sink has failed exactly if the answer says so, and nothing was written if the file could not be opened
-abbrev pub WriteFailsOnly : {A : Type 0} → SinkView → SinkView → Result A FileFault → Type 0
-WriteFailsOnly old new answer = OfDump (dumps.WriteFailsOnly old new) (new ≡ old) answer
-
 -- the dump of the file, if these are its bytes; if there is no file, it could not be opened, and nothing was written
 abbrev pub DumpsFile : {A : Type 0} → Option (List ℕ) → Options → SinkView → SinkView → Result A FileFault → Type 0
 DumpsFile (Some bytes) o old new answer = OfDump (dumps.Dumps bytes o old new) ⊥ answer
 DumpsFile None o old new answer = OfDump (λ dumped. ⊥) (new ≡ old) answer
 
--- a source has failed exactly if the answer says so
 abbrev pub ReadFailsOnly : {A : Type 0} → OpenerView → OpenerView → Result A FileFault → Type 0
 ReadFailsOnly old new (Err (Dump ReadFailed)) = HasFailed old.failures new.failures
 ReadFailsOnly old new _ = new.failures ≡ old.failures
@@ -43,10 +38,9 @@ pub record OpensFile {A : Type 0} (old new : OpenerView) (answer : Result A File
   pub opens : new.opens ≡ opens_after old
   pub reads : ReadFailsOnly old new answer
 
--- the file at the path was opened, and its dump written, or the answer is why not
 pub record DumpsPath {A : Type 0} (path : List ℕ) (o : Options) (files : OpenerUse) (out : Use SinkView) (answer : Result A FileFault) : Type 0 where
   pub opens : OpensFile files.before files.after answer
-  pub writes : WriteFailsOnly out.before out.after answer
+  pub writes : OfDump (dumps.WriteFailsOnly out.before out.after) (out.after ≡ out.before) answer
   pub dump : OnTrue files.is_transparent (DumpsFile (files.named path) o out.before out.after answer)
 
 -- ---- the dump that is asked for
@@ -65,8 +59,7 @@ pub record IsUntouched (run : Run) (out : SinkView) : Type 0 where
   pub files : run.files.after ≡ run.files.before
   pub same : out ≡ run.out.before
 
--- The dump that is asked for was written, or the answer is why not: the file has a fault, or the command line asks for nothing, or memory ran
--- out while it was read. `out` is standard output after that.
+-- `out`: standard output after the dump that is asked for
 abbrev pub DumpsAsked : {A : Type 0} → Run → SinkView → Result A Failure → Type 0
 DumpsAsked run out (Ok done) = IsSomeAnd run.asked (λ a. DumpsPath a.file a.options run.files (between run.out.before out) (Ok done))
 DumpsAsked {A} run out (Err (File path fault)) =
@@ -77,25 +70,24 @@ DumpsAsked run out (Err Flush) = ⊥
 
 -- ---- the run
 
--- The dump gave this answer. Then standard output was flushed, as `Flushed` says.
+-- the dump gave this answer, and then standard output was flushed, as `Flushed` says
 pub record DumpsThenFlushes {A : Type 0} (run : Run) (answer : Result A Failure) (Flushed : SinkView → Type 0) : Type 0 where
   pub out : SinkView
   pub dumped : DumpsAsked run out answer
   pub flushed : Flushed out
 
--- With success, the dump was written and standard output flushed. With `Flush`, only the flush failed. With any other failure the dump failed,
--- whatever the flush did.
+-- with `Flush`, only the flush failed; with any other failure the dump failed, whatever the flush did
 abbrev pub Runs : {A : Type 0} → Run → Result A Failure → Type 0
 Runs run (Ok done) = DumpsThenFlushes run (Ok done) (λ out. Appended out run.out.after [])
 Runs run (Err Flush) = DumpsThenFlushes {A = Unit {0}} run (Ok tt) (λ out. FailedPartway out run.out.after [])
 Runs {A} run (Err failure) = DumpsThenFlushes {A = A} run (Err failure) (λ out. Appended out run.out.after [] ⊎ FailedPartway out run.out.after [])
 
--- the run has failed, and its failure line, or a prefix of it, was written to standard error
+-- the failure line, or a prefix of it, was written to standard error
 pub record Fails (run : Run) (err : Use SinkView) : Type 0 where
   pub failure : Failure
   pub fails : Runs {A = Unit {0}} run (Err failure)
   pub line : Appended err.before err.after (line_of_failure failure) ⊎ FailedPartway err.before err.after (line_of_failure failure)
 
--- The status is 0 if the run did what is asked for, and wrote nothing to standard error. Otherwise it is 1.
+-- with status 0, nothing was written to standard error
 abbrev pub Ends : Run → Use SinkView → ℕ → Type 0
 Ends run err status = ((status ≡ 0) × Runs {A = Unit {0}} run (Ok tt) × (err.after ≡ err.before)) ⊎ ((status ≡ 1) × Fails run err)

@@ -1,7 +1,7 @@
 //! Why the program could not do what was asked of it.
 
 ghost use Rattle.std.specs.Prelude.{◌≡◌};
-ghost use Rattle.ncdump.specs.Faults.{fault_of_head};
+ghost use Rattle.ncdump.specs.code.HeadFaults.{fault_of_head};
 ghost use Rattle.ncdump.specs.declared.fault.DumpFault.TheVariants.{OutOfMemory as out_of_memory, WriteFailed as write_failed};
 ghost use Rattle.ncdump.specs.declared.fault.Failure.TheVariants.{CommandLine as command_line, Flush as flush};
 ghost use Rattle.ncdump.specs.declared.fault.FileFault.TheVariants.{CannotOpen, Dump};

@@ -6,7 +6,7 @@ ghost use Rattle.devices.specs.Openers.{opener_use};
 ghost use Rattle.devices.specs.Uses.{use_of};
 ghost use Rattle.ncdump.specs.Dumps.{options_of, Dumps};
 ghost use Rattle.ncdump.specs.Dumps as dumps;
-ghost use Rattle.ncdump.specs.Runs.{run_of, DumpsAsked, DumpsFile, Ends, OfDump, OpensFile, Runs, WriteFailsOnly};
+ghost use Rattle.ncdump.specs.Runs.{run_of, DumpsAsked, DumpsFile, Ends, OfDump, OpensFile, Runs};
 ghost use Rattle.ncdump.specs.code.Shows.{ReadFailsOnly};
 
 use crate::command_line::options_by;
@@ -99,7 +99,8 @@ fn dump_path<P: Opener, O: Sink>(
     out: &mut O,
 ) -> Result<(), FileFault>
     ensures opens { OpensFile (P.view opener.old) (P.view opener.new) result }
-    ensures writes { WriteFailsOnly (O.view out.old) (O.view out.new) result }
+    ensures writes { OfDump
+        (dumps.WriteFailsOnly (O.view out.old) (O.view out.new)) (O.view out.new ≡ O.view out.old) result }
     ensures dump { OnTrue P.Source.is_transparent (DumpsFile
         (P.named opener.old (string_bytes options.now.file)) (options_of options.now)
         (O.view out.old) (O.view out.new) result) }

@@ -1,7 +1,8 @@
 -- The file of a text is dumped, and the dump generates it again.
 use Rattle.std.proofs.Common.{◌≡◌, ◌≤◌, ℕ, List, length, Bool, true, false, if◌then◌else◌, Result, Ok, Err, refl, sym, ap, subst, ◌↔◌}
 use Rattle.ncgen.proofs.Prelude.{AreBytes, Dataset, Version, file_of, fits, Fits-from_fits, CdlFault, meaning, text_limit, meanings_are_good, file_or_fault, generated, GenFault, OffsetTooLarge}
-use Rattle.nc_base.specs.Dump.{Ending, IsDump, IsText, Options}
+use Rattle.nc_base.specs.Dump.{Ending, IsDump, Options}
+use Rattle.nc_base.specs.Datasets.{IsText}
 use Rattle.nc_file.proofs.FileLaws.{generated-dumped}
 use Rattle.cdl_laws.proofs.TextReadsBack.{text_reads_back}
 use Rattle.ncgen.specs.Laws.{DumpsGenerateBack, FilesOfTextsAreDumped, IsDumpedAs}

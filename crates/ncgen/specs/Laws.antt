@@ -2,7 +2,8 @@
 use Rattle.std.specs.Prelude.{◌≡◌, ◌≤◌, ◌↔◌, ℕ, List, length, Ok}
 use Rattle.nc_base.specs.Bytes.{AreBytes}
 use Rattle.nc_base.specs.declared.{dataset.Dataset.Dataset, version.Version.Version}
-use Rattle.nc_base.specs.Dump.{Ending, IsDump, IsText, Options, whole}
+use Rattle.nc_base.specs.Dump.{Ending, IsDump, Options, whole}
+use Rattle.nc_base.specs.Datasets.{IsText}
 use Rattle.nc_base.specs.GeneratedFile.{file_of}
 use Rattle.nc_base.specs.Sayable.{IsSayable, trimmed}
 use Rattle.cdl_meaning.specs.Meaning.{meaning, text_limit}

@@ -1,7 +1,7 @@
 //! The words of the command line.
 
 ghost use Rattle.std.specs.Prelude.{◌≡◌, IfOk, option_map, string_bytes};
-ghost use Rattle.cli_base.specs.CommandLines.{AnswersBy};
+ghost use Rattle.cli_base.specs.code.Answers.{AnswersBy};
 ghost use Rattle.cli_base.specs.Arguments.{text_of, texts_of};
 ghost use Rattle.clap.specs.Words.{app_of, found_of, rows_of};
 ghost use Rattle.ncgen.specs.CommandLine.{asked_by, asked_for, asked_in, is_unnamed, ncgen, output_name, version_in, version_of, IsOutputIn};

@@ -2,7 +2,7 @@
 use Rattle.std.proofs.Common.{◌≡◌, ℕ, zero, suc, ◌+◌, ◌*◌, ◌/◌, ◌%◌, ◌<◌, ◌≤◌, List, [], ◌∷◌, length, get_or, take, sym, ◌∙◌, ap, arith, slice_get, IfSome}
 use Rattle.nc_base.specs.declared.{header.Dim.Dim, header.Var.Var, nc_type.NcType.NcType}
 use Rattle.nc_base.specs.declared.nc_type.NcType.TheVariants.{Byte, Char, Short, Int, Ubyte, Ushort, Uint, Int64, Uint64}
-use Rattle.nc_base.specs.Headers.{value_count}
+use Rattle.nc_base.specs.Sizes.{value_count}
 use Rattle.nc_base.specs.code.OwedValues.{IsListed, AreListed}
 use Rattle.nc_base.specs.Types.{size_of}
 

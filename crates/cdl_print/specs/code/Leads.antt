@@ -1,6 +1,6 @@
 -- For contracts. What stands before the next value, by how far the values before it are printed.
 use Rattle.std.specs.Prelude.{ℕ, ◌≡◌, ◌+◌, ◌-◌, ◌*◌, ◌==◌, ℤ, nat_lt, if◌then◌else◌, IfSome, List, [], ◌++◌, length, codes, slice_get}
-use Rattle.nc_base.specs.Headers.{value_count}
+use Rattle.nc_base.specs.Sizes.{value_count}
 use Rattle.nc_base.specs.Numbers.{numbers}
 use Rattle.nc_base.specs.Types.{size_of}
 use Rattle.nc_base.specs.ValueText.{Look, char_lead, column, look_of}

@@ -3,7 +3,7 @@ use Rattle.std.specs.Prelude.{ℕ, ◌≡◌, ◌-◌, ◌*◌, ◌/◌, ◌≤�
 use Rattle.std.specs.List.{flat_map}
 use Rattle.nc_base.specs.declared.{header.Dim.Dim, header.Var.Var}
 use Rattle.nc_base.specs.Fill.{fill_value}
-use Rattle.nc_base.specs.Headers.{value_count}
+use Rattle.nc_base.specs.Sizes.{value_count}
 use Rattle.nc_base.specs.Numbers.{bytes_of_number}
 use Rattle.nc_base.specs.Types.{size_of}
 

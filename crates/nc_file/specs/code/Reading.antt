@@ -14,7 +14,7 @@ use Rattle.nc_base.specs.Versions.{version_of_byte, count_width, count_limit, of
 use Rattle.nc_base.specs.Sizes.{is_record_dim, has_records, padded_total, record_vars, slab_limit, record_limit}
 use Rattle.nc_base.specs.code.SizeParts.{slab_of}
 use Rattle.nc_file.specs.declared.{sized_var.SizedVar.SizedVar, head_fault.HeadFault.HeadFault}
-use Rattle.nc_base.specs.Headers.{has_record_dim}
+use Rattle.nc_base.specs.Sizes.{has_record_dim}
 use Rattle.nc_base.specs.Names.{is_name}
 use Rattle.nc_base.specs.Grammar.{dimension_tag, attribute_tag, variable_tag}
 use Rattle.devices.specs.Failures.{HasFailed}

@@ -1,18 +1,17 @@
 -- For contracts. Which variables a dump shows.
-use Rattle.std.specs.Prelude.{◌≡◌, ◌&&◌, ◌||◌, ℕ, Bool, not, IsTrue, List, map, Option, Some, None, Vec, Result, Ok, Err}
+use Rattle.std.specs.Prelude.{◌≡◌, ◌&&◌, ◌||◌, ℕ, Bool, not, List, map, Option, Some, None, Vec, Result, Ok, Err}
 use Rattle.std.specs.Global.{Global}
-use Rattle.std.specs.List.{list_all}
 use Rattle.nc_base.specs.declared.{header.Header.Header, header.Var.Var}
-use Rattle.nc_base.specs.Dump.{Options, has_dimension, has_name, has_variable, KnowsChosen, IsFirstUnknown, IsFirstUnknownOf, is_selected}
+use Rattle.nc_base.specs.Dump.{Options, has_dimension, has_name, first_unknown, is_selected}
 use Rattle.ncdump.specs.declared.{fault.DumpFault.DumpFault, names.NameSet.NameSet}
 use Rattle.ncdump.specs.declared.fault.DumpFault.TheVariants.{OutOfMemory, NoSuchVariable}
 use Rattle.ncdump.specs.code.Names.{holds, holds_if}
 
 -- a bool for each variable, or the first chosen name that no variable has
 abbrev pub Selects : Header → Options → Result (Vec Bool Global) DumpFault → Type 0
-Selects h o (Ok selection) = KnowsChosen h o.chosen × (selection.items ≡ map (is_selected h o) h.vars)
+Selects h o (Ok selection) = (first_unknown h.vars o.chosen ≡ None) × (selection.items ≡ map (is_selected h o) h.vars)
 Selects h o (Err OutOfMemory) = Unit {0}
-Selects h o (Err (NoSuchVariable index)) = IsFirstUnknownOf h o.chosen index
+Selects h o (Err (NoSuchVariable index)) = first_unknown h.vars o.chosen ≡ Some index
 Selects h o (Err _) = ⊥
 
 -- the set, where there is one, has the names of the dimensions; and there is one where the values of coordinate variables alone are shown
@@ -25,9 +24,9 @@ is_in_both chosen dims var = holds_if chosen var.name && holds_if dims var.name
 
 -- these names as a set, if each of them is a variable's; otherwise the index of the first that no variable has
 abbrev pub Knows : List Var → List (List ℕ) → Result NameSet DumpFault → Type 0
-Knows vars names (Ok set) = IsTrue (list_all (has_variable vars) names) × ((name : List ℕ) → holds set name ≡ has_name names name)
+Knows vars names (Ok set) = (first_unknown vars (Some names) ≡ None) × ((name : List ℕ) → holds set name ≡ has_name names name)
 Knows vars names (Err OutOfMemory) = Unit {0}
-Knows vars names (Err (NoSuchVariable index)) = IsFirstUnknown vars names index
+Knows vars names (Err (NoSuchVariable index)) = first_unknown vars (Some names) ≡ Some index
 Knows vars names (Err _) = ⊥
 
 -- the chosen names as a set, where names are chosen

@@ -1,13 +1,7 @@
--- Definition. What words ask for, and which options or fault they give.
-use Rattle.std.specs.Prelude.{◌≡◌, [], ◌∷◌, Option, Some, None, Result, Ok, Err}
-use Rattle.clap.specs.Words.{Kinds}
+-- For contracts. Which options or fault words give.
+use Rattle.std.specs.Prelude.{◌≡◌, Option, Some, None, Result, Ok, Err}
 use Rattle.cli_base.specs.declared.fault.OptFault.{OptFault}
 use Rattle.cli_base.specs.declared.fault.OptFault.TheVariants.{OutOfMemory, Usage}
-
--- what is asked for, if the words have no fault
-abbrev pub if_faultless : {A : Type 0} → Kinds → Option A → Option A
-if_faultless [] asked = asked
-if_faultless (kind ∷ kinds) asked = None
 
 -- The options are those that the words ask for. If the fault is usage, the words ask for nothing. Out of memory says nothing of the words.
 -- `asked_for`: what a program's options ask for.
