@@ -16,7 +16,7 @@ returns-in_ok-put_good_number-in-Number-clause-packs c = λ rest.
     let adds : joined (Ok old) (bytes_of a.filling.now a.capacity v) ≡ Ok new = ap (λ w. joined (Ok old) (bytes_of a.filling.now a.capacity w)) (sym said) ∙ c.in_ok-put_good_number-in-Number.ensures.adds in
     ap (λ vs. joined (Ok old) (packed a.filling.now a.capacity vs)) (over_value a.version l rest (ap is_mark_kind c.in-Number.is)) ∙
     one_packed a.filling.now a.capacity v (values a.version rest) old new ds (added old new (bytes_of a.filling.now a.capacity v) adds) (is_after old new (bytes_of a.filling.now a.capacity v) adds) ∙
-    ap (λ left. joined (Ok new) (packed a.filling.now left (values a.version rest))) (c.in_ok-put_good_number-in-Number.ensures.counts ds ∙ sym c.capacity_minus.ensures)
+    ap (λ left. joined (Ok new) (packed a.filling.now left (values a.version rest))) (c.in_ok-put_good_number-in-Number.ensures.counts ds ∙ sym c.minus.ensures)
 
 pub returns-in_ok-put_good-in_default-clause-packs : goal.returns-in_ok-put_good-in_default-clause-packs
 returns-in_ok-put_good-in_default-clause-packs c = λ rest.

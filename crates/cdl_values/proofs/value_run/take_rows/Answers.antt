@@ -1,5 +1,5 @@
-use Rattle.std.proofs.Common.{rules, ◌≡◌, ◌+◌, false, ◌∙◌, subst, Ok, Option, ℕ}
-use Rattle.cdl_values.proofs.Prelude.{inner, string_value, Characters, is_full, joined, capacity_minus, row_bytes, TakesValues, place, Rows}
+use Rattle.std.proofs.Common.{rules, ◌≡◌, ◌+◌, false, ◌∙◌, subst, Ok}
+use Rattle.cdl_values.proofs.Prelude.{inner, string_value, Characters, Capacity, is_full, joined, capacity_minus, row_bytes, TakesValues, place, Rows}
 use Rattle.cdl_values.proofs.ValueRuns.{counted, ended, none_counted, reached, row_on, stays, takes_further}
 use Rattle.cdl_values.proofs.value_run.take_rows.Goals as goal
 
@@ -10,7 +10,7 @@ rows-init c =
     record {
       at = c.requires;
       so = λ takes_fill.
-          subst (λ (left : Option ℕ). TakesValues takes_fill (Rows a.len a.fill) start (reached a.start.cutter a.array.now left)) (none_counted a.start.capacity) (stays takes_fill (Rows a.len a.fill) start c.requires);
+          subst (λ (left : Capacity). TakesValues takes_fill (Rows a.len a.fill) start (reached a.start.cutter a.array.now left)) (none_counted a.start.capacity) (stays takes_fill (Rows a.len a.fill) start c.requires);
     }
 
 pub rows-preserved : goal.rows-preserved
@@ -21,7 +21,7 @@ rows-preserved c =
     let n = c.in-Some.bytes.now in
     let new = c.put_plain_row.new.array in
     let left = a.start.capacity in
-    let room : is_full (capacity_minus l.count left) ≡ false = c.room_of-room.ensures l.count c.rows-test.true in
+    let room : is_full (capacity_minus l.count left) ≡ false = c.limit-room.ensures l.count c.rows-test.true in
     let adds : joined (Ok l.array) (row_bytes a.len a.fill false (Characters (string_value (inner n)))) ≡ Ok new = search rules in
     let start = place a.start a.array.now in
     let here = reached l.cutter l.array (capacity_minus l.count left) in
