@@ -1,5 +1,5 @@
 -- A run of values, one value on.
-use Rattle.std.proofs.Common.{◌≡◌, ◌≤◌, ◌<◌, ℕ, ◌+◌, ◌-◌, Bool, true, false, List, ◌∷◌, length, drop, sym, ap, ◌∙◌, refl, subst, arith, None, Ok, rules}
+use Rattle.std.proofs.Common.{◌≡◌, ℕ, Bool, true, false, List, ◌∷◌, length, drop, sym, ap, ◌∙◌, refl, subst, None, Ok, rules}
 use Rattle.cdl_values.proofs.Prelude.{Version, inner, string_value, value_of, values, is_done, version_of, words, completes, is_value_of, next, Lexeme, is_mark_kind, IsAtComma, Passes, PassesNumber, PassesString, Characters, token_fault, lexeme_with, Cutter, Due, Separator, at_same_comma, same_after, same_words, good_on, Capacity, bytes_of, capacity_after, held_bytes, is_full, joined, capacity_minus, packed, row_bytes, GoesOn, Place, TakesValues, Fill, Filling, Numbers, Rows, past_mark}
 use Rattle.cdl_tokens.specs.declared.numeral.Numeral.{Numeral as Held}
 use Rattle.cdl_tokens.specs.declared.token.TokenKind.TheVariants as kinds
@@ -66,19 +66,6 @@ row_on takes_fill len fill start rest bytes at passes full adds left =
     let sum : joined (Ok start.bytes) (bytes_of (Rows len fill) start.left (value_of v l kinds.Text)) ≡ Ok rest.bytes =
     ap (λ b. joined (Ok start.bytes) (row_bytes len fill b (Characters (string_value (inner bytes))))) full ∙ adds in
     value_on takes_fill (Rows len fill) start rest l at passes.passes refl refl (packs_one v (Rows len fill) start rest l refl sum (λ _. sym left))
-
--- what capacity is left
-pub none_counted : (capacity : Capacity) → capacity ≡ capacity_minus 0 capacity
-none_counted capacity = grind arith
-
-pub counted : (n : ℕ) (capacity : Capacity) → capacity_minus (n + 1) capacity ≡ capacity_minus 1 (capacity_minus n capacity)
-counted n capacity = grind arith
-
-pub all_counted : (n : ℕ) (capacity : Capacity) → capacity ≡ capacity_minus (n - n) capacity
-all_counted n capacity = none_counted capacity ∙ ap (λ m. capacity_minus m capacity) (let e : 0 ≡ n - n = omega arith in e)
-
-pub counted_down : (n left : ℕ) (capacity : Capacity) → left ≤ n → 0 < left → capacity_minus (n - (left - 1)) capacity ≡ capacity_minus 1 (capacity_minus (n - left) capacity)
-counted_down n left capacity within some = ap (λ m. capacity_minus m capacity) (let e : n - (left - 1) ≡ n - left + 1 = omega (arith, within, some) in e) ∙ counted (n - left) capacity
 
 -- the same place
 pub ended : (takes_fill : Bool) (filling : Filling) (start there : Place) (cutter : Cutter) (left : Capacity) → cutter ≡ there.cutter → left ≡ there.left → TakesValues takes_fill filling start there →

@@ -74,6 +74,7 @@ fn characters(dims: &[Dim], var: &Var) -> Filling
 }
 
 /// Returns how many numbers, bytes or rows, as `filling` counts them, a variable takes. A record variable has no limit.
+#[tactic(auto, unfolding(cdl_meaning::specs::State::capacity_of))]
 fn capacity(dims: &[Dim], var: &Var, filling: Filling) -> Capacity
     ensures { HasCapacityAsFilled dims.now var.now filling result }
 {

@@ -1,6 +1,6 @@
-use Rattle.std.proofs.Common.{rules, ◌≡◌, ◌+◌, false, ◌∙◌, subst, Ok}
-use Rattle.cdl_values.proofs.Prelude.{inner, string_value, Characters, Capacity, is_full, joined, capacity_minus, row_bytes, TakesValues, place, Rows}
-use Rattle.cdl_values.proofs.ValueRuns.{counted, ended, none_counted, reached, row_on, stays, takes_further}
+use Rattle.std.proofs.Common.{rules, arith, ◌≡◌, ◌+◌, false, refl, ◌∙◌, Ok}
+use Rattle.cdl_values.proofs.Prelude.{inner, string_value, Characters, is_full, joined, capacity_minus, row_bytes, place, Rows}
+use Rattle.cdl_values.proofs.ValueRuns.{ended, reached, row_on, stays, takes_further}
 use Rattle.cdl_values.proofs.value_run.take_rows.Goals as goal
 
 pub rows-init : goal.rows-init
@@ -9,8 +9,7 @@ rows-init c =
     let start = place a.start a.array.now in
     record {
       at = c.requires;
-      so = λ takes_fill.
-          subst (λ (left : Capacity). TakesValues takes_fill (Rows a.len a.fill) start (reached a.start.cutter a.array.now left)) (none_counted a.start.capacity) (stays takes_fill (Rows a.len a.fill) start c.requires);
+      so = λ takes_fill. ended takes_fill (Rows a.len a.fill) start start a.start.cutter (capacity_minus 0 a.start.capacity) refl (grind arith) (stays takes_fill (Rows a.len a.fill) start c.requires);
     }
 
 pub rows-preserved : goal.rows-preserved
@@ -28,7 +27,7 @@ rows-preserved c =
     let there = reached c.string_and_comma.new.self new (capacity_minus (l.count + 1) left) in
     record {
       at = e.passes.passes.at;
-      so = λ takes_fill. takes_further takes_fill (Rows a.len a.fill) start here there (l.invariant.so takes_fill) (row_on takes_fill a.len a.fill here there n l.invariant.at e.passes room adds (counted l.count left));
+      so = λ takes_fill. takes_further takes_fill (Rows a.len a.fill) start here there (l.invariant.so takes_fill) (row_on takes_fill a.len a.fill here there n l.invariant.at e.passes room adds (grind arith));
     }
 
 pub returns-in-None : goal.returns-in-None

@@ -1,7 +1,7 @@
 use Rattle.std.proofs.Common.{rules, arith, ◌≡◌, ◌-◌, ap, false, refl, sym, ◌∙◌, Ok}
 use Rattle.cdl_values.proofs.Prelude.{NcType, at_same_comma, held_bytes, is_full, joined, capacity_minus, place, Numbers}
 use Rattle.cdl_statements.specs.code.NumberLists as lists
-use Rattle.cdl_values.proofs.ValueRuns.{all_counted, counted_down, ended_at, left_at, number_on, reached, stays, takes_further}
+use Rattle.cdl_values.proofs.ValueRuns.{ended_at, left_at, number_on, reached, stays, takes_further}
 use Rattle.cdl_values.proofs.value_run.take_typed.Goals as goal
 
 pub numbers-init : goal.numbers-init
@@ -14,7 +14,7 @@ numbers-init c =
       within = omega arith;
       at = at_same_comma (lists.reached c.new-list.result) a.start.cutter same c.requires.at;
       so = λ takes_fill.
-          ended_at takes_fill (Numbers a.fill) start start (lists.reached c.new-list.result) (capacity_minus (room - room) a.start.capacity) same (sym (all_counted room a.start.capacity)) (stays takes_fill (Numbers a.fill) start c.requires.at);
+          ended_at takes_fill (Numbers a.fill) start start (lists.reached c.new-list.result) (capacity_minus (room - room) a.start.capacity) same (grind arith) (stays takes_fill (Numbers a.fill) start c.requires.at);
     }
 
 pub numbers-preserved : goal.numbers-preserved
@@ -36,7 +36,7 @@ numbers-preserved c =
     record {
       within = omega (arith, within);
       at = e.passes.passes.at;
-      so = λ takes_fill. takes_further takes_fill (Numbers a.fill) start here there (l.invariant.so takes_fill) (number_on takes_fill a.fill here there n l.invariant.at e.passes room adds (counted_down c.limit-room.result l.left a.start.capacity within some));
+      so = λ takes_fill. takes_further takes_fill (Numbers a.fill) start here there (l.invariant.so takes_fill) (number_on takes_fill a.fill here there n l.invariant.at e.passes room adds (grind arith));
     }
 
 pub returns-in-None : goal.returns-in-None
