@@ -47,6 +47,12 @@ added bs cs r h = grind (arith, drop-append_seam)
 pub is_after : (bs cs : List ℕ) (r : Result (List ℕ) CdlKind) → joined (Ok bs) r ≡ Ok cs → cs ≡ bs ++ drop (length bs) cs
 is_after bs cs r h = grind (arith, drop-append_seam)
 
+-- the value of a token is packed, where these are the bytes with its own
+pub token_packed : (version : Version) (filling : Filling) (capacity left : Capacity) (l : Lexeme) (ls : List Lexeme) (bs cs : List ℕ) → is_mark_kind l.kind ≡ false →
+    joined (Ok bs) (bytes_of filling capacity (value_of version l l.kind)) ≡ Ok cs → left ≡ capacity_after filling (drop (length bs) cs) capacity →
+    joined (Ok bs) (packed filling capacity (values version (l ∷ ls))) ≡ joined (Ok cs) (packed filling left (values version ls))
+token_packed version filling capacity left l ls bs cs other adds counts = search (rules, over_value, one_packed, added, is_after)
+
 -- characters
 pub one_char : (b : ℕ) (bs : List ℕ) → b < 256 → char_bytes (b ∷ bs) ≡ b ∷ char_bytes bs
 one_char b bs h = ap (λ xs. xs ++ char_bytes bs) (let e : bytes_of_number Char (pos b) ≡ b ∷ [] = search rules in e)

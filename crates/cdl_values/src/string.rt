@@ -19,7 +19,7 @@ use std::alloc::AllocError;
 
 /// Appends to `array` the bytes that a string stands for. `bytes` is the string with its quotes. Errs with `StringTooLong` if the string
 /// stands for more bytes than the capacity (they stay appended), and with `OutOfMemory` if an allocation failed.
-#[tactic(auto, using(crate::proofs::PackedTokens::chars_len))]
+#[tactic(auto, using(crate::proofs::PackedTokens::chars_len, std::proofs::lemmas::Grind::common_steps))]
 pub fn put_text(array: &mut ListedArray, capacity: Capacity, bytes: &[u8]) -> Result<(), ReadError>
     ensures { Adds array.old array.new result (text_bytes capacity (text_said bytes.now)) }
 {
@@ -34,7 +34,7 @@ pub fn put_text(array: &mut ListedArray, capacity: Capacity, bytes: &[u8]) -> Re
 /// Appends to `array` a row of `len` bytes: the bytes that a string stands for, filled up with `fill`. `bytes` is the string with its
 /// quotes, and `full` is true if the variable takes no more rows. Errs with `TooManyValues` if `full`, with `StringTooLong` if the string
 /// stands for more than `len` bytes (they stay appended), and with `OutOfMemory` if an allocation failed.
-#[tactic(auto, using(crate::proofs::PackedTokens::chars_len))]
+#[tactic(auto, using(crate::proofs::PackedTokens::chars_len, std::proofs::lemmas::Grind::common_steps))]
 pub fn put_row(
     array: &mut ListedArray,
     len: u64,
