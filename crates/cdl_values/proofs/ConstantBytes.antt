@@ -1,7 +1,7 @@
 -- The bytes of an attribute's constants.
-use Rattle.std.proofs.Common.{◌≡◌, ℕ, zero, suc, ◌-◌, ◌<◌, true, List, [], ◌∷◌, ◌++◌, length, take, drop, refl, ap, ◌∙◌, append_assoc, arith, pos, None, Result, Ok, Err, slice_index, map, rules}
+use Rattle.std.proofs.Common.{◌≡◌, ℕ, zero, suc, ◌-◌, ◌<◌, true, List, [], ◌∷◌, ◌++◌, length, take, drop, refl, ap, ◌∙◌, append_assoc, arith, pos, Result, Ok, Err, slice_index, map, rules}
 use Rattle.std.specs.Prelude.{⊤}
-use Rattle.cdl_values.proofs.Prelude.{bytes_of_number, NcType, Char, Version, value_of, values, Lexeme, TokenKind, character, inner, string_value, unescape_at, or_zero, word, held, Parts, number, Value, Number, Characters, CdlKind, NumberRange, add_constant, has_number, in_turn, same_type, type_said, unless, Adds, ContinuesRead, Leaves, char_bytes, held_bytes, joined, number_bytes, text_bytes, ReadError, OutOfMemory, Fault}
+use Rattle.cdl_values.proofs.Prelude.{bytes_of_number, NcType, Char, Version, value_of, values, Lexeme, TokenKind, character, inner, string_value, unescape_at, or_zero, word, held, Parts, number, Value, Number, Characters, CdlKind, NumberRange, add_constant, has_number, in_turn, same_type, type_said, unless, Adds, ContinuesRead, Leaves, char_bytes, held_bytes, joined, number_bytes, text_bytes, ReadError, OutOfMemory, Fault, Unlimited}
 use Rattle.cdl_tokens.specs.declared.token.TokenKind.TheVariants as kinds
 use Rattle.cdl_tokens.specs.declared.numeral.Numeral.{Numeral as Held}
 use Rattle.cdl_meaning.specs.State.{◌>>=◌}
@@ -87,5 +87,5 @@ pub stand : (bytes : List ℕ) → AreBytes bytes → char_bytes (string_value (
 stand bytes h = stand_at 0 (inner bytes) (first_ones (length bytes - 2) (drop 1 bytes) (without_first bytes h))
 
 pub characters_left : (ty : NcType) (before after bytes : List ℕ) (r : Result ⊤ ReadError) → same_type Char ty ≡ true → AreBytes bytes →
-    Adds before after r (text_bytes None (Characters (string_value (inner bytes)))) → Leaves after r (add_constant ty before (Characters (string_value (inner bytes))))
+    Adds before after r (text_bytes Unlimited (Characters (string_value (inner bytes)))) → Leaves after r (add_constant ty before (Characters (string_value (inner bytes))))
 characters_left ty before after bytes r same small h = search (rules, string_value, stand)

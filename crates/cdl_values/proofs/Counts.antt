@@ -1,6 +1,7 @@
 -- A statement has fewer values than the greatest capacity, so that stands for all from there on.
-use Rattle.std.proofs.Common.{◌≡◌, ℕ, zero, suc, ◌+◌, ◌-◌, ◌≤◌, Bool, false, List, [], ◌∷◌, length, map, drop, refl, sym, ap, ◌∙◌, arith, Option, None, Some, Result, ◌&&◌, is_none, min, rules}
-use Rattle.cdl_values.proofs.Prelude.{Version, values, words, pieces_left, text_of, first_piece, Lexeme, followed, Value, Cutter, CdlKind, TokenKind, Capacity, listing_of, Fills, HasCapacity, as_bytes, capacity_for, most, packed, followed_by, value_bytes, row_bytes, is_full, Fill, Filling, Numbers, Rows}
+use Rattle.std.proofs.Common.{◌≡◌, ℕ, zero, suc, ◌+◌, ◌-◌, ◌≤◌, Bool, List, [], ◌∷◌, length, map, drop, refl, ap, arith, Option, Result, ◌&&◌, is_none, min, rules}
+use Rattle.cdl_values.proofs.Prelude.{Version, values, words, pieces_left, text_of, first_piece, Lexeme, followed, Value, Cutter, CdlKind, TokenKind, Capacity, AtMost, Unlimited, listing_of, Fills, HasCapacity, as_bytes, capacity_for, most, packed, Fill, Filling, Numbers, Rows}
+use Rattle.cdl_meaning.specs.State as states
 use Rattle.cdl_statements.specs.code.Roles.{first_role}
 use Rattle.cdl_statements.specs.code.CutSteps.{pieces_after, step, with_first}
 use Rattle.cdl_tokens.specs.Scan.{scan}
@@ -55,32 +56,25 @@ words_len c = search (rules, map_len, piece_len, tokens_len, drop_len, followed_
 
 -- ---- what the greatest capacity stands for
 
-some_left : (n : ℕ) (xs : List Value) (x : Value) → length (x ∷ xs) ≤ n → is_full (Some n) ≡ false
-some_left n xs x h = grind (arith, h)
-
 -- capacities that are both enough
-numbers_same : (fill : Fill) (n m : ℕ) (xs : List Value) → length xs ≤ n → length xs ≤ m → packed (Numbers fill) (Some n) xs ≡ packed (Numbers fill) (Some m) xs
+numbers_same : (fill : Fill) (n m : ℕ) (xs : List Value) → length xs ≤ n → length xs ≤ m → packed (Numbers fill) (AtMost n) xs ≡ packed (Numbers fill) (AtMost m) xs
 unfolding packed
 numbers_same fill n m [] a b = refl
-numbers_same fill n m (x ∷ xs) a b =
-    ap (λ full. followed_by (value_bytes fill.ty fill.value full x) (λ bytes. packed (Numbers fill) (Some (n - 1)) xs)) (some_left n xs x a ∙ sym (some_left m xs x b)) ∙
-    ap (λ (p : Result (List ℕ) CdlKind). followed_by (value_bytes fill.ty fill.value (is_full (Some m)) x) (λ bytes. p)) (numbers_same fill (n - 1) (m - 1) xs (omega (arith, a)) (omega (arith, b)))
+numbers_same fill n m (x ∷ xs) a b = grind (arith, numbers_same fill (n - 1) (m - 1) xs)
 
-rows_same : (len fill n m : ℕ) (xs : List Value) → length xs ≤ n → length xs ≤ m → packed (Rows len fill) (Some n) xs ≡ packed (Rows len fill) (Some m) xs
+rows_same : (len fill n m : ℕ) (xs : List Value) → length xs ≤ n → length xs ≤ m → packed (Rows len fill) (AtMost n) xs ≡ packed (Rows len fill) (AtMost m) xs
 unfolding packed
 rows_same len fill n m [] a b = refl
-rows_same len fill n m (x ∷ xs) a b =
-    ap (λ full. followed_by (row_bytes len fill full x) (λ bytes. packed (Rows len fill) (Some (n - 1)) xs)) (some_left n xs x a ∙ sym (some_left m xs x b)) ∙
-    ap (λ (p : Result (List ℕ) CdlKind). followed_by (row_bytes len fill (is_full (Some m)) x) (λ bytes. p)) (rows_same len fill (n - 1) (m - 1) xs (omega (arith, a)) (omega (arith, b)))
+rows_same len fill n m (x ∷ xs) a b = grind (arith, rows_same len fill (n - 1) (m - 1) xs)
 
 -- the capacity for m positions is as good as m
 capped : (n : ℕ) (packs : ℕ → Result (List ℕ) CdlKind) (m : ℕ) → ((k : ℕ) → n ≤ m → n ≤ k → packs m ≡ packs k) → n ≤ most → packs m ≡ packs (min m most)
 capped n packs m even few = search rules
 
-same : (f : Filling) (m : ℕ) (xs : List Value) → length xs ≤ most → packed f (Some m) xs ≡ packed f (Some (capacity_for f m)) xs
+same : (f : Filling) (m : ℕ) (xs : List Value) → length xs ≤ most → packed f (AtMost m) xs ≡ packed f (AtMost (capacity_for f m)) xs
 same f m xs h = grind (arith, capped, numbers_same, rows_same)
 
 -- the values of a variable with this capacity
-pub all_taken : (f : Filling) (capacity : Option ℕ) (r : Capacity) (xs : List Value) → Fills f r → HasCapacity f capacity r → length xs ≤ most → as_bytes r (listing_of r xs) ≡ packed f capacity xs
-all_taken f None r xs h takes few = all_turns f None r xs h takes
-all_taken f (Some n) r xs h takes few = grind (arith, all_turns f, same f)
+pub all_taken : (f : Filling) (capacity : Capacity) (r : states.Capacity) (xs : List Value) → Fills f r → HasCapacity f capacity r → length xs ≤ most → as_bytes r (listing_of r xs) ≡ packed f capacity xs
+all_taken f Unlimited r xs h takes few = all_turns f Unlimited r xs h takes
+all_taken f (AtMost n) r xs h takes few = grind (arith, all_turns f, same f)

@@ -1,6 +1,6 @@
 -- What the variables take of the data section.
-use Rattle.std.proofs.Common.{◌≡◌, ℕ, ◌+◌, ◌<◌, false, List, [], ◌∷◌, ◌++◌, length, map, take, get_or, sym, ap, ◌∙◌, subst, arith, rules, ℤ, min, Some, unsigned_abs}
-use Rattle.cdl_values.proofs.Prelude.{get_or-map, length-map, take-suc, map-append, IsInRange, bytes_of_number, dim_len, is_record_var, product, is_char, Dim, Draft, capacity_of, row_count, AreShaped, unlisted_drafts, unlisted_draft, AllSuit, Suits, Fills, HasCapacity, most, Fill, Filling, Numbers, Joined, Rows, Target, NcType, Char}
+use Rattle.std.proofs.Common.{◌≡◌, ℕ, ◌+◌, ◌<◌, false, List, [], ◌∷◌, ◌++◌, length, take, get_or, sym, ap, ◌∙◌, subst, arith, rules, ℤ, unsigned_abs}
+use Rattle.cdl_values.proofs.Prelude.{get_or-map, length-map, take-suc, map-append, IsInRange, bytes_of_number, is_char, Dim, Draft, AreShaped, unlisted_drafts, unlisted_draft, AllSuit, Suits, Target, NcType, Char}
 use Rattle.std.proofs.lemmas.List.Elements.{All-get_or}
 use Rattle.nc_base.specs.Headers.{AreDimids}
 use Rattle.nc_base.specs.declared.header.Var.{Var}
@@ -11,23 +11,6 @@ no_char ty h = grind arith
 -- the byte of a character
 pub char_byte : (n : ℤ) → IsInRange Char n → bytes_of_number Char n ≡ unsigned_abs n ∷ []
 char_byte n h = search rules
-
--- ---- capacities
-
-pub takes_numbers : (dims : List Dim) (var : Var) (filling : Filling) (fill : Fill) (n : ℕ) → filling ≡ Numbers fill → is_record_var dims var ≡ false →
-    n ≡ min (product (map (dim_len dims) var.dimids)) most → HasCapacity filling (Some n) (capacity_of dims var)
-unfolding capacity_of
-takes_numbers dims var filling fill n is closed count = grind arith
-
-pub takes_joined : (dims : List Dim) (var : Var) (filling : Filling) (n : ℕ) → filling ≡ Joined → Fills filling (capacity_of dims var) → is_record_var dims var ≡ false →
-    (length var.dimids < 2 → n ≡ product (map (dim_len dims) var.dimids)) → HasCapacity filling (Some n) (capacity_of dims var)
-unfolding capacity_of
-takes_joined dims var filling n is fills closed count = grind arith
-
-pub takes_rows : (dims : List Dim) (var : Var) (filling : Filling) (len fill n : ℕ) → filling ≡ Rows len fill → is_record_var dims var ≡ false →
-    n ≡ min (row_count dims var) most → HasCapacity filling (Some n) (capacity_of dims var)
-unfolding capacity_of
-takes_rows dims var filling len fill n is closed count = subst (λ (f : Filling). HasCapacity f (Some n) (capacity_of dims var)) (sym is) (closed, count)
 
 -- ---- a target more
 

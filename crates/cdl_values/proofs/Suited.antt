@@ -1,7 +1,7 @@
 -- Targets that suit a state's drafts: the premises of the data section's reader can be met.
-use Rattle.std.proofs.Common.{List, [], ◌∷◌, false, rules, ◌^◌, ◌-◌, codes, Some, None, pos, neg_ℤ}
+use Rattle.std.proofs.Common.{List, [], ◌∷◌, false, rules, ◌^◌, ◌-◌, codes, None, pos, neg_ℤ}
 use Rattle.nc_base.specs.Fill.{fill_value}
-use Rattle.cdl_values.proofs.Prelude.{Dim, Int, Char, Draft, capacity_of, has_number, AllSuit, Target, Fill, Numbers, Joined, Rows}
+use Rattle.cdl_values.proofs.Prelude.{Dim, Int, Char, Draft, capacity_of, has_number, AllSuit, AtMost, Target, Fill, Numbers, Joined, Rows}
 
 dims : List Dim
 dims = record { name = codes "n"; len = 2 } ∷ record { name = codes "k"; len = 3 } ∷ record { name = codes "w"; len = 2 ^ 40 } ∷ []
@@ -20,9 +20,9 @@ int_fill = record { ty = Int; value = neg_ℤ (pos 2147483647); in_range = searc
 
 targets : List Target
 targets =
-    record { filling = Numbers int_fill; capacity = Some 2; given = false } ∷
-    record { filling = Rows 3 0; capacity = Some 2; given = false } ∷ record { filling = Joined; capacity = Some 3; given = false } ∷
-    record { filling = Numbers int_fill; capacity = Some (2 ^ 64 - 1); given = false } ∷ []
+    record { filling = Numbers int_fill; capacity = AtMost 2; given = false } ∷
+    record { filling = Rows 3 0; capacity = AtMost 2; given = false } ∷ record { filling = Joined; capacity = AtMost 3; given = false } ∷
+    record { filling = Numbers int_fill; capacity = AtMost (2 ^ 64 - 1); given = false } ∷ []
 
 suited : AllSuit dims targets drafts
 unfolding dims drafts int_fill targets capacity_of fill_value

@@ -1,15 +1,15 @@
 -- A run of values, one value on.
-use Rattle.std.proofs.Common.{◌≡◌, ◌≤◌, ◌<◌, ℕ, ◌+◌, ◌-◌, Bool, true, false, List, ◌∷◌, length, drop, sym, ap, ◌∙◌, refl, subst, arith, Option, None, Ok, rules}
-use Rattle.cdl_values.proofs.Prelude.{Version, inner, string_value, value_of, values, is_done, version_of, words, completes, is_value_of, next, Lexeme, is_mark_kind, IsAtComma, Passes, PassesNumber, PassesString, Characters, token_fault, lexeme_with, Cutter, Due, Separator, at_same_comma, same_after, same_words, good_on, bytes_of, capacity_after, held_bytes, is_full, joined, capacity_minus, packed, row_bytes, GoesOn, Place, TakesValues, Fill, Filling, Numbers, Rows, past_mark}
+use Rattle.std.proofs.Common.{◌≡◌, ℕ, Bool, true, false, List, ◌∷◌, sym, ap, ◌∙◌, refl, subst, None, Ok, rules}
+use Rattle.cdl_values.proofs.Prelude.{inner, string_value, value_of, values, is_done, version_of, words, completes, is_value_of, next, Lexeme, IsAtComma, Passes, PassesNumber, PassesString, Characters, token_fault, lexeme_with, Cutter, Due, Separator, at_same_comma, same_after, same_words, good_on, Capacity, bytes_of, held_bytes, is_full, joined, capacity_minus, packed, row_bytes, GoesOn, Place, TakesValues, Fill, Filling, Numbers, Rows, past_mark}
 use Rattle.cdl_tokens.specs.declared.numeral.Numeral.{Numeral as Held}
 use Rattle.cdl_tokens.specs.declared.token.TokenKind.TheVariants as kinds
 use Rattle.cdl_statements.specs.code.NumberLists as lists
 use Rattle.cdl_statements.specs.declared.{number_list.NumberList.NumberList}
-use Rattle.cdl_values.proofs.PackedTokens.{added, is_after, one_packed, over_value}
+use Rattle.cdl_values.proofs.PackedTokens.{token_packed}
 use Rattle.cdl_values.proofs.Ranges.{good_number, number_added}
 
 -- the place where a cutter has come to
-abbrev pub reached : Cutter → List ℕ → Option ℕ → Place
+abbrev pub reached : Cutter → List ℕ → Capacity → Place
 reached cutter bytes left = record { cutter = cutter; bytes = bytes; left = left }
 
 -- nothing is passed
@@ -34,18 +34,6 @@ pub value_on : (takes_fill : Bool) (filling : Filling) (start rest : Place) (l :
 unfolding completes next
 value_on takes_fill filling start rest l at passes good value packs = search (rules, words, good_on, next, joined, values, past_mark)
 
--- one value is packed, and the capacity counts one less
-packs_one : (v : Version) (filling : Filling) (start rest : Place) (l : Lexeme) → is_mark_kind l.kind ≡ false → joined (Ok start.bytes) (bytes_of filling start.left (value_of v l l.kind)) ≡ Ok rest.bytes →
-    ((bytes : List ℕ) → capacity_after filling bytes start.left ≡ rest.left) → (ls : List Lexeme) →
-    joined (Ok start.bytes) (packed filling start.left (values v (l ∷ ls))) ≡ joined (Ok rest.bytes) (packed filling rest.left (values v ls))
-packs_one v filling start rest l other adds counts ls =
-    let w = value_of v l l.kind in
-    let r = bytes_of filling start.left w in
-    let ds = drop (length start.bytes) rest.bytes in
-    ap (λ vs. joined (Ok start.bytes) (packed filling start.left vs)) (over_value v l ls other) ∙
-    one_packed filling start.left w (values v ls) start.bytes rest.bytes ds (added start.bytes rest.bytes r adds) (is_after start.bytes rest.bytes r adds) ∙
-    ap (λ left. joined (Ok rest.bytes) (packed filling left (values v ls))) (counts ds)
-
 -- a number more
 pub number_on : (takes_fill : Bool) (fill : Fill) (start rest : Place) (n : Held) → IsAtComma start.cutter → PassesNumber start.cutter rest.cutter n → is_full start.left ≡ false →
     joined (Ok start.bytes) (held_bytes fill.ty n.minus n.magnitude) ≡ Ok rest.bytes → rest.left ≡ capacity_minus 1 start.left → TakesValues takes_fill (Numbers fill) start rest
@@ -54,7 +42,7 @@ number_on takes_fill fill start rest n at passes full adds left =
     let v = version_of start.cutter in
     let l = lexeme_with kinds.Number passes.bytes in
     let sum : joined (Ok start.bytes) (bytes_of (Numbers fill) start.left (value_of v l kinds.Number)) ≡ Ok rest.bytes = rw (full) (number_added start.bytes rest.bytes fill.ty fill.value _ n (passes.says v) adds) in
-    value_on takes_fill (Numbers fill) start rest l at passes.passes (good_number v passes.bytes n (passes.says v)) refl (packs_one v (Numbers fill) start rest l refl sum (λ _. sym left))
+    value_on takes_fill (Numbers fill) start rest l at passes.passes (good_number v passes.bytes n (passes.says v)) refl (λ ls. token_packed v (Numbers fill) start.left rest.left l ls start.bytes rest.bytes refl sum left)
 
 -- a row more
 pub row_on : (takes_fill : Bool) (len fill : ℕ) (start rest : Place) (bytes : List ℕ) → IsAtComma start.cutter → PassesString start.cutter rest.cutter bytes → is_full start.left ≡ false →
@@ -65,28 +53,15 @@ row_on takes_fill len fill start rest bytes at passes full adds left =
     let l = lexeme_with kinds.Text bytes in
     let sum : joined (Ok start.bytes) (bytes_of (Rows len fill) start.left (value_of v l kinds.Text)) ≡ Ok rest.bytes =
     ap (λ b. joined (Ok start.bytes) (row_bytes len fill b (Characters (string_value (inner bytes))))) full ∙ adds in
-    value_on takes_fill (Rows len fill) start rest l at passes.passes refl refl (packs_one v (Rows len fill) start rest l refl sum (λ _. sym left))
-
--- what capacity is left
-pub none_counted : (capacity : Option ℕ) → capacity ≡ capacity_minus 0 capacity
-none_counted capacity = grind arith
-
-pub counted : (n : ℕ) (capacity : Option ℕ) → capacity_minus (n + 1) capacity ≡ capacity_minus 1 (capacity_minus n capacity)
-counted n capacity = grind arith
-
-pub all_counted : (n : ℕ) (capacity : Option ℕ) → capacity ≡ capacity_minus (n - n) capacity
-all_counted n capacity = none_counted capacity ∙ ap (λ m. capacity_minus m capacity) (let e : 0 ≡ n - n = omega arith in e)
-
-pub counted_down : (n left : ℕ) (capacity : Option ℕ) → left ≤ n → 0 < left → capacity_minus (n - (left - 1)) capacity ≡ capacity_minus 1 (capacity_minus (n - left) capacity)
-counted_down n left capacity within some = ap (λ m. capacity_minus m capacity) (let e : n - (left - 1) ≡ n - left + 1 = omega (arith, within, some) in e) ∙ counted (n - left) capacity
+    value_on takes_fill (Rows len fill) start rest l at passes.passes refl refl (λ ls. token_packed v (Rows len fill) start.left rest.left l ls start.bytes rest.bytes refl sum left)
 
 -- the same place
-pub ended : (takes_fill : Bool) (filling : Filling) (start there : Place) (cutter : Cutter) (left : Option ℕ) → cutter ≡ there.cutter → left ≡ there.left → TakesValues takes_fill filling start there →
+pub ended : (takes_fill : Bool) (filling : Filling) (start there : Place) (cutter : Cutter) (left : Capacity) → cutter ≡ there.cutter → left ≡ there.left → TakesValues takes_fill filling start there →
     TakesValues takes_fill filling start (reached cutter there.bytes left)
 ended takes_fill filling start there cutter left same_place same_left so = search (rules, reached)
 
 -- a cutter at the same place
-pub ended_at : (takes_fill : Bool) (filling : Filling) (start there : Place) (cutter : Cutter) (left : Option ℕ) → lists.SamePlace cutter there.cutter → left ≡ there.left → TakesValues takes_fill filling start there →
+pub ended_at : (takes_fill : Bool) (filling : Filling) (start there : Place) (cutter : Cutter) (left : Capacity) → lists.SamePlace cutter there.cutter → left ≡ there.left → TakesValues takes_fill filling start there →
     TakesValues takes_fill filling start (reached cutter there.bytes left)
 ended_at takes_fill filling start there cutter left same same_left so = search (rules, same_words, at_same_comma, joined, values, words, same_after)
 

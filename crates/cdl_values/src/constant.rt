@@ -6,6 +6,7 @@ ghost use Rattle.cdl_meaning.specs.State.{add_constant, type_said};
 ghost use Rattle.cdl_values.specs.code.Answers.{GivesRead, Leaves};
 ghost use Rattle.cdl_values.specs.code.TokenValues.{AddsNumber, AddsToken, text_said, constants_read, value_said};
 
+use crate::capacity::Capacity;
 use crate::number::{number_or_zero, put_numeral};
 use crate::read_error::ReadError;
 use crate::string::put_text;
@@ -107,5 +108,5 @@ fn put_characters(vals: &mut ListedArray, ty: NcType, bytes: &[u8]) -> Result<()
     if ty.code() != NcType::Char.code() {
         return Err(ReadError::Fault(CdlKind::MixedConstants));
     }
-    put_text(vals, None, bytes)
+    put_text(vals, Capacity::Unlimited, bytes)
 }

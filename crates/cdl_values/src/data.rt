@@ -8,6 +8,7 @@ ghost use Rattle.cdl_values.specs.code.DataRead.{if_new, statement_read, target_
 ghost use Rattle.cdl_values.specs.code.Meant.{MeansWhatIsGiven, name_said};
 ghost use Rattle.cdl_values.specs.code.NameIndices.{IsPosition};
 
+use crate::capacity::Capacity;
 use crate::filling::Filling;
 use crate::name::read_name;
 use crate::packing::{pack, pack_good};
@@ -23,8 +24,8 @@ use std::alloc::Global;
 pub struct Target {
     /// The form in which it takes values.
     pub filling: Filling,
-    /// How many numbers, bytes or rows it takes, as `filling` counts them, or `None` for any number.
-    pub capacity: Option<u64>,
+    /// How many numbers, bytes or rows it takes, as `filling` counts them.
+    pub capacity: Capacity,
     /// True if an earlier statement gave its values.
     pub given: bool,
 }

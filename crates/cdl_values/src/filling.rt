@@ -1,8 +1,8 @@
-//! In which form a variable takes the values that a statement lists, and how many more it takes.
+//! In which form a variable takes the values that a statement lists.
 
 ghost use Rattle.std.specs.Prelude.{◌≡◌, ℕ, List, length};
-ghost use Rattle.cdl_values.specs.code.PackedValues.{is_full, is_past, capacity_minus};
 
+use crate::capacity::Capacity;
 use crate::fill::Fill;
 
 /// The form in which a variable takes the values that a statement lists.
@@ -19,50 +19,13 @@ pub enum Filling {
 impl Filling {
     ghost use Rattle.cdl_values.specs.code.PackedValues.{capacity_after};
 
-    /// Returns the capacity that is left after a value of `n` bytes. A number or a row takes 1, a joined string takes `n`, and the result
-    /// is at least 0. Returns `None` if the capacity is `None`, which is no limit.
-    pub fn capacity_after(self, n: u128, capacity: Option<u64>) -> Option<u64>
+    /// Returns the capacity that is left after a value of `n` bytes. A number or a row takes 1 of it, and a joined string takes `n`.
+    pub fn capacity_after(self, n: u128, capacity: Capacity) -> Capacity
         ensures { (bytes : List ℕ) → length bytes ≡ n → result ≡ capacity_after self bytes capacity }
     {
         match self {
-            Filling::Numbers(_) | Filling::Rows { .. } => capacity_minus(1, capacity),
-            Filling::Joined => capacity_minus(n, capacity),
+            Filling::Numbers(_) | Filling::Rows { .. } => capacity.minus(1),
+            Filling::Joined => capacity.minus(n),
         }
-    }
-}
-
-/// Returns true if the capacity is 0. Returns false for `None`, which is no limit.
-pub fn is_full(capacity: Option<u64>) -> bool
-    ensures { result ≡ is_full capacity }
-{
-    match capacity {
-        Some(left) => left == 0,
-        None => false,
-    }
-}
-
-/// Returns true if `n` is more than the capacity. Returns false for `None`, which is no limit.
-pub fn is_past(n: u128, capacity: Option<u64>) -> bool
-    ensures { result ≡ is_past n capacity }
-{
-    match capacity {
-        Some(left) => (left as u128) < n,
-        None => false,
-    }
-}
-
-/// Returns the capacity minus `n`, or 0 if `n` is greater. Returns `None` if the capacity is `None`, which is no limit.
-pub fn capacity_minus(n: u128, capacity: Option<u64>) -> Option<u64>
-    ensures { result ≡ capacity_minus n capacity }
-{
-    match capacity {
-        Some(left) => {
-            if n > left as u128 {
-                Some(0)
-            } else {
-                Some(left - n as u64)
-            }
-        }
-        None => None,
     }
 }

@@ -10,6 +10,7 @@
 //! ```
 #![tactic(auto)]
 
+mod capacity;
 mod constant;
 mod data;
 mod fill;
@@ -25,6 +26,7 @@ mod value;
 mod value_run;
 mod variable_names;
 
+pub use capacity::Capacity;
 pub use constant::{read_constants, type_said};
 pub use data::{Given, Target, read_data_statement};
 pub use fill::Fill;

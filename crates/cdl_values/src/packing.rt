@@ -7,6 +7,7 @@ ghost use Rattle.cdl_statements.specs.Shapes.{first_bad};
 ghost use Rattle.cdl_values.specs.code.Answers.{GivesRead};
 ghost use Rattle.cdl_values.specs.code.TokenValues.{packed_from};
 
+use crate::capacity::Capacity;
 use crate::filling::Filling;
 use crate::read_error::ReadError;
 use crate::value::{FastPathFault, put_token, take_good};
@@ -25,7 +26,7 @@ pub struct Packed<'a> {
 }
 
 /// Packs the values from the next token to the end of the statement, and returns their bytes, big-endian and one after the other. `filling`
-/// is the form in which the variable takes values, and `capacity` is how many it takes, or `None` for any number.
+/// is the form in which the variable takes values, and `capacity` is how many it takes.
 ///
 /// # Errors
 ///
@@ -35,7 +36,7 @@ pub fn pack(
     alloc: Global,
     start: Cutter<'_>,
     filling: Filling,
-    capacity: Option<u64>,
+    capacity: Capacity,
 ) -> Result<ListedArray, ReadError>
     requires { is_done start ≡ false }
     ensures { GivesRead (λ a. a) result (packed_from filling capacity start.entry) }
@@ -65,7 +66,7 @@ pub fn pack_good<'a>(
     alloc: Global,
     start: Cutter<'a>,
     filling: Filling,
-    capacity: Option<u64>,
+    capacity: Capacity,
 ) -> Result<Packed<'a>, FastPathFault>
     requires { is_done start ≡ false }
     ensures bad { OnOk result (first_bad (version_of start.entry) (words start.entry) ≡ None) }

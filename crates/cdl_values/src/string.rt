@@ -10,7 +10,7 @@ ghost use Rattle.cdl_values.specs.code.PackedValues.{char_bytes, row_bytes, text
 ghost use Rattle.cdl_values.specs.code.TokenValues.{text_said};
 ghost use Rattle.cdl_values.specs.declared.read_error.ReadError.TheVariants.{Fault};
 
-use crate::filling::is_past;
+use crate::capacity::Capacity;
 use crate::read_error::ReadError;
 use cdl_statements::CdlKind;
 use cdl_tokens::{character, first_bytes, len_before_escape};
@@ -19,17 +19,13 @@ use std::alloc::AllocError;
 
 /// Appends to `array` the bytes that a string stands for. `bytes` is the string with its quotes. Errs with `StringTooLong` if the string
 /// stands for more bytes than the capacity (they stay appended), and with `OutOfMemory` if an allocation failed.
-#[tactic(auto, using(crate::proofs::PackedTokens::chars_len))]
-pub fn put_text(
-    array: &mut ListedArray,
-    capacity: Option<u64>,
-    bytes: &[u8],
-) -> Result<(), ReadError>
+#[tactic(auto, using(crate::proofs::PackedTokens::chars_len, std::proofs::lemmas::Grind::common_steps))]
+pub fn put_text(array: &mut ListedArray, capacity: Capacity, bytes: &[u8]) -> Result<(), ReadError>
     ensures { Adds array.old array.new result (text_bytes capacity (text_said bytes.now)) }
 {
     let before = array.len();
     put_string(array, inner(bytes))?;
-    if is_past(array.len().saturating_sub(before), capacity) {
+    if capacity.is_past(array.len().saturating_sub(before)) {
         return Err(ReadError::Fault(CdlKind::StringTooLong));
     }
     Ok(())
@@ -38,7 +34,7 @@ pub fn put_text(
 /// Appends to `array` a row of `len` bytes: the bytes that a string stands for, filled up with `fill`. `bytes` is the string with its
 /// quotes, and `full` is true if the variable takes no more rows. Errs with `TooManyValues` if `full`, with `StringTooLong` if the string
 /// stands for more than `len` bytes (they stay appended), and with `OutOfMemory` if an allocation failed.
-#[tactic(auto, using(crate::proofs::PackedTokens::chars_len))]
+#[tactic(auto, using(crate::proofs::PackedTokens::chars_len, std::proofs::lemmas::Grind::common_steps))]
 pub fn put_row(
     array: &mut ListedArray,
     len: u64,

@@ -9,6 +9,7 @@ ghost use Rattle.cdl_values.specs.code.Capacities.{Fills, HasCapacityAsFilled, m
 ghost use Rattle.cdl_values.specs.code.Listed.{unlisted_draft};
 ghost use Rattle.cdl_values.specs.code.Meant.{SuitVariables, Suits};
 
+use crate::capacity::Capacity;
 use crate::data::Target;
 use crate::fill::Fill;
 use crate::filling::Filling;
@@ -72,19 +73,19 @@ fn characters(dims: &[Dim], var: &Var) -> Filling
     }
 }
 
-/// Returns how many numbers, bytes or rows, as `filling` counts them, a variable takes. Returns `None` for a record variable, which has no
-/// limit.
-fn capacity(dims: &[Dim], var: &Var, filling: Filling) -> Option<u64>
+/// Returns how many numbers, bytes or rows, as `filling` counts them, a variable takes. A record variable has no limit.
+#[tactic(auto, unfolding(cdl_meaning::specs::State::capacity_of))]
+fn capacity(dims: &[Dim], var: &Var, filling: Filling) -> Capacity
     ensures { HasCapacityAsFilled dims.now var.now filling result }
 {
     let dimids = var.dimids.as_slice();
     if is_record_var(dims, var) {
-        return None;
+        return Capacity::Unlimited;
     }
     match filling {
-        Filling::Numbers(_) => Some(place_count(dims, dimids)),
-        Filling::Joined => Some(first_len(dims, dimids)),
-        Filling::Rows { .. } => Some(place_count(dims, all_but_last(dimids))),
+        Filling::Numbers(_) => Capacity::AtMost(place_count(dims, dimids)),
+        Filling::Joined => Capacity::AtMost(first_len(dims, dimids)),
+        Filling::Rows { .. } => Capacity::AtMost(place_count(dims, all_but_last(dimids))),
     }
 }
 

@@ -1,5 +1,5 @@
 //! The values of the data section, one at a time. `filling` is the form in which the variable takes values, and `capacity` is how many more
-//! it takes, or `None` for any number.
+//! it takes.
 
 ghost use Rattle.std.specs.Prelude.{◌≡◌, None, OnOk, IfOk};
 ghost use Rattle.cdl_statements.specs.code.DueTokens.{next};
@@ -10,8 +10,9 @@ ghost use Rattle.cdl_values.specs.code.Answers.{Adds, RefusesValue};
 ghost use Rattle.cdl_values.specs.code.TokenValues.{Appends, AppendsNumber, CountsOne, PacksGood, PacksToken, TakesGood};
 ghost use Rattle.cdl_values.specs.code.TokenValues.{at, number_token_bytes, token_bytes};
 
+use crate::capacity::Capacity;
 use crate::fill::Fill;
-use crate::filling::{Filling, capacity_minus, is_full};
+use crate::filling::Filling;
 use crate::number::{number_or_zero, put_number, put_numeral};
 use crate::read_error::ReadError;
 use crate::string::{put_row, put_text};
@@ -47,9 +48,9 @@ pub fn put_token(
     array: &mut ListedArray,
     version: Version,
     filling: Filling,
-    capacity: Option<u64>,
+    capacity: Capacity,
     token: Lexeme<'_>,
-) -> Result<Option<u64>, ReadError>
+) -> Result<Capacity, ReadError>
     ensures { PacksToken version filling token.entry (at array.old capacity) array.new result }
 {
     match token.kind {
@@ -70,10 +71,10 @@ pub fn take_good(
     array: &mut ListedArray,
     version: Version,
     filling: &Filling,
-    capacity: Option<u64>,
+    capacity: Capacity,
     due: Due,
     token: Lexeme<'_>,
-) -> Result<(Option<u64>, Due), FastPathFault>
+) -> Result<(Capacity, Due), FastPathFault>
     ensures good { OnOk result (token_fault version token.entry.kind token.entry.bytes.now ≡ None) }
     ensures shape { IfOk result (λ r. r.1 ≡ next due (lexeme_of token.entry)) }
     ensures packs { TakesGood version filling.now token.entry (at array.old capacity) array.new result }
@@ -94,9 +95,9 @@ pub fn put_good_value(
     array: &mut ListedArray,
     version: Version,
     filling: &Filling,
-    capacity: Option<u64>,
+    capacity: Capacity,
     token: Lexeme<'_>,
-) -> Result<Option<u64>, FastPathFault>
+) -> Result<Capacity, FastPathFault>
     requires { token.kind ≡ TokenKind.Mark → ⊥ }
     ensures good { OnOk result (token_fault version token.entry.kind token.entry.bytes.now ≡ None) }
     ensures packs { PacksGood version filling.now token.entry (at array.old capacity) array.new result }
@@ -105,7 +106,7 @@ pub fn put_good_value(
         // A number is one value, so that its bytes needn't be counted.
         TokenKind::Number => {
             put_good_number(array, version, *filling, capacity, token.bytes)?;
-            Ok(capacity_minus(1, capacity))
+            Ok(capacity.minus(1))
         }
         _ => {
             let before = array.len();
@@ -123,7 +124,7 @@ fn put_good(
     array: &mut ListedArray,
     version: Version,
     filling: &Filling,
-    capacity: Option<u64>,
+    capacity: Capacity,
     token: Lexeme<'_>,
 ) -> Result<(), FastPathFault>
     requires { token.kind ≡ TokenKind.Number → ⊥ }
@@ -144,7 +145,7 @@ fn put_good_number(
     array: &mut ListedArray,
     version: Version,
     filling: Filling,
-    capacity: Option<u64>,
+    capacity: Capacity,
     bytes: &[u8],
 ) -> Result<(), FastPathFault>
     ensures good { OnOk result (token_fault version TokenKind.Number bytes.now ≡ None) }
@@ -154,7 +155,7 @@ fn put_good_number(
     let Filling::Numbers(fill) = filling else {
         return Err(FastPathFault::Unnamed);
     };
-    if is_full(capacity) {
+    if capacity.is_full() {
         return Err(FastPathFault::Unnamed);
     }
     let n = number_of_token(version, bytes).ok_or(FastPathFault::Unnamed)?;
@@ -169,12 +170,12 @@ fn put_token_value(
     array: &mut ListedArray,
     version: Version,
     filling: Filling,
-    capacity: Option<u64>,
+    capacity: Capacity,
     token: Lexeme<'_>,
 ) -> Result<(), ReadError>
     ensures { Adds array.old array.new result (token_bytes filling capacity version token.entry) }
 {
-    let full = is_full(capacity);
+    let full = capacity.is_full();
     match filling {
         Filling::Numbers(fill) => put_number_or_fill(array, version, fill, full, token),
         Filling::Joined => match token.kind {

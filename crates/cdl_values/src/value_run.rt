@@ -1,13 +1,14 @@
 //! Runs of values of a statement. A comma stands before and after each value of a run.
 
-ghost use Rattle.std.specs.Prelude.{◌≡◌, ◌<◌, ℕ, false};
+ghost use Rattle.std.specs.Prelude.{◌≡◌, false};
 ghost use Rattle.cdl_statements.specs.code.Cutters.{is_done};
 ghost use Rattle.cdl_statements.specs.code.ListedTokens.{EndsAtScanner, IsAtComma};
-ghost use Rattle.cdl_values.specs.code.PackedValues.{is_full, capacity_minus};
+ghost use Rattle.cdl_values.specs.code.PackedValues.{capacity_minus};
 ghost use Rattle.cdl_values.specs.code.ValueRuns.{GoesTo, TakesPlain, TakesTo, place};
 
+use crate::capacity::Capacity;
 use crate::fill::Fill;
-use crate::filling::{Filling, capacity_minus, is_full};
+use crate::filling::Filling;
 use crate::number::{put_numeral, put_numeral_here};
 use crate::string::put_plain_row;
 use crate::value::{FastPathFault, put_good_value};
@@ -20,8 +21,8 @@ use nc_base::{ListedArray, NcType};
 pub struct UnreadValues<'a> {
     /// The cutter at the next token.
     pub cutter: Cutter<'a>,
-    /// How many more numbers, bytes or rows the variable takes, or `None` for any number.
-    pub capacity: Option<u64>,
+    /// How many more numbers, bytes or rows the variable takes.
+    pub capacity: Capacity,
 }
 
 /// Appends to `array` the values that come next, as long as a comma stands before and after each, and returns what is unread after them.
@@ -119,7 +120,7 @@ fn take_numbers<'a>(
     requires { IsAtComma start.cutter }
     ensures { TakesPlain (Filling.Numbers fill) (place start.entry array.old) array.new result }
 {
-    if is_full(start.capacity) {
+    if start.capacity.is_full() {
         return Ok(start);
     }
     let mut cutter = start.cutter;
@@ -171,7 +172,7 @@ fn take_typed<'a>(
     requires ty { ty ≡ fill.ty }
     ensures { TakesPlain (Filling.Numbers fill) (place start.entry array.old) array.new result }
 {
-    let room = room_of(start.capacity);
+    let room = start.capacity.limit();
     let mut list = NumberList::new(start.cutter);
     let mut left = room;
     'numbers: while left > 0 {
@@ -199,7 +200,7 @@ fn take_rows<'a>(
     requires { IsAtComma start.cutter }
     ensures { TakesPlain (Filling.Rows len fill) (place start.entry array.old) array.new result }
 {
-    let room = room_of(start.capacity);
+    let room = start.capacity.limit();
     let mut cutter = start.cutter;
     let mut count = 0;
     'rows: while count < room {
@@ -216,19 +217,12 @@ fn take_rows<'a>(
 
 /// Returns what is unread from `cutter` on, after `count` values that each take 1 of `capacity`.
 #[inline(always)]
-fn after_values<'a>(cutter: Cutter<'a>, count: u64, capacity: Option<u64>) -> UnreadValues<'a>
+fn after_values<'a>(cutter: Cutter<'a>, count: u64, capacity: Capacity) -> UnreadValues<'a>
     ensures cutter { result.cutter ≡ cutter.entry }
     ensures capacity { result.capacity ≡ capacity_minus count capacity }
 {
     UnreadValues {
         cutter,
-        capacity: capacity_minus(count as u128, capacity),
+        capacity: capacity.minus(count as u128),
     }
-}
-
-/// Returns the capacity, or `u64::MAX` if there is no limit.
-fn room_of(capacity: Option<u64>) -> u64
-    ensures { (n : ℕ) → n < result → is_full (capacity_minus n capacity) ≡ false }
-{
-    capacity.unwrap_or(u64::MAX)
 }

@@ -3,7 +3,7 @@
 use crate::name_indices::IndexedVars;
 use crate::whole_texts::{header_of, kind_of};
 use cdl_statements::{CdlKind, Cutter};
-use cdl_values::{Fill, Filling, ReadError, Target, read_data_statement};
+use cdl_values::{Capacity, Fill, Filling, ReadError, Target, read_data_statement};
 use nc_base::{NcType, Version};
 use std::alloc::Global;
 use std::process::Abort;
@@ -20,27 +20,27 @@ fn values_of(alloc: Global, text: &[u8]) -> Result<Vec<u8>, ReadError> {
     let targets = [
         Target {
             filling: short,
-            capacity: Some(3),
+            capacity: Capacity::AtMost(3),
             given: false,
         },
         Target {
             filling: Filling::Joined,
-            capacity: Some(4),
+            capacity: Capacity::AtMost(4),
             given: false,
         },
         Target {
             filling: Filling::Rows { len: 3, fill: 0 },
-            capacity: Some(2),
+            capacity: Capacity::AtMost(2),
             given: false,
         },
         Target {
             filling: int,
-            capacity: None,
+            capacity: Capacity::Unlimited,
             given: false,
         },
         Target {
             filling: short,
-            capacity: Some(3),
+            capacity: Capacity::AtMost(3),
             given: true,
         },
     ];

@@ -9,7 +9,8 @@ use Rattle.cdl_statements.specs.Shapes.{Value, Number, Characters, Underscore}
 use Rattle.cdl_statements.specs.declared.fault.CdlKind.{CdlKind}
 use Rattle.cdl_statements.specs.declared.fault.CdlKind.TheVariants.{NumberRange, WrongKind, TooManyValues, StringTooLong}
 use Rattle.cdl_meaning.specs.State.{has_number}
-use Rattle.cdl_values.specs.declared.filling.Filling.{Filling}
+use Rattle.cdl_values.specs.declared.{capacity.Capacity.Capacity, filling.Filling.Filling}
+use Rattle.cdl_values.specs.declared.capacity.Capacity.TheVariants.{AtMost, Unlimited}
 use Rattle.cdl_values.specs.declared.filling.Filling.TheVariants.{Numbers, Joined, Rows}
 
 -- the greatest magnitude of a type's numbers with and without a minus
@@ -37,18 +38,20 @@ held_bytes ty minus (Some m) = if nat_le m (greatest ty minus) then Ok (bytes_of
 abbrev pub char_bytes : List ℕ → List ℕ
 char_bytes bytes = flat_map (bytes_of_number Char) (map pos bytes)
 
--- capacity for no value more; with None there is always capacity
-abbrev pub is_full : Option ℕ → Bool
-is_full None = false
-is_full (Some n) = n == 0
+-- no more values are taken
+abbrev pub is_full : Capacity → Bool
+is_full Unlimited = false
+is_full (AtMost n) = n == 0
 
-abbrev pub capacity_minus : ℕ → Option ℕ → Option ℕ
-capacity_minus n None = None
-capacity_minus n (Some m) = Some (m - n)
+-- what is left after n values
+abbrev pub capacity_minus : ℕ → Capacity → Capacity
+capacity_minus n Unlimited = Unlimited
+capacity_minus n (AtMost m) = AtMost (m - n)
 
-abbrev pub is_past : ℕ → Option ℕ → Bool
-is_past n None = false
-is_past n (Some m) = nat_lt m n
+-- fewer than n more values are taken
+abbrev pub is_past : ℕ → Capacity → Bool
+is_past n Unlimited = false
+is_past n (AtMost m) = nat_lt m n
 
 -- the bytes of a value of a variable of numbers
 abbrev pub value_bytes : NcType → ℤ → Bool → Value → Result (List ℕ) CdlKind
@@ -57,7 +60,7 @@ value_bytes ty fill full Underscore = if full then Err TooManyValues else Ok (by
 value_bytes ty fill full (Number n) = if full then Err TooManyValues else number_bytes ty n.value
 
 -- of a variable of characters of rank 0 or 1, whose capacity is in bytes
-abbrev pub text_bytes : Option ℕ → Value → Result (List ℕ) CdlKind
+abbrev pub text_bytes : Capacity → Value → Result (List ℕ) CdlKind
 text_bytes capacity (Characters bytes) = if is_past (length bytes) capacity then Err StringTooLong else Ok (char_bytes bytes)
 text_bytes capacity v = Err WrongKind
 
@@ -66,13 +69,13 @@ abbrev pub row_bytes : ℕ → ℕ → Bool → Value → Result (List ℕ) CdlK
 row_bytes len fill full (Characters bytes) = if full then Err TooManyValues else (if nat_lt len (length bytes) then Err StringTooLong else Ok (char_bytes bytes ++ replicate (len - length bytes) fill))
 row_bytes len fill full v = Err WrongKind
 
-abbrev pub bytes_of : Filling → Option ℕ → Value → Result (List ℕ) CdlKind
+abbrev pub bytes_of : Filling → Capacity → Value → Result (List ℕ) CdlKind
 bytes_of (Numbers fill) capacity v = value_bytes fill.ty fill.value (is_full capacity) v
 bytes_of Joined capacity v = text_bytes capacity v
 bytes_of (Rows len fill) capacity v = row_bytes len fill (is_full capacity) v
 
 -- the capacity that is left after a value with these bytes: in values, in bytes or in rows
-abbrev pub capacity_after : Filling → List ℕ → Option ℕ → Option ℕ
+abbrev pub capacity_after : Filling → List ℕ → Capacity → Capacity
 capacity_after (Numbers fill) bytes capacity = capacity_minus 1 capacity
 capacity_after Joined bytes capacity = capacity_minus (length bytes) capacity
 capacity_after (Rows len fill) bytes capacity = capacity_minus 1 capacity
@@ -89,6 +92,6 @@ followed_by (Err e) rest = Err e
 followed_by (Ok bytes) rest = joined (Ok bytes) (rest bytes)
 
 -- the bytes of the values of a variable, which has so much capacity
-unfoldable pub packed : Filling → Option ℕ → List Value → Result (List ℕ) CdlKind
+unfoldable pub packed : Filling → Capacity → List Value → Result (List ℕ) CdlKind
 packed filling capacity [] = Ok []
 packed filling capacity (v ∷ vs) = followed_by (bytes_of filling capacity v) (λ bytes. packed filling (capacity_after filling bytes capacity) vs)

@@ -1,5 +1,5 @@
 -- For contracts. The values of tokens, packed one after the other.
-use Rattle.std.specs.Prelude.{ℕ, ◌≡◌, Bool, List, [], ◌∷◌, Option, Result, Ok, ⊤, OnOk, IfOk}
+use Rattle.std.specs.Prelude.{ℕ, ◌≡◌, Bool, List, [], ◌∷◌, Result, Ok, ⊤, OnOk, IfOk}
 use Rattle.nc_base.specs.declared.{nc_type.NcType.NcType, version.Version.Version}
 use Rattle.cdl_tokens.specs.Escapes.{inner, string_value}
 use Rattle.cdl_tokens.specs.code.Magnitudes.{held}
@@ -15,7 +15,7 @@ use Rattle.cdl_statements.specs.declared.{cutter.Cutter.Cutter, due.Due.Due, fau
 use Rattle.cdl_meaning.specs.State.{add_constant, in_turn}
 use Rattle.cdl_values.specs.code.Answers.{ContinuesRead, Leaves}
 use Rattle.cdl_values.specs.code.PackedValues.{bytes_of, capacity_after, joined, capacity_minus, packed, value_bytes}
-use Rattle.cdl_values.specs.declared.{fill.Fill.Fill, filling.Filling.Filling, read_error.ReadError.ReadError, value.FastPathFault.FastPathFault}
+use Rattle.cdl_values.specs.declared.{capacity.Capacity.Capacity, fill.Fill.Fill, filling.Filling.Filling, read_error.ReadError.ReadError, value.FastPathFault.FastPathFault}
 
 -- ---- one token
 
@@ -28,11 +28,11 @@ abbrev pub text_said : List ℕ → Value
 text_said bytes = Characters (string_value (inner bytes))
 
 -- the bytes of a token's value
-abbrev pub token_bytes : Filling → Option ℕ → Version → Lexeme → Result (List ℕ) CdlKind
+abbrev pub token_bytes : Filling → Capacity → Version → Lexeme → Result (List ℕ) CdlKind
 token_bytes filling capacity version token = bytes_of filling capacity (value_said version token)
 
 -- the same of a token that is a number
-abbrev pub numeral_bytes : Filling → Option ℕ → Version → List ℕ → Result (List ℕ) CdlKind
+abbrev pub numeral_bytes : Filling → Capacity → Version → List ℕ → Result (List ℕ) CdlKind
 numeral_bytes filling capacity version bytes = bytes_of filling capacity (value_of version (lexeme_with kinds.Number bytes) kinds.Number)
 
 -- the same of a variable of numbers
@@ -40,7 +40,7 @@ abbrev pub number_token_bytes : Fill → Bool → Version → Lexeme → Result 
 number_token_bytes fill full version token = value_bytes fill.ty fill.value full (value_said version token)
 
 -- a value takes one of the capacity, whatever its bytes
-abbrev pub CountsOne : Filling → Option ℕ → Type 0
+abbrev pub CountsOne : Filling → Capacity → Type 0
 CountsOne filling capacity = (added : List ℕ) → capacity_after filling added capacity ≡ capacity_minus 1 capacity
 
 -- ---- one token after the other
@@ -48,9 +48,9 @@ CountsOne filling capacity = (added : List ℕ) → capacity_after filling added
 -- packing, between two tokens: the bytes so far, and the capacity that is left
 pub record Packing : Type 0 where
   pub bytes : List ℕ
-  pub left : Option ℕ
+  pub left : Capacity
 
-abbrev pub at : List ℕ → Option ℕ → Packing
+abbrev pub at : List ℕ → Capacity → Packing
 at bytes left = record { bytes = bytes; left = left }
 
 -- the bytes with the values of these tokens
@@ -58,7 +58,7 @@ abbrev pub packed_on : Version → Filling → Packing → List lexemes.Lexeme �
 packed_on version filling here tokens = joined (Ok here.bytes) (packed filling here.left (values version tokens))
 
 -- the token's value is added, which leaves such a capacity; or the fault is that of the values
-abbrev pub PacksToken : Version → Filling → Lexeme → Packing → List ℕ → Result (Option ℕ) ReadError → Type 0
+abbrev pub PacksToken : Version → Filling → Lexeme → Packing → List ℕ → Result Capacity ReadError → Type 0
 PacksToken version filling token before bytes result =
     (rest : List lexemes.Lexeme) → ContinuesRead (λ left. packed_on version filling (at bytes left) rest) result (packed_on version filling before (lexeme_of token ∷ rest))
 
@@ -67,10 +67,10 @@ abbrev pub Packs : Version → Filling → Lexeme → Packing → Packing → Ty
 Packs version filling token before after = (rest : List lexemes.Lexeme) → packed_on version filling before (lexeme_of token ∷ rest) ≡ packed_on version filling after rest
 
 -- with an Ok the token's value is added, which leaves such a capacity
-abbrev pub PacksGood : Version → Filling → Lexeme → Packing → List ℕ → Result (Option ℕ) FastPathFault → Type 0
+abbrev pub PacksGood : Version → Filling → Lexeme → Packing → List ℕ → Result Capacity FastPathFault → Type 0
 PacksGood version filling token before bytes result = IfOk result (λ left. Packs version filling token before (at bytes left))
 
-abbrev pub TakesGood : Version → Filling → Lexeme → Packing → List ℕ → Result (Option ℕ × Due) FastPathFault → Type 0
+abbrev pub TakesGood : Version → Filling → Lexeme → Packing → List ℕ → Result (Capacity × Due) FastPathFault → Type 0
 TakesGood version filling token before bytes result = IfOk result (λ r. Packs version filling token before (at bytes r.0))
 
 -- with an Ok the bytes of the token's value are appended
@@ -82,7 +82,7 @@ abbrev pub AppendsNumber : Version → Filling → List ℕ → Packing → List
 AppendsNumber version filling bytes before after result = OnOk result (joined (Ok before.bytes) (numeral_bytes filling before.left version bytes) ≡ Ok after)
 
 -- the values from a cutter on, packed
-abbrev pub packed_from : Filling → Option ℕ → Cutter → Result (List ℕ) CdlKind
+abbrev pub packed_from : Filling → Capacity → Cutter → Result (List ℕ) CdlKind
 packed_from filling capacity start = packed filling capacity (values (version_of start) (words start))
 
 -- ---- constants

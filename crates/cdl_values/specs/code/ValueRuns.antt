@@ -1,5 +1,5 @@
 -- For contracts. What goes past several values of a statement at once.
-use Rattle.std.specs.Prelude.{ℕ, List, Bool, ◌≡◌, ◌≤◌, false, Option, Result, Ok, IfOk}
+use Rattle.std.specs.Prelude.{ℕ, List, Bool, ◌≡◌, ◌≤◌, false, Result, Ok, IfOk}
 use Rattle.cdl_statements.specs.code.Contents.{values}
 use Rattle.cdl_statements.specs.code.Cutters.{SameText, after, is_done, offset_of, version_of, words}
 use Rattle.cdl_statements.specs.code.DueTokens.{completes}
@@ -7,13 +7,13 @@ use Rattle.cdl_statements.specs.code.ListedTokens.{IsAtComma}
 use Rattle.cdl_statements.specs.Shapes.{first_bad}
 use Rattle.cdl_statements.specs.declared.{cutter.Cutter.Cutter, due.Due.Due, due.Due.TheVariants.Separator}
 use Rattle.cdl_values.specs.code.PackedValues.{joined, packed}
-use Rattle.cdl_values.specs.declared.{filling.Filling.Filling, value.FastPathFault.FastPathFault, value_run.UnreadValues.UnreadValues}
+use Rattle.cdl_values.specs.declared.{capacity.Capacity.Capacity, filling.Filling.Filling, value.FastPathFault.FastPathFault, value_run.UnreadValues.UnreadValues}
 
 -- A place among the values of a statement: the bytes of those before it, and what capacity is left.
 pub record Place : Type 0 where
   pub cutter : Cutter
   pub bytes : List ℕ
-  pub left : Option ℕ
+  pub left : Capacity
 
 abbrev pub place : UnreadValues → List ℕ → Place
 place unread bytes = record { cutter = unread.cutter; bytes = bytes; left = unread.capacity }

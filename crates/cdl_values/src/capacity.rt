@@ -1,0 +1,56 @@
+//! How many more values a variable takes.
+
+ghost use Rattle.std.specs.Prelude.{◌≡◌, ◌<◌, ℕ, false};
+
+/// How many more values a variable takes. They are numbers, bytes or rows, as its [`Filling`](crate::filling::Filling) counts them.
+#[derive(Clone, Copy)]
+pub enum Capacity {
+    /// Any number of values.
+    Unlimited,
+    /// As many values as this, and no more.
+    AtMost(u64),
+}
+
+impl Capacity {
+    ghost use Rattle.cdl_values.specs.code.PackedValues.{capacity_minus, is_full, is_past};
+
+    /// Returns true if no more values are taken.
+    pub fn is_full(self) -> bool
+        ensures { result ≡ is_full self }
+    {
+        match self {
+            Capacity::Unlimited => false,
+            Capacity::AtMost(left) => left == 0,
+        }
+    }
+
+    /// Returns true if fewer than `n` more values are taken.
+    pub fn is_past(self, n: u128) -> bool
+        ensures { result ≡ is_past n self }
+    {
+        match self {
+            Capacity::Unlimited => false,
+            Capacity::AtMost(left) => (left as u128) < n,
+        }
+    }
+
+    /// Returns the capacity that is left after `n` values, which is 0 if fewer are taken.
+    pub fn minus(self, n: u128) -> Capacity
+        ensures { result ≡ capacity_minus n self }
+    {
+        match self {
+            Capacity::Unlimited => Capacity::Unlimited,
+            Capacity::AtMost(left) => Capacity::AtMost((left as u128).saturating_sub(n) as u64),
+        }
+    }
+
+    /// Returns the limit, or `u64::MAX` if there is none.
+    pub fn limit(self) -> u64
+        ensures { (n : ℕ) → n < result → is_full (capacity_minus n self) ≡ false }
+    {
+        match self {
+            Capacity::Unlimited => u64::MAX,
+            Capacity::AtMost(left) => left,
+        }
+    }
+}
