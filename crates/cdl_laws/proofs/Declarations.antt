@@ -1,6 +1,6 @@
 -- The statements of a head, and what they say.
 use Rattle.std.proofs.Common.{◌≡◌, ℕ, ◌^◌, ◌<◌, true, false, List, [], ◌∷◌, ◌++◌, map, sym, ◌∙◌, ap, refl, subst, arith, append_assoc, append-nil, ℤ, pos, unsigned_abs, decimal, ◌==◌, not, if◌then◌else◌, None, Some, codes, rules}
-use Rattle.cdl_laws.proofs.Prelude.{signed_decimal, flat_map, list_all, flat_map-append, list_all-append, concat_parts, Att, Dim, NcType, Version, escaped_name, escaped_in_string, joined, dim_len_text, dim_line, unlimited_word, currently_word, att_line, att_text, chars_text, broken_text, string_break, without_trailing_nuls, IsName, number_suffix, is_char, has_type, Section, Dimensions, Variables, is_digit, scan, Lexeme, said_dim, IsBeforeData, globals, dimensions, variables, lexemes_at, Value, Number, Characters, Statement, Declared, Attribute, each, both, constant, constants, typed, global, assigned, body, either, and_left, and_right, and_both}
+use Rattle.cdl_laws.proofs.Prelude.{signed_decimal, flat_map, list_all, flat_map-append, list_all-append, concat_parts, Att, Dim, NcType, Version, escaped_name, escaped_in_string, joined, dim_len_text, dim_line, unlimited_word, currently_word, att_line, att_text, chars_text, broken_text, string_break, without_trailing_nuls, IsName, number_suffix, is_char, has_type, Section, Dimensions, Variables, is_digit, scan, Lexeme, said_dim, IsBeforeData, globals, dimensions, variables, lexemes_at, Value, Number, Characters, Statement, DeclareDimensions, Attribute, each, both, constant, constants, typed, global, assigned, body, either, and_left, and_right, and_both}
 use Rattle.cdl_laws.proofs.Lists.{Each}
 use Rattle.cdl_laws.proofs.Texts.{Closed, Reads, closed_both, closed_by, mark, word, number, name_word}
 use Rattle.cdl_laws.proofs.Numerals.{number_reads, numeral_again, value_again, decimal_digits, on_suffix}
@@ -51,13 +51,13 @@ dim_closed n dim name h =
 extent_fine : (v : Version) (len : ℕ) → len < 2 ^ 64 → is_fine v (extent_lexeme len) ≡ true
 extent_fine v len h = grind (arith, codes "UNLIMITED", decimal len, word_fine v (codes "UNLIMITED"), value_again v (pos len) h, pos len, word, number)
 
-dim_is : (v : Version) (dim : Dim) → IsName dim.name → dim.len < 2 ^ 64 → body v Dimensions (word (escaped_name dim.name) ∷ mark 61 ∷ extent_lexeme dim.len ∷ []) ≡ Some (Declared (said_dim dim ∷ []))
+dim_is : (v : Version) (dim : Dim) → IsName dim.name → dim.len < 2 ^ 64 → body v Dimensions (word (escaped_name dim.name) ∷ mark 61 ∷ extent_lexeme dim.len ∷ []) ≡ Some (DeclareDimensions (said_dim dim ∷ []))
 dim_is v dim name h =
     grind (arith, word (escaped_name dim.name), codes "UNLIMITED", decimal dim.len, pos dim.len, name_word dim.name name, value_again v (pos dim.len) h, number)
 
-pub dim_says : (v : Version) (n : ℕ) (dim : Dim) → IsName dim.name → dim.len < 2 ^ 64 → Says v Dimensions (dim_line n dim) (Declared (said_dim dim ∷ []))
+pub dim_says : (v : Version) (n : ℕ) (dim : Dim) → IsName dim.name → dim.len < 2 ^ 64 → Says v Dimensions (dim_line n dim) (DeclareDimensions (said_dim dim ∷ []))
 dim_says v n dim name h =
-    statement_says v Dimensions (dim_line n dim) (word (escaped_name dim.name)) (mark 61) (extent_lexeme dim.len ∷ []) (Declared (said_dim dim ∷ [])) refl
+    statement_says v Dimensions (dim_line n dim) (word (escaped_name dim.name)) (mark 61) (extent_lexeme dim.len ∷ []) (DeclareDimensions (said_dim dim ∷ [])) refl
     (dim_closed n dim name h) (name_starts dim.name name)
     (and_both (is_fine v (word (escaped_name dim.name))) (list_all (is_fine v) (mark 61 ∷ extent_lexeme dim.len ∷ [])) (word_fine v (escaped_name dim.name)) (and_both (is_fine v (extent_lexeme dim.len)) true (extent_fine v dim.len h) refl))
     (dim_is v dim name h)

@@ -1,6 +1,6 @@
 -- A dump is cut into the statements that it was put together from.
 use Rattle.std.proofs.Common.{◌≡◌, ℕ, true, false, List, [], ◌∷◌, ◌++◌, map, sym, ◌∙◌, ap, refl, subst, arith, append-nil, slice_index_or, None, Some, codes, rules}
-use Rattle.cdl_laws.proofs.Prelude.{concat_parts, Att, Dim, Var, Version, escaped_name, AreDimids, netcdf_word, global_word, var_lines, att_lines, shape_text, IsName, type_word, has_type, Section, Unopened, Globals, Dimensions, Variables, Values, Closed, scan, pieces_at, Statement, Opening, Mark, Brace, End, shape, SaysStatement, IsStatement, PiecesAreStatements, MarksReadBack, opening_line, opening_piece, brace_piece, end_piece, DimensionsReadBack, declaration, DeclarationReadsBack, DeclarationsReadBack, IsBeforeData, globals, dimensions, AttributeReadsBack, AttributesReadBack, GlobalAttributesReadBack, cut_lexemes, lexemes, lexemes_at, pieces_of}
+use Rattle.cdl_laws.proofs.Prelude.{concat_parts, Att, Dim, Var, Version, escaped_name, AreDimids, netcdf_word, global_word, var_lines, att_lines, shape_text, IsName, type_word, has_type, Section, Unopened, Globals, Dimensions, Variables, Values, Closed, scan, pieces_at, Statement, Open, Mark, Close, End, shape, SaysStatement, IsStatement, PiecesAreStatements, MarksReadBack, opening_line, opening_piece, brace_piece, end_piece, DimensionsReadBack, declaration, DeclarationReadsBack, DeclarationsReadBack, IsBeforeData, globals, dimensions, AttributeReadsBack, AttributesReadBack, GlobalAttributesReadBack, cut_lexemes, lexemes, lexemes_at, pieces_of}
 use Rattle.cdl_tokens.specs.declared.token.TokenKind.TheVariants as kinds
 use Rattle.cdl_laws.proofs.Acts.{AreDistinctDims, HaveNames, ids_added, name_at, type_is}
 use Rattle.cdl_laws.proofs.Declarations.{dim_says, global_says, owned_says}
@@ -50,11 +50,11 @@ closing_back : pieces_of (codes "}\n") ≡ brace_piece ∷ end_piece ∷ []
 unfolding pieces_of lexemes_at scan pieces_at
 closing_back = refl
 
-opens : (v : Version) (name : List ℕ) → SaysStatement v Unopened (opening_piece name) Opening
+opens : (v : Version) (name : List ℕ) → SaysStatement v Unopened (opening_piece name) Open
 unfolding shape
 opens v name = record { sound = refl; shaped = refl }
 
-closes : (v : Version) → Each (λ (section : Section). SaysStatement v section brace_piece Brace) (Globals ∷ Dimensions ∷ Variables ∷ Values ∷ [])
+closes : (v : Version) → Each (λ (section : Section). SaysStatement v section brace_piece Close) (Globals ∷ Dimensions ∷ Variables ∷ Values ∷ [])
 unfolding shape
 closes v = (record { sound = refl; shaped = refl }, (record { sound = refl; shaped = refl }, (record { sound = refl; shaped = refl }, (record { sound = refl; shaped = refl }, tt))))
 
@@ -72,7 +72,7 @@ marks_read_back v = record {
   values = is_statement v Variables _ _ (data_says v);
   comment = comment_back;
   closing = closing_back;
-  closes = all_of (λ (section : Section). SaysStatement v section brace_piece Brace) (Globals ∷ Dimensions ∷ Variables ∷ Values ∷ []) (closes v);
+  closes = all_of (λ (section : Section). SaysStatement v section brace_piece Close) (Globals ∷ Dimensions ∷ Variables ∷ Values ∷ []) (closes v);
   ends = ends v;
 }
 

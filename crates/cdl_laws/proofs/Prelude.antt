@@ -6,20 +6,24 @@ unfoldable pub use Rattle.cdl_laws.specs.Reading.{lexemes_at, pieces_of}
 pub use Rattle.cdl_laws.specs.RoundTrip.{IsFull, TextReadsBack}
 pub use Rattle.cdl_laws.specs.TokenLaws.{AreToken, BlanksAndMarksStop, ConstantsReadBack, NameReadsBack, NamesReadBack, StandsForBytes, StopsNumber, StopsWord, StringsReadBack, StringsStandForBytes, ValuesReadBack, quoted}
 pub use Rattle.cdl_laws.specs.Trims.{FillValueSurvivesTrim, MeaningsAreSayable, MeaningsComeBack, SecondTripIsSame, TrimmedIsSayable, TrimsOnce, has_cut_fill, is_cut}
-pub use Rattle.cdl_meaning.specs.Meaning.{array_of, checked, closing_line, dataset_of, empty, header_of, is_small, starting_line, meaning, records_in, records_of, shaped, text_limit, listed_values}
+pub use Rattle.cdl_meaning.specs.Meaning.{array_of, closing_line, dataset_of, empty, header_of, is_small, starting_line, meaning, records_in, records_of, text_limit, listed_values}
+pub use Rattle.cdl_meaning.proofs.Readings.{checked, shaped}
 unfoldable pub use Rattle.cdl_meaning.specs.Meaning.{finished, is_small_enough, piece_read, run}
-pub use Rattle.cdl_meaning.specs.State.{Capacity, Draft, Joined, Listing, Numbers, Rows, State, add_characters, add_constant, add_number, add_row, at_named, int_within, dim_len_of, filled, first_type, some_or, in_turn, is_listed, is_word_of, listed_by, same_type, unless, values_in, when, with_att, with_values}
+pub use Rattle.cdl_meaning.specs.State.{Capacity, Draft, Joined, Listing, Numbers, Rows, State, add_characters, add_constant, add_number, add_row, at_named, int_within, dim_len_of, filled, first_type, some_or, in_turn, listed_by, same_type, unless, values_in, when, with_att, with_values}
 unfoldable pub use Rattle.cdl_meaning.specs.State.{act, add_att, add_dim, add_dimid, add_var, at_variable, capacity_of, has_number, listing_of, type_of}
 pub use Rattle.cdl_statements.proofs.PieceLengths.{pieces_by_steps}
 pub use Rattle.cdl_statements.specs.Lexemes.{Lexeme, is_end_kind, is_mark, is_opening_kind, is_word, is_word_kind, lexeme}
 unfoldable pub use Rattle.cdl_statements.specs.Lexemes.{name_of}
-unfoldable pub use Rattle.cdl_statements.specs.Pieces.{is_section, pieces_at}
-pub use Rattle.cdl_statements.specs.Shapes.{Attribute, Brace, Characters, Declared, Dimension, End, Listed, Mark, Number, Opening, Statement, Typed, Underscore, Value, Variable, alone, assigned, attribute, before_mark, body, both, constant, constant_of, constants, dimension, each, either, first_bad, if_so, global, into_first, length_of, mark_after, members, members_in, name_alone, section_mark, section_number, section_of, token_fault, typed, variable}
+pub use Rattle.cdl_statements.proofs.Members.{alone, constants, constants_are, constants_by, mark_after, members, name_alone}
+pub use Rattle.cdl_statements.specs.Pieces.{section_of}
+unfoldable pub use Rattle.cdl_statements.specs.Pieces.{pieces_at}
+pub use Rattle.cdl_statements.specs.Shapes.{Attribute, Close, Characters, DeclareDimensions, Dimension, End, Listed, Mark, Number, Open, Statement, DeclareVariables, Underscore, Value, Variable, assigned, attribute, before_mark, body, both, constant, constant_of, dimension, each, either, first_bad, if_so, global, into_first, length_of, members_in, section_mark, section_number, single, token_fault, typed, variable}
 unfoldable pub use Rattle.cdl_statements.specs.Shapes.{shape}
 pub use Rattle.cdl_statements.specs.Statements.{statements}
 pub use Rattle.cdl_statements.specs.code.CutSteps.{going, step, unless_end, with_first}
 unfoldable pub use Rattle.cdl_statements.specs.code.CutSteps.{pieces_after}
 pub use Rattle.cdl_statements.specs.code.Roles.{first_role, role}
+unfoldable pub use Rattle.cdl_statements.specs.code.Roles.{is_section}
 pub use Rattle.cdl_statements.specs.declared.{fault.CdlFault.CdlFault, fault.CdlKind.CdlKind, piece.CutState.CutState, piece.Role.Role, section.Section.Section}
 pub use Rattle.cdl_statements.specs.declared.fault.CdlKind.TheVariants.{BadName, BadNumber, BadShape, BadToken, DuplicateData, DuplicateName, FloatingType, MixedConstants, NumberRange, StringTooLong, Syntax, TooLarge, TooManyValues, TwoRecordDims, UnknownDimension, UnknownType, UnknownVariable, WrongKind, ZeroDimension}
 pub use Rattle.cdl_statements.specs.declared.section.Section.TheVariants.{Closed, Dimensions, Ended, Globals, Unopened, Values, Variables}

@@ -1,7 +1,7 @@
 -- What the shapes give: names, counts and types of what a statement says, against the bytes of its tokens.
-use Rattle.std.proofs.Common.{◌≡◌, ℕ, ◌+◌, ◌-◌, ◌≤◌, ◌<◌, Bool, true, false, List, [], ◌∷◌, length, arith, zero, suc, Option, None, Some, drop, ◌&&◌, ◌||◌, not, ◌==◌, slice_index, codes, map, rules}
-use Rattle.cdl_laws.proofs.Prelude.{length-take, length-drop, is_reserved, Version, has_type, is_escape, character, inner, unescape_at, word_value, or_zero, Lexeme, is_word_kind, is_mark, name_of, Parts, parts, number, Numeral, numeral, type_of_suffix, in_base, with_sign, Value, Number, Characters, Underscore, Dimension, Variable, both, each, if_so, into_first, members_in, members, dimension, constant_of, constant, constants, name_alone, before_mark, variable, TokenKind}
-use Rattle.cdl_statements.specs.Shapes.{dimensions}
+use Rattle.std.proofs.Common.{◌≡◌, ℕ, ◌+◌, ◌-◌, ◌≤◌, ◌<◌, Bool, true, false, List, [], ◌∷◌, length, sym, subst, arith, zero, suc, Option, None, Some, drop, ◌&&◌, ◌||◌, not, ◌==◌, slice_index, codes, map, rules}
+use Rattle.cdl_laws.proofs.Prelude.{length-take, length-drop, is_reserved, Version, has_type, is_escape, character, inner, unescape_at, word_value, or_zero, Lexeme, is_word_kind, is_mark, name_of, Parts, parts, number, Numeral, numeral, type_of_suffix, in_base, with_sign, Value, Number, Characters, Underscore, Dimension, Variable, both, each, if_so, into_first, members_in, members, single, dimension, constant_of, constant, constants, constants_are, constants_by, name_alone, before_mark, variable, TokenKind}
+use Rattle.cdl_statements.proofs.Members.{dimensions, dimensions_are, dimensions_by}
 use Rattle.cdl_tokens.specs.declared.scan.Character.{Character}
 use Rattle.cdl_laws.proofs.Lists.{Each}
 use Rattle.cdl_laws.proofs.Outcomes.{SomeIs, some_map, some_then, some_weaker, some_both, some_given, in_if, total, each_total, each_take, each_drop}
@@ -137,18 +137,24 @@ one_short v takes_fill l k = grind (arith, stands_short, inner_short, blank_shor
 constant_fine : (v : Version) (takes_fill : Bool) (l : Lexeme) → HasBytes l → SomeIs (IsFineValue v) (constant v takes_fill l)
 constant_fine v takes_fill l h = one_fine v takes_fill l l.kind h
 
+list_fine : (v : Version) (takes_fill : Bool) (ls : List Lexeme) → Each HasBytes ls → SomeIs (Each (IsFineValue v)) (constants_by v takes_fill ls)
+list_fine v takes_fill [] h = tt
+list_fine v takes_fill (l ∷ []) h = search (rules, some_both, constant, one_fine)
+list_fine v takes_fill (l ∷ c ∷ ls) h =
+    some_given (Each (IsFineValue v)) (is_mark 0x2c c) (both (λ x xs. x ∷ xs) (constant v takes_fill l) (constants_by v takes_fill ls)) (λ q.
+    some_both (IsFineValue v) (Each (IsFineValue v)) (Each (IsFineValue v)) (λ x xs. x ∷ xs) (constant v takes_fill l) (constants_by v takes_fill ls) (constant_fine v takes_fill l h.0) (list_fine v takes_fill ls h.1.1) (λ x xs a b. (a, b)))
+
 pub constants_fine : (v : Version) (takes_fill : Bool) (ls : List Lexeme) → Each HasBytes ls → SomeIs (Each (IsFineValue v)) (constants v takes_fill ls)
-constants_fine v takes_fill [] h = tt
-constants_fine v takes_fill (l ∷ []) h = search (rules, some_both, constant, one_fine)
-constants_fine v takes_fill (l ∷ c ∷ ls) h =
-    some_given (Each (IsFineValue v)) (is_mark 0x2c c) (both (λ x xs. x ∷ xs) (constant v takes_fill l) (constants v takes_fill ls)) (λ q.
-    some_both (IsFineValue v) (Each (IsFineValue v)) (Each (IsFineValue v)) (λ x xs. x ∷ xs) (constant v takes_fill l) (constants v takes_fill ls) (constant_fine v takes_fill l h.0) (constants_fine v takes_fill ls h.1.1) (λ x xs a b. (a, b)))
+constants_fine v takes_fill ls h = subst (λ o. SomeIs (Each (IsFineValue v)) o) (sym (constants_are v takes_fill ls)) (list_fine v takes_fill ls h)
+
+list_short : (v : Version) (takes_fill : Bool) (ls : List Lexeme) → SomeIs (λ xs. total cost xs ≤ mass ls) (constants_by v takes_fill ls)
+list_short v takes_fill [] = tt
+list_short v takes_fill (l ∷ []) = search (rules, some_both, total, constant, one_short)
+list_short v takes_fill (l ∷ c ∷ ls) =
+    grind (arith, some_given, total, both, constant, constants_by, some_both, list_short v takes_fill ls, one_short)
 
 pub constants_short : (v : Version) (takes_fill : Bool) (ls : List Lexeme) → SomeIs (λ xs. total cost xs ≤ mass ls) (constants v takes_fill ls)
-constants_short v takes_fill [] = tt
-constants_short v takes_fill (l ∷ []) = search (rules, some_both, total, constant, one_short)
-constants_short v takes_fill (l ∷ c ∷ ls) =
-    grind (arith, some_given, total, both, constant, constants, some_both, constants_short v takes_fill ls, one_short)
+constants_short v takes_fill ls = subst (λ o. SomeIs (λ xs. total cost xs ≤ mass ls) o) (sym (constants_are v takes_fill ls)) (list_short v takes_fill ls)
 
 -- ---- dimensions and variables
 
@@ -164,13 +170,16 @@ var_cost x = suc (length x.name + total name_cost x.dimensions)
 any_some : {A : Type 0} (o : Option A) → SomeIs (λ a. Unit {0}) o
 any_some o = grind arith
 
-dimension_short : (v : Version) (n e l : Lexeme) → SomeIs (λ d. dim_cost d ≤ weight n) (dimension v n e l)
+dimension_short : (v : Version) (n e l : Lexeme) → SomeIs (λ d. dim_cost d ≤ weight n) (dimension v (n ∷ e ∷ l ∷ []))
 dimension_short v n e l = grind (arith, some_given, both, some_both, name_short)
 
+dims_short : (v : Version) (ls : List Lexeme) → SomeIs (λ ds. total dim_cost ds ≤ mass ls) (dimensions_by v ls)
+dims_short v (n ∷ e ∷ l ∷ []) = grind (arith, total dim_cost, some_both, some_given, both, name_short, any_some)
+dims_short v (n ∷ e ∷ l ∷ c ∷ ls) = grind (arith, some_given, total, both, dimensions_by, some_both, dimension_short, dims_short v ls)
+dims_short v _ = tt
+
 pub dimensions_short : (v : Version) (ls : List Lexeme) → SomeIs (λ ds. total dim_cost ds ≤ mass ls) (dimensions v ls)
-dimensions_short v (n ∷ e ∷ l ∷ []) = grind (arith, total dim_cost, some_both, some_given, both, name_short, any_some)
-dimensions_short v (n ∷ e ∷ l ∷ c ∷ ls) = grind (arith, some_given, total, both, dimensions, some_both, dimension_short, dimensions_short v ls)
-dimensions_short v _ = tt
+dimensions_short v ls = subst (λ o. SomeIs (λ ds. total dim_cost ds ≤ mass ls) o) (sym (dimensions_are v ls)) (dims_short v ls)
 
 alone_short : (ls : List Lexeme) → SomeIs (λ name. name_cost name ≤ mass ls) (name_alone ls)
 alone_short ls = grind (arith, some_weaker, name_short)
@@ -179,8 +188,11 @@ names_short : (ls : List Lexeme) → SomeIs (λ ns. total name_cost ns ≤ mass 
 names_short ls =
     grind (arith, total name_cost, each name_alone (members ls), each_total mass name_cost name_alone alone_short (members ls), members_mass false ls, some_weaker)
 
+names_listed : (ls : List Lexeme) → SomeIs (λ ns. total name_cost ns ≤ mass ls) (each (single name_of) (members_in false ls))
+names_listed ls = names_short ls
+
 variable_short : (ls : List Lexeme) → SomeIs (λ x. var_cost x ≤ mass ls) (variable ls)
-variable_short ls = grind (arith, some_map, dimensions, some_weaker, name_short, each, some_given, both, some_both, total, some_then, before_mass, names_short)
+variable_short ls = grind (arith, some_map, dimensions, some_weaker, name_short, each, some_given, both, some_both, total, some_then, before_mass, names_listed)
 
 pub variables_short : (ls : List Lexeme) → SomeIs (λ xs. total var_cost xs ≤ mass ls) (each variable (members ls))
 variables_short ls =

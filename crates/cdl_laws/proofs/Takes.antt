@@ -6,6 +6,7 @@ use Rattle.cdl_statements.specs.declared.piece.CutState.TheVariants.{Begins, Ins
 use Rattle.cdl_laws.proofs.Texts as texts
 use Rattle.cdl_laws.proofs.Texts.{mark, word, number}
 use Rattle.cdl_laws.proofs.ValueTexts.{turn}
+use Rattle.cdl_meaning.proofs.Readings as readings
 
 -- ---- a statement is one piece, whatever follows
 
@@ -73,7 +74,7 @@ pub record Says (v : Version) (section : Section) (bytes : List ℕ) (statement 
 
 piece_is : (v : Version) (s t : State) (piece : List Lexeme) (statement : Statement) → first_bad v piece ≡ None → shape v s.section piece ≡ Some statement → act v s statement ≡ Ok t → piece_read v s piece ≡ Ok t
 unfolding piece_read
-piece_is v s t piece statement h k a = rw (h) (rw (k) a)
+piece_is v s t piece statement h k a = ap (λ o. readings.checked v s o piece) h ∙ ap (readings.shaped v s) k ∙ a
 
 pub says_takes : (v : Version) (bytes : List ℕ) (statement : Statement) (s t : State) → Says v s.section bytes statement → act v s statement ≡ Ok t → Takes v bytes s t
 unfolding pieces_of

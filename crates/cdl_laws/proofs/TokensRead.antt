@@ -1,10 +1,10 @@
 -- Names, strings and numbers are read back, each as one token.
 use Rattle.std.proofs.Common.{◌≡◌, ℕ, ◌+◌, ◌<◌, Bool, true, false, List, [], ◌∷◌, ◌++◌, length, get_or, take, drop, sym, ◌∙◌, ap, refl, subst, arith, append_assoc, length-append, append-nil, pos, decimal, ◌||◌, ◌==◌, codes, is_some, rules}
-use Rattle.cdl_laws.proofs.Prelude.{signed_decimal, prefix_len, list_all, false≢true, eqb-true, decimal_nonempty, take-append-drop, get_or-drop, list_all-append, take-append_seam, escaped_text, is_reserved, IsName, within, is_digit, is_blank, goes_on_word, goes_on_number, unescape, word_len, len_until, scan, token, begins_opening, begins_a_word, begins_number, Word, Text, stands_for, AreToken, BlanksAndMarksStop, StopsWord, NameReadsBack, NamesReadBack, quoted, StringsReadBack, StopsNumber, ConstantsReadBack, ValuesReadBack, and_left, and_right, and_both, word_at_start, and_false}
+use Rattle.cdl_laws.proofs.Prelude.{signed_decimal, prefix_len, list_all, false≢true, eqb-true, decimal_nonempty, take-append-drop, get_or-drop, list_all-append, take-append_seam, escaped_name, escaped_text, is_reserved, IsName, word_value, within, is_digit, is_blank, goes_on_word, goes_on_number, unescape, word_len, len_until, scan, token, begins_opening, begins_a_word, begins_number, Word, Text, stands_for, AreToken, BlanksAndMarksStop, StopsWord, NameReadsBack, NamesReadBack, quoted, StringsReadBack, StopsNumber, ConstantsReadBack, ValuesReadBack, and_left, and_right, and_both, word_at_start, and_false}
 use Rattle.cdl_tokens.specs.Bytes.{is_mark_byte}
 use Rattle.cdl_tokens.specs.declared.token.TokenKind.TheVariants.{Number}
 use Rattle.cdl_laws.proofs.Attributes.{small_is}
-use Rattle.cdl_laws.proofs.Heads.{no_section}
+use Rattle.cdl_laws.proofs.Heads.{opens_none}
 use Rattle.cdl_laws.proofs.NameTexts.{begins, name_len, name_value, name_free}
 use Rattle.cdl_laws.proofs.Numerals.{decimal_digits, goes_on, numeral_again, value_again}
 use Rattle.cdl_laws.proofs.Strings.{is_string, until_all, unescape_all, text_len, between_quotes}
@@ -85,9 +85,22 @@ free_begins : (w rest : List ℕ) → is_reserved w ≡ false → word_len (w ++
 free_begins w rest free len =
     grind (arith, opening_len (w ++ rest), take-append_seam w rest, codes, false≢true, netcdf_reserved)
 
+name_token : (b : ℕ) (bs rest : List ℕ) → IsName (b ∷ bs) → StopsWord rest → AreToken Word (escaped_name (b ∷ bs)) rest
+name_token b bs rest h stops = grind (arith, and_left, some_name, and_right, begins, name_free, name_len, stop_word, prefix_word, free_begins)
+
+value_back : (b : ℕ) (bs : List ℕ) → IsName (b ∷ bs) → word_value (escaped_name (b ∷ bs)) ≡ b ∷ bs
+value_back b bs h = grind (arith, and_left, some_name, and_right, begins, name_value)
+
 name_back : (b : ℕ) (bs : List ℕ) → IsName (b ∷ bs) → NameReadsBack (b ∷ bs)
 name_back b bs h =
-    grind (arith, and_left, some_name, and_right, begins, name_free, name_len, stop_word, prefix_word, free_begins, no_section, name_value, name_word)
+    let word = name_word (b ∷ bs) h in
+    record {
+      token = λ rest stops. name_token b bs rest h stops;
+      free = word.free;
+      no_section = opens_none (escaped_name (b ∷ bs)) word.free;
+      value = value_back b bs h;
+      says = word.stands;
+    }
 
 pub names_read_back : NamesReadBack
 names_read_back [] h = absurd (false≢true (some_name [] h))

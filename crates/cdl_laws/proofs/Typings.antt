@@ -1,6 +1,6 @@
 -- The declaration of a variable, and what it says.
 use Rattle.std.proofs.Common.{◌≡◌, ℕ, true, List, [], ◌∷◌, ◌++◌, map, ◌∙◌, ap, refl, Some, codes, arith, rules}
-use Rattle.cdl_laws.proofs.Prelude.{list_all, option_map, option_and_then, list_all-append, concat_parts, NcType, Version, escaped_name, joined, IsName, type_word, Variables, Lexeme, Typed, members, members_in, into_first, each, both, variable, name_alone, before_mark, body, and_both}
+use Rattle.cdl_laws.proofs.Prelude.{list_all, option_map, option_and_then, list_all-append, concat_parts, NcType, Version, escaped_name, joined, IsName, type_word, Variables, Lexeme, DeclareVariables, members, members_in, into_first, each, both, variable, name_alone, before_mark, body, and_both}
 use Rattle.cdl_laws.proofs.Lists.{Each}
 use Rattle.cdl_laws.proofs.Texts.{Closed, Reads, closed_both, closed_by, mark, word, name_word}
 use Rattle.cdl_laws.proofs.ValueTexts.{comma, commas, is_member, members_all, semicolon_closed}
@@ -51,12 +51,12 @@ scalar_closed ty name h =
 two_fine : (v : Version) (a b : List ℕ) (ls : List Lexeme) → list_all (is_fine v) ls ≡ true → list_all (is_fine v) (word a ∷ word b ∷ ls) ≡ true
 two_fine v a b ls h = and_both (is_fine v (word a)) (list_all (is_fine v) (word b ∷ ls)) (word_fine v a) (and_both (is_fine v (word b)) (list_all (is_fine v) ls) (word_fine v b) h)
 
-scalar_is : (v : Version) (ty : NcType) (name : List ℕ) → IsName name → body v Variables (word (type_word ty) ∷ word (escaped_name name) ∷ []) ≡ Some (Typed (word (type_word ty)) (record { name = name; dimensions = [] } ∷ []))
+scalar_is : (v : Version) (ty : NcType) (name : List ℕ) → IsName name → body v Variables (word (type_word ty) ∷ word (escaped_name name) ∷ []) ≡ Some (DeclareVariables (word (type_word ty)) (record { name = name; dimensions = [] } ∷ []))
 scalar_is v ty name h = rw ((name_word name h).stands) refl
 
-scalar_says : (v : Version) (ty : NcType) (name : List ℕ) → IsName name → Says v Variables (typed_line (type_word ty) name []) (Typed (word (type_word ty)) (record { name = name; dimensions = [] } ∷ []))
+scalar_says : (v : Version) (ty : NcType) (name : List ℕ) → IsName name → Says v Variables (typed_line (type_word ty) name []) (DeclareVariables (word (type_word ty)) (record { name = name; dimensions = [] } ∷ []))
 scalar_says v ty name h =
-    statement_says v Variables (typed_line (type_word ty) name []) (word (type_word ty)) (word (escaped_name name)) [] (Typed (word (type_word ty)) (record { name = name; dimensions = [] } ∷ [])) refl
+    statement_says v Variables (typed_line (type_word ty) name []) (word (type_word ty)) (word (escaped_name name)) [] (DeclareVariables (word (type_word ty)) (record { name = name; dimensions = [] } ∷ [])) refl
     (scalar_closed ty name h) (type_starts ty) (two_fine v (type_word ty) (escaped_name name) [] refl) (scalar_is v ty name h)
 
 -- ---- with one
@@ -90,7 +90,7 @@ inside_member [] = refl
 inside_member (name ∷ names) = ap (λ ms. into_first comma (into_first (word (escaped_name name)) ms)) (inside_member names)
 
 array_is : (v : Version) (ty : NcType) (name n : List ℕ) (ns : List (List ℕ)) → IsName name → AreNames (n ∷ ns) →
-    body v Variables (word (type_word ty) ∷ word (escaped_name name) ∷ mark 40 ∷ (shape_lexemes n ns ++ mark 41 ∷ [])) ≡ Some (Typed (word (type_word ty)) (record { name = name; dimensions = n ∷ ns } ∷ []))
+    body v Variables (word (type_word ty) ∷ word (escaped_name name) ∷ mark 40 ∷ (shape_lexemes n ns ++ mark 41 ∷ [])) ≡ Some (DeclareVariables (word (type_word ty)) (record { name = name; dimensions = n ∷ ns } ∷ []))
 array_is v ty name n ns h all =
     let w = word (escaped_name name) in
     let close = mark 41 ∷ [] in
@@ -104,18 +104,18 @@ array_is v ty name n ns h all =
     search (rules, word, each, both)
 
 array_says : (v : Version) (ty : NcType) (name n : List ℕ) (ns : List (List ℕ)) → IsName name → AreNames (n ∷ ns) →
-    Says v Variables (typed_line (type_word ty) name (shape_of (n ∷ ns))) (Typed (word (type_word ty)) (record { name = name; dimensions = n ∷ ns } ∷ []))
+    Says v Variables (typed_line (type_word ty) name (shape_of (n ∷ ns))) (DeclareVariables (word (type_word ty)) (record { name = name; dimensions = n ∷ ns } ∷ []))
 array_says v ty name n ns h all =
     let ls = mark 40 ∷ (shape_lexemes n ns ++ mark 41 ∷ []) in
     let inner = shape_lexemes n ns in
     let fine : list_all (is_fine v) ls ≡ true =
     list_all-append (is_fine v) inner (mark 41 ∷ []) ∙
     and_both (list_all (is_fine v) inner) true (and_both (is_fine v (word (escaped_name n))) (list_all (is_fine v) (commas (name_lexemes ns))) (word_fine v (escaped_name n)) (fine_commas v (name_lexemes ns) (names_fine v ns))) refl in
-    statement_says v Variables (typed_line (type_word ty) name (shape_of (n ∷ ns))) (word (type_word ty)) (word (escaped_name name)) ls (Typed (word (type_word ty)) (record { name = name; dimensions = n ∷ ns } ∷ [])) refl
+    statement_says v Variables (typed_line (type_word ty) name (shape_of (n ∷ ns))) (word (type_word ty)) (word (escaped_name name)) ls (DeclareVariables (word (type_word ty)) (record { name = name; dimensions = n ∷ ns } ∷ [])) refl
     (array_closed ty name n ns h all) (type_starts ty) (two_fine v (type_word ty) (escaped_name name) ls fine) (array_is v ty name n ns h all)
 
 -- a declaration
 pub typed_says : (v : Version) (ty : NcType) (name : List ℕ) (names : List (List ℕ)) → IsName name → AreNames names →
-    Says v Variables (typed_line (type_word ty) name (shape_of names)) (Typed (word (type_word ty)) (record { name = name; dimensions = names } ∷ []))
+    Says v Variables (typed_line (type_word ty) name (shape_of names)) (DeclareVariables (word (type_word ty)) (record { name = name; dimensions = names } ∷ []))
 unfolding shape_of
 typed_says v ty name names h h2 = grind (arith, scalar_says, array_says)

@@ -1,6 +1,6 @@
 -- The listed numbers of a variable are read back, wherever the breaks are.
 use Rattle.std.proofs.Common.{◌≡◌, ℕ, ◌+◌, ◌^◌, ◌<◌, ◌≤◌, Bool, true, false, List, [], ◌∷◌, ◌++◌, length, map, sym, ◌∙◌, ap, refl, arith, append_assoc, append-nil, length-append, ℤ, unsigned_abs, ◌&&◌, ◌||◌, not, if◌then◌else◌, nat_lt, Some, Result, Ok, codes}
-use Rattle.cdl_laws.proofs.Prelude.{signed_decimal, flat_map, list_all, int_eq, mod-eq_of_lt, zero-mod, false≢true, concat_parts, escaped_name, Int, Version, IsName, Look, is_char, number_text, number_lead, line_break, begins_row, column, number_piece, piece, pieces, variable_opening, variable_closing, variable_prefix, variable_text, CdlKind, Lexeme, is_mark, lexemes_at, scan, Value, Number, Underscore, members, each, both, constant, constants, Capacity, Numbers, add_number, has_number, in_turn, listing_of, and_left, and_right, is_off, word_at_start, lt-ltb}
+use Rattle.cdl_laws.proofs.Prelude.{signed_decimal, flat_map, list_all, int_eq, mod-eq_of_lt, zero-mod, false≢true, concat_parts, escaped_name, Int, Version, IsName, Look, is_char, number_text, number_lead, line_break, begins_row, column, number_piece, piece, pieces, variable_opening, variable_closing, variable_prefix, variable_text, CdlKind, Lexeme, is_mark, lexemes_at, scan, Value, Number, Underscore, members, each, both, constant, constants, constants_are, constants_by, Capacity, Numbers, add_number, has_number, in_turn, listing_of, and_left, and_right, is_off, word_at_start, lt-ltb}
 use Rattle.cdl_meaning.specs.State.{◌>>=◌}
 use Rattle.cdl_laws.proofs.Lists.{Each}
 use Rattle.cdl_laws.proofs.Texts.{Closed, Reads, Stops, closed_both, then_reads, closed_by, reads_both, mark, word, number, name_word, word_reads, stop_word}
@@ -32,9 +32,12 @@ members_all l (m ∷ ls) h =
     grind (arith, and_left, and_right, members_all m ls (and_right (is_member l) (list_all is_member (m ∷ ls)) h))
 
 -- a list of constants
+list_all_said : (v : Version) (takes_fill : Bool) (l : Lexeme) (ls : List Lexeme) → constants_by v takes_fill (l ∷ commas ls) ≡ each (constant v takes_fill) (l ∷ ls)
+list_all_said v takes_fill l [] = refl
+list_all_said v takes_fill l (m ∷ ls) = ap (both (λ x xs. x ∷ xs) (constant v takes_fill l)) (list_all_said v takes_fill m ls)
+
 pub constants_all : (v : Version) (takes_fill : Bool) (l : Lexeme) (ls : List Lexeme) → constants v takes_fill (l ∷ commas ls) ≡ each (constant v takes_fill) (l ∷ ls)
-constants_all v takes_fill l [] = refl
-constants_all v takes_fill l (m ∷ ls) = ap (both (λ x xs. x ∷ xs) (constant v takes_fill l)) (constants_all v takes_fill m ls)
+constants_all v takes_fill l ls = constants_are v takes_fill (l ∷ commas ls) ∙ list_all_said v takes_fill l ls
 
 -- ---- the text of numbers
 

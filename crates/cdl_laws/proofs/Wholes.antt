@@ -1,6 +1,6 @@
 -- The head of a dump, statement after statement.
 use Rattle.std.proofs.Common.{◌≡◌, ℕ, zero, suc, ◌^◌, ◌<◌, true, false, List, [], ◌∷◌, ◌++◌, length, map, sym, ◌∙◌, ap, refl, subst, arith, append_assoc, append-nil, None, Some, Ok, codes}
-use Rattle.cdl_laws.proofs.Prelude.{list_any, bytes_eq, concat_parts, Att, Dim, Var, NcType, Version, escaped_name, AreDimids, joined, dim_line, att_line, att_lines, att_text, var_lines, shape_text, dim_name, IsName, type_word, count_limit, has_type, Section, Dimensions, Variables, trimmed_att, trimmed_var, Value, Declared, Typed, Attribute, State, Draft, act, add_dim, add_att, add_constant, first_type, in_turn, said_dim, IsBeforeData, not_none}
+use Rattle.cdl_laws.proofs.Prelude.{list_any, bytes_eq, concat_parts, Att, Dim, Var, NcType, Version, escaped_name, AreDimids, joined, dim_line, att_line, att_lines, att_text, var_lines, shape_text, dim_name, IsName, type_word, count_limit, has_type, Section, Dimensions, Variables, trimmed_att, trimmed_var, Value, DeclareDimensions, DeclareVariables, Attribute, State, Draft, act, add_dim, add_att, add_constant, first_type, in_turn, said_dim, IsBeforeData, not_none}
 use Rattle.cdl_meaning.specs.State.{◌>>=◌}
 use Rattle.cdl_laws.proofs.Lists.{Each}
 use Rattle.cdl_laws.proofs.Texts.{word}
@@ -42,7 +42,7 @@ AreNewDims v done (d ∷ ds) =
     IsName d.name × (list_any (λ (e : Dim). bytes_eq e.name d.name) done ≡ false) × (d.len < count_limit v) × (d.len < 2 ^ 64) × record_once done d.len × AreNewDims v (done ++ d ∷ []) ds
 
 dim_act : (v : Version) (done : List Dim) (d : Dim) (gatts : List Att) (drafts : List Draft) → add_dim v done (said_dim d) ≡ Ok (done ++ d ∷ []) →
-    act v (state Dimensions done gatts drafts) (Declared (said_dim d ∷ [])) ≡ Ok (state Dimensions (done ++ d ∷ []) gatts drafts)
+    act v (state Dimensions done gatts drafts) (DeclareDimensions (said_dim d ∷ [])) ≡ Ok (state Dimensions (done ++ d ∷ []) gatts drafts)
 unfolding act
 dim_act v done d gatts drafts h = ap (λ r. r >>= (λ dims. Ok (state Dimensions dims gatts drafts))) (turn (add_dim v) done (done ++ d ∷ []) (said_dim d) [] h)
 
@@ -51,7 +51,7 @@ pub dims_taken : (v : Version) (n : ℕ) (done ds : List Dim) (gatts : List Att)
 dims_taken v n done [] gatts drafts h = none_taken v (state Dimensions done gatts drafts) (state Dimensions (done ++ []) gatts drafts) (ap (λ dims. state Dimensions dims gatts drafts) (sym (append-nil done)))
 dims_taken v n done (d ∷ ds) gatts drafts h =
     lines_taken v (dim_line n d) (map (dim_line n) ds) (state Dimensions done gatts drafts) (state Dimensions (done ++ d ∷ []) gatts drafts) (state Dimensions (done ++ d ∷ ds) gatts drafts)
-    (says_takes v (dim_line n d) (Declared (said_dim d ∷ [])) (state Dimensions done gatts drafts) (state Dimensions (done ++ d ∷ []) gatts drafts) (dim_says v n d h.0 h.3)
+    (says_takes v (dim_line n d) (DeclareDimensions (said_dim d ∷ [])) (state Dimensions done gatts drafts) (state Dimensions (done ++ d ∷ []) gatts drafts) (dim_says v n d h.0 h.3)
     (dim_act v done d gatts drafts (dim_added v done d h.0 h.1 h.2 h.4)))
     (subst (λ dims. Takes v (concat_parts (map (dim_line n) ds)) (state Dimensions (done ++ d ∷ []) gatts drafts) (state Dimensions dims gatts drafts)) (append_assoc done (d ∷ []) ds) (dims_taken v n (done ++ d ∷ []) ds gatts drafts h.5))
 
@@ -123,7 +123,7 @@ AreFit v dims before [] = Unit {0}
 AreFit v dims before (var ∷ vars) = IsFit v dims before var × AreFit v dims (before ++ draft_of var ∷ []) vars
 
 typed_act : (v : Version) (dims : List Dim) (gatts : List Att) (before : List Draft) (var : Var) → IsFit v dims before var → AreDistinctDims dims → HaveNames dims →
-    act v (state Variables dims gatts before) (Typed (word (type_word var.ty)) (record { name = var.name; dimensions = map (name_at dims) var.dimids } ∷ [])) ≡ Ok (state Variables dims gatts (before ++ bare_draft var.name var.dimids [] var.ty ∷ []))
+    act v (state Variables dims gatts before) (DeclareVariables (word (type_word var.ty)) (record { name = var.name; dimensions = map (name_at dims) var.dimids } ∷ [])) ≡ Ok (state Variables dims gatts (before ++ bare_draft var.name var.dimids [] var.ty ∷ []))
 unfolding act
 typed_act v dims gatts before var fit distinct names = grind (arith, name_at, type_is, turn, var_added)
 
@@ -162,7 +162,7 @@ var_taken v dims gatts before var fit distinct names =
     let t = state Variables dims gatts (before ++ bare_draft var.name var.dimids [] var.ty ∷ []) in
     subst (λ bs. Takes v bs s (state Variables dims gatts (before ++ draft_of var ∷ []))) (sym (var_text dims var fit.shape))
     (takes_both v line (concat_parts shown) s t (state Variables dims gatts (before ++ draft_of var ∷ []))
-    (says_takes v line (Typed (word (type_word var.ty)) (record { name = var.name; dimensions = map (name_at dims) var.dimids } ∷ [])) s t (typed_says v var.ty var.name (map (name_at dims) var.dimids) fit.name (valid_names dims [] var.dimids names fit.shape)) (typed_act v dims gatts before var fit distinct names))
+    (says_takes v line (DeclareVariables (word (type_word var.ty)) (record { name = var.name; dimensions = map (name_at dims) var.dimids } ∷ [])) s t (typed_says v var.ty var.name (map (name_at dims) var.dimids) fit.name (valid_names dims [] var.dimids names fit.shape)) (typed_act v dims gatts before var fit distinct names))
     (subst (λ b. Takes v (concat_parts shown) t (state Variables dims gatts (before ++ record { var = record { name = var.name; dimids = var.dimids; atts = map trimmed_att var.atts; ty = var.ty; begin_at = b }; listed = None } ∷ []))) (sym fit.bare)
     (owned_taken v dims gatts before var.name var.dimids [] var.atts var.ty fit.name fit.new fit.atts fit.fresh)))
 

@@ -14,7 +14,7 @@ use Rattle.cdl_statements.specs.declared.section.Section.{Section}
 use Rattle.cdl_statements.specs.declared.section.Section.TheVariants.{Unopened, Globals, Dimensions, Variables, Values, Closed}
 use Rattle.cdl_tokens.specs.declared.token.TokenKind.TheVariants as kinds
 use Rattle.cdl_statements.specs.Lexemes.{Lexeme, lexeme}
-use Rattle.cdl_statements.specs.Shapes.{Value, Dimension, Statement, Opening, Mark, Declared, Typed, Attribute, Listed, Brace, End, first_bad, shape}
+use Rattle.cdl_statements.specs.Shapes.{Value, Dimension, Statement, Open, Mark, DeclareDimensions, DeclareVariables, Attribute, Listed, Close, End, first_bad, shape}
 use Rattle.cdl_statements.specs.Statements.{statements}
 use Rattle.cdl_meaning.specs.State.{in_turn, add_dimid, add_constant, first_type, type_of}
 use Rattle.cdl_laws.specs.Reading.{cut_lexemes, lexemes, pieces_of}
@@ -54,14 +54,14 @@ end_piece = record { kind = kinds.End; bytes = [] } ∷ []
 -- which is a comment, and its last line.
 pub record MarksReadBack (version : Version) : Type 0 where
   pub opening : (name rest : List ℕ) → IsName name → cut_lexemes (lexemes (opening_line name ++ 10 ∷ rest)) ≡ opening_piece name ∷ pieces_of rest
-  pub opens : (name : List ℕ) → SaysStatement version Unopened (opening_piece name) Opening
+  pub opens : (name : List ℕ) → SaysStatement version Unopened (opening_piece name) Open
   pub dimensions : IsStatement version Globals dimensions_word (Mark Dimensions)
   pub variables : IsStatement version Dimensions variables_word (Mark Variables)
   pub variables_alone : IsStatement version Globals variables_word (Mark Variables)
   pub values : IsStatement version Variables (codes "data:\n") (Mark Values)
   pub comment : (rest : List ℕ) → pieces_of (global_word ++ rest) ≡ pieces_of rest
   pub closing : pieces_of (codes "}\n") ≡ brace_piece ∷ end_piece ∷ []
-  pub closes : All (λ (section : Section). SaysStatement version section brace_piece Brace) (Globals ∷ Dimensions ∷ Variables ∷ Values ∷ [])
+  pub closes : All (λ (section : Section). SaysStatement version section brace_piece Close) (Globals ∷ Dimensions ∷ Variables ∷ Values ∷ [])
   pub ends : SaysStatement version Closed end_piece End
 
 -- ---- dimensions
@@ -76,7 +76,7 @@ said_dim dim = record { name = dim.name; len = extent_said dim.len }
 -- the line of a dimension declares its name and its length, however many records there are
 abbrev pub DimensionsReadBack : Type 0
 DimensionsReadBack = (d : Dataset) (records : ℕ) → IsSayable d
-    → All (λ (dim : Dim). IsStatement d.header.version Dimensions (dim_line records dim) (Declared (said_dim dim ∷ []))) d.header.dims
+    → All (λ (dim : Dim). IsStatement d.header.version Dimensions (dim_line records dim) (DeclareDimensions (said_dim dim ∷ []))) d.header.dims
 
 -- ---- declarations
 
@@ -92,7 +92,7 @@ type_lexeme var = record { kind = kinds.Word; bytes = type_word var.ty }
 pub record DeclarationReadsBack (version : Version) (dims : List Dim) (var : Var) : Type 0 where
   pub lines : var_lines dims var ≡ declaration dims var ++ att_lines (escaped_name var.name) var.atts
   pub names : List (List ℕ)
-  pub statement : IsStatement version Variables (declaration dims var) (Typed (type_lexeme var) (record { name = var.name; dimensions = names } ∷ []))
+  pub statement : IsStatement version Variables (declaration dims var) (DeclareVariables (type_lexeme var) (record { name = var.name; dimensions = names } ∷ []))
   pub ty : type_of version (type_lexeme var) ≡ Ok var.ty
   pub dimids : in_turn (add_dimid dims) [] names ≡ Ok var.dimids
 

@@ -1,5 +1,5 @@
 -- Law. Names, strings and numbers are read back, each as one token; and the strings of a text stand for bytes.
-use Rattle.std.specs.Prelude.{◌≡◌, ◌||◌, true, ◌∷◌, ℕ, ℤ, Bool, true, false, List, ◌++◌, length, All, slice_index, codes, map, Some}
+use Rattle.std.specs.Prelude.{◌≡◌, ◌||◌, true, ◌∷◌, ℕ, ℤ, Bool, true, false, List, ◌++◌, length, All, slice_index, codes, map, None, Some}
 use Rattle.std.specs.Fmt.{signed_decimal}
 use Rattle.nc_base.specs.declared.{nc_type.NcType.NcType, nc_type.NcType.TheVariants.Int, version.Version.Version}
 use Rattle.nc_base.specs.Escapes.{escaped_name, escaped_text, is_reserved}
@@ -14,7 +14,7 @@ use Rattle.cdl_tokens.specs.Scan.{scan, token}
 use Rattle.cdl_statements.specs.Lexemes.{name_of}
 use Rattle.cdl_tokens.specs.Numerals.{numeral}
 use Rattle.cdl_tokens.specs.Tokens.{raw, tokens}
-use Rattle.cdl_statements.specs.Pieces.{is_section}
+use Rattle.cdl_statements.specs.Pieces.{section_of}
 use Rattle.cdl_tokens.specs.declared.{token.Token.Token, token.TokenKind.TokenKind}
 use Rattle.cdl_tokens.specs.declared.token.TokenKind.TheVariants.{Word, Number, Text}
 
@@ -34,7 +34,7 @@ pub record StopsWord (rest : List ℕ) : Type 0 where
 pub record NameReadsBack (name : List ℕ) : Type 0 where
   pub token : (rest : List ℕ) → StopsWord rest → AreToken Word (escaped_name name) rest
   pub free : is_reserved (escaped_name name) ≡ false
-  pub no_section : is_section (escaped_name name) ≡ false
+  pub no_section : section_of (record { kind = Word; bytes = escaped_name name }) ≡ None
   pub value : word_value (escaped_name name) ≡ name
   pub says : name_of (record { kind = Word; bytes = escaped_name name }) ≡ Some name
 

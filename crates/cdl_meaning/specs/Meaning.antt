@@ -1,5 +1,5 @@
 -- Definition. What a text means: a dataset, or its first fault with its line.
-use Rattle.std.specs.Prelude.{ℕ, ◌+◌, ◌-◌, ◌*◌, ◌/◌, nat_le, max, Bool, ◌&&◌, if◌then◌else◌, ℤ, List, [], ◌∷◌, length, map, Option, None, Some, Result, Ok, Err}
+use Rattle.std.specs.Prelude.{ℕ, ◌+◌, ◌-◌, ◌*◌, ◌/◌, nat_le, max, Bool, ◌&&◌, if◌then◌else◌, ℤ, List, [], ◌∷◌, length, map, None, Some, Result, Ok, Err}
 use Rattle.std.specs.List.{flat_map, list_all}
 use Rattle.nc_base.specs.declared.{dataset.Dataset.Dataset, header.Dim.Dim, header.Header.Header, header.NumRecs.TheVariants.Known, version.Version.Version}
 use Rattle.nc_base.specs.Fill.{fill_value}
@@ -8,39 +8,31 @@ use Rattle.nc_base.specs.Numbers.{bytes_of_number}
 use Rattle.nc_base.specs.Sizes.{is_record_var, slab_count, slab_size, record_size, slab_limit, array_limit, record_limit}
 use Rattle.nc_base.specs.Types.{size_of}
 use Rattle.cdl_statements.specs.Lexemes.{Lexeme, lexeme}
-use Rattle.cdl_statements.specs.Shapes.{Statement, shape, first_bad}
+use Rattle.cdl_statements.specs.Shapes.{shape, first_bad}
 use Rattle.cdl_statements.specs.Statements.{statements}
 use Rattle.cdl_statements.specs.declared.{fault.CdlFault.CdlFault, fault.CdlKind.CdlKind, section.Section.TheVariants.Unopened}
 use Rattle.cdl_statements.specs.declared.fault.CdlKind.TheVariants.{Syntax, TooLarge}
 use Rattle.cdl_tokens.specs.declared.token.Token.{Token}
 use Rattle.cdl_meaning.specs.State.{State, Draft, act, capacity_of, filled, values_in}
 
--- the longest text that `ncgen` takes and that the laws speak of, in bytes; `meaning` has no limit
+-- the longest text in bytes of `ncgen` and of the laws, not of `meaning`
 abbrev pub text_limit : ℕ
 text_limit = 268435456
 
 -- ---- statements
 
--- a fault of syntax comes before those of meaning
-abbrev pub shaped : Version → State → Option Statement → Result State CdlKind
-shaped v s None = Err Syntax
-shaped v s (Some statement) = act v s statement
-
--- a bad token or a bad number comes before a fault of syntax
-abbrev pub checked : Version → State → Option CdlKind → List Lexeme → Result State CdlKind
-checked v s (Some bad) piece = Err bad
-checked v s None piece = shaped v s (shape v s.section piece)
-
--- what a piece makes of the state
+-- a bad token comes before a fault of syntax, and this before those of meaning
 unfoldable pub piece_read : Version → State → List Lexeme → Result State CdlKind
-piece_read v s piece = checked v s (first_bad v piece) piece
+piece_read v s piece =
+    elim (first_bad v piece) [
+      | None ↦ elim (shape v s.section piece) [ None ↦ Err Syntax | Some statement ↦ act v s statement ]
+      | Some bad ↦ Err bad
+    ]
 
--- the line of its first token
 abbrev pub starting_line : List Token → ℕ
 starting_line [] = 0
 starting_line (t ∷ ts) = t.line
 
--- the first bad statement decides
 unfoldable pub run : List ℕ → Version → State → List (List Token) → Result State CdlFault
 run text v s [] = Ok s
 run text v s (p ∷ ps) =
@@ -54,21 +46,19 @@ empty = record { section = Unopened; dims = []; gatts = []; drafts = [] }
 
 -- ---- arrays
 
--- the numbers that are listed of a variable
 abbrev pub listed_values : List Dim → Draft → List ℤ
 listed_values dims d = elim d.listed [ None ↦ [] | Some listing ↦ values_in (capacity_of dims d.var) listing ]
 
--- how many records hold the values of a variable
+-- how many records hold the values of one variable
 abbrev pub records_of : List Dim → Draft → ℕ
 records_of dims d =
     if is_record_var dims d.var then (length (listed_values dims d) + slab_count dims d.var - 1) / slab_count dims d.var else 0
 
--- how many hold those of all
 abbrev pub records_in : List Dim → List Draft → ℕ
 records_in dims [] = 0
 records_in dims (d ∷ ds) = max (records_of dims d) (records_in dims ds)
 
--- the array of a variable over n records: its values, filled up with the fill value
+-- over n records
 abbrev pub array_of : List Dim → ℕ → Draft → List ℕ
 array_of dims n d = flat_map (bytes_of_number d.var.ty) (filled (value_count dims d.var n) (fill_value d.var) (listed_values dims d))
 
@@ -84,15 +74,13 @@ header_of v s = record {
 abbrev pub dataset_of : Version → State → Dataset
 dataset_of v s = record { header = header_of v s; arrays = map (array_of s.dims (records_in s.dims s.drafts)) s.drafts }
 
--- the slab and the array of a variable over n records keep their limits
 abbrev pub is_small : List Dim → ℕ → Draft → Bool
 is_small dims n d = nat_le (slab_size dims d.var) slab_limit && nat_le (value_count dims d.var n * size_of d.var.ty) array_limit
 
--- the slabs, the arrays and the record keep their limits
 unfoldable pub is_small_enough : Version → State → Bool
 is_small_enough v s = list_all (is_small s.dims (records_in s.dims s.drafts)) s.drafts && nat_le (record_size (header_of v s)) record_limit
 
--- the line of the last piece but one, which is the closing brace
+-- the line of the last piece but one, the closing brace
 abbrev pub closing_line : List (List Token) → ℕ
 closing_line [] = 0
 closing_line (p ∷ []) = 0

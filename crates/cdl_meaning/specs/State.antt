@@ -1,5 +1,5 @@
 -- Definition. The dataset so far, and what each statement makes of it. A fault is the first from the left.
-use Rattle.std.specs.Prelude.{ℕ, ℤ, pos, neg_ℤ, Bool, true, false, List, [], ◌∷◌, ◌++◌, ◌+◌, ◌-◌, ◌^◌, ◌&&◌, ◌||◌, ◌==◌, not, nat_lt, nat_le, if◌then◌else◌, length, take, codes, map, replicate, find, Option, None, Some, Result, Ok, Err, ⊤, int_le, unsigned_abs}
+use Rattle.std.specs.Prelude.{ℕ, ℤ, pos, neg_ℤ, Bool, true, false, List, [], ◌∷◌, ◌++◌, ◌+◌, ◌-◌, ◌^◌, ◌&&◌, ◌||◌, ◌==◌, not, nat_lt, nat_le, if◌then◌else◌, length, take, codes, map, replicate, find, Option, None, Some, is_some, Result, Ok, Err, ⊤, int_le, unsigned_abs}
 use Rattle.std.specs.List.{flat_map, list_any, position}
 use Rattle.std.specs.Ordering.{int_eq}
 use Rattle.std.specs.Str.{bytes_eq}
@@ -15,7 +15,7 @@ use Rattle.nc_base.specs.Types.{all_types, code_of, type_word, width_of, is_sign
 use Rattle.nc_base.specs.ValueText.{row_len, is_char}
 use Rattle.nc_base.specs.Versions.{count_limit, has_type}
 use Rattle.cdl_statements.specs.Lexemes.{Lexeme, is_word}
-use Rattle.cdl_statements.specs.Shapes.{Value, Number, Characters, Underscore, Dimension, Variable, Statement, Opening, Mark, Declared, Typed, Attribute, Listed, Brace, End}
+use Rattle.cdl_statements.specs.Shapes.{Value, Number, Characters, Underscore, Dimension, Variable, Statement, Open, Mark, DeclareDimensions, DeclareVariables, Attribute, Listed, Close, End}
 use Rattle.cdl_statements.specs.declared.{fault.CdlKind.CdlKind, section.Section.Section}
 use Rattle.cdl_statements.specs.declared.fault.CdlKind.TheVariants.{BadName, DuplicateName, UnknownDimension, UnknownVariable, FloatingType, UnknownType, ZeroDimension, TwoRecordDims, BadShape, MixedConstants, NumberRange, WrongKind, TooManyValues, StringTooLong, DuplicateData}
 use Rattle.cdl_statements.specs.declared.section.Section.TheVariants.{Globals, Closed, Ended}
@@ -23,17 +23,15 @@ use Rattle.cdl_statements.specs.declared.section.Section.TheVariants.{Globals, C
 -- what is listed of a variable
 pub data Listing : Type 0 where
   Numbers : (values : List ℤ) → Listing
-  -- strings, one after the other: characters of rank 0 or 1
+  -- strings one after the other: at rank 0 or 1
   Joined : (bytes : List ℕ) → Listing
-  -- a string a row: characters of rank 2 and up
+  -- a string a row: at rank 2 and up
   Rows : (rows : List (List ℕ)) → Listing
 
--- a variable, and what the data section has listed of it
 pub record Draft : Type 0 where
   pub var : Var
   pub listed : Option Listing
 
--- the section, and the dimensions, the attributes of the dataset and the variables so far
 pub record State : Type 0 where
   pub section : Section
   pub dims : List Dim
@@ -45,17 +43,15 @@ abbrev pub ◌>>=◌ : {A B F : Type 0} → Result A F → (A → Result B F) �
 (Ok x) >>= f = f x
 (Err e) >>= f = Err e
 
--- each in turn, up to the first that has a fault
+-- up to the first fault
 abbrev pub in_turn : {S A : Type 0} → (S → A → Result S CdlKind) → S → List A → Result S CdlKind
 in_turn f s [] = Ok s
 in_turn f s (x ∷ xs) = elim (f s x) [ Ok t ↦ in_turn f t xs | Err e ↦ Err e ]
 
--- the fault, if the condition doesn't hold
 abbrev pub unless : Bool → CdlKind → Result ⊤ CdlKind
 unless true e = Ok tt
 unless false e = Err e
 
--- the fault, if the condition holds
 abbrev pub when : Bool → CdlKind → Result ⊤ CdlKind
 when true e = Err e
 when false e = Ok tt
@@ -64,11 +60,10 @@ abbrev pub some_or : {A : Type 0} → Option A → CdlKind → Result A CdlKind
 some_or None e = Err e
 some_or (Some a) e = Ok a
 
--- from one number up to and with another
 abbrev pub int_within : ℤ → ℤ → ℤ → Bool
 int_within low high n = int_le low n && int_le n high
 
--- the type has the number (`IsInRange`, as a `Bool`)
+-- `IsInRange`, as a test
 unfoldable pub has_number : NcType → ℤ → Bool
 has_number ty n =
     if is_signed ty then int_within (neg_ℤ (pos (2 ^ hbits (width_of ty)))) (pos (2 ^ hbits (width_of ty) - 1)) n
@@ -77,9 +72,9 @@ has_number ty n =
 abbrev pub same_type : NcType → NcType → Bool
 same_type a b = code_of a == code_of b
 
--- ---- dimensions: the name, then the length
+-- ---- dimensions
 
--- the length in the header: 0 for the record dimension (None), otherwise the number, if the version allows it
+-- in the header, the length of the record dimension (None) is 0
 abbrev pub dim_len_of : Version → List Dim → Option ℤ → Result ℕ CdlKind
 dim_len_of v dims None = do
   _ ← when (has_record_dim dims) TwoRecordDims
@@ -96,17 +91,14 @@ add_dim v dims d = do
   len ← dim_len_of v dims d.len
   Ok (dims ++ record { name = d.name; len = len } ∷ [])
 
--- ---- declarations: the type word, then for each variable its name and its dimensions
-
-abbrev pub is_word_of : Version → Lexeme → NcType → Bool
-is_word_of v word ty = has_type v ty && is_word (type_word ty) word
+-- ---- declarations
 
 unfoldable pub type_of : Version → Lexeme → Result NcType CdlKind
 type_of v word =
     if is_word (codes "float") word || is_word (codes "real") word || is_word (codes "double") word then Err FloatingType
-    else (if is_word (codes "long") word then Ok Int else some_or (find (is_word_of v word) all_types) UnknownType)
+    else (if is_word (codes "long") word then Ok Int else some_or (find (λ ty. has_type v ty && is_word (type_word ty) word) all_types) UnknownType)
 
--- the ids, and after them the id of the named dimension. Only the first may be that of the record dimension.
+-- appends the id of a dimension; only the first may be the record dimension
 unfoldable pub add_dimid : List Dim → List ℕ → List ℕ → Result (List ℕ) CdlKind
 add_dimid dims ids name = do
   _ ← unless (is_name name) BadName
@@ -114,7 +106,7 @@ add_dimid dims ids name = do
   _ ← when (nat_lt 0 (length ids) && is_record_dim dims k) BadShape
   Ok (ids ++ k ∷ [])
 
--- the variables, and after them the declared one. Its begin is set by `GeneratedFile.with_begins`.
+-- appends a variable; `GeneratedFile.with_begins` sets where its values begin
 unfoldable pub add_var : List Dim → NcType → List Draft → Variable → Result (List Draft) CdlKind
 add_var dims ty drafts v = do
   _ ← unless (is_name v.name) BadName
@@ -122,7 +114,7 @@ add_var dims ty drafts v = do
   ids ← in_turn (add_dimid dims) [] v.dimensions
   Ok (drafts ++ record { var = record { name = v.name; dimids = ids; atts = []; ty = ty; begin_at = 0 }; listed = None } ∷ [])
 
--- the variables, with f applied to the one of this name; if there is none, a fault
+-- with f applied to the variable of this name
 abbrev pub at_named : List ℕ → (Draft → Result Draft CdlKind) → List Draft → Result (List Draft) CdlKind
 at_named name f [] = Err UnknownVariable
 at_named name f (d ∷ ds) =
@@ -133,15 +125,14 @@ at_named name f (d ∷ ds) =
       es ← at_named name f ds
       Ok (d ∷ es))
 
--- the same, if the name is valid
 unfoldable pub at_variable : List ℕ → (Draft → Result Draft CdlKind) → List Draft → Result (List Draft) CdlKind
 at_variable name f ds = do
   _ ← unless (is_name name) BadName
   at_named name f ds
 
--- ---- attributes: the name, then each constant. Strings are joined.
+-- ---- attributes
 
--- the type of a constant. An attribute has no `_`: `Shapes.constant_of` doesn't take it there.
+-- No constant of an attribute is `_`.
 abbrev pub type_said : Value → NcType
 type_said (Number n) = n.ty
 type_said (Characters bytes) = Char
@@ -157,7 +148,7 @@ add_constant ty vals (Characters bytes) = do
   Ok (vals ++ bytes)
 add_constant ty vals Underscore = Err MixedConstants
 
--- the type of the first constant; the shape gives at least one
+-- An attribute has the type of its first constant, of which there is one.
 abbrev pub first_type : List Value → NcType
 first_type [] = Char
 first_type (c ∷ cs) = type_said c
@@ -174,24 +165,22 @@ with_att name cs d = do
   atts ← add_att name cs d.var.atts
   Ok (record d { var = record d.var { atts = atts } })
 
--- ---- data: the variable, then each value
+-- ---- data
 
--- what the values of a variable are checked against, and filled with
+-- what a variable takes
 pub record Capacity : Type 0 where
   pub ty : NcType
   pub fill : ℤ
-  -- it is a record variable: its number of values has no limit
+  -- of a record variable: any number of values
   pub is_open : Bool
-  -- how many values a slab has: for a variable without records, all of its values
+  -- of values in a slab, which is all for any other variable
   pub count : ℕ
-  -- the rank is 2 or more
+  -- at rank 2 and up
   pub in_rows : Bool
-  -- how many rows there are; used only at rank 2 and up, and not for a record variable
+  -- how many rows, of how many values
   pub rows : ℕ
-  -- how many values a row has; used only at rank 2 and up
   pub row : ℕ
 
--- the product of all dimensions but the last
 abbrev pub row_count : List Dim → Var → ℕ
 row_count dims var = product (map (dim_len dims) (take (length var.dimids - 1) var.dimids))
 
@@ -203,7 +192,7 @@ capacity_of dims var = record {
   count = slab_count dims var;
   in_rows = not (nat_lt (length var.dimids) 2);
   rows = row_count dims var;
-  -- (the 0 is never used: it would be the length of a row below rank 2)
+  -- (below rank 2, no row is used)
   row = row_len dims var.dimids 0;
 }
 
@@ -230,7 +219,6 @@ add_row capacity before (Characters bytes) = do
   Ok (before ++ bytes ∷ [])
 add_row capacity before _ = Err WrongKind
 
--- the values in turn, as a listing
 abbrev pub listed_by : {A : Type 0} → (List A → Value → Result (List A) CdlKind) → (List A → Listing) → List Value → Result Listing CdlKind
 listed_by add listing values = in_turn add [] values >>= (λ items. Ok (listing items))
 
@@ -239,36 +227,30 @@ listing_of capacity values =
     if is_char capacity.ty then (if capacity.in_rows then listed_by (add_row capacity) Rows values else listed_by (add_characters capacity) Joined values)
     else listed_by (add_number capacity) Numbers values
 
--- with the fill value up to n of them
 abbrev pub filled : ℕ → ℤ → List ℤ → List ℤ
 filled n fill values = values ++ replicate (n - length values) fill
 
--- the numbers of a listing, each row filled up
+-- Each row is filled up.
 abbrev pub values_in : Capacity → Listing → List ℤ
 values_in capacity (Numbers values) = values
 values_in capacity (Joined bytes) = map pos bytes
 values_in capacity (Rows rows) = flat_map (λ bytes. filled capacity.row capacity.fill (map pos bytes)) rows
 
-abbrev pub is_listed : Option Listing → Bool
-is_listed None = false
-is_listed (Some listing) = true
-
 abbrev pub with_values : List Dim → List Value → Draft → Result Draft CdlKind
 with_values dims values d = do
-  _ ← when (is_listed d.listed) DuplicateData
+  _ ← when (is_some d.listed) DuplicateData
   listing ← listing_of (capacity_of dims d.var) values
   Ok (record d { listed = Some listing })
 
 -- ---- statements
 
--- what a statement of the right shape makes of the state
 unfoldable pub act : Version → State → Statement → Result State CdlKind
-act v s Opening = Ok (record s { section = Globals })
+act v s Open = Ok (record s { section = Globals })
 act v s (Mark section) = Ok (record s { section = section })
-act v s (Declared ds) = do
+act v s (DeclareDimensions ds) = do
   dims ← in_turn (add_dim v) s.dims ds
   Ok (record s { dims = dims })
-act v s (Typed word vs) = do
+act v s (DeclareVariables word vs) = do
   ty ← type_of v word
   drafts ← in_turn (add_var s.dims ty) s.drafts vs
   Ok (record s { drafts = drafts })
@@ -281,5 +263,5 @@ act v s (Attribute (Some variable) name cs) = do
 act v s (Listed variable xs) = do
   drafts ← at_variable variable (with_values s.dims xs) s.drafts
   Ok (record s { drafts = drafts })
-act v s Brace = Ok (record s { section = Closed })
+act v s Close = Ok (record s { section = Closed })
 act v s End = Ok (record s { section = Ended })

@@ -1,7 +1,7 @@
 -- What the statements before the data section make of the state.
 use Rattle.std.proofs.Common.{◌≡◌, Bool, true, false, List, [], ◌∷◌, drop, refl, sym, ap, ◌∙◌, Option, None, Some, is_some, Result, Ok, Err, if◌then◌else◌, arith, rules}
 use Rattle.std.specs.Prelude.{⊤}
-use Rattle.cdl_parse.proofs.Prelude.{false≢true, Att, Dim, Version, attribute_said, dimensions_said, mark_said, other_said, statement_said, variable_said, is_done, next_token, text_of, words, Cutter, completes, opens_section_after, is_whole, next, only, word_value, Lexeme, lexeme, is_mark, is_word_kind, Brace, End, Statement, first_bad, section_of, shape, Due, CdlKind, Syntax, Section, Unopened, Globals, Dimensions, Variables, Closed, Ended, piece_read, State, Draft, act, add_att, add_dim, at_variable, in_turn, with_att, Leaves, name_first, ReadError, OutOfMemory, Fault, constants_said, declared, Makes, after_mark, is_defining, is_over, state_of}
+use Rattle.cdl_parse.proofs.Prelude.{false≢true, Att, Dim, Version, attribute_said, dimensions_said, mark_said, other_said, statement_said, variable_said, is_done, next_token, text_of, words, Cutter, completes, opens_section_after, is_whole, next, only, word_value, Lexeme, lexeme, is_mark, is_word_kind, Close, End, Statement, first_bad, section_of, shape, Due, CdlKind, Syntax, Section, Unopened, Globals, Dimensions, Variables, Closed, Ended, piece_read, checked, shaped, State, Draft, act, add_att, add_dim, at_variable, in_turn, with_att, Leaves, name_first, ReadError, OutOfMemory, Fault, constants_said, declared, Makes, after_mark, is_defining, is_over, state_of}
 use Rattle.cdl_statements.specs.code.DueTokens.{is_name}
 use Rattle.cdl_statements.specs.declared.due.Due.TheVariants as dues
 use Rattle.cdl_statements.proofs.Options.{none_of}
@@ -13,7 +13,7 @@ pub opens : (v : Version) (s : State) (l : Lexeme) (ls ws : List Lexeme) → ws 
 unfolding act statement_said
 opens v s l ls ws is = rw (is) refl
 
-said_brace : (v : Version) (section : Section) (l : Lexeme) (ls : List Lexeme) → is_defining section ≡ true → is_mark 0x7d l ≡ true → statement_said v section (l ∷ ls) ≡ Brace
+said_brace : (v : Version) (section : Section) (l : Lexeme) (ls : List Lexeme) → is_defining section ≡ true → is_mark 0x7d l ≡ true → statement_said v section (l ∷ ls) ≡ Close
 unfolding statement_said
 said_brace v section l ls h h2 = grind arith
 
@@ -154,15 +154,15 @@ only_globals section h h2 h3 = grind arith
 
 pub reads_bad : (v : Version) (s : State) (ws : List Lexeme) (kind : CdlKind) → first_bad v ws ≡ Some kind → piece_read v s ws ≡ Err kind
 unfolding piece_read
-reads_bad v s ws kind is = rw (is) refl
+reads_bad v s ws kind is = ap (λ o. checked v s o ws) is
 
 pub reads_shapeless : (v : Version) (s : State) (ws : List Lexeme) → first_bad v ws ≡ None → is_some (shape v s.section ws) ≡ false → piece_read v s ws ≡ Err Syntax
 unfolding piece_read
-reads_shapeless v s ws good off = rw (good) (rw (none_of (shape v s.section ws) off) refl)
+reads_shapeless v s ws good off = ap (λ o. checked v s o ws) good ∙ ap (shaped v s) (none_of (shape v s.section ws) off)
 
 pub reads_statement : (v : Version) (s : State) (ws : List Lexeme) (statement : Statement) → first_bad v ws ≡ None → shape v s.section ws ≡ Some statement → piece_read v s ws ≡ act v s statement
 unfolding piece_read
-reads_statement v s ws statement good is = rw (good) (rw (is) refl)
+reads_statement v s ws statement good is = ap (λ o. checked v s o ws) good ∙ ap (shaped v s) is
 
 -- after the closing brace
 said_past : (v : Version) (section : Section) (l : Lexeme) (ls : List Lexeme) → is_over section ≡ true → statement_said v section (l ∷ ls) ≡ End

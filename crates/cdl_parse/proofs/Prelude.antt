@@ -1,7 +1,8 @@
 -- The names that proofs of this crate cite from elsewhere, passed on from one place.
-pub use Rattle.cdl_meaning.specs.Meaning.{array_of, checked, closing_line, dataset_of, empty, header_of, is_small, starting_line, meaning, records_in, shaped, listed_values}
+pub use Rattle.cdl_meaning.specs.Meaning.{array_of, closing_line, dataset_of, empty, header_of, is_small, starting_line, meaning, records_in, listed_values}
+pub use Rattle.cdl_meaning.proofs.Readings.{checked, shaped}
 unfoldable pub use Rattle.cdl_meaning.specs.Meaning.{finished, is_small_enough, piece_read, run}
-pub use Rattle.cdl_meaning.specs.State.{Draft, Listing, State, add_constant, at_named, dim_len_of, first_type, some_or, in_turn, is_listed, type_said, unless, values_in, when, with_att, with_values}
+pub use Rattle.cdl_meaning.specs.State.{Draft, Listing, State, add_constant, at_named, dim_len_of, first_type, some_or, in_turn, type_said, unless, values_in, when, with_att, with_values}
 unfoldable pub use Rattle.cdl_meaning.specs.State.{act, add_att, add_dim, add_dimid, add_var, at_variable, capacity_of, listing_of, type_of}
 pub use Rattle.cdl_parse.specs.code.AttributeNames.{att_names, has_attribute}
 pub use Rattle.cdl_parse.specs.code.AttributeRead.{att_read, att_said, constants_said}
@@ -19,7 +20,8 @@ pub use Rattle.cdl_parse.specs.declared.{declaration.PartialVariable.PartialVari
 pub use Rattle.cdl_statements.proofs.DimensionSteps.{first_goes, on, said_on, second_goes, shaped_on, third_goes}
 pub use Rattle.cdl_statements.proofs.Listing.{only_completes, value_first}
 pub use Rattle.cdl_statements.specs.Lexemes.{Lexeme, is_mark, is_mark_kind, is_word_kind, lexeme}
-pub use Rattle.cdl_statements.specs.Shapes.{Attribute, Brace, Dimension, End, Listed, Mark, Opening, Statement, Typed, Value, first_bad, section_of}
+pub use Rattle.cdl_statements.specs.Shapes.{Attribute, Close, Dimension, End, Listed, Mark, Open, Statement, DeclareVariables, Value, first_bad}
+pub use Rattle.cdl_statements.specs.Pieces.{section_of}
 unfoldable pub use Rattle.cdl_statements.specs.Shapes.{shape}
 pub use Rattle.cdl_statements.specs.Statements.{statements}
 pub use Rattle.cdl_statements.specs.code.Contents.{Declaration, attribute_said, dimension_said, is_unlimited, mark_said, other_said, parts_or_zero, variable_said, with_name}

@@ -4,7 +4,7 @@ ghost use Rattle.std.specs.Prelude.{◌≡◌, IfOk, false, true};
 ghost use Rattle.cdl_statements.specs.code.Cutters.{Follows, is_done, next_token, text_of, words};
 ghost use Rattle.cdl_statements.specs.code.DueTokens.{completes};
 ghost use Rattle.cdl_statements.specs.Lexemes.{is_mark, lexeme};
-ghost use Rattle.cdl_statements.specs.Shapes.{section_of};
+ghost use Rattle.cdl_statements.specs.Pieces.{section_of};
 ghost use Rattle.cdl_statements.specs.code.Views.{lexeme_of};
 ghost use Rattle.cdl_statements.specs.declared.due.Due.TheVariants.{First};
 

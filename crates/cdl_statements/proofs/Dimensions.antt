@@ -1,8 +1,9 @@
 -- Lists of dimensions: the table of due tokens says whether one has its shape, and what it says stands in its tokens.
 use Rattle.std.proofs.Common.{◌≡◌, Bool, true, false, List, [], ◌∷◌, refl, ap, ◌∙◌, Option, None, Some, if◌then◌else◌, ◌&&◌, is_none, arith, rules}
-use Rattle.cdl_statements.proofs.Prelude.{option_map, option_and_then, Version, parts_or_zero, length_said, dimensions_said, next, completes, is_name, is_length, is_number, word_value, Lexeme, is_mark, Numeral, parts, number, numeral, Dimension, dimension, dimensions, length_of, numeral_of, token_fault, first_bad, both, if_so, before_mark, TokenKind}
+use Rattle.cdl_statements.proofs.Prelude.{option_map, option_and_then, Version, parts_or_zero, length_said, dimensions_said, next, completes, is_name, is_length, is_number, word_value, Lexeme, is_mark, Numeral, parts, number, numeral, Dimension, dimension, dimensions, dimensions_are, dimensions_by, length_of, numeral_of, token_fault, first_bad, both, if_so, before_mark, TokenKind}
 use Rattle.cdl_statements.specs.declared.due.Due.TheVariants as dues
 use Rattle.cdl_statements.proofs.Listing.{fine, fine_on, combine, never_completes, nothing_more, no_members, apart}
+use Rattle.cdl_statements.proofs.Options.{then_same}
 use Rattle.cdl_statements.proofs.Shaping.{name_is}
 
 length_by : (v : Version) (l : Lexeme) (k : TokenKind) → token_fault v k l.bytes ≡ None →
@@ -19,7 +20,7 @@ said v n l = record { name = word_value n.bytes; len = length_said v l }
 three : {A B C : Type 0} (f : A → B → C) (a b e : Bool) (x : A) (y : B) → if_so e (both f (if a then Some x else None) (if b then Some y else None)) ≡ (if a && e && b then Some (f x y) else None)
 three f a b e x y = grind arith
 
-dimension_is : (v : Version) (n e l : Lexeme) → token_fault v l.kind l.bytes ≡ None → dimension v n e l ≡ (if is_name n && is_mark 0x3d e && is_length l then Some (said v n l) else None)
+dimension_is : (v : Version) (n e l : Lexeme) → token_fault v l.kind l.bytes ≡ None → dimension v (n ∷ e ∷ l ∷ []) ≡ (if is_name n && is_mark 0x3d e && is_length l then Some (said v n l) else None)
 unfolding said
 dimension_is v n e l h =
     rw (name_is n) (rw (length_is v l h) (three (λ name len. record { name = name; len = len }) (is_name n) (is_length l) (is_mark 0x3d e) (word_value n.bytes) (length_said v l)))
@@ -28,11 +29,15 @@ dimension_is v n e l h =
 abbrev pub listed_dims : Version → List Lexeme → Option (List Dimension)
 listed_dims v ls = option_and_then (dimensions v) (before_mark 0x3b ls)
 
-last : (v : Version) (n e l c : Lexeme) → listed_dims v (n ∷ e ∷ l ∷ c ∷ []) ≡ if_so (is_mark 0x3b c) (both (λ d ds. d ∷ ds) (dimension v n e l) (Some []))
-last v n e l c = search (rules, dimensions, if_so, both)
+-- the same, cut token by token
+abbrev dims_by : Version → List Lexeme → Option (List Dimension)
+dims_by v ls = option_and_then (dimensions_by v) (before_mark 0x3b ls)
 
-more : (v : Version) (n e l c r : Lexeme) (rs : List Lexeme) → listed_dims v (n ∷ e ∷ l ∷ c ∷ r ∷ rs) ≡ if_so (is_mark 0x2c c) (both (λ d ds. d ∷ ds) (dimension v n e l) (listed_dims v (r ∷ rs)))
-more v n e l c r rs = search (rules, dimensions, if_so, both, no_members)
+last : (v : Version) (n e l c : Lexeme) → dims_by v (n ∷ e ∷ l ∷ c ∷ []) ≡ if_so (is_mark 0x3b c) (both (λ d ds. d ∷ ds) (dimension v (n ∷ e ∷ l ∷ [])) (Some []))
+last v n e l c = search (rules, dimensions_by, if_so, both)
+
+more : (v : Version) (n e l c r : Lexeme) (rs : List Lexeme) → dims_by v (n ∷ e ∷ l ∷ c ∷ r ∷ rs) ≡ if_so (is_mark 0x2c c) (both (λ d ds. d ∷ ds) (dimension v (n ∷ e ∷ l ∷ [])) (dims_by v (r ∷ rs)))
+more v n e l c r rs = search (rules, dimensions_by, if_so, both, no_members)
 
 and_four : (a b d x : Bool) → (a && (b && (d && x))) ≡ (a && b && d && x)
 and_four a b d x = grind arith
@@ -56,17 +61,17 @@ separator_last c = grind (arith, apart c)
 abbrev is_shaped : Lexeme → Lexeme → Lexeme → Bool
 is_shaped n e l = is_name n && is_mark 0x3d e && is_length l
 
-none_short : (v : Version) (ls : List Lexeme) → completes dues.DimensionName ls ≡ false → listed_dims v ls ≡ None → listed_dims v ls ≡ (if completes dues.DimensionName ls then Some (dimensions_said v ls) else None)
+none_short : (v : Version) (ls : List Lexeme) → completes dues.DimensionName ls ≡ false → dims_by v ls ≡ None → dims_by v ls ≡ (if completes dues.DimensionName ls then Some (dimensions_said v ls) else None)
 none_short v ls off is = is ∙ rw (off) refl
 
-dims_one : (v : Version) (n : Lexeme) → listed_dims v (n ∷ []) ≡ None
-dims_one v n = search (rules, dimensions, if_so)
+dims_one : (v : Version) (n : Lexeme) → dims_by v (n ∷ []) ≡ None
+dims_one v n = search (rules, dimensions_by, if_so)
 
-dims_two : (v : Version) (n e : Lexeme) → listed_dims v (n ∷ e ∷ []) ≡ None
-dims_two v n e = search (rules, dimensions, if_so)
+dims_two : (v : Version) (n e : Lexeme) → dims_by v (n ∷ e ∷ []) ≡ None
+dims_two v n e = search (rules, dimensions_by, if_so)
 
-dims_three : (v : Version) (n e l : Lexeme) → listed_dims v (n ∷ e ∷ l ∷ []) ≡ None
-dims_three v n e l = search (rules, dimensions, if_so)
+dims_three : (v : Version) (n e l : Lexeme) → dims_by v (n ∷ e ∷ l ∷ []) ≡ None
+dims_three v n e l = search (rules, dimensions_by, if_so)
 
 pub completes_one : (n : Lexeme) → completes dues.DimensionName (n ∷ []) ≡ false
 unfolding completes next
@@ -80,21 +85,24 @@ pub completes_three : (n e l : Lexeme) → completes dues.DimensionName (n ∷ e
 unfolding completes next
 completes_three n e l = search (rules, next)
 
--- a list of dimensions has its shape where the table says so
-pub dims_are : (v : Version) (ls : List Lexeme) → first_bad v ls ≡ None → listed_dims v ls ≡ (if completes dues.DimensionName ls then Some (dimensions_said v ls) else None)
+dims_by_are : (v : Version) (ls : List Lexeme) → first_bad v ls ≡ None → dims_by v ls ≡ (if completes dues.DimensionName ls then Some (dimensions_said v ls) else None)
 unfolding completes dimensions_said said
-dims_are v [] h = refl
-dims_are v (n ∷ []) h = none_short v (n ∷ []) (completes_one n) (dims_one v n)
-dims_are v (n ∷ e ∷ []) h = none_short v (n ∷ e ∷ []) (completes_two n e) (dims_two v n e)
-dims_are v (n ∷ e ∷ l ∷ []) h = none_short v (n ∷ e ∷ l ∷ []) (completes_three n e l) (dims_three v n e l)
-dims_are v (n ∷ e ∷ l ∷ c ∷ []) h =
+dims_by_are v [] h = refl
+dims_by_are v (n ∷ []) h = none_short v (n ∷ []) (completes_one n) (dims_one v n)
+dims_by_are v (n ∷ e ∷ []) h = none_short v (n ∷ e ∷ []) (completes_two n e) (dims_two v n e)
+dims_by_are v (n ∷ e ∷ l ∷ []) h = none_short v (n ∷ e ∷ l ∷ []) (completes_three n e l) (dims_three v n e l)
+dims_by_are v (n ∷ e ∷ l ∷ c ∷ []) h =
     let good = fine v l (c ∷ []) (fine_on v e (l ∷ c ∷ []) (fine_on v n (e ∷ l ∷ c ∷ []) h)) in
     last v n e l c ∙
-    combine (is_shaped n e l) (is_mark 0x3b c) true (completes dues.DimensionName (n ∷ e ∷ l ∷ c ∷ [])) (dimension v n e l) (said v n l) (Some []) [] (dimensions_said v (n ∷ e ∷ l ∷ c ∷ []))
+    combine (is_shaped n e l) (is_mark 0x3b c) true (completes dues.DimensionName (n ∷ e ∷ l ∷ c ∷ [])) (dimension v (n ∷ e ∷ l ∷ [])) (said v n l) (Some []) [] (dimensions_said v (n ∷ e ∷ l ∷ c ∷ []))
     (dimension_is v n e l good) refl (four n e l c [] ∙ ap (λ x. is_shaped n e l && x) (separator_last c) ∙ and_assoc (is_shaped n e l) (is_mark 0x3b c) true) (λ i s. refl)
-dims_are v (n ∷ e ∷ l ∷ c ∷ r ∷ rs) h =
+dims_by_are v (n ∷ e ∷ l ∷ c ∷ r ∷ rs) h =
     let after = fine_on v l (c ∷ r ∷ rs) (fine_on v e (l ∷ c ∷ r ∷ rs) (fine_on v n (e ∷ l ∷ c ∷ r ∷ rs) h)) in
     let good = fine v l (c ∷ r ∷ rs) (fine_on v e (l ∷ c ∷ r ∷ rs) (fine_on v n (e ∷ l ∷ c ∷ r ∷ rs) h)) in
     more v n e l c r rs ∙
-    combine (is_shaped n e l) (is_mark 0x2c c) (completes dues.DimensionName (r ∷ rs)) (completes dues.DimensionName (n ∷ e ∷ l ∷ c ∷ r ∷ rs)) (dimension v n e l) (said v n l) (listed_dims v (r ∷ rs)) (dimensions_said v (r ∷ rs)) (dimensions_said v (n ∷ e ∷ l ∷ c ∷ r ∷ rs))
-    (dimension_is v n e l good) (dims_are v (r ∷ rs) (fine_on v c (r ∷ rs) after)) (four n e l c (r ∷ rs) ∙ ap (λ x. is_shaped n e l && x) (separator_more c r rs) ∙ and_assoc (is_shaped n e l) (is_mark 0x2c c) (completes dues.DimensionName (r ∷ rs))) (λ i s. refl)
+    combine (is_shaped n e l) (is_mark 0x2c c) (completes dues.DimensionName (r ∷ rs)) (completes dues.DimensionName (n ∷ e ∷ l ∷ c ∷ r ∷ rs)) (dimension v (n ∷ e ∷ l ∷ [])) (said v n l) (dims_by v (r ∷ rs)) (dimensions_said v (r ∷ rs)) (dimensions_said v (n ∷ e ∷ l ∷ c ∷ r ∷ rs))
+    (dimension_is v n e l good) (dims_by_are v (r ∷ rs) (fine_on v c (r ∷ rs) after)) (four n e l c (r ∷ rs) ∙ ap (λ x. is_shaped n e l && x) (separator_more c r rs) ∙ and_assoc (is_shaped n e l) (is_mark 0x2c c) (completes dues.DimensionName (r ∷ rs))) (λ i s. refl)
+
+-- a list of dimensions has its shape where the table says so
+pub dims_are : (v : Version) (ls : List Lexeme) → first_bad v ls ≡ None → listed_dims v ls ≡ (if completes dues.DimensionName ls then Some (dimensions_said v ls) else None)
+dims_are v ls h = then_same (dimensions v) (dimensions_by v) (dimensions_are v) (before_mark 0x3b ls) ∙ dims_by_are v ls h

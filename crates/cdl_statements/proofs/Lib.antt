@@ -1,3 +1,4 @@
+pub mod Members
 pub mod Cuts
 pub mod PieceLengths
 pub mod ShapeChecks

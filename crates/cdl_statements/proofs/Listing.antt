@@ -1,7 +1,8 @@
 -- Lists of constants: the table of due tokens says whether one has its shape, and its values are those of its tokens.
 use Rattle.std.proofs.Common.{◌≡◌, ℕ, Bool, true, false, List, [], ◌∷◌, refl, ap, ◌∙◌, arith, Option, None, Some, if◌then◌else◌, ◌&&◌, is_none, rules}
-use Rattle.cdl_statements.proofs.Prelude.{option_and_then, Version, value_of, values, is_value_of, only, next, completes, Lexeme, is_mark, is_mark_kind, parts, number, numeral, Value, token_fault, either, first_bad, constant_of, constant, constants, both, if_so, before_mark, Due, CdlKind, TokenKind, and_false}
+use Rattle.cdl_statements.proofs.Prelude.{option_and_then, Version, value_of, values, is_value_of, only, next, completes, Lexeme, is_mark, is_mark_kind, parts, number, numeral, Value, token_fault, either, first_bad, constant_of, constant, constants, constants_are, constants_by, both, if_so, before_mark, Due, CdlKind, TokenKind, and_false}
 use Rattle.cdl_statements.specs.declared.due.Due.TheVariants as dues
+use Rattle.cdl_statements.proofs.Options.{then_same}
 
 -- ---- no bad token
 
@@ -79,11 +80,15 @@ past_mark v l ls h = rw (h) refl
 abbrev pub listed : Version → Bool → List Lexeme → Option (List Value)
 listed v takes_fill ls = option_and_then (constants v takes_fill) (before_mark 0x3b ls)
 
-listed_last : (v : Version) (takes_fill : Bool) (l m : Lexeme) → listed v takes_fill (l ∷ m ∷ []) ≡ if_so (is_mark 0x3b m) (both (λ x xs. x ∷ xs) (constant v takes_fill l) (Some []))
-listed_last v takes_fill l m = search (rules, constants, if_so, both, constant)
+-- the same, cut token by token
+abbrev listed_by : Version → Bool → List Lexeme → Option (List Value)
+listed_by v takes_fill ls = option_and_then (constants_by v takes_fill) (before_mark 0x3b ls)
 
-listed_more : (v : Version) (takes_fill : Bool) (l m r : Lexeme) (rs : List Lexeme) → listed v takes_fill (l ∷ m ∷ r ∷ rs) ≡ if_so (is_mark 0x2c m) (both (λ x xs. x ∷ xs) (constant v takes_fill l) (listed v takes_fill (r ∷ rs)))
-listed_more v takes_fill l m r rs = search (rules, constants, if_so, both, constant, no_members)
+listed_last : (v : Version) (takes_fill : Bool) (l m : Lexeme) → listed_by v takes_fill (l ∷ m ∷ []) ≡ if_so (is_mark 0x3b m) (both (λ x xs. x ∷ xs) (constant v takes_fill l) (Some []))
+listed_last v takes_fill l m = search (rules, constants_by, if_so, both, constant)
+
+listed_more : (v : Version) (takes_fill : Bool) (l m r : Lexeme) (rs : List Lexeme) → listed_by v takes_fill (l ∷ m ∷ r ∷ rs) ≡ if_so (is_mark 0x2c m) (both (λ x xs. x ∷ xs) (constant v takes_fill l) (listed_by v takes_fill (r ∷ rs)))
+listed_more v takes_fill l m r rs = search (rules, constants_by, if_so, both, constant, no_members)
 
 completes_more : (takes_fill : Bool) (l m r : Lexeme) (rs : List Lexeme) → completes (dues.Value takes_fill) (l ∷ m ∷ r ∷ rs) ≡ (is_value_of takes_fill l l.kind && is_mark 0x2c m && completes (dues.Value takes_fill) (r ∷ rs))
 unfolding completes next
@@ -93,19 +98,22 @@ completes_last : (takes_fill : Bool) (l m : Lexeme) → completes (dues.Value ta
 unfolding completes next
 completes_last takes_fill l m = search (rules, next, apart)
 
-listed_lone : (v : Version) (takes_fill : Bool) (l : Lexeme) → listed v takes_fill (l ∷ []) ≡ (if completes (dues.Value takes_fill) (l ∷ []) then Some (values v (l ∷ [])) else None)
+listed_lone : (v : Version) (takes_fill : Bool) (l : Lexeme) → listed_by v takes_fill (l ∷ []) ≡ (if completes (dues.Value takes_fill) (l ∷ []) then Some (values v (l ∷ [])) else None)
 unfolding completes next
-listed_lone v takes_fill l = search (rules, constants, if_so, values)
+listed_lone v takes_fill l = search (rules, constants_by, if_so, values)
+
+listed_by_is : (v : Version) (takes_fill : Bool) (ls : List Lexeme) → first_bad v ls ≡ None → listed_by v takes_fill ls ≡ (if completes (dues.Value takes_fill) ls then Some (values v ls) else None)
+unfolding completes values
+listed_by_is v takes_fill [] h = refl
+listed_by_is v takes_fill (l ∷ []) h = listed_lone v takes_fill l
+listed_by_is v takes_fill (l ∷ m ∷ []) h =
+    search (rules, listed_last, combine, constant, values, constant_is, fine, completes_last, value_first, past_mark, kind_of_mark)
+listed_by_is v takes_fill (l ∷ m ∷ r ∷ rs) h =
+    listed_more v takes_fill l m r rs ∙
+    combine (is_value_of takes_fill l l.kind) (is_mark 0x2c m) (completes (dues.Value takes_fill) (r ∷ rs)) (completes (dues.Value takes_fill) (l ∷ m ∷ r ∷ rs)) (constant v takes_fill l) (value_of v l l.kind) (listed_by v takes_fill (r ∷ rs)) (values v (r ∷ rs)) (values v (l ∷ m ∷ r ∷ rs))
+    (constant_is v takes_fill l (fine v l (m ∷ r ∷ rs) h)) (listed_by_is v takes_fill (r ∷ rs) (fine_on v m (r ∷ rs) (fine_on v l (m ∷ r ∷ rs) h))) (completes_more takes_fill l m r rs)
+    (λ i c. value_first v takes_fill l (m ∷ r ∷ rs) i ∙ ap (λ vs. value_of v l l.kind ∷ vs) (past_mark v m (r ∷ rs) (kind_of_mark 0x2c m c)))
 
 -- a list has its shape where the table says so
 pub listed_is : (v : Version) (takes_fill : Bool) (ls : List Lexeme) → first_bad v ls ≡ None → listed v takes_fill ls ≡ (if completes (dues.Value takes_fill) ls then Some (values v ls) else None)
-unfolding completes values
-listed_is v takes_fill [] h = refl
-listed_is v takes_fill (l ∷ []) h = listed_lone v takes_fill l
-listed_is v takes_fill (l ∷ m ∷ []) h =
-    search (rules, listed_last, combine, constant, values, constant_is, fine, completes_last, value_first, past_mark, kind_of_mark)
-listed_is v takes_fill (l ∷ m ∷ r ∷ rs) h =
-    listed_more v takes_fill l m r rs ∙
-    combine (is_value_of takes_fill l l.kind) (is_mark 0x2c m) (completes (dues.Value takes_fill) (r ∷ rs)) (completes (dues.Value takes_fill) (l ∷ m ∷ r ∷ rs)) (constant v takes_fill l) (value_of v l l.kind) (listed v takes_fill (r ∷ rs)) (values v (r ∷ rs)) (values v (l ∷ m ∷ r ∷ rs))
-    (constant_is v takes_fill l (fine v l (m ∷ r ∷ rs) h)) (listed_is v takes_fill (r ∷ rs) (fine_on v m (r ∷ rs) (fine_on v l (m ∷ r ∷ rs) h))) (completes_more takes_fill l m r rs)
-    (λ i c. value_first v takes_fill l (m ∷ r ∷ rs) i ∙ ap (λ vs. value_of v l l.kind ∷ vs) (past_mark v m (r ∷ rs) (kind_of_mark 0x2c m c)))
+listed_is v takes_fill ls h = then_same (constants v takes_fill) (constants_by v takes_fill) (constants_are v takes_fill) (before_mark 0x3b ls) ∙ listed_by_is v takes_fill ls h

@@ -32,5 +32,9 @@ none_if o w a ho hw = ho ∙ rw (hw) refl
 pub same_if : {A : Type 0} (o : Option A) (w v : Bool) (a b : A) → o ≡ (if w then Some a else None) → v ≡ w → (w ≡ true → b ≡ a) → o ≡ (if v then Some b else None)
 same_if o w v a b h h2 h3 = grind arith
 
+pub then_same : {A B : Type 0} (f g : A → Option B) → ((a : A) → f a ≡ g a) → (o : Option A) → option_and_then f o ≡ option_and_then g o
+then_same f g h None = refl
+then_same f g h (Some a) = h a
+
 pub given_then : {A B : Type 0} (f : A → Option B) (b : Bool) (a : A) → option_and_then f (if_so b (Some a)) ≡ if_so b (f a)
 given_then f b a = grind arith

@@ -1,8 +1,9 @@
 -- The pieces, cut by how many tokens each has, are those that come of a cut token by token.
-use Rattle.std.proofs.Common.{◌≡◌, ℕ, suc, ◌-◌, Bool, true, false, List, [], ◌∷◌, take, sym, ◌∙◌, refl, arith, ◌&&◌, ◌||◌, ◌==◌, slice_index, rules}
+use Rattle.std.proofs.Common.{◌≡◌, ℕ, suc, ◌-◌, Bool, true, false, List, [], ◌∷◌, take, sym, ap, ◌∙◌, refl, arith, ◌&&◌, ◌||◌, ◌==◌, slice_index, is_some, rules}
 use Rattle.cdl_statements.proofs.Prelude.{first_role, is_end_role, mark_role, role, role_of, pieces_after, section_step, step, unless_end, with_first, Lexeme, is_mark, is_mark_kind, is_word_kind, is_opening_kind, is_end_kind, Role, Colon, Semicolon, Step, CutState, Begins, Inside, Marked, Closed, TokenKind}
-use Rattle.cdl_statements.specs.Pieces.{pieces_at, piece_len, statement_len, len_before_end, is_section, is_section_mark}
-use Rattle.cdl_statements.specs.declared.piece.Role.TheVariants.{Opening, Section, Brace}
+use Rattle.cdl_statements.specs.Pieces.{pieces_at, piece_len, statement_len, len_before_end, section_of, is_section_mark}
+unfoldable use Rattle.cdl_statements.specs.code.Roles.{is_section}
+use Rattle.cdl_statements.specs.declared.piece.Role.TheVariants.{Opening, Section, Brace, End, Other}
 use Rattle.cdl_tokens.specs.declared.token.TokenKind.TheVariants as kinds
 
 -- ---- what a role says of a token
@@ -71,8 +72,12 @@ record Claims {X : Type 0} (look : X → Lexeme) (ts : List X) : Type 0 where
   marked : is_end_role (next look ts) ≡ false → pieces_after (roles look) Marked ts ≡ take 1 ts ∷ pieces_at look false 1 ts
   closing : (c : Bool) → is_end_role (next look ts) ≡ false → pieces_after (roles look) Closed ts ≡ take (len_before_end look ts) ts ∷ pieces_at look c (len_before_end look ts) ts
 
+some_section : (l : Lexeme) → is_some (section_of l) ≡ (is_word_kind l.kind && is_section l.bytes)
+unfolding is_section
+some_section l = grind arith
+
 mark_has : {X : Type 0} (look : X → Lexeme) (t : X) (r : Role) (ts : List X) → HasRole look t r → is_section_mark look t ts ≡ (is_section_role r && is_colon (next look ts))
-mark_has look t r ts h = grind (arith, has_role)
+mark_has look t r ts h = grind (arith, has_role, some_section (look t))
 
 none_in_statement : {X : Type 0} (look : X → Lexeme) (ts : List X) → is_end_role (next look ts) ≡ true → statement_len look ts ≡ 0
 none_in_statement look ts h = grind (arith, has_role)
@@ -133,7 +138,14 @@ section_on : {X : Type 0} (look : X → Lexeme) (t : X) (ts : List X) → HasRol
 section_on look t ts h h2 b h3 = grind (arith, colon_is, next, mark_on, with_first, not_colon, inside_on, goes_begun)
 
 begins_on : {X : Type 0} (look : X → Lexeme) (t : X) (ts : List X) (r : Role) → HasRole look t r → Claims look ts → stepped look t ts (step Begins r (next look ts)) ≡ first_cut look false t ts
-begins_on look t ts r h h2 = grind (arith, alone_on, other_on, statement_ends, inside_on, goes_begun, section_on, next)
+begins_on look t ts Opening has k = rw (alone_on look t ts Opening has refl) (rw (has.brace) (ap (λ ps. (t ∷ []) ∷ ps) k.begins))
+begins_on look t ts Section has k = section_on look t ts has k (is_colon (next look ts)) refl
+begins_on look t ts Colon has k = inside_on look t ts k ∙ goes_begun look t ts Colon has k refl refl refl refl refl
+begins_on look t ts Semicolon has k =
+    rw (other_on look t ts Semicolon has refl refl ∙ statement_ends look t ts has.end has.semicolon) (rw (has.brace) (ap (λ ps. (t ∷ []) ∷ ps) k.begins))
+begins_on look t ts Brace has k = rw (alone_on look t ts Brace has refl) (rw (has.brace) (ap (λ ps. (t ∷ []) ∷ ps) k.closed))
+begins_on look t ts End has k = rw (alone_on look t ts End has refl) (rw (has.brace) (ap (λ ps. (t ∷ []) ∷ ps) k.begins))
+begins_on look t ts Other has k = inside_on look t ts k ∙ goes_begun look t ts Other has k refl refl refl refl refl
 
 closed_more : {X : Type 0} (look : X → Lexeme) (t : X) (ts : List X) → is_end_kind (look t).kind ≡ false → Claims look ts →
     stepped look t ts (unless_end (next look ts) Closed) ≡ first_cut look true t ts

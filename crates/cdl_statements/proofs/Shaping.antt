@@ -1,6 +1,6 @@
 -- Statements: the table of due tokens says whether one has its shape, and what it says stands in its tokens.
 use Rattle.std.proofs.Common.{◌≡◌, ℕ, Bool, true, false, List, [], ◌∷◌, drop, refl, sym, ap, ◌∙◌, Option, None, Some, if◌then◌else◌, ◌&&◌, codes, arith, rules}
-use Rattle.cdl_statements.proofs.Prelude.{option_and_then, Version, values, only, next, completes, is_name, word_value, Lexeme, is_mark, is_mark_kind, is_word_kind, name_of, Value, Statement, Listed, Brace, first_bad, assigned, constants, both, if_so, before_mark, either, alone, section_mark, section_of, mark_after, shape, Section, Values, TokenKind, and_false}
+use Rattle.cdl_statements.proofs.Prelude.{option_and_then, Version, values, only, next, completes, is_name, word_value, Lexeme, is_mark, is_mark_kind, is_word_kind, name_of, Value, Statement, Listed, Close, first_bad, assigned, constants, both, if_so, before_mark, either, alone, section_mark, section_of, mark_after, shape, Section, Values, TokenKind, and_false}
 use Rattle.cdl_statements.specs.declared.due.Due.TheVariants as dues
 use Rattle.cdl_statements.proofs.Options.{either_none, given_none}
 use Rattle.cdl_statements.proofs.Listing.{fine_on, nothing_more, only_completes, listed, listed_is, kind_of_mark}
@@ -74,12 +74,12 @@ last_mark l ls = grind (arith, none_after, given_none)
 
 -- what a statement of the data section says
 abbrev pub data_said : Version → Lexeme → List Lexeme → Statement
-data_said v l ls = if is_mark 0x7d l then Brace else Listed (word_value l.bytes) (values v (drop 1 ls))
+data_said v l ls = if is_mark 0x7d l then Close else Listed (word_value l.bytes) (values v (drop 1 ls))
 
-pub no_brace : (l : Lexeme) (ls : List Lexeme) → is_mark 0x7d l ≡ false → alone {A = Statement} (is_mark 0x7d) Brace (l ∷ ls) ≡ None
+pub no_brace : (l : Lexeme) (ls : List Lexeme) → is_mark 0x7d l ≡ false → alone {A = Statement} (is_mark 0x7d) Close (l ∷ ls) ≡ None
 no_brace l ls h = grind arith
 
-data_brace : (v : Version) (l : Lexeme) (ls : List Lexeme) → first_bad v ls ≡ None → is_mark 0x7d l ≡ true → shape v Values (l ∷ ls) ≡ (if completes dues.Nothing ls then Some Brace else None)
+data_brace : (v : Version) (l : Lexeme) (ls : List Lexeme) → first_bad v ls ≡ None → is_mark 0x7d l ≡ true → shape v Values (l ∷ ls) ≡ (if completes dues.Nothing ls then Some Close else None)
 unfolding shape completes next
 data_brace v l [] h on = rw (on) refl
 data_brace v l (m ∷ ls) h on =
@@ -90,7 +90,7 @@ data_other : (v : Version) (l : Lexeme) (ls : List Lexeme) → first_bad v ls �
     shape v Values (l ∷ ls) ≡ (if is_name l && completes (dues.Equals true) ls then Some (Listed (word_value l.bytes) (values v (drop 1 ls))) else None)
 unfolding shape
 data_other v l ls h off =
-    either_none (alone (is_mark 0x7d) Brace (l ∷ ls)) (either (section_mark Values (l ∷ ls)) (assigned_to v true Listed (l ∷ ls))) (no_brace l ls off) ∙
+    either_none (alone (is_mark 0x7d) Close (l ∷ ls)) (either (section_mark Values (l ∷ ls)) (assigned_to v true Listed (l ∷ ls))) (no_brace l ls off) ∙
     either_none (section_mark Values (l ∷ ls)) (assigned_to v true Listed (l ∷ ls)) (last_mark l ls) ∙ assigned_is v true Listed l ls h
 
 pub data_is : (v : Version) (l : Lexeme) (ls : List Lexeme) → first_bad v ls ≡ None →
@@ -98,7 +98,7 @@ pub data_is : (v : Version) (l : Lexeme) (ls : List Lexeme) → first_bad v ls �
 unfolding completes next
 data_is v l ls h = by (is_mark 0x7d l) refl
   where
-    by : (b : Bool) → is_mark 0x7d l ≡ b → shape v Values (l ∷ ls) ≡ (if completes (if b then dues.Nothing else only (is_name l) (dues.Equals true)) ls then Some (if b then Brace else Listed (word_value l.bytes) (values v (drop 1 ls))) else None)
+    by : (b : Bool) → is_mark 0x7d l ≡ b → shape v Values (l ∷ ls) ≡ (if completes (if b then dues.Nothing else only (is_name l) (dues.Equals true)) ls then Some (if b then Close else Listed (word_value l.bytes) (values v (drop 1 ls))) else None)
     by true on = data_brace v l ls h on
     by false off = data_other v l ls h off ∙ ap (λ w. if w then Some (Listed (word_value l.bytes) (values v (drop 1 ls))) else None) (sym (only_completes (is_name l) (dues.Equals true) ls))
 

@@ -1,6 +1,6 @@
 -- What a whole statement says stands in its tokens, section by section.
 use Rattle.std.proofs.Common.{◌≡◌, Bool, true, false, List, [], ◌∷◌, drop, refl, sym, ap, ◌∙◌, Option, None, Some, if◌then◌else◌, ◌&&◌, is_some, arith, rules}
-use Rattle.cdl_statements.proofs.Prelude.{option_map, option_and_then, false≢true, Version, attribute_said, declaration_said, dimensions_said, mark_said, statement_said, values, variable_said, completes, opens_section_after, is_name, next, only, word_value, Lexeme, is_mark, is_word_kind, is_opening_kind, is_end_kind, Statement, Listed, Attribute, Brace, Declared, Typed, Opening, End, alone, body, either, first_bad, if_so, section_mark, section_of, shape, Section, Unopened, Globals, Dimensions, Variables, Values}
+use Rattle.cdl_statements.proofs.Prelude.{option_map, option_and_then, false≢true, Version, attribute_said, declaration_said, dimensions_said, mark_said, statement_said, values, variable_said, completes, opens_section_after, is_name, next, only, word_value, Lexeme, is_mark, is_word_kind, is_opening_kind, is_end_kind, Statement, Listed, Attribute, Close, DeclareDimensions, DeclareVariables, Open, End, alone, body, either, first_bad, if_so, section_mark, section_of, shape, Section, Unopened, Globals, Dimensions, Variables, Values}
 use Rattle.cdl_statements.specs.Shapes as Shapes
 use Rattle.cdl_statements.specs.declared.due.Due.TheVariants as dues
 use Rattle.cdl_statements.specs.declared.section.Section.TheVariants.{Closed}
@@ -44,7 +44,7 @@ globals_said v l ls good h =
 
 -- ---- the section of the dimensions
 
-mapped_dims : (o : Option (List Shapes.Dimension)) (b : Bool) (ds : List Shapes.Dimension) → o ≡ (if b then Some ds else None) → option_map Declared o ≡ (if b then Some (Declared ds) else None)
+mapped_dims : (o : Option (List Shapes.Dimension)) (b : Bool) (ds : List Shapes.Dimension) → o ≡ (if b then Some ds else None) → option_map DeclareDimensions o ≡ (if b then Some (DeclareDimensions ds) else None)
 mapped_dims o b ds h = grind arith
 
 dimensions_are : (v : Version) (l : Lexeme) (ls : List Lexeme) → first_bad v (l ∷ ls) ≡ None → is_some (shape v Dimensions (l ∷ ls)) ≡ true → shape v Dimensions (l ∷ ls) ≡ Some (statement_said v Dimensions (l ∷ ls))
@@ -52,7 +52,7 @@ unfolding shape statement_said
 dimensions_are v l ls good h = by (is_mark 0x7d l) (is_mark 0x3a l) (opens_section_after Dimensions l) refl refl refl h
   where
     lone : Option Statement
-    lone = alone (is_mark 0x7d) Brace (l ∷ ls)
+    lone = alone (is_mark 0x7d) Close (l ∷ ls)
 
     mark : Option Statement
     mark = section_mark Dimensions (l ∷ ls)
@@ -62,11 +62,11 @@ dimensions_are v l ls good h = by (is_mark 0x7d l) (is_mark 0x3a l) (opens_secti
 
     by : (b c g : Bool) → is_mark 0x7d l ≡ b → is_mark 0x3a l ≡ c → opens_section_after Dimensions l ≡ g → is_some (either lone (either mark body_is)) ≡ true →
         either lone (either mark body_is) ≡
-        Some (if b then Brace else (if c then attribute_said v None ls else (if g then mark_said (section_of l) else Declared (dimensions_said v (l ∷ ls)))))
+        Some (if b then Close else (if c then attribute_said v None ls else (if g then mark_said (section_of l) else DeclareDimensions (dimensions_said v (l ∷ ls)))))
     by true c g on is-c is-g h =
         let none = either_none mark body_is (no_mark Dimensions l ls (no_section l (mark_word 0x7d l on))) ∙ dimension.body_dims v l ls (no_colon l on) ∙ dimension.no_dims v l ls good (mark_name 0x7d l on) in
         let first = either_only lone (either mark body_is) none in
-        first ∙ alone_is (is_mark 0x7d) Brace (l ∷ ls) (sym (ap is_some first) ∙ h)
+        first ∙ alone_is (is_mark 0x7d) Close (l ∷ ls) (sym (ap is_some first) ∙ h)
     by false true g off on is-g h =
         let first = either_none lone (either mark body_is) (no_brace l ls off) ∙ either_none mark body_is (no_mark Dimensions l ls (no_section l (mark_word 0x3a l on))) ∙ dimension.body_global v l ls (nameless l (mark_name 0x3a l on)) in
         first ∙ global_is v l ls (fine_on v l ls good) on (sym (ap is_some first) ∙ h)
@@ -77,12 +77,12 @@ dimensions_are v l ls good h = by (is_mark 0x7d l) (is_mark 0x3a l) (opens_secti
         let none = none_of mark (mark_completes Dimensions l ls ∙ ap (λ t. completes (only t dues.Colon) ls) no-mark ∙ never_completes ls) in
         let first = either_none lone (either mark body_is) (no_brace l ls off) ∙ either_none mark body_is none ∙ dimension.body_dims v l ls other in
         first ∙
-        only_some (dimension.dims_to v (l ∷ ls)) (completes dues.DimensionName (l ∷ ls)) (Declared (dimensions_said v (l ∷ ls)))
+        only_some (dimension.dims_to v (l ∷ ls)) (completes dues.DimensionName (l ∷ ls)) (DeclareDimensions (dimensions_said v (l ∷ ls)))
         (mapped_dims (listed_dims v (l ∷ ls)) (completes dues.DimensionName (l ∷ ls)) (dimensions_said v (l ∷ ls)) (dims_are v (l ∷ ls) good)) (sym (ap is_some first) ∙ h)
 
 -- ---- the section of the variables
 
-mapped_variables : (l : Lexeme) (o : Option (List Shapes.Variable)) (b : Bool) (vs : List Shapes.Variable) → o ≡ (if b then Some vs else None) → option_map (Typed l) o ≡ (if b then Some (Typed l vs) else None)
+mapped_variables : (l : Lexeme) (o : Option (List Shapes.Variable)) (b : Bool) (vs : List Shapes.Variable) → o ≡ (if b then Some vs else None) → option_map (DeclareVariables l) o ≡ (if b then Some (DeclareVariables l vs) else None)
 mapped_variables l o b vs h = grind arith
 
 -- a word and a colon alone
@@ -114,12 +114,12 @@ colon_is v l c [] good word colon h = mark_alone v l c colon h
 colon_is v l c (r ∷ rs) good word colon h = attribute_is v l c r rs (fine_on v r rs (fine_on v c (r ∷ rs) good)) word colon h
 
 typed_is : (v : Version) (l c : Lexeme) (ls : List Lexeme) → is_word_kind l.kind ≡ true → is_mark 0x3a c ≡ false → is_some (variable.others v (l ∷ c ∷ ls)) ≡ true →
-    variable.others v (l ∷ c ∷ ls) ≡ Some (Typed l (declaration_said false (c ∷ ls)).variables)
+    variable.others v (l ∷ c ∷ ls) ≡ Some (DeclareVariables l (declaration_said false (c ∷ ls)).variables)
 typed_is v l c ls word off h =
     let first = either_none (section_mark Variables (l ∷ c ∷ ls)) (variable.body_to v (l ∷ c ∷ ls)) (variable.no_section_mark l c ls off) ∙ variable.body_typed v l c ls word off in
     let vs = (declaration_said false (c ∷ ls)).variables in
     first ∙
-    only_some (option_map (Typed l) (listed_variables (c ∷ ls))) (completes dues.VariableName (c ∷ ls)) (Typed l vs)
+    only_some (option_map (DeclareVariables l) (listed_variables (c ∷ ls))) (completes dues.VariableName (c ∷ ls)) (DeclareVariables l vs)
     (mapped_variables l (listed_variables (c ∷ ls)) (completes dues.VariableName (c ∷ ls)) vs (variables_are (c ∷ ls))) (sym (ap is_some first) ∙ h)
 
 word_is : (v : Version) (l : Lexeme) (ls : List Lexeme) → first_bad v ls ≡ None → is_word_kind l.kind ≡ true → is_some (variable.others v (l ∷ ls)) ≡ true → variable.others v (l ∷ ls) ≡ Some (variable_said v l ls)
@@ -127,7 +127,7 @@ word_is v l [] good word h = none_is (variable.others v (l ∷ [])) End (ap (λ 
 word_is v l (c ∷ ls) good word h = by (is_mark 0x3a c) refl
   where
     by : (b : Bool) → is_mark 0x3a c ≡ b →
-        variable.others v (l ∷ c ∷ ls) ≡ Some (if b then (if is_name l then attribute_said v (Some (word_value l.bytes)) ls else mark_said (section_of l)) else Typed l (declaration_said false (c ∷ ls)).variables)
+        variable.others v (l ∷ c ∷ ls) ≡ Some (if b then (if is_name l then attribute_said v (Some (word_value l.bytes)) ls else mark_said (section_of l)) else DeclareVariables l (declaration_said false (c ∷ ls)).variables)
     by true on = colon_is v l c ls good word on h
     by false off = typed_is v l c ls word off h
 
@@ -136,13 +136,13 @@ unfolding shape statement_said
 variables_said v l ls good h = by (is_mark 0x7d l) (is_mark 0x3a l) (is_word_kind l.kind) refl refl refl h
   where
     lone : Option Statement
-    lone = alone (is_mark 0x7d) Brace (l ∷ ls)
+    lone = alone (is_mark 0x7d) Close (l ∷ ls)
 
     by : (b c w : Bool) → is_mark 0x7d l ≡ b → is_mark 0x3a l ≡ c → is_word_kind l.kind ≡ w → is_some (either lone (variable.others v (l ∷ ls))) ≡ true →
-        either lone (variable.others v (l ∷ ls)) ≡ Some (if b then Brace else (if c then attribute_said v None ls else variable_said v l ls))
+        either lone (variable.others v (l ∷ ls)) ≡ Some (if b then Close else (if c then attribute_said v None ls else variable_said v l ls))
     by true c w on is-c is-w h =
         let first = either_only lone (variable.others v (l ∷ ls)) (variable.others_global v l ls (mark_word 0x7d l on) ∙ no_global v l ls (no_colon l on)) in
-        first ∙ alone_is (is_mark 0x7d) Brace (l ∷ ls) (sym (ap is_some first) ∙ h)
+        first ∙ alone_is (is_mark 0x7d) Close (l ∷ ls) (sym (ap is_some first) ∙ h)
     by false true w off on is-w h =
         let first = either_none lone (variable.others v (l ∷ ls)) (no_brace l ls off) ∙ variable.others_global v l ls (mark_word 0x3a l on) in
         first ∙ global_is v l ls good on (sym (ap is_some first) ∙ h)
@@ -162,8 +162,8 @@ data_statement v l ls good h = by (is_mark 0x7d l) (is_mark 0x3a l) refl refl (o
     no_statement : is_mark 0x7d l ≡ false → is_mark 0x3a l ≡ true → shape v Values (l ∷ ls) ≡ None
     no_statement off on = data_is v l ls good ∙ rw (off) (rw (mark_name 0x3a l on) (rw (never_completes ls) refl))
 
-    by : (b c : Bool) → is_mark 0x7d l ≡ b → is_mark 0x3a l ≡ c → shape v Values (l ∷ ls) ≡ Some (if b then Brace else Listed (word_value l.bytes) (values v (drop 1 ls))) →
-        shape v Values (l ∷ ls) ≡ Some (if b then Brace else (if c then attribute_said v None ls else Listed (word_value l.bytes) (values v (drop 1 ls))))
+    by : (b c : Bool) → is_mark 0x7d l ≡ b → is_mark 0x3a l ≡ c → shape v Values (l ∷ ls) ≡ Some (if b then Close else Listed (word_value l.bytes) (values v (drop 1 ls))) →
+        shape v Values (l ∷ ls) ≡ Some (if b then Close else (if c then attribute_said v None ls else Listed (word_value l.bytes) (values v (drop 1 ls))))
     by false true off on is = absurd (false≢true (sym (ap is_some (no_statement off on)) ∙ h))
     by _ _ _ _ is = is
 
@@ -172,7 +172,7 @@ data_statement v l ls good h = by (is_mark 0x7d l) (is_mark 0x3a l) refl refl (o
 -- where nothing is bad in it, a whole statement says this
 pub said_is : (v : Version) (section : Section) (ws : List Lexeme) → first_bad v ws ≡ None → is_some (shape v section ws) ≡ true → shape v section ws ≡ Some (statement_said v section ws)
 unfolding shape statement_said
-said_is v Unopened (l ∷ ls) good h = alone_is (λ (l : Lexeme). is_opening_kind l.kind) Opening (l ∷ ls) h
+said_is v Unopened (l ∷ ls) good h = alone_is (λ (l : Lexeme). is_opening_kind l.kind) Open (l ∷ ls) h
 said_is v Globals (l ∷ ls) good h = globals_said v l ls (fine_on v l ls good) h
 said_is v Dimensions (l ∷ ls) good h = dimensions_are v l ls good h
 said_is v Variables (l ∷ ls) good h = variables_said v l ls (fine_on v l ls good) h

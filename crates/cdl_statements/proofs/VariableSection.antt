@@ -1,6 +1,6 @@
 -- The table of due tokens says whether a piece has its shape, in the section of the variables.
 use Rattle.std.proofs.Common.{◌≡◌, ℕ, Bool, true, false, List, [], ◌∷◌, drop, refl, sym, ap, ◌∙◌, Option, None, Some, if◌then◌else◌, ◌&&◌, is_some, arith, rules}
-use Rattle.cdl_statements.proofs.Prelude.{option_map, option_and_then, Version, declaration_said, values, only, next, is_whole, completes, is_name, opens_section_after, word_value, Lexeme, is_mark, is_word_kind, name_of, Statement, Attribute, Brace, Typed, Variable, first_bad, alone, assigned, attribute, before_mark, body, each, either, if_so, section_mark, shape, typed, Variables}
+use Rattle.cdl_statements.proofs.Prelude.{option_map, option_and_then, Version, declaration_said, values, only, next, is_whole, completes, is_name, opens_section_after, word_value, Lexeme, is_mark, is_word_kind, name_of, Statement, Attribute, Close, DeclareVariables, Variable, first_bad, alone, assigned, attribute, before_mark, body, each, either, if_so, section_mark, shape, typed, Variables}
 use Rattle.cdl_statements.specs.declared.due.Due.TheVariants as dues
 use Rattle.cdl_statements.proofs.Declarations.{listed_variables, variables_are}
 use Rattle.cdl_statements.proofs.VariableNames.{named, not_variable, one_mark}
@@ -44,7 +44,7 @@ body_word : (v : Version) (l : Lexeme) (ys : List Lexeme) → is_word_kind l.kin
 body_word v l ys word = ap (λ b. either (if_so b (assigned v false (Attribute None) ys)) (either (attribute v (l ∷ ys)) (typed (l ∷ ys)))) (word_kind 0x3a l word)
 
 no_list : (l c : Lexeme) (ys : List Lexeme) → is_mark 0x3a c ≡ true → typed (l ∷ c ∷ ys) ≡ None
-no_list l c ys colon = ap (λ o. if_so (is_word_kind l.kind) (option_map (Typed l) o)) (not_variable c ys (nameless c (mark_name 0x3a c colon))) ∙ given_none (is_word_kind l.kind)
+no_list l c ys colon = ap (λ o. if_so (is_word_kind l.kind) (option_map (DeclareVariables l) o)) (not_variable c ys (nameless c (mark_name 0x3a c colon))) ∙ given_none (is_word_kind l.kind)
 
 pub attribute_named : (v : Version) (l c r : Lexeme) (rs : List Lexeme) → is_word_kind l.kind ≡ true → is_mark 0x3a c ≡ true → is_name l ≡ true →
     body_to v (l ∷ c ∷ r ∷ rs) ≡ assigned_to v false (Attribute (Some (word_value l.bytes))) (r ∷ rs)
@@ -79,10 +79,10 @@ colon_more v l c r rs good word colon = by (is_name l) refl
 
 -- ---- a word and no colon
 
-pub body_typed : (v : Version) (l c : Lexeme) (ls : List Lexeme) → is_word_kind l.kind ≡ true → is_mark 0x3a c ≡ false → body_to v (l ∷ c ∷ ls) ≡ option_map (Typed l) (listed_variables (c ∷ ls))
+pub body_typed : (v : Version) (l c : Lexeme) (ls : List Lexeme) → is_word_kind l.kind ≡ true → is_mark 0x3a c ≡ false → body_to v (l ∷ c ∷ ls) ≡ option_map (DeclareVariables l) (listed_variables (c ∷ ls))
 body_typed v l c ls h h2 = grind (arith, if_so, each, body_word, given_none, either_none, typed)
 
-mapped : (l : Lexeme) (b : Bool) (vs : List Variable) → is_some (option_map (Typed l) (if b then Some vs else None)) ≡ b
+mapped : (l : Lexeme) (b : Bool) (vs : List Variable) → is_some (option_map (DeclareVariables l) (if b then Some vs else None)) ≡ b
 mapped l b vs = grind arith
 
 pub no_section_mark : (l c : Lexeme) (ls : List Lexeme) → is_mark 0x3a c ≡ false → section_mark Variables (l ∷ c ∷ ls) ≡ None
@@ -91,7 +91,7 @@ no_section_mark l c ls h = grind arith
 typed_complete : (v : Version) (l c : Lexeme) (ls : List Lexeme) → is_word_kind l.kind ≡ true → is_mark 0x3a c ≡ false → is_some (others v (l ∷ c ∷ ls)) ≡ completes (only (is_name c) dues.AfterVariable) ls
 unfolding completes next
 typed_complete v l c ls word off =
-    ap is_some (either_none (section_mark Variables (l ∷ c ∷ ls)) (body_to v (l ∷ c ∷ ls)) (no_section_mark l c ls off) ∙ body_typed v l c ls word off ∙ ap (option_map (Typed l)) (variables_are (c ∷ ls))) ∙
+    ap is_some (either_none (section_mark Variables (l ∷ c ∷ ls)) (body_to v (l ∷ c ∷ ls)) (no_section_mark l c ls off) ∙ body_typed v l c ls word off ∙ ap (option_map (DeclareVariables l)) (variables_are (c ∷ ls))) ∙
     mapped l (completes dues.VariableName (c ∷ ls)) (declaration_said false (c ∷ ls)).variables
 
 -- ---- a word
@@ -119,14 +119,14 @@ unfolding shape completes next
 variables_complete v l ls good = by (is_mark 0x7d l) (is_mark 0x3a l) (is_word_kind l.kind) refl refl refl
   where
     lone : Option Statement
-    lone = alone (is_mark 0x7d) Brace (l ∷ ls)
+    lone = alone (is_mark 0x7d) Close (l ∷ ls)
 
     by : (b c w : Bool) → is_mark 0x7d l ≡ b → is_mark 0x3a l ≡ c → is_word_kind l.kind ≡ w →
         is_some (either lone (others v (l ∷ ls))) ≡
         completes (if b then dues.Nothing else (if c then dues.AttributeName else only w (dues.AfterWord (is_name l) (opens_section_after Variables l)))) ls
     by true c w on is-c is-w =
         ap is_some (either_only lone (others v (l ∷ ls)) (others_global v l ls (mark_word 0x7d l on) ∙ no_global v l ls (no_colon l on))) ∙
-        alone_completes (is_mark 0x7d) Brace l ls ∙ ap (λ t. completes (only t dues.Nothing) ls) on
+        alone_completes (is_mark 0x7d) Close l ls ∙ ap (λ t. completes (only t dues.Nothing) ls) on
     by false true w off on is-w =
         ap is_some (either_none lone (others v (l ∷ ls)) (no_brace l ls off) ∙ others_global v l ls (mark_word 0x3a l on)) ∙ global_completes v l ls good on
     by false false true off other word = ap is_some (either_none lone (others v (l ∷ ls)) (no_brace l ls off)) ∙ word_complete v l ls good word

@@ -31,11 +31,10 @@ abbrev pub is_mark_kind : TokenKind → Bool
 is_mark_kind kinds.Mark = true
 is_mark_kind _ = false
 
--- a mark of this byte
 abbrev pub is_mark : ℕ → Lexeme → Bool
 is_mark b l = is_mark_kind l.kind && slice_index l.bytes 0 == b
 
--- a word of these bytes, none of them escaped
+-- the word, without an escape
 abbrev pub is_word : List ℕ → Lexeme → Bool
 is_word word l = is_word_kind l.kind && bytes_eq l.bytes word
 

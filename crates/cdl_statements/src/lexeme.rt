@@ -18,7 +18,7 @@ pub struct Lexeme<'a> {
 impl<'a> Lexeme<'a> {
     ghost use Rattle.cdl_statements.specs.code.DueTokens.{is_length, is_name, is_value_of, opens_section_after};
     ghost use Rattle.cdl_statements.specs.Lexemes.{is_mark, is_word, lexeme};
-    ghost use Rattle.cdl_statements.specs.Shapes.{section_of};
+    ghost use Rattle.cdl_statements.specs.Pieces.{section_of};
     ghost use Rattle.cdl_statements.specs.code.Views.{lexeme_of};
 
     /// Returns a token of this text, without its place.

@@ -2,8 +2,7 @@
 
 ghost use Rattle.std.specs.Prelude.{◌≡◌, true, if◌then◌else◌};
 ghost use Rattle.cdl_statements.specs.code.CutSteps.{ending, going, section_step, unless_end};
-ghost use Rattle.cdl_statements.specs.code.Roles.{mark_role};
-ghost use Rattle.cdl_statements.specs.Pieces.{is_section};
+ghost use Rattle.cdl_statements.specs.code.Roles.{is_section, mark_role};
 
 use cdl_tokens::{Token, TokenKind, byte_at};
 
@@ -42,7 +41,7 @@ impl Role {
 }
 
 /// Returns the role of a word: `Section` for an unescaped `dimensions`, `variables` or `data`, otherwise `Other`.
-#[tactic(auto, unfolding(crate::specs::Pieces::is_section))]
+#[tactic(auto, unfolding(crate::specs::code::Roles::is_section))]
 #[inline(never)]
 fn word_role(word: &[u8]) -> Role
     ensures { result ≡ (if is_section word.now then Role.Section else Role.Other) }

@@ -11,15 +11,14 @@ word_value [] = []
 word_value (b ∷ []) = b ∷ []
 word_value (b ∷ c ∷ rest) = if is_escape b c then c ∷ word_value rest else b ∷ word_value (c ∷ rest)
 
--- the number, if it is at most 255
 abbrev pub up_to_255 : ℕ → Option ℕ
 up_to_255 n = if nat_lt 255 n then None else Some n
 
--- An escape by number. mark: how many bytes come before its digits. Without a digit, or above 255, it stands for no byte.
+-- an escape by number; `mark` bytes come before its digits
 abbrev pub number_escape : ℕ → ℕ → List ℕ → Character
 number_escape mark base digits = record { value = if length digits == 0 then None else up_to_255 (number_in base 0 digits); len = mark + length digits }
 
--- what the byte after a backslash stands for
+-- the byte that a backslash and b stand for
 abbrev pub plain_escape : ℕ → ℕ
 plain_escape b =
     if b == byte "a" then 0x07
@@ -31,7 +30,7 @@ plain_escape b =
     else (if b == byte "v" then 0x0b
     else b))))))
 
--- the escape at the backslash just before these bytes; its length counts that backslash
+-- the escape that a backslash and these bytes begin with; its length counts the backslash
 abbrev pub escaped_character : List ℕ → Character
 escaped_character bs =
     if is_octal (slice_index bs 0) then number_escape 1 8 (take_while is_octal (take 3 bs))
@@ -41,20 +40,19 @@ escaped_character bs =
 unfoldable pub character : List ℕ → Character
 character bs = if slice_index bs 0 == byte "\\" then escaped_character (drop 1 bs) else record { value = Some (slice_index bs 0); len = 1 }
 
--- the byte of each character from here on, if it stands for one; of the character before, `more` bytes are still to come
+-- the byte that each character stands for, if it does; the first `more` bytes belong to the character before
 unfoldable pub unescape_at : ℕ → List ℕ → List (Option ℕ)
 unescape_at more [] = []
 unescape_at (suc more) (b ∷ bs) = unescape_at more bs
 unescape_at zero (b ∷ bs) = (character (b ∷ bs)).value ∷ unescape_at ((character (b ∷ bs)).len - 1) bs
 
--- what stands between a string's quotes
+-- between the quotes of a string
 abbrev pub inner : List ℕ → List ℕ
 inner bytes = take (length bytes - 2) (drop 1 bytes)
 
--- the bytes of the characters between a string's quotes
 abbrev pub unescape : List ℕ → List (Option ℕ)
 unescape bs = unescape_at 0 bs
 
--- the bytes that a string stands for; a character without one, which no good string has, counts as 0
+-- A character without a byte, which no good string has, counts as 0.
 abbrev pub string_value : List ℕ → List ℕ
 string_value bs = map (λ b. unwrap_or b 0) (unescape bs)

@@ -10,33 +10,31 @@ use Rattle.nc_base.specs.declared.nc_type.NcType.TheVariants.{Char, Int}
 use Rattle.nc_base.specs.Types.{all_types, number_suffix}
 use Rattle.nc_base.specs.Versions.{has_type}
 
--- a number and the type that its suffix says
 pub record Numeral : Type 0 where
   pub value : ℤ
   pub ty : NcType
 
--- a number of this type may have the suffix, in lower case: the one that a dump prints, or `l` for int
+-- in lower case: the suffix that a dump prints, or `l` for int
 abbrev pub has_suffix : List ℕ → NcType → Bool
 has_suffix bs Char = false
 has_suffix bs Int = bytes_eq bs [] || bytes_eq bs (codes "l")
 has_suffix bs ty = bytes_eq bs (map to_ascii_lowercase (number_suffix ty))
 
--- the type of a suffix, each letter in either case, if the version has the type
 unfoldable pub type_of_suffix : Version → List ℕ → Option NcType
 type_of_suffix v bs = find (λ ty. has_suffix (map to_ascii_lowercase bs) ty && has_type v ty) all_types
 
--- the sign of a number, the value of its digits (which has no limit), and the type that its suffix says
+-- the sign of a number, the value of its digits, which has no limit, and the type that its suffix says
 pub record Parts : Type 0 where
   pub minus : Bool
   pub magnitude : ℕ
   pub ty : NcType
 
--- n digits of a base, one at least, and a suffix
+-- n digits, one at least, and a suffix
 abbrev pub in_base : Version → Bool → ℕ → ℕ → List ℕ → Option Parts
 in_base v minus base n bs =
     if n == 0 then None else option_map (λ ty. record { minus = minus; magnitude = number_in base 0 (take n bs); ty = ty }) (type_of_suffix v (drop n bs))
 
--- hexadecimal digits after `0x` or `0X`; or octal digits, if `0` is the first of them or alone; or decimal digits
+-- hexadecimal digits after `0x`, octal digits that begin with `0`, or decimal digits
 abbrev pub with_sign : Version → Bool → List ℕ → Option Parts
 with_sign v minus bs =
     if slice_index bs 0 == byte "0" && to_ascii_lowercase (slice_index bs 1) == byte "x" then in_base v minus 16 (prefix_len is_hex (drop 2 bs)) (drop 2 bs)
@@ -52,6 +50,5 @@ signed minus n = if minus then neg_ℤ (pos n) else pos n
 abbrev pub number : Parts → Numeral
 number p = record { value = signed p.minus p.magnitude; ty = p.ty }
 
--- what a number token says, if it is good
 unfoldable pub numeral : Version → List ℕ → Option Numeral
 numeral v bs = option_map number (parts v bs)

@@ -1,4 +1,4 @@
--- Definition. What stands at the start of bytes: a gap or a token, and how many bytes it has. A place past the end counts as a 0 byte.
+-- Definition. The gap or the token at the start of bytes, and its length. A byte past the end counts as 0.
 use Rattle.std.specs.Prelude.{ℕ, Bool, List, [], ◌∷◌, ◌+◌, ◌&&◌, ◌||◌, ◌==◌, nat_lt, nat_eq, not, if◌then◌else◌, slice_index, take, drop, length, codes, None, Some, is_some}
 use Rattle.std.specs.Str.{byte}
 use Rattle.std.specs.List.{list_all, prefix_len, starts_with}
@@ -7,7 +7,6 @@ use Rattle.cdl_tokens.specs.Escapes.{unescape}
 use Rattle.cdl_tokens.specs.declared.{scan.Scanned.Scanned, token.TokenKind.TokenKind}
 use Rattle.cdl_tokens.specs.declared.token.TokenKind.TheVariants.{Opening, Word, Number, Text, Mark, Bad}
 
--- how many bytes at the start go on a word
 unfoldable pub word_len : List ℕ → ℕ
 word_len [] = 0
 word_len (b ∷ []) = if goes_on_word b then 1 else 0
@@ -15,7 +14,7 @@ word_len (b ∷ c ∷ rest) =
     if is_escape b c then 2 + word_len rest
     else (if goes_on_word b then 1 + word_len (c ∷ rest) else 0)
 
--- how many bytes come before the first `close` that no backslash escapes; if there is none, how many there are
+-- how many bytes come before the first `close` that no backslash escapes, or before the end
 unfoldable pub len_until : ℕ → List ℕ → ℕ
 len_until close [] = 0
 len_until close (b ∷ []) = if b == close then 0 else 1
@@ -23,22 +22,18 @@ len_until close (b ∷ c ∷ rest) =
     if b == byte "\\" then 2 + len_until close rest
     else (if b == close then 0 else 1 + len_until close (c ∷ rest))
 
--- a letter, `_`, a byte from 0x80 or an escape
 abbrev pub begins_a_word : List ℕ → Bool
 begins_a_word bs = may_begin_word (slice_index bs 0) || is_escape (slice_index bs 0) (slice_index bs 1)
 
--- a digit, `.` and a digit, a sign and a digit, or a sign, `.` and a digit
 abbrev pub begins_number : List ℕ → Bool
 begins_number bs =
     is_digit (slice_index bs 0) || slice_index bs 0 == byte "." && is_digit (slice_index bs 1)
     || is_sign (slice_index bs 0) && is_digit (slice_index bs 1)
     || is_sign (slice_index bs 0) && slice_index bs 1 == byte "." && is_digit (slice_index bs 2)
 
--- `netcdf`, then white space or `{`
 abbrev pub begins_opening : List ℕ → Bool
 begins_opening bs = starts_with nat_eq bs (codes "netcdf") && (is_blank (slice_index bs 6) || slice_index bs 6 == byte "{")
 
--- two slashes
 abbrev pub begins_comment : List ℕ → Bool
 begins_comment bs = slice_index bs 0 == byte "/" && slice_index bs 1 == byte "/"
 
@@ -48,15 +43,15 @@ gap n = record { kind = None; len = n }
 abbrev pub token : TokenKind → ℕ → Scanned
 token kind n = record { kind = Some kind; len = n }
 
--- `netcdf` and then these bytes; n of them come before the first `{` that no backslash escapes
+-- the dataset's name and `{`: the bytes after `netcdf`, n of them before the `{`
 abbrev pub scan_opening : List ℕ → ℕ → Scanned
 scan_opening bs n = if nat_lt n (length bs) then token Opening (6 + n + 1) else token Bad (6 + length bs)
 
--- a quote and then these bytes; n of them come before the closing quote
+-- the bytes after a quote, n of them before the closing one
 abbrev pub scan_text : List ℕ → ℕ → Scanned
 scan_text bs n = if nat_lt n (length bs) then token (if list_all is_some (unescape (take n bs)) then Text else Bad) (n + 2) else token Bad (1 + length bs)
 
--- the token or gap at the start of these bytes, one byte at least; at_start: no token comes before them
+-- at_start: no token comes before
 unfoldable pub scan : Bool → List ℕ → Scanned
 scan at_start bs =
     if at_start && begins_opening bs then scan_opening (drop 6 bs) (len_until (byte "{") (drop 6 bs))

@@ -4,24 +4,21 @@ use Rattle.std.specs.Str.{byte}
 use Rattle.cdl_tokens.specs.Scan.{scan}
 use Rattle.cdl_tokens.specs.declared.{token.Token.Token, token.TokenKind.TokenKind, token.TokenKind.TheVariants.End}
 
--- a token's bytes
 abbrev pub raw : List ℕ → Token → List ℕ
 raw text t = take (t.past - t.first) (drop t.first text)
 
--- 1 plus the line feeds before this place
 abbrev pub line_at : List ℕ → ℕ → ℕ
 line_at text at = 1 + count_by (λ b. b == byte "\n") (take at text)
 
 abbrev pub token_at : List ℕ → ℕ → TokenKind → ℕ → Token
 token_at text at kind n = record { kind = kind; line = line_at text at; first = at; past = at + n }
 
--- the token that stands at this place, if one does, and those after it
+-- the token, if it is no gap, and those after it
 abbrev pub with_token : List ℕ → ℕ → Option TokenKind → ℕ → List Token → List Token
 with_token text at None n rest = rest
 with_token text at (Some kind) n rest = token_at text at kind n ∷ rest
 
--- The tokens from the place `at` on. `bytes` is the rest of the text from there. at_start: no token comes before.
--- more: how many bytes of the gap or token before are still to be skipped
+-- The tokens from the place `at` on, where the rest of the text is `bytes`. The first `more` of them belong to the gap or token before.
 unfoldable pub tokens_at : List ℕ → Bool → ℕ → ℕ → List ℕ → List Token
 tokens_at text at_start at more [] = token_at text at End 0 ∷ []
 tokens_at text at_start at (suc more) (b ∷ bytes) = tokens_at text at_start (at + 1) more bytes

@@ -48,7 +48,8 @@ pub fn is_octal(b: u8) -> bool
 pub fn is_hex(b: u8) -> bool
     ensures { result ≡ is_hex b }
 {
-    is_digit(b) || b >= b'A' && b <= b'F' || b >= b'a' && b <= b'f'
+    let lower = b.to_ascii_lowercase();
+    is_digit(b) || lower >= b'a' && lower <= b'f'
 }
 
 /// Returns true if the byte is white space: one of 0x09 to 0x0d, or a space.

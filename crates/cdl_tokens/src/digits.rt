@@ -16,10 +16,8 @@ fn digit_value(b: u8) -> u8
 {
     if is_digit(b) {
         b - b'0'
-    } else if b >= b'A' && b <= b'F' {
-        b - b'A' + 10
     } else {
-        b.saturating_sub(b'a' - 10)
+        b.to_ascii_lowercase().saturating_sub(b'a') + 10
     }
 }
 

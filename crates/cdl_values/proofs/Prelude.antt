@@ -5,7 +5,7 @@ pub use Rattle.cdl_statements.proofs.Listing.{fine_on, only_completes, past_mark
 pub use Rattle.cdl_statements.proofs.NumberLists.{at_same_comma, same_after, same_words}
 pub use Rattle.cdl_statements.proofs.ShapeChecks.{ending, first_word, going, good_end, good_on}
 pub use Rattle.cdl_statements.specs.Lexemes.{Lexeme, is_mark, is_mark_kind, is_word_kind, lexeme}
-pub use Rattle.cdl_statements.specs.Shapes.{Brace, Characters, Listed, Number, Underscore, Value, first_bad, token_fault}
+pub use Rattle.cdl_statements.specs.Shapes.{Close, Characters, Listed, Number, Underscore, Value, first_bad, token_fault}
 unfoldable pub use Rattle.cdl_statements.specs.Shapes.{shape}
 pub use Rattle.cdl_statements.specs.code.Contents.{parts_or_zero}
 unfoldable pub use Rattle.cdl_statements.specs.code.Contents.{value_of, values}

@@ -29,7 +29,7 @@ pub use Rattle.devices.specs.Uses.{between}
 pub use Rattle.nc_walk.specs.code.Walked.{GivesChunk, GivesCut, GivesEnd, GivesFailure, HasRead, IsChunk, Pass, Walked}
 pub use Rattle.cli_base.specs.code.Answers.{AnswersBy}
 pub use Rattle.ncdump.specs.CommandLine.{Asked, width_said}
-pub use Rattle.ncdump.specs.code.OptionsAsked.{asked_for}
+pub use Rattle.ncdump.specs.code.Options.{asked_for}
 unfoldable pub use Rattle.ncdump.specs.CommandLine.{asked_by, asked_in, ncdump}
 pub use Rattle.ncdump.specs.Dumps.{Dumps, IsAfterHeader, ReadsForward, after_header, in_header, options_of}
 pub use Rattle.ncdump.specs.code.Names.{holds, holds_if}

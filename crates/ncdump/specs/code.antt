@@ -1,5 +1,5 @@
 pub mod HeadFaults
 pub mod Names
-pub mod OptionsAsked
+pub mod Options
 pub mod Selections
 pub mod Shows

@@ -9,7 +9,7 @@ ghost use Rattle.nc_base.specs.Paths.{stem_of};
 ghost use Rattle.cli_base.specs.code.Answers.{AnswersBy};
 ghost use Rattle.cli_base.specs.Arguments.{text_of, texts_of};
 ghost use Rattle.ncdump.specs.CommandLine.{ncdump, asked_by, asked_in, names_in, width_in, width_said};
-ghost use Rattle.ncdump.specs.code.OptionsAsked.{asked_for};
+ghost use Rattle.ncdump.specs.code.Options.{asked_for};
 
 use crate::options::DumpOptions;
 use clap::{Arg, ArgMatches, Command};

@@ -17,7 +17,8 @@ pub use Rattle.nc_base.specs.code.OwedValues.{AreListed, whole_array, whole_arra
 pub use Rattle.nc_base.specs.declared.{dataset.Dataset.Dataset, header.Header.Header, version.Version.Version}
 pub use Rattle.nc_walk.specs.code.RecordSlabs.{record_slabs}
 pub use Rattle.cli_base.specs.code.Answers.{AnswersBy}
-pub use Rattle.ncgen.specs.CommandLine.{Asked, asked_for}
+pub use Rattle.ncgen.specs.CommandLine.{Asked}
+pub use Rattle.ncgen.specs.code.Options.{asked_for}
 unfoldable pub use Rattle.ncgen.specs.CommandLine.{asked_by, asked_in, ncgen}
 pub use Rattle.ncgen.specs.Generated.{Generates, Refuses, file_or_fault}
 unfoldable pub use Rattle.ncgen.specs.Generated.{generated}

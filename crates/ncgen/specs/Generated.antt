@@ -9,26 +9,23 @@ use Rattle.cdl_parse.specs.code.Parsing.{out_of_memory}
 use Rattle.ncgen.specs.declared.fault.GenFault.{GenFault}
 use Rattle.ncgen.specs.declared.fault.GenFault.TheVariants.{Cdl, OffsetTooLarge, WriteFailed}
 
--- the file of a dataset, if it fits; a fault stays the same
 abbrev pub file_or_fault : Result Dataset CdlFault → Result (List ℕ) GenFault
 file_or_fault (Ok d) = if fits d.header then Ok (file_of d) else Err OffsetTooLarge
 file_or_fault (Err fault) = Err (Cdl fault)
 
--- what is generated from a text in a version: the file of the dataset that it means, its fault, or that the dataset doesn't fit
+-- the file of the dataset that a text means in a version, or why there is none
 unfoldable pub generated : List ℕ → Version → Result (List ℕ) GenFault
 generated text v = file_or_fault (meaning text v)
 
--- The fault is the stated one, or out of memory (`Cdl out_of_memory`), which says nothing of the text.
+-- The fault is the stated one, or out of memory, which says nothing of the text.
 abbrev pub Refuses : Result (List ℕ) GenFault → GenFault → Type 0
 Refuses stated fault = (stated ≡ Err fault) ⊎ (fault ≡ Cdl out_of_memory)
 
--- the stated file was written
 pub record IsWritten (stated : Result (List ℕ) GenFault) (old new : SinkView) : Type 0 where
   pub file : List ℕ
   pub is_stated : stated ≡ Ok file
   pub appended : Appended old new file
 
--- a prefix of the stated file was written, before the sink failed
 pub record IsCutShort (stated : Result (List ℕ) GenFault) (old new : SinkView) : Type 0 where
   pub file : List ℕ
   pub is_stated : stated ≡ Ok file

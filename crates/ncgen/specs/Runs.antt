@@ -11,7 +11,7 @@ use Rattle.ncgen.specs.Outputs.{Outputs, IsMade, OutputFails}
 use Rattle.ncgen.specs.declared.{failure.InputFault.InputFault, failure.OutputFault.OutputFault, failure.Failure.Failure}
 use Rattle.ncgen.specs.declared.failure.Failure.TheVariants.{CommandLine, Input, Output}
 
--- what is asked for was made: the file that the text gives in the version, at the output's path, if there is one
+-- The file that the text gives is at the output's path, if there is one.
 pub record IsGenerated (i : Inputs) (o : Outputs) (asked : Option Asked) : Type 0 where
   pub a : Asked
   pub is_asked : asked ≡ Some a
@@ -19,18 +19,16 @@ pub record IsGenerated (i : Inputs) (o : Outputs) (asked : Option Asked) : Type 
   pub gives : Gives i a.file a.version file
   pub made : IsMade o a.output file
 
--- nothing was read, and nothing created
 pub record IsUntouched (i : Inputs) (o : Outputs) : Type 0 where
   pub input : i.input.after ≡ i.input.before
   pub texts : i.texts.after ≡ i.texts.before
   pub output : o.after ≡ o.before
 
--- nothing is asked for, or an allocation failed, and nothing was touched
 abbrev pub AsksNothing : Inputs → Outputs → Option Asked → OptFault → Type 0
 AsksNothing i o asked OutOfMemory = IsUntouched i o
 AsksNothing i o asked Usage = (asked ≡ None) × IsUntouched i o
 
--- the text that is asked for gives no file, and nothing was created
+-- The text gives no file, and nothing was created.
 pub record GivesNothing (i : Inputs) (o : Outputs) (asked : Option Asked) (path : Option (List ℕ)) (fault : InputFault) : Type 0 where
   pub a : Asked
   pub is_asked : asked ≡ Some a
@@ -38,7 +36,7 @@ pub record GivesNothing (i : Inputs) (o : Outputs) (asked : Option Asked) (path 
   pub fails : InputFails i a.file a.version fault
   pub untouched : o.after ≡ o.before
 
--- the text that is asked for gives a file, which is not, or not all, at the output's path
+-- The text gives a file, which is not, or not all, at the output's path.
 pub record IsUnwritten (i : Inputs) (o : Outputs) (asked : Option Asked) (path : List ℕ) (fault : OutputFault) : Type 0 where
   pub a : Asked
   pub is_asked : asked ≡ Some a
@@ -47,20 +45,19 @@ pub record IsUnwritten (i : Inputs) (o : Outputs) (asked : Option Asked) (path :
   pub gives : Gives i a.file a.version file
   pub fails : OutputFails o path file fault
 
--- what was done before the failure
 abbrev pub FailsWith : Inputs → Outputs → Option Asked → Failure → Type 0
 FailsWith i o asked (CommandLine fault) = AsksNothing i o asked fault
 FailsWith i o asked (Input path fault) = GivesNothing i o asked (option_map string_bytes path) fault
 FailsWith i o asked (Output path fault) = IsUnwritten i o asked (string_bytes path) fault
 
--- what the words ask for, the texts and standard input, the outputs, and standard error
+-- what the words ask for, what was read and written, and standard error
 pub record Run : Type 0 where
   pub asked : Option Asked
   pub inputs : Inputs
   pub outputs : Outputs
   pub err : Use SinkView
 
--- the run has failed, and its failure line, or a prefix of it, was written to standard error
+-- The line of the failure, or a prefix of it, was written to standard error.
 pub record Fails (run : Run) : Type 0 where
   pub failure : Failure
   pub fails : FailsWith run.inputs run.outputs run.asked failure

@@ -1,3 +1,4 @@
 pub mod Prepared
 pub mod TextReads
 pub mod RunSteps
+pub mod Options

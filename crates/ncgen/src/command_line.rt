@@ -1,10 +1,12 @@
 //! The words of the command line.
 
-ghost use Rattle.std.specs.Prelude.{◌≡◌, IfOk, option_map, string_bytes};
+ghost use Rattle.std.specs.Prelude.{◌≡◌, ◌++◌, IfOk, codes, option_map, string_bytes};
 ghost use Rattle.cli_base.specs.code.Answers.{AnswersBy};
 ghost use Rattle.cli_base.specs.Arguments.{text_of, texts_of};
 ghost use Rattle.clap.specs.Words.{app_of, found_of, rows_of};
-ghost use Rattle.ncgen.specs.CommandLine.{asked_by, asked_for, asked_in, is_unnamed, ncgen, output_name, version_in, version_of, IsOutputIn};
+ghost use Rattle.nc_base.specs.Paths.{stem_of};
+ghost use Rattle.ncgen.specs.CommandLine.{asked_by, asked_in, ncgen, version_in, version_of};
+ghost use Rattle.ncgen.specs.code.Options.{asked_for, is_unnamed, IsOutputIn};
 
 use crate::options::GenOptions;
 use clap::{Arg, ArgMatches, Command};
@@ -96,7 +98,7 @@ fn output_in(
 
 /// Returns the name of the output for the text at this path: the stem of the path and `.nc`. Errs only if an allocation failed.
 fn output_name(alloc: Global, path: &str) -> Result<String, AllocError>
-    ensures { IfOk result (λ name. string_bytes name ≡ output_name path.now) }
+    ensures { IfOk result (λ name. string_bytes name ≡ stem_of path.now ++ codes ".nc") }
 {
     let mut name = String::from_str(alloc, stem(path))?;
     name.push_str(".nc")?;

@@ -1,8 +1,9 @@
 //! The line of each fault.
 
-ghost use Rattle.std.specs.Prelude.{◌≡◌};
+ghost use Rattle.std.specs.Prelude.{◌≡◌, ◌∷◌, [], codes, decimal};
+ghost use Rattle.nc_base.specs.Bytes.{concat_parts};
 ghost use Rattle.devices.specs.Sinks.{Wrote};
-ghost use Rattle.ncgen.specs.Faults.{cdl_fault_text, fault_text, input_line, input_words, kind_words, line_number, line_of, line_of_failure, line_of_text, opt_fault_line, output_words, line_prefix, program_words, text_name, usage_line};
+ghost use Rattle.ncgen.specs.Faults.{fault_line, fault_text, input_words, kind_words, line_of_failure, opt_fault_line, output_words, line_prefix, text_name};
 
 use crate::failure::{Failure, InputFault, OutputFault};
 use crate::fault::{GenFault, TextFault};
@@ -42,9 +43,8 @@ pub fn put_command_line_fault<W: Sink>(sink: &mut W, fault: OptFault) -> Result<
 }
 
 /// Returns the line that says how the program is used.
-#[tactic(auto, unfolding(crate::specs::Faults::usage_line))]
 fn usage_line() -> &'static [u8]
-    ensures { result.now ≡ usage_line }
+    ensures { result.now ≡ codes "usage: ncgen [-b] [-o file] [-k kind] [file]\n" }
 {
     b"usage: ncgen [-b] [-o file] [-k kind] [file]\n"
 }
@@ -61,13 +61,13 @@ fn text_name(path: &Option<String>) -> &[u8]
 }
 
 /// Writes the line that says why no file was made of a text. `name` is the text's path, or `-` for standard input.
-#[tactic(auto, unfolding(crate::specs::Faults::input_line))]
+#[tactic(auto, unfolding(crate::specs::Faults::input_words))]
 fn put_input_fault<W: Sink>(
     sink: &mut W,
     name: &[u8],
     fault: &InputFault,
 ) -> Result<(), WriteFailed>
-    ensures { Wrote W.view sink.old sink.new (input_line name.now fault.now) result }
+    ensures { Wrote W.view sink.old sink.new (fault_line name.now (input_words fault.now)) result }
 {
     match fault {
         InputFault::CannotOpen => put_line(sink, name, b"cannot open"),
@@ -77,9 +77,9 @@ fn put_input_fault<W: Sink>(
 }
 
 /// Writes the line `ncgen: FILE: MESSAGE` for the path `file` and the message `text`.
-#[tactic(auto, using(devices::proofs::Writes::writes), unfolding(crate::specs::Faults::line_of_text))]
+#[tactic(auto, using(devices::proofs::Writes::writes), unfolding(crate::specs::Faults::fault_line))]
 fn put_line<W: Sink>(sink: &mut W, file: &[u8], text: &[u8]) -> Result<(), WriteFailed>
-    ensures { Wrote W.view sink.old sink.new (line_of_text file.now text.now) result }
+    ensures { Wrote W.view sink.old sink.new (fault_line file.now text.now) result }
 {
     put(sink, program_words())?;
     put(sink, file)?;
@@ -94,9 +94,9 @@ fn put_line<W: Sink>(sink: &mut W, file: &[u8], text: &[u8]) -> Result<(), Write
 /// # Errors
 ///
 /// The sink failed. It took some prefix of the line.
-#[tactic(auto, using(devices::proofs::Writes::writes), unfolding(crate::specs::Faults::line_of, crate::specs::Faults::line_of_text))]
+#[tactic(auto, using(devices::proofs::Writes::writes), unfolding(crate::specs::Faults::fault_line))]
 pub fn fault_line<W: Sink>(sink: &mut W, file: &[u8], fault: &GenFault) -> Result<(), WriteFailed>
-    ensures { Wrote W.view sink.old sink.new (line_of file.now fault.now) result }
+    ensures { Wrote W.view sink.old sink.new (fault_line file.now (fault_text fault.now)) result }
 {
     put(sink, program_words())?;
     put(sink, file)?;
@@ -118,9 +118,9 @@ fn put_fault<W: Sink>(sink: &mut W, fault: &GenFault) -> Result<(), WriteFailed>
 }
 
 /// Writes the message of a fault of a CDL text: `line N: `, and the words for the kind of the fault.
-#[tactic(auto, using(devices::proofs::Writes::writes), unfolding(crate::specs::Faults::cdl_fault_text))]
+#[tactic(auto, using(devices::proofs::Writes::writes))]
 fn put_cdl_fault<W: Sink>(sink: &mut W, fault: CdlFault) -> Result<(), WriteFailed>
-    ensures { Wrote W.view sink.old sink.new (cdl_fault_text fault) result }
+    ensures { Wrote W.view sink.old sink.new (concat_parts (line_prefix fault.kind fault.line ∷ kind_words fault.kind ∷ [])) result }
 {
     put_place(sink, fault.kind, fault.line)?;
     put(sink, kind_words(fault.kind))
@@ -140,7 +140,7 @@ fn put_place<W: Sink>(sink: &mut W, kind: CdlKind, line: u64) -> Result<(), Writ
 /// Writes `line N: ` for the line with the number N.
 #[tactic(auto, using(devices::proofs::Writes::writes))]
 fn put_number<W: Sink>(sink: &mut W, line: u64) -> Result<(), WriteFailed>
-    ensures { Wrote W.view sink.old sink.new (line_number line) result }
+    ensures { Wrote W.view sink.old sink.new (concat_parts (codes "line " ∷ decimal line ∷ codes ": " ∷ [])) result }
 {
     put(sink, b"line ")?;
     put_decimal(sink, line as u128)?;
@@ -179,7 +179,7 @@ fn kind_words(kind: CdlKind) -> &'static [u8]
 /// Returns the message for a text that could not be read.
 #[tactic(auto, unfolding(crate::specs::Faults::input_words))]
 fn input_words(fault: TextFault) -> &'static [u8]
-    ensures { result.now ≡ input_words fault }
+    ensures { result.now ≡ input_words (InputFault.Text fault) }
 {
     match fault {
         TextFault::OutOfMemory => b"out of memory",
@@ -200,9 +200,8 @@ fn output_words(fault: OutputFault) -> &'static [u8]
 }
 
 /// Returns what each line begins with, except for the usage line.
-#[tactic(auto, unfolding(crate::specs::Faults::program_words))]
 fn program_words() -> &'static [u8]
-    ensures { result.now ≡ program_words }
+    ensures { result.now ≡ codes "ncgen: " }
 {
     b"ncgen: "
 }

@@ -1,10 +1,10 @@
 //! The text that is asked for.
 
-ghost use Rattle.std.specs.Prelude.{option_map, string_bytes};
-ghost use Rattle.devices.specs.Openers.{opener_use};
+ghost use Rattle.std.specs.Prelude.{◌≡◌, option_map, string_bytes};
+ghost use Rattle.devices.specs.Openers.{opener_use, opens_after};
 ghost use Rattle.devices.specs.Readers.{view_of};
 ghost use Rattle.devices.specs.Uses.{use_of};
-ghost use Rattle.ncgen.specs.Inputs.{inputs, OpensPath, ReadsAt, ReadsInput};
+ghost use Rattle.ncgen.specs.Inputs.{ReadFailsOnly, ReadsAt, ReadsInput};
 
 use crate::failure::InputFault;
 use crate::reading::read_text;
@@ -24,9 +24,10 @@ pub fn read_input<T: TextOpener, R: Read>(
     input: &mut CountedRead<R>,
 ) -> Result<Vec<u8>, InputFault>
     ensures { ReadsInput
-        (inputs
-        (opener_use T.is_transparent T.named T.view texts.old texts.new)
-        (use_of (view_of R.remaining) input.old input.new))
+        (record {
+          texts = opener_use T.is_transparent T.named T.view texts.old texts.new;
+          input = use_of (view_of R.remaining) input.old input.new;
+        })
         (option_map string_bytes file.now)
         result }
 {
@@ -40,7 +41,8 @@ pub fn read_input<T: TextOpener, R: Read>(
 /// [`read_input`] does.
 fn read_path<T: TextOpener>(texts: &mut T, alloc: Global, path: &str) -> Result<Vec<u8>, InputFault>
     ensures text { ReadsAt T.is_transparent (T.named texts.old path.now) result }
-    ensures opens { OpensPath (T.view texts.old) (T.view texts.new) result }
+    ensures opens { (T.view texts.new).opens ≡ opens_after (T.view texts.old) }
+    ensures reads { ReadFailsOnly (T.view texts.old) (T.view texts.new) result }
 {
     let mut reader = texts.open_text(path)?;
     let text = read_text(alloc, &mut reader, TEXT_LIMIT);

@@ -1,6 +1,5 @@
 //! The file that is written.
 
-ghost use Rattle.ncgen.specs.Outputs.{outputs};
 ghost use Rattle.ncgen.specs.code.Prepared.{file_of_prepared, IsReady};
 ghost use Rattle.ncgen.specs.code.RunSteps.{WritesAt};
 
@@ -18,7 +17,7 @@ pub fn write_output<C: Creator>(
 ) -> Result<(), OutputFault>
     requires { IsReady prepared.now }
     ensures { WritesAt
-        (outputs C.is_transparent C.view creator.old creator.new)
+        (record { is_transparent = C.is_transparent; before = C.view creator.old; after = C.view creator.new })
         path.now
         (file_of_prepared prepared.now)
         result }

@@ -6,8 +6,6 @@ ghost use Rattle.ncgen.specs.CommandLine.{asked_by};
 ghost use Rattle.devices.specs.Openers.{opener_use};
 ghost use Rattle.devices.specs.Readers.{view_of};
 ghost use Rattle.devices.specs.Uses.{use_of};
-ghost use Rattle.ncgen.specs.Inputs.{inputs};
-ghost use Rattle.ncgen.specs.Outputs.{outputs};
 ghost use Rattle.ncgen.specs.Runs.{Ends};
 ghost use Rattle.ncgen.specs.code.Prepared.{file_of_prepared, IsReady};
 ghost use Rattle.ncgen.specs.code.RunSteps.{GeneratesAsked, PreparesInput, WritesAsked};
@@ -42,10 +40,11 @@ pub fn run_with<T: TextOpener, C: Creator, R: Read, E: Sink>(
     ensures { Ends
         (record {
           asked = asked_by (texts_of words.now);
-          inputs = inputs
-              (opener_use T.is_transparent T.named T.view texts.old texts.new)
-              (use_of (view_of R.remaining) input.old input.new);
-          outputs = outputs C.is_transparent C.view creator.old creator.new;
+          inputs = record {
+            texts = opener_use T.is_transparent T.named T.view texts.old texts.new;
+            input = use_of (view_of R.remaining) input.old input.new;
+          };
+          outputs = record { is_transparent = C.is_transparent; before = C.view creator.old; after = C.view creator.new };
           err = use_of E.view err.old err.new;
         })
         result }
@@ -69,10 +68,11 @@ fn generate_asked<T: TextOpener, C: Creator, R: Read>(
     input: &mut CountedRead<R>,
 ) -> Result<(), Failure>
     ensures { GeneratesAsked
-        (inputs
-        (opener_use T.is_transparent T.named T.view texts.old texts.new)
-        (use_of (view_of R.remaining) input.old input.new))
-        (outputs C.is_transparent C.view creator.old creator.new)
+        (record {
+          texts = opener_use T.is_transparent T.named T.view texts.old texts.new;
+          input = use_of (view_of R.remaining) input.old input.new;
+        })
+        (record { is_transparent = C.is_transparent; before = C.view creator.old; after = C.view creator.new })
         (asked_by (texts_of words.now))
         result }
 {
@@ -92,9 +92,10 @@ fn prepare_input<T: TextOpener, R: Read>(
     input: &mut CountedRead<R>,
 ) -> Result<Prepared, InputFault>
     ensures { PreparesInput
-        (inputs
-        (opener_use T.is_transparent T.named T.view texts.old texts.new)
-        (use_of (view_of R.remaining) input.old input.new))
+        (record {
+          texts = opener_use T.is_transparent T.named T.view texts.old texts.new;
+          input = use_of (view_of R.remaining) input.old input.new;
+        })
         (option_map string_bytes options.now.file)
         options.now.kind
         result }
@@ -111,7 +112,7 @@ fn write_asked<C: Creator>(
 ) -> Result<(), Failure>
     requires { IsReady prepared.now }
     ensures { WritesAsked
-        (outputs C.is_transparent C.view creator.old creator.new)
+        (record { is_transparent = C.is_transparent; before = C.view creator.old; after = C.view creator.new })
         (option_map string_bytes out)
         (file_of_prepared prepared.now)
         result }

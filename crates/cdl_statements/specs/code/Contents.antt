@@ -5,7 +5,8 @@ use Rattle.cdl_statements.specs.code.DueTokens.{is_name, opens_section_after}
 use Rattle.cdl_tokens.specs.Escapes.{inner, string_value, word_value}
 use Rattle.cdl_statements.specs.Lexemes.{Lexeme, is_mark, is_mark_kind, is_word}
 use Rattle.cdl_tokens.specs.Numerals.{Parts, parts, number}
-use Rattle.cdl_statements.specs.Shapes.{Value, Number, Characters, Underscore, Dimension, Variable, Statement, Opening, Mark, Declared, Typed, Attribute, Listed, Brace, End, section_of}
+use Rattle.cdl_statements.specs.Shapes.{Value, Number, Characters, Underscore, Dimension, Variable, Statement, Open, Mark, DeclareDimensions, DeclareVariables, Attribute, Listed, Close, End}
+use Rattle.cdl_statements.specs.Pieces.{section_of}
 use Rattle.cdl_statements.specs.declared.section.Section.{Section}
 use Rattle.cdl_statements.specs.declared.section.Section.TheVariants.{Unopened, Globals, Dimensions, Variables, Values, Closed, Ended}
 use Rattle.cdl_tokens.specs.declared.token.TokenKind.{TokenKind}
@@ -74,12 +75,12 @@ abbrev pub variable_said : Version → Lexeme → List Lexeme → Statement
 variable_said v word [] = End
 variable_said v word (c ∷ ls) =
     if is_mark 0x3a c then (if is_name word then attribute_said v (Some (word_value word.bytes)) ls else mark_said (section_of word))
-    else Typed word (declaration_said false (c ∷ ls)).variables
+    else DeclareVariables word (declaration_said false (c ∷ ls)).variables
 
 -- neither a closing brace nor an attribute of the dataset
 abbrev pub other_said : Version → Section → Lexeme → List Lexeme → Statement
 other_said v Globals l ls = mark_said (section_of l)
-other_said v Dimensions l ls = if opens_section_after Dimensions l then mark_said (section_of l) else Declared (dimensions_said v (l ∷ ls))
+other_said v Dimensions l ls = if opens_section_after Dimensions l then mark_said (section_of l) else DeclareDimensions (dimensions_said v (l ∷ ls))
 other_said v Variables l ls = variable_said v l ls
 other_said v Values l ls = Listed (word_value l.bytes) (values v (drop 1 ls))
 other_said v _ l ls = End
@@ -87,7 +88,7 @@ other_said v _ l ls = End
 -- what the tokens of a whole statement of this section say
 unfoldable pub statement_said : Version → Section → List Lexeme → Statement
 statement_said v section [] = End
-statement_said v Unopened (l ∷ ls) = Opening
+statement_said v Unopened (l ∷ ls) = Open
 statement_said v Closed (l ∷ ls) = End
 statement_said v Ended (l ∷ ls) = End
-statement_said v section (l ∷ ls) = if is_mark 0x7d l then Brace else (if is_mark 0x3a l then attribute_said v None ls else other_said v section l ls)
+statement_said v section (l ∷ ls) = if is_mark 0x7d l then Close else (if is_mark 0x3a l then attribute_said v None ls else other_said v section l ls)

@@ -2,7 +2,8 @@
 use Rattle.std.specs.Prelude.{Bool, true, false, List, [], ◌∷◌, ◌&&◌, ◌||◌, if◌then◌else◌, not, codes, nat_lt, Option, None, Some}
 use Rattle.nc_base.specs.Escapes.{is_reserved}
 use Rattle.cdl_statements.specs.Lexemes.{Lexeme, is_mark, is_word, is_word_kind, is_opening_kind, is_end_kind}
-use Rattle.cdl_statements.specs.Shapes.{section_of, section_number}
+use Rattle.cdl_statements.specs.Pieces.{section_of}
+use Rattle.cdl_statements.specs.Shapes.{section_number}
 use Rattle.cdl_statements.specs.declared.{due.Due.Due, section.Section.Section}
 use Rattle.cdl_statements.specs.declared.due.Due.TheVariants.{First, DataName, Colon, AttributeName, Equals, Value, Separator, DimensionName, LengthEquals, Length, LengthSeparator, AfterWord, VariableName, AfterVariable, VariableDimension, AfterVariableDimension, AfterShape, Nothing, Never}
 use Rattle.cdl_statements.specs.declared.section.Section.TheVariants.{Unopened, Globals, Dimensions, Variables, Values, Closed, Ended}

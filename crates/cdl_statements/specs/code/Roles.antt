@@ -1,11 +1,15 @@
 -- For contracts. What tokens do where they are cut into pieces.
-use Rattle.std.specs.Prelude.{ℕ, Bool, true, false, List, [], ◌∷◌, ◌==◌, if◌then◌else◌, slice_index}
+use Rattle.std.specs.Prelude.{ℕ, Bool, true, false, List, [], ◌∷◌, ◌==◌, ◌||◌, if◌then◌else◌, slice_index, codes}
+use Rattle.std.specs.Str.{bytes_eq}
 use Rattle.cdl_statements.specs.Lexemes.{Lexeme, lexeme}
-use Rattle.cdl_statements.specs.Pieces.{is_section}
 use Rattle.cdl_statements.specs.declared.piece.Role.{Role}
 use Rattle.cdl_statements.specs.declared.piece.Role.TheVariants.{Opening, Section, Colon, Semicolon, Brace, End, Other}
 use Rattle.cdl_tokens.specs.declared.{token.Token.Token, token.TokenKind.TokenKind}
 use Rattle.cdl_tokens.specs.declared.token.TokenKind.TheVariants as kinds
+
+-- an unescaped `dimensions`, `variables` or `data`
+unfoldable pub is_section : List ℕ → Bool
+is_section word = bytes_eq word (codes "dimensions") || bytes_eq word (codes "variables") || bytes_eq word (codes "data")
 
 abbrev pub mark_role : ℕ → Role
 mark_role b = if b == 0x3a then Colon else (if b == 0x3b then Semicolon else (if b == 0x7d then Brace else Other))

@@ -1,5 +1,5 @@
 -- For contracts. What a statement of the data section means, in bytes.
-use Rattle.std.specs.Prelude.{ℕ, ◌≡◌, ◌<◌, ◌^◌, length, Bool, false, List, [], ◌∷◌, if◌then◌else◌, map, Some, Result, Ok, Err, ⊤}
+use Rattle.std.specs.Prelude.{ℕ, ◌≡◌, ◌<◌, ◌^◌, length, Bool, false, List, [], ◌∷◌, if◌then◌else◌, is_some, map, Some, Result, Ok, Err, ⊤}
 use Rattle.std.specs.List.{flat_map}
 use Rattle.std.specs.Str.{bytes_eq}
 use Rattle.nc_base.specs.Numbers.{bytes_of_number}
@@ -9,7 +9,7 @@ use Rattle.cdl_statements.specs.code.Cutters.{text_of, version_of, words}
 use Rattle.cdl_statements.specs.declared.{cutter.Cutter.Cutter, section.Section.TheVariants.Values, fault.CdlKind.CdlKind}
 use Rattle.cdl_statements.specs.Lexemes.{Lexeme, is_mark}
 use Rattle.cdl_meaning.specs.Meaning.{piece_read}
-use Rattle.cdl_meaning.specs.State.{State, Draft, Listing, capacity_of, is_listed, values_in}
+use Rattle.cdl_meaning.specs.State.{State, Draft, Listing, capacity_of, values_in}
 use Rattle.cdl_values.specs.declared.{read_error.ReadError.ReadError, data.Given.Given, data.Target.Target}
 use Rattle.cdl_values.specs.declared.read_error.ReadError.TheVariants.{OutOfMemory, Fault}
 use Rattle.cdl_values.specs.code.Capacities.{Fills, HasCapacity}
@@ -17,7 +17,7 @@ use Rattle.cdl_values.specs.code.Listed.{AreShaped, unlisted_drafts}
 
 -- a target is what a draft takes
 pub record Suits (dims : List Dim) (t : Target) (d : Draft) : Type 0 where
-  pub given : t.given ≡ is_listed d.listed
+  pub given : t.given ≡ is_some d.listed
   pub fills : Fills t.filling (capacity_of dims d.var)
   pub takes : HasCapacity t.filling t.capacity (capacity_of dims d.var)
 

@@ -1,4 +1,4 @@
-use Rattle.std.proofs.Common.{◌≡◌, ℕ, List, ap, sym, ◌∙◌, subst}
+use Rattle.std.proofs.Common.{ℕ, List, ap, sym, ◌∙◌, subst}
 use Rattle.ncgen.proofs.Prelude.{err_from_is_err_and, generated}
 use Rattle.ncgen.specs.Generated.{Refuses}
 use Rattle.ncgen.proofs.running.prepare_input.Goals as goal
