@@ -28,6 +28,7 @@ pub data Listing : Type 0 where
   -- a string a row: at rank 2 and up
   Rows : (rows : List (List ℕ)) → Listing
 
+-- a variable, and what the data section has listed of it so far
 pub record Draft : Type 0 where
   pub var : Var
   pub listed : Option Listing
@@ -148,7 +149,7 @@ add_constant ty vals (Characters bytes) = do
   Ok (vals ++ bytes)
 add_constant ty vals Underscore = Err MixedConstants
 
--- An attribute has the type of its first constant, of which there is one.
+-- An attribute has the type of its first constant. It has at least one.
 abbrev pub first_type : List Value → NcType
 first_type [] = Char
 first_type (c ∷ cs) = type_said c
@@ -173,11 +174,11 @@ pub record Capacity : Type 0 where
   pub fill : ℤ
   -- of a record variable: any number of values
   pub is_open : Bool
-  -- of values in a slab, which is all for any other variable
+  -- how many values a slab has: if it isn't open, all values of the variable
   pub count : ℕ
   -- at rank 2 and up
   pub in_rows : Bool
-  -- how many rows, of how many values
+  -- how many rows, of how many values; of a record variable rows is 0, and isn't used
   pub rows : ℕ
   pub row : ℕ
 
@@ -219,6 +220,7 @@ add_row capacity before (Characters bytes) = do
   Ok (before ++ bytes ∷ [])
 add_row capacity before _ = Err WrongKind
 
+-- the values, added one by one with add, as a listing
 abbrev pub listed_by : {A : Type 0} → (List A → Value → Result (List A) CdlKind) → (List A → Listing) → List Value → Result Listing CdlKind
 listed_by add listing values = in_turn add [] values >>= (λ items. Ok (listing items))
 

@@ -8,7 +8,8 @@ pub use Rattle.cdl_print.specs.code.Printing.{AppendedNext, FailedInNext, IsAfte
 unfoldable pub use Rattle.cdl_print.specs.code.Printing.{run_text}
 pub use Rattle.cdl_print.specs.declared.{printer.ValuePrinter.ValuePrinter, progress.Progress.Progress}
 pub use Rattle.devices.proofs.Writes.{IsWritten, append-none, appended_partway, appended_then, partway_next, wrote_next}
-pub use Rattle.devices.specs.Sinks.{Appended, FailedPartway, SinkView, Written}
+pub use Rattle.devices.specs.Sinks.{Appended, FailedPartway, SinkView}
+pub use Rattle.devices.specs.code.SinkWrites.{Written}
 unfoldable pub use Rattle.devices.specs.Sinks.{append, is_transparent}
 pub use Rattle.nc_base.proofs.ValueLaws.{column-broken, column-flat, held_first, held_nul, held_other, held_untrimmed, later-append, later_none, later_one, number_flat, place-add, prefix-append, prefix_nil, escaped-append, length-numbers_from}
 unfoldable pub use Rattle.nc_base.specs.Bytes.{concat_parts}

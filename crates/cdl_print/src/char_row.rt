@@ -4,7 +4,7 @@ ghost use Rattle.std.specs.Prelude.{◌≡◌, ◌+◌, ◌<◌, ◌≤◌, ◌=
 ghost use Rattle.nc_base.specs.Escapes.{escaped_text};
 ghost use Rattle.nc_base.specs.code.Quoted.{is_literal};
 ghost use Rattle.nc_base.specs.ValueText.{is_char};
-ghost use Rattle.devices.specs.Sinks.{Wrote};
+ghost use Rattle.devices.specs.code.SinkWrites.{Wrote};
 ghost use Rattle.cdl_print.specs.code.Leads.{look_at};
 ghost use Rattle.cdl_print.specs.code.Pieces.{IsRun};
 ghost use Rattle.cdl_print.specs.code.Printing.{is_one_nul, next, next_run, run_text, IsAfterNext, IsAfterRun, WroteNext};

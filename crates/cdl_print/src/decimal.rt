@@ -1,7 +1,7 @@
 //! Integers in decimal.
 
 ghost use Rattle.std.specs.Fmt.{signed_decimal};
-ghost use Rattle.devices.specs.Sinks.{Wrote};
+ghost use Rattle.devices.specs.code.SinkWrites.{Wrote};
 
 use devices::{Sink, WriteFailed, put};
 use itoa::Buffer;

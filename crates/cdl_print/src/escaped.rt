@@ -3,7 +3,7 @@
 ghost use Rattle.std.specs.Prelude.{◌≡◌, max};
 ghost use Rattle.std.specs.List.{flat_map, prefix_len};
 ghost use Rattle.nc_base.specs.code.Quoted.{escaped_in, stands_for_itself};
-ghost use Rattle.devices.specs.Sinks.{Wrote};
+ghost use Rattle.devices.specs.code.SinkWrites.{Wrote};
 ghost use Rattle.cdl_print.specs.code.Pieces.{IsRun};
 
 use devices::{Sink, WriteFailed, put};

@@ -5,7 +5,7 @@ ghost use Rattle.std.specs.Fmt.{signed_decimal};
 ghost use Rattle.nc_base.specs.HeadText.{numbers_text};
 ghost use Rattle.nc_base.specs.Numbers.{number_of};
 ghost use Rattle.nc_base.specs.Types.{size_of};
-ghost use Rattle.devices.specs.Sinks.{Wrote};
+ghost use Rattle.devices.specs.code.SinkWrites.{Wrote};
 ghost use Rattle.cdl_print.specs.code.Pieces.{number_text};
 
 use crate::decimal::put_integer;

@@ -3,7 +3,7 @@
 ghost use Rattle.std.specs.Prelude.{◌≡◌, ◌-◌, ◌++◌, codes};
 ghost use Rattle.nc_base.specs.Escapes.{escaped_in_name, escaped_name};
 ghost use Rattle.nc_base.specs.ValueText.{column};
-ghost use Rattle.devices.specs.Sinks.{Wrote};
+ghost use Rattle.devices.specs.code.SinkWrites.{Wrote};
 ghost use Rattle.cdl_print.specs.code.Leads.{LeavesColumns};
 ghost use Rattle.cdl_print.specs.code.Pieces.{opening_of};
 

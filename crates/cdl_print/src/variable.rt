@@ -2,7 +2,7 @@
 
 ghost use Rattle.std.specs.Prelude.{map};
 ghost use Rattle.nc_base.specs.HeadText.{dim_name, joined, shape_text, var_lines, vars_text};
-ghost use Rattle.devices.specs.Sinks.{Wrote};
+ghost use Rattle.devices.specs.code.SinkWrites.{Wrote};
 ghost use Rattle.cdl_print.specs.code.Pieces.{dim_list, dim_text, type_and_name, var_rows, vars_part};
 
 use crate::attribute::put_att_lines;

@@ -14,6 +14,7 @@ abbrev pub is_section_mark : {X : Type 0} → (X → Lexeme) → X → List X �
 is_section_mark look t [] = false
 is_section_mark look t (u ∷ ts) = is_some (section_of (look t)) && is_mark (byte ":") (look u)
 
+-- a token that is a piece by itself, if a statement may begin there
 abbrev pub is_alone : Lexeme → Bool
 is_alone l = is_opening_kind l.kind || is_end_kind l.kind || is_mark (byte "}") l
 

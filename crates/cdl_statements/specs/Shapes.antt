@@ -64,6 +64,7 @@ abbrev pub each : {A B : Type 0} → (A → Option B) → List A → Option (Lis
 each f [] = Some []
 each f (x ∷ xs) = both (λ y ys. y ∷ ys) (f x) (each f xs)
 
+-- l put before the first list
 abbrev pub into_first : Lexeme → List (List Lexeme) → List (List Lexeme)
 into_first l [] = (l ∷ []) ∷ []
 into_first l (m ∷ ms) = (l ∷ m) ∷ ms
@@ -125,7 +126,7 @@ variable (n ∷ []) = option_map (λ name. record { name = name; dimensions = []
 variable (n ∷ p ∷ ls) =
     if_so (is_mark (byte "(") p) (both (λ name ds. record { name = name; dimensions = ds }) (name_of n) (option_and_then (list_of (single name_of)) (before_mark (byte ")") ls)))
 
--- NAME = VALUE, .. if `_` is taken, otherwise NAME = CONST, ..
+-- f of a name and values: NAME = VALUE, .. if `_` is taken, otherwise NAME = CONST, ..
 abbrev pub assigned : {A : Type 0} → Version → Bool → (List ℕ → List Value → A) → List Lexeme → Option A
 assigned v takes_fill f (n ∷ e ∷ ls) = if_so (is_mark (byte "=") e) (both f (name_of n) (list_of (single (constant v takes_fill)) ls))
 assigned v takes_fill f _ = None
@@ -168,7 +169,7 @@ abbrev pub section_mark : Section → List Lexeme → Option Statement
 section_mark before (l ∷ c ∷ []) = if_so (is_mark (byte ":") c) (option_and_then (λ s. if_so (nat_lt (section_number before) (section_number s)) (Some (Mark s))) (section_of l))
 section_mark before _ = None
 
--- of a piece
+-- what a piece says in a section, if it has a shape of that section
 unfoldable pub shape : Version → Section → List Lexeme → Option Statement
 shape v Unopened ls = single (λ l. if_so (is_opening_kind l.kind) (Some Open)) ls
 shape v Closed ls = single (λ l. if_so (is_end_kind l.kind) (Some End)) ls

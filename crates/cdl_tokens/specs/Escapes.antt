@@ -14,7 +14,7 @@ word_value (b ∷ c ∷ rest) = if is_escape b c then c ∷ word_value rest else
 abbrev pub up_to_255 : ℕ → Option ℕ
 up_to_255 n = if nat_lt 255 n then None else Some n
 
--- an escape by number; `mark` bytes come before its digits
+-- an escape by number: `mark` bytes (a backslash, perhaps an x), and digits
 abbrev pub number_escape : ℕ → ℕ → List ℕ → Character
 number_escape mark base digits = record { value = if length digits == 0 then None else up_to_255 (number_in base 0 digits); len = mark + length digits }
 
@@ -30,7 +30,7 @@ plain_escape b =
     else (if b == byte "v" then 0x0b
     else b))))))
 
--- the escape that a backslash and these bytes begin with; its length counts the backslash
+-- the escape of a backslash before these bytes; its length counts the backslash
 abbrev pub escaped_character : List ℕ → Character
 escaped_character bs =
     if is_octal (slice_index bs 0) then number_escape 1 8 (take_while is_octal (take 3 bs))
@@ -53,6 +53,6 @@ inner bytes = take (length bytes - 2) (drop 1 bytes)
 abbrev pub unescape : List ℕ → List (Option ℕ)
 unescape bs = unescape_at 0 bs
 
--- A character without a byte, which no good string has, counts as 0.
+-- A character without a byte, which no Text token has, counts as 0.
 abbrev pub string_value : List ℕ → List ℕ
 string_value bs = map (λ b. unwrap_or b 0) (unescape bs)

@@ -14,7 +14,7 @@ pub record Numeral : Type 0 where
   pub value : ℤ
   pub ty : NcType
 
--- in lower case: the suffix that a dump prints, or `l` for int
+-- these bytes, in lower case, are the suffix that a dump prints for the type, or `l` for int
 abbrev pub has_suffix : List ℕ → NcType → Bool
 has_suffix bs Char = false
 has_suffix bs Int = bytes_eq bs [] || bytes_eq bs (codes "l")
@@ -34,7 +34,7 @@ abbrev pub in_base : Version → Bool → ℕ → ℕ → List ℕ → Option Pa
 in_base v minus base n bs =
     if n == 0 then None else option_map (λ ty. record { minus = minus; magnitude = number_in base 0 (take n bs); ty = ty }) (type_of_suffix v (drop n bs))
 
--- hexadecimal digits after `0x`, octal digits that begin with `0`, or decimal digits
+-- what comes after the sign: hexadecimal digits after `0x`, octal digits that begin with `0`, or decimal digits
 abbrev pub with_sign : Version → Bool → List ℕ → Option Parts
 with_sign v minus bs =
     if slice_index bs 0 == byte "0" && to_ascii_lowercase (slice_index bs 1) == byte "x" then in_base v minus 16 (prefix_len is_hex (drop 2 bs)) (drop 2 bs)

@@ -4,6 +4,7 @@ use Rattle.std.specs.Str.{byte}
 use Rattle.cdl_tokens.specs.Scan.{scan}
 use Rattle.cdl_tokens.specs.declared.{token.Token.Token, token.TokenKind.TokenKind, token.TokenKind.TheVariants.End}
 
+-- the bytes of a token
 abbrev pub raw : List ℕ → Token → List ℕ
 raw text t = take (t.past - t.first) (drop t.first text)
 

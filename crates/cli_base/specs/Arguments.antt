@@ -3,29 +3,27 @@ use Rattle.std.specs.Borrow.{Bor}
 use Rattle.std.specs.Prelude.{ℕ, Bool, true, false, List, [], ◌∷◌, codes, map, Option, Some, None, option_map, slice_get}
 use Rattle.std.specs.Option.{option_map_or}
 use Rattle.std.specs.Str.{bytes_eq}
+use Rattle.nc_base.specs.Bytes.{Bytes}
 use Rattle.clap.specs.Words.{App, Kinds, Row, Rule, new_rule, one_of}
 use Rattle.clap.specs.declared.builder.ArgAction.TheVariants.{Set, SetTrue}
 
 -- an option of one letter that takes no value
-abbrev pub flag : List ℕ → List ℕ → Rule
+abbrev pub flag : Bytes → Bytes → Rule
 flag id letter = record (new_rule id) { short = slice_get letter 0; action = Some SetTrue }
 
 -- an option of one letter that takes a value
-abbrev pub option : List ℕ → List ℕ → Rule
+abbrev pub option : Bytes → Bytes → Rule
 option id letter = record (new_rule id) { short = slice_get letter 0; action = Some Set }
 
 -- a command that answers no request for help or the version
 abbrev pub quiet : App → App
 quiet app = record app { top = record app.top { disable_help_flag = true; disable_version_flag = true } }
 
-abbrev pub is_given : List Row → List ℕ → Bool
-is_given rows id = option_map_or (λ (value : List ℕ). bytes_eq value (codes "true")) (one_of id rows) false
+abbrev pub is_given : List Row → Bytes → Bool
+is_given rows id = option_map_or (λ (value : Bytes). bytes_eq value (codes "true")) (one_of id rows) false
 
-abbrev pub text_of : Option (Bor (List ℕ)) → Option (List ℕ)
-text_of text = option_map (λ (t : Bor (List ℕ)). t.now) text
-
-abbrev pub texts_of : List (Bor (List ℕ)) → List (List ℕ)
-texts_of words = map (λ (w : Bor (List ℕ)). w.now) words
+abbrev pub texts_of : List (Bor Bytes) → List Bytes
+texts_of words = map (λ (w : Bor Bytes). w.now) words
 
 -- what is asked for, if the words have no fault
 abbrev pub if_faultless : {A : Type 0} → Kinds → Option A → Option A

@@ -2,7 +2,8 @@
 
 ghost use Rattle.std.specs.Prelude.{◌≡◌, [], ◌∷◌, false, IfOk};
 ghost use Rattle.clap.specs.Words.{found_of, first_of, rows_of, rule_of};
-ghost use Rattle.cli_base.specs.Arguments.{flag, is_given, option, text_of};
+ghost use Rattle.cli_base.specs.Arguments.{flag, is_given, option};
+ghost use Rattle.cli_base.specs.code.Answers.{text_of};
 
 use clap::{Arg, ArgAction, ArgMatches};
 use nc_base::Sequence;

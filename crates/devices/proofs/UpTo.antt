@@ -4,7 +4,8 @@ use Rattle.std.proofs.Common.{◌≡◌, ℕ, ◌+◌, ◌<◌, ◌≤◌, List,
 use Rattle.std.specs.List.{flat_map}
 use Rattle.std.proofs.lemmas.Bool.{OnTrue_from}
 use Rattle.std.proofs.lemmas.List.{append-nil, drop_more, drop_all}
-use Rattle.devices.specs.Sinks.{SinkView, Appended, FailedPartway, Written}
+use Rattle.devices.specs.Sinks.{SinkView, Appended, FailedPartway}
+use Rattle.devices.specs.code.SinkWrites.{Written}
 use Rattle.devices.proofs.Writes.{append-none, appended_then, appended_partway}
 
 pub appended-nothing : (s : SinkView) → Appended s s []

@@ -1,11 +1,12 @@
 -- Definition. What creates outputs, as contracts see it.
 use Rattle.std.specs.Prelude.{ℕ, ◌≡◌, List, [], ◌∷◌, ◌++◌, Option}
+use Rattle.nc_base.specs.Bytes.{Bytes}
 use Rattle.devices.specs.Failures.{HasFailed}
 
 -- a path and the bytes that it was given; None if these came from an opaque sink
 pub record Output : Type 0 where
-  pub path : List ℕ
-  pub bytes : Option (List ℕ)
+  pub path : Bytes
+  pub bytes : Option Bytes
 
 -- What paths were given, in order (if the creator is transparent), how many outputs were created, and how often creating or writing one
 -- failed. A path holds what it was given last.
@@ -14,7 +15,7 @@ pub record CreatorView : Type 0 where
   pub creations : ℕ
   pub failures : ℕ
 
-abbrev pub give : List Output → List ℕ → Option (List ℕ) → List Output
+abbrev pub give : List Output → Bytes → Option Bytes → List Output
 give given path bytes = given ++ (record { path = path; bytes = bytes } ∷ [])
 
 -- nothing was created or given, and it has failed

@@ -1,7 +1,8 @@
 //! Sinks of bytes, and the call that writes all of a text to one.
 
 ghost use Rattle.std.specs.Prelude.{◌≡◌, [], Bool, IfOk, true};
-ghost use Rattle.devices.specs.Sinks.{SinkView, Wrote};
+ghost use Rattle.devices.specs.Sinks.{SinkView};
+ghost use Rattle.devices.specs.code.SinkWrites.{Wrote};
 ghost use Rattle.devices.specs.code.SinkWrites.{WroteSome};
 
 use crate::{SinkFailed, WriteFailed};

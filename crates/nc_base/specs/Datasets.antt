@@ -1,6 +1,7 @@
 -- Definition. The text of a dataset, and the files that hold it.
-use Rattle.std.specs.Prelude.{ℕ, ◌≡◌, ◌<◌, List, [], length, map, slice_index_or, All, Some, None}
+use Rattle.std.specs.Prelude.{ℕ, ◌≡◌, ◌<◌, [], length, map, slice_index_or, All, Some, None}
 use Rattle.std.specs.List.{concat}
+use Rattle.nc_base.specs.Bytes.{Bytes}
 use Rattle.nc_base.specs.declared.{dataset.Dataset.Dataset, header.Header.Header, header.NumRecs.TheVariants.Known, header.Var.Var}
 use Rattle.nc_base.specs.Numbers.{numbers}
 use Rattle.nc_base.specs.Versions.{offset_limit}
@@ -17,7 +18,7 @@ values_in_dataset d v var = record { values = numbers var.ty (slice_index_or d.a
 
 -- The text of a dataset. If a chosen name is unknown, it is empty, and the ending is the place of the first such name. Otherwise it is the
 -- head and the values.
-pub data IsText (d : Dataset) (o : Options) : List ℕ → Ending → Type 0 where
+pub data IsText (d : Dataset) (o : Options) : Bytes → Ending → Type 0 where
   is_unknown : (index : ℕ) → first_unknown d.header.vars o.chosen ≡ Some index → IsText d o [] (no_such_variable index)
   is_shown : (n : ℕ) (section : DataText)
       → first_unknown d.header.vars o.chosen ≡ None → d.header.numrecs ≡ Known n
@@ -26,9 +27,9 @@ pub data IsText (d : Dataset) (o : Options) : List ℕ → Ending → Type 0 whe
 
 -- The bytes of a file hold the dataset: its header is the one that they spell, with the file's number of records and
 -- without offsets, no value is missing, and the array of each variable is its stored bytes, one value after the other.
-pub record HoldsDataset (bytes : List ℕ) (d : Dataset) : Type 0 where
+pub record HoldsDataset (bytes : Bytes) (d : Dataset) : Type 0 where
   pub header : Header
-  pub rest : List ℕ
+  pub rest : Bytes
   pub records : ℕ
   pub spelled : SpellsHeader bytes header rest
   pub counted : records ≡ record_count header (length bytes)

@@ -3,7 +3,7 @@ use Rattle.std.specs.Prelude.{ℕ, ◌≡◌, ◌+◌, ℤ, Bool, true, ◌==◌
 use Rattle.std.specs.List.{list_any, position}
 use Rattle.std.specs.Str.{bytes_eq}
 use Rattle.nc_base.specs.declared.{fault.FormatFault.FormatFault, header.Dim.Dim, header.Header.Header, header.Var.Var}
-use Rattle.nc_base.specs.Bytes.{concat_parts}
+use Rattle.nc_base.specs.Bytes.{Bytes, concat_parts}
 use Rattle.nc_base.specs.Sizes.{value_count}
 use Rattle.nc_base.specs.Sizes.{record_count}
 use Rattle.nc_base.specs.Grammar.{SpellsHeader}
@@ -15,13 +15,13 @@ use Rattle.nc_base.specs.ValueText.{Look, look_of, variable_prefix, variable_tex
 -- what to show of a dataset, and under which name
 pub record Options : Type 0 where
   -- the name of the dataset
-  pub name : List ℕ
+  pub name : Bytes
   -- `-h`: the header alone
   pub head_only : Bool
   -- `-c`: the values of coordinate variables alone
   pub coords : Bool
   -- `-v`: the names of the variables whose values are shown, if any are chosen
-  pub chosen : Option (List (List ℕ))
+  pub chosen : Option (List Bytes)
   -- `-l`: the width of the lines of values
   pub width : ℕ
 
@@ -29,24 +29,26 @@ pub record Options : Type 0 where
 pub data Ending : Type 0 where
   whole : Ending
   wrong_field : (fault : FormatFault) → Ending
+  -- the place of the name in `-v`
   no_such_variable : (index : ℕ) → Ending
+  -- the place of the variable in the header, and that of its first missing value
   data_truncated : (variable value : ℕ) → Ending
 
-abbrev pub has_name : List (List ℕ) → List ℕ → Bool
-has_name names name = list_any (λ (other : List ℕ). bytes_eq other name) names
+abbrev pub has_name : List Bytes → Bytes → Bool
+has_name names name = list_any (λ (other : Bytes). bytes_eq other name) names
 
-abbrev pub has_dimension : List Dim → List ℕ → Bool
+abbrev pub has_dimension : List Dim → Bytes → Bool
 has_dimension dims name = list_any (λ (dim : Dim). bytes_eq dim.name name) dims
 
-abbrev pub has_variable : List Var → List ℕ → Bool
+abbrev pub has_variable : List Var → Bytes → Bool
 has_variable vars name = list_any (λ (var : Var). bytes_eq var.name name) vars
 
 -- the place, from 0, of the first chosen name that no variable has
-abbrev pub first_unknown : List Var → Option (List (List ℕ)) → Option ℕ
+abbrev pub first_unknown : List Var → Option (List Bytes) → Option ℕ
 first_unknown vars None = None
-first_unknown vars (Some names) = position (λ (name : List ℕ). not (has_variable vars name)) names
+first_unknown vars (Some names) = position (λ (name : Bytes). not (has_variable vars name)) names
 
-abbrev pub is_chosen : Option (List (List ℕ)) → List ℕ → Bool
+abbrev pub is_chosen : Option (List Bytes) → Bytes → Bool
 is_chosen None name = true
 is_chosen (Some names) name = has_name names name
 
@@ -64,19 +66,19 @@ has_values dims n var = nat_lt 0 (value_count dims var n)
 
 -- a text, and how it ends
 pub record DataText : Type 0 where
-  pub text : List ℕ
+  pub text : Bytes
   pub ending : Ending
 
 abbrev pub no_data_text : DataText
 no_data_text = record { text = []; ending = whole }
 
--- the values of a variable, and the number of the first one that is missing
+-- the values of a variable, and the place of the first missing one, if any; from there on the values mean nothing
 pub record VariableValues : Type 0 where
   pub values : List ℤ
   pub missing : Option ℕ
 
 -- what a file with these bytes has of a variable over n records
-abbrev pub values_in_file : Header → List ℕ → ℕ → ℕ → Var → VariableValues
+abbrev pub values_in_file : Header → Bytes → ℕ → ℕ → Var → VariableValues
 values_in_file h bytes n v var = record { values = stored_values h bytes var n; missing = first_missing h bytes var n }
 
 -- the text of the variable in place v, and the others after it; if value k is missing, the text ends before it
@@ -102,30 +104,30 @@ data_text d v (var ∷ vars) (mark ∷ marks) =
     else data_text d (v + 1) vars marks
 data_text d v vars marks = no_data_text
 
--- all variables, or none if the header alone is shown
+-- the marked ones of all variables, or none if the header alone is shown
 abbrev pub shown_data_text : Header → Options → (ℕ → Var → VariableValues) → ℕ → List Bool → DataText
 shown_data_text h o values_of n marks = data_text (shown_data h values_of n o.width) 0 h.vars (if o.head_only then [] else marks)
 
 -- before the values
-unfoldable pub data_word : Header → Options → List ℕ
+unfoldable pub data_word : Header → Options → Bytes
 data_word h o = if o.head_only || (length h.vars == 0) then [] else codes "data:\n"
 
 -- after them: nothing if a value is missing
-unfoldable pub closing_word : Ending → List ℕ
+unfoldable pub closing_word : Ending → Bytes
 closing_word whole = codes "}\n"
 closing_word other = []
 
 -- ---- the dump
 
-abbrev pub dump_text : Header → Options → ℕ → DataText → List ℕ
+abbrev pub dump_text : Header → Options → ℕ → DataText → Bytes
 dump_text h o n section = concat_parts (head_text o.name h n ∷ data_word h o ∷ section.text ∷ closing_word section.ending ∷ [])
 
 -- The dump of a file with these bytes. If the header is wrong, or a chosen name is unknown, the text is empty.
-pub data IsDump (bytes : List ℕ) (o : Options) : List ℕ → Ending → Type 0 where
+pub data IsDump (bytes : Bytes) (o : Options) : Bytes → Ending → Type 0 where
   stopped : (fault : FormatFault) (end : ℕ) → StopsAt bytes fault end → IsDump bytes o [] (wrong_field fault)
-  unknown : (h : Header) (rest : List ℕ) (index : ℕ)
+  unknown : (h : Header) (rest : Bytes) (index : ℕ)
       → SpellsHeader bytes h rest → first_unknown h.vars o.chosen ≡ Some index → IsDump bytes o [] (no_such_variable index)
-  shown : (h : Header) (rest : List ℕ) (n : ℕ) (section : DataText)
+  shown : (h : Header) (rest : Bytes) (n : ℕ) (section : DataText)
       → SpellsHeader bytes h rest → first_unknown h.vars o.chosen ≡ None
       → n ≡ record_count h (length bytes) → section ≡ shown_data_text h o (values_in_file h bytes n) n (selection_of h o)
       → IsDump bytes o (dump_text h o n section) section.ending

@@ -3,6 +3,7 @@ use Rattle.std.specs.Prelude.{ℕ, ◌+◌, ◌/◌, ◌%◌, Bool, false, ◌==
 use Rattle.std.specs.Char.{is_ascii_alphanumeric, is_ascii_control, is_ascii_digit}
 use Rattle.std.specs.List.{flat_map, list_any}
 use Rattle.std.specs.Str.{byte, bytes_eq}
+use Rattle.nc_base.specs.Bytes.{Bytes}
 use Rattle.nc_base.specs.Names.{is_beyond_ascii}
 
 -- a name may have it unescaped, but not as its first byte
@@ -13,32 +14,32 @@ is_name_mark b = (b == byte ".") || (b == byte "@") || (b == byte "+") || (b == 
 abbrev pub is_plain : ℕ → Bool
 is_plain b = is_ascii_alphanumeric b || (b == byte "_") || is_name_mark b || is_beyond_ascii b
 
-abbrev pub reserved_words : List (List ℕ)
+abbrev pub reserved_words : List Bytes
 reserved_words =
     codes "netcdf" ∷ codes "dimensions" ∷ codes "variables" ∷ codes "data" ∷ codes "byte" ∷ codes "char" ∷ codes "short"
     ∷ codes "int" ∷ codes "long" ∷ codes "float" ∷ codes "real" ∷ codes "double" ∷ codes "ubyte" ∷ codes "ushort"
     ∷ codes "uint" ∷ codes "int64" ∷ codes "uint64" ∷ codes "string" ∷ codes "unlimited" ∷ codes "UNLIMITED" ∷ []
 
-unfoldable pub is_reserved : List ℕ → Bool
+unfoldable pub is_reserved : Bytes → Bool
 is_reserved name = list_any (bytes_eq name) reserved_words
 
--- no unescaped word begins so
-abbrev pub begins_with_digit_or_mark : List ℕ → Bool
+-- in CDL no unescaped name begins so
+abbrev pub begins_with_digit_or_mark : Bytes → Bool
 begins_with_digit_or_mark [] = false
 begins_with_digit_or_mark (b ∷ bs) = is_ascii_digit b || is_name_mark b
 
-abbrev pub escaped_in_name : ℕ → List ℕ
+abbrev pub escaped_in_name : ℕ → Bytes
 escaped_in_name b = if is_plain b then b ∷ [] else byte "\\" ∷ b ∷ []
 
 -- a backslash comes before each byte that isn't plain, and before the first byte of a name that could be read as something else
-unfoldable pub escaped_name : List ℕ → List ℕ
+unfoldable pub escaped_name : Bytes → Bytes
 escaped_name name = (if begins_with_digit_or_mark name || is_reserved name then byte "\\" ∷ [] else []) ++ flat_map escaped_in_name name
 
-abbrev pub octal_escape : ℕ → List ℕ
+abbrev pub octal_escape : ℕ → Bytes
 octal_escape b = byte "\\" ∷ (byte "0" + b / 64) ∷ (byte "0" + b / 8 % 8) ∷ (byte "0" + b % 8) ∷ []
 
 -- one byte of a string: \b \t \n \v \f \r \" \' \\, and octal for all other control characters
-abbrev pub escaped_in_string : ℕ → List ℕ
+abbrev pub escaped_in_string : ℕ → Bytes
 escaped_in_string b =
     if b == 8 then codes "\\b"
     else (if b == 9 then codes "\\t"
@@ -49,5 +50,5 @@ escaped_in_string b =
     else (if (b == byte "\"") || (b == byte "'") || (b == byte "\\") then byte "\\" ∷ b ∷ []
     else (if is_ascii_control b then octal_escape b else b ∷ [])))))))
 
-unfoldable pub escaped_text : List ℕ → List ℕ
+unfoldable pub escaped_text : Bytes → Bytes
 escaped_text bytes = flat_map escaped_in_string bytes

@@ -1,5 +1,6 @@
 -- Law. What holds of the file of a dataset.
-use Rattle.std.specs.Prelude.{ℕ, ◌≡◌, ◌↔◌, List}
+use Rattle.std.specs.Prelude.{◌≡◌, ◌↔◌}
+use Rattle.nc_base.specs.Bytes.{Bytes}
 use Rattle.nc_base.specs.declared.dataset.Dataset.{Dataset}
 use Rattle.nc_base.specs.Headers.{IsGood}
 use Rattle.nc_base.specs.Datasets.{HoldsDataset}
@@ -14,14 +15,14 @@ FilesHoldTheirDatasets = (d : Dataset) → IsGood d → Fits d.header → HoldsD
 
 -- no bytes hold two datasets
 abbrev pub FilesHoldOneDataset : Type 0
-FilesHoldOneDataset = (bytes : List ℕ) (d other : Dataset) → HoldsDataset bytes d → HoldsDataset bytes other → d ≡ other
+FilesHoldOneDataset = (bytes : Bytes) (d other : Dataset) → HoldsDataset bytes d → HoldsDataset bytes other → d ≡ other
 
 -- the dump of a file that holds a dataset is the text of that dataset, under all options
 abbrev pub FilesAreDumpedAsTheirText : Type 0
-FilesAreDumpedAsTheirText = (bytes : List ℕ) (d : Dataset) → HoldsDataset bytes d
-    → (o : Options) (text : List ℕ) (ending : Ending) → IsDump bytes o text ending ↔ IsText d o text ending
+FilesAreDumpedAsTheirText = (bytes : Bytes) (d : Dataset) → HoldsDataset bytes d
+    → (o : Options) (text : Bytes) (ending : Ending) → IsDump bytes o text ending ↔ IsText d o text ending
 
 -- and so is the dump of the file of a good dataset that fits
 abbrev pub GeneratedFilesAreDumped : Type 0
 GeneratedFilesAreDumped = (d : Dataset) → IsGood d → Fits d.header
-    → (o : Options) (text : List ℕ) (ending : Ending) → IsDump (file_of d) o text ending ↔ IsText d o text ending
+    → (o : Options) (text : Bytes) (ending : Ending) → IsDump (file_of d) o text ending ↔ IsText d o text ending

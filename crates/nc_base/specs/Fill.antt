@@ -18,7 +18,7 @@ abbrev pub fill_of_att : NcType → Option Att → Option ℤ
 fill_of_att ty None = None
 fill_of_att ty (Some att) = if is_one_of_type ty att then Some (number_of ty att.vals) else None
 
--- that of the first attribute named `_FillValue`
+-- the one that the first attribute named `_FillValue` gives
 abbrev pub own_fill : Var → Option ℤ
 own_fill var = fill_of_att var.ty (find is_fill_att var.atts)
 

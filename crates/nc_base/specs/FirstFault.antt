@@ -1,40 +1,40 @@
 -- Definition. The first wrong field of a header, from the left: what is wrong with it, and the rest after it. After a field that
--- the file's end cuts short there is no rest. Each part of a header is said as the fields that it has, one after the other.
+-- the file's end cuts short there is no rest. `InX` says how reading stops in X: at one of its fields, which come one after the other.
 use Rattle.std.specs.Prelude.{ℕ, zero, suc, ◌≡◌, ◌+◌, ◌*◌, ◌<◌, ◌==◌, ◌||◌, true, false, ◌⊎◌, List, [], ◌∷◌, ◌++◌, length, codes}
 use Rattle.std.specs.Int.{Width, w32, byte_len}
 use Rattle.nc_base.specs.declared.{fault.FormatFault.FormatFault, header.Att.Att, header.Dim.Dim, header.Var.Var, nc_type.NcType.NcType, version.Version.Version}
 use Rattle.nc_base.specs.declared.fault.FormatFault.TheVariants.{NotNetcdf, UnknownVersion, HeaderTruncated, BadTag, BadCount, BadName, FloatingType, BadType, BadShape, TwoRecordDims, BadOffset, TooLarge}
-use Rattle.nc_base.specs.Bytes.{padding_len}
+use Rattle.nc_base.specs.Bytes.{Bytes, padding_len}
 use Rattle.nc_base.specs.Types.{code_of, size_of}
 use Rattle.nc_base.specs.Versions.{version_byte, count_width, offset_width, count_limit, offset_limit, streaming_mark, has_type}
 use Rattle.nc_base.specs.Names.{IsName}
 use Rattle.nc_base.specs.Grammar.{IsDimid}
 use Rattle.nc_base.specs.Sizes.{has_record_dim}
-use Rattle.nc_base.specs.Grammar.{ElementSpelling, dimension_tag, attribute_tag, variable_tag, SpellsBytes, SpellsNumber, SpellsCount, SpellsMagic, SpellsName, SpellsType, SpellsCounted, SpellsList, SpellsDim, SpellsAtt, SpellsAtts, SpellsDimid, SpellsVar, SpellsNumRecs, IsWithinLimits}
+use Rattle.nc_base.specs.Grammar.{ElementSpelling, dimension_tag, attribute_tag, variable_tag, SpellsNumber, SpellsCount, SpellsMagic, SpellsName, SpellsType, SpellsCounted, SpellsList, SpellsDim, SpellsAtt, SpellsAtts, SpellsDimid, SpellsVar, SpellsNumRecs, IsWithinLimits}
 
 -- ---- fields one after the other
 
 -- reading these bytes stops with this fault, and leaves this rest
 abbrev pub Stops : Type 1
-Stops = List ℕ → FormatFault → List ℕ → Type 0
+Stops = Bytes → FormatFault → Bytes → Type 0
 
--- reading doesn't stop
+-- reading doesn't stop here: the part has no more fields
 abbrev pub Never : Stops
 Never bytes fault rest = ⊥
 
 -- n bytes: reading stops with this fault if the file has fewer
-pub data EndsWithin (cut : FormatFault) (n : ℕ) (bytes : List ℕ) : FormatFault → List ℕ → Type 0 where
+pub data EndsWithin (cut : FormatFault) (n : ℕ) (bytes : Bytes) : FormatFault → Bytes → Type 0 where
   ends_within : length bytes < n → EndsWithin cut n bytes cut []
 
 -- A part and what follows it: reading stops in the part, or the part is spelled, and reading stops in what follows.
-pub data Then {A : Type 0} (Spells : List ℕ → A → List ℕ → Type 0) (InPart : Stops) (InNext : A → Stops) (bytes : List ℕ) (fault : FormatFault) (rest : List ℕ) : Type 0 where
+pub data Then {A : Type 0} (Spells : Bytes → A → Bytes → Type 0) (InPart : Stops) (InNext : A → Stops) (bytes : Bytes) (fault : FormatFault) (rest : Bytes) : Type 0 where
   in_part : InPart bytes fault rest → Then Spells InPart InNext bytes fault rest
-  in_next : (x : A) (middle : List ℕ) → Spells bytes x middle → InNext x middle fault rest → Then Spells InPart InNext bytes fault rest
+  in_next : (x : A) (middle : Bytes) → Spells bytes x middle → InNext x middle fault rest → Then Spells InPart InNext bytes fault rest
 
--- The field just read is wrong if it breaks this rule. Otherwise reading stops in what follows.
-pub data Requires (Holds : Type 0) (wrong : FormatFault) (InNext : Stops) (bytes : List ℕ) : FormatFault → List ℕ → Type 0 where
+-- After a field: if it breaks this rule, it is the wrong one, and these bytes are the rest. Otherwise reading stops in what follows.
+pub data Requires (Holds : Type 0) (wrong : FormatFault) (InNext : Stops) (bytes : Bytes) : FormatFault → Bytes → Type 0 where
   breaks : ¬ Holds → Requires Holds wrong InNext bytes wrong bytes
-  keeps : (fault : FormatFault) (rest : List ℕ) → Holds → InNext bytes fault rest → Requires Holds wrong InNext bytes fault rest
+  keeps : (fault : FormatFault) (rest : Bytes) → Holds → InNext bytes fault rest → Requires Holds wrong InNext bytes fault rest
 
 -- ---- numbers, names and types
 
@@ -50,7 +50,13 @@ InCount v = InNumber (count_width v) (λ n. Requires (n < count_limit v) BadCoun
 abbrev pub InOffset : Version → Stops
 InOffset v = InNumber (offset_width v) (λ n. Requires (n < offset_limit v) BadOffset Never)
 
-abbrev pub InBytes : ℕ → (List ℕ → Stops) → Stops
+-- n bytes
+pub record SpellsBytes (n : ℕ) (bytes content rest : Bytes) : Type 0 where
+  pub count : length content ≡ n
+  pub spelled : bytes ≡ content ++ rest
+
+-- n bytes, and what follows them
+abbrev pub InBytes : ℕ → (Bytes → Stops) → Stops
 InBytes n InNext = Then (SpellsBytes n) (EndsWithin HeaderTruncated n) InNext
 
 abbrev pub InPadding : ℕ → Stops
@@ -106,7 +112,7 @@ InAtts v = InList v attribute_tag (SpellsAtt v) (InAtt v)
 abbrev pub InDimid : Version → List Dim → ElementStops ℕ
 InDimid v dims before = InNumber (count_width v) (λ id. Requires (IsDimid dims before id) BadShape Never)
 
--- if a variable is too large, its type is the wrong field
+-- If a variable is too large, its type is the wrong field. Its begin, which comes later, doesn't matter.
 abbrev pub InVar : Version → List Dim → ElementStops Var
 InVar v dims before =
     Then (SpellsName v) (InName v) (λ name.
@@ -130,7 +136,7 @@ InMagic =
 abbrev pub InNumRecs : Version → Stops
 InNumRecs v = InNumber (count_width v) (λ n. Requires ((n < count_limit v) ⊎ (n ≡ streaming_mark v)) BadCount Never)
 
--- a header
+-- the first wrong field of a header has this fault, and this rest after it
 unfoldable pub StopsWith : Stops
 StopsWith =
     Then SpellsMagic InMagic (λ v.
@@ -139,8 +145,8 @@ StopsWith =
     Then (SpellsAtts v) (InAtts v) (λ gatts.
     InList v variable_tag (SpellsVar v dims) (InVar v dims)))))
 
--- the same by the offset at which the first wrong field ends
-pub record StopsAt (bytes : List ℕ) (fault : FormatFault) (end : ℕ) : Type 0 where
-  pub rest : List ℕ
+-- the same, with the offset at which the wrong field ends in place of the rest
+pub record StopsAt (bytes : Bytes) (fault : FormatFault) (end : ℕ) : Type 0 where
+  pub rest : Bytes
   pub stops : StopsWith bytes fault rest
   pub ends : end + length rest ≡ length bytes

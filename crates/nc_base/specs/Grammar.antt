@@ -4,7 +4,7 @@ use Rattle.std.specs.Prelude.{ℕ, ◌≡◌, ◌*◌, ◌^◌, ◌<◌, ◌≤�
 use Rattle.std.specs.Int.{Width, w32, to_be_bytes, byte_len}
 use Rattle.nc_base.specs.declared.{header.Att.Att, header.Dim.Dim, header.Var.Var, header.Header.Header, header.NumRecs.NumRecs, nc_type.NcType.NcType, version.Version.Version}
 use Rattle.nc_base.specs.declared.header.NumRecs.TheVariants.{Known, Streaming}
-use Rattle.nc_base.specs.Bytes.{padding_len}
+use Rattle.nc_base.specs.Bytes.{Bytes, padding_len}
 use Rattle.nc_base.specs.Types.{code_of, size_of}
 use Rattle.nc_base.specs.Versions.{version_byte, count_width, offset_width, count_limit, offset_limit, streaming_mark, has_type}
 use Rattle.nc_base.specs.Names.{IsName}
@@ -23,85 +23,80 @@ attribute_tag = 12
 -- ---- numbers
 
 -- a number of this width
-pub record SpellsNumber (width : Width) (bytes : List ℕ) (n : ℕ) (rest : List ℕ) : Type 0 where
+pub record SpellsNumber (width : Width) (bytes : Bytes) (n : ℕ) (rest : Bytes) : Type 0 where
   pub fits : n < 256 ^ byte_len width
   pub spelled : bytes ≡ to_be_bytes width n ++ rest
 
 -- NON_NEG: a number of the version's width whose top bit is 0
-pub record SpellsCount (v : Version) (bytes : List ℕ) (n : ℕ) (rest : List ℕ) : Type 0 where
+pub record SpellsCount (v : Version) (bytes : Bytes) (n : ℕ) (rest : Bytes) : Type 0 where
   pub number : SpellsNumber (count_width v) bytes n rest
   pub non_negative : n < count_limit v
 
 -- OFFSET: the same of an offset's width
-pub record SpellsOffset (v : Version) (bytes : List ℕ) (n : ℕ) (rest : List ℕ) : Type 0 where
+pub record SpellsOffset (v : Version) (bytes : Bytes) (n : ℕ) (rest : Bytes) : Type 0 where
   pub number : SpellsNumber (offset_width v) bytes n rest
   pub non_negative : n < offset_limit v
 
 -- ---- names and types
 
--- n bytes
-pub record SpellsBytes (n : ℕ) (bytes content rest : List ℕ) : Type 0 where
-  pub count : length content ≡ n
-  pub spelled : bytes ≡ content ++ rest
-
 -- these bytes, and padding up to the next multiple of four
-pub record SpellsPadded (bytes content rest : List ℕ) : Type 0 where
-  pub padding : List ℕ
+pub record SpellsPadded (bytes content rest : Bytes) : Type 0 where
+  pub padding : Bytes
   pub padded : length padding ≡ padding_len (length content)
   pub spelled : bytes ≡ content ++ (padding ++ rest)
 
 -- name = nelems namestring
-pub record SpellsName (v : Version) (bytes name rest : List ℕ) : Type 0 where
-  pub after_count : List ℕ
+pub record SpellsName (v : Version) (bytes name rest : Bytes) : Type 0 where
+  pub after_count : Bytes
   pub count : SpellsCount v bytes (length name) after_count
   pub valid : IsName name
   pub padded : SpellsPadded after_count name rest
 
 -- nc_type = NC_BYTE | NC_CHAR | ..
-pub record SpellsType (v : Version) (bytes : List ℕ) (ty : NcType) (rest : List ℕ) : Type 0 where
+pub record SpellsType (v : Version) (bytes : Bytes) (ty : NcType) (rest : Bytes) : Type 0 where
   pub number : SpellsNumber w32 bytes (code_of ty) rest
   pub has : has_type v ty ≡ true
 
 -- ---- lists
 
--- an element, after the elements before it
+-- the spelling of an element: the elements before it, the bytes, the element, and the rest
 abbrev pub ElementSpelling : Type 0 → Type 1
-ElementSpelling A = List A → List ℕ → A → List ℕ → Type 0
+ElementSpelling A = List A → Bytes → A → Bytes → Type 0
 
-abbrev pub SpellsEach : {A : Type 0} → ElementSpelling A → List A → List ℕ → List A → List ℕ → Type 0
+abbrev pub SpellsEach : {A : Type 0} → ElementSpelling A → List A → Bytes → List A → Bytes → Type 0
 SpellsEach Element before bytes [] rest = bytes ≡ rest
 SpellsEach Element before bytes (x ∷ xs) rest =
-    (middle : List ℕ) × Element before bytes x middle × SpellsEach Element (before ++ x ∷ []) middle xs rest
+    (middle : Bytes) × Element before bytes x middle × SpellsEach Element (before ++ x ∷ []) middle xs rest
 
 -- nelems [element ...]
-pub record SpellsCounted {A : Type 0} (v : Version) (Element : ElementSpelling A) (bytes : List ℕ) (xs : List A) (rest : List ℕ) : Type 0 where
-  pub after_count : List ℕ
+pub record SpellsCounted {A : Type 0} (v : Version) (Element : ElementSpelling A) (bytes : Bytes) (xs : List A) (rest : Bytes) : Type 0 where
+  pub after_count : Bytes
   pub count : SpellsCount v bytes (length xs) after_count
   pub each : SpellsEach Element [] after_count xs rest
 
 -- a list = ABSENT | TAG nelems [element ...]
-pub data SpellsList {A : Type 0} (v : Version) (tag : ℕ) (Element : ElementSpelling A) (bytes : List ℕ) (xs : List A) (rest : List ℕ) : Type 0 where
-  absent : (after_tag : List ℕ)
+pub data SpellsList {A : Type 0} (v : Version) (tag : ℕ) (Element : ElementSpelling A) (bytes : Bytes) (xs : List A) (rest : Bytes) : Type 0 where
+  absent : (after_tag : Bytes)
       → SpellsNumber w32 bytes 0 after_tag → SpellsCount v after_tag 0 rest → xs ≡ []
       → SpellsList v tag Element bytes xs rest
-  present : (after_tag : List ℕ)
+  present : (after_tag : Bytes)
       → SpellsNumber w32 bytes tag after_tag → SpellsCounted v Element after_tag xs rest
       → SpellsList v tag Element bytes xs rest
 
 -- ---- dimensions and attributes
 
 -- dim = name dim_length: no two are the record dimension
-pub record SpellsDim (v : Version) (before : List Dim) (bytes : List ℕ) (dim : Dim) (rest : List ℕ) : Type 0 where
-  pub after_name : List ℕ
+pub record SpellsDim (v : Version) (before : List Dim) (bytes : Bytes) (dim : Dim) (rest : Bytes) : Type 0 where
+  pub after_name : Bytes
   pub name : SpellsName v bytes dim.name after_name
   pub len : SpellsCount v after_name dim.len rest
   pub one_record_dim : dim.len ≡ 0 → has_record_dim before ≡ false
 
 -- attr = name nc_type nelems [values ...]
-pub record SpellsAtt (v : Version) (before : List Att) (bytes : List ℕ) (att : Att) (rest : List ℕ) : Type 0 where
-  pub after_name : List ℕ
-  pub after_type : List ℕ
-  pub after_count : List ℕ
+pub record SpellsAtt (v : Version) (before : List Att) (bytes : Bytes) (att : Att) (rest : Bytes) : Type 0 where
+  pub after_name : Bytes
+  pub after_type : Bytes
+  pub after_count : Bytes
   pub count : ℕ
   pub named : SpellsName v bytes att.name after_name
   pub typed : SpellsType v after_name att.ty after_type
@@ -109,7 +104,7 @@ pub record SpellsAtt (v : Version) (before : List Att) (bytes : List ℕ) (att :
   pub whole : length att.vals ≡ count * size_of att.ty
   pub values : SpellsPadded after_count att.vals rest
 
-abbrev pub SpellsAtts : Version → List ℕ → List Att → List ℕ → Type 0
+abbrev pub SpellsAtts : Version → Bytes → List Att → Bytes → Type 0
 SpellsAtts v bytes atts rest = SpellsList v attribute_tag (SpellsAtt v) bytes atts rest
 
 -- ---- variables
@@ -120,7 +115,7 @@ pub record IsDimid (dims : List Dim) (before : List ℕ) (id : ℕ) : Type 0 whe
   pub record_first : IsTrue (is_record_dim dims id) → before ≡ []
 
 -- dimid
-pub record SpellsDimid (v : Version) (dims : List Dim) (before : List ℕ) (bytes : List ℕ) (id : ℕ) (rest : List ℕ) : Type 0 where
+pub record SpellsDimid (v : Version) (dims : List Dim) (before : List ℕ) (bytes : Bytes) (id : ℕ) (rest : Bytes) : Type 0 where
   pub number : SpellsNumber (count_width v) bytes id rest
   pub known : IsDimid dims before id
 
@@ -130,12 +125,12 @@ pub record IsWithinLimits (dims : List Dim) (before : List Var) (var : Var) : Ty
   pub record_bytes : padded_total dims (record_vars dims (before ++ var ∷ [])) ≤ record_limit
 
 -- var = name nelems [dimid ...] vatt_list nc_type vsize begin
-pub record SpellsVar (v : Version) (dims : List Dim) (before : List Var) (bytes : List ℕ) (var : Var) (rest : List ℕ) : Type 0 where
-  pub after_name : List ℕ
-  pub after_shape : List ℕ
-  pub after_atts : List ℕ
-  pub after_type : List ℕ
-  pub after_vsize : List ℕ
+pub record SpellsVar (v : Version) (dims : List Dim) (before : List Var) (bytes : Bytes) (var : Var) (rest : Bytes) : Type 0 where
+  pub after_name : Bytes
+  pub after_shape : Bytes
+  pub after_atts : Bytes
+  pub after_type : Bytes
+  pub after_vsize : Bytes
   pub vsize : ℕ
   pub named : SpellsName v bytes var.name after_name
   pub shape : SpellsCounted v (SpellsDimid v dims) after_name var.dimids after_shape
@@ -148,20 +143,20 @@ pub record SpellsVar (v : Version) (dims : List Dim) (before : List Var) (bytes 
 -- ---- the whole
 
 -- magic = 'C' 'D' 'F' VERSION
-abbrev pub SpellsMagic : List ℕ → Version → List ℕ → Type 0
+abbrev pub SpellsMagic : Bytes → Version → Bytes → Type 0
 SpellsMagic bytes v rest = bytes ≡ codes "CDF" ++ version_byte v ∷ rest
 
 -- numrecs = NON_NEG | STREAMING
-abbrev pub SpellsNumRecs : Version → List ℕ → NumRecs → List ℕ → Type 0
+abbrev pub SpellsNumRecs : Version → Bytes → NumRecs → Bytes → Type 0
 SpellsNumRecs v bytes (Known n) rest = SpellsCount v bytes n rest
 SpellsNumRecs v bytes Streaming rest = SpellsNumber (count_width v) bytes (streaming_mark v) rest
 
 -- header = magic numrecs dim_list gatt_list var_list
-pub record SpellsHeader (bytes : List ℕ) (h : Header) (rest : List ℕ) : Type 0 where
-  pub after_magic : List ℕ
-  pub after_numrecs : List ℕ
-  pub after_dims : List ℕ
-  pub after_gatts : List ℕ
+pub record SpellsHeader (bytes : Bytes) (h : Header) (rest : Bytes) : Type 0 where
+  pub after_magic : Bytes
+  pub after_numrecs : Bytes
+  pub after_dims : Bytes
+  pub after_gatts : Bytes
   pub magic : SpellsMagic bytes h.version after_magic
   pub numrecs : SpellsNumRecs h.version after_magic h.numrecs after_numrecs
   pub dim_list : SpellsList h.version dimension_tag (SpellsDim h.version) after_numrecs h.dims after_dims

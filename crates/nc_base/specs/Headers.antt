@@ -2,7 +2,7 @@
 use Rattle.std.specs.Prelude.{ℕ, ◌≡◌, ◌*◌, ◌<◌, ◌≤◌, IsTrue, ◌==◌, List, [], ◌∷◌, ◌++◌, length, map, filter, All}
 use Rattle.nc_base.specs.declared.{header.Att.Att, header.Dim.Dim, header.Var.Var, header.Header.Header, header.NumRecs.NumRecs, dataset.Dataset.Dataset, version.Version.Version}
 use Rattle.nc_base.specs.declared.header.NumRecs.TheVariants.{Known, Streaming}
-use Rattle.nc_base.specs.Bytes.{AreBytes}
+use Rattle.nc_base.specs.Bytes.{Bytes, AreBytes}
 use Rattle.nc_base.specs.Types.{size_of}
 use Rattle.nc_base.specs.Versions.{count_limit, has_type}
 use Rattle.nc_base.specs.Names.{IsName}
@@ -71,13 +71,13 @@ abbrev pub bare : Header → ℕ → Header
 bare h n = record h { numrecs = Known n; vars = map bare_var h.vars }
 
 -- a variable's array: as many values as it has, in no more bytes than an array may have
-pub record IsArray (dims : List Dim) (records : ℕ) (var : Var) (array : List ℕ) : Type 0 where
+pub record IsArray (dims : List Dim) (records : ℕ) (var : Var) (array : Bytes) : Type 0 where
   pub bytes : AreBytes array
   pub whole : length array ≡ value_count dims var records * size_of var.ty
   pub small : length array ≤ array_limit
 
 -- one array for each variable
-abbrev pub AreArrays : List Dim → ℕ → List Var → List (List ℕ) → Type 0
+abbrev pub AreArrays : List Dim → ℕ → List Var → List Bytes → Type 0
 AreArrays dims records [] [] = Unit {0}
 AreArrays dims records [] (array ∷ arrays) = ⊥
 AreArrays dims records (var ∷ vars) [] = ⊥

@@ -1,7 +1,7 @@
 -- Law. What holds of numbers and their bytes.
-use Rattle.std.specs.Prelude.{ℕ, ◌≡◌, ℤ, List, length}
+use Rattle.std.specs.Prelude.{◌≡◌, ℤ, length}
 use Rattle.nc_base.specs.declared.nc_type.NcType.{NcType}
-use Rattle.nc_base.specs.Bytes.{AreBytes}
+use Rattle.nc_base.specs.Bytes.{Bytes, AreBytes}
 use Rattle.nc_base.specs.Types.{size_of}
 use Rattle.nc_base.specs.Numbers.{number_of, bytes_of_number, IsInRange}
 
@@ -11,10 +11,10 @@ NumbersReadBack = (ty : NcType) (number : ℤ) → IsInRange ty number → numbe
 
 -- as many bytes as the type's size are the bytes of their number
 abbrev pub BytesReadBack : Type 0
-BytesReadBack = (ty : NcType) (bytes : List ℕ) → AreBytes bytes → length bytes ≡ size_of ty
+BytesReadBack = (ty : NcType) (bytes : Bytes) → AreBytes bytes → length bytes ≡ size_of ty
     → bytes_of_number ty (number_of ty bytes) ≡ bytes
 
 -- and that number is in the type's range
 abbrev pub NumbersAreInRange : Type 0
-NumbersAreInRange = (ty : NcType) (bytes : List ℕ) → AreBytes bytes → length bytes ≡ size_of ty
+NumbersAreInRange = (ty : NcType) (bytes : Bytes) → AreBytes bytes → length bytes ≡ size_of ty
     → IsInRange ty (number_of ty bytes)

@@ -1,6 +1,7 @@
--- Definition. Where the values of a variable lie in a file, which of them the file has, and the dataset that it holds.
+-- Definition. Where the values of a variable lie in a file, and which of them the file has.
 use Rattle.std.specs.Prelude.{ℕ, ◌+◌, ◌*◌, nat_lt, Bool, ℤ, if◌then◌else◌, List, [], ◌∷◌, length, map, take, drop, Option}
 use Rattle.std.specs.List.{flat_map, position, range_with_len}
+use Rattle.nc_base.specs.Bytes.{Bytes}
 use Rattle.nc_base.specs.declared.{header.Dim.Dim, header.Var.Var, header.Header.Header}
 use Rattle.nc_base.specs.Types.{size_of}
 use Rattle.nc_base.specs.Numbers.{number_of}
@@ -48,15 +49,15 @@ value_offsets h var n = map (value_offset h var) (index_vectors h.dims var n)
 
 -- ---- values
 
--- the value of this size at an offset: all of its bytes, if they are inside the file
-abbrev pub bytes_at : ℕ → List ℕ → ℕ → List ℕ
+-- the bytes of the value of this size at an offset, as far as the file has them
+abbrev pub bytes_at : ℕ → Bytes → ℕ → Bytes
 bytes_at size bytes offset = take size (drop offset bytes)
 
 -- each value of a variable over n records
-abbrev pub stored_bytes : Header → List ℕ → Var → ℕ → List (List ℕ)
+abbrev pub stored_bytes : Header → Bytes → Var → ℕ → List Bytes
 stored_bytes h bytes var n = map (bytes_at (size_of var.ty) bytes) (value_offsets h var n)
 
-abbrev pub stored_values : Header → List ℕ → Var → ℕ → List ℤ
+abbrev pub stored_values : Header → Bytes → Var → ℕ → List ℤ
 stored_values h bytes var n = map (number_of var.ty) (stored_bytes h bytes var n)
 
 -- the value of this size at an offset isn't wholly inside the file
@@ -64,5 +65,5 @@ abbrev pub ends_after : ℕ → ℕ → ℕ → Bool
 ends_after size file_len offset = nat_lt file_len (offset + size)
 
 -- the place, from 0, of the first missing value, if any
-abbrev pub first_missing : Header → List ℕ → Var → ℕ → Option ℕ
+abbrev pub first_missing : Header → Bytes → Var → ℕ → Option ℕ
 first_missing h bytes var n = position (ends_after (size_of var.ty) (length bytes)) (value_offsets h var n)

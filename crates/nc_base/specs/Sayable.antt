@@ -1,5 +1,6 @@
 -- Definition. The dataset whose text is read back, and the one that it is read back as.
-use Rattle.std.specs.Prelude.{◌≡◌, ℕ, ◌<◌, true, false, List, [], ◌∷◌, length, map, All, if◌then◌else◌}
+use Rattle.std.specs.Prelude.{◌≡◌, ◌<◌, true, false, List, [], ◌∷◌, length, map, All, if◌then◌else◌}
+use Rattle.nc_base.specs.Bytes.{Bytes}
 use Rattle.nc_base.specs.declared.{dataset.Dataset.Dataset, header.Att.Att, header.Dim.Dim, header.Header.Header, header.NumRecs.TheVariants.Known, header.Var.Var}
 use Rattle.nc_base.specs.Dump.{has_name}
 use Rattle.nc_base.specs.Fill.{fill_value}
@@ -22,7 +23,7 @@ abbrev pub trimmed : Dataset → Dataset
 trimmed d = record d { header = trimmed_header d.header }
 
 -- no two of the names are equal
-abbrev pub AreDistinct : List (List ℕ) → Type 0
+abbrev pub AreDistinct : List Bytes → Type 0
 AreDistinct [] = Unit {0}
 AreDistinct (name ∷ names) = (has_name names name ≡ false) × AreDistinct names
 

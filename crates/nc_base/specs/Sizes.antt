@@ -72,6 +72,7 @@ record_size h = record_size_of h.dims (record_vars h.dims h.vars)
 abbrev pub slab_limit : ℕ
 slab_limit = 2 ^ 48
 
+-- of all values of one variable of a dataset
 abbrev pub array_limit : ℕ
 array_limit = 2 ^ 48
 
@@ -82,7 +83,7 @@ abbrev pub least_begin : Var → List Var → ℕ
 least_begin var [] = var.begin_at
 least_begin var (next ∷ others) = min var.begin_at (least_begin next others)
 
--- How many whole records are between the least begin of these variables and the end of the file. If it ends before that, `-` is 0.
+-- how many whole records of this size lie from the least begin of these variables to the end of the file; none if it ends before that
 abbrev pub records_between : ℕ → List Var → ℕ → ℕ
 records_between size [] file_len = 0
 records_between size (var ∷ vars) file_len = (file_len - least_begin var vars) / size

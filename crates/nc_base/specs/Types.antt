@@ -1,10 +1,11 @@
 -- Definition. The type table.
 use Rattle.std.specs.Prelude.{ℕ, Bool, true, false, ℤ, pos, neg_ℤ, List, [], ◌∷◌, codes}
 use Rattle.std.specs.Int.{Width, w8, w16, w32, w64, byte_len}
+use Rattle.nc_base.specs.Bytes.{Bytes}
 use Rattle.nc_base.specs.declared.nc_type.NcType.{NcType}
 use Rattle.nc_base.specs.declared.nc_type.NcType.TheVariants.{Byte, Char, Short, Int, Ubyte, Ushort, Uint, Int64, Uint64}
 
--- the code of a type in a file
+-- the code of a type in a file (5 and 6 are float and double, which are refused)
 abbrev pub code_of : NcType → ℕ
 code_of Byte = 1
 code_of Char = 2
@@ -53,7 +54,7 @@ default_fill_of Int64 = neg_ℤ (pos 9223372036854775806)
 default_fill_of Uint64 = pos 18446744073709551614
 
 -- the word of a type in CDL
-abbrev pub type_word : NcType → List ℕ
+abbrev pub type_word : NcType → Bytes
 type_word Byte = codes "byte"
 type_word Char = codes "char"
 type_word Short = codes "short"
@@ -65,7 +66,7 @@ type_word Int64 = codes "int64"
 type_word Uint64 = codes "uint64"
 
 -- of a number in an attribute; characters are written in strings, and have none
-abbrev pub number_suffix : NcType → List ℕ
+abbrev pub number_suffix : NcType → Bytes
 number_suffix Byte = codes "b"
 number_suffix Char = []
 number_suffix Short = codes "s"

@@ -5,7 +5,7 @@ use Rattle.std.specs.Fmt.{signed_decimal}
 use Rattle.std.specs.List.{suffix_len}
 use Rattle.std.specs.Ordering.{int_eq}
 use Rattle.nc_base.specs.declared.{header.Dim.Dim, header.Header.Header, header.Var.Var, nc_type.NcType.NcType, nc_type.NcType.TheVariants.Char}
-use Rattle.nc_base.specs.Bytes.{concat_parts}
+use Rattle.nc_base.specs.Bytes.{Bytes, concat_parts}
 use Rattle.nc_base.specs.Escapes.{escaped_name, escaped_text}
 use Rattle.nc_base.specs.Fill.{fill_value, own_fill, prints_fill}
 use Rattle.nc_base.specs.Sizes.{value_count}
@@ -15,12 +15,13 @@ use Rattle.nc_base.specs.Sizes.{dim_len, is_record_var}
 
 -- how the values of a variable are laid out
 pub record Look : Type 0 where
-  pub name : List ℕ
+  pub name : Bytes
   pub ty : NcType
   -- the rank is 2 or more
   pub in_rows : Bool
   -- how many values a row has
   pub row : ℕ
+  -- how many values it has
   pub total : ℕ
   pub fill : ℤ
   -- the fill value prints as `_`
@@ -62,26 +63,27 @@ begins_row look i = i % look.row == 0
 
 -- ---- numbers
 
-abbrev pub column : List ℕ → ℕ
+-- how long the last line of this text is
+abbrev pub column : Bytes → ℕ
 column before = suffix_len (λ b. not (b == byte "\n")) before
 
-abbrev pub number_text : Look → ℤ → List ℕ
+abbrev pub number_text : Look → ℤ → Bytes
 number_text look value = if look.prints_fill && int_eq value look.fill then codes "_" else signed_decimal value
 
 -- what comes before value i
-abbrev pub number_lead : Look → ℕ → List ℕ
+abbrev pub number_lead : Look → ℕ → Bytes
 number_lead look i =
     if begins_row look i then (if look.in_rows then (if i == 0 then codes "\n  " else codes ",\n  ") else codes " ")
     else codes ", "
 
--- A new line between the lead and value i, of this length, if it and two bytes more would pass the width. No line is broken before a row's
--- first number.
-abbrev pub line_break : Look → List ℕ → ℕ → ℕ → List ℕ
+-- A new line between the lead and value i, if the value, of len bytes, and two bytes more would pass the width. No line is broken before
+-- a row's first number.
+abbrev pub line_break : Look → Bytes → ℕ → ℕ → Bytes
 line_break look before i len =
     if not (begins_row look i) && nat_lt look.width (column before + len + 2) then codes "\n    " else []
 
 -- value i after this text, with what comes before it
-unfoldable pub number_piece : Look → List ℕ → ℕ → ℤ → List ℕ
+unfoldable pub number_piece : Look → Bytes → ℕ → ℤ → Bytes
 number_piece look before i value =
     (number_lead look i ++ line_break look (before ++ number_lead look i) i (length (number_text look value)))
     ++ number_text look value
@@ -89,13 +91,13 @@ number_piece look before i value =
 -- ---- characters
 
 -- what comes before value i, its row's first
-abbrev pub char_lead : Look → ℕ → List ℕ
+abbrev pub char_lead : Look → ℕ → Bytes
 char_lead look i = if look.in_rows then (if i == 0 then codes "\n  \"" else codes "\",\n  \"") else codes " \""
 
 abbrev pub is_nul : ℤ → Bool
 is_nul value = unsigned_abs value == 0
 
--- those of the values that are in the row of the next one
+-- the values so far that are in the same row as the next one
 abbrev pub row_so_far : Look → List ℤ → List ℤ
 row_so_far look values = drop (length values - length values % look.row) values
 
@@ -104,11 +106,11 @@ abbrev pub held : Look → List ℤ → ℕ
 held look values = if look.trimmed then suffix_len is_nul (row_so_far look values) else 0
 
 -- if rows are trimmed, a NUL is printed with the next other character of its row
-abbrev pub char_text : Look → ℕ → ℤ → List ℕ
+abbrev pub char_text : Look → ℕ → ℤ → Bytes
 char_text look nuls value =
     if look.trimmed && is_nul value then [] else escaped_text (replicate nuls 0 ++ unsigned_abs value ∷ [])
 
-unfoldable pub char_piece : Look → List ℤ → ℤ → List ℕ
+unfoldable pub char_piece : Look → List ℤ → ℤ → Bytes
 char_piece look values value =
     (if begins_row look (length values) then char_lead look (length values) else [])
     ++ char_text look (held look values) value
@@ -116,27 +118,27 @@ char_piece look values value =
 -- ---- values
 
 -- a value after this text and these values, with what comes before it
-unfoldable pub piece : Look → List ℕ → List ℤ → ℤ → List ℕ
+unfoldable pub piece : Look → Bytes → List ℤ → ℤ → Bytes
 piece look before values value =
     if is_char look.ty then char_piece look values value else number_piece look before (length values) value
 
 -- values, after this text and the values before
-unfoldable pub pieces : Look → List ℕ → List ℤ → List ℤ → List ℕ
+unfoldable pub pieces : Look → Bytes → List ℤ → List ℤ → Bytes
 pieces look before values [] = []
 pieces look before values (value ∷ others) =
     piece look before values value
     ++ pieces look (before ++ piece look before values value) (values ++ value ∷ []) others
 
 -- what comes before a variable's values
-unfoldable pub variable_opening : Look → List ℕ
+unfoldable pub variable_opening : Look → Bytes
 variable_opening look = concat_parts (codes "\n " ∷ escaped_name look.name ∷ codes " =" ∷ [])
 
-unfoldable pub variable_closing : Look → List ℕ
+unfoldable pub variable_closing : Look → Bytes
 variable_closing look = if is_char look.ty then codes "\" ;\n" else codes " ;\n"
 
 -- the opening and the first values
-unfoldable pub variable_prefix : Look → List ℤ → List ℕ
+unfoldable pub variable_prefix : Look → List ℤ → Bytes
 variable_prefix look values = variable_opening look ++ pieces look (variable_opening look) [] values
 
-unfoldable pub variable_text : Look → List ℤ → List ℕ
+unfoldable pub variable_text : Look → List ℤ → Bytes
 variable_text look values = variable_prefix look values ++ variable_closing look

@@ -16,7 +16,8 @@ pub enum Version {
 }
 
 impl Version {
-    ghost use Rattle.nc_base.specs.Versions.{version_byte, version_of_byte, count_limit, offset_limit, streaming_mark, has_type};
+    ghost use Rattle.nc_base.specs.Versions.{version_byte, count_limit, offset_limit, streaming_mark, has_type};
+    ghost use Rattle.nc_base.specs.code.TypeCodes.{version_of_byte};
 
     /// Returns the version that the byte after `CDF` names: 1, 2 or 5; or `None` for any other byte.
     pub fn of_byte(b: u8) -> Option<Version>

@@ -7,7 +7,8 @@ pub use Rattle.nc_base.specs.FirstFault.{ElementStops, InAtt, InAtts, InBytes, I
 unfoldable pub use Rattle.nc_base.specs.FirstFault.{StopsWith}
 pub use Rattle.nc_base.specs.GeneratedFile.{atts_spelling, begin_after, count_spelling, fits, fixed_vars, list_head, list_spelling, name_spelling, numrecs_spelling, vars_after, vsize_of, zero_padded}
 unfoldable pub use Rattle.nc_base.specs.GeneratedFile.{att_spelling, dim_spelling, file_of, header_spelling, magic_spelling, var_spelling, with_begins, word_spelling}
-pub use Rattle.nc_base.specs.Grammar.{ElementSpelling, IsWithinLimits, SpellsAtt, SpellsAtts, SpellsBytes, SpellsCount, SpellsCounted, SpellsDim, SpellsDimid, SpellsEach, SpellsHeader, SpellsList, SpellsMagic, SpellsName, SpellsNumRecs, SpellsNumber, SpellsOffset, SpellsPadded, SpellsType, SpellsVar, absent, attribute_tag, dimension_tag, present, variable_tag}
+pub use Rattle.nc_base.specs.Grammar.{ElementSpelling, IsWithinLimits, SpellsAtt, SpellsAtts, SpellsCount, SpellsCounted, SpellsDim, SpellsDimid, SpellsEach, SpellsHeader, SpellsList, SpellsMagic, SpellsName, SpellsNumRecs, SpellsNumber, SpellsOffset, SpellsPadded, SpellsType, SpellsVar, absent, attribute_tag, dimension_tag, present, variable_tag}
+pub use Rattle.nc_base.specs.FirstFault.{SpellsBytes}
 pub use Rattle.nc_base.specs.Headers.{AreDimids}
 pub use Rattle.nc_base.specs.Grammar.{IsDimid}
 pub use Rattle.nc_base.specs.Sizes.{has_record_dim}
@@ -15,7 +16,8 @@ pub use Rattle.nc_base.specs.Sizes.{is_record_dim, is_record_var, padded_size, p
 pub use Rattle.nc_base.specs.code.SizeParts.{slab_of}
 pub use Rattle.nc_base.specs.Types.{all_types, code_of, size_of}
 pub use Rattle.nc_base.specs.code.TypeCodes.{type_of_code}
-pub use Rattle.nc_base.specs.Versions.{count_limit, count_width, has_type, offset_limit, offset_width, streaming_mark, version_byte, version_of_byte}
+pub use Rattle.nc_base.specs.Versions.{count_limit, count_width, has_type, offset_limit, offset_width, streaming_mark, version_byte}
+pub use Rattle.nc_base.specs.code.TypeCodes.{version_of_byte}
 pub use Rattle.nc_base.specs.declared.{fault.FormatFault.FormatFault, header.Att.Att, header.Dim.Dim, header.Header.Header, header.NumRecs.NumRecs, header.Var.Var, nc_type.NcType.NcType, version.Version.Version}
 pub use Rattle.nc_base.specs.declared.fault.FormatFault.TheVariants.{BadCount, BadOffset, BadTag, BadType, UnknownVersion, HeaderTruncated, NotNetcdf, TooLarge}
 pub use Rattle.nc_base.specs.declared.header.NumRecs.TheVariants.{Known, Streaming}

@@ -1,22 +1,23 @@
 -- Law. Bytes begin with one header or have one first wrong field: the grammar and its faults leave nothing open.
-use Rattle.std.specs.Prelude.{ℕ, ◌≡◌, ◌⊎◌, List}
+use Rattle.std.specs.Prelude.{ℕ, ◌≡◌, ◌⊎◌}
+use Rattle.nc_base.specs.Bytes.{Bytes}
 use Rattle.nc_base.specs.declared.{fault.FormatFault.FormatFault, header.Header.Header}
 use Rattle.nc_base.specs.Grammar.{SpellsHeader}
 use Rattle.nc_base.specs.FirstFault.{StopsAt}
 
 -- these bytes begin with a spelling of some header
-abbrev pub BeginsWithHeader : List ℕ → Type 0
-BeginsWithHeader bytes = (h : Header) × (rest : List ℕ) × SpellsHeader bytes h rest
+abbrev pub BeginsWithHeader : Bytes → Type 0
+BeginsWithHeader bytes = (h : Header) × (rest : Bytes) × SpellsHeader bytes h rest
 
 -- some field is the first wrong one
-abbrev pub HasFirstFault : List ℕ → Type 0
+abbrev pub HasFirstFault : Bytes → Type 0
 HasFirstFault bytes = (fault : FormatFault) × (end : ℕ) × StopsAt bytes fault end
 
 -- exactly one of the two holds, and in one way: there are no two headers, no two rests after a header, no two faults of the
 -- first wrong field, and no two ends of it
-pub record HasOneOutcome (bytes : List ℕ) : Type 0 where
+pub record HasOneOutcome (bytes : Bytes) : Type 0 where
   pub either : BeginsWithHeader bytes ⊎ HasFirstFault bytes
-  pub one_header : (h other_h : Header) (rest other_rest : List ℕ)
+  pub one_header : (h other_h : Header) (rest other_rest : Bytes)
       → SpellsHeader bytes h rest → SpellsHeader bytes other_h other_rest
       → (h ≡ other_h) × (rest ≡ other_rest)
   pub one_fault : (fault other_fault : FormatFault) (end other_end : ℕ)

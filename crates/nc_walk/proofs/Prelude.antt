@@ -1,8 +1,10 @@
 -- The names that proofs of this crate cite from elsewhere, passed on from one place.
 pub use Rattle.devices.proofs.UpTo.{UpTo, appended-nothing, up-all, up-next, up-partway, up-start, up-then}
 unfoldable pub use Rattle.devices.specs.Failures.{HasFailed}
-pub use Rattle.devices.specs.Sinks.{Appended, FailedPartway, Written}
-pub use Rattle.devices.specs.Sources.{SourceView, having_read}
+pub use Rattle.devices.specs.Sinks.{Appended, FailedPartway}
+pub use Rattle.devices.specs.code.SinkWrites.{Written}
+pub use Rattle.devices.specs.Sources.{SourceView}
+pub use Rattle.devices.specs.code.SourceReads.{having_read}
 pub use Rattle.devices.specs.code.SourceReads.{NoneRead, BytesRead}
 pub use Rattle.nc_base.proofs.FilePlaces.{flat_map-below, length-number, whole-padding, length-replicated}
 pub use Rattle.nc_base.proofs.SoundLaws.{some_count, some_size}

@@ -6,7 +6,8 @@ pub use Rattle.cli_base.specs.Arguments.{flag, option, quiet, texts_of}
 pub use Rattle.devices.proofs.Writes.{append-++, appended_partway, appended_then, cut-append, split_prefix, transparent-append}
 pub use Rattle.devices.specs.Sinks.{Appended, FailedPartway, IsPrefixIf, SinkView, StoppedShort}
 unfoldable pub use Rattle.devices.specs.Sinks.{IsCut, append, taken_len, is_transparent}
-pub use Rattle.devices.specs.Sources.{SourceView, having_read}
+pub use Rattle.devices.specs.Sources.{SourceView}
+pub use Rattle.devices.specs.code.SourceReads.{having_read}
 pub use Rattle.nc_base.proofs.ValueLaws.{prefix-append, prefix_nil, look-type}
 pub use Rattle.nc_base.specs.Dump.{Ending, IsDump, first_unknown, Options, DataText, values_in_file, shown_data, data_truncated, dump_text, has_values, has_variable, no_data_text, no_such_variable, selection_of, shown, shown_data_text, stopped, unknown, with_variable, data_text, whole, wrong_field}
 unfoldable pub use Rattle.nc_base.specs.Dump.{closing_word, data_word}

@@ -1,5 +1,6 @@
 -- Definition. What a call did with its source and its sink, through the caller's buffer.
 use Rattle.std.specs.Prelude.{ℕ, List, length}
+use Rattle.nc_base.specs.Bytes.{Bytes}
 use Rattle.devices.specs.Sinks.{SinkView}
 use Rattle.devices.specs.Sources.{SourceView}
 use Rattle.devices.specs.Uses.{Use}
@@ -10,5 +11,5 @@ pub record Call : Type 0 where
   pub source : Use SourceView
   pub sink : Use SinkView
 
-abbrev pub call_of : List ℕ → Use SourceView → Use SinkView → Call
+abbrev pub call_of : Bytes → Use SourceView → Use SinkView → Call
 call_of buf source sink = record { buffer_len = length buf; source = source; sink = sink }

@@ -5,6 +5,7 @@ use Rattle.std.specs.Int.{is_in_range}
 use Rattle.std.specs.Char.{is_ascii_digit}
 use Rattle.std.specs.List.{list_all, slice_split}
 use Rattle.std.specs.Str.Parse.{digits_value}
+use Rattle.nc_base.specs.Bytes.{Bytes}
 use Rattle.clap.specs.Words.{App, Row, fault_of, first_of, matches_of, new_app, new_rule, with_rule}
 use Rattle.cli_base.specs.Arguments.{flag, is_given, option, quiet}
 use Rattle.cli_base.specs.Arguments.{if_faultless}
@@ -25,26 +26,26 @@ ncdump = fold with_rule (quiet (new_app (codes "ncdump"))) (
 
 -- ---- what its entries ask for
 
--- decimal digits, from 20 to 1000
-abbrev pub width_said : List ℕ → Option ℕ
+-- a number from 20 to 1000, in decimal digits
+abbrev pub width_said : Bytes → Option ℕ
 width_said word =
     if list_all is_ascii_digit word && is_in_range 20 1000 (digits_value 10 word) then Some (digits_value 10 word) else None
 
 -- that of `-l`, otherwise 80
-abbrev pub width_in : Option (List ℕ) → Option ℕ
+abbrev pub width_in : Option Bytes → Option ℕ
 width_in None = Some 80
 width_in (Some word) = width_said word
 
-abbrev pub names_in : List ℕ → List (List ℕ)
+abbrev pub names_in : Bytes → List Bytes
 names_in word = slice_split (λ (b : ℕ). b == byte ",") word
 
 -- the path of a file, and what to show of it
 pub record Asked : Type 0 where
-  pub file : List ℕ
+  pub file : Bytes
   pub options : Options
 
 -- the entries, with the path and the width that they give
-abbrev pub asked_with : List Row → Option (List ℕ) → Option ℕ → Option Asked
+abbrev pub asked_with : List Row → Option Bytes → Option ℕ → Option Asked
 asked_with rows (Some path) (Some width) = Some (record {
   file = path;
   options = record {
@@ -63,5 +64,5 @@ asked_in rows = if is_given rows (codes "head") && is_given rows (codes "coords"
     else asked_with rows (first_of (codes "file") rows) (width_in (first_of (codes "width") rows))
 
 -- the first word is the program's name
-unfoldable pub asked_by : List (List ℕ) → Option Asked
+unfoldable pub asked_by : List Bytes → Option Asked
 asked_by words = if_faultless (fault_of ncdump words) (asked_in (matches_of ncdump words))

@@ -1,5 +1,6 @@
--- Definition. What a dump has done.
+-- Definition. What a call of `dump` has done. `Dumps` and `ReadsForward` hold if the source is transparent.
 use Rattle.std.specs.Prelude.{ℕ, ◌≡◌, ◌+◌, ◌⊎◌, List, [], ◌++◌, length, None, Result, Ok, Err}
+use Rattle.nc_base.specs.Bytes.{Bytes}
 use Rattle.nc_base.specs.declared.header.Header.{Header}
 use Rattle.nc_base.specs.Grammar.{SpellsHeader}
 use Rattle.nc_base.specs.Sizes.{record_count}
@@ -29,27 +30,28 @@ WriteFailsOnly old new (Err _) = new ≡ old
 -- ---- the text
 
 -- the dump with this ending was written
-pub record IsWritten (bytes : List ℕ) (o : Options) (ending : Ending) (old new : SinkView) : Type 0 where
-  pub text : List ℕ
+pub record IsWritten (bytes : Bytes) (o : Options) (ending : Ending) (old new : SinkView) : Type 0 where
+  pub text : Bytes
   pub is_dump : IsDump bytes o text ending
   pub appended : Appended old new text
 
 -- a prefix of the dump was written, before the sink failed
-pub record IsCutShort (bytes : List ℕ) (o : Options) (old new : SinkView) : Type 0 where
-  pub text : List ℕ
+pub record IsCutShort (bytes : Bytes) (o : Options) (old new : SinkView) : Type 0 where
+  pub text : Bytes
   pub ending : Ending
   pub is_dump : IsDump bytes o text ending
   pub partway : FailedPartway old new text
 
 -- a prefix of the dump was written, before the source failed
-pub record IsLeftOff (bytes : List ℕ) (o : Options) (old new : SinkView) : Type 0 where
-  pub prefix : List ℕ
-  pub rest : List ℕ
+pub record IsLeftOff (bytes : Bytes) (o : Options) (old new : SinkView) : Type 0 where
+  pub prefix : Bytes
+  pub rest : Bytes
   pub ending : Ending
   pub is_dump : IsDump bytes o (prefix ++ rest) ending
   pub appended : Appended old new prefix
 
-abbrev pub Dumps : {A : Type 0} → List ℕ → Options → SinkView → SinkView → Result A DumpFault → Type 0
+-- what was written, by the answer
+abbrev pub Dumps : {A : Type 0} → Bytes → Options → SinkView → SinkView → Result A DumpFault → Type 0
 Dumps bytes o old new (Ok done) = IsWritten bytes o whole old new
 Dumps bytes o old new (Err (DataTruncated v k)) = IsWritten bytes o (data_truncated v k) old new
 Dumps bytes o old new (Err (Format fault)) = IsWritten bytes o (wrong_field fault) old new
@@ -60,18 +62,20 @@ Dumps bytes o old new (Err WriteFailed) = IsCutShort bytes o old new
 
 -- ---- one forward pass
 
--- from this state of the source on
+-- the call, from this state of the source on
 abbrev pub rest_of : SourceView → Call → Call
 rest_of here call = record call { source = between here call.source.after }
 
 -- the header and at most one buffer more were read, and then the selected variables shown
 pub record IsAfterHeader {A : Type 0} (o : Options) (call : Call) (result : Result A DumpFault) : Type 0 where
   pub h : Header
-  pub rest : List ℕ
+  pub rest : Bytes
   pub end : ℕ
+  -- the source after the header
   pub here : SourceView
   pub spelled : SpellsHeader call.source.before.bytes h rest
   pub ends : end + length rest ≡ length call.source.before.bytes
+  -- each chosen name is known
   pub knows : first_unknown h.vars o.chosen ≡ None
   pub bytes : here.bytes ≡ call.source.before.bytes
   pub handed : ReadUpTo call.source.before.handed here.handed end call.buffer_len

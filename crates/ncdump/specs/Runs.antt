@@ -2,9 +2,10 @@
 use Rattle.std.specs.Prelude.{ℕ, ◌≡◌, ◌⊎◌, List, [], Option, Some, None, IsSomeAnd, Result, Ok, Err, string_bytes}
 use Rattle.std.specs.Bool.{OnTrue}
 use Rattle.std.specs.Borrow.{Bor}
+use Rattle.nc_base.specs.Bytes.{Bytes}
 use Rattle.nc_base.specs.Dump.{Options}
-use Rattle.devices.specs.Failures.{HasFailed}
-use Rattle.devices.specs.Openers.{OpenerView, OpenerUse, opens_after}
+use Rattle.devices.specs.Failures.{HasFailed, one_more}
+use Rattle.devices.specs.Openers.{OpenerView, OpenerUse}
 use Rattle.devices.specs.Sinks.{SinkView, Appended, FailedPartway}
 use Rattle.devices.specs.Uses.{Use, between}
 use Rattle.ncdump.specs.CommandLine.{Asked, asked_by}
@@ -25,7 +26,7 @@ OfDump Holds Unopened (Err (Dump fault)) = Holds (Err fault)
 OfDump Holds Unopened (Err CannotOpen) = Unopened
 
 -- the dump of the file, if these are its bytes; if there is no file, it could not be opened, and nothing was written
-abbrev pub DumpsFile : {A : Type 0} → Option (List ℕ) → Options → SinkView → SinkView → Result A FileFault → Type 0
+abbrev pub DumpsFile : {A : Type 0} → Option Bytes → Options → SinkView → SinkView → Result A FileFault → Type 0
 DumpsFile (Some bytes) o old new answer = OfDump (dumps.Dumps bytes o old new) ⊥ answer
 DumpsFile None o old new answer = OfDump (λ dumped. ⊥) (new ≡ old) answer
 
@@ -33,12 +34,12 @@ abbrev pub ReadFailsOnly : {A : Type 0} → OpenerView → OpenerView → Result
 ReadFailsOnly old new (Err (Dump ReadFailed)) = HasFailed old.failures new.failures
 ReadFailsOnly old new _ = new.failures ≡ old.failures
 
--- a path was opened once, and a source has failed exactly if the answer says so
+-- the opener was asked for one path, and a source has failed exactly if the answer says so
 pub record OpensFile {A : Type 0} (old new : OpenerView) (answer : Result A FileFault) : Type 0 where
-  pub opens : new.opens ≡ opens_after old
+  pub opens : new.opens ≡ one_more old.opens
   pub reads : ReadFailsOnly old new answer
 
-pub record DumpsPath {A : Type 0} (path : List ℕ) (o : Options) (files : OpenerUse) (out : Use SinkView) (answer : Result A FileFault) : Type 0 where
+pub record DumpsPath {A : Type 0} (path : Bytes) (o : Options) (files : OpenerUse) (out : Use SinkView) (answer : Result A FileFault) : Type 0 where
   pub opens : OpensFile files.before files.after answer
   pub writes : OfDump (dumps.WriteFailsOnly out.before out.after) (out.after ≡ out.before) answer
   pub dump : OnTrue files.is_transparent (DumpsFile (files.named path) o out.before out.after answer)
@@ -51,7 +52,7 @@ pub record Run : Type 0 where
   pub files : OpenerUse
   pub out : Use SinkView
 
-abbrev pub run_of : List (Bor (List ℕ)) → OpenerUse → Use SinkView → Run
+abbrev pub run_of : List (Bor Bytes) → OpenerUse → Use SinkView → Run
 run_of words files out = record { asked = asked_by (texts_of words); files = files; out = out }
 
 -- no file was opened, and nothing was written

@@ -1,7 +1,7 @@
 //! The line of each fault.
 
 ghost use Rattle.std.specs.Prelude.{◌≡◌};
-ghost use Rattle.devices.specs.Sinks.{Wrote};
+ghost use Rattle.devices.specs.code.SinkWrites.{Wrote};
 ghost use Rattle.ncdump.specs.Faults.{cannot_open_line, cannot_open_words, fault_text, file_line, flush_fault_line, format_text, item_words, line_of, line_of_failure, opt_fault_line, program_words, truncated_words, usage_line, version_words};
 ghost use Rattle.nc_base.specs.declared.fault.FormatFault.TheVariants.{UnknownVersion};
 ghost use Rattle.ncdump.specs.declared.fault.DumpFault.TheVariants.{DataTruncated, NoSuchVariable};

@@ -3,13 +3,14 @@ use Rattle.std.proofs.Common.{◌≡◌, ℕ, subst, ◌∙◌, Result, Err}
 use Rattle.devices.proofs.Openings.{one_failure, no_failure}
 use Rattle.ncgen.proofs.Prelude.{HasFailed, ReaderView, ReadsText}
 use Rattle.devices.specs.code.PathOpens.{HasBack, OpensOnce}
-use Rattle.devices.specs.Openers.{OpenerView, opens_after}
+use Rattle.devices.specs.Failures.{one_more}
+use Rattle.devices.specs.Openers.{OpenerView}
 use Rattle.ncgen.specs.Inputs.{ReadFailsOnly}
 use Rattle.ncgen.specs.declared.{fault.TextFault.TextFault, failure.InputFault.InputFault, failure.InputFault.TheVariants.Text}
 use Rattle.ncgen.specs.declared.fault.TextFault.TheVariants.{OutOfMemory, ReadFailed, TooLong}
 
 pub record OpensPath {A : Type 0} (old new : OpenerView) (answer : Result A InputFault) : Type 0 where
-  pub opens : new.opens ≡ opens_after old
+  pub opens : new.opens ≡ one_more old.opens
   pub reads : ReadFailsOnly old new answer
 
 -- the text's failure is the opener's, once it has the text back

@@ -3,8 +3,8 @@ use Rattle.std.specs.Prelude.{◌≡◌, ℕ, ◌<◌, ◌≤◌, Bool, List, le
 use Rattle.std.specs.Bool.{OnTrue}
 use Rattle.std.specs.Global.{Vec}
 use Rattle.nc_base.specs.declared.version.Version.{Version}
-use Rattle.devices.specs.Failures.{HasFailed}
-use Rattle.devices.specs.Openers.{OpenerView, OpenerUse, opens_after}
+use Rattle.devices.specs.Failures.{HasFailed, one_more}
+use Rattle.devices.specs.Openers.{OpenerView, OpenerUse}
 use Rattle.devices.specs.Readers.{ReaderView}
 use Rattle.devices.specs.Uses.{Use}
 use Rattle.cdl_meaning.specs.Meaning.{text_limit}
@@ -26,7 +26,7 @@ abbrev pub ReadFailsOnly : {A : Type 0} → OpenerView → OpenerView → Result
 ReadFailsOnly old new (Err (Text ReadFailed)) = HasFailed old.failures new.failures
 ReadFailsOnly old new _ = new.failures ≡ old.failures
 
--- of a path that names these bytes, if any
+-- what the answer says of a path that names these bytes, if any
 abbrev pub ReadsAt : Bool → Option (List ℕ) → Result (Vec ℕ) InputFault → Type 0
 ReadsAt is_transparent named (Ok text) = (length text.items ≤ text_limit) × OnTrue is_transparent (named ≡ Some text.items)
 ReadsAt is_transparent named (Err CannotOpen) = OnTrue is_transparent (named ≡ None)
@@ -34,10 +34,10 @@ ReadsAt is_transparent named (Err (Text TooLong)) = OnTrue is_transparent (IsSom
 ReadsAt is_transparent named (Err (Text fault)) = OnTrue is_transparent (IsSome named)
 ReadsAt is_transparent named (Err (Generate fault)) = ⊥
 
--- The path was opened once.
+-- Opening the path was tried once.
 pub record ReadsPath (texts : OpenerUse) (path : List ℕ) (answer : Result (Vec ℕ) InputFault) : Type 0 where
   pub text : ReadsAt texts.is_transparent (texts.named path) answer
-  pub opens : texts.after.opens ≡ opens_after texts.before
+  pub opens : texts.after.opens ≡ one_more texts.before.opens
   pub reads : ReadFailsOnly texts.before texts.after answer
 
 abbrev pub ReadsStandardInput : Use ReaderView → Result (Vec ℕ) InputFault → Type 0

@@ -13,7 +13,7 @@ pub record Outputs : Type 0 where
   pub before : CreatorView
   pub after : CreatorView
 
--- Creating an output gives the path no bytes; writing then gives it all bytes at once.
+-- Creating an output gives the path no bytes; closing it then gives the path all that was written, at once.
 abbrev pub created_at : CreatorView → List ℕ → List Output
 created_at old path = give old.given path (Some [])
 
@@ -28,7 +28,7 @@ pub record IsGivenPrefix (o : Outputs) (path bytes : List ℕ) : Type 0 where
   pub is_prefix : IsPrefix prefix bytes
   pub given : o.after.given ≡ give (created_at o.before path) path (Some prefix)
 
--- An output was created, and has failed: it was given a prefix of the bytes, or could not be closed.
+-- An output was created, and has failed: closing it failed, and gave nothing; or writing failed, and closing gave a prefix.
 pub record IsCutShortAt (o : Outputs) (path bytes : List ℕ) : Type 0 where
   pub creations : o.after.creations ≡ o.before.creations + 1
   pub failures : HasFailed o.before.failures o.after.failures

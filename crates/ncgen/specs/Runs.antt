@@ -24,6 +24,7 @@ pub record IsUntouched (i : Inputs) (o : Outputs) : Type 0 where
   pub texts : i.texts.after ≡ i.texts.before
   pub output : o.after ≡ o.before
 
+-- Nothing was touched: memory ran out before the words were understood, or they ask for nothing.
 abbrev pub AsksNothing : Inputs → Outputs → Option Asked → OptFault → Type 0
 AsksNothing i o asked OutOfMemory = IsUntouched i o
 AsksNothing i o asked Usage = (asked ≡ None) × IsUntouched i o

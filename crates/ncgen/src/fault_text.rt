@@ -2,7 +2,7 @@
 
 ghost use Rattle.std.specs.Prelude.{◌≡◌, ◌∷◌, [], codes, decimal};
 ghost use Rattle.nc_base.specs.Bytes.{concat_parts};
-ghost use Rattle.devices.specs.Sinks.{Wrote};
+ghost use Rattle.devices.specs.code.SinkWrites.{Wrote};
 ghost use Rattle.ncgen.specs.Faults.{fault_line, fault_text, input_words, kind_words, line_of_failure, opt_fault_line, output_words, line_prefix, text_name};
 
 use crate::failure::{Failure, InputFault, OutputFault};

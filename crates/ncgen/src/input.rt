@@ -1,7 +1,8 @@
 //! The text that is asked for.
 
 ghost use Rattle.std.specs.Prelude.{◌≡◌, option_map, string_bytes};
-ghost use Rattle.devices.specs.Openers.{opener_use, opens_after};
+ghost use Rattle.devices.specs.Failures.{one_more};
+ghost use Rattle.devices.specs.Openers.{opener_use};
 ghost use Rattle.devices.specs.Readers.{view_of};
 ghost use Rattle.devices.specs.Uses.{use_of};
 ghost use Rattle.ncgen.specs.Inputs.{ReadFailsOnly, ReadsAt, ReadsInput};
@@ -41,7 +42,7 @@ pub fn read_input<T: TextOpener, R: Read>(
 /// [`read_input`] does.
 fn read_path<T: TextOpener>(texts: &mut T, alloc: Global, path: &str) -> Result<Vec<u8>, InputFault>
     ensures text { ReadsAt T.is_transparent (T.named texts.old path.now) result }
-    ensures opens { (T.view texts.new).opens ≡ opens_after (T.view texts.old) }
+    ensures opens { (T.view texts.new).opens ≡ one_more (T.view texts.old).opens }
     ensures reads { ReadFailsOnly (T.view texts.old) (T.view texts.new) result }
 {
     let mut reader = texts.open_text(path)?;

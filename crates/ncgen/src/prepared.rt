@@ -1,7 +1,7 @@
 //! A file that stands ready to be written.
 
 ghost use Rattle.ncgen.specs.code.Prepared.{IsReady, file_of_prepared};
-ghost use Rattle.devices.specs.Sinks.{Wrote};
+ghost use Rattle.devices.specs.code.SinkWrites.{Wrote};
 
 use devices::{Sink, WriteFailed};
 use nc_base::{Header, ListedArray, Sequence};

@@ -3,7 +3,8 @@ use Rattle.std.specs.Prelude.{ℕ, ◌≡◌, ◌+◌, ℤ, Bool, true, false, L
 use Rattle.nc_base.specs.ValueText.{Look}
 use Rattle.nc_base.specs.code.LaterPieces.{later_pieces}
 use Rattle.devices.specs.Failures.{HasFailed}
-use Rattle.devices.specs.Sinks.{SinkView, Appended, FailedPartway, Wrote}
+use Rattle.devices.specs.Sinks.{SinkView, Appended, FailedPartway}
+use Rattle.devices.specs.code.SinkWrites.{Wrote}
 use Rattle.cdl_print.specs.code.Leads.{look_at, values, AreWhole}
 use Rattle.cdl_print.specs.code.Printing.{next, AreLeft, IsAfter}
 use Rattle.cdl_print.specs.declared.printer.ValuePrinter.{ValuePrinter}

@@ -1,7 +1,11 @@
--- For contracts. Which options or fault words give.
-use Rattle.std.specs.Prelude.{◌≡◌, Option, Some, None, Result, Ok, Err}
+-- For contracts. What a parsed text is, and which options or fault words give.
+use Rattle.std.specs.Borrow.{Bor}
+use Rattle.std.specs.Prelude.{◌≡◌, ℕ, List, Option, Some, None, option_map, Result, Ok, Err}
 use Rattle.cli_base.specs.declared.fault.OptFault.{OptFault}
 use Rattle.cli_base.specs.declared.fault.OptFault.TheVariants.{OutOfMemory, Usage}
+
+abbrev pub text_of : Option (Bor (List ℕ)) → Option (List ℕ)
+text_of text = option_map (λ (t : Bor (List ℕ)). t.now) text
 
 -- The options are those that the words ask for. If the fault is usage, the words ask for nothing. Out of memory says nothing of the words.
 -- `asked_for`: what a program's options ask for.

@@ -3,7 +3,8 @@ use Rattle.std.specs.Bool.{OnTrue}
 use Rattle.std.specs.Prelude.{Bool, ℕ, ◌≡◌, ◌+◌, ◌-◌, ◌^◌, min, List, Option, Some, None, Result, Ok, Err}
 use Rattle.devices.specs.Sources.{SourceView}
 use Rattle.devices.specs.Readers.{view_of}
-use Rattle.devices.specs.Openers.{OpenerView, opens_after}
+use Rattle.devices.specs.Failures.{one_more}
+use Rattle.devices.specs.Openers.{OpenerView}
 use Rattle.devices.specs.declared.reader.CountedRead.{CountedRead}
 
 -- it was asked to open no path yet
@@ -12,7 +13,7 @@ unopened = record { opens = 0; failures = 0 }
 
 -- it was asked to open a path once more
 pub record OpensOnce (old new : OpenerView) : Type 0 where
-  pub opens : new.opens ≡ opens_after old
+  pub opens : new.opens ≡ one_more old.opens
   pub failures : new.failures ≡ old.failures
 
 -- it took back a source that has failed this often: its own count stops at 2^128 - 1, and stays where the source hasn't failed

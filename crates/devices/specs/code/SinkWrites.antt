@@ -2,6 +2,15 @@
 use Rattle.std.specs.Prelude.{ℕ, ◌<◌, ◌≤◌, List, [], length, take, Option, Result, Ok, Err}
 use Rattle.devices.specs.Sinks.{SinkView, Appended, FailedPartway}
 
+-- with `Ok` the text was written, and with `Err` the sink failed partway
+abbrev pub Written : {X E : Type 0} → SinkView → SinkView → List ℕ → Result X E → Type 0
+Written old new text (Ok done) = Appended old new text
+Written old new text (Err failure) = FailedPartway old new text
+
+-- the same of a sink, from what it was and what it is
+abbrev pub Wrote : {S X E : Type 0} → (S → SinkView) → S → S → List ℕ → Result X E → Type 0
+Wrote view old new text result = Written (view old) (view new) text result
+
 -- a sink that has taken this text, where it is transparent, and has never failed
 abbrev pub unfailed : Option (List ℕ) → SinkView
 unfailed text = record { taken = text; failures = 0 }

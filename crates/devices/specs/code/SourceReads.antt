@@ -2,7 +2,11 @@
 use Rattle.std.specs.Prelude.{◌≡◌, ℕ, ◌+◌, ◌^◌, ◌<◌, ◌≤◌, Bool, List, length, take, drop, Result, Ok, Err}
 use Rattle.std.specs.Bool.{OnTrue}
 use Rattle.devices.specs.Failures.{HasFailed}
-use Rattle.devices.specs.Sources.{SourceView, having_read}
+use Rattle.devices.specs.Sources.{SourceView}
+
+-- the same after n more bytes were read
+abbrev pub having_read : SourceView → ℕ → SourceView
+having_read s n = record s { handed = s.handed + n }
 
 -- a source of these bytes, before its first read
 abbrev pub unread : List ℕ → SourceView

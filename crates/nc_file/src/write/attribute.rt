@@ -5,7 +5,7 @@ ghost use Rattle.std.specs.List.{flat_map};
 ghost use Rattle.nc_base.specs.GeneratedFile.{att_spelling, atts_spelling};
 ghost use Rattle.nc_base.specs.Headers.{IsSoundAtt};
 ghost use Rattle.nc_base.specs.Versions.{count_limit};
-ghost use Rattle.devices.specs.Sinks.{Wrote};
+ghost use Rattle.devices.specs.code.SinkWrites.{Wrote};
 
 use super::list::{put_list_head, put_name, put_zero_padded};
 use super::number::{put_count, put_word};

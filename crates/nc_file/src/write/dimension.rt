@@ -5,7 +5,7 @@ ghost use Rattle.std.specs.List.{flat_map};
 ghost use Rattle.nc_base.specs.GeneratedFile.{dim_spelling};
 ghost use Rattle.nc_base.specs.Headers.{IsSoundDim};
 ghost use Rattle.nc_base.specs.Versions.{count_limit};
-ghost use Rattle.devices.specs.Sinks.{Wrote};
+ghost use Rattle.devices.specs.code.SinkWrites.{Wrote};
 ghost use Rattle.nc_file.specs.code.WrittenParts.{dim_list};
 
 use super::list::{put_list_head, put_name};

@@ -4,7 +4,7 @@ ghost use Rattle.std.specs.Prelude.{◌≡◌, ◌<◌, All};
 ghost use Rattle.nc_base.specs.GeneratedFile.{header_spelling, magic_spelling, numrecs_spelling};
 ghost use Rattle.nc_base.specs.Headers.{IsSound, IsSoundNumRecs};
 ghost use Rattle.nc_base.specs.Versions.{offset_limit};
-ghost use Rattle.devices.specs.Sinks.{Wrote};
+ghost use Rattle.devices.specs.code.SinkWrites.{Wrote};
 
 use super::attribute::put_att_list;
 use super::dimension::put_dim_list;

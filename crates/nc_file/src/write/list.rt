@@ -3,7 +3,7 @@
 ghost use Rattle.std.specs.Prelude.{◌<◌, length, replicate};
 ghost use Rattle.nc_base.specs.GeneratedFile.{list_head, name_spelling, zero_padded};
 ghost use Rattle.nc_base.specs.Versions.{count_limit};
-ghost use Rattle.devices.specs.Sinks.{Wrote};
+ghost use Rattle.devices.specs.code.SinkWrites.{Wrote};
 
 use super::number::{put_count, put_word};
 use devices::{Sink, WriteFailed, put};

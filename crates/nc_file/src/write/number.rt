@@ -4,7 +4,7 @@ ghost use Rattle.std.specs.Prelude.{◌+◌, ◌<◌};
 ghost use Rattle.std.specs.Int.{to_be_bytes};
 ghost use Rattle.nc_base.specs.GeneratedFile.{count_spelling, word_spelling};
 ghost use Rattle.nc_base.specs.Versions.{count_limit, offset_limit, offset_width};
-ghost use Rattle.devices.specs.Sinks.{Wrote};
+ghost use Rattle.devices.specs.code.SinkWrites.{Wrote};
 
 use devices::{Sink, WriteFailed, put};
 use nc_base::Version;

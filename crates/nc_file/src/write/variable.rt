@@ -5,7 +5,7 @@ ghost use Rattle.std.specs.List.{flat_map};
 ghost use Rattle.nc_base.specs.GeneratedFile.{count_spelling, var_spelling, vsize_of};
 ghost use Rattle.nc_base.specs.Headers.{IsSoundVar};
 ghost use Rattle.nc_base.specs.Versions.{count_limit, offset_limit};
-ghost use Rattle.devices.specs.Sinks.{Wrote};
+ghost use Rattle.devices.specs.code.SinkWrites.{Wrote};
 ghost use Rattle.nc_file.specs.code.WrittenParts.{shape_spelling, var_list, vars_spelling, vsize_spelling};
 
 use super::attribute::put_att_list;

@@ -1,7 +1,8 @@
 -- For contracts. What reading on until a slice is full has done.
 use Rattle.std.specs.Prelude.{◌≡◌, ℕ, ◌≤◌, Bool, List, length, take, drop, Result, Ok, Err}
 use Rattle.std.specs.Bool.{OnTrue}
-use Rattle.devices.specs.Sources.{SourceView, having_read}
+use Rattle.devices.specs.Sources.{SourceView}
+use Rattle.devices.specs.code.SourceReads.{having_read}
 use Rattle.devices.specs.code.SourceReads.{NoneRead}
 
 -- n bytes from this cursor on stand at the start of the slice; where the source is transparent, they fill it

@@ -9,7 +9,8 @@ use Rattle.nc_base.specs.Numbers.{numbers}
 use Rattle.nc_base.specs.Sizes.{value_count}
 use Rattle.nc_base.specs.Places.{value_offsets, stored_bytes, stored_values, first_missing}
 use Rattle.devices.specs.Failures.{HasFailed}
-use Rattle.devices.specs.Sources.{SourceView, having_read}
+use Rattle.devices.specs.Sources.{SourceView}
+use Rattle.devices.specs.code.SourceReads.{having_read}
 use Rattle.nc_walk.specs.declared.fault.WalkFault.TheVariants.{ReadFailed, DataTruncated}
 use Rattle.devices.specs.Uses.{Use}
 use Rattle.nc_walk.specs.code.Walks.{WalkView, Answer, IsWhole, count}

@@ -8,7 +8,8 @@ use Rattle.nc_base.specs.declared.{header.Header.Header, header.Var.Var}
 use Rattle.nc_base.specs.Types.{size_of}
 use Rattle.nc_base.specs.Sizes.{value_count}
 use Rattle.nc_base.specs.Places.{bytes_at, value_offsets}
-use Rattle.devices.specs.Sources.{SourceView, having_read}
+use Rattle.devices.specs.Sources.{SourceView}
+use Rattle.devices.specs.code.SourceReads.{having_read}
 use Rattle.nc_walk.specs.declared.{fault.WalkFault.WalkFault, slabs.Slabs.Slabs, cursor.Cursor.Cursor}
 use Rattle.nc_walk.specs.declared.fault.WalkFault.TheVariants.{ReadFailed, DataTruncated}
 use Rattle.nc_walk.specs.code.Slabs.{offsets_after, number_at, IsSized, IsCursor}

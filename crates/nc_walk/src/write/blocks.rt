@@ -1,7 +1,7 @@
 //! The blocks of the variables that aren't record variables.
 
 ghost use Rattle.std.specs.Prelude.{◌≡◌, ◌≤◌, length};
-ghost use Rattle.devices.specs.Sinks.{Wrote};
+ghost use Rattle.devices.specs.code.SinkWrites.{Wrote};
 ghost use Rattle.nc_base.specs.Headers.{IsSound};
 ghost use Rattle.nc_base.specs.Sizes.{slab_limit, slab_size};
 ghost use Rattle.nc_walk.specs.code.Filled.{block_of, blocks_of};

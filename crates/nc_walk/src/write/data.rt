@@ -1,7 +1,7 @@
 //! The data part of a file.
 
 ghost use Rattle.std.specs.Prelude.{◌≡◌};
-ghost use Rattle.devices.specs.Sinks.{Wrote};
+ghost use Rattle.devices.specs.code.SinkWrites.{Wrote};
 ghost use Rattle.nc_base.specs.Headers.{IsSound};
 ghost use Rattle.nc_walk.specs.code.DataPart.{AreListedOf, whole_data};
 ghost use Rattle.nc_walk.specs.code.RecordSlabs.{record_slabs};

@@ -1,7 +1,7 @@
 //! Fill values, as many as it takes, out of a small buffer.
 
 ghost use Rattle.std.specs.Prelude.{◌≡◌, ◌≤◌};
-ghost use Rattle.devices.specs.Sinks.{Wrote};
+ghost use Rattle.devices.specs.code.SinkWrites.{Wrote};
 ghost use Rattle.nc_base.specs.GeneratedFile.{fill_bytes};
 ghost use Rattle.nc_walk.specs.code.Filled.{eight_times, four_times, repeated, twice};
 

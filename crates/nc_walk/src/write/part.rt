@@ -1,7 +1,7 @@
 //! The bytes of a listed array, written run by run.
 
 ghost use Rattle.std.specs.Prelude.{◌≡◌, ◌+◌, IfOk, drop, length, min, take};
-ghost use Rattle.devices.specs.Sinks.{Wrote};
+ghost use Rattle.devices.specs.code.SinkWrites.{Wrote};
 ghost use Rattle.nc_walk.specs.code.Filled.{run_bytes};
 
 use super::fills::put_fills;

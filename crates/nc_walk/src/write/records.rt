@@ -1,7 +1,7 @@
 //! The records: one after the other a slab of each record variable.
 
 ghost use Rattle.std.specs.Prelude.{◌≡◌, ◌<◌, All, length};
-ghost use Rattle.devices.specs.Sinks.{Wrote};
+ghost use Rattle.devices.specs.code.SinkWrites.{Wrote};
 ghost use Rattle.nc_base.specs.Headers.{IsSound};
 ghost use Rattle.nc_walk.specs.code.DataPart.{AreListedOf, whole_records};
 ghost use Rattle.nc_walk.specs.code.RecordSlabs.{record_in, record_slabs, records_in};

@@ -1,7 +1,7 @@
 //! A variable's array, written slab by slab.
 
 ghost use Rattle.std.specs.Prelude.{◌≡◌, ◌≤◌};
-ghost use Rattle.devices.specs.Sinks.{Wrote};
+ghost use Rattle.devices.specs.code.SinkWrites.{Wrote};
 ghost use Rattle.nc_base.specs.Sizes.{slab_limit, slab_size};
 ghost use Rattle.nc_walk.specs.code.Filled.{ArrayView, array_view, filled_part, filled_record, filled_slab, filled_slabs};
 

@@ -9,7 +9,8 @@ use Rattle.nc_base.specs.Places.{stored_values, first_missing}
 use Rattle.nc_base.specs.ValueText.{look_of, variable_prefix}
 use Rattle.nc_base.specs.Dump.{Options, Ending, whole, data_truncated, DataText, no_data_text, values_in_file, has_values, with_variable, data_text, data_word, dump_text, shown_data}
 use Rattle.devices.specs.Failures.{HasFailed}
-use Rattle.devices.specs.Sources.{SourceView, having_read}
+use Rattle.devices.specs.Sources.{SourceView}
+use Rattle.devices.specs.code.SourceReads.{having_read}
 use Rattle.devices.specs.Sinks.{SinkView, append, is_transparent, Appended, FailedPartway, IsCut}
 use Rattle.devices.specs.Uses.{Use, between}
 use Rattle.nc_walk.specs.code.Walked.{whole_count}
