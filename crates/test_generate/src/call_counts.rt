@@ -75,14 +75,14 @@ const SHORTS: &str = "netcdf t {\ndimensions: x = 50000 ;\nvariables: short s(x)
 #[test]
 fn writes_of_long_files(rt: HostRuntime) -> Result<(), Fail> {
     const NOTE: &str = "netcdf t {\n:note = \"";
-    const ROWS: [(&str, (&str, usize), &str, u64, u64); 3] = [
+    const ROWS: &[(&str, (&str, usize), &str, u64, u64)] = &[
         (SHORTS, (", 1", 49_999), " ;\n}\n", 100_080, 40),
         (SHORTS, (", 1", 2), " ;\n}\n", 100_080, 60),
         (NOTE, ("a", 100_000), "\" ;\n}\n", 100_048, 30),
     ];
     for (head, piece, tail, len, calls) in ROWS {
-        let text = long_text(rt.alloc(), head, piece, tail)?;
-        takes_few_writes(&rt, rt.alloc(), text.as_str(), len, calls);
+        let text = long_text(rt.alloc(), *head, *piece, *tail)?;
+        takes_few_writes(&rt, rt.alloc(), text.as_str(), *len, *calls);
     }
     Ok(())
 }

@@ -31,7 +31,7 @@ fn invocation<'a>(words: &'a [&'a str]) -> Invocation<'a> {
 
 #[test]
 fn words_choose_the_output_and_its_version(rt: HostRuntime) {
-    const ROWS: [(&[&str], &str, &[u8]); 13] = [
+    const ROWS: &[(&[&str], &str, &[u8])] = &[
         (&["ncgen", "-b", "d/f.cdl"], "f.nc", FIRST_FILE),
         (&["ncgen", "-b", "-o", "x", "d/f.cdl"], "x", FIRST_FILE),
         (&["ncgen", "-o", "x", "d/f.cdl"], "x", FIRST_FILE),
@@ -63,13 +63,13 @@ fn words_choose_the_output_and_its_version(rt: HostRuntime) {
         (&["ncgen", "-b", "-k", "nc5", "d/f.cdl"], "f.nc", FIFTH_FILE),
     ];
     for (words, path, file) in ROWS {
-        makes(&rt, rt.alloc(), invocation(words), path, file);
+        makes(&rt, rt.alloc(), invocation(*words), *path, *file);
     }
 }
 
 #[test]
 fn words_that_are_not_taken(rt: HostRuntime) {
-    const ROWS: [&[&str]; 13] = [
+    const ROWS: &[&[&str]] = &[
         &["ncgen", "-b"],
         &["ncgen", "-k", "nc4", "d/f.cdl"],
         &["ncgen", "-k", "NC3", "d/f.cdl"],
@@ -85,7 +85,7 @@ fn words_that_are_not_taken(rt: HostRuntime) {
         &["ncgen", "-x", "d/f.cdl"],
     ];
     for words in ROWS {
-        refuses(&rt, rt.alloc(), invocation(words), USAGE);
+        refuses(&rt, rt.alloc(), invocation(*words), USAGE);
     }
 }
 

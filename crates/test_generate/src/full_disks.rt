@@ -2,11 +2,10 @@
 
 ghost use Rattle.std.specs.Prelude.{[], ◌≡◌, None, false};
 
+use crate::generating::is_same;
 use crate::invocations::status_of;
 use crate::texts::TEXT;
-use devices::{
-    CloseFailed, CountedRead, CreateFailed, Creator, MemFile, MemFiles, Sink, SinkFailed, SliceSink,
-};
+use devices::{CloseFailed, CreateFailed, Creator, MemFile, MemFiles, Sink, SinkFailed, SliceSink};
 use std::alloc::Global;
 use std::process::Abort;
 
@@ -113,19 +112,22 @@ impl Creator for FullDisk {
     }
 }
 
+/// The text at a path, and words for its file.
+const FILES: &[MemFile<'static>] = &[MemFile {
+    path: "t.cdl",
+    bytes: TEXT,
+}];
+
+const WORDS: &[&str] = &["ncgen", "-b", "t.cdl"];
+
 /// A run that writes the file of a text to this disk ends with this line, and the disk holds these bytes then.
 pub fn leaves(rt: &impl Abort, alloc: Global, mut disk: FullDisk, line: &[u8], bytes: &[u8]) {
-    let files = [MemFile {
-        path: "t.cdl",
-        bytes: TEXT,
-    }];
-    let mut input = CountedRead::new(b"".as_slice());
     let mut space = [0; 64];
     let mut err = SliceSink::new(&mut space, 64);
-    let words = ["ncgen", "-b", "t.cdl"];
-    let mut texts = MemFiles::new(&files);
-    let status = status_of(alloc, &mut texts, &mut disk, &words, &mut input, &mut err);
-    assert!(rt; status == if line.is_empty() { 0 } else { 1 });
-    assert!(rt; err.taken() == line);
-    assert!(rt; disk.held() == bytes);
+    let mut texts = MemFiles::new(FILES);
+    let input = b"".as_slice();
+    let status = status_of(alloc, &mut texts, &mut disk, WORDS, input, &mut err);
+    let want = if line.is_empty() { 0 } else { 1 };
+    assert!(rt; status == want);
+    assert!(rt; is_same(err.taken(), line) && is_same(disk.held(), bytes));
 }

@@ -2,10 +2,12 @@
 
 use crate::generating::{dump_of, file_of, is_same};
 use crate::rows::{self, Row};
+use std::alloc::{AllocError, Global};
+use std::process::Abort;
 use std::test::Fail;
 
 /// Texts with their files and dumps, and what each is.
-const ROWS: [(&str, Row<'static>); 19] = [
+const ROWS: &[(&str, Row<'static>)] = &[
     ("nothing declared", rows::NOTHING),
     ("nothing declared in CDF-2", rows::NOTHING_CDF2),
     ("nothing declared in CDF-5", rows::NOTHING_CDF5),
@@ -27,13 +29,24 @@ const ROWS: [(&str, Row<'static>); 19] = [
     ("unsigned fill values", rows::UNSIGNED_FILLS),
 ];
 
+/// Fails unless the text gives its file, and the file its dump.
+fn gives_its_file(
+    rt: &impl Abort,
+    alloc: Global,
+    about: &str,
+    row: &Row<'_>,
+) -> Result<(), AllocError> {
+    let file = file_of(rt, alloc, row.cdl, row.version);
+    assert!(rt; is_same(file.as_slice(), row.file), "{about}");
+    let dump = dump_of(rt, alloc, file.as_slice(), 80)?;
+    assert!(rt; is_same(dump.as_slice(), row.dump), "the dump of {about}");
+    Ok(())
+}
+
 #[test]
 fn texts_give_their_files(rt: HostRuntime) -> Result<(), Fail> {
     for (about, row) in ROWS {
-        let file = file_of(&rt, rt.alloc(), row.cdl, row.version);
-        assert!(rt; is_same(file.as_slice(), row.file), "{about}");
-        let dump = dump_of(&rt, rt.alloc(), file.as_slice(), 80)?;
-        assert!(rt; is_same(dump.as_slice(), row.dump), "the dump of {about}");
+        gives_its_file(&rt, rt.alloc(), *about, row)?;
     }
     Ok(())
 }

@@ -1,6 +1,9 @@
 //! What the tests of runs have in common: a run on texts and outputs in memory.
 
-use devices::{CountedRead, Creator, MadeFiles, MemFile, MemFiles, SliceSink, TextOpener};
+use crate::generating::is_same;
+use devices::{
+    CountedRead, Creator, MadeFile, MadeFiles, MemFile, MemFiles, SliceSink, TextOpener,
+};
 use ncgen::run_with;
 use std::alloc::Global;
 use std::io::Read;
@@ -22,22 +25,22 @@ pub struct Outcome<'a> {
     pub made: Option<MemFile<'a>>,
 }
 
-/// The status of a run on these words and devices.
-pub fn status_of<T: TextOpener, C: Creator, R: Read>(
+/// The status of a run on these words and devices, whose standard input is this reader.
+pub fn status_of<T: TextOpener, C: Creator, R: Read + Drop>(
     alloc: Global,
     texts: &mut T,
     outputs: &mut C,
     words: &[&str],
-    input: &mut CountedRead<R>,
+    reader: R,
     err: &mut SliceSink<'_>,
 ) -> u8 {
-    run_with(texts, outputs, alloc, words, input, err)
+    let mut input = CountedRead::new(reader);
+    run_with(texts, outputs, alloc, words, &mut input, err)
 }
 
 /// Runs the program, and asserts how it ends.
 pub fn ends(rt: &impl Abort, alloc: Global, run: Invocation<'_>, outcome: Outcome<'_>) {
     let mut outputs = MadeFiles::new(alloc);
-    let mut input = CountedRead::new(run.input);
     let mut line = [0; 128];
     let mut err = SliceSink::new(&mut line, 5);
     let mut texts = MemFiles::new(run.texts);
@@ -46,24 +49,27 @@ pub fn ends(rt: &impl Abort, alloc: Global, run: Invocation<'_>, outcome: Outcom
         &mut texts,
         &mut outputs,
         run.words,
-        &mut input,
+        run.input,
         &mut err,
     );
     let words = run.words;
     assert!(rt; status == outcome.status, "{words:?}");
-    assert!(rt; err.taken() == outcome.line, "the line of {words:?}");
-    holds(rt, &outputs, outcome.made);
+    assert!(rt; is_same(err.taken(), outcome.line), "the line of {words:?}");
+    assert!(rt; hold(&outputs, outcome.made), "the file of {words:?}");
 }
 
-/// The path was given nothing and then these bytes, and no other path anything.
-fn holds(rt: &impl Abort, outputs: &MadeFiles, made: Option<MemFile<'_>>) {
+/// Returns true if the path was given nothing and then these bytes, and no other path anything.
+fn hold(outputs: &MadeFiles, made: Option<MemFile<'_>>) -> bool {
     match (outputs.given(), made) {
-        ([created, closed], Some(file)) => {
-            assert!(rt; created.path() == file.path && created.bytes().is_empty());
-            assert!(rt; closed.path() == file.path && closed.bytes() == file.bytes);
-        }
-        (given, made) => assert!(rt; given.is_empty() && made.is_none()),
+        ([created, closed], Some(file)) => is_file(created, file.path, b"")
+            && is_file(closed, file.path, file.bytes),
+        (given, made) => given.is_empty() && made.is_none(),
     }
+}
+
+/// Returns true if the path was given these bytes.
+fn is_file(made: &MadeFile, path: &str, bytes: &[u8]) -> bool {
+    made.path() == path && is_same(made.bytes(), bytes)
 }
 
 /// The run writes these bytes to the path, and no line.

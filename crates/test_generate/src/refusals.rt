@@ -96,10 +96,10 @@ const OF_ALL_VERSIONS: &[(&[u8], u64, CdlKind)] = &[
 fn faults_of_all_versions(rt: HostRuntime) {
     for (text, line, kind) in OF_ALL_VERSIONS {
         let (line, kind) = (*line, *kind);
-        let fault = GenFault::Cdl(CdlFault { line, kind });
-        for version in [Version::Cdf1, Version::Cdf2, Version::Cdf5] {
-            expect_fault(&rt, rt.alloc(), version, *text, Some(fault));
-        }
+        let fault = Some(GenFault::Cdl(CdlFault { line, kind }));
+        expect_fault(&rt, rt.alloc(), Version::Cdf1, *text, fault);
+        expect_fault(&rt, rt.alloc(), Version::Cdf2, *text, fault);
+        expect_fault(&rt, rt.alloc(), Version::Cdf5, *text, fault);
     }
 }
 
@@ -134,7 +134,7 @@ const NEXT: &[u8] = b"netcdf t {\ndimensions: x = 2147483529 ;\nvariables: byte 
 
 #[test]
 fn faults_of_some_versions(rt: HostRuntime) {
-    const ROWS: [(Version, &[u8], Option<GenFault>); 11] = [
+    const ROWS: &[(Version, &[u8], Option<GenFault>)] = &[
         (Version::Cdf1, UBYTE, UNKNOWN_TYPE),
         (Version::Cdf2, UBYTE, UNKNOWN_TYPE),
         (Version::Cdf5, UBYTE, None),
@@ -148,6 +148,6 @@ fn faults_of_some_versions(rt: HostRuntime) {
         (Version::Cdf2, NEXT, None),
     ];
     for (version, text, want) in ROWS {
-        expect_fault(&rt, rt.alloc(), version, text, want);
+        expect_fault(&rt, rt.alloc(), *version, *text, *want);
     }
 }

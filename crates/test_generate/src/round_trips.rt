@@ -3,7 +3,7 @@
 use crate::generating::{dump_of, file_of, is_same};
 use crate::wide_files;
 use nc_base::Version;
-use std::alloc::Global;
+use std::alloc::{AllocError, Global};
 use std::process::Abort;
 use std::test::Fail;
 
@@ -17,7 +17,7 @@ struct Returned {
 }
 
 /// Files in CDF-1 that come back as they are, and what each is.
-const SAME: [(&str, &[u8]); 16] = [
+const SAME: &[(&str, &[u8])] = &[
     ("one variable", test_files::ONE_VARIABLE),
     ("no records", test_files::NO_RECORDS),
     ("rank three", test_files::THREE_VARIABLES),
@@ -40,7 +40,7 @@ const SAME: [(&str, &[u8]); 16] = [
 ];
 
 /// Other files.
-const OTHERS: [Returned; 4] = [
+const OTHERS: &[Returned] = &[
     Returned {
         about: "one variable in CDF-2",
         version: Version::Cdf2,
@@ -67,32 +67,42 @@ const OTHERS: [Returned; 4] = [
     },
 ];
 
-/// Fails unless the dump of the file, in lines of three widths, gives the other file, and that file the same dump.
-fn comes_back(rt: &impl Abort, alloc: Global, row: &Returned) -> Result<(), Fail> {
+/// Fails unless the dump of the file, in lines of this width, gives the other file, and that file the same dump.
+fn comes_back_through(
+    rt: &impl Abort,
+    alloc: Global,
+    row: &Returned,
+    width: usize,
+) -> Result<(), AllocError> {
     let about = row.about;
-    for width in [20, 80, 1000] {
-        let text = dump_of(rt, alloc, row.file, width)?;
-        let found = file_of(rt, alloc, text.as_slice(), row.version);
-        assert!(rt; is_same(found.as_slice(), row.trimmed), "{about}");
-        let again = dump_of(rt, alloc, found.as_slice(), width)?;
-        assert!(rt; is_same(again.as_slice(), text.as_slice()), "{about}");
-    }
+    let text = dump_of(rt, alloc, row.file, width)?;
+    let found = file_of(rt, alloc, text.as_slice(), row.version);
+    assert!(rt; is_same(found.as_slice(), row.trimmed), "{about}");
+    let again = dump_of(rt, alloc, found.as_slice(), width)?;
+    assert!(rt; is_same(again.as_slice(), text.as_slice()), "{about}");
     Ok(())
+}
+
+/// The same in lines of three widths.
+fn comes_back(rt: &impl Abort, alloc: Global, row: &Returned) -> Result<(), AllocError> {
+    comes_back_through(rt, alloc, row, 20)?;
+    comes_back_through(rt, alloc, row, 80)?;
+    comes_back_through(rt, alloc, row, 1000)
 }
 
 #[test]
 fn files_come_back(rt: HostRuntime) -> Result<(), Fail> {
     for (about, file) in SAME {
         let row = Returned {
-            about,
+            about: *about,
             version: Version::Cdf1,
-            file,
-            trimmed: file,
+            file: *file,
+            trimmed: *file,
         };
         comes_back(&rt, rt.alloc(), &row)?;
     }
     for row in OTHERS {
-        comes_back(&rt, rt.alloc(), &row)?;
+        comes_back(&rt, rt.alloc(), row)?;
     }
     Ok(())
 }

@@ -1,10 +1,11 @@
 //! Whole runs: what is written to which path, and which line is printed.
 
 use crate::full_disks::{FullDisk, leaves};
+use crate::generating::is_same;
 use crate::invocations::{Invocation, Outcome, ends, refuses, status_of};
 use crate::readers::{FailingReader, FailingTexts, WatchedTexts};
 use crate::texts::{FIRST_FILE, REFUSED_TEXT, TEXT};
-use devices::{CountedRead, MadeFiles, MemFile, MemFiles, SliceSink, TextOpener};
+use devices::{MadeFiles, MemFile, MemFiles, SliceSink, TextOpener};
 use std::alloc::Global;
 use std::io::Read;
 use std::process::Abort;
@@ -28,7 +29,7 @@ const FAR_TEXT: &[u8] =
 
 #[test]
 fn refused_texts(rt: HostRuntime) {
-    const ROWS: [(&[&str], &[u8], &[u8]); 5] = [
+    const ROWS: &[(&[&str], &[u8], &[u8])] = &[
         (
             &["ncgen", "-b", "bad.cdl"],
             b"",
@@ -49,11 +50,11 @@ fn refused_texts(rt: HostRuntime) {
     ];
     for (words, input, line) in ROWS {
         let run = Invocation {
-            words,
+            words: *words,
             texts: TEXTS,
-            input,
+            input: *input,
         };
-        refuses(&rt, rt.alloc(), run, line);
+        refuses(&rt, rt.alloc(), run, *line);
     }
 }
 
@@ -63,21 +64,21 @@ fn checked_texts_and_an_output_in_place_of_the_text(rt: HostRuntime) {
         path: "t.cdl",
         bytes: FIRST_FILE,
     });
-    const ROWS: [(&[&str], &[u8], Option<MemFile<'static>>); 3] = [
+    const ROWS: &[(&[&str], &[u8], Option<MemFile<'static>>)] = &[
         (&["ncgen"], TEXT, None),
         (&["ncgen", "t.cdl"], b"", None),
         (&["ncgen", "-o", "t.cdl", "t.cdl"], b"", IN_PLACE),
     ];
     for (words, input, made) in ROWS {
         let run = Invocation {
-            words,
+            words: *words,
             texts: TEXTS,
-            input,
+            input: *input,
         };
         let outcome = Outcome {
             status: 0,
             line: b"",
-            made,
+            made: *made,
         };
         ends(&rt, rt.alloc(), run, outcome);
     }
@@ -93,12 +94,11 @@ fn fails_to_read<T: TextOpener, R: Read + Drop>(
     line: &[u8],
 ) {
     let mut outputs = MadeFiles::new(alloc);
-    let mut input = CountedRead::new(reader);
     let mut space = [0; 64];
     let mut err = SliceSink::new(&mut space, 1);
-    let status = status_of(alloc, texts, &mut outputs, words, &mut input, &mut err);
+    let status = status_of(alloc, texts, &mut outputs, words, reader, &mut err);
     assert!(rt; status == 1 && outputs.given().is_empty());
-    assert!(rt; err.taken() == line);
+    assert!(rt; is_same(err.taken(), line));
 }
 
 #[test]
@@ -138,19 +138,16 @@ fn text_at_a_path_that_is_too_long(rt: HostRuntime) -> Result<(), Fail> {
 fn path_is_opened_once(rt: HostRuntime) {
     let mut texts = WatchedTexts::new(MemFiles::new(TEXTS));
     let mut outputs = MadeFiles::new(rt.alloc());
-    let mut input = CountedRead::new(b"".as_slice());
     let mut err = SliceSink::new(&mut [], 1);
-    let words = ["ncgen", "t.cdl"];
     let status = status_of(
         rt.alloc(),
         &mut texts,
         &mut outputs,
-        &words,
-        &mut input,
+        &["ncgen", "t.cdl"],
+        b"".as_slice(),
         &mut err,
     );
-    assert!(rt; status == 0);
-    assert!(rt; texts.counts() == (1, 1));
+    assert!(rt; status == 0 && texts.counts() == (1, 1));
 }
 
 #[test]
@@ -169,19 +166,16 @@ fn disk_of_every_size(rt: HostRuntime) {
 #[test]
 fn standard_error_that_is_full(rt: HostRuntime) {
     let mut outputs = MadeFiles::new(rt.alloc());
-    let mut input = CountedRead::new(REFUSED_TEXT);
     let mut line = [0; 10];
     let mut err = SliceSink::new(&mut line, 3);
     let mut texts = MemFiles::new(TEXTS);
-    let words = ["ncgen"];
     let status = status_of(
         rt.alloc(),
         &mut texts,
         &mut outputs,
-        &words,
-        &mut input,
+        &["ncgen"],
+        REFUSED_TEXT,
         &mut err,
     );
-    assert!(rt; status == 1);
-    assert!(rt; err.taken() == b"ncgen: -: ".as_slice());
+    assert!(rt; status == 1 && is_same(err.taken(), b"ncgen: -: "));
 }

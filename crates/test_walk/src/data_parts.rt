@@ -96,8 +96,11 @@ fn fills_sink(
     let mut into = Vec::from_elem(alloc, 0, capacity)?;
     let mut sink = SliceSink::new(into.as_mut_slice(), step);
     let is_whole = is_written(rt, alloc, header, arrays, &mut sink)?;
-    assert!(rt; sink.taken() == &data[..capacity], "{data:?}");
-    assert!(rt; is_whole == (capacity == data.len()), "{data:?}");
+    let is_filled = sink.taken() == &data[..capacity];
+    assert!(rt;
+        is_filled && is_whole == (capacity == data.len()),
+        "{data:?}"
+    );
     Ok(())
 }
 
@@ -175,13 +178,19 @@ const LACKING: &[Part] = &[
     ),
 ];
 
+/// Writes a part.
+fn writes_part(rt: &impl Abort, alloc: Global, (file, listed, data): &Part) -> Result<(), Fail> {
+    let arrays = arrays_of(alloc, *listed)?;
+    writes(rt, alloc, *file, arrays.as_slice(), *data)
+}
+
 #[test]
 fn lacking_values_are_filled(rt: HostRuntime) -> Result<(), Fail> {
-    for parts in [WHOLE, LACKING] {
-        for (file, listed, data) in parts {
-            let arrays = arrays_of(rt.alloc(), *listed)?;
-            writes(&rt, rt.alloc(), *file, arrays.as_slice(), *data)?;
-        }
+    for part in WHOLE {
+        writes_part(&rt, rt.alloc(), part)?;
+    }
+    for part in LACKING {
+        writes_part(&rt, rt.alloc(), part)?;
     }
     Ok(())
 }
@@ -223,9 +232,22 @@ fn many_lacking_values_are_filled(rt: HostRuntime) -> Result<(), Fail> {
     )
 }
 
+/// Writes the data part of a variable with these rows, under the header of a file.
+fn writes_rows(
+    rt: &impl Abort,
+    alloc: Global,
+    file: &[u8],
+    rows: &[(&[u8], u64)],
+    data: &[u8],
+) -> Result<(), Fail> {
+    let mut arrays = Vec::new(alloc);
+    arrays.push(rows_of(alloc, rows)?)?;
+    writes(rt, alloc, file, arrays.as_slice(), data)
+}
+
 #[test]
 fn listed_rows_are_filled_up(rt: HostRuntime) -> Result<(), Fail> {
-    const CASES: [(&[u8], &[(&[u8], u64)], &[u8]); 3] = [
+    const CASES: &[(&[u8], &[(&[u8], u64)], &[u8])] = &[
         (
             test_files::MANY_HELD_NULS,
             &[(b"ab", 8), (b"", 10)],
@@ -239,9 +261,7 @@ fn listed_rows_are_filled_up(rt: HostRuntime) -> Result<(), Fail> {
         (test_files::RECORD_BYTES, &[(b"", 1), (b"a", 0)], b".a\x81"),
     ];
     for (file, rows, data) in CASES {
-        let mut arrays = Vec::new(rt.alloc());
-        arrays.push(rows_of(rt.alloc(), rows)?)?;
-        writes(&rt, rt.alloc(), file, arrays.as_slice(), data)?;
+        writes_rows(&rt, rt.alloc(), *file, *rows, *data)?;
     }
     Ok(())
 }

@@ -37,22 +37,22 @@ fn read_alone(
 
 #[test]
 fn each_read_fails_in_turn(rt: HostRuntime) {
-    const ROWS: [(&[u8], u64, usize); 3] = [
+    const ROWS: &[(&[u8], u64, usize)] = &[
         (test_files::ONE_VARIABLE, 80, 16),
         (test_files::ONE_VARIABLE, 80, 4096),
         (test_files::ONE_VARIABLE_CDF5, 128, 17),
     ];
     // a header has as many bytes as there are reads
     for (file, header_len, buffer_len) in ROWS {
-        for n in 0..header_len {
-            failed_read(&rt, rt.alloc(), file, n, buffer_len);
+        for n in 0..*header_len {
+            failed_read(&rt, rt.alloc(), *file, n, *buffer_len);
         }
     }
 }
 
 #[test]
 fn no_read_begins_after_the_header(rt: HostRuntime) {
-    const ROWS: [(&[u8], usize, u64, usize); 5] = [
+    const ROWS: &[(&[u8], usize, u64, usize)] = &[
         (test_files::ONE_VARIABLE, 1, 80, 16),
         (test_files::ONE_VARIABLE, 3, 80, 17),
         (test_files::ONE_VARIABLE, 7, 80, 31),
@@ -60,7 +60,7 @@ fn no_read_begins_after_the_header(rt: HostRuntime) {
         (test_files::ONE_VARIABLE_CDF5, 7, 128, 31),
     ];
     for (file, step, header_len, buffer_len) in ROWS {
-        read_alone(&rt, rt.alloc(), file, step, header_len, buffer_len);
+        read_alone(&rt, rt.alloc(), *file, *step, *header_len, *buffer_len);
     }
 }
 

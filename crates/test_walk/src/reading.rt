@@ -61,9 +61,10 @@ pub fn ends<S: Source>(
     source: &mut S,
     end: Result<(), WalkFault>,
 ) {
-    match walk.next(source) {
-        Ok(Some(_)) => assert!(rt; false, "{end:?}"),
-        Ok(None) => assert!(rt; end.is_ok(), "{end:?}"),
-        Err(fault) => assert!(rt; end == Err(fault), "{end:?}"),
-    }
+    let has_ended = match walk.next(source) {
+        Ok(Some(_)) => false,
+        Ok(None) => end.is_ok(),
+        Err(fault) => end == Err(fault),
+    };
+    assert!(rt; has_ended, "{end:?}");
 }

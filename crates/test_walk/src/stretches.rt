@@ -31,7 +31,7 @@ fn reads(rt: &impl Abort, source: &mut FileSource, file: &[u8], at: usize, into:
 
 #[test]
 fn places_of_a_file(rt: HostRuntime) -> Result<(), Fail> {
-    const PLACES: [usize; 12] = [
+    const PLACES: &[usize] = &[
         0, 5, 4095, 4096, 65535, 65536, 131071, 3, 199990, 199999, 70000, 10,
     ];
     let file = distinct_bytes(rt.alloc(), 200000)?;
@@ -42,9 +42,9 @@ fn places_of_a_file(rt: HostRuntime) -> Result<(), Fail> {
     let mut few = [0; 16];
     let mut many = [0; 70000];
     for at in PLACES {
-        reads(&rt, &mut source, file.as_slice(), at, &mut few);
-        reads(&rt, &mut source, file.as_slice(), at, &mut many);
-        reads(&rt, &mut source, file.as_slice(), at, &mut few);
+        reads(&rt, &mut source, file.as_slice(), *at, &mut few);
+        reads(&rt, &mut source, file.as_slice(), *at, &mut many);
+        reads(&rt, &mut source, file.as_slice(), *at, &mut few);
     }
     Ok(())
 }
