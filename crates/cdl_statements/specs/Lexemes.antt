@@ -7,7 +7,7 @@ use Rattle.cdl_tokens.specs.declared.{token.Token.Token, token.TokenKind.TokenKi
 use Rattle.cdl_tokens.specs.declared.token.TokenKind.TheVariants as kinds
 use Rattle.nc_base.specs.Escapes.{is_reserved}
 
--- a token without its place: its kind and its bytes
+-- a token without its line and its offsets
 pub record Lexeme : Type 0 where
   pub kind : TokenKind
   pub bytes : List ℕ

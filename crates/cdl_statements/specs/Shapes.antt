@@ -142,7 +142,7 @@ abbrev pub attribute : Version → List Lexeme → Option Statement
 attribute v (n ∷ c ∷ ls) = if_so (is_mark (byte ":") c) (option_and_then (λ name. assigned v false (Attribute (Some name)) ls) (name_of n))
 attribute v _ = None
 
--- a statement of a section, without its `;`
+-- a statement without its `;`, by its section
 abbrev pub body : Version → Section → List Lexeme → Option Statement
 body v Globals ls = global v ls
 body v Dimensions ls = either (global v ls) (option_map DeclareDimensions (list_of (dimension v) ls))
