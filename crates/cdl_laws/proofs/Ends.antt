@@ -1,6 +1,6 @@
 -- The opening, the section marks and the closing brace of a dump.
 use Rattle.std.proofs.Common.{◌≡◌, ℕ, ◌+◌, true, false, List, [], ◌∷◌, ◌++◌, length, map, sym, ◌∙◌, ap, refl, subst, arith, append_assoc, append-nil, length-append, ◌==◌, Some, Ok, codes, rules}
-use Rattle.cdl_laws.proofs.Prelude.{false≢true, eqb-true, concat_parts, Att, Dim, Var, Version, escaped_name, is_plain, dim_line, dim_lines, dims_text, att_line, att_lines, var_lines, vars_text, gatts_text, dimensions_word, variables_word, global_word, IsName, Section, Globals, Dimensions, Variables, Values, Ended, scan, word_len, len_until, Lexeme, piece_read, empty, pieces_at, is_section, cut_lexemes, lexemes_at, lexemes, pieces_of, trimmed_att, Mark, shape, State, Draft, act, in_turn, IsBeforeData, globals, dimensions, variables, and_left, until_at_start, lt-ltb, not_none}
+use Rattle.cdl_laws.proofs.Prelude.{false≢true, eqb-true, concat_parts, Att, Dim, Var, Version, escaped_name, is_plain, dim_line, dim_lines, dims_text, att_line, att_lines, var_lines, vars_text, gatts_text, dimensions_word, variables_word, global_word, IsName, Section, Globals, Dimensions, Variables, Values, Ended, scan, word_len, len_until, Lexeme, piece_read, empty, pieces_at, is_section, cut_lexemes, lexemes_at, lexemes, pieces_of, trimmed_att, Enter, shape, State, Draft, act, in_turn, IsBeforeData, globals, dimensions, variables, and_left, until_at_start, lt-ltb, not_none}
 use Rattle.cdl_tokens.specs.declared.token.TokenKind.TheVariants as kinds
 use Rattle.cdl_laws.proofs.Lists.{Each}
 use Rattle.cdl_laws.proofs.NameTexts.{rest_of, Begins, marked, bare, begins}
@@ -14,19 +14,19 @@ use Rattle.cdl_laws.proofs.Wholes.{state, dims_taken, AreNewDims, Speaks, AreNew
 
 -- ---- section marks
 
-pub dimensions_says : (v : Version) → Says v Globals dimensions_word (Mark Dimensions)
+pub dimensions_says : (v : Version) → Says v Globals dimensions_word (Enter Dimensions)
 unfolding dimensions_word lexemes_at scan word_len pieces_at is_section shape
 dimensions_says v = record { piece = word (codes "dimensions") ∷ mark 58 ∷ []; reads = λ rest. refl; cut = λ rest. refl; sound = refl; shaped = refl }
 
-pub variables_says : (v : Version) (section : Section) → IsBeforeData section → shape v section (word (codes "variables") ∷ mark 58 ∷ []) ≡ Some (Mark Variables) → Says v section variables_word (Mark Variables)
+pub variables_says : (v : Version) (section : Section) → IsBeforeData section → shape v section (word (codes "variables") ∷ mark 58 ∷ []) ≡ Some (Enter Variables) → Says v section variables_word (Enter Variables)
 unfolding variables_word lexemes_at scan word_len pieces_at is_section shape
 variables_says v section before h = record { piece = word (codes "variables") ∷ mark 58 ∷ []; reads = λ rest. refl; cut = λ rest. refl; sound = refl; shaped = h }
 
-pub data_says : (v : Version) → Says v Variables (codes "data:\n") (Mark Values)
+pub data_says : (v : Version) → Says v Variables (codes "data:\n") (Enter Values)
 unfolding lexemes_at scan word_len pieces_at is_section shape
 data_says v = record { piece = word (codes "data") ∷ mark 58 ∷ []; reads = λ rest. refl; cut = λ rest. refl; sound = refl; shaped = refl }
 
-mark_act : (v : Version) (from to : Section) (dims : List Dim) (gatts : List Att) (drafts : List Draft) → act v (state from dims gatts drafts) (Mark to) ≡ Ok (state to dims gatts drafts)
+mark_act : (v : Version) (from to : Section) (dims : List Dim) (gatts : List Att) (drafts : List Draft) → act v (state from dims gatts drafts) (Enter to) ≡ Ok (state to dims gatts drafts)
 unfolding act
 mark_act v from to dims gatts drafts = refl
 
@@ -51,14 +51,14 @@ dims_part v n [] gatts drafts h = takes_nothing v (state Globals [] gatts drafts
 dims_part v n (d ∷ dims) gatts drafts h =
     rw (not_none (length dims)) (subst (λ bs. Takes v bs (state Globals [] gatts drafts) (state Dimensions (d ∷ dims) gatts drafts)) (sym (two_texts dimensions_word (concat_parts (map (dim_line n) (d ∷ dims)))))
     (takes_both v dimensions_word (concat_parts (map (dim_line n) (d ∷ dims))) (state Globals [] gatts drafts) (state Dimensions [] gatts drafts) (state Dimensions (d ∷ dims) gatts drafts)
-    (says_takes v dimensions_word (Mark Dimensions) (state Globals [] gatts drafts) (state Dimensions [] gatts drafts) (dimensions_says v) (mark_act v Globals Dimensions [] gatts drafts))
+    (says_takes v dimensions_word (Enter Dimensions) (state Globals [] gatts drafts) (state Dimensions [] gatts drafts) (dimensions_says v) (mark_act v Globals Dimensions [] gatts drafts))
     (dims_taken v n [] (d ∷ dims) gatts drafts h)))
 
 before_of : (dims : List Dim) → IsBeforeData (after_dims dims)
 before_of [] = globals
 before_of (d ∷ dims) = dimensions
 
-variables_shape : (v : Version) (dims : List Dim) → shape v (after_dims dims) (word (codes "variables") ∷ mark 58 ∷ []) ≡ Some (Mark Variables)
+variables_shape : (v : Version) (dims : List Dim) → shape v (after_dims dims) (word (codes "variables") ∷ mark 58 ∷ []) ≡ Some (Enter Variables)
 unfolding shape
 variables_shape v dims = grind arith
 
@@ -72,7 +72,7 @@ vars_part v dims (var ∷ vars) gatts distinct names fit =
     let u = state Variables dims gatts (map draft_of (var ∷ vars)) in
     rw (not_none (length vars)) (subst (λ bs. Takes v bs s u) (sym (two_texts variables_word (concat_parts (map (var_lines dims) (var ∷ vars)))))
     (takes_both v variables_word (concat_parts (map (var_lines dims) (var ∷ vars))) s t u
-    (says_takes v variables_word (Mark Variables) s t (variables_says v (after_dims dims) (before_of dims) (variables_shape v dims)) (mark_act v (after_dims dims) Variables dims gatts []))
+    (says_takes v variables_word (Enter Variables) s t (variables_says v (after_dims dims) (before_of dims) (variables_shape v dims)) (mark_act v (after_dims dims) Variables dims gatts []))
     (vars_taken v dims gatts [] (var ∷ vars) distinct names fit)))
 
 before_vars : (dims : List Dim) (vars : List Var) → IsBeforeData (after_vars (after_dims dims) vars)
@@ -95,7 +95,7 @@ gatts_part v dims vars (a ∷ gatts) drafts speak new =
     (globals_taken v (after_vars (after_dims dims) vars) dims [] (a ∷ gatts) drafts (before_vars dims vars) speak new)))
 
 pub data_mark : (v : Version) (dims : List Dim) (gatts : List Att) (drafts : List Draft) → Takes v (codes "data:\n") (state Variables dims gatts drafts) (state Values dims gatts drafts)
-data_mark v dims gatts drafts = says_takes v (codes "data:\n") (Mark Values) (state Variables dims gatts drafts) (state Values dims gatts drafts) (data_says v) (mark_act v Variables Values dims gatts drafts)
+data_mark v dims gatts drafts = says_takes v (codes "data:\n") (Enter Values) (state Variables dims gatts drafts) (state Values dims gatts drafts) (data_says v) (mark_act v Variables Values dims gatts drafts)
 
 -- ---- the end
 

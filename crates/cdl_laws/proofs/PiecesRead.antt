@@ -1,6 +1,6 @@
 -- A dump is cut into the statements that it was put together from.
 use Rattle.std.proofs.Common.{◌≡◌, ℕ, true, false, List, [], ◌∷◌, ◌++◌, map, sym, ◌∙◌, ap, refl, subst, arith, append-nil, slice_index_or, None, Some, codes, rules}
-use Rattle.cdl_laws.proofs.Prelude.{concat_parts, Att, Dim, Var, Version, escaped_name, AreDimids, netcdf_word, global_word, var_lines, att_lines, shape_text, IsName, type_word, has_type, Section, Unopened, Globals, Dimensions, Variables, Values, Closed, scan, pieces_at, Statement, Open, Mark, Close, End, shape, SaysStatement, IsStatement, PiecesAreStatements, MarksReadBack, opening_line, opening_piece, brace_piece, end_piece, DimensionsReadBack, declaration, DeclarationReadsBack, DeclarationsReadBack, IsBeforeData, globals, dimensions, AttributeReadsBack, AttributesReadBack, GlobalAttributesReadBack, cut_lexemes, lexemes, lexemes_at, pieces_of}
+use Rattle.cdl_laws.proofs.Prelude.{concat_parts, Att, Dim, Var, Version, escaped_name, AreDimids, netcdf_word, global_word, var_lines, att_lines, shape_text, IsName, type_word, has_type, Section, Unopened, Globals, Dimensions, Variables, Values, Closed, scan, pieces_at, Statement, Open, Enter, Close, End, shape, SaysStatement, IsStatement, PiecesAreStatements, MarksReadBack, opening_line, opening_piece, brace_piece, end_piece, DimensionsReadBack, declaration, DeclarationReadsBack, DeclarationsReadBack, IsBeforeData, globals, dimensions, AttributeReadsBack, AttributesReadBack, GlobalAttributesReadBack, cut_lexemes, lexemes, lexemes_at, pieces_of}
 use Rattle.cdl_tokens.specs.declared.token.TokenKind.TheVariants as kinds
 use Rattle.cdl_laws.proofs.Acts.{AreDistinctDims, HaveNames, ids_added, name_at, type_is}
 use Rattle.cdl_laws.proofs.Declarations.{dim_says, global_says, owned_says}
@@ -34,11 +34,11 @@ opening_back name rest h =
     subst (λ l. cut_lexemes (lexemes (l ++ 10 ∷ rest)) ≡ (record { kind = kinds.Opening; bytes = l } ∷ []) ∷ pieces_of rest) (sym (line_is name))
     (ap cut_lexemes (opening_lexemes name rest h) ∙ opening_cut (codes "netcdf " ++ (escaped_name name ++ codes " {")) (lexemes_at false 0 rest))
 
-after_globals : (v : Version) → shape v Globals (record { kind = kinds.Word; bytes = codes "variables" } ∷ record { kind = kinds.Mark; bytes = codes ":" } ∷ []) ≡ Some (Mark Variables)
+after_globals : (v : Version) → shape v Globals (record { kind = kinds.Word; bytes = codes "variables" } ∷ record { kind = kinds.Mark; bytes = codes ":" } ∷ []) ≡ Some (Enter Variables)
 unfolding shape
 after_globals v = refl
 
-after_dimensions : (v : Version) → shape v Dimensions (record { kind = kinds.Word; bytes = codes "variables" } ∷ record { kind = kinds.Mark; bytes = codes ":" } ∷ []) ≡ Some (Mark Variables)
+after_dimensions : (v : Version) → shape v Dimensions (record { kind = kinds.Word; bytes = codes "variables" } ∷ record { kind = kinds.Mark; bytes = codes ":" } ∷ []) ≡ Some (Enter Variables)
 unfolding shape
 after_dimensions v = refl
 

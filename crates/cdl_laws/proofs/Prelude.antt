@@ -17,7 +17,7 @@ unfoldable pub use Rattle.cdl_statements.specs.Lexemes.{name_of}
 pub use Rattle.cdl_statements.proofs.Members.{alone, constants, constants_are, constants_by, mark_after, members, name_alone}
 pub use Rattle.cdl_statements.specs.Pieces.{section_of}
 unfoldable pub use Rattle.cdl_statements.specs.Pieces.{pieces_at}
-pub use Rattle.cdl_statements.specs.Shapes.{Attribute, Close, Characters, DeclareDimensions, Dimension, End, Listed, Mark, Number, Open, Statement, DeclareVariables, Underscore, Value, Variable, assigned, attribute, before_mark, body, both, constant, constant_of, dimension, each, either, first_bad, if_so, global, into_first, length_of, members_in, section_mark, section_number, single, token_fault, typed, variable}
+pub use Rattle.cdl_statements.specs.Shapes.{Attribute, Close, Characters, DeclareDimensions, Dimension, End, Listed, Enter, Number, Open, Statement, DeclareVariables, Underscore, Value, Variable, assigned, attribute, before_mark, body, both, constant, constant_of, dimension, each, either, first_bad, if_so, global, into_first, length_of, members_in, section_mark, section_number, single, token_fault, typed, variable}
 unfoldable pub use Rattle.cdl_statements.specs.Shapes.{shape}
 pub use Rattle.cdl_statements.specs.Statements.{statements}
 pub use Rattle.cdl_statements.specs.code.CutSteps.{going, step, unless_end, with_first}

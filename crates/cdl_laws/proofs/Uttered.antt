@@ -1,6 +1,6 @@
 -- What each statement of a text says, and how many bytes and tokens all of them have.
 use Rattle.std.proofs.Common.{◌≡◌, ℕ, ◌+◌, ◌-◌, ◌*◌, ◌≤◌, ◌<◌, Bool, true, false, List, [], ◌∷◌, length, map, ◌∙◌, ap, refl, arith, zero, suc, Option, None, drop, ◌&&◌, is_none, rules}
-use Rattle.cdl_laws.proofs.Prelude.{length-take, length-drop, option_map, option_and_then, Version, scan, Lexeme, lexeme, is_mark, is_opening_kind, is_end_kind, name_of, first_role, role, pieces_after, with_first, step, pieces_by_steps, Value, Statement, Open, Mark, DeclareDimensions, DeclareVariables, Attribute, Listed, Close, End, each, either, constants, assigned, global, typed, attribute, body, section_number, section_mark, alone, shape, before_mark, tokens, tokens_at, statements, Section, Unopened, Globals, Dimensions, Variables, Values, Closed, Ended, CutState, Role, Token}
+use Rattle.cdl_laws.proofs.Prelude.{length-take, length-drop, option_map, option_and_then, Version, scan, Lexeme, lexeme, is_mark, is_opening_kind, is_end_kind, name_of, first_role, role, pieces_after, with_first, step, pieces_by_steps, Value, Statement, Open, Enter, DeclareDimensions, DeclareVariables, Attribute, Listed, Close, End, each, either, constants, assigned, global, typed, attribute, body, section_number, section_mark, alone, shape, before_mark, tokens, tokens_at, statements, Section, Unopened, Globals, Dimensions, Variables, Values, Closed, Ended, CutState, Role, Token}
 use Rattle.cdl_statements.specs.Shapes as shapes
 use Rattle.cdl_statements.proofs.Members.{dimensions}
 use Rattle.cdl_statements.specs.declared.piece.CutState.TheVariants as places
@@ -20,7 +20,7 @@ AreFineValues v n name cs = (suc (length name) ≤ n) × (total cost cs ≤ n) �
 -- what a statement of tokens of this mass says, in a section
 abbrev pub IsSaid : Version → Section → ℕ → Statement → Type 0
 IsSaid v section n Open = late section ≡ 0
-IsSaid v section n (Mark next) = late section < late next
+IsSaid v section n (Enter next) = late section < late next
 IsSaid v section n (DeclareDimensions ds) = (late section ≡ 2) × (total dim_cost ds ≤ n)
 IsSaid v section n (DeclareVariables ty vs) = (late section ≡ 3) × (total var_cost vs ≤ n)
 IsSaid v section n (Attribute o name cs) = AreFineValues v n name cs

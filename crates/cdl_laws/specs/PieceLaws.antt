@@ -14,7 +14,7 @@ use Rattle.cdl_statements.specs.declared.section.Section.{Section}
 use Rattle.cdl_statements.specs.declared.section.Section.TheVariants.{Unopened, Globals, Dimensions, Variables, Values, Closed}
 use Rattle.cdl_tokens.specs.declared.token.TokenKind.TheVariants as kinds
 use Rattle.cdl_statements.specs.Lexemes.{Lexeme, lexeme}
-use Rattle.cdl_statements.specs.Shapes.{Value, Dimension, Statement, Open, Mark, DeclareDimensions, DeclareVariables, Attribute, Listed, Close, End, first_bad, shape}
+use Rattle.cdl_statements.specs.Shapes.{Value, Dimension, Statement, Open, Enter, DeclareDimensions, DeclareVariables, Attribute, Listed, Close, End, first_bad, shape}
 use Rattle.cdl_statements.specs.Statements.{statements}
 use Rattle.cdl_meaning.specs.State.{in_turn, add_dimid, add_constant, first_type, type_of}
 use Rattle.cdl_laws.specs.Reading.{cut_lexemes, lexemes, pieces_of}
@@ -55,10 +55,10 @@ end_piece = record { kind = kinds.End; bytes = [] } ∷ []
 pub record MarksReadBack (version : Version) : Type 0 where
   pub opening : (name rest : List ℕ) → IsName name → cut_lexemes (lexemes (opening_line name ++ 10 ∷ rest)) ≡ opening_piece name ∷ pieces_of rest
   pub opens : (name : List ℕ) → SaysStatement version Unopened (opening_piece name) Open
-  pub dimensions : IsStatement version Globals dimensions_word (Mark Dimensions)
-  pub variables : IsStatement version Dimensions variables_word (Mark Variables)
-  pub variables_alone : IsStatement version Globals variables_word (Mark Variables)
-  pub values : IsStatement version Variables (codes "data:\n") (Mark Values)
+  pub dimensions : IsStatement version Globals dimensions_word (Enter Dimensions)
+  pub variables : IsStatement version Dimensions variables_word (Enter Variables)
+  pub variables_alone : IsStatement version Globals variables_word (Enter Variables)
+  pub values : IsStatement version Variables (codes "data:\n") (Enter Values)
   pub comment : (rest : List ℕ) → pieces_of (global_word ++ rest) ≡ pieces_of rest
   pub closing : pieces_of (codes "}\n") ≡ brace_piece ∷ end_piece ∷ []
   pub closes : All (λ (section : Section). SaysStatement version section brace_piece Close) (Globals ∷ Dimensions ∷ Variables ∷ Values ∷ [])

@@ -15,13 +15,13 @@ use Rattle.cdl_statements.specs.declared.fault.CdlKind.TheVariants.{Syntax, TooL
 use Rattle.cdl_tokens.specs.declared.token.Token.{Token}
 use Rattle.cdl_meaning.specs.State.{State, Draft, act, capacity_of, filled, values_in}
 
--- the longest text in bytes of `ncgen` and of the laws, not of `meaning`
+-- the most bytes of a text for `ncgen` and for the laws; `meaning` has no limit
 abbrev pub text_limit : ℕ
 text_limit = 268435456
 
 -- ---- statements
 
--- a bad token comes before a fault of syntax, and this before those of meaning
+-- A bad token comes before a fault of syntax, and that before a fault of meaning.
 unfoldable pub piece_read : Version → State → List Lexeme → Result State CdlKind
 piece_read v s piece =
     elim (first_bad v piece) [
@@ -58,7 +58,7 @@ abbrev pub records_in : List Dim → List Draft → ℕ
 records_in dims [] = 0
 records_in dims (d ∷ ds) = max (records_of dims d) (records_in dims ds)
 
--- over n records
+-- the array of a variable over n records
 abbrev pub array_of : List Dim → ℕ → Draft → List ℕ
 array_of dims n d = flat_map (bytes_of_number d.var.ty) (filled (value_count dims d.var n) (fill_value d.var) (listed_values dims d))
 

@@ -15,7 +15,7 @@ use Rattle.nc_base.specs.Types.{all_types, code_of, type_word, width_of, is_sign
 use Rattle.nc_base.specs.ValueText.{row_len, is_char}
 use Rattle.nc_base.specs.Versions.{count_limit, has_type}
 use Rattle.cdl_statements.specs.Lexemes.{Lexeme, is_word}
-use Rattle.cdl_statements.specs.Shapes.{Value, Number, Characters, Underscore, Dimension, Variable, Statement, Open, Mark, DeclareDimensions, DeclareVariables, Attribute, Listed, Close, End}
+use Rattle.cdl_statements.specs.Shapes.{Value, Number, Characters, Underscore, Dimension, Variable, Statement, Open, Enter, DeclareDimensions, DeclareVariables, Attribute, Listed, Close, End}
 use Rattle.cdl_statements.specs.declared.{fault.CdlKind.CdlKind, section.Section.Section}
 use Rattle.cdl_statements.specs.declared.fault.CdlKind.TheVariants.{BadName, DuplicateName, UnknownDimension, UnknownVariable, FloatingType, UnknownType, ZeroDimension, TwoRecordDims, BadShape, MixedConstants, NumberRange, WrongKind, TooManyValues, StringTooLong, DuplicateData}
 use Rattle.cdl_statements.specs.declared.section.Section.TheVariants.{Globals, Closed, Ended}
@@ -75,7 +75,7 @@ same_type a b = code_of a == code_of b
 
 -- ---- dimensions
 
--- in the header, the length of the record dimension (None) is 0
+-- the length in the header, where the record dimension (None) has 0
 abbrev pub dim_len_of : Version → List Dim → Option ℤ → Result ℕ CdlKind
 dim_len_of v dims None = do
   _ ← when (has_record_dim dims) TwoRecordDims
@@ -115,7 +115,7 @@ add_var dims ty drafts v = do
   ids ← in_turn (add_dimid dims) [] v.dimensions
   Ok (drafts ++ record { var = record { name = v.name; dimids = ids; atts = []; ty = ty; begin_at = 0 }; listed = None } ∷ [])
 
--- with f applied to the variable of this name
+-- the variables, with f applied to the one of this name
 abbrev pub at_named : List ℕ → (Draft → Result Draft CdlKind) → List Draft → Result (List Draft) CdlKind
 at_named name f [] = Err UnknownVariable
 at_named name f (d ∷ ds) =
@@ -149,7 +149,7 @@ add_constant ty vals (Characters bytes) = do
   Ok (vals ++ bytes)
 add_constant ty vals Underscore = Err MixedConstants
 
--- An attribute has the type of its first constant. It has at least one.
+-- An attribute has the type of its first constant, and at least one.
 abbrev pub first_type : List Value → NcType
 first_type [] = Char
 first_type (c ∷ cs) = type_said c
@@ -172,13 +172,13 @@ with_att name cs d = do
 pub record Capacity : Type 0 where
   pub ty : NcType
   pub fill : ℤ
-  -- of a record variable: any number of values
+  -- a record variable takes any number of values
   pub is_open : Bool
-  -- how many values a slab has: if it isn't open, all values of the variable
+  -- how many values a slab has: for any other variable, all of them
   pub count : ℕ
-  -- at rank 2 and up
+  -- the rank is 2 or more
   pub in_rows : Bool
-  -- how many rows, of how many values; of a record variable rows is 0, and isn't used
+  -- how many rows there are, and how many values each has
   pub rows : ℕ
   pub row : ℕ
 
@@ -193,7 +193,7 @@ capacity_of dims var = record {
   count = slab_count dims var;
   in_rows = not (nat_lt (length var.dimids) 2);
   rows = row_count dims var;
-  -- (below rank 2, no row is used)
+  -- (the 0 would be the length of a row below rank 2; it is never used)
   row = row_len dims var.dimids 0;
 }
 
@@ -248,7 +248,7 @@ with_values dims values d = do
 
 unfoldable pub act : Version → State → Statement → Result State CdlKind
 act v s Open = Ok (record s { section = Globals })
-act v s (Mark section) = Ok (record s { section = section })
+act v s (Enter section) = Ok (record s { section = section })
 act v s (DeclareDimensions ds) = do
   dims ← in_turn (add_dim v) s.dims ds
   Ok (record s { dims = dims })

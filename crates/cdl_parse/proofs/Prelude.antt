@@ -20,7 +20,7 @@ pub use Rattle.cdl_parse.specs.declared.{declaration.PartialVariable.PartialVari
 pub use Rattle.cdl_statements.proofs.DimensionSteps.{first_goes, on, said_on, second_goes, shaped_on, third_goes}
 pub use Rattle.cdl_statements.proofs.Listing.{only_completes, value_first}
 pub use Rattle.cdl_statements.specs.Lexemes.{Lexeme, is_mark, is_mark_kind, is_word_kind, lexeme}
-pub use Rattle.cdl_statements.specs.Shapes.{Attribute, Close, Dimension, End, Listed, Mark, Open, Statement, DeclareVariables, Value, first_bad}
+pub use Rattle.cdl_statements.specs.Shapes.{Attribute, Close, Dimension, End, Listed, Enter, Open, Statement, DeclareVariables, Value, first_bad}
 pub use Rattle.cdl_statements.specs.Pieces.{section_of}
 unfoldable pub use Rattle.cdl_statements.specs.Shapes.{shape}
 pub use Rattle.cdl_statements.specs.Statements.{statements}

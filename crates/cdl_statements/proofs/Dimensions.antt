@@ -1,18 +1,18 @@
 -- Lists of dimensions: the table of due tokens says whether one has its shape, and what it says stands in its tokens.
-use Rattle.std.proofs.Common.{◌≡◌, Bool, true, false, List, [], ◌∷◌, refl, ap, ◌∙◌, Option, None, Some, if◌then◌else◌, ◌&&◌, is_none, arith, rules}
-use Rattle.cdl_statements.proofs.Prelude.{option_map, option_and_then, Version, parts_or_zero, length_said, dimensions_said, next, completes, is_name, is_length, is_number, word_value, Lexeme, is_mark, Numeral, parts, number, numeral, Dimension, dimension, dimensions, dimensions_are, dimensions_by, length_of, numeral_of, token_fault, first_bad, both, if_so, before_mark, TokenKind}
+use Rattle.std.proofs.Common.{◌≡◌, ℕ, Bool, true, false, List, [], ◌∷◌, refl, ap, ◌∙◌, Option, None, Some, if◌then◌else◌, ◌&&◌, is_none, arith, rules}
+use Rattle.cdl_statements.proofs.Prelude.{option_and_then, Version, length_said, dimensions_said, next, completes, is_name, is_length, word_value, Lexeme, is_mark, parts, number, numeral, Dimension, dimension, dimensions, dimensions_are, dimensions_by, length_of, token_fault, first_bad, both, if_so, before_mark, TokenKind}
 use Rattle.cdl_statements.specs.declared.due.Due.TheVariants as dues
 use Rattle.cdl_statements.proofs.Listing.{fine, fine_on, combine, never_completes, nothing_more, no_members, apart}
 use Rattle.cdl_statements.proofs.Options.{then_same}
 use Rattle.cdl_statements.proofs.Shaping.{name_is}
 
-length_by : (v : Version) (l : Lexeme) (k : TokenKind) → token_fault v k l.bytes ≡ None →
-    option_map (λ (n : Numeral). Some n.value) (numeral_of v l k) ≡ (if is_number k then Some (Some (number (parts_or_zero (parts v l.bytes))).value) else None)
+length_by : (v : Version) (bytes : List ℕ) (k : TokenKind) → token_fault v k bytes ≡ None →
+    length_of v (record { kind = k; bytes = bytes }) k ≡ (if is_length (record { kind = k; bytes = bytes }) then Some (length_said v (record { kind = k; bytes = bytes })) else None)
 unfolding numeral
-length_by v l k h = grind (arith, parts, is_none, number)
+length_by v bytes k h = grind (arith, parts v bytes, is_none, number)
 
-length_is : (v : Version) (l : Lexeme) → token_fault v l.kind l.bytes ≡ None → length_of v l ≡ (if is_length l then Some (length_said v l) else None)
-length_is v l h = grind (arith, parts v l.bytes, length_by v l l.kind h, number)
+length_is : (v : Version) (l : Lexeme) → token_fault v l.kind l.bytes ≡ None → length_of v l l.kind ≡ (if is_length l then Some (length_said v l) else None)
+length_is v l h = length_by v l.bytes l.kind h
 
 said : Version → Lexeme → Lexeme → Dimension
 said v n l = record { name = word_value n.bytes; len = length_said v l }

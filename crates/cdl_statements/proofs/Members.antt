@@ -5,7 +5,7 @@ use Rattle.cdl_tokens.specs.declared.token.TokenKind.{TokenKind}
 use Rattle.nc_base.specs.declared.version.Version.{Version}
 unfoldable use Rattle.cdl_statements.specs.Lexemes.{name_of}
 use Rattle.cdl_statements.specs.Lexemes.{Lexeme, is_mark, is_mark_kind}
-use Rattle.cdl_statements.specs.Shapes.{Dimension, Mark, Statement, Value, both, constant, constant_of, dimension, each, if_so, into_first, length_of, list_of, members_in, section_number, single}
+use Rattle.cdl_statements.specs.Shapes.{Dimension, Enter, Statement, Value, both, constant, constant_of, dimension, each, if_so, into_first, length_of, list_of, members_in, section_number, single}
 use Rattle.cdl_statements.specs.declared.section.Section.{Section}
 
 -- ---- words for what shapes are made of
@@ -28,7 +28,7 @@ dimensions v ls = list_of (dimension v) ls
 
 -- the mark of section s, if s comes later than the section that the text is in
 abbrev pub mark_after : Section → Section → Option Statement
-mark_after before s = if_so (nat_lt (section_number before) (section_number s)) (Some (Mark s))
+mark_after before s = if_so (nat_lt (section_number before) (section_number s)) (Some (Enter s))
 
 -- ---- a token and a comma at a time
 
@@ -133,7 +133,7 @@ dimensions_none v n ws h = bad_member (dimension v) n ws refl (no_name v n h)
 no_equals : (v : Version) (n e : Lexeme) → is_mark 0x3d e ≡ false → (ms : List (List Lexeme)) → each (dimension v) (into_first n (into_first e ms)) ≡ None
 no_equals v n e h ms = grind arith
 
-no_length : (v : Version) (n e l : Lexeme) → length_of v l ≡ None → (ms : List (List Lexeme)) → each (dimension v) (into_first n (into_first e (into_first l ms))) ≡ None
+no_length : (v : Version) (n e l : Lexeme) → length_of v l l.kind ≡ None → (ms : List (List Lexeme)) → each (dimension v) (into_first n (into_first e (into_first l ms))) ≡ None
 no_length v n e l h ms = grind (arith, kept_none)
 
 four_none : (v : Version) (n e l c : Lexeme) (ms : List (List Lexeme)) → each (dimension v) (into_first n (into_first e (into_first l (into_first c ms)))) ≡ None
@@ -154,12 +154,12 @@ abbrev named : List ℕ → Option ℤ → Dimension
 named name len = record { name = name; len = len }
 
 nameless : (v : Version) (n e l : Lexeme) → name_of n ≡ None → dimension_at v n e l ≡ None
-nameless v n e l h = ap (λ o. if_so (is_mark 0x3d e) (both named o (length_of v l))) h ∙ kept_none (is_mark 0x3d e)
+nameless v n e l h = ap (λ o. if_so (is_mark 0x3d e) (both named o (length_of v l l.kind))) h ∙ kept_none (is_mark 0x3d e)
 
 unequal : (v : Version) (n e l : Lexeme) → is_mark 0x3d e ≡ false → dimension_at v n e l ≡ None
-unequal v n e l h = ap (λ b. if_so b (both named (name_of n) (length_of v l))) h
+unequal v n e l h = ap (λ b. if_so b (both named (name_of n) (length_of v l l.kind))) h
 
-endless : (v : Version) (n e l : Lexeme) → length_of v l ≡ None → dimension_at v n e l ≡ None
+endless : (v : Version) (n e l : Lexeme) → length_of v l l.kind ≡ None → dimension_at v n e l ≡ None
 endless v n e l h = ap (λ o. if_so (is_mark 0x3d e) (both named (name_of n) o)) h ∙ ap (if_so (is_mark 0x3d e)) (both_none named (name_of n)) ∙ kept_none (is_mark 0x3d e)
 
 -- the same, cut token by token
@@ -171,7 +171,7 @@ name_plain : (bytes : List ℕ) (k : TokenKind) (x : List ℕ) → name_of (reco
 unfolding name_of
 name_plain bytes k x h = grind arith
 
-length_plain : (v : Version) (bytes : List ℕ) (k : TokenKind) (x : Option ℤ) → length_of v (record { kind = k; bytes = bytes }) ≡ Some x → is_mark_kind k ≡ false
+length_plain : (v : Version) (bytes : List ℕ) (k : TokenKind) (x : Option ℤ) → length_of v (record { kind = k; bytes = bytes }) k ≡ Some x → is_mark_kind k ≡ false
 length_plain v bytes k x h = grind (arith, and_false)
 
 not_comma : (l : Lexeme) → is_mark 0x3d l ≡ true → is_mark 0x2c l ≡ false
@@ -194,7 +194,7 @@ after_equals : (v : Version) (n e : Lexeme) (ws : List Lexeme) → is_mark_kind 
     dimensions v (n ∷ e ∷ ws) ≡ each (dimension v) (into_first n (into_first e (members_in false ws)))
 after_equals v n e ws k h = after_name v n (e ∷ ws) k ∙ ap (λ ms. each (dimension v) (into_first n ms)) (plain e ws (not_comma e h) (not_opening e h))
 
-off_length : (v : Version) (n e l : Lexeme) (ws : List Lexeme) → is_mark_kind n.kind ≡ false → is_mark 0x3d e ≡ true → length_of v l ≡ None → dimensions v (n ∷ e ∷ l ∷ ws) ≡ None
+off_length : (v : Version) (n e l : Lexeme) (ws : List Lexeme) → is_mark_kind n.kind ≡ false → is_mark 0x3d e ≡ true → length_of v l l.kind ≡ None → dimensions v (n ∷ e ∷ l ∷ ws) ≡ None
 off_length v n e l ws k equals h = after_equals v n e (l ∷ ws) k equals ∙ by (is_mark 0x2c l) refl
   where
     by : (a : Bool) → is_mark 0x2c l ≡ a → each (dimension v) (into_first n (into_first e (members_in false (l ∷ ws)))) ≡ None
@@ -226,9 +226,9 @@ whole v n e l (c ∷ ls) k equals kl rest = after_length v n e l (c ∷ ls) k eq
 
 -- three tokens and more
 three : (v : Version) (n e l : Lexeme) (ws : List Lexeme) → Rest v ws → dimensions v (n ∷ e ∷ l ∷ ws) ≡ dimensions_by v (n ∷ e ∷ l ∷ ws)
-three v n e l ws rest = by (name_of n) (is_mark 0x3d e) (length_of v l) refl refl refl
+three v n e l ws rest = by (name_of n) (is_mark 0x3d e) (length_of v l l.kind) refl refl refl
   where
-    by : (o : Option (List ℕ)) (b : Bool) (p : Option (Option ℤ)) → name_of n ≡ o → is_mark 0x3d e ≡ b → length_of v l ≡ p → dimensions v (n ∷ e ∷ l ∷ ws) ≡ dimensions_by v (n ∷ e ∷ l ∷ ws)
+    by : (o : Option (List ℕ)) (b : Bool) (p : Option (Option ℤ)) → name_of n ≡ o → is_mark 0x3d e ≡ b → length_of v l l.kind ≡ p → dimensions v (n ∷ e ∷ l ∷ ws) ≡ dimensions_by v (n ∷ e ∷ l ∷ ws)
     by None b p ho hb hp = bad_member (dimension v) n (e ∷ l ∷ ws) refl (no_name v n ho) ∙ sym (by_none v n e l ws (nameless v n e l ho))
     by (Some x) false p ho hb hp = off_equals v n e (l ∷ ws) (name_plain n.bytes n.kind x ho) hb ∙ sym (by_none v n e l ws (unequal v n e l hb))
     by (Some x) true None ho hb hp = off_length v n e l ws (name_plain n.bytes n.kind x ho) hb hp ∙ sym (by_none v n e l ws (endless v n e l hp))

@@ -1,7 +1,7 @@
 -- The names that proofs of this crate cite from elsewhere, passed on from one place.
 pub use Rattle.cdl_statements.specs.Lexemes.{Lexeme, is_end_kind, is_mark, is_mark_kind, is_opening_kind, is_word, is_word_kind, lexeme}
 unfoldable pub use Rattle.cdl_statements.specs.Lexemes.{name_of}
-pub use Rattle.cdl_statements.specs.Shapes.{Attribute, Close, DeclareDimensions, Dimension, End, Listed, Mark, Number, Open, Statement, DeclareVariables, Value, Variable, assigned, attribute, before_mark, body, both, constant, constant_of, dimension, each, either, first_bad, if_so, global, into_first, length_of, list_of, members_in, numeral_of, section_mark, section_number, single, token_fault, typed, variable}
+pub use Rattle.cdl_statements.specs.Shapes.{Attribute, Close, DeclareDimensions, Dimension, End, Listed, Enter, Number, Open, Statement, DeclareVariables, Value, Variable, assigned, attribute, before_mark, body, both, constant, constant_of, dimension, each, either, first_bad, if_so, global, into_first, length_of, list_of, members_in, section_mark, section_number, single, token_fault, typed, variable}
 pub use Rattle.cdl_statements.specs.Pieces.{section_of}
 pub use Rattle.cdl_statements.proofs.Members.{alone, constants, constants_are, constants_by, dimensions, dimensions_are, dimensions_by, mark_after, members, name_alone, dimensions_none}
 unfoldable pub use Rattle.cdl_statements.specs.Shapes.{shape}

@@ -7,7 +7,7 @@ use Rattle.cdl_tokens.specs.declared.{token.Token.Token, token.TokenKind.TokenKi
 use Rattle.cdl_tokens.specs.declared.token.TokenKind.TheVariants as kinds
 use Rattle.nc_base.specs.Escapes.{is_reserved}
 
--- a token without its place: its kind and its bytes
+-- a token without its line and its offsets
 pub record Lexeme : Type 0 where
   pub kind : TokenKind
   pub bytes : List ℕ
@@ -34,7 +34,7 @@ is_mark_kind _ = false
 abbrev pub is_mark : ℕ → Lexeme → Bool
 is_mark b l = is_mark_kind l.kind && slice_index l.bytes 0 == b
 
--- the word, without an escape
+-- this word, without an escape
 abbrev pub is_word : List ℕ → Lexeme → Bool
 is_word word l = is_word_kind l.kind && bytes_eq l.bytes word
 

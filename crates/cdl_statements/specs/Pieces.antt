@@ -28,12 +28,12 @@ abbrev pub statement_len : {X : Type 0} → (X → Lexeme) → List X → ℕ
 statement_len look [] = 0
 statement_len look (t ∷ ts) = elim (is_end_kind (look t).kind) [ true ↦ 0 | false ↦ elim (is_mark (byte ";") (look t)) [ true ↦ 1 | false ↦ suc (statement_len look ts) ] ]
 
--- how many tokens the piece has that begins with t; true: the piece before began with `}`
+-- how many tokens the piece has that begins with t; `true` if the piece before began with `}`
 abbrev pub piece_len : {X : Type 0} → (X → Lexeme) → Bool → X → List X → ℕ
 piece_len look true t ts = if is_end_kind (look t).kind then 1 else len_before_end look (t ∷ ts)
 piece_len look false t ts = if is_alone (look t) then 1 else (if is_section_mark look t ts then 2 else statement_len look (t ∷ ts))
 
--- closed: the piece before began with `}`; the first `more` tokens belong to that piece
+-- closed: the piece before began with `}`. The first `more` tokens belong to that piece.
 unfoldable pub pieces_at : {X : Type 0} → (X → Lexeme) → Bool → ℕ → List X → List (List X)
 pieces_at look closed more [] = []
 pieces_at look closed (suc more) (t ∷ ts) = pieces_at look closed more ts

@@ -31,7 +31,7 @@ pub record Variable : Type 0 where
 pub data Statement : Type 0 where
   Open : Statement
   -- a section mark
-  Mark : (section : Section) → Statement
+  Enter : (section : Section) → Statement
   DeclareDimensions : (dimensions : List Dimension) → Statement
   DeclareVariables : (ty : Lexeme) (variables : List Variable) → Statement
   -- None: an attribute of the dataset
@@ -69,7 +69,7 @@ abbrev pub into_first : Lexeme → List (List Lexeme) → List (List Lexeme)
 into_first l [] = (l ∷ []) ∷ []
 into_first l (m ∷ ms) = (l ∷ m) ∷ ms
 
--- The tokens between commas, where a comma in parentheses is none. parens: a parenthesis is open before these tokens.
+-- The tokens between commas; a comma in parentheses separates nothing. parens: a parenthesis is open before these tokens.
 abbrev pub members_in : Bool → List Lexeme → List (List Lexeme)
 members_in parens [] = [] ∷ []
 members_in parens (l ∷ ls) =
@@ -78,7 +78,7 @@ members_in parens (l ∷ ls) =
       | false ↦ into_first l (members_in (is_mark (byte "(") l || parens && not (is_mark (byte ")") l)) ls)
     ]
 
--- MEMBER, .. where f says what a MEMBER is
+-- MEMBER, .. where f reads a MEMBER
 abbrev pub list_of : {A : Type 0} → (List Lexeme → Option A) → List Lexeme → Option (List A)
 list_of f ls = each f (members_in false ls)
 
@@ -91,17 +91,14 @@ abbrev pub if_so : {A : Type 0} → Bool → Option A → Option A
 if_so true a = a
 if_so false a = None
 
-abbrev pub numeral_of : Version → Lexeme → TokenKind → Option Numeral
-numeral_of v l kinds.Number = numeral v l.bytes
-numeral_of v l _ = None
-
 -- LENGTH; Some None: the record dimension
-abbrev pub length_of : Version → Lexeme → Option (Option ℤ)
-length_of v l = if is_word (codes "unlimited") l || is_word (codes "UNLIMITED") l then Some None else option_map (λ (n : Numeral). Some n.value) (numeral_of v l l.kind)
+abbrev pub length_of : Version → Lexeme → TokenKind → Option (Option ℤ)
+length_of v l kinds.Number = option_map (λ (n : Numeral). Some n.value) (numeral v l.bytes)
+length_of v l _ = if_so (is_word (codes "unlimited") l || is_word (codes "UNLIMITED") l) (Some None)
 
 -- NAME = LENGTH
 abbrev pub dimension : Version → List Lexeme → Option Dimension
-dimension v (n ∷ e ∷ l ∷ []) = if_so (is_mark (byte "=") e) (both (λ name len. record { name = name; len = len }) (name_of n) (length_of v l))
+dimension v (n ∷ e ∷ l ∷ []) = if_so (is_mark (byte "=") e) (both (λ name len. record { name = name; len = len }) (name_of n) (length_of v l l.kind))
 dimension v _ = None
 
 -- VALUE if `_` is taken, otherwise CONST
@@ -146,7 +143,7 @@ abbrev pub attribute : Version → List Lexeme → Option Statement
 attribute v (n ∷ c ∷ ls) = if_so (is_mark (byte ":") c) (option_and_then (λ name. assigned v false (Attribute (Some name)) ls) (name_of n))
 attribute v _ = None
 
--- a statement of a section, without its `;`
+-- a statement without its `;`, by its section
 abbrev pub body : Version → Section → List Lexeme → Option Statement
 body v Globals ls = global v ls
 body v Dimensions ls = either (global v ls) (option_map DeclareDimensions (list_of (dimension v) ls))
@@ -166,10 +163,10 @@ section_number Ended = 6
 
 -- the mark of a section that comes after this one
 abbrev pub section_mark : Section → List Lexeme → Option Statement
-section_mark before (l ∷ c ∷ []) = if_so (is_mark (byte ":") c) (option_and_then (λ s. if_so (nat_lt (section_number before) (section_number s)) (Some (Mark s))) (section_of l))
+section_mark before (l ∷ c ∷ []) = if_so (is_mark (byte ":") c) (option_and_then (λ s. if_so (nat_lt (section_number before) (section_number s)) (Some (Enter s))) (section_of l))
 section_mark before _ = None
 
--- what a piece says in a section, if it has a shape of that section
+-- what a piece says, if it has a shape of its section
 unfoldable pub shape : Version → Section → List Lexeme → Option Statement
 shape v Unopened ls = single (λ l. if_so (is_opening_kind l.kind) (Some Open)) ls
 shape v Closed ls = single (λ l. if_so (is_end_kind l.kind) (Some End)) ls

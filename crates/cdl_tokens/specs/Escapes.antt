@@ -40,19 +40,19 @@ escaped_character bs =
 unfoldable pub character : List ℕ → Character
 character bs = if slice_index bs 0 == byte "\\" then escaped_character (drop 1 bs) else record { value = Some (slice_index bs 0); len = 1 }
 
--- the byte that each character stands for, if it does; the first `more` bytes belong to the character before
+-- the byte that each character stands for, if any; the first `more` bytes belong to the character before
 unfoldable pub unescape_at : ℕ → List ℕ → List (Option ℕ)
 unescape_at more [] = []
 unescape_at (suc more) (b ∷ bs) = unescape_at more bs
 unescape_at zero (b ∷ bs) = (character (b ∷ bs)).value ∷ unescape_at ((character (b ∷ bs)).len - 1) bs
 
--- between the quotes of a string
+-- the bytes between the quotes of a string
 abbrev pub inner : List ℕ → List ℕ
 inner bytes = take (length bytes - 2) (drop 1 bytes)
 
 abbrev pub unescape : List ℕ → List (Option ℕ)
 unescape bs = unescape_at 0 bs
 
--- A character without a byte, which no Text token has, counts as 0.
+-- the bytes that a string stands for; a character without a byte, which no good string has, counts as 0
 abbrev pub string_value : List ℕ → List ℕ
 string_value bs = map (λ b. unwrap_or b 0) (unescape bs)

@@ -43,11 +43,11 @@ gap n = record { kind = None; len = n }
 abbrev pub token : TokenKind → ℕ → Scanned
 token kind n = record { kind = Some kind; len = n }
 
--- the dataset's name and `{`: the bytes after `netcdf`, n of them before the `{`
+-- `netcdf` and then these bytes, n of them before the `{`
 abbrev pub scan_opening : List ℕ → ℕ → Scanned
 scan_opening bs n = if nat_lt n (length bs) then token Opening (6 + n + 1) else token Bad (6 + length bs)
 
--- the bytes after a quote, n of them before the closing one
+-- a quote and then these bytes, n of them before the closing quote
 abbrev pub scan_text : List ℕ → ℕ → Scanned
 scan_text bs n = if nat_lt n (length bs) then token (if list_all is_some (unescape (take n bs)) then Text else Bad) (n + 2) else token Bad (1 + length bs)
 

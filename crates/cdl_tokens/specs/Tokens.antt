@@ -14,12 +14,12 @@ line_at text at = 1 + count_by (λ b. b == byte "\n") (take at text)
 abbrev pub token_at : List ℕ → ℕ → TokenKind → ℕ → Token
 token_at text at kind n = record { kind = kind; line = line_at text at; first = at; past = at + n }
 
--- the token, if it is no gap, and those after it
+-- the token, if there is one, and those after it
 abbrev pub with_token : List ℕ → ℕ → Option TokenKind → ℕ → List Token → List Token
 with_token text at None n rest = rest
 with_token text at (Some kind) n rest = token_at text at kind n ∷ rest
 
--- The tokens from the place `at` on, where the rest of the text is `bytes`. The first `more` of them belong to the gap or token before.
+-- The tokens from the offset `at` on, where the rest of the text is `bytes`. Its first `more` bytes belong to the gap or token before.
 unfoldable pub tokens_at : List ℕ → Bool → ℕ → ℕ → List ℕ → List Token
 tokens_at text at_start at more [] = token_at text at End 0 ∷ []
 tokens_at text at_start at (suc more) (b ∷ bytes) = tokens_at text at_start (at + 1) more bytes

@@ -35,7 +35,7 @@ kind_words cdl.StringTooLong = codes "string too long"
 kind_words cdl.DuplicateData = codes "duplicate data"
 kind_words cdl.TooLarge = codes "too large"
 
--- Out of memory is of no line.
+-- Out of memory belongs to no line.
 unfoldable pub line_prefix : CdlKind → ℕ → List ℕ
 line_prefix cdl.OutOfMemory line = []
 line_prefix kind line = concat_parts (codes "line " ∷ decimal line ∷ codes ": " ∷ [])
@@ -45,7 +45,7 @@ fault_text (Cdl fault) = concat_parts (line_prefix fault.kind fault.line ∷ kin
 fault_text OffsetTooLarge = codes "offset too large"
 fault_text WriteFailed = codes "write failed"
 
--- what is said of a file
+-- the line that says this of a file
 unfoldable pub fault_line : List ℕ → List ℕ → List ℕ
 fault_line file said = concat_parts (codes "ncgen: " ∷ file ∷ codes ": " ∷ said ∷ codes "\n" ∷ [])
 
@@ -60,7 +60,7 @@ unfoldable pub output_words : OutputFault → List ℕ
 output_words output.CannotOpen = codes "cannot open"
 output_words output.WriteFailed = codes "write failed"
 
--- of a path, or of standard input
+-- what lines call the text
 unfoldable pub text_name : Option (String Global) → List ℕ
 text_name (Some path) = string_bytes path
 text_name None = codes "-"

@@ -26,7 +26,7 @@ abbrev pub ReadFailsOnly : {A : Type 0} → OpenerView → OpenerView → Result
 ReadFailsOnly old new (Err (Text ReadFailed)) = HasFailed old.failures new.failures
 ReadFailsOnly old new _ = new.failures ≡ old.failures
 
--- what the answer says of a path that names these bytes, if any
+-- the text at a path that names these bytes, if it names any
 abbrev pub ReadsAt : Bool → Option (List ℕ) → Result (Vec ℕ) InputFault → Type 0
 ReadsAt is_transparent named (Ok text) = (length text.items ≤ text_limit) × OnTrue is_transparent (named ≡ Some text.items)
 ReadsAt is_transparent named (Err CannotOpen) = OnTrue is_transparent (named ≡ None)

@@ -5,7 +5,7 @@ use Rattle.cdl_statements.specs.code.DueTokens.{is_name, opens_section_after}
 use Rattle.cdl_tokens.specs.Escapes.{inner, string_value, word_value}
 use Rattle.cdl_statements.specs.Lexemes.{Lexeme, is_mark, is_mark_kind, is_word}
 use Rattle.cdl_tokens.specs.Numerals.{Parts, parts, number}
-use Rattle.cdl_statements.specs.Shapes.{Value, Number, Characters, Underscore, Dimension, Variable, Statement, Open, Mark, DeclareDimensions, DeclareVariables, Attribute, Listed, Close, End}
+use Rattle.cdl_statements.specs.Shapes.{Value, Number, Characters, Underscore, Dimension, Variable, Statement, Open, Enter, DeclareDimensions, DeclareVariables, Attribute, Listed, Close, End}
 use Rattle.cdl_statements.specs.Pieces.{section_of}
 use Rattle.cdl_statements.specs.declared.section.Section.{Section}
 use Rattle.cdl_statements.specs.declared.section.Section.TheVariants.{Unopened, Globals, Dimensions, Variables, Values, Closed, Ended}
@@ -68,7 +68,7 @@ attribute_said v variable (n ∷ ls) = Attribute variable (word_value n.bytes) (
 -- the mark of the section whose word this is
 abbrev pub mark_said : Option Section → Statement
 mark_said None = End
-mark_said (Some section) = Mark section
+mark_said (Some section) = Enter section
 
 -- in the section of the variables: a word, and what follows it
 abbrev pub variable_said : Version → Lexeme → List Lexeme → Statement
