@@ -1,6 +1,6 @@
 -- Law. A dump is cut into the statements that it was put together from.
 use Rattle.std.specs.Prelude.{◌≡◌, ℕ, ℤ, pos, ◌==◌, if◌then◌else◌, true, List, [], ◌∷◌, ◌++◌, All, map, codes, slice_get, Option, None, Some, Ok}
-use Rattle.nc_base.specs.Bytes.{concat_parts}
+use Rattle.nc_base.specs.Bytes.{Bytes, concat_parts}
 use Rattle.nc_base.specs.declared.{dataset.Dataset.Dataset, header.Att.Att, header.Dim.Dim, header.NumRecs.TheVariants.Known, header.Var.Var, version.Version.Version}
 use Rattle.nc_base.specs.Dump.{has_values}
 use Rattle.nc_base.specs.Datasets.{values_in_dataset}
@@ -25,23 +25,23 @@ pub record SaysStatement (version : Version) (section : Section) (piece : List L
   pub shaped : shape version section piece ≡ Some statement
 
 -- whatever follows, the bytes are one piece that says this statement, and what follows is cut as if nothing came before it
-pub record IsStatement (version : Version) (section : Section) (bytes : List ℕ) (statement : Statement) : Type 0 where
+pub record IsStatement (version : Version) (section : Section) (bytes : Bytes) (statement : Statement) : Type 0 where
   pub piece : List Lexeme
-  pub cut : (rest : List ℕ) → pieces_of (bytes ++ rest) ≡ piece ∷ pieces_of rest
+  pub cut : (rest : Bytes) → pieces_of (bytes ++ rest) ≡ piece ∷ pieces_of rest
   pub says : SaysStatement version section piece statement
 
 -- the pieces of a text, without the places of their tokens, are its statements
 abbrev pub PiecesAreStatements : Type 0
-PiecesAreStatements = (text : List ℕ) → map (map (lexeme text)) (statements text) ≡ cut_lexemes (lexemes text)
+PiecesAreStatements = (text : Bytes) → map (map (lexeme text)) (statements text) ≡ cut_lexemes (lexemes text)
 
 -- ---- marks
 
 -- the first line of a dump, but for its line feed
-abbrev pub opening_line : List ℕ → List ℕ
+abbrev pub opening_line : Bytes → Bytes
 opening_line name = concat_parts (netcdf_word ∷ escaped_name name ∷ codes " {" ∷ [])
 
 -- the pieces that are one lexeme
-abbrev pub opening_piece : List ℕ → List Lexeme
+abbrev pub opening_piece : Bytes → List Lexeme
 opening_piece name = record { kind = kinds.Opening; bytes = opening_line name } ∷ []
 
 abbrev pub brace_piece : List Lexeme
@@ -53,13 +53,13 @@ end_piece = record { kind = kinds.End; bytes = [] } ∷ []
 -- What comes between the statements of a dump: its first line, the marks of its sections, the line before the global attributes,
 -- which is a comment, and its last line.
 pub record MarksReadBack (version : Version) : Type 0 where
-  pub opening : (name rest : List ℕ) → IsName name → cut_lexemes (lexemes (opening_line name ++ 10 ∷ rest)) ≡ opening_piece name ∷ pieces_of rest
-  pub opens : (name : List ℕ) → SaysStatement version Unopened (opening_piece name) Open
+  pub opening : (name rest : Bytes) → IsName name → cut_lexemes (lexemes (opening_line name ++ 10 ∷ rest)) ≡ opening_piece name ∷ pieces_of rest
+  pub opens : (name : Bytes) → SaysStatement version Unopened (opening_piece name) Open
   pub dimensions : IsStatement version Globals dimensions_word (Enter Dimensions)
   pub variables : IsStatement version Dimensions variables_word (Enter Variables)
   pub variables_alone : IsStatement version Globals variables_word (Enter Variables)
   pub values : IsStatement version Variables (codes "data:\n") (Enter Values)
-  pub comment : (rest : List ℕ) → pieces_of (global_word ++ rest) ≡ pieces_of rest
+  pub comment : (rest : Bytes) → pieces_of (global_word ++ rest) ≡ pieces_of rest
   pub closing : pieces_of (codes "}\n") ≡ brace_piece ∷ end_piece ∷ []
   pub closes : All (λ (section : Section). SaysStatement version section brace_piece Close) (Globals ∷ Dimensions ∷ Variables ∷ Values ∷ [])
   pub ends : SaysStatement version Closed end_piece End
@@ -81,7 +81,7 @@ DimensionsReadBack = (d : Dataset) (records : ℕ) → IsSayable d
 -- ---- declarations
 
 -- the line that declares a variable
-abbrev pub declaration : List Dim → Var → List ℕ
+abbrev pub declaration : List Dim → Var → Bytes
 declaration dims var = concat_parts (codes "\t" ∷ type_word var.ty ∷ codes " " ∷ escaped_name var.name ∷ shape_text dims var.dimids ∷ codes " ;\n" ∷ [])
 
 abbrev pub type_lexeme : Var → Lexeme
@@ -91,7 +91,7 @@ type_lexeme var = record { kind = kinds.Word; bytes = type_word var.ty }
 -- that means its type, and names of dimensions that mean its shape.
 pub record DeclarationReadsBack (version : Version) (dims : List Dim) (var : Var) : Type 0 where
   pub lines : var_lines dims var ≡ declaration dims var ++ att_lines (escaped_name var.name) var.atts
-  pub names : List (List ℕ)
+  pub names : List Bytes
   pub statement : IsStatement version Variables (declaration dims var) (DeclareVariables (type_lexeme var) (record { name = var.name; dimensions = names } ∷ []))
   pub ty : type_of version (type_lexeme var) ≡ Ok var.ty
   pub dimids : in_turn (add_dimid dims) [] names ≡ Ok var.dimids
@@ -107,13 +107,13 @@ pub data IsBeforeData : Section → Type 0 where
   dimensions : IsBeforeData Dimensions
   variables : IsBeforeData Variables
 
-abbrev pub escaped_owner : Option (List ℕ) → List ℕ
+abbrev pub escaped_owner : Option Bytes → Bytes
 escaped_owner None = []
 escaped_owner (Some name) = escaped_name name
 
 -- The line of an attribute of the variable with this name, or of the whole dataset: constants of its type, which together have
 -- its values without the NULs at their end.
-pub record AttributeReadsBack (version : Version) (section : Section) (owner : Option (List ℕ)) (att : Att) : Type 0 where
+pub record AttributeReadsBack (version : Version) (section : Section) (owner : Option Bytes) (att : Att) : Type 0 where
   pub constants : List Value
   pub statement : IsStatement version section (att_line (escaped_owner owner) att) (Attribute owner att.name constants)
   pub ty : first_type constants ≡ att.ty

@@ -1,6 +1,6 @@
 -- Law. Datasets without the NULs at the end of their attributes: what of them a second text keeps, and when their fill values change.
 use Rattle.std.specs.Prelude.{◌≡◌, ◌↔◌, ℕ, ◌≤◌, Bool, true, false, ◌&&◌, ◌==◌, nat_lt, List, length, find, All, None, Some, Ok}
-use Rattle.nc_base.specs.Bytes.{AreBytes}
+use Rattle.nc_base.specs.Bytes.{Bytes, AreBytes}
 use Rattle.nc_base.specs.declared.{dataset.Dataset.Dataset, header.Att.Att, header.Var.Var, version.Version.Version}
 use Rattle.nc_base.specs.Dump.{Options, whole}
 use Rattle.nc_base.specs.Datasets.{IsText}
@@ -24,7 +24,7 @@ TrimmedIsSayable = (d : Dataset) → IsSayable d → IsSayable (trimmed d)
 
 -- so a second round trip changes nothing
 abbrev pub SecondTripIsSame : Type 0
-SecondTripIsSame = (d : Dataset) (o p : Options) (first second : List ℕ) → IsSayable d → IsFull o → IsFull p → IsText d o first whole → IsText (trimmed d) p second whole
+SecondTripIsSame = (d : Dataset) (o p : Options) (first second : Bytes) → IsSayable d → IsFull o → IsFull p → IsText d o first whole → IsText (trimmed d) p second whole
     → (meaning first d.header.version ≡ Ok (trimmed d)) × (meaning second d.header.version ≡ Ok (trimmed d))
 
 -- ---- the fill values of characters
@@ -46,11 +46,11 @@ HasPlainFill var = is_char var.ty ≡ true → has_cut_fill var ≡ false
 
 -- so what a text means is sayable if and only if no variable of characters has such a fill value
 abbrev pub MeaningsAreSayable : Type 0
-MeaningsAreSayable = (text : List ℕ) (v : Version) (d : Dataset) → AreBytes text → length text ≤ text_limit → meaning text v ≡ Ok d
+MeaningsAreSayable = (text : Bytes) (v : Version) (d : Dataset) → AreBytes text → length text ≤ text_limit → meaning text v ≡ Ok d
     → IsSayable d ↔ All HasPlainFill d.header.vars
 
 -- the dump of what a text means, and the dump of what that means, mean one dataset
 abbrev pub MeaningsComeBack : Type 0
-MeaningsComeBack = (text : List ℕ) (v : Version) (d : Dataset) (o p : Options) (first second : List ℕ) → AreBytes text → length text ≤ text_limit → meaning text v ≡ Ok d
+MeaningsComeBack = (text : Bytes) (v : Version) (d : Dataset) (o p : Options) (first second : Bytes) → AreBytes text → length text ≤ text_limit → meaning text v ≡ Ok d
     → All HasPlainFill d.header.vars → IsFull o → IsFull p → IsText d o first whole → IsText (trimmed d) p second whole
     → (meaning first v ≡ Ok (trimmed d)) × (meaning second v ≡ Ok (trimmed d))

@@ -1,6 +1,7 @@
 -- Definition. What a text means: a dataset, or its first fault with its line.
 use Rattle.std.specs.Prelude.{ℕ, ◌+◌, ◌-◌, ◌*◌, ◌/◌, nat_le, max, Bool, ◌&&◌, if◌then◌else◌, ℤ, List, [], ◌∷◌, length, map, None, Some, Result, Ok, Err}
 use Rattle.std.specs.List.{flat_map, list_all}
+use Rattle.nc_base.specs.Bytes.{Bytes}
 use Rattle.nc_base.specs.declared.{dataset.Dataset.Dataset, header.Dim.Dim, header.Header.Header, header.NumRecs.TheVariants.Known, version.Version.Version}
 use Rattle.nc_base.specs.Fill.{fill_value}
 use Rattle.nc_base.specs.Sizes.{value_count}
@@ -33,7 +34,7 @@ abbrev pub starting_line : List Token → ℕ
 starting_line [] = 0
 starting_line (t ∷ ts) = t.line
 
-unfoldable pub run : List ℕ → Version → State → List (List Token) → Result State CdlFault
+unfoldable pub run : Bytes → Version → State → List (List Token) → Result State CdlFault
 run text v s [] = Ok s
 run text v s (p ∷ ps) =
     elim (piece_read v s (map (lexeme text) p)) [
@@ -59,7 +60,7 @@ records_in dims [] = 0
 records_in dims (d ∷ ds) = max (records_of dims d) (records_in dims ds)
 
 -- the array of a variable over n records
-abbrev pub array_of : List Dim → ℕ → Draft → List ℕ
+abbrev pub array_of : List Dim → ℕ → Draft → Bytes
 array_of dims n d = flat_map (bytes_of_number d.var.ty) (filled (value_count dims d.var n) (fill_value d.var) (listed_values dims d))
 
 abbrev pub header_of : Version → State → Header
@@ -91,5 +92,5 @@ unfoldable pub finished : Version → ℕ → Result State CdlFault → Result D
 finished v line (Err fault) = Err fault
 finished v line (Ok s) = if is_small_enough v s then Ok (dataset_of v s) else Err (record { line = line; kind = TooLarge })
 
-abbrev pub meaning : List ℕ → Version → Result Dataset CdlFault
+abbrev pub meaning : Bytes → Version → Result Dataset CdlFault
 meaning text v = finished v (closing_line (statements text)) (run text v empty (statements text))

@@ -3,6 +3,7 @@ use Rattle.std.specs.Prelude.{ℕ, ℤ, pos, neg_ℤ, Bool, true, false, List, [
 use Rattle.std.specs.List.{flat_map, list_any, position}
 use Rattle.std.specs.Ordering.{int_eq}
 use Rattle.std.specs.Str.{bytes_eq}
+use Rattle.nc_base.specs.Bytes.{Bytes}
 use mir.Val.{bits, hbits}
 use Rattle.nc_base.specs.declared.{header.Att.Att, header.Dim.Dim, header.Var.Var, nc_type.NcType.NcType, version.Version.Version}
 use Rattle.nc_base.specs.declared.nc_type.NcType.TheVariants.{Char, Int}
@@ -24,9 +25,9 @@ use Rattle.cdl_statements.specs.declared.section.Section.TheVariants.{Globals, C
 pub data Listing : Type 0 where
   Numbers : (values : List ℤ) → Listing
   -- strings one after the other: at rank 0 or 1
-  Joined : (bytes : List ℕ) → Listing
+  Joined : (bytes : Bytes) → Listing
   -- a string a row: at rank 2 and up
-  Rows : (rows : List (List ℕ)) → Listing
+  Rows : (rows : List Bytes) → Listing
 
 -- a variable, and what the data section has listed of it so far
 pub record Draft : Type 0 where
@@ -100,7 +101,7 @@ type_of v word =
     else (if is_word (codes "long") word then Ok Int else some_or (find (λ ty. has_type v ty && is_word (type_word ty) word) all_types) UnknownType)
 
 -- appends the id of a dimension; only the first may be the record dimension
-unfoldable pub add_dimid : List Dim → List ℕ → List ℕ → Result (List ℕ) CdlKind
+unfoldable pub add_dimid : List Dim → List ℕ → Bytes → Result (List ℕ) CdlKind
 add_dimid dims ids name = do
   _ ← unless (is_name name) BadName
   k ← some_or (position (λ (d : Dim). bytes_eq d.name name) dims) UnknownDimension
@@ -116,7 +117,7 @@ add_var dims ty drafts v = do
   Ok (drafts ++ record { var = record { name = v.name; dimids = ids; atts = []; ty = ty; begin_at = 0 }; listed = None } ∷ [])
 
 -- the variables, with f applied to the one of this name
-abbrev pub at_named : List ℕ → (Draft → Result Draft CdlKind) → List Draft → Result (List Draft) CdlKind
+abbrev pub at_named : Bytes → (Draft → Result Draft CdlKind) → List Draft → Result (List Draft) CdlKind
 at_named name f [] = Err UnknownVariable
 at_named name f (d ∷ ds) =
     if bytes_eq d.var.name name then (do
@@ -126,7 +127,7 @@ at_named name f (d ∷ ds) =
       es ← at_named name f ds
       Ok (d ∷ es))
 
-unfoldable pub at_variable : List ℕ → (Draft → Result Draft CdlKind) → List Draft → Result (List Draft) CdlKind
+unfoldable pub at_variable : Bytes → (Draft → Result Draft CdlKind) → List Draft → Result (List Draft) CdlKind
 at_variable name f ds = do
   _ ← unless (is_name name) BadName
   at_named name f ds
@@ -139,7 +140,7 @@ type_said (Number n) = n.ty
 type_said (Characters bytes) = Char
 type_said Underscore = Char
 
-abbrev pub add_constant : NcType → List ℕ → Value → Result (List ℕ) CdlKind
+abbrev pub add_constant : NcType → Bytes → Value → Result Bytes CdlKind
 add_constant ty vals (Number n) = do
   _ ← unless (same_type n.ty ty) MixedConstants
   _ ← unless (has_number ty n.value) NumberRange
@@ -154,14 +155,14 @@ abbrev pub first_type : List Value → NcType
 first_type [] = Char
 first_type (c ∷ cs) = type_said c
 
-unfoldable pub add_att : List ℕ → List Value → List Att → Result (List Att) CdlKind
+unfoldable pub add_att : Bytes → List Value → List Att → Result (List Att) CdlKind
 add_att name cs atts = do
   _ ← unless (is_name name) BadName
   _ ← when (list_any (λ (a : Att). bytes_eq a.name name) atts) DuplicateName
   vals ← in_turn (add_constant (first_type cs)) [] cs
   Ok (atts ++ record { name = name; ty = first_type cs; vals = vals } ∷ [])
 
-abbrev pub with_att : List ℕ → List Value → Draft → Result Draft CdlKind
+abbrev pub with_att : Bytes → List Value → Draft → Result Draft CdlKind
 with_att name cs d = do
   atts ← add_att name cs d.var.atts
   Ok (record d { var = record d.var { atts = atts } })
@@ -207,13 +208,13 @@ add_number capacity before (Number n) = do
   _ ← unless (has_number capacity.ty n.value) NumberRange
   Ok (before ++ n.value ∷ [])
 
-abbrev pub add_characters : Capacity → List ℕ → Value → Result (List ℕ) CdlKind
+abbrev pub add_characters : Capacity → Bytes → Value → Result Bytes CdlKind
 add_characters capacity before (Characters bytes) = do
   _ ← unless (capacity.is_open || nat_le (length before + length bytes) capacity.count) StringTooLong
   Ok (before ++ bytes)
 add_characters capacity before _ = Err WrongKind
 
-abbrev pub add_row : Capacity → List (List ℕ) → Value → Result (List (List ℕ)) CdlKind
+abbrev pub add_row : Capacity → List Bytes → Value → Result (List Bytes) CdlKind
 add_row capacity before (Characters bytes) = do
   _ ← unless (capacity.is_open || nat_lt (length before) capacity.rows) TooManyValues
   _ ← unless (nat_le (length bytes) capacity.row) StringTooLong

@@ -2,6 +2,7 @@
 use Rattle.std.specs.Prelude.{ℕ, ℤ, Bool, true, false, List, [], ◌∷◌, ◌&&◌, ◌||◌, not, if◌then◌else◌, codes, Option, None, Some, is_none, nat_lt}
 use Rattle.std.specs.Str.{byte}
 use Rattle.std.specs.Option.{option_map, option_and_then}
+use Rattle.nc_base.specs.Bytes.{Bytes}
 use Rattle.cdl_tokens.specs.Escapes.{inner, string_value}
 use Rattle.cdl_statements.specs.Lexemes.{Lexeme, is_mark, is_word, is_word_kind, is_opening_kind, is_end_kind, name_of}
 use Rattle.cdl_statements.specs.Pieces.{section_of}
@@ -16,17 +17,17 @@ use Rattle.cdl_statements.specs.declared.section.Section.TheVariants.{Unopened, 
 -- a CONST or a VALUE
 pub data Value : Type 0 where
   Number : (n : Numeral) → Value
-  Characters : (bytes : List ℕ) → Value
+  Characters : (bytes : Bytes) → Value
   Underscore : Value
 
 pub record Dimension : Type 0 where
-  pub name : List ℕ
+  pub name : Bytes
   -- None: the record dimension
   pub len : Option ℤ
 
 pub record Variable : Type 0 where
-  pub name : List ℕ
-  pub dimensions : List (List ℕ)
+  pub name : Bytes
+  pub dimensions : List Bytes
 
 pub data Statement : Type 0 where
   Open : Statement
@@ -35,13 +36,13 @@ pub data Statement : Type 0 where
   DeclareDimensions : (dimensions : List Dimension) → Statement
   DeclareVariables : (ty : Lexeme) (variables : List Variable) → Statement
   -- None: an attribute of the dataset
-  Attribute : (variable : Option (List ℕ)) (name : List ℕ) (constants : List Value) → Statement
+  Attribute : (variable : Option Bytes) (name : Bytes) (constants : List Value) → Statement
   -- values in the data section
-  Listed : (variable : List ℕ) (values : List Value) → Statement
+  Listed : (variable : Bytes) (values : List Value) → Statement
   Close : Statement
   End : Statement
 
-abbrev pub token_fault : Version → TokenKind → List ℕ → Option CdlKind
+abbrev pub token_fault : Version → TokenKind → Bytes → Option CdlKind
 token_fault v kinds.Bad bytes = Some BadToken
 token_fault v kinds.Number bytes = if is_none (numeral v bytes) then Some BadNumber else None
 token_fault v _ bytes = None
@@ -124,7 +125,7 @@ variable (n ∷ p ∷ ls) =
     if_so (is_mark (byte "(") p) (both (λ name ds. record { name = name; dimensions = ds }) (name_of n) (option_and_then (list_of (single name_of)) (before_mark (byte ")") ls)))
 
 -- f of a name and values: NAME = VALUE, .. if `_` is taken, otherwise NAME = CONST, ..
-abbrev pub assigned : {A : Type 0} → Version → Bool → (List ℕ → List Value → A) → List Lexeme → Option A
+abbrev pub assigned : {A : Type 0} → Version → Bool → (Bytes → List Value → A) → List Lexeme → Option A
 assigned v takes_fill f (n ∷ e ∷ ls) = if_so (is_mark (byte "=") e) (both f (name_of n) (list_of (single (constant v takes_fill)) ls))
 assigned v takes_fill f _ = None
 

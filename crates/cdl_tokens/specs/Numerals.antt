@@ -4,6 +4,7 @@ use Rattle.std.specs.Char.{to_ascii_lowercase}
 use Rattle.std.specs.List.{prefix_len}
 use Rattle.std.specs.Option.{option_map}
 use Rattle.std.specs.Str.{byte, bytes_eq}
+use Rattle.nc_base.specs.Bytes.{Bytes}
 use Rattle.cdl_tokens.specs.Bytes.{is_digit, is_octal, is_hex, is_sign, number_in}
 use Rattle.nc_base.specs.declared.{nc_type.NcType.NcType, version.Version.Version}
 use Rattle.nc_base.specs.declared.nc_type.NcType.TheVariants.{Char, Int}
@@ -15,12 +16,12 @@ pub record Numeral : Type 0 where
   pub ty : NcType
 
 -- these bytes, in lower case, are the suffix that a dump prints for the type, or `l` for int
-abbrev pub has_suffix : List ℕ → NcType → Bool
+abbrev pub has_suffix : Bytes → NcType → Bool
 has_suffix bs Char = false
 has_suffix bs Int = bytes_eq bs [] || bytes_eq bs (codes "l")
 has_suffix bs ty = bytes_eq bs (map to_ascii_lowercase (number_suffix ty))
 
-unfoldable pub type_of_suffix : Version → List ℕ → Option NcType
+unfoldable pub type_of_suffix : Version → Bytes → Option NcType
 type_of_suffix v bs = find (λ ty. has_suffix (map to_ascii_lowercase bs) ty && has_type v ty) all_types
 
 -- the sign of a number, the value of its digits, which has no limit, and the type that its suffix says
@@ -30,18 +31,18 @@ pub record Parts : Type 0 where
   pub ty : NcType
 
 -- n digits, one at least, and a suffix
-abbrev pub in_base : Version → Bool → ℕ → ℕ → List ℕ → Option Parts
+abbrev pub in_base : Version → Bool → ℕ → ℕ → Bytes → Option Parts
 in_base v minus base n bs =
     if n == 0 then None else option_map (λ ty. record { minus = minus; magnitude = number_in base 0 (take n bs); ty = ty }) (type_of_suffix v (drop n bs))
 
 -- what comes after the sign: hexadecimal digits after `0x`, octal digits that begin with `0`, or decimal digits
-abbrev pub with_sign : Version → Bool → List ℕ → Option Parts
+abbrev pub with_sign : Version → Bool → Bytes → Option Parts
 with_sign v minus bs =
     if slice_index bs 0 == byte "0" && to_ascii_lowercase (slice_index bs 1) == byte "x" then in_base v minus 16 (prefix_len is_hex (drop 2 bs)) (drop 2 bs)
     else (if slice_index bs 0 == byte "0" then in_base v minus 8 (prefix_len is_octal bs) bs
     else in_base v minus 10 (prefix_len is_digit bs) bs)
 
-unfoldable pub parts : Version → List ℕ → Option Parts
+unfoldable pub parts : Version → Bytes → Option Parts
 parts v bs = if is_sign (slice_index bs 0) then with_sign v (slice_index bs 0 == byte "-") (drop 1 bs) else with_sign v false bs
 
 abbrev pub signed : Bool → ℕ → ℤ
@@ -50,5 +51,5 @@ signed minus n = if minus then neg_ℤ (pos n) else pos n
 abbrev pub number : Parts → Numeral
 number p = record { value = signed p.minus p.magnitude; ty = p.ty }
 
-unfoldable pub numeral : Version → List ℕ → Option Numeral
+unfoldable pub numeral : Version → Bytes → Option Numeral
 numeral v bs = option_map number (parts v bs)

@@ -1,7 +1,7 @@
 -- Definition. The faults of a run, and the lines that tell them.
 use Rattle.std.specs.Global.{Global}
 use Rattle.std.specs.Prelude.{ℕ, List, [], ◌∷◌, Option, Some, None, String, codes, decimal, string_bytes}
-use Rattle.nc_base.specs.Bytes.{concat_parts}
+use Rattle.nc_base.specs.Bytes.{Bytes, concat_parts}
 use Rattle.cdl_statements.specs.declared.fault.CdlKind.{CdlKind}
 use Rattle.cdl_statements.specs.declared.fault.CdlKind.TheVariants as cdl
 use Rattle.cli_base.specs.declared.fault.OptFault.{OptFault}
@@ -13,7 +13,7 @@ use Rattle.ncgen.specs.declared.failure.InputFault.TheVariants as input
 use Rattle.ncgen.specs.declared.failure.OutputFault.TheVariants as output
 use Rattle.ncgen.specs.declared.failure.Failure.TheVariants.{CommandLine, Input, Output}
 
-unfoldable pub kind_words : CdlKind → List ℕ
+unfoldable pub kind_words : CdlKind → Bytes
 kind_words cdl.OutOfMemory = codes "out of memory"
 kind_words cdl.BadToken = codes "bad token"
 kind_words cdl.BadNumber = codes "bad number"
@@ -36,40 +36,40 @@ kind_words cdl.DuplicateData = codes "duplicate data"
 kind_words cdl.TooLarge = codes "too large"
 
 -- Out of memory belongs to no line.
-unfoldable pub line_prefix : CdlKind → ℕ → List ℕ
+unfoldable pub line_prefix : CdlKind → ℕ → Bytes
 line_prefix cdl.OutOfMemory line = []
 line_prefix kind line = concat_parts (codes "line " ∷ decimal line ∷ codes ": " ∷ [])
 
-unfoldable pub fault_text : GenFault → List ℕ
+unfoldable pub fault_text : GenFault → Bytes
 fault_text (Cdl fault) = concat_parts (line_prefix fault.kind fault.line ∷ kind_words fault.kind ∷ [])
 fault_text OffsetTooLarge = codes "offset too large"
 fault_text WriteFailed = codes "write failed"
 
 -- the line that says this of a file
-unfoldable pub fault_line : List ℕ → List ℕ → List ℕ
+unfoldable pub fault_line : Bytes → Bytes → Bytes
 fault_line file said = concat_parts (codes "ncgen: " ∷ file ∷ codes ": " ∷ said ∷ codes "\n" ∷ [])
 
-unfoldable pub input_words : InputFault → List ℕ
+unfoldable pub input_words : InputFault → Bytes
 input_words input.CannotOpen = codes "cannot open"
 input_words (input.Text text.OutOfMemory) = codes "out of memory"
 input_words (input.Text text.ReadFailed) = codes "read failed"
 input_words (input.Text text.TooLong) = codes "CDL text too long"
 input_words (input.Generate fault) = fault_text fault
 
-unfoldable pub output_words : OutputFault → List ℕ
+unfoldable pub output_words : OutputFault → Bytes
 output_words output.CannotOpen = codes "cannot open"
 output_words output.WriteFailed = codes "write failed"
 
 -- what lines call the text
-unfoldable pub text_name : Option (String Global) → List ℕ
+unfoldable pub text_name : Option (String Global) → Bytes
 text_name (Some path) = string_bytes path
 text_name None = codes "-"
 
-unfoldable pub opt_fault_line : OptFault → List ℕ
+unfoldable pub opt_fault_line : OptFault → Bytes
 opt_fault_line opt.OutOfMemory = codes "ncgen: out of memory\n"
 opt_fault_line opt.Usage = codes "usage: ncgen [-b] [-o file] [-k kind] [file]\n"
 
-unfoldable pub line_of_failure : Failure → List ℕ
+unfoldable pub line_of_failure : Failure → Bytes
 line_of_failure (CommandLine fault) = opt_fault_line fault
 line_of_failure (Input path fault) = fault_line (text_name path) (input_words fault)
 line_of_failure (Output path fault) = fault_line (string_bytes path) (output_words fault)

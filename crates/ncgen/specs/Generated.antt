@@ -1,5 +1,6 @@
 -- Definition. What is generated from a CDL text: a file, or a fault.
 use Rattle.std.specs.Prelude.{◌≡◌, ◌⊎◌, ℕ, List, if◌then◌else◌, Result, Ok, Err}
+use Rattle.nc_base.specs.Bytes.{Bytes}
 use Rattle.nc_base.specs.declared.{dataset.Dataset.Dataset, version.Version.Version}
 use Rattle.nc_base.specs.GeneratedFile.{file_of, fits}
 use Rattle.devices.specs.Sinks.{SinkView, Appended, FailedPartway}
@@ -9,31 +10,31 @@ use Rattle.cdl_parse.specs.code.Parsing.{out_of_memory}
 use Rattle.ncgen.specs.declared.fault.GenFault.{GenFault}
 use Rattle.ncgen.specs.declared.fault.GenFault.TheVariants.{Cdl, OffsetTooLarge, WriteFailed}
 
-abbrev pub file_or_fault : Result Dataset CdlFault → Result (List ℕ) GenFault
+abbrev pub file_or_fault : Result Dataset CdlFault → Result Bytes GenFault
 file_or_fault (Ok d) = if fits d.header then Ok (file_of d) else Err OffsetTooLarge
 file_or_fault (Err fault) = Err (Cdl fault)
 
 -- the file of the dataset that a text means in a version, or why there is none
-unfoldable pub generated : List ℕ → Version → Result (List ℕ) GenFault
+unfoldable pub generated : Bytes → Version → Result Bytes GenFault
 generated text v = file_or_fault (meaning text v)
 
 -- The fault is the stated one, or out of memory, which says nothing of the text.
-abbrev pub Refuses : Result (List ℕ) GenFault → GenFault → Type 0
+abbrev pub Refuses : Result Bytes GenFault → GenFault → Type 0
 Refuses stated fault = (stated ≡ Err fault) ⊎ (fault ≡ Cdl out_of_memory)
 
-pub record IsWritten (stated : Result (List ℕ) GenFault) (old new : SinkView) : Type 0 where
-  pub file : List ℕ
+pub record IsWritten (stated : Result Bytes GenFault) (old new : SinkView) : Type 0 where
+  pub file : Bytes
   pub is_stated : stated ≡ Ok file
   pub appended : Appended old new file
 
-pub record IsCutShort (stated : Result (List ℕ) GenFault) (old new : SinkView) : Type 0 where
-  pub file : List ℕ
+pub record IsCutShort (stated : Result Bytes GenFault) (old new : SinkView) : Type 0 where
+  pub file : Bytes
   pub is_stated : stated ≡ Ok file
   pub partway : FailedPartway old new file
 
 -- With success the stated file was written. If the sink failed, a prefix of it was written. Otherwise nothing was written, and the fault is
 -- the stated one or out of memory.
-abbrev pub Generates : {A : Type 0} → Result (List ℕ) GenFault → SinkView → SinkView → Result A GenFault → Type 0
+abbrev pub Generates : {A : Type 0} → Result Bytes GenFault → SinkView → SinkView → Result A GenFault → Type 0
 Generates stated old new (Ok done) = IsWritten stated old new
 Generates stated old new (Err WriteFailed) = IsCutShort stated old new
 Generates stated old new (Err fault) = (new ≡ old) × Refuses stated fault

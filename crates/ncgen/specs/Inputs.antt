@@ -2,6 +2,7 @@
 use Rattle.std.specs.Prelude.{◌≡◌, ℕ, ◌<◌, ◌≤◌, Bool, List, length, Option, Some, None, IsSome, IsSomeAnd, Result, Ok, Err}
 use Rattle.std.specs.Bool.{OnTrue}
 use Rattle.std.specs.Global.{Vec}
+use Rattle.nc_base.specs.Bytes.{Bytes}
 use Rattle.nc_base.specs.declared.version.Version.{Version}
 use Rattle.devices.specs.Failures.{HasFailed, one_more}
 use Rattle.devices.specs.Openers.{OpenerView, OpenerUse}
@@ -27,7 +28,7 @@ ReadFailsOnly old new (Err (Text ReadFailed)) = HasFailed old.failures new.failu
 ReadFailsOnly old new _ = new.failures ≡ old.failures
 
 -- the text at a path that names these bytes, if it names any
-abbrev pub ReadsAt : Bool → Option (List ℕ) → Result (Vec ℕ) InputFault → Type 0
+abbrev pub ReadsAt : Bool → Option Bytes → Result (Vec ℕ) InputFault → Type 0
 ReadsAt is_transparent named (Ok text) = (length text.items ≤ text_limit) × OnTrue is_transparent (named ≡ Some text.items)
 ReadsAt is_transparent named (Err CannotOpen) = OnTrue is_transparent (named ≡ None)
 ReadsAt is_transparent named (Err (Text TooLong)) = OnTrue is_transparent (IsSomeAnd named (λ text. text_limit < length text))
@@ -35,7 +36,7 @@ ReadsAt is_transparent named (Err (Text fault)) = OnTrue is_transparent (IsSome 
 ReadsAt is_transparent named (Err (Generate fault)) = ⊥
 
 -- Opening the path was tried once.
-pub record ReadsPath (texts : OpenerUse) (path : List ℕ) (answer : Result (Vec ℕ) InputFault) : Type 0 where
+pub record ReadsPath (texts : OpenerUse) (path : Bytes) (answer : Result (Vec ℕ) InputFault) : Type 0 where
   pub text : ReadsAt texts.is_transparent (texts.named path) answer
   pub opens : texts.after.opens ≡ one_more texts.before.opens
   pub reads : ReadFailsOnly texts.before texts.after answer
@@ -46,22 +47,22 @@ ReadsStandardInput input (Err (Text fault)) = ReadsText text_limit input.before 
 ReadsStandardInput input (Err other) = ⊥
 
 -- The text at the path was read, or standard input if there is no path. The other one wasn't touched.
-abbrev pub ReadsInput : Inputs → Option (List ℕ) → Result (Vec ℕ) InputFault → Type 0
+abbrev pub ReadsInput : Inputs → Option Bytes → Result (Vec ℕ) InputFault → Type 0
 ReadsInput i (Some path) answer = ReadsPath i.texts path answer × (i.input.after ≡ i.input.before)
 ReadsInput i None answer = ReadsStandardInput i.input answer × (i.texts.after ≡ i.texts.before)
 
 -- ---- what the text gives
 
-pub record Gives (i : Inputs) (path : Option (List ℕ)) (version : Version) (file : List ℕ) : Type 0 where
+pub record Gives (i : Inputs) (path : Option Bytes) (version : Version) (file : Bytes) : Type 0 where
   pub text : Vec ℕ
   pub read : ReadsInput i path (Ok text)
   pub stated : generated text.items version ≡ Ok file
 
-pub record IsRefused (i : Inputs) (path : Option (List ℕ)) (version : Version) (fault : GenFault) : Type 0 where
+pub record IsRefused (i : Inputs) (path : Option Bytes) (version : Version) (fault : GenFault) : Type 0 where
   pub text : Vec ℕ
   pub read : ReadsInput i path (Ok text)
   pub refused : Refuses (generated text.items version) fault
 
-abbrev pub InputFails : Inputs → Option (List ℕ) → Version → InputFault → Type 0
+abbrev pub InputFails : Inputs → Option Bytes → Version → InputFault → Type 0
 InputFails i path version (Generate fault) = IsRefused i path version fault
 InputFails i path version fault = ReadsInput i path (Err fault)

@@ -1,5 +1,6 @@
 -- Definition. What a run of the program has done.
 use Rattle.std.specs.Prelude.{ℕ, ◌≡◌, ◌⊎◌, List, Option, Some, None, option_map, string_bytes}
+use Rattle.nc_base.specs.Bytes.{Bytes}
 use Rattle.devices.specs.Sinks.{SinkView, Appended, FailedPartway}
 use Rattle.devices.specs.Uses.{Use}
 use Rattle.cli_base.specs.declared.fault.OptFault.{OptFault}
@@ -15,7 +16,7 @@ use Rattle.ncgen.specs.declared.failure.Failure.TheVariants.{CommandLine, Input,
 pub record IsGenerated (i : Inputs) (o : Outputs) (asked : Option Asked) : Type 0 where
   pub a : Asked
   pub is_asked : asked ≡ Some a
-  pub file : List ℕ
+  pub file : Bytes
   pub gives : Gives i a.file a.version file
   pub made : IsMade o a.output file
 
@@ -30,7 +31,7 @@ AsksNothing i o asked OutOfMemory = IsUntouched i o
 AsksNothing i o asked Usage = (asked ≡ None) × IsUntouched i o
 
 -- The text gives no file, and nothing was created.
-pub record GivesNothing (i : Inputs) (o : Outputs) (asked : Option Asked) (path : Option (List ℕ)) (fault : InputFault) : Type 0 where
+pub record GivesNothing (i : Inputs) (o : Outputs) (asked : Option Asked) (path : Option Bytes) (fault : InputFault) : Type 0 where
   pub a : Asked
   pub is_asked : asked ≡ Some a
   pub is_path : path ≡ a.file
@@ -38,11 +39,11 @@ pub record GivesNothing (i : Inputs) (o : Outputs) (asked : Option Asked) (path 
   pub untouched : o.after ≡ o.before
 
 -- The text gives a file, which is not, or not all, at the output's path.
-pub record IsUnwritten (i : Inputs) (o : Outputs) (asked : Option Asked) (path : List ℕ) (fault : OutputFault) : Type 0 where
+pub record IsUnwritten (i : Inputs) (o : Outputs) (asked : Option Asked) (path : Bytes) (fault : OutputFault) : Type 0 where
   pub a : Asked
   pub is_asked : asked ≡ Some a
   pub is_path : a.output ≡ Some path
-  pub file : List ℕ
+  pub file : Bytes
   pub gives : Gives i a.file a.version file
   pub fails : OutputFails o path file fault
 

@@ -16,7 +16,7 @@ pub struct IndexedVars {
 
 impl IndexedVars {
     /// Returns variables of these names.
-    pub fn new(alloc: Global, names: &[&[u8]]) -> Result<IndexedVars, AllocError> {
+    pub fn new(alloc: Global, names: &[&str]) -> Result<IndexedVars, AllocError> {
         let mut indexed = IndexedVars {
             vars: Vec::new(alloc),
             index: NameIndex::new(alloc),
@@ -28,7 +28,8 @@ impl IndexedVars {
     }
 
     /// Adds a variable of this name and returns true, if no other one has its name. Otherwise returns false.
-    pub fn add(&mut self, alloc: Global, name: &[u8]) -> Result<bool, AllocError> {
+    pub fn add(&mut self, alloc: Global, name: &str) -> Result<bool, AllocError> {
+        let name = name.as_bytes();
         let bytes = Vec::from_slice(alloc, name)?;
         self.vars.reserve(1)?;
         let added = self.index.add(alloc, self.vars.as_slice(), name)?;
@@ -42,6 +43,11 @@ impl IndexedVars {
             })?;
         }
         Ok(added)
+    }
+
+    /// Returns the position of the variable of this name, if there is one.
+    pub fn find(&self, name: &str) -> Option<u64> {
+        self.names().find(name.as_bytes())
     }
 
     /// Returns the names of the variables.

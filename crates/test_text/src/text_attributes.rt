@@ -1,87 +1,85 @@
 //! Attributes, as statements of CDL text declare them.
 
-use crate::whole_texts::{fault_of, header_of};
-use cdl_parse::{CdlFault, CdlKind};
-use nc_base::{NcType, Version};
+use crate::whole_texts::{declared_by, escaped, expect_fault};
+use cdl_parse::CdlKind;
+use nc_base::{Att, Version};
+use std::alloc::{AllocError, Global};
 use std::test::*;
+
+/// The attribute: its name, its type and its values, which are escaped as its name is.
+fn att_said(alloc: Global, att: &Att) -> Result<String, AllocError> {
+    let name = escaped(alloc, att.name.as_slice())?;
+    let vals = escaped(alloc, att.vals.as_slice())?;
+    format!(in alloc; "{name} {:?} {vals};", att.ty)
+}
+
+/// The attributes, one after the other.
+fn atts_said(alloc: Global, atts: &[Att]) -> Result<String, AllocError> {
+    let mut said = String::new(alloc);
+    for att in atts {
+        let one = att_said(alloc, att)?;
+        said.push_str(one.as_str())?;
+    }
+    Ok(said)
+}
+
+/// The attributes that the text of these parts declares in CDF-5, or its fault.
+fn attributes_of(alloc: Global, parts: &[&str]) -> Result<String, AllocError> {
+    match declared_by(alloc, Version::Cdf5, parts)? {
+        Ok(found) => atts_said(alloc, found.header.gatts.as_slice()),
+        Err(fault) => format!(in alloc; "{fault:?}"),
+    }
+}
 
 #[test]
 fn constants_are_packed(rt: HostRuntime) -> Result<(), Fail> {
-    const ROWS: [(&[u8], NcType, &[u8]); 7] = [
+    const ROWS: &[(&str, &str)] = &[
+        ("a = 1, -2 ;", r"a Int \x00\x00\x00\x01\xff\xff\xff\xfe;"),
+        ("a = 127b, -128B ;", r"a Byte \x7f\x80;"),
+        ("a = 0x7fffs, -1s ;", r"a Short \x7f\xff\xff\xff;"),
+        ("a = \"ab\", \"\\x43\\0\" ;", r"a Char abC\x00;"),
+        ("a = \"\" ;", r"a Char ;"),
+        ("\\a = 255ub ;", r"a Ubyte \xff;"),
         (
-            b"a = 1, -2 ;",
-            NcType::Int,
-            b"\x00\x00\x00\x01\xff\xff\xff\xfe",
-        ),
-        (b"a = 127b, -128B ;", NcType::Byte, b"\x7f\x80"),
-        (b"a = 0x7fffs, -1s ;", NcType::Short, b"\x7f\xff\xff\xff"),
-        (b"a = \"ab\", \"\\x43\\0\" ;", NcType::Char, b"abC\x00"),
-        (b"a = \"\" ;", NcType::Char, b""),
-        (b"\\a = 255ub ;", NcType::Ubyte, b"\xff"),
-        (
-            b"a = 18446744073709551615ull ;",
-            NcType::Uint64,
-            b"\xff\xff\xff\xff\xff\xff\xff\xff",
+            "a = 18446744073709551615ull ;",
+            r"a Uint64 \xff\xff\xff\xff\xff\xff\xff\xff;",
         ),
     ];
-    for (text, ty, vals) in ROWS {
-        match header_of(rt.alloc(), Version::Cdf5, &[b":", text, b"}"])? {
-            Ok(header) => {
-                assert!(rt; header.gatts.len() == 1, "{text:?}");
-                for att in header.gatts.as_slice() {
-                    assert!(rt; att.name.as_slice() == b"a".as_slice(), "{text:?}");
-                    assert!(rt; att.ty == ty, "{text:?}");
-                    assert!(rt; att.vals.as_slice() == vals, "{text:?}");
-                }
-            }
-            Err(fault) => assert!(rt; false, "{fault:?}: {text:?}"),
-        }
+    for (text, want) in ROWS {
+        let found = attributes_of(rt.alloc(), &[":", *text, "}"])?;
+        assert!(rt; found.as_str() == *want, "{found}: {text}");
     }
     Ok(())
 }
 
 #[test]
 fn first_fault_of_an_attribute_wins(rt: HostRuntime) -> Result<(), Fail> {
-    const ROWS: [(&[u8], CdlKind); 13] = [
-        (b"t = 1, %, 08 ;", CdlKind::BadToken),
-        (b"t = 1 08 ;", CdlKind::BadNumber),
-        (b"t = 1ub ;", CdlKind::BadNumber),
-        (b"t = 1, _ ;", CdlKind::Syntax),
-        (b"a\\/b = 1, \"x\" ;", CdlKind::BadName),
-        (b"t = 1, \"x\" ;", CdlKind::DuplicateName),
-        (b"\\t = 1, \"x\" ;", CdlKind::DuplicateName),
-        (b"a = 1, \"x\", 40000s ;", CdlKind::MixedConstants),
-        (b"a = \"x\", 1 ;", CdlKind::MixedConstants),
-        (b"a = 1, 99999s ;", CdlKind::MixedConstants),
-        (b"a = 1s, 32768s, \"x\" ;", CdlKind::NumberRange),
-        (b"a = -129b ;", CdlKind::NumberRange),
-        (b"a = 2147483648 ;", CdlKind::NumberRange),
+    const ROWS: &[(&str, CdlKind)] = &[
+        ("t = 1, %, 08 ;", CdlKind::BadToken),
+        ("t = 1 08 ;", CdlKind::BadNumber),
+        ("t = 1ub ;", CdlKind::BadNumber),
+        ("t = 1, _ ;", CdlKind::Syntax),
+        ("a\\/b = 1, \"x\" ;", CdlKind::BadName),
+        ("t = 1, \"x\" ;", CdlKind::DuplicateName),
+        ("\\t = 1, \"x\" ;", CdlKind::DuplicateName),
+        ("a = 1, \"x\", 40000s ;", CdlKind::MixedConstants),
+        ("a = \"x\", 1 ;", CdlKind::MixedConstants),
+        ("a = 1, 99999s ;", CdlKind::MixedConstants),
+        ("a = 1s, 32768s, \"x\" ;", CdlKind::NumberRange),
+        ("a = -129b ;", CdlKind::NumberRange),
+        ("a = 2147483648 ;", CdlKind::NumberRange),
     ];
     for (text, kind) in ROWS {
-        let fault = fault_of(rt.alloc(), Version::Cdf1, &[b":t = 1 ;\n:", text, b"}"])?;
-        assert!(rt;
-            fault == Some(CdlFault { line: 2, kind }),
-            "{fault:?}: {text:?}"
-        );
+        expect_fault(&rt, rt.alloc(), &[":t = 1 ;\n:", *text, "}"], 2, *kind)?;
     }
     Ok(())
 }
 
 #[test]
 fn attributes_stand_in_the_order_of_the_text(rt: HostRuntime) -> Result<(), Fail> {
-    const NAMES: [&[u8]; 3] = [b"z", b"a", b"m"];
-    match header_of(
-        rt.alloc(),
-        Version::Cdf1,
-        &[b":z = 1 ; :a = \"x\" ; :m = 2b ; }"],
-    )? {
-        Ok(header) => {
-            assert_eq!(rt; header.gatts.len(), 3);
-            for (att, name) in header.gatts.as_slice().iter().zip(NAMES) {
-                assert!(rt; att.name.as_slice() == name, "{name:?}");
-            }
-        }
-        Err(fault) => assert!(rt; false, "{fault:?}"),
-    }
+    let text = ":z = 1 ; :a = \"x\" ; :m = 2b ; }";
+    let found = attributes_of(rt.alloc(), &[text])?;
+    let want = r"z Int \x00\x00\x00\x01;a Char x;m Byte \x02;";
+    assert!(rt; found.as_str() == want, "{found}");
     Ok(())
 }
