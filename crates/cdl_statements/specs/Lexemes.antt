@@ -1,5 +1,5 @@
 -- Definition. What the tokens of a statement say.
-use Rattle.std.specs.Prelude.{ℕ, Bool, true, false, List, ◌&&◌, ◌==◌, not, if◌then◌else◌, slice_index, Option, None, Some}
+use Rattle.std.specs.Prelude.{ℕ, Bool, true, false, ◌&&◌, ◌==◌, not, if◌then◌else◌, slice_index, Option, None, Some}
 use Rattle.std.specs.Str.{bytes_eq}
 use Rattle.nc_base.specs.Bytes.{Bytes}
 use Rattle.cdl_tokens.specs.Escapes.{word_value}

@@ -1,5 +1,5 @@
 -- Definition. The statements of a text.
-use Rattle.std.specs.Prelude.{ℕ, List, false}
+use Rattle.std.specs.Prelude.{List, false}
 use Rattle.nc_base.specs.Bytes.{Bytes}
 use Rattle.cdl_statements.specs.Lexemes.{lexeme}
 use Rattle.cdl_statements.specs.Pieces.{pieces_at}

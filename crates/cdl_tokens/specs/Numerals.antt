@@ -1,5 +1,5 @@
 -- Definition. What number tokens say.
-use Rattle.std.specs.Prelude.{find, ℕ, ℤ, pos, neg_ℤ, Bool, false, List, [], ◌&&◌, ◌||◌, ◌==◌, if◌then◌else◌, slice_index, take, drop, map, codes, Option, None}
+use Rattle.std.specs.Prelude.{find, ℕ, ℤ, pos, neg_ℤ, Bool, false, [], ◌&&◌, ◌||◌, ◌==◌, if◌then◌else◌, slice_index, take, drop, map, codes, Option, None}
 use Rattle.std.specs.Char.{to_ascii_lowercase}
 use Rattle.std.specs.List.{prefix_len}
 use Rattle.std.specs.Option.{option_map}
