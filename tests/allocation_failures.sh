@@ -39,7 +39,7 @@ fails() {
 # has_memory_error: the last run is that of a test, and ended with the error of memory.
 has_memory_error() {
     [ "$status" = 'status 101' ] && [ -z "$out" ] &&
-        [ "$err" = $'error: AllocError\nthe test failed: its result gives status 1\n' ]
+        [ "$err" = $'Error: AllocError\nthe test failed: its result gives status 1\n' ]
 }
 
 # allocates TEST COUNT: the test ends with the error of memory where one of its COUNT allocations is refused, and passes where none is.

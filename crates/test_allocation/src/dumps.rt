@@ -8,7 +8,6 @@ use nc_file::{HeadFault, read_header};
 use ncdump::{DumpFault, DumpOptions, dump, select};
 use std::alloc::{AllocError, Global};
 use std::process::Abort;
-use std::test::Fail;
 
 /// The options of a dump.
 fn options_of(alloc: Global, row: &Dump<'_>) -> Result<DumpOptions, AllocError> {
@@ -78,115 +77,96 @@ fn reads_and_selects(rt: &impl Abort, alloc: Global, row: &Dump<'_>) -> Result<(
 }
 
 #[test]
-fn dump_of_one_variable(rt: HostRuntime) -> Result<(), Fail> {
-    dumps(&rt, rt.alloc(), &rows::ONE_VARIABLE)?;
-    Ok(())
+fn dump_of_one_variable(rt: HostRuntime) -> Result<(), AllocError> {
+    dumps(&rt, rt.alloc(), &rows::ONE_VARIABLE)
 }
 
 #[test]
-fn header_and_selection_of_one_variable(rt: HostRuntime) -> Result<(), Fail> {
-    reads_and_selects(&rt, rt.alloc(), &rows::ONE_VARIABLE)?;
-    Ok(())
+fn header_and_selection_of_one_variable(rt: HostRuntime) -> Result<(), AllocError> {
+    reads_and_selects(&rt, rt.alloc(), &rows::ONE_VARIABLE)
 }
 
 #[test]
-fn dump_of_one_variable_of_version_5(rt: HostRuntime) -> Result<(), Fail> {
-    dumps(&rt, rt.alloc(), &rows::ONE_VARIABLE_OF_VERSION_5)?;
-    Ok(())
+fn dump_of_one_variable_of_version_5(rt: HostRuntime) -> Result<(), AllocError> {
+    dumps(&rt, rt.alloc(), &rows::ONE_VARIABLE_OF_VERSION_5)
 }
 
 #[test]
-fn header_and_selection_of_one_variable_of_version_5(rt: HostRuntime) -> Result<(), Fail> {
-    reads_and_selects(&rt, rt.alloc(), &rows::ONE_VARIABLE_OF_VERSION_5)?;
-    Ok(())
+fn header_and_selection_of_one_variable_of_version_5(rt: HostRuntime) -> Result<(), AllocError> {
+    reads_and_selects(&rt, rt.alloc(), &rows::ONE_VARIABLE_OF_VERSION_5)
 }
 
 #[test]
-fn dump_of_a_rank_three_selection(rt: HostRuntime) -> Result<(), Fail> {
-    dumps(&rt, rt.alloc(), &rows::RANK_THREE_SELECTION)?;
-    Ok(())
+fn dump_of_a_rank_three_selection(rt: HostRuntime) -> Result<(), AllocError> {
+    dumps(&rt, rt.alloc(), &rows::RANK_THREE_SELECTION)
 }
 
 #[test]
-fn header_and_selection_of_a_rank_three_selection(rt: HostRuntime) -> Result<(), Fail> {
-    reads_and_selects(&rt, rt.alloc(), &rows::RANK_THREE_SELECTION)?;
-    Ok(())
+fn header_and_selection_of_a_rank_three_selection(rt: HostRuntime) -> Result<(), AllocError> {
+    reads_and_selects(&rt, rt.alloc(), &rows::RANK_THREE_SELECTION)
 }
 
 #[test]
-fn dump_of_padded_records(rt: HostRuntime) -> Result<(), Fail> {
-    dumps(&rt, rt.alloc(), &rows::PADDED_RECORDS)?;
-    Ok(())
+fn dump_of_padded_records(rt: HostRuntime) -> Result<(), AllocError> {
+    dumps(&rt, rt.alloc(), &rows::PADDED_RECORDS)
 }
 
 #[test]
-fn header_and_selection_of_padded_records(rt: HostRuntime) -> Result<(), Fail> {
-    reads_and_selects(&rt, rt.alloc(), &rows::PADDED_RECORDS)?;
-    Ok(())
+fn header_and_selection_of_padded_records(rt: HostRuntime) -> Result<(), AllocError> {
+    reads_and_selects(&rt, rt.alloc(), &rows::PADDED_RECORDS)
 }
 
 #[test]
-fn dump_of_three_padded_records(rt: HostRuntime) -> Result<(), Fail> {
-    dumps(&rt, rt.alloc(), &rows::THREE_PADDED_RECORDS)?;
-    Ok(())
+fn dump_of_three_padded_records(rt: HostRuntime) -> Result<(), AllocError> {
+    dumps(&rt, rt.alloc(), &rows::THREE_PADDED_RECORDS)
 }
 
 #[test]
-fn header_and_selection_of_three_padded_records(rt: HostRuntime) -> Result<(), Fail> {
-    reads_and_selects(&rt, rt.alloc(), &rows::THREE_PADDED_RECORDS)?;
-    Ok(())
+fn header_and_selection_of_three_padded_records(rt: HostRuntime) -> Result<(), AllocError> {
+    reads_and_selects(&rt, rt.alloc(), &rows::THREE_PADDED_RECORDS)
 }
 
 #[test]
-fn dump_of_nuls_in_a_row(rt: HostRuntime) -> Result<(), Fail> {
-    dumps(&rt, rt.alloc(), &rows::NULS_IN_A_ROW)?;
-    Ok(())
+fn dump_of_nuls_in_a_row(rt: HostRuntime) -> Result<(), AllocError> {
+    dumps(&rt, rt.alloc(), &rows::NULS_IN_A_ROW)
 }
 
 #[test]
-fn header_and_selection_of_nuls_in_a_row(rt: HostRuntime) -> Result<(), Fail> {
-    reads_and_selects(&rt, rt.alloc(), &rows::NULS_IN_A_ROW)?;
-    Ok(())
+fn header_and_selection_of_nuls_in_a_row(rt: HostRuntime) -> Result<(), AllocError> {
+    reads_and_selects(&rt, rt.alloc(), &rows::NULS_IN_A_ROW)
 }
 
 #[test]
-fn dump_of_many_nuls_in_a_row(rt: HostRuntime) -> Result<(), Fail> {
-    dumps(&rt, rt.alloc(), &rows::MANY_NULS_IN_A_ROW)?;
-    Ok(())
+fn dump_of_many_nuls_in_a_row(rt: HostRuntime) -> Result<(), AllocError> {
+    dumps(&rt, rt.alloc(), &rows::MANY_NULS_IN_A_ROW)
 }
 
 #[test]
-fn header_and_selection_of_many_nuls_in_a_row(rt: HostRuntime) -> Result<(), Fail> {
-    reads_and_selects(&rt, rt.alloc(), &rows::MANY_NULS_IN_A_ROW)?;
-    Ok(())
+fn header_and_selection_of_many_nuls_in_a_row(rt: HostRuntime) -> Result<(), AllocError> {
+    reads_and_selects(&rt, rt.alloc(), &rows::MANY_NULS_IN_A_ROW)
 }
 
 #[test]
-fn dump_of_a_text_attribute(rt: HostRuntime) -> Result<(), Fail> {
-    dumps(&rt, rt.alloc(), &rows::TEXT_ATTRIBUTE)?;
-    Ok(())
+fn dump_of_a_text_attribute(rt: HostRuntime) -> Result<(), AllocError> {
+    dumps(&rt, rt.alloc(), &rows::TEXT_ATTRIBUTE)
 }
 
 #[test]
-fn header_and_selection_of_a_text_attribute(rt: HostRuntime) -> Result<(), Fail> {
-    reads_and_selects(&rt, rt.alloc(), &rows::TEXT_ATTRIBUTE)?;
-    Ok(())
+fn header_and_selection_of_a_text_attribute(rt: HostRuntime) -> Result<(), AllocError> {
+    reads_and_selects(&rt, rt.alloc(), &rows::TEXT_ATTRIBUTE)
 }
 
 #[test]
-fn dump_of_a_hidden_variable(rt: HostRuntime) -> Result<(), Fail> {
-    dumps(&rt, rt.alloc(), &rows::HIDDEN_VARIABLE)?;
-    Ok(())
+fn dump_of_a_hidden_variable(rt: HostRuntime) -> Result<(), AllocError> {
+    dumps(&rt, rt.alloc(), &rows::HIDDEN_VARIABLE)
 }
 
 #[test]
-fn header_and_selection_of_a_hidden_variable(rt: HostRuntime) -> Result<(), Fail> {
-    reads_and_selects(&rt, rt.alloc(), &rows::HIDDEN_VARIABLE)?;
-    Ok(())
+fn header_and_selection_of_a_hidden_variable(rt: HostRuntime) -> Result<(), AllocError> {
+    reads_and_selects(&rt, rt.alloc(), &rows::HIDDEN_VARIABLE)
 }
 
 #[test]
-fn header_of_names_and_strings(rt: HostRuntime) -> Result<(), Fail> {
-    reads(&rt, rt.alloc(), &rows::NAMES_AND_STRINGS)?;
-    Ok(())
+fn header_of_names_and_strings(rt: HostRuntime) -> Result<(), AllocError> {
+    reads(&rt, rt.alloc(), &rows::NAMES_AND_STRINGS)
 }

@@ -6,7 +6,6 @@ use cdl_parse::{CdlFault, CdlKind, declared, parse};
 use nc_base::{NumRecs, Version};
 use std::alloc::{AllocError, Global};
 use std::process::Abort;
-use std::test::Fail;
 
 /// The answer where an allocation failed.
 const OUT_OF_MEMORY: CdlFault = CdlFault {
@@ -58,49 +57,41 @@ fn is_refused(rt: &impl Abort, alloc: Global, text: &Faulty<'_>) -> Result<(), A
 }
 
 #[test]
-fn text_of_three_shorts(rt: HostRuntime) -> Result<(), Fail> {
-    is_given(&rt, rt.alloc(), &texts::THREE_SHORTS)?;
-    Ok(())
+fn text_of_three_shorts(rt: HostRuntime) -> Result<(), AllocError> {
+    is_given(&rt, rt.alloc(), &texts::THREE_SHORTS)
 }
 
 #[test]
-fn text_of_forty_shorts(rt: HostRuntime) -> Result<(), Fail> {
-    is_given(&rt, rt.alloc(), &texts::LONG_LIST)?;
-    Ok(())
+fn text_of_forty_shorts(rt: HostRuntime) -> Result<(), AllocError> {
+    is_given(&rt, rt.alloc(), &texts::LONG_LIST)
 }
 
 #[test]
-fn text_of_names_and_attributes(rt: HostRuntime) -> Result<(), Fail> {
-    is_given(&rt, rt.alloc(), &texts::NAMES_AND_ATTRIBUTES)?;
-    Ok(())
+fn text_of_names_and_attributes(rt: HostRuntime) -> Result<(), AllocError> {
+    is_given(&rt, rt.alloc(), &texts::NAMES_AND_ATTRIBUTES)
 }
 
 #[test]
-fn text_of_rows_of_characters(rt: HostRuntime) -> Result<(), Fail> {
-    is_given(&rt, rt.alloc(), &texts::ROWS_OF_CHARACTERS)?;
-    Ok(())
+fn text_of_rows_of_characters(rt: HostRuntime) -> Result<(), AllocError> {
+    is_given(&rt, rt.alloc(), &texts::ROWS_OF_CHARACTERS)
 }
 
 #[test]
-fn declarations_of_rows_of_characters(rt: HostRuntime) -> Result<(), Fail> {
-    is_declared(&rt, rt.alloc(), &texts::ROWS_OF_CHARACTERS)?;
-    Ok(())
+fn declarations_of_rows_of_characters(rt: HostRuntime) -> Result<(), AllocError> {
+    is_declared(&rt, rt.alloc(), &texts::ROWS_OF_CHARACTERS)
 }
 
 #[test]
-fn text_of_numbers_of_cdf5(rt: HostRuntime) -> Result<(), Fail> {
-    is_given(&rt, rt.alloc(), &texts::NUMBERS_OF_CDF5)?;
-    Ok(())
+fn text_of_numbers_of_cdf5(rt: HostRuntime) -> Result<(), AllocError> {
+    is_given(&rt, rt.alloc(), &texts::NUMBERS_OF_CDF5)
 }
 
 #[test]
-fn text_with_a_fault_in_its_last_statement(rt: HostRuntime) -> Result<(), Fail> {
-    is_refused(&rt, rt.alloc(), &texts::LAST_STATEMENT_WRONG)?;
-    Ok(())
+fn text_with_a_fault_in_its_last_statement(rt: HostRuntime) -> Result<(), AllocError> {
+    is_refused(&rt, rt.alloc(), &texts::LAST_STATEMENT_WRONG)
 }
 
 #[test]
-fn text_with_an_array_too_large(rt: HostRuntime) -> Result<(), Fail> {
-    is_refused(&rt, rt.alloc(), &texts::ARRAY_TOO_LARGE)?;
-    Ok(())
+fn text_with_an_array_too_large(rt: HostRuntime) -> Result<(), AllocError> {
+    is_refused(&rt, rt.alloc(), &texts::ARRAY_TOO_LARGE)
 }

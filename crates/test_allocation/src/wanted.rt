@@ -52,53 +52,68 @@ pub fn is_same(bytes: &[u8], wanted: &[u8]) -> bool {
 /// Fails unless it is the dataset.
 pub fn is_dataset(rt: &impl Abort, version: Version, dataset: &Dataset, want: &Wanted<'_>) {
     is_header(rt, version, &dataset.header, want);
-    are_values(rt, dataset.arrays.as_slice(), want.vars);
+    assert!(rt; are_values(dataset.arrays.as_slice(), want.vars));
 }
 
 /// Fails unless it is the header of the dataset.
 pub fn is_header(rt: &impl Abort, version: Version, header: &Header, want: &Wanted<'_>) {
     assert!(rt; header.version == version);
     assert!(rt; header.numrecs == NumRecs::Known(want.records));
-    are_dims(rt, header.dims.as_slice(), want.dims);
-    are_atts(rt, header.gatts.as_slice(), want.gatts);
-    are_vars(rt, header.vars.as_slice(), want.vars);
+    assert!(rt; are_dims(header.dims.as_slice(), want.dims));
+    assert!(rt; are_atts(header.gatts.as_slice(), want.gatts));
+    assert!(rt; are_vars(header.vars.as_slice(), want.vars));
 }
 
-/// Fails unless these are the dimensions.
-fn are_dims(rt: &impl Abort, dims: &[Dim], want: &[(&[u8], u64)]) {
-    assert!(rt; dims.len() == want.len());
+/// Returns true if these are the dimensions.
+fn are_dims(dims: &[Dim], want: &[(&[u8], u64)]) -> bool {
     for (dim, (name, len)) in dims.iter().zip(want.iter()) {
-        assert!(rt; is_same(dim.name.as_slice(), *name));
-        assert!(rt; dim.len == *len);
+        if dim.len != *len || !is_same(dim.name.as_slice(), *name) {
+            return false;
+        }
     }
+    dims.len() == want.len()
 }
 
-/// Fails unless these are the attributes.
-fn are_atts(rt: &impl Abort, atts: &[Att], want: &[WantedAtt<'_>]) {
-    assert!(rt; atts.len() == want.len());
-    for (att, (name, ty, vals)) in atts.iter().zip(want.iter()) {
-        assert!(rt; is_same(att.name.as_slice(), *name));
-        assert!(rt; att.ty == *ty);
-        assert!(rt; is_same(att.vals.as_slice(), *vals));
-    }
+/// Returns true if this is the attribute.
+fn is_att(att: &Att, (name, ty, vals): &WantedAtt<'_>) -> bool {
+    att.ty == *ty && is_same(att.name.as_slice(), *name) && is_same(att.vals.as_slice(), *vals)
 }
 
-/// Fails unless these are the variables.
-fn are_vars(rt: &impl Abort, vars: &[Var], want: &[WantedVar<'_>]) {
-    assert!(rt; vars.len() == want.len());
+/// Returns true if these are the attributes.
+fn are_atts(atts: &[Att], want: &[WantedAtt<'_>]) -> bool {
+    for (att, wanted) in atts.iter().zip(want.iter()) {
+        if !is_att(att, wanted) {
+            return false;
+        }
+    }
+    atts.len() == want.len()
+}
+
+/// Returns true if this is the variable.
+fn is_var(var: &Var, want: &WantedVar<'_>) -> bool {
+    var.ty == want.ty
+        && var.begin_at == want.begin_at
+        && var.dimids.as_slice() == want.dimids
+        && is_same(var.name.as_slice(), want.name)
+        && are_atts(var.atts.as_slice(), want.atts)
+}
+
+/// Returns true if these are the variables.
+fn are_vars(vars: &[Var], want: &[WantedVar<'_>]) -> bool {
     for (var, wanted) in vars.iter().zip(want.iter()) {
-        assert!(rt; is_same(var.name.as_slice(), wanted.name));
-        assert!(rt; var.ty == wanted.ty);
-        assert!(rt; var.dimids.as_slice() == wanted.dimids);
-        assert!(rt; var.begin_at == wanted.begin_at);
-        are_atts(rt, var.atts.as_slice(), wanted.atts);
+        if !is_var(var, wanted) {
+            return false;
+        }
     }
+    vars.len() == want.len()
 }
 
-/// Fails unless these are the values of the variables.
-fn are_values(rt: &impl Abort, arrays: &[Sequence<u8>], want: &[WantedVar<'_>]) {
-    assert!(rt; arrays.len() == want.len());
+/// Returns true if these are the values of the variables.
+fn are_values(arrays: &[Sequence<u8>], want: &[WantedVar<'_>]) -> bool {
     for (array, wanted) in arrays.iter().zip(want.iter()) {
-        assert!(rt; is_same(array.as_slice(), wanted.values));
+        if !is_same(array.as_slice(), wanted.values) {
+            return false;
+        }
     }
+    arrays.len() == want.len()
 }

@@ -4,9 +4,8 @@ use crate::rows::ONE_VARIABLE;
 use crate::runs::{DumpRow, WHOLE, expect_dump, expect_dumps};
 use nc_base::FormatFault;
 use ncdump::DumpFault;
-use std::alloc::Global;
+use std::alloc::{AllocError, Global};
 use std::process::Abort;
-use std::test::Fail;
 
 /// `byte b(t)` and `byte c(t)` of one record, where the first has a vsize of nearly 2^63.
 const VSIZE_PAST_ALL_LIMITS: &[u8] = b"CDF\x05\0\0\0\0\0\0\0\x01\
@@ -71,7 +70,7 @@ const CHANGED: &[DumpRow<'static>] = &[
 ];
 
 #[test]
-fn changed_bytes(rt: HostRuntime) -> Result<(), Fail> {
+fn changed_bytes(rt: HostRuntime) -> Result<(), AllocError> {
     expect_dumps(&rt, rt.alloc(), CHANGED)
 }
 
@@ -81,7 +80,7 @@ fn refuses_cut_headers(
     alloc: Global,
     bytes: &'static [u8],
     header_len: usize,
-) -> Result<(), Fail> {
+) -> Result<(), AllocError> {
     for len in 0..header_len {
         let fault = match len {
             0..=2 => FormatFault::NotNetcdf,
@@ -100,7 +99,7 @@ fn refuses_cut_headers(
 }
 
 #[test]
-fn cut_headers(rt: HostRuntime) -> Result<(), Fail> {
+fn cut_headers(rt: HostRuntime) -> Result<(), AllocError> {
     refuses_cut_headers(&rt, rt.alloc(), test_files::RECORD_BYTES, 80)?;
     refuses_cut_headers(&rt, rt.alloc(), test_files::PADDED_RECORDS, 116)
 }

@@ -5,6 +5,7 @@ use crate::runs::{DumpRow, WHOLE, Want, dumps_through, expect_dump, expect_dumps
 use devices::{DripSource, FailWhen, FileSource};
 use nc_base::FormatFault;
 use ncdump::DumpFault;
+use std::alloc::AllocError;
 use std::fs;
 use std::fs::File;
 use std::rt::Files;
@@ -62,12 +63,12 @@ const HEADS: &[DumpRow<'static>] = &[
 ];
 
 #[test]
-fn heads(rt: HostRuntime) -> Result<(), Fail> {
+fn heads(rt: HostRuntime) -> Result<(), AllocError> {
     expect_dumps(&rt, rt.alloc(), HEADS)
 }
 
 #[test]
-fn refused_headers(rt: HostRuntime) -> Result<(), Fail> {
+fn refused_headers(rt: HostRuntime) -> Result<(), AllocError> {
     const ROWS: &[(&str, &[u8], FormatFault)] = &[
         ("nothing", b"", FormatFault::NotNetcdf),
         ("three bytes", b"CDF", FormatFault::HeaderTruncated),
@@ -126,7 +127,7 @@ fn opened_files(rt: HostRuntime) -> Result<(), Fail> {
 }
 
 #[test]
-fn failed_read_writes_nothing(rt: HostRuntime) -> Result<(), Fail> {
+fn failed_read_writes_nothing(rt: HostRuntime) -> Result<(), AllocError> {
     let options = options_of(rt.alloc(), &WHOLE)?;
     let want = Want {
         about: "a failed read",

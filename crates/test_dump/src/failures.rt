@@ -6,31 +6,20 @@ use crate::rows::{
 use crate::runs::{DumpRow, WHOLE, Want, dumped, dumps_through, options_of};
 use devices::{DripSource, FailWhen, MemSink, MemSource, SliceSink};
 use ncdump::{DumpFault, DumpOptions};
-use std::alloc::Global;
+use std::alloc::{AllocError, Global};
 use std::process::Abort;
 use std::test::Fail;
 
-/// Fails unless all of the text was written, or reading has failed with nothing written, or the head, whole variables and the
-/// values of one up to a value. Returns true if reading has failed.
-fn has_stopped_reading(
-    rt: &impl Abort,
-    row: &Row<'_>,
-    answer: Result<(), DumpFault>,
-    written: usize,
-    handed: u128,
-) -> bool {
-    let about = row.dump.about;
-    match answer {
-        Ok(()) => {
-            assert!(rt; written == row.dump.text.len(), "{about}");
-            false
-        }
+/// Returns true if a prefix of the text was written: all of it, or reading has failed with nothing written, or with the head, whole
+/// variables and the values of one up to a value.
+fn has_read(row: &Row<'_>, answer: Result<(), DumpFault>, written: &[u8], handed: u128) -> bool {
+    let may_end = match answer {
+        Ok(()) => written.len() == row.dump.text.len(),
         Err(fault) => {
-            assert!(rt; fault == DumpFault::ReadFailed, "{about}");
-            assert!(rt; row.may_stop_reading(written, handed), "{about}");
-            true
+            fault == DumpFault::ReadFailed && row.may_stop_reading(written.len(), handed)
         }
-    }
+    };
+    may_end && handed <= row.most_read() && row.dump.text.starts_with(written)
 }
 
 /// Dumps through a buffer of 16 bytes, from a source that fails so, and returns true if it did. A prefix of the text is written
@@ -47,10 +36,9 @@ fn fails_to_read(
     let mut source = DripSource::new(row.dump.bytes, step, fail);
     let mut sink = MemSink::new(alloc);
     let answer = dumped(alloc, &mut source, options, &mut sink);
-    let handed = source.handed();
-    assert!(rt; handed <= row.most_read());
-    assert!(rt; row.dump.text.starts_with(sink.as_slice()));
-    has_stopped_reading(rt, row, answer, sink.as_slice().len(), handed)
+    let is_right = has_read(row, answer, sink.as_slice(), source.handed());
+    assert!(rt; is_right, "{}", row.dump.about);
+    answer.is_err()
 }
 
 /// Each read fails in turn, until none is left.
@@ -70,24 +58,24 @@ fn each_read_fails(
     assert!(rt; false);
 }
 
-/// Fails unless as much of the text was written as there was room for, and no more was read than that takes.
+/// Returns true if as much of the text was written as there was room for, and no more was read than that takes.
 fn has_filled(
-    rt: &impl Abort,
     row: &Row<'_>,
     room: usize,
     answer: Result<(), DumpFault>,
     taken: &[u8],
     handed: u128,
-) {
-    let about = row.dump.about;
-    assert!(rt; handed <= row.most_read(), "{about}");
-    if room < row.dump.text.len() {
-        assert!(rt; answer == Err(DumpFault::WriteFailed), "{about}");
-        assert!(rt; row.may_stop_writing(room, handed), "{about}");
-        assert!(rt; is_same(taken, &row.dump.text[..room]), "{about}");
+) -> bool {
+    let text = row.dump.text;
+    if handed > row.most_read() {
+        return false;
+    }
+    if room < text.len() {
+        answer == Err(DumpFault::WriteFailed)
+            && row.may_stop_writing(room, handed)
+            && is_same(taken, &text[..room])
     } else {
-        assert!(rt; answer == Ok(()), "{about}");
-        assert!(rt; is_same(taken, row.dump.text), "{about}");
+        answer.is_ok() && is_same(taken, text)
     }
 }
 
@@ -99,26 +87,37 @@ fn fails_to_write(
     options: &DumpOptions,
     room: usize,
     step: usize,
-) -> Result<(), Fail> {
+) -> Result<(), AllocError> {
     assert!(rt; 1 <= step);
     let mut into = Vec::from_elem(alloc, 0, room)?;
     let mut sink = SliceSink::new(into.as_mut_slice(), step);
     let mut source = DripSource::new(row.dump.bytes, step, FailWhen::Never);
     let answer = dumped(alloc, &mut source, options, &mut sink);
-    has_filled(rt, row, room, answer, sink.taken(), source.handed());
+    let is_filled = has_filled(row, room, answer, sink.taken(), source.handed());
+    assert!(rt; is_filled, "{}", row.dump.about);
     Ok(())
 }
 
-/// Each read and each write fails in turn, with devices of one byte a call and of seven.
-fn each_call_fails(rt: &impl Abort, alloc: Global, row: &Row<'_>) -> Result<(), Fail> {
-    let options = options_of(alloc, &row.dump)?;
-    for step in [1, 7] {
-        each_read_fails(rt, alloc, row, &options, step);
-        for room in 0..=row.dump.text.len() {
-            fails_to_write(rt, alloc, row, &options, room, step)?;
-        }
+/// Each read and each write fails in turn, with devices of `step` bytes a call.
+fn each_call_of_steps_fails(
+    rt: &impl Abort,
+    alloc: Global,
+    row: &Row<'_>,
+    options: &DumpOptions,
+    step: usize,
+) -> Result<(), AllocError> {
+    each_read_fails(rt, alloc, row, options, step);
+    for room in 0..=row.dump.text.len() {
+        fails_to_write(rt, alloc, row, options, room, step)?;
     }
     Ok(())
+}
+
+/// The same with devices of one byte a call and of seven.
+fn each_call_fails(rt: &impl Abort, alloc: Global, row: &Row<'_>) -> Result<(), AllocError> {
+    let options = options_of(alloc, &row.dump)?;
+    each_call_of_steps_fails(rt, alloc, row, &options, 1)?;
+    each_call_of_steps_fails(rt, alloc, row, &options, 7)
 }
 
 #[test]
@@ -171,15 +170,15 @@ fn cut_off(
     row: &DumpRow<'_>,
     room: usize,
     step: usize,
-) -> Result<(), Fail> {
+) -> Result<(), AllocError> {
     assert!(rt; 1 <= step && room < row.text.len());
     let mut into = Vec::from_elem(alloc, 0, room)?;
     let mut sink = SliceSink::new(into.as_mut_slice(), step);
     let mut source = MemSource::new(row.bytes);
     let options = options_of(alloc, row)?;
     let answer = dumped(alloc, &mut source, &options, &mut sink);
-    assert!(rt; answer == Err(DumpFault::WriteFailed));
-    assert!(rt; is_same(sink.taken(), &row.text[..room]));
+    let is_cut = is_same(sink.taken(), &row.text[..room]);
+    assert!(rt; is_cut && answer == Err(DumpFault::WriteFailed));
     Ok(())
 }
 
@@ -195,5 +194,6 @@ fn failing_sinks(rt: HostRuntime) -> Result<(), Fail> {
             cut_off(&rt, rt.alloc(), row, room, *step)?;
         }
     }
-    cut_off(&rt, rt.alloc(), &ONE_VARIABLE, 12, 12)
+    cut_off(&rt, rt.alloc(), &ONE_VARIABLE, 12, 12)?;
+    Ok(())
 }

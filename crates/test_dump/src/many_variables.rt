@@ -2,8 +2,9 @@
 
 use crate::runs::{DumpRow, WHOLE, options_of};
 use devices::MemSource;
+use nc_base::Header;
 use nc_file::read_header;
-use ncdump::{DumpOptions, select};
+use ncdump::{DumpFault, select};
 use std::alloc::Global;
 use std::process::Abort;
 use std::test::Fail;
@@ -14,19 +15,24 @@ const SCALAR: &[u8] = b"\0\0\0\x01v\0\0\0\0\0\0\0\0\0\0\0\0\0\0\0\0\0\0\x04\0\0\
 
 const BEFORE_SCALARS: &[u8] = b"CDF\x01\0\0\0\0\0\0\0\0\0\0\0\0\0\0\0\0\0\0\0\0\0\0\0\x0b";
 
+/// Of how many variables the options of a row say whether they are selected.
+fn selected(alloc: Global, header: &Header, row: &DumpRow<'_>) -> Result<usize, DumpFault> {
+    let options = options_of(alloc, row)?;
+    Ok(select(alloc, header, &options)?.len())
+}
+
 /// Reads a header of this many variables, and selects those that are named as a dimension, which are none.
 fn reads_variables(
     rt: &impl Abort,
     alloc: Global,
     count: u32,
-    coordinates: &DumpOptions,
+    row: &DumpRow<'_>,
 ) -> Result<(), Fail> {
     let bytes = repeated(alloc, BEFORE_SCALARS, SCALAR, count)?;
     let mut source = MemSource::new(bytes.as_slice());
     let header = read_header(alloc, &mut source, &mut [0; 4096])?;
     assert!(rt; header.vars.len() == count as usize);
-    let shown = select(alloc, &header, coordinates)?;
-    assert!(rt; shown.len() == count as usize);
+    assert!(rt; selected(alloc, &header, row)? == count as usize);
     Ok(())
 }
 
@@ -41,9 +47,8 @@ fn every_number_of_variables(rt: HostRuntime) -> Result<(), Fail> {
         chosen: Some(&[b"v"]),
         ..ALL
     };
-    let coordinates = options_of(rt.alloc(), &CHOSEN)?;
     for count in 1..200 {
-        reads_variables(&rt, rt.alloc(), count, &coordinates)?;
+        reads_variables(&rt, rt.alloc(), count, &CHOSEN)?;
     }
-    reads_variables(&rt, rt.alloc(), 20_000, &options_of(rt.alloc(), &ALL)?)
+    reads_variables(&rt, rt.alloc(), 20_000, &ALL)
 }

@@ -6,7 +6,6 @@ use nc_base::Sequence;
 use ncdump::{DumpFault, DumpOptions, dump};
 use std::alloc::{AllocError, Global};
 use std::process::Abort;
-use std::test::Fail;
 
 /// A dump of a file, or of its first `len` bytes, with some bytes in place of its own from an offset on; what is shown of it, how
 /// it ends, and the text that it writes. `head` has the lines before the values.
@@ -104,13 +103,25 @@ pub fn dumps(rt: &impl Abort, alloc: Global, bytes: &[u8], want: &Want<'_>) {
     }
 }
 
-/// Fails unless the dump of the row is as it says.
-pub fn expect_dump(rt: &impl Abort, alloc: Global, row: &DumpRow<'_>) -> Result<(), Fail> {
+/// The bytes of the file of a row, changed and cut.
+fn file_of(alloc: Global, row: &DumpRow<'_>) -> Result<Vec<u8>, AllocError> {
     let (at, bytes) = row.change;
-    let file = test_files::patched(alloc, row.bytes, at, bytes)?;
-    let file = &file.as_slice()[..row.len.min(file.len())];
+    let mut file = test_files::patched(alloc, row.bytes, at, bytes)?;
+    file.truncate(row.len);
+    Ok(file)
+}
+
+/// The text of a row.
+fn text_of(alloc: Global, row: &DumpRow<'_>) -> Result<Vec<u8>, AllocError> {
     let mut text = Vec::from_slice(alloc, row.head)?;
     text.extend_from_slice(row.text)?;
+    Ok(text)
+}
+
+/// Fails unless the dump of the row is as it says.
+pub fn expect_dump(rt: &impl Abort, alloc: Global, row: &DumpRow<'_>) -> Result<(), AllocError> {
+    let file = file_of(alloc, row)?;
+    let text = text_of(alloc, row)?;
     let options = options_of(alloc, row)?;
     let want = Want {
         about: row.about,
@@ -118,12 +129,16 @@ pub fn expect_dump(rt: &impl Abort, alloc: Global, row: &DumpRow<'_>) -> Result<
         answer: row.answer,
         text: text.as_slice(),
     };
-    dumps(rt, alloc, file, &want);
+    dumps(rt, alloc, file.as_slice(), &want);
     Ok(())
 }
 
 /// Fails unless each dump is as its row says.
-pub fn expect_dumps(rt: &impl Abort, alloc: Global, rows: &[DumpRow<'_>]) -> Result<(), Fail> {
+pub fn expect_dumps(
+    rt: &impl Abort,
+    alloc: Global,
+    rows: &[DumpRow<'_>],
+) -> Result<(), AllocError> {
     for row in rows {
         expect_dump(rt, alloc, row)?;
     }

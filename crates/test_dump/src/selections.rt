@@ -43,7 +43,7 @@ const NO_VALUES: &[DumpRow<'static>] = &[
 ];
 
 #[test]
-fn dumps_of_no_value(rt: HostRuntime) -> Result<(), Fail> {
+fn dumps_of_no_value(rt: HostRuntime) -> Result<(), AllocError> {
     expect_dumps(&rt, rt.alloc(), NO_VALUES)
 }
 
@@ -54,8 +54,25 @@ const CHOSEN: DumpRow<'static> = DumpRow {
     ..WHOLE
 };
 
+/// Fails unless the name at this index is said to be that of no variable.
+fn lacks_name(
+    rt: &impl Abort,
+    alloc: Global,
+    names: &[&[u8]],
+    index: usize,
+    head_only: bool,
+) -> Result<(), AllocError> {
+    let row = DumpRow {
+        head_only,
+        chosen: Some(names),
+        answer: Err(DumpFault::NoSuchVariable(index)),
+        ..CHOSEN
+    };
+    expect_dump(rt, alloc, &row)
+}
+
 #[test]
-fn unknown_name(rt: HostRuntime) -> Result<(), Fail> {
+fn unknown_name(rt: HostRuntime) -> Result<(), AllocError> {
     const ROWS: &[(&[&[u8]], usize)] = &[
         (&[b"s", b"nope"], 1),
         (&[b"nope", b"s", b"never"], 0),
@@ -63,16 +80,8 @@ fn unknown_name(rt: HostRuntime) -> Result<(), Fail> {
         (&[b"s", b"s", b"x"], 2),
     ];
     for (names, index) in ROWS {
-        let chosen = Some(*names);
-        for head_only in [false, true] {
-            let row = DumpRow {
-                head_only,
-                chosen,
-                answer: Err(DumpFault::NoSuchVariable(*index)),
-                ..CHOSEN
-            };
-            expect_dump(&rt, rt.alloc(), &row)?;
-        }
+        lacks_name(&rt, rt.alloc(), *names, *index, false)?;
+        lacks_name(&rt, rt.alloc(), *names, *index, true)?;
     }
     Ok(())
 }
@@ -82,6 +91,12 @@ fn selection(alloc: Global, row: &DumpRow<'_>) -> Result<Vec<bool>, DumpFault> {
     let mut source = MemSource::new(test_files::COORDINATES);
     let header = nc_file::read_header(alloc, &mut source, &mut [0; 16])?;
     select(alloc, &header, &options_of(alloc, row)?)
+}
+
+/// Returns true if the options of a row select these of the variables x and y.
+fn selects(alloc: Global, row: &DumpRow<'_>, want: &[bool]) -> Result<bool, DumpFault> {
+    let found = selection(alloc, row)?;
+    Ok(found.as_slice() == want)
 }
 
 #[test]
@@ -103,8 +118,7 @@ fn selected_variables(rt: HostRuntime) -> Result<(), Fail> {
             chosen: *chosen,
             ..WHOLE
         };
-        let found = selection(rt.alloc(), &row)?;
-        assert!(rt; found.as_slice() == *want, "{want:?}");
+        assert!(rt; selects(rt.alloc(), &row, *want)?, "{want:?}");
     }
     let answer = selection(rt.alloc(), &UNKNOWN);
     assert!(rt; matches!(answer, Err(DumpFault::NoSuchVariable(1))));
@@ -132,21 +146,25 @@ fn long_name_text(alloc: Global, letters: u32) -> Result<Vec<u8>, AllocError> {
     Ok(text)
 }
 
-#[test]
-fn long_names(rt: HostRuntime) -> Result<(), Fail> {
-    let options = options_of(rt.alloc(), &WHOLE)?;
-    for letters in [1_000, 65_536] {
-        let bytes = with_long_name(rt.alloc(), letters)?;
-        let text = long_name_text(rt.alloc(), letters)?;
-        let want = Want {
-            about: "a long name",
-            options: &options,
-            answer: Ok(()),
-            text: text.as_slice(),
-        };
-        dumps(&rt, rt.alloc(), bytes.as_slice(), &want);
-    }
+/// Fails unless the file has that text.
+fn dumps_long_name(rt: &impl Abort, alloc: Global, letters: u32) -> Result<(), AllocError> {
+    let options = options_of(alloc, &WHOLE)?;
+    let bytes = with_long_name(alloc, letters)?;
+    let text = long_name_text(alloc, letters)?;
+    let want = Want {
+        about: "a long name",
+        options: &options,
+        answer: Ok(()),
+        text: text.as_slice(),
+    };
+    dumps(rt, alloc, bytes.as_slice(), &want);
     Ok(())
+}
+
+#[test]
+fn long_names(rt: HostRuntime) -> Result<(), AllocError> {
+    dumps_long_name(&rt, rt.alloc(), 1_000)?;
+    dumps_long_name(&rt, rt.alloc(), 65_536)
 }
 
 /// Many names, each of a variable `v`.
@@ -160,7 +178,7 @@ fn many_names(alloc: Global) -> Result<Sequence<Sequence<u8>>, AllocError> {
 
 /// Many names are looked up in less time than each against each would take.
 #[test]
-fn twenty_thousand_names(rt: HostRuntime) -> Result<(), Fail> {
+fn twenty_thousand_names(rt: HostRuntime) -> Result<(), AllocError> {
     let mut options = options_of(rt.alloc(), &NO_RECORDS)?;
     options.chosen = Some(many_names(rt.alloc())?);
     let want = Want {

@@ -5,9 +5,8 @@ use crate::rows::{
 };
 use crate::runs::{DumpRow, WHOLE, expect_dump, expect_dumps};
 use ncdump::DumpFault;
-use std::alloc::Global;
+use std::alloc::{AllocError, Global};
 use std::process::Abort;
-use std::test::Fail;
 
 /// The dumps of whole files.
 const WHOLE_FILES: &[DumpRow<'static>] = &[
@@ -97,7 +96,7 @@ const WHOLE_FILES: &[DumpRow<'static>] = &[
 ];
 
 #[test]
-fn whole_files(rt: HostRuntime) -> Result<(), Fail> {
+fn whole_files(rt: HostRuntime) -> Result<(), AllocError> {
     expect_dumps(&rt, rt.alloc(), WHOLE_FILES)
 }
 
@@ -156,7 +155,7 @@ const CHANGED_FILES: &[DumpRow<'static>] = &[
 ];
 
 #[test]
-fn changed_files(rt: HostRuntime) -> Result<(), Fail> {
+fn changed_files(rt: HostRuntime) -> Result<(), AllocError> {
     expect_dumps(&rt, rt.alloc(), CHANGED_FILES)
 }
 
@@ -223,7 +222,7 @@ fn expect_cuts(
     alloc: Global,
     row: &DumpRow<'static>,
     ((from, to), (var, value), text): Cut,
-) -> Result<(), Fail> {
+) -> Result<(), AllocError> {
     for len in from..=to {
         let cut = DumpRow {
             len,
@@ -242,7 +241,7 @@ fn expect_all_cuts(
     alloc: Global,
     row: &DumpRow<'static>,
     cuts: &[Cut],
-) -> Result<(), Fail> {
+) -> Result<(), AllocError> {
     for cut in cuts {
         expect_cuts(rt, alloc, row, *cut)?;
     }
@@ -250,7 +249,7 @@ fn expect_all_cuts(
 }
 
 #[test]
-fn truncated_data(rt: HostRuntime) -> Result<(), Fail> {
+fn truncated_data(rt: HostRuntime) -> Result<(), AllocError> {
     for (row, cuts) in CUT_FILES {
         expect_all_cuts(&rt, rt.alloc(), row, *cuts)?;
     }

@@ -111,51 +111,74 @@ pub fn refuse_groups(rt: &impl Abort, alloc: Global, groups: &[Group]) -> Result
     Ok(())
 }
 
-/// The dimensions, each on a line of its own: its name and its length, which is 0 for the record dimension.
+/// Appends the lines.
+fn append(said: &mut String, lines: Result<String, AllocError>) -> Result<(), AllocError> {
+    let lines = lines?;
+    said.push_str(lines.as_str())
+}
+
+/// The dimension: its name and its length, which is 0 for the record dimension.
+fn dim_said(alloc: Global, dim: &Dim) -> Result<String, AllocError> {
+    let name = dim.name.as_slice().escape_ascii();
+    format!(in alloc; "\n{name} = {}", dim.len)
+}
+
+/// The dimensions, each on a line of its own.
 fn dims_said(alloc: Global, dims: &[Dim]) -> Result<String, AllocError> {
     let mut said = String::new(alloc);
     for dim in dims {
-        let name = dim.name.as_slice().escape_ascii();
-        let line = format!(in alloc; "\n{name} = {}", dim.len)?;
-        said.push_str(line.as_str())?;
+        append(&mut said, dim_said(alloc, dim))?;
     }
     Ok(said)
 }
 
-/// The attributes of the variable, or of the dataset if its name is empty, each on a line of its own.
-fn atts_said(alloc: Global, of: &[u8], atts: &[Att]) -> Result<String, AllocError> {
+/// The attribute of the variable, or of the dataset if its name is empty.
+fn att_said(alloc: Global, of: &[u8], att: &Att) -> Result<String, AllocError> {
     let of = of.escape_ascii();
+    let name = att.name.as_slice().escape_ascii();
+    let vals = att.vals.as_slice().escape_ascii();
+    format!(in alloc; "\n{of}:{name} {:?} \"{vals}\"", att.ty)
+}
+
+/// Its attributes, each on a line of its own.
+fn atts_said(alloc: Global, of: &[u8], atts: &[Att]) -> Result<String, AllocError> {
     let mut said = String::new(alloc);
     for att in atts {
-        let name = att.name.as_slice().escape_ascii();
-        let vals = att.vals.as_slice().escape_ascii();
-        let line = format!(in alloc; "\n{of}:{name} {:?} \"{vals}\"", att.ty)?;
-        said.push_str(line.as_str())?;
+        append(&mut said, att_said(alloc, of, att))?;
     }
     Ok(said)
 }
 
-/// The variable and its attributes, each on a line of its own.
-fn var_said(alloc: Global, var: &Var) -> Result<String, AllocError> {
-    let (name, dimids) = (var.name.as_slice(), var.dimids.as_slice());
+/// The variable without its attributes.
+fn shape_said(alloc: Global, var: &Var) -> Result<String, AllocError> {
+    let name = var.name.as_slice().escape_ascii();
+    let dimids = var.dimids.as_slice();
     let begin = if var.begin_at == 0 {
         ""
     } else {
         " that begins"
     };
-    let of = name.escape_ascii();
-    let mut said = format!(in alloc; "\n{of} {:?} {dimids:?}{begin}", var.ty)?;
-    let atts = atts_said(alloc, name, var.atts.as_slice())?;
-    said.push_str(atts.as_str())?;
+    format!(in alloc; "\n{name} {:?} {dimids:?}{begin}", var.ty)
+}
+
+/// The variable and its attributes, each on a line of its own.
+fn var_said(alloc: Global, var: &Var) -> Result<String, AllocError> {
+    let mut said = shape_said(alloc, var)?;
+    let atts = atts_said(alloc, var.name.as_slice(), var.atts.as_slice());
+    append(&mut said, atts)?;
     Ok(said)
+}
+
+/// The values of a variable.
+fn array_said(alloc: Global, array: &Sequence<u8>) -> Result<String, AllocError> {
+    format!(in alloc; "\n= \"{}\"", array.as_slice().escape_ascii())
 }
 
 /// The values of the variables, each on a line of its own.
 fn values_said(alloc: Global, arrays: &[Sequence<u8>]) -> Result<String, AllocError> {
     let mut said = String::new(alloc);
     for array in arrays {
-        let line = format!(in alloc; "\n= \"{}\"", array.as_slice().escape_ascii())?;
-        said.push_str(line.as_str())?;
+        append(&mut said, array_said(alloc, array))?;
     }
     Ok(said)
 }
@@ -164,21 +187,21 @@ fn values_said(alloc: Global, arrays: &[Sequence<u8>]) -> Result<String, AllocEr
 fn vars_said(alloc: Global, vars: &[Var], arrays: &[Sequence<u8>]) -> Result<String, AllocError> {
     let mut said = String::new(alloc);
     for var in vars {
-        let lines = var_said(alloc, var)?;
-        said.push_str(lines.as_str())?;
+        append(&mut said, var_said(alloc, var))?;
     }
-    let values = values_said(alloc, arrays)?;
-    said.push_str(values.as_str())?;
+    append(&mut said, values_said(alloc, arrays))?;
     Ok(said)
 }
 
 /// The dataset: its number of records, its dimensions, its attributes, its variables and their values, each on a line of its own.
 fn dataset_said(alloc: Global, dataset: &Dataset) -> Result<String, AllocError> {
     let header = &dataset.header;
-    let dims = dims_said(alloc, header.dims.as_slice())?;
-    let gatts = atts_said(alloc, b"", header.gatts.as_slice())?;
-    let vars = vars_said(alloc, header.vars.as_slice(), dataset.arrays.as_slice())?;
-    format!(in alloc; "{:?}{dims}{gatts}{vars}", header.numrecs)
+    let mut said = format!(in alloc; "{:?}", header.numrecs)?;
+    append(&mut said, dims_said(alloc, header.dims.as_slice()))?;
+    append(&mut said, atts_said(alloc, b"", header.gatts.as_slice()))?;
+    let vars = vars_said(alloc, header.vars.as_slice(), dataset.arrays.as_slice());
+    append(&mut said, vars)?;
+    Ok(said)
 }
 
 /// What the text gives: its dataset, or its fault with its line.
