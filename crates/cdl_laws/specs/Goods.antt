@@ -1,5 +1,5 @@
 -- Law. What a text means is a good dataset, and a text can declare it but for the fill values of characters.
-use Rattle.std.specs.Prelude.{◌≡◌, ℕ, ◌^◌, ◌≤◌, true, List, [], length, map, All, Ok}
+use Rattle.std.specs.Prelude.{◌≡◌, ℕ, ◌^◌, ◌≤◌, true, [], length, map, All, Ok}
 use Rattle.nc_base.specs.Bytes.{Bytes, AreBytes}
 use Rattle.nc_base.specs.declared.{dataset.Dataset.Dataset, header.Dim.Dim, header.Var.Var, header.NumRecs.TheVariants.Known, version.Version.Version, version.Version.TheVariants.Cdf1}
 use Rattle.nc_base.specs.Fill.{fill_value}

@@ -1,5 +1,5 @@
 -- Law. The text of a dataset is read back, so no two datasets have one text.
-use Rattle.std.specs.Prelude.{◌≡◌, ℕ, false, List, None, Ok}
+use Rattle.std.specs.Prelude.{◌≡◌, false, None, Ok}
 use Rattle.nc_base.specs.Bytes.{Bytes}
 use Rattle.nc_base.specs.declared.dataset.Dataset.{Dataset}
 use Rattle.nc_base.specs.Dump.{Options, whole}

@@ -1,5 +1,5 @@
 -- Law. Names, strings and numbers are read back, each as one token; and the strings of a text stand for bytes.
-use Rattle.std.specs.Prelude.{◌≡◌, ◌||◌, true, ◌∷◌, ℕ, ℤ, Bool, true, false, List, ◌++◌, length, All, slice_index, codes, map, None, Some}
+use Rattle.std.specs.Prelude.{◌≡◌, ◌||◌, true, ◌∷◌, ℕ, ℤ, Bool, true, false, ◌++◌, length, All, slice_index, codes, map, None, Some}
 use Rattle.std.specs.Fmt.{signed_decimal}
 use Rattle.nc_base.specs.Bytes.{Bytes}
 use Rattle.nc_base.specs.declared.{nc_type.NcType.NcType, nc_type.NcType.TheVariants.Int, version.Version.Version}
