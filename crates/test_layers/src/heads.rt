@@ -4,7 +4,7 @@ use crate::header_rows::{EMPTY, HeaderRow, NamedValues, att_of, bytes_of, header
 use cdl_print::{put_head, put_name};
 use devices::MemSink;
 use nc_base::{Header, NcType};
-use std::alloc::Global;
+use std::alloc::{AllocError, Global};
 use std::process::Abort;
 use std::test::*;
 
@@ -58,6 +58,13 @@ fn dimensions_and_variables_are_declared(rt: HostRuntime) -> Result<(), Fail> {
     Ok(())
 }
 
+/// The head with the only attribute `note`, whose values are listed so.
+fn note_text(alloc: Global, want: &str) -> Result<Vec<u8>, AllocError> {
+    let before = "netcdf t {\n\n// global attributes:\n\t\t:note = ";
+    let text = format!(in alloc; "{before}{want} ;\n")?;
+    bytes_of(alloc, text.as_str())
+}
+
 /// Fails unless the only attribute `note` of a header, with these values, is listed so. Each character stands for a byte.
 fn expect_note(
     rt: &impl Abort,
@@ -65,13 +72,11 @@ fn expect_note(
     ty: NcType,
     vals: &str,
     want: &str,
-) -> Result<(), Fail> {
+) -> Result<(), AllocError> {
     let mut header = header_of(alloc, &EMPTY)?;
     header.gatts.push(att_of(alloc, "note", ty, vals)?)?;
-    let before = "netcdf t {\n\n// global attributes:\n\t\t:note = ";
-    let text = format!(in alloc; "{before}{want} ;\n")?;
-    let bytes = bytes_of(alloc, text.as_str())?;
-    expect_head(rt, alloc, &header, 0, bytes.as_slice());
+    let text = note_text(alloc, want)?;
+    expect_head(rt, alloc, &header, 0, text.as_slice());
     Ok(())
 }
 

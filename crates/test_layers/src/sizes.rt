@@ -1,7 +1,9 @@
 //! Sizes of small headers, worked out by hand.
 
 use crate::header_rows::{EMPTY, HeaderRow, NamedLength, NamedShape, header_of};
-use nc_base::{Header, NcType, NumRecs, Version, extent_end, rec_size, records, slab_of, weight};
+use nc_base::{
+    Dim, Header, NcType, NumRecs, Version, extent_end, rec_size, records, slab_of, weight,
+};
 use std::alloc::{AllocError, Global};
 use std::process::Abort;
 use std::test::Fail;
@@ -34,6 +36,12 @@ const LONG_DIMS: &[NamedLength<'static>] = &[
     ("", 0),
 ];
 
+/// Fails unless a variable of this type over these dimensions has slabs of this size.
+fn expect_slab(rt: &impl Abort, dims: &[Dim], dimids: &[u64], ty: NcType, slab: Option<u64>) {
+    assert!(rt; dimids.iter().all(|id| *id < dims.len() as u64));
+    assert!(rt; slab_of(dims, dimids, ty) == slab, "{dimids:?} {ty:?}");
+}
+
 #[test]
 fn slabs_leave_out_the_record_dimension_up_to_their_limit(rt: HostRuntime) -> Result<(), Fail> {
     const ROWS: &[(&[NamedLength<'static>], &[u64], NcType, Option<u64>)] = &[
@@ -48,9 +56,7 @@ fn slabs_leave_out_the_record_dimension_up_to_their_limit(rt: HostRuntime) -> Re
     ];
     for (dims, dimids, ty, slab) in ROWS {
         let header = header(rt.alloc(), *dims, &[])?;
-        let dims = header.dims.as_slice();
-        assert!(rt; dimids.iter().all(|id| *id < dims.len() as u64));
-        assert!(rt; slab_of(dims, *dimids, *ty) == *slab, "{dimids:?} {ty:?}");
+        expect_slab(&rt, header.dims.as_slice(), *dimids, *ty, *slab);
     }
     Ok(())
 }

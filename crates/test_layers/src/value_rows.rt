@@ -1,9 +1,9 @@
 //! Rows of tests: a variable, its values and their text, printed for every cutting into calls and in sinks of every length.
 
-use crate::header_rows::{self, EMPTY, HeaderRow, att_of, bytes_of, sequence, var_of};
+use crate::header_rows::{bytes_of, sequence, var_of};
 use cdl_print::ValuePrinter;
 use devices::{Sink, SliceSink, WriteFailed};
-use nc_base::{Dim, Header, NcType, NumRecs};
+use nc_base::{Dim, Header, NcType, NumRecs, Sequence, Var, Version};
 use std::alloc::{AllocError, Global};
 use std::process::Abort;
 use std::test::*;
@@ -47,29 +47,63 @@ pub const V: Row<'static> = Row {
     text: "",
 };
 
-/// A header with the variable.
-pub fn header_of(alloc: Global, row: &Row<'_>) -> Result<Header, AllocError> {
-    let numrecs = NumRecs::Known(row.records);
-    let mut header = header_rows::header_of(alloc, &HeaderRow { numrecs, ..EMPTY })?;
-    let mut dimids = Vec::new(alloc);
-    for (id, len) in row.lens.iter().enumerate() {
+/// Dimensions of these lengths, all of them named `d`.
+fn dims_of(alloc: Global, lens: &[u64]) -> Result<Sequence<Dim>, AllocError> {
+    let mut dims = Sequence::new(alloc);
+    for len in lens {
         let name = sequence(alloc, "d")?;
-        header.dims.push(Dim { name, len: *len })?;
+        dims.push(Dim { name, len: *len })?;
+    }
+    Ok(dims)
+}
+
+/// The variable of a row, over as many dimensions as there are lengths.
+fn row_var(alloc: Global, row: &Row<'_>) -> Result<Var, AllocError> {
+    let mut dimids = Vec::new(alloc);
+    for id in 0..row.lens.len() {
         dimids.push(id as u64)?;
     }
     let shape = (row.name, dimids.as_slice(), row.ty, 0);
-    let mut var = var_of(alloc, shape, &[])?;
-    if let Some(fill) = row.fill {
-        let fill = att_of(alloc, "_FillValue", row.ty, fill)?;
-        var.atts.push(fill)?;
+    match row.fill {
+        Some(fill) => var_of(alloc, shape, &[("_FillValue", row.ty, fill)]),
+        None => var_of(alloc, shape, &[]),
     }
-    header.vars.push(var)?;
-    Ok(header)
+}
+
+/// A header with the variable.
+pub fn header_of(alloc: Global, row: &Row<'_>) -> Result<Header, AllocError> {
+    let mut vars = Sequence::new(alloc);
+    vars.push(row_var(alloc, row)?)?;
+    let dims = dims_of(alloc, row.lens)?;
+    Ok(Header {
+        version: Version::Cdf5,
+        numrecs: NumRecs::Known(row.records),
+        dims,
+        gatts: Sequence::new(alloc),
+        vars,
+    })
 }
 
 /// Cuts after these two values.
 fn two_cuts(first: u32, second: u32) -> u64 {
     (1u64 << (first % 64)) | (1u64 << (second % 64))
+}
+
+/// Prints these values.
+fn print_piece<W: Sink>(
+    rt: &impl Abort,
+    printer: &mut ValuePrinter<'_>,
+    sink: &mut W,
+    text: &mut [u8; 4096],
+    piece: &[u8],
+) -> Result<(), WriteFailed> {
+    assert!(rt; printer.takes(piece));
+    printer.values(sink, text, piece)
+}
+
+/// Returns true if a piece ends with this value of `count`, as the bits say.
+fn ends_piece(value: usize, count: usize, cuts: u64) -> bool {
+    value.saturating_add(1) == count || (cuts >> (value % 64) as u32) & 1 == 1
 }
 
 /// Prints the values, cut where the bits say.
@@ -89,12 +123,10 @@ fn print<W: Sink>(
     let count = row.bytes.len() / size;
     let mut from = 0;
     for value in 0..count {
-        if value + 1 == count || (cuts >> (value % 64) as u32) & 1 == 1 {
-            let to = (value + 1).saturating_mul(size);
+        if ends_piece(value, count, cuts) {
+            let to = value.saturating_add(1).saturating_mul(size);
             assert!(rt; from <= to && to <= row.bytes.len());
-            let piece = &row.bytes[from..to];
-            assert!(rt; printer.takes(piece));
-            printer.values(sink, &mut text, piece)?;
+            print_piece(rt, &mut printer, sink, &mut text, &row.bytes[from..to])?;
             from = to;
         }
     }

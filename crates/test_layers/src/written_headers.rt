@@ -6,7 +6,7 @@ ghost use Rattle.nc_base.specs.Versions.{offset_limit};
 
 use crate::header_rows::{EMPTY, HeaderRow, NamedShape, header_of};
 use devices::{MemSink, Sink, SliceSink};
-use nc_base::{Header, NcType, NumRecs, Version};
+use nc_base::{Header, NcType, NumRecs, Var, Version};
 use nc_file::{OffsetTooLarge, header_len, with_begins, write_header};
 use std::process::Abort;
 use std::test::Fail;
@@ -129,20 +129,33 @@ fn headers_have_their_bytes(rt: HostRuntime) -> Result<(), Fail> {
     Ok(())
 }
 
+/// Returns true if there are begins, and the variables have these.
+fn are_begins(vars: &[Var], begins: Option<&[u64]>) -> bool {
+    let Some(begins) = begins else {
+        return false;
+    };
+    if vars.len() != begins.len() {
+        return false;
+    }
+    for (var, begin) in vars.iter().zip(begins) {
+        if var.begin_at != *begin {
+            return false;
+        }
+    }
+    true
+}
+
 /// Fails unless the header has this number of bytes, with its begins too, and its variables begin there; or an offset of it is
 /// too large, where no begins are given.
 fn expect_begins(rt: &impl Abort, header: Header, len: u64, begins: Option<&[u64]>) {
     assert!(rt; header.sound() && header_len(&header) == len);
-    match (with_begins(header), begins) {
-        (Ok(header), Some(begins)) => {
-            assert!(rt; header_len(&header) == len);
-            assert!(rt; header.vars.len() == begins.len());
-            for (var, begin) in header.vars.as_slice().iter().zip(begins) {
-                assert!(rt; var.begin_at == *begin);
-            }
+    match with_begins(header) {
+        Ok(header) => {
+            let is_as_long = header_len(&header) == len;
+            let begin_there = are_begins(header.vars.as_slice(), begins);
+            assert!(rt; is_as_long && begin_there, "of {len} bytes");
         }
-        (Err(OffsetTooLarge), None) => {}
-        _ => assert!(rt; false, "of {len} bytes"),
+        Err(OffsetTooLarge) => assert!(rt; begins.is_none(), "of {len} bytes"),
     }
 }
 
