@@ -1,6 +1,6 @@
 -- Definition. The faults of a run, and the lines that tell them.
 use Rattle.std.specs.Global.{Global}
-use Rattle.std.specs.Prelude.{ℕ, List, [], ◌∷◌, Option, Some, None, String, codes, decimal, string_bytes}
+use Rattle.std.specs.Prelude.{ℕ, [], ◌∷◌, Option, Some, None, String, codes, decimal, string_bytes}
 use Rattle.nc_base.specs.Bytes.{Bytes, concat_parts}
 use Rattle.cdl_statements.specs.declared.fault.CdlKind.{CdlKind}
 use Rattle.cdl_statements.specs.declared.fault.CdlKind.TheVariants as cdl

@@ -1,5 +1,5 @@
 -- Definition. What reading the text that is asked for has done.
-use Rattle.std.specs.Prelude.{◌≡◌, ℕ, ◌<◌, ◌≤◌, Bool, List, length, Option, Some, None, IsSome, IsSomeAnd, Result, Ok, Err}
+use Rattle.std.specs.Prelude.{◌≡◌, ℕ, ◌<◌, ◌≤◌, Bool, length, Option, Some, None, IsSome, IsSomeAnd, Result, Ok, Err}
 use Rattle.std.specs.Bool.{OnTrue}
 use Rattle.std.specs.Global.{Vec}
 use Rattle.nc_base.specs.Bytes.{Bytes}

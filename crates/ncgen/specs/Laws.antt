@@ -1,5 +1,5 @@
 -- Law. What holds of the file of a text.
-use Rattle.std.specs.Prelude.{◌≡◌, ◌≤◌, ◌↔◌, ℕ, List, length, Ok}
+use Rattle.std.specs.Prelude.{◌≡◌, ◌≤◌, ◌↔◌, length, Ok}
 use Rattle.nc_base.specs.Bytes.{Bytes, AreBytes}
 use Rattle.nc_base.specs.declared.{dataset.Dataset.Dataset, version.Version.Version}
 use Rattle.nc_base.specs.Dump.{Ending, IsDump, Options, whole}

@@ -1,5 +1,5 @@
 -- Definition. What writing a file to an output has done.
-use Rattle.std.specs.Prelude.{◌≡◌, ℕ, ◌+◌, ◌⊎◌, Bool, List, [], Option, Some, None}
+use Rattle.std.specs.Prelude.{◌≡◌, ◌+◌, ◌⊎◌, Bool, List, [], Option, Some, None}
 use Rattle.std.specs.Bool.{OnTrue}
 use Rattle.nc_base.specs.Bytes.{Bytes}
 use Rattle.devices.specs.Failures.{HasFailed}

@@ -1,5 +1,5 @@
 -- Definition. What a run of the program has done.
-use Rattle.std.specs.Prelude.{ℕ, ◌≡◌, ◌⊎◌, List, Option, Some, None, option_map, string_bytes}
+use Rattle.std.specs.Prelude.{ℕ, ◌≡◌, ◌⊎◌, Option, Some, None, option_map, string_bytes}
 use Rattle.nc_base.specs.Bytes.{Bytes}
 use Rattle.devices.specs.Sinks.{SinkView, Appended, FailedPartway}
 use Rattle.devices.specs.Uses.{Use}
