@@ -1,8 +1,7 @@
 -- The strings of a variable of characters are read back.
 use Rattle.std.proofs.Common.{◌≡◌, ℕ, suc, ◌+◌, ◌*◌, ◌%◌, ◌<◌, ◌≤◌, Bool, true, false, List, [], ◌∷◌, ◌++◌, length, map, sym, ◌∙◌, ap, refl, subst, arith, append_assoc, append-nil, length-append, ℤ, unsigned_abs, ◌&&◌, ◌==◌, if◌then◌else◌, replicate, codes, rules}
-use Rattle.cdl_laws.proofs.Prelude.{flat_map, suffix_len, prefix_len, reverse-append, drop_all, mul-mod_left, drop-append_seam, escaped_name, escaped_in_string, escaped_text, IsName, Look, is_char, begins_row, char_lead, char_text, char_piece, held, row_so_far, is_nul, piece, pieces, variable_opening, variable_closing, variable_prefix, variable_text, Lexeme, lexemes_at, scan, and_left, and_right, escaped-append}
+use Rattle.cdl_laws.proofs.Prelude.{flat_map, suffix_len, prefix_len, reverse-append, drop_all, mul-mod_left, drop-append_seam, escaped_name, escaped_in_string, escaped_text, IsName, Look, is_char, begins_row, char_lead, char_text, char_piece, held, row_so_far, is_nul, piece, pieces, variable_opening, variable_closing, variable_prefix, variable_text, Lexeme, lexemes_at, scan, and_left, and_right, escaped-append, Each}
 use Rattle.std.proofs.lemmas.Nat.{mod-mul-add}
-use Rattle.cdl_laws.proofs.Lists.{Each}
 use Rattle.cdl_laws.proofs.Texts.{Closed, closed_both, mark, word}
 use Rattle.cdl_laws.proofs.Strings.{quoted, string, string_closed}
 use Rattle.cdl_laws.proofs.ValueTexts.{commas, comma, opening_closed, row_closed, semicolon_closed}

@@ -1,8 +1,7 @@
 -- The data section of a dump, variable after variable.
 use Rattle.std.proofs.Common.{◌≡◌, ℕ, ◌+◌, ◌<◌, ◌≤◌, Bool, true, false, List, [], ◌∷◌, ◌++◌, length, map, sym, ◌∙◌, ap, refl, subst, append_assoc, ℤ, pos, if◌then◌else◌, Option, None, Some, Ok, arith, rules}
-use Rattle.cdl_laws.proofs.Prelude.{Att, Dim, Header, Var, Version, VariableValues, whole, shown_data, with_variable, has_values, fill_value, IsName, is_record_var, Look, look_of, is_char, variable_text, Values, trimmed_var, Value, Characters, Listed, State, Draft, Listing, Numbers, Joined, Rows, Capacity, capacity_of, act, listing_of, values_in, filled, has_number}
+use Rattle.cdl_laws.proofs.Prelude.{Att, Dim, Header, Var, Version, VariableValues, whole, shown_data, with_variable, has_values, fill_value, IsName, is_record_var, Look, look_of, is_char, variable_text, Values, trimmed_var, Value, Characters, Listed, State, Draft, Listing, Numbers, Joined, Rows, Capacity, capacity_of, act, listing_of, values_in, filled, has_number, Each}
 use Rattle.nc_base.specs.Dump.{DataText, data_text}
-use Rattle.cdl_laws.proofs.Lists.{Each}
 use Rattle.cdl_laws.proofs.ValueTexts.{AreSmall, value_said, numbers_listed}
 use Rattle.cdl_laws.proofs.Characters.{flat, shown}
 use Rattle.cdl_laws.proofs.Filled.{IsCharacter, row_back, rows_listed, rows_full, line_listed, back_whole, filled_whole}

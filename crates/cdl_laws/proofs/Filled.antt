@@ -1,8 +1,6 @@
 -- What a row shows, filled up, is the row.
 use Rattle.std.proofs.Common.{◌≡◌, ℕ, zero, suc, ◌+◌, ◌-◌, ◌≤◌, Bool, true, false, List, [], ◌∷◌, ◌++◌, length, map, sym, ◌∙◌, ap, refl, arith, append_assoc, append-nil, length-append, ℤ, pos, unsigned_abs, if◌then◌else◌, replicate, Some, Ok, rules}
-use Rattle.cdl_laws.proofs.Prelude.{flat_map, eqb-true, map-append, length-replicate, replicate_more, Version, escaped_in_string, is_nul, is_char, string_value, stands_for, Characters, each, both, constant, constants, Capacity, Joined, Rows, add_row, filled, in_turn, listing_of, values_in, le-leb, length-map}
-use Rattle.cdl_meaning.specs.State.{◌>>=◌}
-use Rattle.cdl_laws.proofs.Lists.{Each}
+use Rattle.cdl_laws.proofs.Prelude.{flat_map, eqb-true, map-append, length-replicate, replicate_more, Version, escaped_in_string, is_nul, is_char, string_value, stands_for, Characters, each, both, constant, constants, Capacity, Joined, Rows, add_row, filled, in_turn, listing_of, values_in, le-leb, length-map, Each, ◌>>=◌}
 use Rattle.cdl_laws.proofs.Characters.{shown, flat}
 use Rattle.cdl_laws.proofs.Strings.{string, unescape_all, between_quotes}
 use Rattle.cdl_laws.proofs.ValueTexts.{commas, constants_all, turn, room_for}

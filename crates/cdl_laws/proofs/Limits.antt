@@ -1,9 +1,8 @@
 -- What is read back keeps its limits.
 use Rattle.std.proofs.Common.{◌≡◌, ℕ, ◌≤◌, true, List, [], ◌∷◌, map, ◌∙◌, ap, refl, arith, sum}
-use Rattle.cdl_laws.proofs.Prelude.{list_all, Dim, Header, Var, Version, AreArrays, slab_size, record_vars, record_size_of, padded_size, padded_total, slab_limit, trimmed_var, is_small, and_both, le-leb}
+use Rattle.cdl_laws.proofs.Prelude.{list_all, Dim, Header, Var, Version, AreArrays, slab_size, record_vars, record_size_of, padded_size, padded_total, slab_limit, trimmed_var, is_small, and_both, le-leb, Each}
 use Rattle.cdl_laws.proofs.DataTexts.{given_drafts}
 use Rattle.cdl_laws.proofs.Datasets.{AreBack, listings}
-use Rattle.cdl_laws.proofs.Lists.{Each}
 
 -- ---- a slab has a value
 

@@ -1,9 +1,7 @@
 -- What holds of what an option or a result has, and of lists by totals.
 use Rattle.std.proofs.Common.{◌≡◌, ℕ, ◌+◌, ◌≤◌, Bool, true, false, List, [], ◌∷◌, ◌++◌, subst, arith, zero, suc, All, if◌then◌else◌, Option, None, Some, Result, Ok, Err, take, drop}
 use Rattle.std.specs.Prelude.{⊤}
-use Rattle.cdl_laws.proofs.Prelude.{option_map, option_and_then, in_turn, unless, when, some_or, both, each, either, if_so, CdlKind}
-use Rattle.cdl_meaning.specs.State.{◌>>=◌}
-use Rattle.cdl_laws.proofs.Lists.{Each}
+use Rattle.cdl_laws.proofs.Prelude.{option_map, option_and_then, in_turn, unless, when, some_or, both, each, either, if_so, CdlKind, Each, ◌>>=◌}
 
 -- ---- options
 

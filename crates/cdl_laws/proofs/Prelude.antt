@@ -9,7 +9,7 @@ pub use Rattle.cdl_laws.specs.Trims.{FillValueSurvivesTrim, MeaningsAreSayable, 
 pub use Rattle.cdl_meaning.specs.Meaning.{array_of, closing_line, dataset_of, empty, header_of, is_small, starting_line, meaning, records_in, records_of, text_limit, listed_values}
 pub use Rattle.cdl_meaning.proofs.Readings.{checked, shaped}
 unfoldable pub use Rattle.cdl_meaning.specs.Meaning.{finished, is_small_enough, piece_read, run}
-pub use Rattle.cdl_meaning.specs.State.{Capacity, Draft, Joined, Listing, Numbers, Rows, State, add_characters, add_constant, add_number, add_row, at_named, int_within, dim_len_of, filled, first_type, some_or, in_turn, listed_by, same_type, unless, values_in, when, with_att, with_values}
+pub use Rattle.cdl_meaning.specs.State.{Capacity, Draft, Joined, Listing, Numbers, Rows, State, add_characters, add_constant, add_number, add_row, at_named, int_within, dim_len_of, filled, first_type, some_or, in_turn, listed_by, same_type, unless, values_in, when, with_att, with_values, ◌>>=◌}
 unfoldable pub use Rattle.cdl_meaning.specs.State.{act, add_att, add_dim, add_dimid, add_var, at_variable, capacity_of, has_number, listing_of, type_of}
 pub use Rattle.cdl_statements.proofs.PieceLengths.{pieces_by_steps}
 pub use Rattle.cdl_statements.specs.Lexemes.{Lexeme, is_end_kind, is_mark, is_opening_kind, is_word, is_word_kind, lexeme}
@@ -53,12 +53,11 @@ pub use Rattle.nc_base.specs.HeadText.{att_text, broken_text, dim_name, joined, 
 unfoldable pub use Rattle.nc_base.specs.HeadText.{att_line, att_lines, chars_text, currently_word, dim_len_text, dim_line, dim_lines, dimensions_word, dims_text, gatts_text, global_word, head_text, netcdf_word, numbers_text, shape_text, string_break, unlimited_word, var_lines, variables_word, vars_text}
 pub use Rattle.nc_base.specs.Headers.{AreArrays, AreDimids, IsArray, IsGood, IsSound, IsSoundAtt, IsSoundDim, IsSoundVar, bare, bare_var}
 pub use Rattle.nc_base.specs.Grammar.{IsDimid}
-pub use Rattle.nc_base.specs.Sizes.{has_record_dim, value_count}
+pub use Rattle.nc_base.specs.Sizes.{has_record_dim, value_count, array_limit, dim_len, has_records, is_record_dim, is_record_var, padded_size, padded_total, product, record_limit, record_size, record_size_of, record_vars, slab_count, slab_lens, slab_limit, slab_size}
 pub use Rattle.nc_base.specs.Names.{IsName, ends_with_space, has_name_bytes, is_beyond_ascii, is_name, may_begin_name, may_follow_in_name}
 pub use Rattle.nc_base.specs.Numbers.{IsInRange, bytes_of_number, number_of, numbers_from}
 unfoldable pub use Rattle.nc_base.specs.Numbers.{numbers}
 pub use Rattle.nc_base.specs.Sayable.{AreDistinct, AreSayableAtts, HasSomeNumber, IsSayable, IsSayableVar, trimmed, trimmed_att, trimmed_header, trimmed_var}
-pub use Rattle.nc_base.specs.Sizes.{array_limit, dim_len, has_records, is_record_dim, is_record_var, padded_size, padded_total, product, record_limit, record_size, record_size_of, record_vars, slab_count, slab_lens, slab_limit, slab_size}
 pub use Rattle.nc_base.specs.Types.{all_types, code_of, number_suffix, size_of, type_word}
 pub use Rattle.nc_base.specs.ValueText.{Look, begins_row, char_lead, char_text, column, held, is_char, is_nul, line_break, number_lead, number_text, row_len, row_so_far}
 unfoldable pub use Rattle.nc_base.specs.ValueText.{char_piece, variable_closing, look_of, number_piece, variable_opening, piece, pieces, variable_prefix, variable_text}
@@ -96,3 +95,4 @@ pub use Rattle.cdl_tokens.proofs.PlainStrings.{inner_of}
 pub use Rattle.nc_base.proofs.ValueLaws.{escaped-append, look-type, length-numbers_from}
 pub use Rattle.nc_base.proofs.FilePlaces.{length-numbers}
 pub use Rattle.cdl_meaning.proofs.InRange.{is_had}
+pub use Rattle.cdl_laws.proofs.Lists.{Each, all_of, each_map, each_of}

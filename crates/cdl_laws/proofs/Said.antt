@@ -1,9 +1,8 @@
 -- What the shapes give: names, counts and types of what a statement says, against the bytes of its tokens.
 use Rattle.std.proofs.Common.{◌≡◌, ℕ, ◌+◌, ◌-◌, ◌≤◌, ◌<◌, Bool, true, false, List, [], ◌∷◌, length, sym, subst, arith, zero, suc, Option, None, Some, drop, ◌&&◌, ◌||◌, not, ◌==◌, slice_index, codes, map, rules}
-use Rattle.cdl_laws.proofs.Prelude.{length-take, length-drop, is_reserved, Version, has_type, is_escape, character, inner, unescape_at, word_value, or_zero, Lexeme, is_word_kind, is_mark, name_of, Parts, parts, number, Numeral, numeral, type_of_suffix, in_base, with_sign, Value, Number, Characters, Underscore, Dimension, Variable, both, each, if_so, into_first, members_in, members, single, dimension, constant_of, constant, constants, constants_are, constants_by, name_alone, before_mark, variable, TokenKind}
+use Rattle.cdl_laws.proofs.Prelude.{length-take, length-drop, is_reserved, Version, has_type, is_escape, character, inner, unescape_at, word_value, or_zero, Lexeme, is_word_kind, is_mark, name_of, Parts, parts, number, Numeral, numeral, type_of_suffix, in_base, with_sign, Value, Number, Characters, Underscore, Dimension, Variable, both, each, if_so, into_first, members_in, members, single, dimension, constant_of, constant, constants, constants_are, constants_by, name_alone, before_mark, variable, TokenKind, Each}
 use Rattle.cdl_statements.proofs.Members.{dimensions, dimensions_are, dimensions_by}
 use Rattle.cdl_tokens.specs.declared.scan.Character.{Character}
-use Rattle.cdl_laws.proofs.Lists.{Each}
 use Rattle.cdl_laws.proofs.Outcomes.{SomeIs, some_map, some_then, some_weaker, some_both, some_given, in_if, total, each_total, each_take, each_drop}
 
 -- ---- weights

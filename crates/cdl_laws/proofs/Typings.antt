@@ -1,7 +1,6 @@
 -- The declaration of a variable, and what it says.
 use Rattle.std.proofs.Common.{◌≡◌, ℕ, true, List, [], ◌∷◌, ◌++◌, map, ◌∙◌, ap, refl, Some, codes, arith, rules}
-use Rattle.cdl_laws.proofs.Prelude.{list_all, option_map, option_and_then, list_all-append, concat_parts, NcType, Version, escaped_name, joined, IsName, type_word, Variables, Lexeme, DeclareVariables, members, members_in, into_first, each, both, variable, name_alone, before_mark, body, and_both}
-use Rattle.cdl_laws.proofs.Lists.{Each}
+use Rattle.cdl_laws.proofs.Prelude.{list_all, option_map, option_and_then, list_all-append, concat_parts, NcType, Version, escaped_name, joined, IsName, type_word, Variables, Lexeme, DeclareVariables, members, members_in, into_first, each, both, variable, name_alone, before_mark, body, and_both, Each}
 use Rattle.cdl_laws.proofs.Texts.{Closed, Reads, closed_both, closed_by, mark, word, name_word}
 use Rattle.cdl_laws.proofs.ValueTexts.{comma, commas, is_member, members_all, semicolon_closed}
 use Rattle.cdl_laws.proofs.Takes.{Says, statement_says, semicolon, is_fine, word_fine}

@@ -1,10 +1,9 @@
 -- What each statement of a text says, and how many bytes and tokens all of them have.
 use Rattle.std.proofs.Common.{◌≡◌, ℕ, ◌+◌, ◌-◌, ◌*◌, ◌≤◌, ◌<◌, Bool, true, false, List, [], ◌∷◌, length, map, ◌∙◌, ap, refl, arith, zero, suc, Option, None, drop, ◌&&◌, is_none, rules}
-use Rattle.cdl_laws.proofs.Prelude.{length-take, length-drop, option_map, option_and_then, Version, scan, Lexeme, lexeme, is_mark, is_opening_kind, is_end_kind, name_of, first_role, role, pieces_after, with_first, step, pieces_by_steps, Value, Statement, Open, Enter, DeclareDimensions, DeclareVariables, Attribute, Listed, Close, End, each, either, constants, assigned, global, typed, attribute, body, section_number, section_mark, alone, shape, before_mark, tokens, tokens_at, statements, Section, Unopened, Globals, Dimensions, Variables, Values, Closed, Ended, CutState, Role, Token}
+use Rattle.cdl_laws.proofs.Prelude.{length-take, length-drop, option_map, option_and_then, Version, scan, Lexeme, lexeme, is_mark, is_opening_kind, is_end_kind, name_of, first_role, role, pieces_after, with_first, step, pieces_by_steps, Value, Statement, Open, Enter, DeclareDimensions, DeclareVariables, Attribute, Listed, Close, End, each, either, constants, assigned, global, typed, attribute, body, section_number, section_mark, alone, shape, before_mark, tokens, tokens_at, statements, Section, Unopened, Globals, Dimensions, Variables, Values, Closed, Ended, CutState, Role, Token, Each}
 use Rattle.cdl_statements.specs.Shapes as shapes
 use Rattle.cdl_statements.proofs.Members.{dimensions}
 use Rattle.cdl_statements.specs.declared.piece.CutState.TheVariants as places
-use Rattle.cdl_laws.proofs.Lists.{Each}
 use Rattle.cdl_laws.proofs.Outcomes.{SomeIs, some_map, some_then, some_weaker, some_both, some_first, some_given, some_and, total, each_take, each_drop}
 use Rattle.cdl_laws.proofs.Said.{weight, mass, IsByte, HasBytes, before_mass, before_each, name_short, cost, IsFineValue, constants_fine, constants_short, dim_cost, dimensions_short, var_cost, variables_short}
 

@@ -3,9 +3,8 @@ use Rattle.std.specs.Prelude.{◌≡◌, ℕ, true, false, List, [], length, sli
 use Rattle.nc_base.specs.declared.{dataset.Dataset.Dataset, header.NumRecs.TheVariants.Known, header.Var.Var}
 use Rattle.nc_base.specs.Dump.{has_values}
 use Rattle.nc_base.specs.Datasets.{values_in_dataset}
-use Rattle.nc_base.specs.Sizes.{value_count}
+use Rattle.nc_base.specs.Sizes.{value_count, is_record_var}
 use Rattle.nc_base.specs.Sayable.{IsSayable}
-use Rattle.nc_base.specs.Sizes.{is_record_var}
 use Rattle.nc_base.specs.ValueText.{look_of, variable_text}
 use Rattle.cdl_statements.specs.declared.section.Section.TheVariants.{Values}
 use Rattle.cdl_statements.specs.Shapes.{Value, Listed}

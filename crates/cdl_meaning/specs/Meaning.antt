@@ -4,9 +4,8 @@ use Rattle.std.specs.List.{flat_map, list_all}
 use Rattle.nc_base.specs.Bytes.{Bytes}
 use Rattle.nc_base.specs.declared.{dataset.Dataset.Dataset, header.Dim.Dim, header.Header.Header, header.NumRecs.TheVariants.Known, version.Version.Version}
 use Rattle.nc_base.specs.Fill.{fill_value}
-use Rattle.nc_base.specs.Sizes.{value_count}
+use Rattle.nc_base.specs.Sizes.{value_count, is_record_var, slab_count, slab_size, record_size, slab_limit, array_limit, record_limit}
 use Rattle.nc_base.specs.Numbers.{bytes_of_number}
-use Rattle.nc_base.specs.Sizes.{is_record_var, slab_count, slab_size, record_size, slab_limit, array_limit, record_limit}
 use Rattle.nc_base.specs.Types.{size_of}
 use Rattle.cdl_statements.specs.Lexemes.{Lexeme, lexeme}
 use Rattle.cdl_statements.specs.Shapes.{shape, first_bad}

@@ -8,10 +8,9 @@ use mir.Val.{bits, hbits}
 use Rattle.nc_base.specs.declared.{header.Att.Att, header.Dim.Dim, header.Var.Var, nc_type.NcType.NcType, version.Version.Version}
 use Rattle.nc_base.specs.declared.nc_type.NcType.TheVariants.{Char, Int}
 use Rattle.nc_base.specs.Fill.{fill_value}
-use Rattle.nc_base.specs.Sizes.{has_record_dim}
+use Rattle.nc_base.specs.Sizes.{has_record_dim, dim_len, is_record_dim, is_record_var, product, slab_count}
 use Rattle.nc_base.specs.Names.{is_name}
 use Rattle.nc_base.specs.Numbers.{bytes_of_number}
-use Rattle.nc_base.specs.Sizes.{dim_len, is_record_dim, is_record_var, product, slab_count}
 use Rattle.nc_base.specs.Types.{all_types, code_of, type_word, width_of, is_signed}
 use Rattle.nc_base.specs.ValueText.{row_len, is_char}
 use Rattle.nc_base.specs.Versions.{count_limit, has_type}

@@ -2,7 +2,7 @@
 pub use Rattle.cdl_meaning.specs.Meaning.{array_of, closing_line, dataset_of, empty, header_of, is_small, starting_line, meaning, records_in, listed_values}
 pub use Rattle.cdl_meaning.proofs.Readings.{checked, shaped}
 unfoldable pub use Rattle.cdl_meaning.specs.Meaning.{finished, is_small_enough, piece_read, run}
-pub use Rattle.cdl_meaning.specs.State.{Draft, Listing, State, add_constant, at_named, dim_len_of, first_type, some_or, in_turn, type_said, unless, values_in, when, with_att, with_values}
+pub use Rattle.cdl_meaning.specs.State.{Draft, Listing, State, add_constant, at_named, dim_len_of, first_type, some_or, in_turn, type_said, unless, values_in, when, with_att, with_values, ◌>>=◌}
 unfoldable pub use Rattle.cdl_meaning.specs.State.{act, add_att, add_dim, add_dimid, add_var, at_variable, capacity_of, listing_of, type_of}
 pub use Rattle.cdl_parse.specs.code.AttributeNames.{att_names, has_attribute}
 pub use Rattle.cdl_parse.specs.code.AttributeRead.{att_read, att_said, constants_said}
@@ -50,10 +50,9 @@ pub use Rattle.cdl_values.specs.declared.read_error.ReadError.TheVariants.{Fault
 unfoldable pub use Rattle.nc_base.specs.Fill.{fill_value}
 pub use Rattle.nc_base.specs.Headers.{AreDimids}
 pub use Rattle.nc_base.specs.Grammar.{IsDimid}
-pub use Rattle.nc_base.specs.Sizes.{value_count}
+pub use Rattle.nc_base.specs.Sizes.{value_count, array_limit, dim_len, is_record_dim, is_record_var, product, record_limit, record_size, slab_count, slab_lens, slab_limit, slab_size}
 pub use Rattle.nc_base.specs.Names.{is_name}
 pub use Rattle.nc_base.specs.Numbers.{bytes_of_number}
-pub use Rattle.nc_base.specs.Sizes.{array_limit, dim_len, is_record_dim, is_record_var, product, record_limit, record_size, slab_count, slab_lens, slab_limit, slab_size}
 pub use Rattle.nc_base.specs.code.OwedValues.{fills, whole_array, whole_arrays}
 pub use Rattle.nc_base.specs.code.SizeParts.{checked_record_size, has_small_slab}
 pub use Rattle.nc_base.specs.declared.{header.Att.Att, header.Dim.Dim, header.Header.Header, header.NumRecs.TheVariants.Known, header.Var.Var, nc_type.NcType.NcType, version.Version.Version}
@@ -70,3 +69,4 @@ pub use Rattle.nc_base.proofs.SoundLaws.{some_count, some_product}
 pub use Rattle.cdl_values.proofs.NamePositions.{any_is, new_is}
 pub use Rattle.cdl_values.proofs.AllowedNames.{stopped}
 pub use Rattle.nc_base.proofs.FilePlaces.{length-numbers}
+pub use Rattle.std.specs.Prelude.{⊤}

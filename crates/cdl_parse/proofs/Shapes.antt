@@ -1,9 +1,7 @@
 -- The statements of the section of the variables keep the variables' shapes.
 use Rattle.std.proofs.Common.{◌≡◌, ℕ, suc, ◌<◌, Bool, true, false, List, [], ◌∷◌, ◌++◌, length, sym, subst, append_assoc, append-nil, arith, Option, Result, Ok, Err, IfOk, IfSome, if◌then◌else◌, rules}
-use Rattle.cdl_parse.proofs.Prelude.{All-cons, All-push, position, bytes_eq, AreDimids, IsDimid, is_name, Dim, NcType, Value, CdlKind, BadName, DuplicateName, Draft, add_dimid, add_var, at_named, at_variable, some_or, in_turn, unless, when, with_att, AreShaped, draft, is_variable_name, none_before}
-use Rattle.std.specs.Prelude.{⊤}
+use Rattle.cdl_parse.proofs.Prelude.{All-cons, All-push, position, bytes_eq, AreDimids, IsDimid, is_name, Dim, NcType, Value, CdlKind, BadName, DuplicateName, Draft, add_dimid, add_var, at_named, at_variable, some_or, in_turn, unless, when, with_att, AreShaped, draft, is_variable_name, none_before, ◌>>=◌, ⊤}
 use Rattle.cdl_statements.specs.Shapes.{Variable}
-use Rattle.cdl_meaning.specs.State.{◌>>=◌}
 
 -- ---- what an Ok has
 

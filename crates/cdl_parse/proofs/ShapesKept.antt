@@ -1,7 +1,6 @@
 -- Every statement keeps the shapes: each variable's dimensions are known ones, and the record dimension stands first.
 use Rattle.std.proofs.Common.{◌≡◌, ℕ, ◌<◌, List, [], ◌∷◌, ◌++◌, length, map, sym, ap, ◌∙◌, subst, arith, append_assoc, None, Some, Result, Ok, Err, IfOk, slice_index, slice_index_or, rules}
-use Rattle.std.specs.Prelude.{⊤}
-use Rattle.cdl_parse.proofs.Prelude.{append-nil, get_or_append_left, length-append, length-map, map-append, Dim, Version, AreDimids, dim_len, Lexeme, Dimension, Statement, Value, DeclareVariables, Attribute, Listed, shape, CdlKind, piece_read, shaped, State, Draft, act, add_att, add_dim, at_variable, in_turn, type_of, with_att, with_values, AreShaped}
+use Rattle.cdl_parse.proofs.Prelude.{append-nil, get_or_append_left, length-append, length-map, map-append, Dim, Version, AreDimids, dim_len, Lexeme, Dimension, Statement, Value, DeclareVariables, Attribute, Listed, shape, CdlKind, piece_read, shaped, State, Draft, act, add_att, add_dim, at_variable, in_turn, type_of, with_att, with_values, AreShaped, ⊤}
 use Rattle.cdl_statements.specs.Shapes.{DeclareDimensions}
 use Rattle.cdl_parse.proofs.Shapes.{Keeps, added_shaped, att_keeps, ok_then, variable_shaped}
 

@@ -1,8 +1,6 @@
 -- A statement that gives a variable an attribute.
 use Rattle.std.proofs.Common.{◌≡◌, ℕ, zero, suc, ◌<◌, Bool, true, false, List, [], ◌∷◌, length, get_or, set, drop, refl, sym, ap, ◌∙◌, arith, Result, Ok, Err, OnErr, if◌then◌else◌}
-use Rattle.cdl_parse.proofs.Prelude.{false≢true, set-get_or, Att, completes, word_value, Lexeme, Value, AttributeName, CdlKind, Draft, add_att, with_att, Leaves, name_first, ReadError, draft_of, drafts_of, at_position, Variable, variable_names}
-use Rattle.std.specs.Prelude.{⊤}
-use Rattle.cdl_meaning.specs.State.{◌>>=◌}
+use Rattle.cdl_parse.proofs.Prelude.{false≢true, set-get_or, Att, completes, word_value, Lexeme, Value, AttributeName, CdlKind, Draft, add_att, with_att, Leaves, name_first, ReadError, draft_of, drafts_of, at_position, Variable, variable_names, ◌>>=◌, ⊤}
 
 -- ---- the tokens before the attribute's name
 

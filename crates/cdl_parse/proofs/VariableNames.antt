@@ -1,7 +1,6 @@
 -- The variable of a name is the one at the name's position.
 use Rattle.std.proofs.Common.{◌≡◌, ℕ, suc, ◌+◌, ◌<◌, Bool, true, false, List, [], ◌∷◌, length, refl, ap, ◌∙◌, arith, Option, None, Some, Result, Ok, Err, if◌then◌else◌}
-use Rattle.cdl_parse.proofs.Prelude.{position_from, bytes_eq, is_name, CdlKind, BadName, UnknownVariable, Draft, at_named, at_variable, unless, FailsRead, names_of, position_of, ReadError, at_position}
-use Rattle.cdl_meaning.specs.State.{◌>>=◌}
+use Rattle.cdl_parse.proofs.Prelude.{position_from, bytes_eq, is_name, CdlKind, BadName, UnknownVariable, Draft, at_named, at_variable, unless, FailsRead, names_of, position_of, ReadError, at_position, ◌>>=◌}
 use Rattle.cdl_values.proofs.AllowedNames.{not_allowed}
 
 module _ (name : List ℕ) (f : Draft → Result Draft CdlKind) where

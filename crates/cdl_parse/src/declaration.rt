@@ -1,18 +1,15 @@
 //! The statement that declares variables.
 
 ghost use Rattle.std.specs.Prelude.{◌≡◌, ◌&&◌, drop, false, true, IfOk};
-ghost use Rattle.std.specs.List.{find};
 ghost use Rattle.cdl_statements.specs.code.Cutters.{is_done, words};
 ghost use Rattle.cdl_statements.specs.code.DueTokens.{completes};
 ghost use Rattle.cdl_tokens.specs.Escapes.{word_value};
-ghost use Rattle.cdl_statements.specs.Lexemes.{is_mark_kind, is_word};
+ghost use Rattle.cdl_statements.specs.Lexemes.{is_mark_kind};
 ghost use Rattle.cdl_statements.specs.code.Views.{lexeme_of};
 ghost use Rattle.cdl_statements.specs.declared.due.Due.TheVariants.{VariableName};
 ghost use Rattle.cdl_meaning.specs.State.{type_of};
-ghost use Rattle.nc_base.specs.Types.{type_word};
-ghost use Rattle.nc_base.specs.Versions.{has_type};
 ghost use Rattle.cdl_values.specs.code.Answers.{GivesRead, Leaves};
-ghost use Rattle.cdl_parse.specs.code.Declarations.{added, declared_by, is_open_after, next_dimid, with_begun};
+ghost use Rattle.cdl_parse.specs.code.Declarations.{added, declared_by, first_with_word, is_open_after, next_dimid, with_begun};
 ghost use Rattle.cdl_parse.specs.code.Declarations.{BeginsVariable, PassesMark, ReadsDimension, ReadsToken};
 
 use crate::dimensions::Dimensions;
@@ -85,7 +82,7 @@ pub fn type_of_word(version: Version, word: Lexeme<'_>) -> Result<NcType, CdlKin
 
 /// Returns the first of `types` that the version has and that `word` stands for, or `None` if there is none.
 fn first_with_word(types: &[NcType], version: Version, word: Lexeme<'_>) -> Option<NcType>
-    ensures { result ≡ find (λ ty. has_type version ty && is_word (type_word ty) (lexeme_of word.entry)) types.now }
+    ensures { result ≡ first_with_word types.now version (lexeme_of word.entry) }
 {
     types
         .iter()

@@ -14,10 +14,6 @@ body_to v ls = option_and_then (body v Dimensions) (before_mark 0x3b ls)
 abbrev pub dims_to : Version → List Lexeme → Option Statement
 dims_to v ls = option_map DeclareDimensions (listed_dims v ls)
 
--- with a global attribute, it is that
-dims_no_name : (v : Version) (l : Lexeme) (ys : List Lexeme) → name_of l ≡ None → dimensions v (l ∷ ys) ≡ None
-dims_no_name v l ys h = dimensions_none v l ys h
-
 pub body_dims : (v : Version) (l : Lexeme) (ls : List Lexeme) → is_mark 0x3a l ≡ false → body_to v (l ∷ ls) ≡ dims_to v (l ∷ ls)
 body_dims v l ls h = grind (arith, if_so, dimensions, either)
 
@@ -31,7 +27,7 @@ body_global v l (m ∷ ls) h = by (before_mark 0x3b (m ∷ ls))
   where
     by : (o : Option (List Lexeme)) → option_and_then (body v Dimensions) (option_map (λ xs. l ∷ xs) o) ≡ option_and_then (global v) (option_map (λ xs. l ∷ xs) o)
     by None = refl
-    by (Some ys) = either_only (global v (l ∷ ys)) (option_map DeclareDimensions (dimensions v (l ∷ ys))) (ap (option_map DeclareDimensions) (dims_no_name v l ys h))
+    by (Some ys) = either_only (global v (l ∷ ys)) (option_map DeclareDimensions (dimensions v (l ∷ ys))) (ap (option_map DeclareDimensions) (dimensions_none v l ys h))
 
 pub no_dims : (v : Version) (l : Lexeme) (ls : List Lexeme) → first_bad v (l ∷ ls) ≡ None → is_name l ≡ false → dims_to v (l ∷ ls) ≡ None
 unfolding completes next

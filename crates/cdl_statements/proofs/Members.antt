@@ -44,8 +44,8 @@ dimensions_by v _ = None
 
 -- ---- members
 
-kept_none : {A : Type 0} (b : Bool) → if_so {A = A} b None ≡ None
-kept_none b = grind arith
+pub given_none : {A : Type 0} (b : Bool) → if_so {A = A} b None ≡ None
+given_none b = grind arith
 
 no_mark : (b : ℕ) (l : Lexeme) → is_mark_kind l.kind ≡ false → is_mark b l ≡ false
 no_mark b l h = rw (h) refl
@@ -66,7 +66,7 @@ other_first l ls h = members_at false (is_mark 0x28 l) l ls h refl
 plain : (l : Lexeme) (ls : List Lexeme) → is_mark 0x2c l ≡ false → is_mark 0x28 l ≡ false → members_in false (l ∷ ls) ≡ into_first l (members_in false ls)
 plain l ls comma opening = members_at false false l ls comma opening
 
--- a list of which the first member is none
+-- a list whose first member is none
 bad_member : {A : Type 0} (f : List Lexeme → Option A) (l : Lexeme) (ls : List Lexeme) → f [] ≡ None → ((ms : List (List Lexeme)) → each f (into_first l ms) ≡ None) → list_of f (l ∷ ls) ≡ None
 bad_member f l ls none h = by (is_mark 0x2c l) refl
   where
@@ -103,7 +103,7 @@ constant_more v takes_fill l c ls h rest = ap (each (single (constant v takes_fi
 
 constants_none : (v : Version) (takes_fill : Bool) (l : Lexeme) (ls : List Lexeme) → constant v takes_fill l ≡ None → constants_by v takes_fill (l ∷ ls) ≡ None
 constants_none v takes_fill l [] h = rw (h) refl
-constants_none v takes_fill l (c ∷ ls) h = rw (h) (kept_none (is_mark 0x2c c))
+constants_none v takes_fill l (c ∷ ls) h = rw (h) (given_none (is_mark 0x2c c))
 
 constants_lone : (v : Version) (takes_fill : Bool) (l : Lexeme) → is_mark_kind l.kind ≡ false → constants v takes_fill (l ∷ []) ≡ constants_by v takes_fill (l ∷ [])
 constants_lone v takes_fill l h = ap (each (single (constant v takes_fill))) (plain l [] (no_mark 0x2c l h) (no_mark 0x28 l h))
@@ -123,9 +123,9 @@ constants_are v takes_fill (l ∷ c ∷ ls) = by (constant v takes_fill l) refl 
 
 -- ---- dimensions
 
--- a list of which the first member begins with no name, or goes on otherwise
+-- a list whose first member begins with no name
 no_name : (v : Version) (n : Lexeme) → name_of n ≡ None → (ms : List (List Lexeme)) → each (dimension v) (into_first n ms) ≡ None
-no_name v n h ms = grind (arith, kept_none)
+no_name v n h ms = grind (arith, given_none)
 
 pub dimensions_none : (v : Version) (n : Lexeme) (ws : List Lexeme) → name_of n ≡ None → dimensions v (n ∷ ws) ≡ None
 dimensions_none v n ws h = bad_member (dimension v) n ws refl (no_name v n h)
@@ -134,7 +134,7 @@ no_equals : (v : Version) (n e : Lexeme) → is_mark 0x3d e ≡ false → (ms : 
 no_equals v n e h ms = grind arith
 
 no_length : (v : Version) (n e l : Lexeme) → length_of v l l.kind ≡ None → (ms : List (List Lexeme)) → each (dimension v) (into_first n (into_first e (into_first l ms))) ≡ None
-no_length v n e l h ms = grind (arith, kept_none)
+no_length v n e l h ms = grind (arith, given_none)
 
 four_none : (v : Version) (n e l c : Lexeme) (ms : List (List Lexeme)) → each (dimension v) (into_first n (into_first e (into_first l (into_first c ms)))) ≡ None
 four_none v n e l c [] = refl
@@ -154,18 +154,18 @@ abbrev named : List ℕ → Option ℤ → Dimension
 named name len = record { name = name; len = len }
 
 nameless : (v : Version) (n e l : Lexeme) → name_of n ≡ None → dimension_at v n e l ≡ None
-nameless v n e l h = ap (λ o. if_so (is_mark 0x3d e) (both named o (length_of v l l.kind))) h ∙ kept_none (is_mark 0x3d e)
+nameless v n e l h = ap (λ o. if_so (is_mark 0x3d e) (both named o (length_of v l l.kind))) h ∙ given_none (is_mark 0x3d e)
 
 unequal : (v : Version) (n e l : Lexeme) → is_mark 0x3d e ≡ false → dimension_at v n e l ≡ None
 unequal v n e l h = ap (λ b. if_so b (both named (name_of n) (length_of v l l.kind))) h
 
 endless : (v : Version) (n e l : Lexeme) → length_of v l l.kind ≡ None → dimension_at v n e l ≡ None
-endless v n e l h = ap (λ o. if_so (is_mark 0x3d e) (both named (name_of n) o)) h ∙ ap (if_so (is_mark 0x3d e)) (both_none named (name_of n)) ∙ kept_none (is_mark 0x3d e)
+endless v n e l h = ap (λ o. if_so (is_mark 0x3d e) (both named (name_of n) o)) h ∙ ap (if_so (is_mark 0x3d e)) (both_none named (name_of n)) ∙ given_none (is_mark 0x3d e)
 
 -- the same, cut token by token
 by_none : (v : Version) (n e l : Lexeme) (ws : List Lexeme) → dimension_at v n e l ≡ None → dimensions_by v (n ∷ e ∷ l ∷ ws) ≡ None
 by_none v n e l [] h = ap (λ o. both cons o (Some [])) h
-by_none v n e l (c ∷ ls) h = ap (λ o. if_so (is_mark 0x2c c) (both cons o (dimensions_by v ls))) h ∙ kept_none (is_mark 0x2c c)
+by_none v n e l (c ∷ ls) h = ap (λ o. if_so (is_mark 0x2c c) (both cons o (dimensions_by v ls))) h ∙ given_none (is_mark 0x2c c)
 
 name_plain : (bytes : List ℕ) (k : TokenKind) (x : List ℕ) → name_of (record { kind = k; bytes = bytes }) ≡ Some x → is_mark_kind k ≡ false
 unfolding name_of

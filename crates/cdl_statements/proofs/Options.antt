@@ -1,12 +1,10 @@
 -- Options: joined, kept where something holds, and mapped.
 use Rattle.std.proofs.Common.{◌≡◌, Bool, true, false, refl, ◌∙◌, Option, None, Some, if◌then◌else◌, is_some, arith}
 use Rattle.cdl_statements.proofs.Prelude.{option_map, option_and_then, both, either, if_so}
+pub use Rattle.cdl_statements.proofs.Members.{given_none}
 
 pub some_if : {A : Type 0} (b : Bool) (a : A) → is_some (if b then Some a else None) ≡ b
 some_if b a = grind arith
-
-pub given_none : {A : Type 0} (b : Bool) → if_so {A = A} b None ≡ None
-given_none b = grind arith
 
 pub either_none : {A : Type 0} (a b : Option A) → a ≡ None → either a b ≡ b
 either_none a b h = grind arith

@@ -1,8 +1,8 @@
 //! The line of each fault.
 
-ghost use Rattle.std.specs.Prelude.{◌≡◌, ◌∷◌, [], codes, decimal};
-ghost use Rattle.nc_base.specs.Bytes.{concat_parts};
+ghost use Rattle.std.specs.Prelude.{◌≡◌, codes};
 ghost use Rattle.devices.specs.code.SinkWrites.{Wrote};
+ghost use Rattle.ncgen.specs.declared.fault.GenFault.TheVariants.{Cdl};
 ghost use Rattle.ncgen.specs.Faults.{fault_line, fault_text, input_words, kind_words, line_of_failure, opt_fault_line, output_words, line_prefix, text_name};
 
 use crate::failure::{Failure, InputFault, OutputFault};
@@ -118,9 +118,9 @@ fn put_fault<W: Sink>(sink: &mut W, fault: &GenFault) -> Result<(), WriteFailed>
 }
 
 /// Writes the message of a fault of a CDL text: `line N: `, and the words for the kind of the fault.
-#[tactic(auto, using(devices::proofs::Writes::writes))]
+#[tactic(auto, using(devices::proofs::Writes::writes), unfolding(crate::specs::Faults::fault_text))]
 fn put_cdl_fault<W: Sink>(sink: &mut W, fault: CdlFault) -> Result<(), WriteFailed>
-    ensures { Wrote W.view sink.old sink.new (concat_parts (line_prefix fault.kind fault.line ∷ kind_words fault.kind ∷ [])) result }
+    ensures { Wrote W.view sink.old sink.new (fault_text (Cdl fault)) result }
 {
     put_place(sink, fault.kind, fault.line)?;
     put(sink, kind_words(fault.kind))
@@ -131,17 +131,9 @@ fn put_cdl_fault<W: Sink>(sink: &mut W, fault: CdlFault) -> Result<(), WriteFail
 fn put_place<W: Sink>(sink: &mut W, kind: CdlKind, line: u64) -> Result<(), WriteFailed>
     ensures { Wrote W.view sink.old sink.new (line_prefix kind line) result }
 {
-    match kind {
-        CdlKind::OutOfMemory => Ok(()),
-        _ => put_number(sink, line),
+    if let CdlKind::OutOfMemory = kind {
+        return Ok(());
     }
-}
-
-/// Writes `line N: ` for the line with the number N.
-#[tactic(auto, using(devices::proofs::Writes::writes))]
-fn put_number<W: Sink>(sink: &mut W, line: u64) -> Result<(), WriteFailed>
-    ensures { Wrote W.view sink.old sink.new (concat_parts (codes "line " ∷ decimal line ∷ codes ": " ∷ [])) result }
-{
     put(sink, b"line ")?;
     put_decimal(sink, line as u128)?;
     put(sink, b": ")

@@ -1,14 +1,16 @@
 -- For contracts. What a declaration makes of the variables, and what the calls that read it say of it on the way.
-use Rattle.std.specs.Prelude.{ℕ, ◌≡◌, Bool, List, [], ◌∷◌, ◌++◌, length, drop, true, false, ◌&&◌, ◌||◌, not, nat_lt, Result, Ok, Err}
+use Rattle.std.specs.Prelude.{ℕ, ◌≡◌, Bool, List, [], ◌∷◌, ◌++◌, length, drop, true, false, ◌&&◌, ◌||◌, not, nat_lt, find, Option, Result, Ok, Err}
 use Rattle.std.specs.List.{position}
 use Rattle.std.specs.Str.{bytes_eq}
 use Rattle.nc_base.specs.Names.{is_name}
 use Rattle.nc_base.specs.Sizes.{is_record_dim}
+use Rattle.nc_base.specs.Types.{type_word}
+use Rattle.nc_base.specs.Versions.{has_type}
 use Rattle.nc_base.specs.declared.{header.Dim.Dim, nc_type.NcType.NcType, version.Version.Version}
 use Rattle.cdl_statements.specs.code.Contents.{Declaration, declaration_said, with_name}
 use Rattle.cdl_statements.specs.code.Cutters.{version_of, words}
 use Rattle.cdl_statements.specs.declared.{cutter.Cutter.Cutter, fault.CdlKind.CdlKind}
-use Rattle.cdl_statements.specs.Lexemes.{Lexeme, is_mark}
+use Rattle.cdl_statements.specs.Lexemes.{Lexeme, is_mark, is_word}
 use Rattle.cdl_tokens.specs.Escapes.{word_value}
 use Rattle.cdl_statements.specs.declared.fault.CdlKind.TheVariants.{BadName, BadShape, DuplicateName, UnknownDimension, UnknownType}
 use Rattle.cdl_meaning.specs.State.{Draft, add_dimid, add_var, some_or, in_turn, type_of, unless, when, ◌>>=◌}
@@ -16,6 +18,10 @@ use Rattle.cdl_values.specs.code.Answers.{ContinuesRead}
 use Rattle.cdl_values.specs.declared.read_error.ReadError.{ReadError}
 use Rattle.cdl_parse.specs.code.Drafts.{draft, is_variable_name, with_new_draft}
 use Rattle.cdl_parse.specs.declared.declaration.PartialVariable.{PartialVariable}
+
+-- the first of these types that the version has and that the word stands for
+abbrev pub first_with_word : List NcType → Version → Lexeme → Option NcType
+first_with_word types v word = find (λ ty. has_type v ty && is_word (type_word ty) word) types
 
 -- the type that the first of these words says
 abbrev pub type_first : Version → List Lexeme → Result NcType CdlKind

@@ -1,6 +1,5 @@
 use Rattle.std.proofs.Common.{rules, ◌≡◌, ◌∷◌, ◌++◌, [], List, ℕ, ap, sym, subst, ◌∙◌, Ok, false, Result}
-use Rattle.cdl_parse.proofs.Prelude.{values, is_done, next_token, text_of, version_of, words, lexeme, lexeme_of, CdlKind, DuplicateName, add_constant, in_turn, when, FailsRead, Leaves, has_attribute, att_read, duplicate_name_or}
-use Rattle.cdl_meaning.specs.State.{◌>>=◌}
+use Rattle.cdl_parse.proofs.Prelude.{values, is_done, next_token, text_of, version_of, words, lexeme, lexeme_of, CdlKind, DuplicateName, add_constant, in_turn, when, FailsRead, Leaves, has_attribute, att_read, duplicate_name_or, ◌>>=◌}
 use Rattle.cdl_parse.proofs.AttributeReads.{fails_then, goes_equals, goes_name, name_fails, read_as, refused, with_values}
 use Rattle.cdl_parse.proofs.StatementWords.{begins}
 use Rattle.cdl_parse.proofs.TakenNames.{fails_after}

@@ -1,6 +1,5 @@
-use Rattle.std.specs.Prelude.{⊤}
 use Rattle.std.proofs.Common.{rules, Result, Err, ◌≡◌, ◌<◌, List, drop, true, ap, sym, subst, ◌∙◌, length, set, arith}
-use Rattle.cdl_parse.proofs.Prelude.{FailsRead, ReadError, next_token, text_of, version_of, words, completes, word_value, lexeme, lexeme_of, AttributeName, at_variable, with_att, Leaves, name_first, constants_said, drafts_of, at_position, IsIndex, Variable, variable_names}
+use Rattle.cdl_parse.proofs.Prelude.{FailsRead, ReadError, next_token, text_of, version_of, words, completes, word_value, lexeme, lexeme_of, AttributeName, at_variable, with_att, Leaves, name_first, constants_said, drafts_of, at_position, IsIndex, Variable, variable_names, ⊤}
 use Rattle.cdl_parse.proofs.DraftNames.{names_are}
 use Rattle.cdl_parse.proofs.VariableAttributes.{changed_at, name_is, names_kept, past_colon, past_name, unchanged_at, with_atts}
 use Rattle.cdl_parse.proofs.variables.Variables.read_attribute.Goals as goal
