@@ -21,7 +21,7 @@ BY_HAND = {"cdl_parse/src/declared_values.rt whole_array"}
 LEFT_OUT = re.compile(r"//.*|^ *ghost .*|^ *(?:ensures|requires) .*|^use .*|^#\[.*", re.M)
 FUNCTION = re.compile(r"\bfn (\w+)[^{;]*\{")
 # a variant or the error as a value, and not as a type, a pattern, or the name of an impl
-VARIANT = re.compile(r"\bOutOfMemory\b(?!\s*(?:\)|\|[^|]*?)?\s*=>)")
+VARIANT = re.compile(r"\bOutOfMemory\b(?!\s*(?:\)|\|[^|]*?)?\s*=(?!=))")
 ERROR = re.compile(r"\bAllocError\b(?!::)")
 # a type: after a colon, an arrow, or within the angle brackets of another type
 TYPE = re.compile(r"(?:->|[:<,]|\bfor)\s*$")
