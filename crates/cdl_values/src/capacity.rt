@@ -12,7 +12,7 @@ pub enum Capacity {
 }
 
 impl Capacity {
-    ghost use Rattle.cdl_values.specs.code.PackedValues.{capacity_minus, is_full, is_past};
+    ghost use Rattle.cdl_values.specs.code.PackedValues.{capacity_limit, capacity_minus, is_full, is_past};
 
     /// Returns true if no more values are taken.
     pub fn is_full(self) -> bool
@@ -46,7 +46,8 @@ impl Capacity {
 
     /// Returns the limit, or `u64::MAX` if there is none.
     pub fn limit(self) -> u64
-        ensures { (n : ℕ) → n < result → is_full (capacity_minus n self) ≡ false }
+        ensures limit { result ≡ capacity_limit self }
+        ensures room { (n : ℕ) → n < result → is_full (capacity_minus n self) ≡ false }
     {
         match self {
             Capacity::Unlimited => u64::MAX,

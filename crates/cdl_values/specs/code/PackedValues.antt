@@ -1,5 +1,5 @@
 -- For contracts. The values of a statement of the data section, and the bytes that they are.
-use Rattle.std.specs.Prelude.{ℕ, ℤ, pos, Bool, false, List, [], ◌∷◌, ◌++◌, ◌-◌, ◌==◌, nat_le, nat_lt, replicate, if◌then◌else◌, map, length, Option, None, Some, Result, Ok, Err}
+use Rattle.std.specs.Prelude.{ℕ, ℤ, pos, Bool, false, List, [], ◌∷◌, ◌++◌, ◌-◌, ◌^◌, ◌==◌, nat_le, nat_lt, replicate, if◌then◌else◌, map, length, Option, None, Some, Result, Ok, Err}
 use Rattle.nc_base.specs.declared.nc_type.NcType.{NcType}
 use Rattle.nc_base.specs.declared.nc_type.NcType.TheVariants.{Byte, Char, Short, Int, Ubyte, Ushort, Uint, Int64, Uint64}
 use Rattle.nc_base.specs.Numbers.{bytes_of_number}
@@ -42,6 +42,11 @@ char_bytes bytes = flat_map (bytes_of_number Char) (map pos bytes)
 abbrev pub is_full : Capacity → Bool
 is_full Unlimited = false
 is_full (AtMost n) = n == 0
+
+-- how many values are taken; if any number is, the greatest number of 64 bits
+abbrev pub capacity_limit : Capacity → ℕ
+capacity_limit Unlimited = 2 ^ 64 - 1
+capacity_limit (AtMost n) = n
 
 -- what is left after n values
 abbrev pub capacity_minus : ℕ → Capacity → Capacity
