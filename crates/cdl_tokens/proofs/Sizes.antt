@@ -1,8 +1,7 @@
 -- Numbers of any length.
 use Rattle.std.proofs.Common.{◌≡◌, ℕ, ◌+◌, ◌-◌, ◌*◌, ◌^◌, ◌<◌, ◌≤◌, true, List, [], ◌∷◌, length, get_or, drop, ◌∙◌, ap, arith, rules, None}
-use Rattle.std.proofs.Math.Nat.{mul-le-mul_right}
+use Rattle.std.proofs.Math.Nat.{mul-le-mul_right, pow-le-pow_right}
 use Rattle.cdl_tokens.proofs.Prelude.{pow_more, at_drop_more, digit_value, is_digit, number_in, word}
-use Rattle.std.proofs.Math.Nat.{pow-le-pow_right}
 
 grows : (base s : ℕ) → 1 ≤ base → s ≤ base * s
 grows base s h = grind arith

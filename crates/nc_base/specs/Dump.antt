@@ -4,8 +4,7 @@ use Rattle.std.specs.List.{list_any, position}
 use Rattle.std.specs.Str.{bytes_eq}
 use Rattle.nc_base.specs.declared.{fault.FormatFault.FormatFault, header.Dim.Dim, header.Header.Header, header.Var.Var}
 use Rattle.nc_base.specs.Bytes.{Bytes, concat_parts}
-use Rattle.nc_base.specs.Sizes.{value_count}
-use Rattle.nc_base.specs.Sizes.{record_count}
+use Rattle.nc_base.specs.Sizes.{value_count, record_count}
 use Rattle.nc_base.specs.Grammar.{SpellsHeader}
 use Rattle.nc_base.specs.FirstFault.{StopsAt}
 use Rattle.nc_base.specs.HeadText.{head_text}

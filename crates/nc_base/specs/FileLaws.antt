@@ -3,11 +3,9 @@ use Rattle.std.specs.Prelude.{◌≡◌, ◌↔◌}
 use Rattle.nc_base.specs.Bytes.{Bytes}
 use Rattle.nc_base.specs.declared.dataset.Dataset.{Dataset}
 use Rattle.nc_base.specs.Headers.{IsGood}
-use Rattle.nc_base.specs.Datasets.{HoldsDataset}
+use Rattle.nc_base.specs.Datasets.{HoldsDataset, IsText, Fits}
 use Rattle.nc_base.specs.Dump.{Options, Ending, IsDump}
-use Rattle.nc_base.specs.Datasets.{IsText}
 use Rattle.nc_base.specs.GeneratedFile.{file_of}
-use Rattle.nc_base.specs.Datasets.{Fits}
 
 -- the file of each good dataset that fits holds that dataset
 abbrev pub FilesHoldTheirDatasets : Type 0

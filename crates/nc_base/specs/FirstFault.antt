@@ -8,9 +8,8 @@ use Rattle.nc_base.specs.Bytes.{Bytes, padding_len}
 use Rattle.nc_base.specs.Types.{code_of, size_of}
 use Rattle.nc_base.specs.Versions.{version_byte, count_width, offset_width, count_limit, offset_limit, streaming_mark, has_type}
 use Rattle.nc_base.specs.Names.{IsName}
-use Rattle.nc_base.specs.Grammar.{IsDimid}
+use Rattle.nc_base.specs.Grammar.{IsDimid, ElementSpelling, dimension_tag, attribute_tag, variable_tag, SpellsNumber, SpellsCount, SpellsMagic, SpellsName, SpellsType, SpellsCounted, SpellsList, SpellsDim, SpellsAtt, SpellsAtts, SpellsDimid, SpellsVar, SpellsNumRecs, IsWithinLimits}
 use Rattle.nc_base.specs.Sizes.{has_record_dim}
-use Rattle.nc_base.specs.Grammar.{ElementSpelling, dimension_tag, attribute_tag, variable_tag, SpellsNumber, SpellsCount, SpellsMagic, SpellsName, SpellsType, SpellsCounted, SpellsList, SpellsDim, SpellsAtt, SpellsAtts, SpellsDimid, SpellsVar, SpellsNumRecs, IsWithinLimits}
 
 -- ---- fields one after the other
 

@@ -8,8 +8,7 @@ use Rattle.nc_base.specs.declared.{header.Dim.Dim, header.Header.Header, header.
 use Rattle.nc_base.specs.Bytes.{Bytes, concat_parts}
 use Rattle.nc_base.specs.Escapes.{escaped_name, escaped_text}
 use Rattle.nc_base.specs.Fill.{fill_value, own_fill, prints_fill}
-use Rattle.nc_base.specs.Sizes.{value_count}
-use Rattle.nc_base.specs.Sizes.{dim_len, is_record_var}
+use Rattle.nc_base.specs.Sizes.{value_count, dim_len, is_record_var}
 
 -- ---- what the text depends on
 

@@ -3,21 +3,17 @@ pub use Rattle.devices.proofs.UpTo.{UpTo, each-left, up-next, up-partway, up-sta
 pub use Rattle.devices.specs.declared.source.Source.{Ghosts}
 pub use Rattle.nc_base.proofs.HeaderSpelled.{total-append}
 pub use Rattle.nc_base.specs.Bytes.{AreBytes, padding_len}
-pub use Rattle.nc_base.specs.FirstFault.{ElementStops, InAtt, InAtts, InBytes, InCount, InCounted, InDim, InDimid, InEach, InList, InMagic, InName, InNumRecs, InNumber, InOffset, InPadding, InType, InVar, EndsWithin, Never, Requires, Stops, StopsAt, Then, breaks, in_next, in_part, ends_within, keeps}
+pub use Rattle.nc_base.specs.FirstFault.{ElementStops, InAtt, InAtts, InBytes, InCount, InCounted, InDim, InDimid, InEach, InList, InMagic, InName, InNumRecs, InNumber, InOffset, InPadding, InType, InVar, EndsWithin, Never, Requires, Stops, StopsAt, Then, breaks, in_next, in_part, ends_within, keeps, SpellsBytes}
 unfoldable pub use Rattle.nc_base.specs.FirstFault.{StopsWith}
 pub use Rattle.nc_base.specs.GeneratedFile.{atts_spelling, begin_after, count_spelling, fits, fixed_vars, list_head, list_spelling, name_spelling, numrecs_spelling, vars_after, vsize_of, zero_padded}
 unfoldable pub use Rattle.nc_base.specs.GeneratedFile.{att_spelling, dim_spelling, file_of, header_spelling, magic_spelling, var_spelling, with_begins, word_spelling}
-pub use Rattle.nc_base.specs.Grammar.{ElementSpelling, IsWithinLimits, SpellsAtt, SpellsAtts, SpellsCount, SpellsCounted, SpellsDim, SpellsDimid, SpellsEach, SpellsHeader, SpellsList, SpellsMagic, SpellsName, SpellsNumRecs, SpellsNumber, SpellsOffset, SpellsPadded, SpellsType, SpellsVar, absent, attribute_tag, dimension_tag, present, variable_tag}
-pub use Rattle.nc_base.specs.FirstFault.{SpellsBytes}
+pub use Rattle.nc_base.specs.Grammar.{ElementSpelling, IsWithinLimits, SpellsAtt, SpellsAtts, SpellsCount, SpellsCounted, SpellsDim, SpellsDimid, SpellsEach, SpellsHeader, SpellsList, SpellsMagic, SpellsName, SpellsNumRecs, SpellsNumber, SpellsOffset, SpellsPadded, SpellsType, SpellsVar, absent, attribute_tag, dimension_tag, present, variable_tag, IsDimid}
 pub use Rattle.nc_base.specs.Headers.{AreDimids}
-pub use Rattle.nc_base.specs.Grammar.{IsDimid}
-pub use Rattle.nc_base.specs.Sizes.{has_record_dim}
-pub use Rattle.nc_base.specs.Sizes.{is_record_dim, is_record_var, padded_size, padded_total, record_limit, record_vars, slab_limit, slab_size}
+pub use Rattle.nc_base.specs.Sizes.{has_record_dim, is_record_dim, is_record_var, padded_size, padded_total, record_limit, record_vars, slab_limit, slab_size}
 pub use Rattle.nc_base.specs.code.SizeParts.{slab_of}
 pub use Rattle.nc_base.specs.Types.{all_types, code_of, size_of}
-pub use Rattle.nc_base.specs.code.TypeCodes.{type_of_code}
+pub use Rattle.nc_base.specs.code.TypeCodes.{type_of_code, version_of_byte}
 pub use Rattle.nc_base.specs.Versions.{count_limit, count_width, has_type, offset_limit, offset_width, streaming_mark, version_byte}
-pub use Rattle.nc_base.specs.code.TypeCodes.{version_of_byte}
 pub use Rattle.nc_base.specs.declared.{fault.FormatFault.FormatFault, header.Att.Att, header.Dim.Dim, header.Header.Header, header.NumRecs.NumRecs, header.Var.Var, nc_type.NcType.NcType, version.Version.Version}
 pub use Rattle.nc_base.specs.declared.fault.FormatFault.TheVariants.{BadCount, BadOffset, BadTag, BadType, UnknownVersion, HeaderTruncated, NotNetcdf, TooLarge}
 pub use Rattle.nc_base.specs.declared.header.NumRecs.TheVariants.{Known, Streaming}

@@ -4,8 +4,7 @@ unfoldable pub use Rattle.devices.specs.Failures.{HasFailed}
 pub use Rattle.devices.specs.Sinks.{Appended, FailedPartway}
 pub use Rattle.devices.specs.code.SinkWrites.{Written}
 pub use Rattle.devices.specs.Sources.{SourceView}
-pub use Rattle.devices.specs.code.SourceReads.{having_read}
-pub use Rattle.devices.specs.code.SourceReads.{NoneRead, BytesRead}
+pub use Rattle.devices.specs.code.SourceReads.{having_read, NoneRead, BytesRead}
 pub use Rattle.nc_base.proofs.FilePlaces.{flat_map-below, length-number, whole-padding, length-replicated}
 pub use Rattle.nc_base.proofs.SoundLaws.{some_count, some_size}
 pub use Rattle.nc_base.proofs.WholeValues.{length-whole, map-map, none-found, numbers-concat}
@@ -14,12 +13,11 @@ unfoldable pub use Rattle.nc_base.specs.Fill.{fill_value}
 pub use Rattle.nc_base.specs.GeneratedFile.{blocks, is_sole_narrow, known_records, record_of, slab_in}
 unfoldable pub use Rattle.nc_base.specs.GeneratedFile.{data_of, fill_bytes, padded_slab}
 pub use Rattle.nc_base.specs.Headers.{IsSound, IsSoundVar}
-pub use Rattle.nc_base.specs.Sizes.{value_count}
+pub use Rattle.nc_base.specs.Sizes.{value_count, is_narrow, is_record_var, product, record_size, record_vars, slab_count, slab_lens, slab_size}
 pub use Rattle.nc_base.specs.Numbers.{bytes_of_number, number_of}
 unfoldable pub use Rattle.nc_base.specs.Numbers.{numbers}
 pub use Rattle.nc_base.specs.Places.{bytes_at, distance, ends_after, first_missing, lens_over, slab_strides, stored_bytes, stored_values, value_offset, vectors_below}
 unfoldable pub use Rattle.nc_base.specs.Places.{value_offsets}
-pub use Rattle.nc_base.specs.Sizes.{is_narrow, is_record_var, product, record_size, record_vars, slab_count, slab_lens, slab_size}
 pub use Rattle.nc_base.specs.Types.{size_of}
 pub use Rattle.nc_base.specs.code.OwedValues.{AreListed, IsListed, fills, owed_count, whole_array, whole_arrays}
 pub use Rattle.nc_base.specs.declared.{header.Dim.Dim, header.Header.Header, header.Var.Var, nc_type.NcType.NcType}

@@ -1,5 +1,5 @@
 -- There is one dump of a file.
-use Rattle.std.proofs.Common.{◌≡◌, ℕ, ◌<◌, List, [], length, refl, sym, ap, ◌∙◌, subst, arith, inl, inr, Option, Some, None, Result, Ok, Err, ◌⊎◌, IsTrue, not, position}
+use Rattle.std.proofs.Common.{◌≡◌, ℕ, List, [], length, refl, sym, ap, ◌∙◌, arith, inl, inr, Option, Some, None, Result, Ok, Err, ◌⊎◌}
 use Rattle.ncdump.proofs.Prelude.{Header, record_count, SpellsHeader, Options, Ending, whole, wrong_field, no_such_variable, data_truncated, first_unknown, DataText, values_in_file, shown_data_text, selection_of, dump_text, IsDump, stopped, unknown, shown, SinkView, Appended, DumpFault, Format, NoSuchVariable, DataTruncated}
 use Rattle.nc_file.specs.OneOutcome.{BeginsWithHeader, HasFirstFault, HasOneOutcome}
 use Rattle.nc_file.proofs.Outcomes.{one-outcome}

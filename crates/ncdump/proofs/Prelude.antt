@@ -14,12 +14,11 @@ unfoldable pub use Rattle.nc_base.specs.Dump.{closing_word, data_word}
 pub use Rattle.nc_base.specs.Grammar.{SpellsHeader}
 unfoldable pub use Rattle.nc_base.specs.HeadText.{head_text}
 pub use Rattle.nc_base.specs.Headers.{IsSoundVar}
-pub use Rattle.nc_base.specs.Sizes.{value_count}
+pub use Rattle.nc_base.specs.Sizes.{value_count, is_record_var, record_count}
 pub use Rattle.nc_base.specs.Numbers.{number_of}
 unfoldable pub use Rattle.nc_base.specs.Numbers.{numbers}
 pub use Rattle.nc_base.specs.Places.{bytes_at, first_missing, stored_bytes, stored_values}
 unfoldable pub use Rattle.nc_base.specs.Places.{value_offsets}
-pub use Rattle.nc_base.specs.Sizes.{is_record_var, record_count}
 pub use Rattle.nc_base.specs.Types.{size_of}
 pub use Rattle.nc_base.specs.ValueText.{Look}
 pub use Rattle.nc_base.specs.code.LaterPieces.{later_pieces}

@@ -7,8 +7,7 @@ use Rattle.std.specs.List.{list_all, slice_split}
 use Rattle.std.specs.Str.Parse.{digits_value}
 use Rattle.nc_base.specs.Bytes.{Bytes}
 use Rattle.clap.specs.Words.{App, Row, fault_of, first_of, matches_of, new_app, new_rule, with_rule}
-use Rattle.cli_base.specs.Arguments.{flag, is_given, option, quiet}
-use Rattle.cli_base.specs.Arguments.{if_faultless}
+use Rattle.cli_base.specs.Arguments.{flag, is_given, option, quiet, if_faultless}
 use Rattle.nc_base.specs.Dump.{Options}
 use Rattle.nc_base.specs.Paths.{stem_of}
 

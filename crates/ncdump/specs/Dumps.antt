@@ -1,5 +1,5 @@
 -- Definition. What a call of `dump` has done. `Dumps` and `ReadsForward` hold if the source is transparent.
-use Rattle.std.specs.Prelude.{ℕ, ◌≡◌, ◌+◌, ◌⊎◌, List, [], ◌++◌, length, None, Result, Ok, Err}
+use Rattle.std.specs.Prelude.{ℕ, ◌≡◌, ◌+◌, ◌⊎◌, ◌++◌, length, None, Result, Ok, Err}
 use Rattle.nc_base.specs.Bytes.{Bytes}
 use Rattle.nc_base.specs.declared.header.Header.{Header}
 use Rattle.nc_base.specs.Grammar.{SpellsHeader}

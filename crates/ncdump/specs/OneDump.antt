@@ -1,5 +1,5 @@
 -- Law. There is one dump of a file under all options, and each call that meets no failure writes it.
-use Rattle.std.specs.Prelude.{ℕ, ◌≡◌, List, Result, Err}
+use Rattle.std.specs.Prelude.{◌≡◌, Result, Err}
 use Rattle.nc_base.specs.Bytes.{Bytes, AreBytes}
 use Rattle.nc_base.specs.Dump.{Options, Ending, IsDump}
 use Rattle.devices.specs.Sinks.{SinkView, Appended}

@@ -2,8 +2,7 @@
 use Rattle.std.specs.Prelude.{◌≡◌, ◌≤◌, ℕ, ◌+◌, ◌-◌, ◌*◌, min, Bool, nat_lt, nat_le, ◌==◌, ◌&&◌, not, if◌then◌else◌, List, [], ◌∷◌, length, map, slice_get, slice_index, IfSome, Option, Some, None, SomeIff}
 use Rattle.std.specs.List.{list_all}
 use Rattle.nc_base.specs.declared.{header.Dim.Dim, header.Var.Var, header.Header.Header, nc_type.NcType.NcType}
-use Rattle.nc_base.specs.Sizes.{value_count}
-use Rattle.nc_base.specs.Sizes.{is_record_dim, is_record_var, slab_size, record_vars, record_size, slab_limit, record_limit, least_begin, slab_lens, product}
+use Rattle.nc_base.specs.Sizes.{value_count, is_record_dim, is_record_var, slab_size, record_vars, record_size, slab_limit, record_limit, least_begin, slab_lens, product}
 use Rattle.nc_base.specs.Types.{size_of}
 
 -- the bytes of a slab of this shape and type

@@ -9,13 +9,11 @@ use Rattle.nc_base.specs.declared.fault.FormatFault.TheVariants.{NotNetcdf, Unkn
 use Rattle.nc_base.specs.declared.header.NumRecs.TheVariants.{Known, Streaming}
 use Rattle.nc_base.specs.Bytes.{padding_len}
 use Rattle.nc_base.specs.Types.{size_of}
-use Rattle.nc_base.specs.code.TypeCodes.{type_of_code}
+use Rattle.nc_base.specs.code.TypeCodes.{type_of_code, version_of_byte}
 use Rattle.nc_base.specs.Versions.{count_width, count_limit, offset_width, offset_limit, streaming_mark, has_type}
-use Rattle.nc_base.specs.code.TypeCodes.{version_of_byte}
-use Rattle.nc_base.specs.Sizes.{is_record_dim, has_records, padded_total, record_vars, slab_limit, record_limit}
+use Rattle.nc_base.specs.Sizes.{is_record_dim, has_records, padded_total, record_vars, slab_limit, record_limit, has_record_dim}
 use Rattle.nc_base.specs.code.SizeParts.{slab_of}
 use Rattle.nc_file.specs.declared.{sized_var.SizedVar.SizedVar, head_fault.HeadFault.HeadFault}
-use Rattle.nc_base.specs.Sizes.{has_record_dim}
 use Rattle.nc_base.specs.Names.{is_name}
 use Rattle.nc_base.specs.Grammar.{dimension_tag, attribute_tag, variable_tag}
 use Rattle.devices.specs.Failures.{HasFailed}

@@ -2,8 +2,7 @@
 use Rattle.std.specs.Prelude.{◌≡◌, ℕ, ◌≤◌, Bool, List, length, take, drop, Result, Ok, Err}
 use Rattle.std.specs.Bool.{OnTrue}
 use Rattle.devices.specs.Sources.{SourceView}
-use Rattle.devices.specs.code.SourceReads.{having_read}
-use Rattle.devices.specs.code.SourceReads.{NoneRead}
+use Rattle.devices.specs.code.SourceReads.{having_read, NoneRead}
 
 -- n bytes from this cursor on stand at the start of the slice; where the source is transparent, they fill it
 pub record ReadInFull (is_transparent : Bool) (old new : SourceView) (at : ℕ) (following : List ℕ) (n : ℕ) : Type 0 where
