@@ -15,27 +15,29 @@ all: bin/ncdump bin/ncgen
 	bin/ncgen -k nc6 -o bin/stations.nc $(sample).cdl
 	bin/ncdump bin/stations.nc
 
-# Prove and build a program. rt sees what has changed, and runs what it has built, here on the sample.
-bin/ncdump: FORCE
-	cd crates/ncdump_cli && rt run -- ../../$(sample).nc >/dev/null
-	$(call keep,ncdump)
-bin/ncgen: FORCE
-	cd crates/ncgen_cli && rt run -- ../../$(sample).cdl
-	$(call keep,ncgen)
+# Proves and builds both programs, if anything has changed.
+bin/ncdump bin/ncgen &: $(wildcard build.sh HANDLES crates.txt) $(shell find crates -name out -prune -o -type f -print 2>/dev/null)
+	./build.sh
 
-# The merge gate: every proof from nothing, the tests and the programs' stored runs; then, side by side, what stands on its results.
-test:
+# The merge gate, in parts that run side by side where none waits for another.
+test: test-proofs test-definitions test-bodies test-programs
+test-bodies test-programs: test-proofs
+MAKEFLAGS += --jobs=3
+
+# Every proof from nothing, the tests and the programs' stored runs.
+test-proofs:
 	rt ci
 	$(call keep,ncdump)
 	$(call keep,ncgen)
-	$(MAKE) --no-print-directory -j 2 test-edits test-programs
 
-# Wrong bodies, which the prover or a test has to refuse (of those tests a few are run, drawn by the date), and wrong definitions, which
-# the laws have to refuse.
-test-edits:
+# Wrong definitions, which the laws have to refuse: they stand on nothing that is built here, and give way to the proofs.
+test-definitions:
+	nice -n 19 tests/definitions.py
+
+# Wrong bodies, which the prover or a test has to refuse. Of those tests a few are run, drawn by the date.
+test-bodies:
 	tests/wrong_bodies.py
 	tests/wrong_bodies.py --tests 4
-	tests/definitions.py
 
 # Places where out of memory is made of anything but a failed allocation; the tests and the programs that the gate has built, with each
 # allocation failing in turn; the programs from end to end, with their calls of the system counted, on texts and files of many parts, whose
@@ -88,6 +90,4 @@ check:
 clean:
 	rm -rf bin dist crates/*/out
 
-FORCE:
-
-.PHONY: all test test-edits test-programs install dist check clean FORCE
+.PHONY: all test test-proofs test-definitions test-bodies test-programs install dist check clean

@@ -26,11 +26,16 @@ Else only a proof doesn't fit: a stored one names what is gone, or has another t
 Then the edit is to name a test, which fails under it. An edit with neither is printed, and counts as neither passed nor failed: of
 the same body the prover may say less if the machine is busy.
 
+What was said of the wrong bodies of a crate is kept in bin/wrong-bodies, by a checksum of all that it follows from, unless one of them
+was not refused: a later run in the same folder says it again, and tries only those of crates that changed or that stand on such.
+
 The second form runs these tests, with the edit and without (`named_tests.py`): those of all edits, or of N edits that the day's
 date draws. The last line of both forms is 'N passed, M failed'.
 """
 
 import datetime
+import hashlib
+import json
 import random
 import re
 import shutil
@@ -42,7 +47,10 @@ from pathlib import Path
 import named_tests
 import prover
 from edits import BadEdit, apply, crates_with_edits, edits_of
-from prover import CRATES
+from prover import CRATES, TOP
+
+# what earlier runs said
+KEPT = TOP / "bin" / "wrong-bodies"
 
 # the prover's line on a function
 VERDICT = re.compile(r"^fn (\S+): (.+)$", re.M)
@@ -183,11 +191,43 @@ def try_crate(crate):
     return results
 
 
+def checksum(crate):
+    """A checksum of the kit, of these scripts, of the crate and its wrong bodies, and of the crates that it stands on."""
+    crates = {crate, *prover.below([crate])} & prover.stands_on().keys()
+    folders = [CRATES / it / part for it in crates for part in ["src", "specs", "proofs"]]
+    files = [it for folder in [*folders, CRATES / crate / "wrong-bodies"] for it in folder.rglob("*.*")]
+    digest = hashlib.sha256((prover.kit() / "KIT-ID").read_bytes())
+    for file in sorted([*files, *(TOP / "tests" / f"{it}.py" for it in ["edits", "prover", "wrong_bodies"])]):
+        digest.update(f"{file.relative_to(TOP)} {file.stat().st_size} ".encode() + file.read_bytes())
+    return digest.hexdigest()
+
+
+def results_of(crate):
+    """What is said of the wrong bodies of a crate: what an earlier run said, if nothing has changed since."""
+    kept = KEPT / f"{crate}-{checksum(crate)}"
+    if kept.exists():
+        results = json.loads(kept.read_text())
+        print(f"{crate}: its {len(results)} wrong bodies were tried by an earlier run")
+        return results
+    results = try_crate(crate)
+    if all(is_refused is not False for is_refused, _ in results):
+        KEPT.mkdir(parents=True, exist_ok=True)
+        kept.write_text(json.dumps(results))
+    return results
+
+
+def checks_of(crate):
+    """How many checks the wrong bodies of a crate take, or 0 if one of them can't be applied."""
+    try:
+        return len(rounds_of(edits_of([crate])))
+    except BadEdit:
+        return 0
+
+
 def try_crates(crates):
-    """Tries the wrong bodies of these crates, several crates at once."""
-    crates = sorted(crates, key=lambda it: -len(list((CRATES / it / "wrong-bodies").glob("*.edit"))))
+    """Tries the wrong bodies of these crates, several crates at once, and first of those that take the most checks."""
     with ThreadPoolExecutor(prover.at_once()) as pool:
-        results = [it for part in pool.map(try_crate, crates) for it in part]
+        results = [it for part in pool.map(results_of, sorted(crates, key=checks_of, reverse=True)) for it in part]
     by_contract = sum("refused by its contract" in line for _, line in results)
     by_test = sum("refused by its test alone" in line for _, line in results)
     by_neither = sum(is_refused is None for is_refused, _ in results)

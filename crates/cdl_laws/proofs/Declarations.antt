@@ -1,6 +1,6 @@
 -- The statements of a head, and what they say.
 use Rattle.std.proofs.Common.{◌≡◌, ℕ, ◌^◌, ◌<◌, true, false, List, [], ◌∷◌, ◌++◌, map, sym, ◌∙◌, ap, refl, subst, arith, append_assoc, append-nil, ℤ, pos, unsigned_abs, decimal, ◌==◌, not, if◌then◌else◌, None, Some, codes, rules}
-use Rattle.cdl_laws.proofs.Prelude.{signed_decimal, flat_map, list_all, flat_map-append, list_all-append, concat_parts, Att, Dim, NcType, Version, escaped_name, escaped_in_string, joined, dim_len_text, dim_line, unlimited_word, currently_word, att_line, att_text, chars_text, broken_text, string_break, without_trailing_nuls, IsName, number_suffix, is_char, has_type, Section, Dimensions, Variables, is_digit, scan, Lexeme, said_dim, IsBeforeData, globals, dimensions, variables, lexemes_at, Value, Number, Characters, Statement, DeclareDimensions, Attribute, each, both, constant, constants, typed, global, assigned, body, either, and_left, and_right, and_both, Each}
+use Rattle.cdl_laws.proofs.Prelude.{signed_decimal, flat_map, list_all, flat_map-append, list_all-append, concat_parts, Att, Dim, NcType, Version, escaped_name, escaped_in_string, joined, dim_len_text, dim_line, unlimited_word, currently_word, att_line, att_text, chars_text, broken_text, string_break, without_trailing_nuls, IsName, number_suffix, is_char, has_type, Section, Dimensions, Variables, is_digit, scan, Lexeme, said_dim, IsBeforeData, globals, dimensions, variables, lexemes_at, Value, Number, Characters, Statement, DeclareDimensions, Attribute, each, both, constant, constants, typed, global, assigned, body, option_or, and_left, and_right, and_both, Each}
 use Rattle.cdl_laws.proofs.Texts.{Closed, Reads, closed_both, closed_by, mark, word, number, name_word}
 use Rattle.cdl_laws.proofs.Numerals.{number_reads, numeral_again, value_again, decimal_digits, on_suffix}
 use Rattle.cdl_laws.proofs.Strings.{quoted, string, string_closed}
@@ -228,4 +228,4 @@ owned_says v owner att said list own name =
     (closed_by (escaped_name owner) (rest_of_att att) (word (escaped_name owner) ∷ []) (mark 58 ∷ word (escaped_name att.name) ∷ mark 61 ∷ (list.l ∷ commas list.ls ++ semicolon ∷ [])) (name_word owner own).reads (λ rest. refl) (att_closed v att said list name)))
     (name_starts owner own)
     (and_both (is_fine v (word (escaped_name owner))) (list_all (is_fine v) (mark 58 ∷ word (escaped_name att.name) ∷ mark 61 ∷ list.l ∷ commas list.ls)) (word_fine v (escaped_name owner)) (att_fine v att said list))
-    (rw ((name_word owner own).stands) (ap (λ o. either o (typed (word (escaped_name owner) ∷ mark 58 ∷ word (escaped_name att.name) ∷ mark 61 ∷ list.l ∷ commas list.ls))) (assigned_is v (Attribute (Some owner)) att said list name)))
+    (rw ((name_word owner own).stands) (ap (λ o. option_or o (typed (word (escaped_name owner) ∷ mark 58 ∷ word (escaped_name att.name) ∷ mark 61 ∷ list.l ∷ commas list.ls))) (assigned_is v (Attribute (Some owner)) att said list name)))

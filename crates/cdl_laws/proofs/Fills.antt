@@ -1,12 +1,14 @@
 -- The fill values of characters, with and without the NULs at the end of attributes.
 use Rattle.std.proofs.Common.{◌≡◌, ℕ, ◌<◌, Bool, true, false, List, [], ◌∷◌, length, map, sym, ◌∙◌, refl, arith, ◌↔◌, ℤ, pos, if◌then◌else◌, ◌==◌, ◌&&◌, nat_lt, find, Option, None, Some, rules}
-use Rattle.cdl_laws.proofs.Prelude.{false≢true, eqb-true, suffix_len, option_map, Att, NcType, Char, fill_value, is_fill_att, fill_of_att, fill_or_default, without_trailing_nuls, number_of, code_of, size_of, is_cut, FillValueSurvivesTrim, MeaningsAreSayable, MeaningsComeBack, trimmed_att, and_left, and_right}
+use Rattle.cdl_laws.proofs.Prelude.{false≢true, eqb-true, suffix_len, option_map, Att, NcType, Char, fill_value, is_fill_att, fill_of_att, without_trailing_nuls, number_of, code_of, size_of, is_cut, FillValueSurvivesTrim, MeaningsAreSayable, MeaningsComeBack, trimmed_att, and_left, and_right}
+use Rattle.std.specs.Prelude.{unwrap_or}
+use Rattle.nc_base.specs.Types.{default_fill_of}
 use Rattle.cdl_laws.proofs.MeaningsAreGood.{meanings_are_good, meanings_are_nearly_sayable, nearly_is_sayable}
 use Rattle.cdl_laws.proofs.Trimmed.{none_left, second_trip_is_same}
 
 -- what an attribute of this type and these values makes the fill value of characters
 abbrev fill_by : NcType → List ℕ → ℤ
-fill_by ty vals = fill_or_default Char (if (code_of ty == code_of Char) && (length vals == size_of Char) then Some (number_of Char vals) else None)
+fill_by ty vals = unwrap_or (if (code_of ty == code_of Char) && (length vals == size_of Char) then Some (number_of Char vals) else None) (default_fill_of Char)
 
 abbrev cut_by : List ℕ → Bool
 cut_by vals = (length (without_trailing_nuls vals) == 1) && nat_lt 1 (length vals)
@@ -39,7 +41,7 @@ abbrev cut_in : Option Att → Bool
 cut_in o = elim o [ None ↦ false | Some att ↦ is_cut att ]
 
 abbrev fill_in : NcType → Option Att → ℤ
-fill_in ty o = fill_or_default ty (fill_of_att ty o)
+fill_in ty o = unwrap_or (fill_of_att ty o) (default_fill_of ty)
 
 by_option : (o : Option Att) → (fill_in Char (option_map trimmed_att o) ≡ fill_in Char o) ↔ (cut_in o ≡ false)
 by_option o = grind (arith, decided, chars_kept, cut_changes)

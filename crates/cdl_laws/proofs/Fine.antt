@@ -1,6 +1,6 @@
 -- What holds of the dataset so far, of its attributes, dimensions and declarations.
 use Rattle.std.proofs.Common.{◌≡◌, ℕ, ◌+◌, ◌-◌, ◌*◌, ◌≤◌, ◌<◌, Bool, true, false, List, [], ◌∷◌, ◌++◌, length, map, sym, ◌∙◌, ap, refl, subst, arith, suc, append_assoc, append-nil, ℤ, pos, Option, Result, Ok, Err, filter, unsigned_abs, rules}
-use Rattle.cdl_laws.proofs.Prelude.{false≢true, eqb-true, length-append, map-append, list_any-append, list_any, position, bytes_eq, Att, Dim, NcType, Char, Version, has_name, has_record_dim, IsDimid, AreDimids, value_count, IsName, is_name, bytes_of_number, size_of, is_char, count_limit, has_type, AreDistinct, Value, Number, Characters, Underscore, Dimension, Variable, Draft, in_turn, when, some_or, int_within, has_number, same_type, dim_len_of, add_dim, add_dimid, add_var, at_named, at_variable, add_constant, first_type, add_att, with_att, listed_values, CdlKind, BadName, DuplicateName, MixedConstants, and_left, and_right, some_product, some_size, some-limit, none_before, unless, NumberRange, Each, each_map, ◌>>=◌}
+use Rattle.cdl_laws.proofs.Prelude.{false≢true, eqb-true, length-append, map-append, list_any-append, list_any, position, bytes_eq, Att, Dim, NcType, Char, Version, has_name, has_record_dim, IsDimid, AreDimids, value_count, IsName, is_name, bytes_of_number, size_of, is_char, count_limit, has_type, AreDistinct, Value, Number, Characters, Underscore, Dimension, Variable, Draft, in_turn, when, ok_or, int_within, has_number, same_type, dim_len_of, add_dim, add_dimid, add_var, at_named, at_variable, add_constant, first_type, add_att, with_att, listed_values, CdlKind, BadName, DuplicateName, MixedConstants, and_left, and_right, some_product, some_size, some-limit, none_before, unless, NumberRange, Each, each_map, ◌>>=◌}
 use Rattle.cdl_laws.proofs.Bools.{or_left, or_right}
 use Rattle.cdl_laws.proofs.Outcomes.{SomeIs, OkIs, ok_then, ok_unless, ok_when, ok_found, total, each_under, turns, each_more}
 use Rattle.cdl_laws.proofs.Said.{IsByte, cost, IsFineValue, dim_cost, name_cost, var_cost}
@@ -154,7 +154,7 @@ IsShape dims n ids = AreDimids dims [] ids × (length ids ≤ n)
 
 id_step : (dims : List Dim) (n : ℕ) (ids name : List ℕ) → IsShape dims n ids → Unit {0} → OkIs (IsShape dims (n + name_cost name)) (add_dimid dims ids name)
 unfolding add_dimid
-id_step dims n ids name shape u = grind (arith, ok_unless, some_or, ok_found, position_under, ok_when, dimids_more, none_before, one_more)
+id_step dims n ids name shape u = grind (arith, ok_unless, ok_or, ok_found, position_under, ok_when, dimids_more, none_before, one_more)
 
 pub any_each : {X : Type 0} (xs : List X) → Each (λ x. Unit {0}) xs
 any_each [] = tt

@@ -1,6 +1,6 @@
 -- What a text means is good.
 use Rattle.std.proofs.Common.{◌≡◌, ℕ, ◌+◌, ◌-◌, ◌*◌, ◌/◌, ◌≤◌, ◌<◌, true, false, List, [], ◌∷◌, length, map, ap, refl, subst, arith, zero, suc, ℤ, if◌then◌else◌, Option, None, Some, Result, Ok, Err, nat_le, codes, All, rules}
-use Rattle.cdl_laws.proofs.Prelude.{length-map, div-lt_iff_lt-mul, lt-div-mul-add, mul_comm, mul-le-mul_left, flat_map, list_all, AreBytes, Dataset, Att, Dim, Known, Var, NcType, Version, IsGood, IsSound, IsSoundAtt, IsSoundVar, IsSoundDim, IsArray, AreArrays, bare_var, value_count, IsName, bytes_of_number, is_record_var, record_vars, slab_count, slab_size, record_size, slab_limit, array_limit, record_limit, size_of, count_limit, has_type, MeaningsAreGood, MeaningsAreNearlySayable, IsNearlySayable, NearlyIsSayable, text_limit, Lexeme, lexeme, statements, shaped, checked, piece_read, starting_line, run, empty, listed_values, records_of, records_in, array_of, header_of, dataset_of, is_small, is_small_enough, closing_line, finished, meaning, AreDistinct, AreSayableAtts, HasSomeNumber, Statement, Open, Enter, DeclareDimensions, DeclareVariables, Attribute, Listed, shape, first_bad, State, Draft, act, add_var, at_variable, with_att, with_values, type_of, some_or, in_turn, filled, CdlFault, CdlKind, Section, Token, and_left, and_right, some_count, length-numbers, Each, each_map, ◌>>=◌}
+use Rattle.cdl_laws.proofs.Prelude.{length-map, div-lt_iff_lt-mul, lt-div-mul-add, mul_comm, mul-le-mul_left, flat_map, list_all, AreBytes, Dataset, Att, Dim, Known, Var, NcType, Version, IsGood, IsSound, IsSoundAtt, IsSoundVar, IsSoundDim, IsArray, AreArrays, bare_var, value_count, IsName, bytes_of_number, is_record_var, record_vars, slab_count, slab_size, record_size, slab_limit, array_limit, record_limit, size_of, count_limit, has_type, MeaningsAreGood, MeaningsAreNearlySayable, IsNearlySayable, NearlyIsSayable, text_limit, Lexeme, lexeme, statements, shaped, checked, piece_read, starting_line, run, empty, listed_values, records_of, records_in, array_of, header_of, dataset_of, is_small, is_small_enough, closing_line, finished, meaning, AreDistinct, AreSayableAtts, HasSomeNumber, Statement, Open, Enter, DeclareDimensions, DeclareVariables, Attribute, Listed, shape, first_bad, State, Draft, act, add_var, at_variable, with_att, with_values, type_of, ok_or, in_turn, filled, CdlFault, CdlKind, Section, Token, and_left, and_right, some_count, length-numbers, Each, each_map, ◌>>=◌}
 use Rattle.cdl_laws.proofs.Outcomes.{SomeIs, OkIs, ok_then, in_if, total, each_more, all_of}
 use Rattle.cdl_laws.proofs.Sayables.{draft_name}
 use Rattle.cdl_laws.proofs.Said.{IsByte, HasBytes, mass}
@@ -29,7 +29,7 @@ advanced v N n m s next back f = grind (arith, dims_later, atts_later, all_later
 
 type_has : (v : Version) (word : Lexeme) → OkIs (λ ty. has_type v ty ≡ true) (type_of v word)
 unfolding type_of
-type_has v word = grind (arith, in_if, codes, some_or, and_left)
+type_has v word = grind (arith, in_if, codes, ok_or, and_left)
 
 none_left : (n : ℕ) (ds es : List Draft) → (n < 3 → ds ≡ []) → length es ≡ length ds → n < 3 → es ≡ []
 none_left n ds [] early len h = refl

@@ -1,7 +1,7 @@
 -- What holds of what an option or a result has, and of lists by totals.
 use Rattle.std.proofs.Common.{◌≡◌, ℕ, ◌+◌, ◌≤◌, Bool, true, false, List, [], ◌∷◌, ◌++◌, subst, arith, zero, suc, All, if◌then◌else◌, Option, None, Some, Result, Ok, Err, take, drop}
 use Rattle.std.specs.Prelude.{⊤}
-use Rattle.cdl_laws.proofs.Prelude.{option_map, option_and_then, in_turn, unless, when, some_or, both, each, either, if_so, CdlKind, Each, ◌>>=◌}
+use Rattle.cdl_laws.proofs.Prelude.{option_map, option_and_then, in_turn, unless, when, ok_or, both, each, option_or, if_so, CdlKind, Each, ◌>>=◌}
 
 -- ---- options
 
@@ -21,7 +21,7 @@ some_weaker P Q o h h2 = grind arith
 pub some_both : {A B C : Type 0} (P : A → Type 0) (Q : B → Type 0) (R : C → Type 0) (f : A → B → C) (a : Option A) (b : Option B) → SomeIs P a → SomeIs Q b → ((x : A) (y : B) → P x → Q y → R (f x y)) → SomeIs R (both f a b)
 some_both P Q R f a b h h2 h3 = grind arith
 
-pub some_first : {A : Type 0} (P : A → Type 0) (a b : Option A) → SomeIs P a → SomeIs P b → SomeIs P (either a b)
+pub some_first : {A : Type 0} (P : A → Type 0) (a b : Option A) → SomeIs P a → SomeIs P b → SomeIs P (option_or a b)
 some_first P a b h h2 = grind arith
 
 pub some_given : {A : Type 0} (P : A → Type 0) (b : Bool) (o : Option A) → (b ≡ true → SomeIs P o) → SomeIs P (if_so b o)
@@ -48,7 +48,7 @@ ok_unless Q b e f h = grind arith
 pub ok_when : {B : Type 0} (Q : B → Type 0) (b : Bool) (e : CdlKind) (f : ⊤ → Result B CdlKind) → (b ≡ false → OkIs Q (f tt)) → OkIs Q (when b e >>= f)
 ok_when Q b e f h = grind arith
 
-pub ok_found : {A B : Type 0} (P : A → Type 0) (Q : B → Type 0) (o : Option A) (e : CdlKind) (f : A → Result B CdlKind) → SomeIs P o → ((a : A) → P a → OkIs Q (f a)) → OkIs Q (some_or o e >>= f)
+pub ok_found : {A B : Type 0} (P : A → Type 0) (Q : B → Type 0) (o : Option A) (e : CdlKind) (f : A → Result B CdlKind) → SomeIs P o → ((a : A) → P a → OkIs Q (f a)) → OkIs Q (ok_or o e >>= f)
 ok_found P Q o e f h h2 = grind arith
 
 -- ---- totals

@@ -9,7 +9,7 @@ pub use Rattle.cdl_laws.specs.Trims.{FillValueSurvivesTrim, MeaningsAreSayable, 
 pub use Rattle.cdl_meaning.specs.Meaning.{array_of, closing_line, dataset_of, empty, header_of, is_small, starting_line, meaning, records_in, records_of, text_limit, listed_values}
 pub use Rattle.cdl_meaning.proofs.Readings.{checked, shaped}
 unfoldable pub use Rattle.cdl_meaning.specs.Meaning.{finished, is_small_enough, piece_read, run}
-pub use Rattle.cdl_meaning.specs.State.{Capacity, Draft, Joined, Listing, Numbers, Rows, State, add_characters, add_constant, add_number, add_row, at_named, int_within, dim_len_of, filled, first_type, some_or, in_turn, listed_by, same_type, unless, values_in, when, with_att, with_values, ◌>>=◌}
+pub use Rattle.cdl_meaning.specs.State.{Capacity, Draft, Joined, Listing, Numbers, Rows, State, add_characters, add_constant, add_number, add_row, at_named, int_within, dim_len_of, filled, first_type, in_turn, listed_by, same_type, unless, values_in, when, with_att, with_values, ◌>>=◌}
 unfoldable pub use Rattle.cdl_meaning.specs.State.{act, add_att, add_dim, add_dimid, add_var, at_variable, capacity_of, has_number, listing_of, type_of}
 pub use Rattle.cdl_statements.proofs.PieceLengths.{pieces_by_steps}
 pub use Rattle.cdl_statements.specs.Lexemes.{Lexeme, is_end_kind, is_mark, is_opening_kind, is_word, is_word_kind, lexeme}
@@ -17,7 +17,7 @@ unfoldable pub use Rattle.cdl_statements.specs.Lexemes.{name_of}
 pub use Rattle.cdl_statements.proofs.Members.{alone, constants, constants_are, constants_by, mark_after, members, name_alone}
 pub use Rattle.cdl_statements.specs.Pieces.{section_of}
 unfoldable pub use Rattle.cdl_statements.specs.Pieces.{pieces_at}
-pub use Rattle.cdl_statements.specs.Shapes.{Attribute, Close, Characters, DeclareDimensions, Dimension, End, Listed, Enter, Number, Open, Statement, DeclareVariables, Underscore, Value, Variable, assigned, attribute, before_mark, body, both, constant, constant_of, dimension, each, either, first_bad, if_so, global, into_first, length_of, members_in, section_mark, section_number, single, token_fault, typed, variable}
+pub use Rattle.cdl_statements.specs.Shapes.{Attribute, Close, Characters, DeclareDimensions, Dimension, End, Listed, Enter, Number, Open, Statement, DeclareVariables, Underscore, Value, Variable, assigned, attribute, before_mark, body, both, constant, constant_of, dimension, each, first_bad, if_so, global, length_of, members_in, section_mark, section_number, single, token_fault, typed, variable}
 unfoldable pub use Rattle.cdl_statements.specs.Shapes.{shape}
 pub use Rattle.cdl_statements.specs.Statements.{statements}
 pub use Rattle.cdl_statements.specs.code.CutSteps.{going, step, unless_end, with_first}
@@ -28,7 +28,7 @@ pub use Rattle.cdl_statements.specs.declared.{fault.CdlFault.CdlFault, fault.Cdl
 pub use Rattle.cdl_statements.specs.declared.fault.CdlKind.TheVariants.{BadName, BadNumber, BadShape, BadToken, DuplicateData, DuplicateName, FloatingType, MixedConstants, NumberRange, StringTooLong, Syntax, TooLarge, TooManyValues, TwoRecordDims, UnknownDimension, UnknownType, UnknownVariable, WrongKind, ZeroDimension}
 pub use Rattle.cdl_statements.specs.declared.section.Section.TheVariants.{Closed, Dimensions, Ended, Globals, Unopened, Values, Variables}
 pub use Rattle.cdl_tokens.proofs.Strings.{or_zero, stands_for, plain_small}
-pub use Rattle.cdl_tokens.specs.Bytes.{may_begin_word, digit_value, goes_on_number, goes_on_word, is_blank, is_digit, is_escapable, is_escape, is_hex, is_octal, is_sign, number_in, within}
+pub use Rattle.cdl_tokens.specs.Bytes.{may_begin_word, digit_value, goes_on_number, goes_on_word, is_blank, is_digit, is_escapable, is_escape, is_hex, is_octal, is_sign, number_in}
 pub use Rattle.cdl_tokens.specs.Escapes.{up_to_255, escaped_character, inner, number_escape, plain_escape, string_value, unescape}
 unfoldable pub use Rattle.cdl_tokens.specs.Escapes.{character, unescape_at, word_value}
 pub use Rattle.cdl_tokens.specs.Numerals.{Numeral, Parts, has_suffix, in_base, number, with_sign}
@@ -46,7 +46,7 @@ pub use Rattle.nc_base.specs.Datasets.{IsText, values_in_dataset}
 unfoldable pub use Rattle.nc_base.specs.Dump.{closing_word, data_word}
 pub use Rattle.nc_base.specs.Escapes.{begins_with_digit_or_mark, escaped_in_name, escaped_in_string, is_name_mark, is_plain, octal_escape, reserved_words}
 unfoldable pub use Rattle.nc_base.specs.Escapes.{escaped_name, escaped_text, is_reserved}
-pub use Rattle.nc_base.specs.Fill.{fill_of_att, fill_or_default, is_fill_att}
+pub use Rattle.nc_base.specs.Fill.{fill_of_att, is_fill_att}
 unfoldable pub use Rattle.nc_base.specs.Fill.{fill_value}
 unfoldable pub use Rattle.nc_base.specs.GeneratedFile.{file_of, var_spelling, with_begins}
 pub use Rattle.nc_base.specs.HeadText.{att_text, broken_text, dim_name, joined, without_trailing_nuls}
@@ -81,8 +81,8 @@ pub use Rattle.std.specs.Char.{is_ascii_control, is_ascii_digit, to_ascii_lowerc
 pub use Rattle.std.specs.Fmt.{digit_glyph, digits_onto, signed_decimal}
 unfoldable pub use Rattle.std.specs.Fmt.{digits}
 pub use Rattle.std.specs.Int.{cast_unsigned, is_in_range, to_be_bytes, w16, w32, w64, w8}
-pub use Rattle.std.specs.List.{flat_map, list_all, list_any, position, position_or_len, prefix_len, range_with_len, starts_with, suffix_len, take_while}
-pub use Rattle.std.specs.Option.{option_and_then, option_map}
+pub use Rattle.std.specs.List.{flat_map, list_all, list_any, onto_first, position, position_or_len, prefix_len, range_with_len, starts_with, suffix_len, take_while}
+pub use Rattle.std.specs.Option.{ok_or, option_and_then, option_map, option_or}
 pub use Rattle.std.specs.Ordering.{int_eq}
 pub use Rattle.std.specs.Str.{bytes_eq}
 unfoldable pub use Rattle.std.specs.Str.{chars, is_utf8}

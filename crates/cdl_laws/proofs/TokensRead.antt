@@ -1,6 +1,6 @@
 -- Names, strings and numbers are read back, each as one token.
 use Rattle.std.proofs.Common.{◌≡◌, ℕ, ◌+◌, ◌<◌, Bool, true, false, List, [], ◌∷◌, ◌++◌, length, get_or, take, drop, sym, ◌∙◌, ap, refl, subst, arith, append_assoc, length-append, append-nil, pos, decimal, ◌||◌, ◌==◌, codes, is_some, rules}
-use Rattle.cdl_laws.proofs.Prelude.{signed_decimal, prefix_len, list_all, false≢true, eqb-true, decimal_nonempty, take-append-drop, get_or-drop, list_all-append, take-append_seam, escaped_name, escaped_text, is_reserved, IsName, word_value, within, is_digit, is_blank, goes_on_word, goes_on_number, unescape, word_len, len_until, scan, token, begins_opening, begins_a_word, begins_number, Word, Text, stands_for, AreToken, BlanksAndMarksStop, StopsWord, NameReadsBack, NamesReadBack, quoted, StringsReadBack, StopsNumber, ConstantsReadBack, ValuesReadBack, and_left, and_right, and_both, word_at_start, and_false}
+use Rattle.cdl_laws.proofs.Prelude.{signed_decimal, prefix_len, list_all, false≢true, eqb-true, decimal_nonempty, take-append-drop, get_or-drop, list_all-append, take-append_seam, escaped_name, escaped_text, is_reserved, IsName, word_value, is_in_range, is_digit, is_blank, goes_on_word, goes_on_number, unescape, word_len, len_until, scan, token, begins_opening, begins_a_word, begins_number, Word, Text, stands_for, AreToken, BlanksAndMarksStop, StopsWord, NameReadsBack, NamesReadBack, quoted, StringsReadBack, StopsNumber, ConstantsReadBack, ValuesReadBack, and_left, and_right, and_both, word_at_start, and_false}
 use Rattle.cdl_tokens.specs.Bytes.{is_mark_byte}
 use Rattle.cdl_tokens.specs.declared.token.TokenKind.TheVariants.{Number}
 use Rattle.cdl_laws.proofs.Attributes.{small_is}
@@ -42,11 +42,11 @@ one_of a b h h2 h3 = grind arith
 literal : (b n : ℕ) → IsStop n → (b == n) ≡ true → IsStop b
 literal b n stop h = subst IsStop (sym (eqb-true b n h)) stop
 
-low_stop : (b : ℕ) → within 0x09 0x0d b ≡ true → IsStop b
+low_stop : (b : ℕ) → is_in_range 0x09 0x0d b ≡ true → IsStop b
 low_stop b h = record { word = grind (arith, h); slash = grind (arith, h); number = grind (arith, h) }
 
 blank_stop : (b : ℕ) → is_blank b ≡ true → IsStop b
-blank_stop b h = one_of (within 0x09 0x0d b) (b == 0x20) (low_stop b) (literal b 0x20 (record { word = refl; slash = refl; number = refl })) h
+blank_stop b h = one_of (is_in_range 0x09 0x0d b) (b == 0x20) (low_stop b) (literal b 0x20 (record { word = refl; slash = refl; number = refl })) h
 
 mark_stop : (b : ℕ) → is_mark_byte b ≡ true → IsStop b
 mark_stop b h = grind (arith, one_of, literal)

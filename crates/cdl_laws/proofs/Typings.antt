@@ -1,6 +1,6 @@
 -- The declaration of a variable, and what it says.
 use Rattle.std.proofs.Common.{◌≡◌, ℕ, true, List, [], ◌∷◌, ◌++◌, map, ◌∙◌, ap, refl, Some, codes, arith, rules}
-use Rattle.cdl_laws.proofs.Prelude.{list_all, option_map, option_and_then, list_all-append, concat_parts, NcType, Version, escaped_name, joined, IsName, type_word, Variables, Lexeme, DeclareVariables, members, members_in, into_first, each, both, variable, name_alone, before_mark, body, and_both, Each}
+use Rattle.cdl_laws.proofs.Prelude.{list_all, option_map, option_and_then, list_all-append, concat_parts, NcType, Version, escaped_name, joined, IsName, type_word, Variables, Lexeme, DeclareVariables, members, members_in, onto_first, each, both, variable, name_alone, before_mark, body, and_both, Each}
 use Rattle.cdl_laws.proofs.Texts.{Closed, Reads, closed_both, closed_by, mark, word, name_word}
 use Rattle.cdl_laws.proofs.ValueTexts.{comma, commas, is_member, members_all, semicolon_closed}
 use Rattle.cdl_laws.proofs.Takes.{Says, statement_says, semicolon, is_fine, word_fine}
@@ -86,7 +86,7 @@ before_end _ = refl
 -- what is in parentheses stays together
 inside_member : (names : List (List ℕ)) → members_in true (commas (name_lexemes names) ++ mark 41 ∷ []) ≡ (commas (name_lexemes names) ++ mark 41 ∷ []) ∷ []
 inside_member [] = refl
-inside_member (name ∷ names) = ap (λ ms. into_first comma (into_first (word (escaped_name name)) ms)) (inside_member names)
+inside_member (name ∷ names) = ap (λ ms. onto_first comma (onto_first (word (escaped_name name)) ms)) (inside_member names)
 
 array_is : (v : Version) (ty : NcType) (name n : List ℕ) (ns : List (List ℕ)) → IsName name → AreNames (n ∷ ns) →
     body v Variables (word (type_word ty) ∷ word (escaped_name name) ∷ mark 40 ∷ (shape_lexemes n ns ++ mark 41 ∷ [])) ≡ Some (DeclareVariables (word (type_word ty)) (record { name = name; dimensions = n ∷ ns } ∷ []))
@@ -94,7 +94,7 @@ array_is v ty name n ns h all =
     let w = word (escaped_name name) in
     let close = mark 41 ∷ [] in
     let ls = shape_lexemes n ns ++ close in
-    let one : members (w ∷ mark 40 ∷ ls) ≡ (w ∷ mark 40 ∷ ls) ∷ [] = ap (λ ms. into_first w (into_first (mark 40) (into_first (word (escaped_name n)) ms))) (inside_member ns) in
+    let one : members (w ∷ mark 40 ∷ ls) ≡ (w ∷ mark 40 ∷ ls) ∷ [] = ap (λ ms. onto_first w (onto_first (mark 40) (onto_first (word (escaped_name n)) ms))) (inside_member ns) in
     let names : each name_alone (members (shape_lexemes n ns)) ≡ Some (n ∷ ns) = ap (each name_alone) (members_all (word (escaped_name n)) (name_lexemes ns) (names_members (n ∷ ns))) ∙ names_each (n ∷ ns) all in
     let said : variable (w ∷ mark 40 ∷ ls) ≡ Some (record { name = name; dimensions = n ∷ ns }) =
     ap (λ o. both (λ m ds. record { name = m; dimensions = ds }) o (option_and_then (λ inner. each name_alone (members inner)) (before_mark 0x29 ls))) (name_word name h).stands ∙

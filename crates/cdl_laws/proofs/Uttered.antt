@@ -1,6 +1,6 @@
 -- What each statement of a text says, and how many bytes and tokens all of them have.
 use Rattle.std.proofs.Common.{◌≡◌, ℕ, ◌+◌, ◌-◌, ◌*◌, ◌≤◌, ◌<◌, Bool, true, false, List, [], ◌∷◌, length, map, ◌∙◌, ap, refl, arith, zero, suc, Option, None, drop, ◌&&◌, is_none, rules}
-use Rattle.cdl_laws.proofs.Prelude.{length-take, length-drop, option_map, option_and_then, Version, scan, Lexeme, lexeme, is_mark, is_opening_kind, is_end_kind, name_of, first_role, role, pieces_after, with_first, step, pieces_by_steps, Value, Statement, Open, Enter, DeclareDimensions, DeclareVariables, Attribute, Listed, Close, End, each, either, constants, assigned, global, typed, attribute, body, section_number, section_mark, alone, shape, before_mark, tokens, tokens_at, statements, Section, Unopened, Globals, Dimensions, Variables, Values, Closed, Ended, CutState, Role, Token, Each}
+use Rattle.cdl_laws.proofs.Prelude.{length-take, length-drop, option_map, option_and_then, Version, scan, Lexeme, lexeme, is_mark, is_opening_kind, is_end_kind, name_of, first_role, role, pieces_after, with_first, step, pieces_by_steps, Value, Statement, Open, Enter, DeclareDimensions, DeclareVariables, Attribute, Listed, Close, End, each, option_or, constants, assigned, global, typed, attribute, body, section_number, section_mark, alone, shape, before_mark, tokens, tokens_at, statements, Section, Unopened, Globals, Dimensions, Variables, Values, Closed, Ended, CutState, Role, Token, Each}
 use Rattle.cdl_statements.specs.Shapes as shapes
 use Rattle.cdl_statements.proofs.Members.{dimensions}
 use Rattle.cdl_statements.specs.declared.piece.CutState.TheVariants as places
@@ -57,7 +57,7 @@ declared_says v ls = grind (arith, dimensions v ls, total dim_cost, dimensions_s
 body_says : (v : Version) (section : Section) (ls : List Lexeme) → Each HasBytes ls → SomeIs (IsSaid v section (mass ls)) (body v section ls)
 body_says v Globals ls h = global_says v Globals ls h
 body_says v Dimensions ls h = some_first (IsSaid v Dimensions (mass ls)) (global v ls) (option_map DeclareDimensions (dimensions v ls)) (global_says v Dimensions ls h) (declared_says v ls)
-body_says v Variables ls h = search (rules, some_first, either, typed, global_says, attribute_says, typed_says)
+body_says v Variables ls h = search (rules, some_first, option_or, typed, global_says, attribute_says, typed_says)
 body_says v Values ls h = assigned_says (IsSaid v Values (mass ls)) v true Listed ls h (λ name cs k. k)
 body_says v _ ls h = tt
 
@@ -72,11 +72,11 @@ alone_says : {A : Type 0} (P : A → Type 0) (test : Lexeme → Bool) (a : A) (l
 alone_says P test a ls h = grind (arith, some_given)
 
 inside : (v : Version) (section : Section) (ls : List Lexeme) → Each HasBytes ls →
-    SomeIs (IsSaid v section (mass ls)) (either (alone (is_mark 0x7d) Close ls) (either (section_mark section ls) (option_and_then (body v section) (before_mark 0x3b ls))))
+    SomeIs (IsSaid v section (mass ls)) (option_or (alone (is_mark 0x7d) Close ls) (option_or (section_mark section ls) (option_and_then (body v section) (before_mark 0x3b ls))))
 inside v section ls h =
     let P : Statement → Type 0 = IsSaid v section (mass ls) in
     let rest : Option Statement = option_and_then (body v section) (before_mark 0x3b ls) in
-    some_first P (alone (is_mark 0x7d) Close ls) (either (section_mark section ls) rest) (alone_says P (is_mark 0x7d) Close ls tt)
+    some_first P (alone (is_mark 0x7d) Close ls) (option_or (section_mark section ls) rest) (alone_says P (is_mark 0x7d) Close ls tt)
     (some_first P (section_mark section ls) rest (marks_say v (mass ls) section ls)
     (some_then (λ xs. (mass xs ≤ mass ls) × Each HasBytes xs) P (body v section) (before_mark 0x3b ls) (some_and (λ xs. mass xs ≤ mass ls) (Each HasBytes) (before_mark 0x3b ls) (before_mass 0x3b ls) (before_each HasBytes 0x3b ls h))
     (λ xs k. some_weaker (IsSaid v section (mass xs)) P (body v section xs) (body_says v section xs k.1) (λ s said. said_more v section (mass xs) (mass ls) s k.0 said))))

@@ -11,7 +11,7 @@ use Rattle.cdl_statements.specs.Lexemes.{Lexeme, lexeme}
 use Rattle.cdl_statements.specs.Shapes.{shape, first_bad}
 use Rattle.cdl_statements.specs.Statements.{statements}
 use Rattle.cdl_statements.specs.declared.{fault.CdlFault.CdlFault, fault.CdlKind.CdlKind, section.Section.TheVariants.Unopened}
-use Rattle.cdl_statements.specs.declared.fault.CdlKind.TheVariants.{Syntax, TooLarge}
+use Rattle.cdl_statements.specs.declared.fault.CdlKind.TheVariants.{Syntax, TooLarge, OutOfMemory}
 use Rattle.cdl_tokens.specs.declared.token.Token.{Token}
 use Rattle.cdl_meaning.specs.State.{State, Draft, act, capacity_of, filled, values_in}
 
@@ -33,6 +33,7 @@ abbrev pub starting_line : List Token → ℕ
 starting_line [] = 0
 starting_line (t ∷ ts) = t.line
 
+-- Each piece has to have a shape of its section, and only the End of the text ends the last section: a run without a fault has read it.
 unfoldable pub run : Bytes → Version → State → List (List Token) → Result State CdlFault
 run text v s [] = Ok s
 run text v s (p ∷ ps) =
@@ -93,3 +94,7 @@ finished v line (Ok s) = if is_small_enough v s then Ok (dataset_of v s) else Er
 
 abbrev pub meaning : Bytes → Version → Result Dataset CdlFault
 meaning text v = finished v (closing_line (statements text)) (run text v empty (statements text))
+
+-- the answer if an allocation failed: it has no line, and says nothing of the text
+abbrev pub out_of_memory : CdlFault
+out_of_memory = record { line = 0; kind = OutOfMemory }

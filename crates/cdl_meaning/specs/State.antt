@@ -1,6 +1,7 @@
 -- Definition. The dataset so far, and what each statement makes of it. A fault is the first from the left.
 use Rattle.std.specs.Prelude.{ℕ, ℤ, pos, neg_ℤ, Bool, true, false, List, [], ◌∷◌, ◌++◌, ◌+◌, ◌-◌, ◌^◌, ◌&&◌, ◌||◌, ◌==◌, not, nat_lt, nat_le, if◌then◌else◌, length, take, codes, map, replicate, find, Option, None, Some, is_some, Result, Ok, Err, ⊤, int_le, unsigned_abs}
 use Rattle.std.specs.List.{flat_map, list_any, position}
+use Rattle.std.specs.Option.{ok_or}
 use Rattle.std.specs.Ordering.{int_eq}
 use Rattle.std.specs.Str.{bytes_eq}
 use Rattle.nc_base.specs.Bytes.{Bytes}
@@ -57,10 +58,6 @@ abbrev pub when : Bool → CdlKind → Result ⊤ CdlKind
 when true e = Err e
 when false e = Ok tt
 
-abbrev pub some_or : {A : Type 0} → Option A → CdlKind → Result A CdlKind
-some_or None e = Err e
-some_or (Some a) e = Ok a
-
 abbrev pub int_within : ℤ → ℤ → ℤ → Bool
 int_within low high n = int_le low n && int_le n high
 
@@ -97,13 +94,13 @@ add_dim v dims d = do
 unfoldable pub type_of : Version → Lexeme → Result NcType CdlKind
 type_of v word =
     if is_word (codes "float") word || is_word (codes "real") word || is_word (codes "double") word then Err FloatingType
-    else (if is_word (codes "long") word then Ok Int else some_or (find (λ ty. has_type v ty && is_word (type_word ty) word) all_types) UnknownType)
+    else if is_word (codes "long") word then Ok Int else ok_or (find (λ ty. has_type v ty && is_word (type_word ty) word) all_types) UnknownType
 
 -- appends the id of a dimension; only the first may be the record dimension
 unfoldable pub add_dimid : List Dim → List ℕ → Bytes → Result (List ℕ) CdlKind
 add_dimid dims ids name = do
   _ ← unless (is_name name) BadName
-  k ← some_or (position (λ (d : Dim). bytes_eq d.name name) dims) UnknownDimension
+  k ← ok_or (position (λ (d : Dim). bytes_eq d.name name) dims) UnknownDimension
   _ ← when (nat_lt 0 (length ids) && is_record_dim dims k) BadShape
   Ok (ids ++ k ∷ [])
 
@@ -174,16 +171,13 @@ pub record Capacity : Type 0 where
   pub fill : ℤ
   -- a record variable takes any number of values
   pub is_open : Bool
-  -- how many values a slab has: for any other variable, all of them
+  -- how many values a slab has: all values, unless it is a record variable
   pub count : ℕ
   -- the rank is 2 or more
   pub in_rows : Bool
-  -- how many rows there are, and how many values each has
+  -- how many rows there are (0 for a record variable, which is open), and how many values each has
   pub rows : ℕ
   pub row : ℕ
-
-abbrev pub row_count : List Dim → Var → ℕ
-row_count dims var = product (map (dim_len dims) (take (length var.dimids - 1) var.dimids))
 
 unfoldable pub capacity_of : List Dim → Var → Capacity
 capacity_of dims var = record {
@@ -192,7 +186,7 @@ capacity_of dims var = record {
   is_open = is_record_var dims var;
   count = slab_count dims var;
   in_rows = not (nat_lt (length var.dimids) 2);
-  rows = row_count dims var;
+  rows = product (map (dim_len dims) (take (length var.dimids - 1) var.dimids));
   -- (the 0 would be the length of a row below rank 2; it is never used)
   row = row_len dims var.dimids 0;
 }

@@ -1,6 +1,6 @@
 -- A declaration, token by token.
 use Rattle.std.proofs.Common.{◌≡◌, ℕ, Bool, true, false, List, [], ◌∷◌, ◌++◌, drop, refl, sym, ap, ◌∙◌, Result, Ok, IfOk, ◌&&◌, ◌||◌, not, if◌then◌else◌, arith, rules}
-use Rattle.cdl_parse.proofs.Prelude.{false≢true, is_name, Dim, NcType, Version, Declaration, declaration_said, with_name, completes, is_whole, next, word_value, Lexeme, is_mark, is_mark_kind, Due, AfterVariable, VariableName, BadName, Draft, add_dimid, add_var, some_or, in_turn, type_of, unless, ContinuesRead, FailsRead, Leaves, ReadError, added, continued, declared, is_open_after, next_dimid, read_on, with_begun, ReadsDimension, is_variable_name, with_new_draft, duplicate_name_or, PartialVariable, ◌>>=◌, ⊤}
+use Rattle.cdl_parse.proofs.Prelude.{false≢true, is_name, Dim, NcType, Version, Declaration, declaration_said, with_name, completes, is_whole, next, word_value, Lexeme, is_mark, is_mark_kind, Due, AfterVariable, VariableName, BadName, Draft, add_dimid, add_var, ok_or, in_turn, type_of, unless, ContinuesRead, FailsRead, Leaves, ReadError, added, continued, declared, is_open_after, next_dimid, read_on, with_begun, ReadsDimension, is_variable_name, with_new_draft, duplicate_name_or, PartialVariable, ◌>>=◌, ⊤}
 use Rattle.cdl_statements.specs.code.DueTokens.{is_name as is_name_token}
 use Rattle.cdl_statements.proofs.VariableNames.{name_kind}
 use Rattle.cdl_parse.proofs.AttributeReads.{fails_then}
@@ -40,7 +40,7 @@ module _ (dims : List Dim) (ty : NcType) (drafts : List Draft) where
 
   id_first : (ids name : List ℕ) → add_dimid dims ids name ≡ (next_dimid dims ids name >>= (λ k. Ok (ids ++ k ∷ [])))
   unfolding add_dimid
-  id_first ids name = search (rules, named, some_or)
+  id_first ids name = search (rules, named, ok_or)
 
   pub dimension_ok : (name ids more word : List ℕ) (k : ℕ) (rest : Declaration) → next_dimid dims ids word ≡ Ok k → more ≡ ids ++ k ∷ [] → continued dims ty drafts name ids (with_name true word rest) ≡ continued dims ty drafts name more rest
   dimension_ok name ids more word k rest is e = grind (arith, id_first)

@@ -1,6 +1,6 @@
 -- The statements of the section of the variables keep the variables' shapes.
 use Rattle.std.proofs.Common.{◌≡◌, ℕ, suc, ◌<◌, Bool, true, false, List, [], ◌∷◌, ◌++◌, length, sym, subst, append_assoc, append-nil, arith, Option, Result, Ok, Err, IfOk, IfSome, if◌then◌else◌, rules}
-use Rattle.cdl_parse.proofs.Prelude.{All-cons, All-push, position, bytes_eq, AreDimids, IsDimid, is_name, Dim, NcType, Value, CdlKind, BadName, DuplicateName, Draft, add_dimid, add_var, at_named, at_variable, some_or, in_turn, unless, when, with_att, AreShaped, draft, is_variable_name, none_before, ◌>>=◌, ⊤}
+use Rattle.cdl_parse.proofs.Prelude.{All-cons, All-push, position, bytes_eq, AreDimids, IsDimid, is_name, Dim, NcType, Value, CdlKind, BadName, DuplicateName, Draft, add_dimid, add_var, at_named, at_variable, ok_or, in_turn, unless, when, with_att, AreShaped, draft, is_variable_name, none_before, ◌>>=◌, ⊤}
 use Rattle.cdl_statements.specs.Shapes.{Variable}
 
 -- ---- what an Ok has
@@ -14,7 +14,7 @@ ok_unless Q b e f h = grind arith
 ok_when : {B : Type 0} (Q : B → Type 0) (b : Bool) (e : CdlKind) (f : ⊤ → Result B CdlKind) → (b ≡ false → IfOk (f tt) Q) → IfOk (when b e >>= f) Q
 ok_when Q b e f h = grind arith
 
-ok_found : {A B : Type 0} (P : A → Type 0) (Q : B → Type 0) (o : Option A) (e : CdlKind) (f : A → Result B CdlKind) → IfSome o P → ((a : A) → P a → IfOk (f a) Q) → IfOk (some_or o e >>= f) Q
+ok_found : {A B : Type 0} (P : A → Type 0) (Q : B → Type 0) (o : Option A) (e : CdlKind) (f : A → Result B CdlKind) → IfSome o P → ((a : A) → P a → IfOk (f a) Q) → IfOk (ok_or o e >>= f) Q
 ok_found P Q o e f h h2 = grind arith
 
 -- what each step keeps, all keep
@@ -37,7 +37,7 @@ position_under p xs = search rules
 
 id_step : (dims : List Dim) (ids name : List ℕ) → AreDimids dims [] ids → IfOk (add_dimid dims ids name) (AreDimids dims [])
 unfolding add_dimid
-id_step dims ids name are = search (rules, ok_unless, some_or, ok_found, position_under, ok_when, dimids_more, none_before)
+id_step dims ids name are = search (rules, ok_unless, ok_or, ok_found, position_under, ok_when, dimids_more, none_before)
 
 -- ---- declarations
 

@@ -116,7 +116,7 @@ fn read_one<'a>(
     ensures rest { IfOk result (λ passed. Follows start.entry passed.rest) }
 {
     if start.lexeme().is_mark(b'}') {
-        return close(start);
+        return pass_closing_brace(start);
     }
     let given = read_data_statement(alloc, names, &listings.targets, start)?;
     store(&mut listings.arrays, given.position, given.array);
@@ -127,8 +127,8 @@ fn read_one<'a>(
     })
 }
 
-/// Passes over the closing brace, and returns the statements after it. Errs as [`check_statement`] does.
-fn close(start: Cutter<'_>) -> Result<DataStatement<'_>, ReadError>
+/// Passes over the closing brace, and returns the statements after it. Errs as [`check_statement`] does, which finds no fault in a brace.
+fn pass_closing_brace(start: Cutter<'_>) -> Result<DataStatement<'_>, ReadError>
     requires more { is_done start ≡ false }
     requires brace { begins_brace (words start) ≡ true }
     ensures reads { (s : State) → s.section ≡ Values → Closes start.entry s result }

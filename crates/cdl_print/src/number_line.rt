@@ -68,8 +68,8 @@ fn gather_typed(
     now
 }
 
-/// Puts a number that isn't its row's first at the end of the line, with what stands before it, and returns the last line after it.
-/// `value` has the bytes of the number.
+/// Puts a number that isn't its row's first at the end of the line in `text`, with what stands before it: 40 and 7 bytes at most. Returns
+/// the last line after it. `value` has the bytes of the number.
 #[inline(always)]
 fn gather_next(
     ty: NcType,
@@ -170,8 +170,8 @@ fn put_number(text: &mut [u8], line: LastLine, width: usize, number: i128) -> La
     }
 }
 
-/// Puts what stands before a text of `len` bytes at the end of the line, without the text. Returns where the text begins, and how
-/// many columns are left after the text.
+/// Puts what stands before a number of `len` bytes (at most 40) at the end of the line in `text`, without the number; that is 7 bytes at
+/// most. Returns where the number begins, and how many columns are left after the number.
 #[inline(always)]
 fn put_gap_in_row(text: &mut [u8], line: LastLine, width: usize, len: usize) -> LastLine
     requires short { len ≤ 40 }

@@ -1,6 +1,6 @@
 -- The table of due tokens says whether a piece has its shape, in the section of the dimensions.
 use Rattle.std.proofs.Common.{◌≡◌, Bool, true, false, List, [], ◌∷◌, refl, ap, ◌∙◌, Option, None, Some, if◌then◌else◌, is_some, arith}
-use Rattle.cdl_statements.proofs.Prelude.{option_map, option_and_then, Version, dimensions_said, only, next, completes, is_name, opens_section_after, Lexeme, is_mark, name_of, Dimension, Statement, DeclareDimensions, Close, first_bad, dimensions, global, dimensions_none, if_so, before_mark, either, alone, section_mark, body, shape, Dimensions}
+use Rattle.cdl_statements.proofs.Prelude.{option_map, option_and_then, Version, dimensions_said, only, next, completes, is_name, opens_section_after, Lexeme, is_mark, name_of, Dimension, Statement, DeclareDimensions, Close, first_bad, dimensions, global, dimensions_none, if_so, before_mark, option_or, alone, section_mark, body, shape, Dimensions}
 use Rattle.cdl_statements.specs.declared.due.Due.TheVariants as dues
 use Rattle.cdl_statements.proofs.Dimensions.{listed_dims, dims_are}
 use Rattle.cdl_statements.proofs.Listing.{never_completes, only_completes, fine_on}
@@ -15,7 +15,7 @@ abbrev pub dims_to : Version → List Lexeme → Option Statement
 dims_to v ls = option_map DeclareDimensions (listed_dims v ls)
 
 pub body_dims : (v : Version) (l : Lexeme) (ls : List Lexeme) → is_mark 0x3a l ≡ false → body_to v (l ∷ ls) ≡ dims_to v (l ∷ ls)
-body_dims v l ls h = grind (arith, if_so, dimensions, either)
+body_dims v l ls h = grind (arith, if_so, dimensions, option_or)
 
 pub body_global : (v : Version) (l : Lexeme) (ls : List Lexeme) → name_of l ≡ None → body_to v (l ∷ ls) ≡ global_to v (l ∷ ls)
 body_global v l [] h = by (is_mark 0x3b l)
@@ -41,10 +41,10 @@ unfolding shape completes next
 dims_complete v l ls good = by (is_mark 0x7d l) (is_mark 0x3a l) (opens_section_after Dimensions l) refl refl refl
   where
     after : Option Statement
-    after = either (section_mark Dimensions (l ∷ ls)) (body_to v (l ∷ ls))
+    after = option_or (section_mark Dimensions (l ∷ ls)) (body_to v (l ∷ ls))
 
     by : (b c g : Bool) → is_mark 0x7d l ≡ b → is_mark 0x3a l ≡ c → opens_section_after Dimensions l ≡ g →
-        is_some (either (alone (is_mark 0x7d) Close (l ∷ ls)) after) ≡
+        is_some (option_or (alone (is_mark 0x7d) Close (l ∷ ls)) after) ≡
         completes (if b then dues.Nothing else (if c then dues.AttributeName else (if g then dues.Colon else only (is_name l) dues.LengthEquals))) ls
     by true c g on is-c is-g =
         let none = either_none (section_mark Dimensions (l ∷ ls)) (body_to v (l ∷ ls)) (no_mark Dimensions l ls (no_section l (mark_word 0x7d l on))) ∙ body_dims v l ls (no_colon l on) ∙ no_dims v l ls good (mark_name 0x7d l on) in

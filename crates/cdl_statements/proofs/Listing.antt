@@ -1,15 +1,15 @@
 -- Lists of constants: the table of due tokens says whether one has its shape, and its values are those of its tokens.
 use Rattle.std.proofs.Common.{◌≡◌, ℕ, Bool, true, false, List, [], ◌∷◌, refl, ap, ◌∙◌, arith, Option, None, Some, if◌then◌else◌, ◌&&◌, is_none, rules}
-use Rattle.cdl_statements.proofs.Prelude.{option_and_then, Version, value_of, values, is_value_of, only, next, completes, Lexeme, is_mark, is_mark_kind, parts, number, numeral, Value, token_fault, either, first_bad, constant_of, constant, constants, constants_are, constants_by, both, if_so, before_mark, Due, CdlKind, TokenKind, and_false}
+use Rattle.cdl_statements.proofs.Prelude.{option_and_then, Version, value_of, values, is_value_of, only, next, completes, Lexeme, is_mark, is_mark_kind, parts, number, numeral, Value, token_fault, option_or, first_bad, constant_of, constant, constants, constants_are, constants_by, both, if_so, before_mark, Due, CdlKind, TokenKind, and_false}
 use Rattle.cdl_statements.specs.declared.due.Due.TheVariants as dues
 use Rattle.cdl_statements.proofs.Options.{then_same}
 
 -- ---- no bad token
 
-pub first_none : (a b : Option CdlKind) → either a b ≡ None → a ≡ None
+pub first_none : (a b : Option CdlKind) → option_or a b ≡ None → a ≡ None
 first_none a b h = grind arith
 
-pub second_none : (a b : Option CdlKind) → either a b ≡ None → b ≡ None
+pub second_none : (a b : Option CdlKind) → option_or a b ≡ None → b ≡ None
 second_none a b h = grind arith
 
 pub fine : (v : Version) (l : Lexeme) (ls : List Lexeme) → first_bad v (l ∷ ls) ≡ None → token_fault v l.kind l.bytes ≡ None

@@ -5,7 +5,8 @@ use Rattle.cdl_tokens.specs.declared.token.TokenKind.{TokenKind}
 use Rattle.nc_base.specs.declared.version.Version.{Version}
 unfoldable use Rattle.cdl_statements.specs.Lexemes.{name_of}
 use Rattle.cdl_statements.specs.Lexemes.{Lexeme, is_mark, is_mark_kind}
-use Rattle.cdl_statements.specs.Shapes.{Dimension, Enter, Statement, Value, both, constant, constant_of, dimension, each, if_so, into_first, length_of, list_of, members_in, section_number, single}
+use Rattle.std.specs.List.{onto_first}
+use Rattle.cdl_statements.specs.Shapes.{Dimension, Enter, Statement, Value, both, constant, constant_of, dimension, each, if_so, length_of, list_of, members_in, section_number, single}
 use Rattle.cdl_statements.specs.declared.section.Section.{Section}
 
 -- ---- words for what shapes are made of
@@ -51,7 +52,7 @@ no_mark : (b : ℕ) (l : Lexeme) → is_mark_kind l.kind ≡ false → is_mark b
 no_mark b l h = rw (h) refl
 
 abbrev split : Bool → Bool → Bool → Lexeme → List Lexeme → List (List Lexeme)
-split a b c l ls = elim (a && not false) [ true ↦ [] ∷ members_in false ls | false ↦ into_first l (members_in (b || false && not c) ls) ]
+split a b c l ls = elim (a && not false) [ true ↦ [] ∷ members_in false ls | false ↦ onto_first l (members_in (b || false && not c) ls) ]
 
 members_at : (a b : Bool) (l : Lexeme) (ls : List Lexeme) → is_mark 0x2c l ≡ a → is_mark 0x28 l ≡ b → members_in false (l ∷ ls) ≡ split a b (is_mark 0x29 l) l ls
 members_at a b l ls ha hb = ap (λ x. split x (is_mark 0x28 l) (is_mark 0x29 l) l ls) ha ∙ ap (λ x. split a x (is_mark 0x29 l) l ls) hb
@@ -59,15 +60,15 @@ members_at a b l ls ha hb = ap (λ x. split x (is_mark 0x28 l) (is_mark 0x29 l) 
 comma_first : (l : Lexeme) (ls : List Lexeme) → is_mark 0x2c l ≡ true → members_in false (l ∷ ls) ≡ [] ∷ members_in false ls
 comma_first l ls h = members_at true (is_mark 0x28 l) l ls h refl
 
-other_first : (l : Lexeme) (ls : List Lexeme) → is_mark 0x2c l ≡ false → members_in false (l ∷ ls) ≡ into_first l (members_in (is_mark 0x28 l || false && not (is_mark 0x29 l)) ls)
+other_first : (l : Lexeme) (ls : List Lexeme) → is_mark 0x2c l ≡ false → members_in false (l ∷ ls) ≡ onto_first l (members_in (is_mark 0x28 l || false && not (is_mark 0x29 l)) ls)
 other_first l ls h = members_at false (is_mark 0x28 l) l ls h refl
 
 -- a token that neither separates members nor opens a parenthesis
-plain : (l : Lexeme) (ls : List Lexeme) → is_mark 0x2c l ≡ false → is_mark 0x28 l ≡ false → members_in false (l ∷ ls) ≡ into_first l (members_in false ls)
+plain : (l : Lexeme) (ls : List Lexeme) → is_mark 0x2c l ≡ false → is_mark 0x28 l ≡ false → members_in false (l ∷ ls) ≡ onto_first l (members_in false ls)
 plain l ls comma opening = members_at false false l ls comma opening
 
 -- a list whose first member is none
-bad_member : {A : Type 0} (f : List Lexeme → Option A) (l : Lexeme) (ls : List Lexeme) → f [] ≡ None → ((ms : List (List Lexeme)) → each f (into_first l ms) ≡ None) → list_of f (l ∷ ls) ≡ None
+bad_member : {A : Type 0} (f : List Lexeme → Option A) (l : Lexeme) (ls : List Lexeme) → f [] ≡ None → ((ms : List (List Lexeme)) → each f (onto_first l ms) ≡ None) → list_of f (l ∷ ls) ≡ None
 bad_member f l ls none h = by (is_mark 0x2c l) refl
   where
     by : (a : Bool) → is_mark 0x2c l ≡ a → each f (members_in false (l ∷ ls)) ≡ None
@@ -76,12 +77,12 @@ bad_member f l ls none h = by (is_mark 0x2c l) refl
 
 -- ---- constants
 
-single_none : {A : Type 0} (f : Lexeme → Option A) (l : Lexeme) → f l ≡ None → (ms : List (List Lexeme)) → each (single f) (into_first l ms) ≡ None
+single_none : {A : Type 0} (f : Lexeme → Option A) (l : Lexeme) → f l ≡ None → (ms : List (List Lexeme)) → each (single f) (onto_first l ms) ≡ None
 single_none f l h [] = rw (h) refl
 single_none f l h ([] ∷ ms) = rw (h) refl
 single_none f l h ((m ∷ more) ∷ ms) = refl
 
-two_none : {A : Type 0} (f : Lexeme → Option A) (l c : Lexeme) (ms : List (List Lexeme)) → each (single f) (into_first l (into_first c ms)) ≡ None
+two_none : {A : Type 0} (f : Lexeme → Option A) (l c : Lexeme) (ms : List (List Lexeme)) → each (single f) (onto_first l (onto_first c ms)) ≡ None
 two_none f l c [] = refl
 two_none f l c (m ∷ ms) = refl
 
@@ -93,12 +94,12 @@ constant_more : (v : Version) (takes_fill : Bool) (l c : Lexeme) (ls : List Lexe
 constant_more v takes_fill l c ls h rest = ap (each (single (constant v takes_fill))) (plain l (c ∷ ls) (no_mark 0x2c l h) (no_mark 0x28 l h)) ∙ by (is_mark 0x2c c) refl
   where
     by : (a : Bool) → is_mark 0x2c c ≡ a →
-        each (single (constant v takes_fill)) (into_first l (members_in false (c ∷ ls))) ≡ if_so (is_mark 0x2c c) (both (λ x xs. x ∷ xs) (constant v takes_fill l) (constants_by v takes_fill ls))
+        each (single (constant v takes_fill)) (onto_first l (members_in false (c ∷ ls))) ≡ if_so (is_mark 0x2c c) (both (λ x xs. x ∷ xs) (constant v takes_fill l) (constants_by v takes_fill ls))
     by true is =
-        ap (λ ms. each (single (constant v takes_fill)) (into_first l ms)) (comma_first c ls is) ∙ ap (both (λ x xs. x ∷ xs) (constant v takes_fill l)) rest ∙
+        ap (λ ms. each (single (constant v takes_fill)) (onto_first l ms)) (comma_first c ls is) ∙ ap (both (λ x xs. x ∷ xs) (constant v takes_fill l)) rest ∙
         sym (ap (λ b. if_so b (both (λ x xs. x ∷ xs) (constant v takes_fill l) (constants_by v takes_fill ls))) is)
     by false is =
-        ap (λ ms. each (single (constant v takes_fill)) (into_first l ms)) (other_first c ls is) ∙ two_none (constant v takes_fill) l c (members_in (is_mark 0x28 c || false && not (is_mark 0x29 c)) ls) ∙
+        ap (λ ms. each (single (constant v takes_fill)) (onto_first l ms)) (other_first c ls is) ∙ two_none (constant v takes_fill) l c (members_in (is_mark 0x28 c || false && not (is_mark 0x29 c)) ls) ∙
         sym (ap (λ b. if_so b (both (λ x xs. x ∷ xs) (constant v takes_fill l) (constants_by v takes_fill ls))) is)
 
 constants_none : (v : Version) (takes_fill : Bool) (l : Lexeme) (ls : List Lexeme) → constant v takes_fill l ≡ None → constants_by v takes_fill (l ∷ ls) ≡ None
@@ -124,19 +125,19 @@ constants_are v takes_fill (l ∷ c ∷ ls) = by (constant v takes_fill l) refl 
 -- ---- dimensions
 
 -- a list whose first member begins with no name
-no_name : (v : Version) (n : Lexeme) → name_of n ≡ None → (ms : List (List Lexeme)) → each (dimension v) (into_first n ms) ≡ None
+no_name : (v : Version) (n : Lexeme) → name_of n ≡ None → (ms : List (List Lexeme)) → each (dimension v) (onto_first n ms) ≡ None
 no_name v n h ms = grind (arith, given_none)
 
 pub dimensions_none : (v : Version) (n : Lexeme) (ws : List Lexeme) → name_of n ≡ None → dimensions v (n ∷ ws) ≡ None
 dimensions_none v n ws h = bad_member (dimension v) n ws refl (no_name v n h)
 
-no_equals : (v : Version) (n e : Lexeme) → is_mark 0x3d e ≡ false → (ms : List (List Lexeme)) → each (dimension v) (into_first n (into_first e ms)) ≡ None
+no_equals : (v : Version) (n e : Lexeme) → is_mark 0x3d e ≡ false → (ms : List (List Lexeme)) → each (dimension v) (onto_first n (onto_first e ms)) ≡ None
 no_equals v n e h ms = grind arith
 
-no_length : (v : Version) (n e l : Lexeme) → length_of v l l.kind ≡ None → (ms : List (List Lexeme)) → each (dimension v) (into_first n (into_first e (into_first l ms))) ≡ None
+no_length : (v : Version) (n e l : Lexeme) → length_of v l l.kind ≡ None → (ms : List (List Lexeme)) → each (dimension v) (onto_first n (onto_first e (onto_first l ms))) ≡ None
 no_length v n e l h ms = grind (arith, given_none)
 
-four_none : (v : Version) (n e l c : Lexeme) (ms : List (List Lexeme)) → each (dimension v) (into_first n (into_first e (into_first l (into_first c ms)))) ≡ None
+four_none : (v : Version) (n e l c : Lexeme) (ms : List (List Lexeme)) → each (dimension v) (onto_first n (onto_first e (onto_first l (onto_first c ms)))) ≡ None
 four_none v n e l c [] = refl
 four_none v n e l c (m ∷ ms) = refl
 
@@ -180,30 +181,30 @@ not_comma l h = search rules
 not_opening : (l : Lexeme) → is_mark 0x3d l ≡ true → is_mark 0x28 l ≡ false
 not_opening l h = search rules
 
-after_name : (v : Version) (n : Lexeme) (ws : List Lexeme) → is_mark_kind n.kind ≡ false → dimensions v (n ∷ ws) ≡ each (dimension v) (into_first n (members_in false ws))
+after_name : (v : Version) (n : Lexeme) (ws : List Lexeme) → is_mark_kind n.kind ≡ false → dimensions v (n ∷ ws) ≡ each (dimension v) (onto_first n (members_in false ws))
 after_name v n ws k = ap (each (dimension v)) (plain n ws (no_mark 0x2c n k) (no_mark 0x28 n k))
 
 off_equals : (v : Version) (n e : Lexeme) (ws : List Lexeme) → is_mark_kind n.kind ≡ false → is_mark 0x3d e ≡ false → dimensions v (n ∷ e ∷ ws) ≡ None
 off_equals v n e ws k h = after_name v n (e ∷ ws) k ∙ by (is_mark 0x2c e) refl
   where
-    by : (a : Bool) → is_mark 0x2c e ≡ a → each (dimension v) (into_first n (members_in false (e ∷ ws))) ≡ None
-    by true is = ap (λ ms. each (dimension v) (into_first n ms)) (comma_first e ws is)
-    by false is = ap (λ ms. each (dimension v) (into_first n ms)) (other_first e ws is) ∙ no_equals v n e h (members_in (is_mark 0x28 e || false && not (is_mark 0x29 e)) ws)
+    by : (a : Bool) → is_mark 0x2c e ≡ a → each (dimension v) (onto_first n (members_in false (e ∷ ws))) ≡ None
+    by true is = ap (λ ms. each (dimension v) (onto_first n ms)) (comma_first e ws is)
+    by false is = ap (λ ms. each (dimension v) (onto_first n ms)) (other_first e ws is) ∙ no_equals v n e h (members_in (is_mark 0x28 e || false && not (is_mark 0x29 e)) ws)
 
 after_equals : (v : Version) (n e : Lexeme) (ws : List Lexeme) → is_mark_kind n.kind ≡ false → is_mark 0x3d e ≡ true →
-    dimensions v (n ∷ e ∷ ws) ≡ each (dimension v) (into_first n (into_first e (members_in false ws)))
-after_equals v n e ws k h = after_name v n (e ∷ ws) k ∙ ap (λ ms. each (dimension v) (into_first n ms)) (plain e ws (not_comma e h) (not_opening e h))
+    dimensions v (n ∷ e ∷ ws) ≡ each (dimension v) (onto_first n (onto_first e (members_in false ws)))
+after_equals v n e ws k h = after_name v n (e ∷ ws) k ∙ ap (λ ms. each (dimension v) (onto_first n ms)) (plain e ws (not_comma e h) (not_opening e h))
 
 off_length : (v : Version) (n e l : Lexeme) (ws : List Lexeme) → is_mark_kind n.kind ≡ false → is_mark 0x3d e ≡ true → length_of v l l.kind ≡ None → dimensions v (n ∷ e ∷ l ∷ ws) ≡ None
 off_length v n e l ws k equals h = after_equals v n e (l ∷ ws) k equals ∙ by (is_mark 0x2c l) refl
   where
-    by : (a : Bool) → is_mark 0x2c l ≡ a → each (dimension v) (into_first n (into_first e (members_in false (l ∷ ws)))) ≡ None
-    by true is = ap (λ ms. each (dimension v) (into_first n (into_first e ms))) (comma_first l ws is)
-    by false is = ap (λ ms. each (dimension v) (into_first n (into_first e ms))) (other_first l ws is) ∙ no_length v n e l h (members_in (is_mark 0x28 l || false && not (is_mark 0x29 l)) ws)
+    by : (a : Bool) → is_mark 0x2c l ≡ a → each (dimension v) (onto_first n (onto_first e (members_in false (l ∷ ws)))) ≡ None
+    by true is = ap (λ ms. each (dimension v) (onto_first n (onto_first e ms))) (comma_first l ws is)
+    by false is = ap (λ ms. each (dimension v) (onto_first n (onto_first e ms))) (other_first l ws is) ∙ no_length v n e l h (members_in (is_mark 0x28 l || false && not (is_mark 0x29 l)) ws)
 
 after_length : (v : Version) (n e l : Lexeme) (ws : List Lexeme) → is_mark_kind n.kind ≡ false → is_mark 0x3d e ≡ true → is_mark_kind l.kind ≡ false →
-    dimensions v (n ∷ e ∷ l ∷ ws) ≡ each (dimension v) (into_first n (into_first e (into_first l (members_in false ws))))
-after_length v n e l ws k equals kl = after_equals v n e (l ∷ ws) k equals ∙ ap (λ ms. each (dimension v) (into_first n (into_first e ms))) (plain l ws (no_mark 0x2c l kl) (no_mark 0x28 l kl))
+    dimensions v (n ∷ e ∷ l ∷ ws) ≡ each (dimension v) (onto_first n (onto_first e (onto_first l (members_in false ws))))
+after_length v n e l ws k equals kl = after_equals v n e (l ∷ ws) k equals ∙ ap (λ ms. each (dimension v) (onto_first n (onto_first e ms))) (plain l ws (no_mark 0x2c l kl) (no_mark 0x28 l kl))
 
 -- what is claimed of the tokens after a comma
 abbrev Rest : Version → List Lexeme → Type 0
@@ -216,12 +217,12 @@ whole v n e l [] k equals kl rest = after_length v n e l [] k equals kl
 whole v n e l (c ∷ ls) k equals kl rest = after_length v n e l (c ∷ ls) k equals kl ∙ by (is_mark 0x2c c) refl
   where
     by : (a : Bool) → is_mark 0x2c c ≡ a →
-        each (dimension v) (into_first n (into_first e (into_first l (members_in false (c ∷ ls))))) ≡ if_so (is_mark 0x2c c) (both cons (dimension_at v n e l) (dimensions_by v ls))
+        each (dimension v) (onto_first n (onto_first e (onto_first l (members_in false (c ∷ ls))))) ≡ if_so (is_mark 0x2c c) (both cons (dimension_at v n e l) (dimensions_by v ls))
     by true is =
-        ap (λ ms. each (dimension v) (into_first n (into_first e (into_first l ms)))) (comma_first c ls is) ∙ ap (both cons (dimension_at v n e l)) rest ∙
+        ap (λ ms. each (dimension v) (onto_first n (onto_first e (onto_first l ms)))) (comma_first c ls is) ∙ ap (both cons (dimension_at v n e l)) rest ∙
         sym (ap (λ b. if_so b (both cons (dimension_at v n e l) (dimensions_by v ls))) is)
     by false is =
-        ap (λ ms. each (dimension v) (into_first n (into_first e (into_first l ms)))) (other_first c ls is) ∙ four_none v n e l c (members_in (is_mark 0x28 c || false && not (is_mark 0x29 c)) ls) ∙
+        ap (λ ms. each (dimension v) (onto_first n (onto_first e (onto_first l ms)))) (other_first c ls is) ∙ four_none v n e l c (members_in (is_mark 0x28 c || false && not (is_mark 0x29 c)) ls) ∙
         sym (ap (λ b. if_so b (both cons (dimension_at v n e l) (dimensions_by v ls))) is)
 
 -- three tokens and more

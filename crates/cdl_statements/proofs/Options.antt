@@ -1,15 +1,15 @@
 -- Options: joined, kept where something holds, and mapped.
 use Rattle.std.proofs.Common.{◌≡◌, Bool, true, false, refl, ◌∙◌, Option, None, Some, if◌then◌else◌, is_some, arith}
-use Rattle.cdl_statements.proofs.Prelude.{option_map, option_and_then, both, either, if_so}
+use Rattle.cdl_statements.proofs.Prelude.{option_map, option_and_then, both, option_or, if_so}
 pub use Rattle.cdl_statements.proofs.Members.{given_none}
 
 pub some_if : {A : Type 0} (b : Bool) (a : A) → is_some (if b then Some a else None) ≡ b
 some_if b a = grind arith
 
-pub either_none : {A : Type 0} (a b : Option A) → a ≡ None → either a b ≡ b
+pub either_none : {A : Type 0} (a b : Option A) → a ≡ None → option_or a b ≡ b
 either_none a b h = grind arith
 
-pub either_only : {A : Type 0} (a b : Option A) → b ≡ None → either a b ≡ a
+pub either_only : {A : Type 0} (a b : Option A) → b ≡ None → option_or a b ≡ a
 either_only a b h = grind arith
 
 pub none_of : {A : Type 0} (o : Option A) → is_some o ≡ false → o ≡ None

@@ -150,7 +150,7 @@ begins_on look t ts Other has k = inside_on look t ts k ∙ goes_begun look t ts
 closed_more : {X : Type 0} (look : X → Lexeme) (t : X) (ts : List X) → is_end_kind (look t).kind ≡ false → Claims look ts →
     stepped look t ts (unless_end (next look ts) Closed) ≡ first_cut look true t ts
 closed_more look t ts e k =
-    closed_on look t ts (is_mark 0x7d (look t)) k ∙ rw (e) (rw (before_on look t ts e) (sym (longer look t ts (is_mark 0x7d (look t)) (len_before_end look ts))))
+    closed_on look t ts (is_mark 0x7d (look t)) k ∙ rw (e) (sym (longer look t ts (is_mark 0x7d (look t)) (len_before_end look ts)))
 
 closed_begun : {X : Type 0} (look : X → Lexeme) (t : X) (ts : List X) (r : Role) → HasRole look t r → Claims look ts → stepped look t ts (step Closed r (next look ts)) ≡ first_cut look true t ts
 closed_begun look t ts r h h2 = grind (arith, closed_more)

@@ -1,7 +1,8 @@
 -- The names that proofs of this crate cite from elsewhere, passed on from one place.
 pub use Rattle.cdl_statements.specs.Lexemes.{Lexeme, is_end_kind, is_mark, is_mark_kind, is_opening_kind, is_word, is_word_kind, lexeme}
 unfoldable pub use Rattle.cdl_statements.specs.Lexemes.{name_of}
-pub use Rattle.cdl_statements.specs.Shapes.{Attribute, Close, DeclareDimensions, Dimension, End, Listed, Enter, Number, Open, Statement, DeclareVariables, Value, Variable, assigned, attribute, before_mark, body, both, constant, constant_of, dimension, each, either, first_bad, if_so, global, into_first, length_of, list_of, members_in, section_mark, section_number, single, token_fault, typed, variable}
+pub use Rattle.std.specs.List.{onto_first}
+pub use Rattle.cdl_statements.specs.Shapes.{Attribute, Close, DeclareDimensions, Dimension, End, Listed, Enter, Number, Open, Statement, DeclareVariables, Value, Variable, assigned, attribute, before_mark, body, both, constant, constant_of, dimension, each, first_bad, if_so, global, length_of, list_of, members_in, section_mark, section_number, single, token_fault, typed, variable}
 pub use Rattle.cdl_statements.specs.Pieces.{section_of}
 pub use Rattle.cdl_statements.proofs.Members.{alone, constants, constants_are, constants_by, dimensions, dimensions_are, dimensions_by, mark_after, members, name_alone, dimensions_none}
 unfoldable pub use Rattle.cdl_statements.specs.Shapes.{shape}
@@ -31,5 +32,5 @@ pub use Rattle.cdl_tokens.specs.declared.{token.Token.Token, token.TokenKind.Tok
 unfoldable pub use Rattle.nc_base.specs.Escapes.{is_reserved}
 pub use Rattle.nc_base.specs.declared.version.Version.{Version}
 pub use Rattle.std.proofs.lemmas.Bool.{false≢true}
-pub use Rattle.std.specs.Option.{option_and_then, option_map}
+pub use Rattle.std.specs.Option.{option_and_then, option_map, option_or}
 pub use Rattle.nc_base.proofs.Tests.{and_right}

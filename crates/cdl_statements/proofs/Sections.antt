@@ -1,6 +1,6 @@
 -- The table of due tokens says whether a piece has its shape, section by section.
 use Rattle.std.proofs.Common.{◌≡◌, Bool, true, false, List, [], ◌∷◌, refl, sym, ap, ◌∙◌, None, if◌then◌else◌, is_some}
-use Rattle.cdl_statements.proofs.Prelude.{Version, only, next, completes, opens_section_after, Lexeme, is_mark, is_opening_kind, is_end_kind, Close, Open, End, first_bad, either, alone, section_mark, shape, Section, Unopened, Globals, Dimensions, Variables, Values, Ended}
+use Rattle.cdl_statements.proofs.Prelude.{Version, only, next, completes, opens_section_after, Lexeme, is_mark, is_opening_kind, is_end_kind, Close, Open, End, first_bad, option_or, alone, section_mark, shape, Section, Unopened, Globals, Dimensions, Variables, Values, Ended}
 use Rattle.cdl_statements.specs.declared.due.Due.TheVariants as dues
 use Rattle.cdl_statements.specs.declared.section.Section.TheVariants.{Closed}
 use Rattle.cdl_statements.proofs.Listing.{never_completes, fine_on}
@@ -15,16 +15,16 @@ unfolding shape completes next
 globals_complete v l ls good = by (is_mark 0x7d l) (is_mark 0x3a l) refl refl
   where
     by : (b c : Bool) → is_mark 0x7d l ≡ b → is_mark 0x3a l ≡ c →
-        is_some (either (alone (is_mark 0x7d) Close (l ∷ ls)) (either (section_mark Globals (l ∷ ls)) (global_to v (l ∷ ls)))) ≡
+        is_some (option_or (alone (is_mark 0x7d) Close (l ∷ ls)) (option_or (section_mark Globals (l ∷ ls)) (global_to v (l ∷ ls)))) ≡
         completes (if b then dues.Nothing else (if c then dues.AttributeName else only (opens_section_after Globals l) dues.Colon)) ls
     by true c on is =
         let rest = either_none (section_mark Globals (l ∷ ls)) (global_to v (l ∷ ls)) (no_mark Globals l ls (no_section l (mark_word 0x7d l on))) ∙ no_global v l ls (no_colon l on) in
-        ap is_some (either_only (alone (is_mark 0x7d) Close (l ∷ ls)) (either (section_mark Globals (l ∷ ls)) (global_to v (l ∷ ls))) rest) ∙ alone_completes (is_mark 0x7d) Close l ls ∙ ap (λ t. completes (only t dues.Nothing) ls) on
+        ap is_some (either_only (alone (is_mark 0x7d) Close (l ∷ ls)) (option_or (section_mark Globals (l ∷ ls)) (global_to v (l ∷ ls))) rest) ∙ alone_completes (is_mark 0x7d) Close l ls ∙ ap (λ t. completes (only t dues.Nothing) ls) on
     by false true off on =
-        ap is_some (either_none (alone (is_mark 0x7d) Close (l ∷ ls)) (either (section_mark Globals (l ∷ ls)) (global_to v (l ∷ ls))) (no_brace l ls off) ∙
+        ap is_some (either_none (alone (is_mark 0x7d) Close (l ∷ ls)) (option_or (section_mark Globals (l ∷ ls)) (global_to v (l ∷ ls))) (no_brace l ls off) ∙
         either_none (section_mark Globals (l ∷ ls)) (global_to v (l ∷ ls)) (no_mark Globals l ls (no_section l (mark_word 0x3a l on)))) ∙ global_completes v l ls good on
     by false false off other =
-        ap is_some (either_none (alone (is_mark 0x7d) Close (l ∷ ls)) (either (section_mark Globals (l ∷ ls)) (global_to v (l ∷ ls))) (no_brace l ls off) ∙
+        ap is_some (either_none (alone (is_mark 0x7d) Close (l ∷ ls)) (option_or (section_mark Globals (l ∷ ls)) (global_to v (l ∷ ls))) (no_brace l ls off) ∙
         either_only (section_mark Globals (l ∷ ls)) (global_to v (l ∷ ls)) (no_global v l ls other)) ∙ mark_completes Globals l ls
 
 pub data_complete : (v : Version) (l : Lexeme) (ls : List Lexeme) → first_bad v ls ≡ None → is_some (shape v Values (l ∷ ls)) ≡ completes (dues.First Values) (l ∷ ls)

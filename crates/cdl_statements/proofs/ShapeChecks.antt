@@ -2,13 +2,13 @@
 use Rattle.std.proofs.Common.{◌≡◌, ℕ, true, false, List, [], ◌∷◌, refl, ap, ◌∙◌, Bool, Option, None, if◌then◌else◌, is_none, option_map, arith}
 use Rattle.cdl_tokens.specs.code.Magnitudes.{held}
 use Rattle.cdl_tokens.specs.declared.numeral.Numeral.{Numeral as Held}
-use Rattle.cdl_statements.proofs.Prelude.{Version, Lexeme, parts, number, numeral, first_bad, either, token_fault, CdlKind}
+use Rattle.cdl_statements.proofs.Prelude.{Version, Lexeme, parts, number, numeral, first_bad, option_or, token_fault, CdlKind}
 
 pub bad_on : (version : Version) (bad : Option CdlKind) (l : Lexeme) (ls : List Lexeme) →
-    either bad (first_bad version (l ∷ ls)) ≡ either (either bad (token_fault version l.kind l.bytes)) (first_bad version ls)
+    option_or bad (first_bad version (l ∷ ls)) ≡ option_or (option_or bad (token_fault version l.kind l.bytes)) (first_bad version ls)
 bad_on version bad l ls = grind arith
 
-pub none_bad : (version : Version) (bad : Option CdlKind) → either bad (first_bad version []) ≡ bad
+pub none_bad : (version : Version) (bad : Option CdlKind) → option_or bad (first_bad version []) ≡ bad
 none_bad version bad = grind arith
 
 -- a token's words, where the piece goes on and where it ends
@@ -24,10 +24,10 @@ first_word ws rest l m ends e same = e ∙ rw (same) refl
 
 -- a good token
 pub good_on : (version : Version) (l : Lexeme) (ls : List Lexeme) → token_fault version l.kind l.bytes ≡ None → first_bad version (l ∷ ls) ≡ first_bad version ls
-good_on version l ls good = ap (λ b. either b (first_bad version ls)) good
+good_on version l ls good = ap (λ b. option_or b (first_bad version ls)) good
 
 pub good_end : (version : Version) (l : Lexeme) → token_fault version l.kind l.bytes ≡ None → first_bad version (l ∷ []) ≡ None
-good_end version l good = ap (λ b. either b None) good
+good_end version l good = ap (λ b. option_or b None) good
 
 -- a number is bad where it has no parts
 pub bad_number : (version : Version) (bytes : List ℕ) (r : Option Held) → r ≡ option_map held (parts version bytes) → is_none r ≡ is_none (numeral version bytes)

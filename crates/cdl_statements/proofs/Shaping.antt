@@ -1,6 +1,6 @@
 -- Statements: the table of due tokens says whether one has its shape, and what it says stands in its tokens.
 use Rattle.std.proofs.Common.{◌≡◌, ℕ, Bool, true, false, List, [], ◌∷◌, drop, refl, sym, ap, ◌∙◌, Option, None, Some, if◌then◌else◌, ◌&&◌, codes, arith, rules}
-use Rattle.cdl_statements.proofs.Prelude.{option_and_then, Version, values, only, next, completes, is_name, word_value, Lexeme, is_mark, is_mark_kind, is_word_kind, name_of, Value, Statement, Listed, Close, first_bad, assigned, constants, both, if_so, before_mark, either, alone, section_mark, section_of, mark_after, shape, Section, Values, TokenKind, and_false}
+use Rattle.cdl_statements.proofs.Prelude.{option_and_then, Version, values, only, next, completes, is_name, word_value, Lexeme, is_mark, is_mark_kind, is_word_kind, name_of, Value, Statement, Listed, Close, first_bad, assigned, constants, both, if_so, before_mark, option_or, alone, section_mark, section_of, mark_after, shape, Section, Values, TokenKind, and_false}
 use Rattle.cdl_statements.specs.declared.due.Due.TheVariants as dues
 use Rattle.cdl_statements.proofs.Options.{either_none, given_none}
 use Rattle.cdl_statements.proofs.Listing.{fine_on, nothing_more, only_completes, listed, listed_is, kind_of_mark}
@@ -90,7 +90,7 @@ data_other : (v : Version) (l : Lexeme) (ls : List Lexeme) → first_bad v ls �
     shape v Values (l ∷ ls) ≡ (if is_name l && completes (dues.Equals true) ls then Some (Listed (word_value l.bytes) (values v (drop 1 ls))) else None)
 unfolding shape
 data_other v l ls h off =
-    either_none (alone (is_mark 0x7d) Close (l ∷ ls)) (either (section_mark Values (l ∷ ls)) (assigned_to v true Listed (l ∷ ls))) (no_brace l ls off) ∙
+    either_none (alone (is_mark 0x7d) Close (l ∷ ls)) (option_or (section_mark Values (l ∷ ls)) (assigned_to v true Listed (l ∷ ls))) (no_brace l ls off) ∙
     either_none (section_mark Values (l ∷ ls)) (assigned_to v true Listed (l ∷ ls)) (last_mark l ls) ∙ assigned_is v true Listed l ls h
 
 pub data_is : (v : Version) (l : Lexeme) (ls : List Lexeme) → first_bad v ls ≡ None →

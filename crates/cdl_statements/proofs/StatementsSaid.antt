@@ -1,6 +1,6 @@
 -- What a whole statement says stands in its tokens, section by section.
 use Rattle.std.proofs.Common.{◌≡◌, Bool, true, false, List, [], ◌∷◌, drop, refl, sym, ap, ◌∙◌, Option, None, Some, if◌then◌else◌, ◌&&◌, is_some, arith, rules}
-use Rattle.cdl_statements.proofs.Prelude.{option_map, option_and_then, false≢true, Version, attribute_said, declaration_said, dimensions_said, mark_said, statement_said, values, variable_said, completes, opens_section_after, is_name, next, only, word_value, Lexeme, is_mark, is_word_kind, is_opening_kind, is_end_kind, Statement, Listed, Attribute, Close, DeclareDimensions, DeclareVariables, Open, End, alone, body, either, first_bad, if_so, section_mark, section_of, shape, Section, Unopened, Globals, Dimensions, Variables, Values}
+use Rattle.cdl_statements.proofs.Prelude.{option_map, option_and_then, false≢true, Version, attribute_said, declaration_said, dimensions_said, mark_said, statement_said, values, variable_said, completes, opens_section_after, is_name, next, only, word_value, Lexeme, is_mark, is_word_kind, is_opening_kind, is_end_kind, Statement, Listed, Attribute, Close, DeclareDimensions, DeclareVariables, Open, End, alone, body, option_or, first_bad, if_so, section_mark, section_of, shape, Section, Unopened, Globals, Dimensions, Variables, Values}
 use Rattle.cdl_statements.specs.Shapes as Shapes
 use Rattle.cdl_statements.specs.declared.due.Due.TheVariants as dues
 use Rattle.cdl_statements.specs.declared.section.Section.TheVariants.{Closed}
@@ -40,7 +40,7 @@ global_is v l (m ∷ ls) good on h =
 globals_said : (v : Version) (l : Lexeme) (ls : List Lexeme) → first_bad v ls ≡ None → is_some (shape v Globals (l ∷ ls)) ≡ true → shape v Globals (l ∷ ls) ≡ Some (statement_said v Globals (l ∷ ls))
 unfolding shape statement_said
 globals_said v l ls good h =
-    search (rules, either, either_none, no_mark, no_section, mark_word, no_global, no_colon, either_only, alone_is, no_brace, global_is, mark_is)
+    search (rules, option_or, either_none, no_mark, no_section, mark_word, no_global, no_colon, either_only, alone_is, no_brace, global_is, mark_is)
 
 -- ---- the section of the dimensions
 
@@ -60,22 +60,22 @@ dimensions_are v l ls good h = by (is_mark 0x7d l) (is_mark 0x3a l) (opens_secti
     body_is : Option Statement
     body_is = dimension.body_to v (l ∷ ls)
 
-    by : (b c g : Bool) → is_mark 0x7d l ≡ b → is_mark 0x3a l ≡ c → opens_section_after Dimensions l ≡ g → is_some (either lone (either mark body_is)) ≡ true →
-        either lone (either mark body_is) ≡
+    by : (b c g : Bool) → is_mark 0x7d l ≡ b → is_mark 0x3a l ≡ c → opens_section_after Dimensions l ≡ g → is_some (option_or lone (option_or mark body_is)) ≡ true →
+        option_or lone (option_or mark body_is) ≡
         Some (if b then Close else (if c then attribute_said v None ls else (if g then mark_said (section_of l) else DeclareDimensions (dimensions_said v (l ∷ ls)))))
     by true c g on is-c is-g h =
         let none = either_none mark body_is (no_mark Dimensions l ls (no_section l (mark_word 0x7d l on))) ∙ dimension.body_dims v l ls (no_colon l on) ∙ dimension.no_dims v l ls good (mark_name 0x7d l on) in
-        let first = either_only lone (either mark body_is) none in
+        let first = either_only lone (option_or mark body_is) none in
         first ∙ alone_is (is_mark 0x7d) Close (l ∷ ls) (sym (ap is_some first) ∙ h)
     by false true g off on is-g h =
-        let first = either_none lone (either mark body_is) (no_brace l ls off) ∙ either_none mark body_is (no_mark Dimensions l ls (no_section l (mark_word 0x3a l on))) ∙ dimension.body_global v l ls (nameless l (mark_name 0x3a l on)) in
+        let first = either_none lone (option_or mark body_is) (no_brace l ls off) ∙ either_none mark body_is (no_mark Dimensions l ls (no_section l (mark_word 0x3a l on))) ∙ dimension.body_global v l ls (nameless l (mark_name 0x3a l on)) in
         first ∙ global_is v l ls (fine_on v l ls good) on (sym (ap is_some first) ∙ h)
     by false false true off other on h =
-        let first = either_none lone (either mark body_is) (no_brace l ls off) ∙ either_only mark body_is (dimension.body_dims v l ls other ∙ dimension.no_dims v l ls good (section_no_name Dimensions l on)) in
+        let first = either_none lone (option_or mark body_is) (no_brace l ls off) ∙ either_only mark body_is (dimension.body_dims v l ls other ∙ dimension.no_dims v l ls good (section_no_name Dimensions l on)) in
         first ∙ mark_is Dimensions l ls (sym (ap is_some first) ∙ h)
     by false false false off other no-mark h =
         let none = none_of mark (mark_completes Dimensions l ls ∙ ap (λ t. completes (only t dues.Colon) ls) no-mark ∙ never_completes ls) in
-        let first = either_none lone (either mark body_is) (no_brace l ls off) ∙ either_none mark body_is none ∙ dimension.body_dims v l ls other in
+        let first = either_none lone (option_or mark body_is) (no_brace l ls off) ∙ either_none mark body_is none ∙ dimension.body_dims v l ls other in
         first ∙
         only_some (dimension.dims_to v (l ∷ ls)) (completes dues.DimensionName (l ∷ ls)) (DeclareDimensions (dimensions_said v (l ∷ ls)))
         (mapped_dims (listed_dims v (l ∷ ls)) (completes dues.DimensionName (l ∷ ls)) (dimensions_said v (l ∷ ls)) (dims_are v (l ∷ ls) good)) (sym (ap is_some first) ∙ h)
@@ -138,8 +138,8 @@ variables_said v l ls good h = by (is_mark 0x7d l) (is_mark 0x3a l) (is_word_kin
     lone : Option Statement
     lone = alone (is_mark 0x7d) Close (l ∷ ls)
 
-    by : (b c w : Bool) → is_mark 0x7d l ≡ b → is_mark 0x3a l ≡ c → is_word_kind l.kind ≡ w → is_some (either lone (variable.others v (l ∷ ls))) ≡ true →
-        either lone (variable.others v (l ∷ ls)) ≡ Some (if b then Close else (if c then attribute_said v None ls else variable_said v l ls))
+    by : (b c w : Bool) → is_mark 0x7d l ≡ b → is_mark 0x3a l ≡ c → is_word_kind l.kind ≡ w → is_some (option_or lone (variable.others v (l ∷ ls))) ≡ true →
+        option_or lone (variable.others v (l ∷ ls)) ≡ Some (if b then Close else (if c then attribute_said v None ls else variable_said v l ls))
     by true c w on is-c is-w h =
         let first = either_only lone (variable.others v (l ∷ ls)) (variable.others_global v l ls (mark_word 0x7d l on) ∙ no_global v l ls (no_colon l on)) in
         first ∙ alone_is (is_mark 0x7d) Close (l ∷ ls) (sym (ap is_some first) ∙ h)
@@ -151,7 +151,7 @@ variables_said v l ls good h = by (is_mark 0x7d l) (is_mark 0x3a l) (is_word_kin
         first ∙ word_is v l ls good word (sym (ap is_some first) ∙ h)
     by false false false off other no-word h =
         let first = either_none lone (variable.others v (l ∷ ls)) (no_brace l ls off) ∙ variable.others_global v l ls no-word ∙ no_global v l ls other in
-        none_is (either lone (variable.others v (l ∷ ls))) (variable_said v l ls) first h
+        none_is (option_or lone (variable.others v (l ∷ ls))) (variable_said v l ls) first h
 
 -- ---- the data section
 

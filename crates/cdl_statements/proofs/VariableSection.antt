@@ -1,6 +1,6 @@
 -- The table of due tokens says whether a piece has its shape, in the section of the variables.
 use Rattle.std.proofs.Common.{◌≡◌, ℕ, Bool, true, false, List, [], ◌∷◌, drop, refl, sym, ap, ◌∙◌, Option, None, Some, if◌then◌else◌, ◌&&◌, is_some, arith, rules}
-use Rattle.cdl_statements.proofs.Prelude.{option_map, option_and_then, Version, declaration_said, values, only, next, is_whole, completes, is_name, opens_section_after, word_value, Lexeme, is_mark, is_word_kind, name_of, Statement, Attribute, Close, DeclareVariables, Variable, first_bad, alone, assigned, attribute, before_mark, body, each, either, if_so, section_mark, shape, typed, Variables}
+use Rattle.cdl_statements.proofs.Prelude.{option_map, option_and_then, Version, declaration_said, values, only, next, is_whole, completes, is_name, opens_section_after, word_value, Lexeme, is_mark, is_word_kind, name_of, Statement, Attribute, Close, DeclareVariables, Variable, first_bad, alone, assigned, attribute, before_mark, body, each, option_or, if_so, section_mark, shape, typed, Variables}
 use Rattle.cdl_statements.specs.declared.due.Due.TheVariants as dues
 use Rattle.cdl_statements.proofs.Declarations.{listed_variables, variables_are}
 use Rattle.cdl_statements.proofs.VariableNames.{named, not_variable, one_mark}
@@ -26,22 +26,22 @@ no_typed : (l : Lexeme) (ys : List Lexeme) → is_word_kind l.kind ≡ false →
 no_typed l ys h = rw (h) refl
 
 body_global : (v : Version) (l : Lexeme) (ls : List Lexeme) → name_of l ≡ None → is_word_kind l.kind ≡ false → body_to v (l ∷ ls) ≡ global_to v (l ∷ ls)
-body_global v l ls h h2 = grind (arith, if_so, either_only, either, typed, either_none, no_attribute, no_typed)
+body_global v l ls h h2 = grind (arith, if_so, either_only, option_or, typed, either_none, no_attribute, no_typed)
 
 no_name : (l : Lexeme) → is_word_kind l.kind ≡ false → is_name l ≡ false
 no_name l h = rw (h) refl
 
 -- what follows the lone brace
 abbrev pub others : Version → List Lexeme → Option Statement
-others v ls = either (section_mark Variables ls) (body_to v ls)
+others v ls = option_or (section_mark Variables ls) (body_to v ls)
 
 pub others_global : (v : Version) (l : Lexeme) (ls : List Lexeme) → is_word_kind l.kind ≡ false → others v (l ∷ ls) ≡ global_to v (l ∷ ls)
 others_global v l ls off = either_none (section_mark Variables (l ∷ ls)) (body_to v (l ∷ ls)) (no_mark Variables l ls (no_section l off)) ∙ body_global v l ls (nameless l (no_name l off)) off
 
 -- ---- a word and a colon
 
-body_word : (v : Version) (l : Lexeme) (ys : List Lexeme) → is_word_kind l.kind ≡ true → body v Variables (l ∷ ys) ≡ either (attribute v (l ∷ ys)) (typed (l ∷ ys))
-body_word v l ys word = ap (λ b. either (if_so b (assigned v false (Attribute None) ys)) (either (attribute v (l ∷ ys)) (typed (l ∷ ys)))) (word_kind 0x3a l word)
+body_word : (v : Version) (l : Lexeme) (ys : List Lexeme) → is_word_kind l.kind ≡ true → body v Variables (l ∷ ys) ≡ option_or (attribute v (l ∷ ys)) (typed (l ∷ ys))
+body_word v l ys word = ap (λ b. option_or (if_so b (assigned v false (Attribute None) ys)) (option_or (attribute v (l ∷ ys)) (typed (l ∷ ys)))) (word_kind 0x3a l word)
 
 no_list : (l c : Lexeme) (ys : List Lexeme) → is_mark 0x3a c ≡ true → typed (l ∷ c ∷ ys) ≡ None
 no_list l c ys colon = ap (λ o. if_so (is_word_kind l.kind) (option_map (DeclareVariables l) o)) (not_variable c ys (nameless c (mark_name 0x3a c colon))) ∙ given_none (is_word_kind l.kind)
@@ -122,7 +122,7 @@ variables_complete v l ls good = by (is_mark 0x7d l) (is_mark 0x3a l) (is_word_k
     lone = alone (is_mark 0x7d) Close (l ∷ ls)
 
     by : (b c w : Bool) → is_mark 0x7d l ≡ b → is_mark 0x3a l ≡ c → is_word_kind l.kind ≡ w →
-        is_some (either lone (others v (l ∷ ls))) ≡
+        is_some (option_or lone (others v (l ∷ ls))) ≡
         completes (if b then dues.Nothing else (if c then dues.AttributeName else only w (dues.AfterWord (is_name l) (opens_section_after Variables l)))) ls
     by true c w on is-c is-w =
         ap is_some (either_only lone (others v (l ∷ ls)) (others_global v l ls (mark_word 0x7d l on) ∙ no_global v l ls (no_colon l on))) ∙

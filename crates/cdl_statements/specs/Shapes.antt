@@ -1,7 +1,8 @@
 -- Definition. The shapes of statements. NAME, LENGTH, CONST, VALUE and TYPE are tokens, and `..` means more of the same.
 use Rattle.std.specs.Prelude.{ℕ, ℤ, Bool, true, false, List, [], ◌∷◌, ◌&&◌, ◌||◌, not, if◌then◌else◌, codes, Option, None, Some, is_none, nat_lt}
 use Rattle.std.specs.Str.{byte}
-use Rattle.std.specs.Option.{option_map, option_and_then}
+use Rattle.std.specs.List.{onto_first}
+use Rattle.std.specs.Option.{option_map, option_and_then, option_or}
 use Rattle.nc_base.specs.Bytes.{Bytes}
 use Rattle.cdl_tokens.specs.Escapes.{inner, string_value}
 use Rattle.cdl_statements.specs.Lexemes.{Lexeme, is_mark, is_word, is_word_kind, is_opening_kind, is_end_kind, name_of}
@@ -47,13 +48,9 @@ token_fault v kinds.Bad bytes = Some BadToken
 token_fault v kinds.Number bytes = if is_none (numeral v bytes) then Some BadNumber else None
 token_fault v _ bytes = None
 
-abbrev pub either : {A : Type 0} → Option A → Option A → Option A
-either None b = b
-either (Some a) b = Some a
-
 abbrev pub first_bad : Version → List Lexeme → Option CdlKind
 first_bad v [] = None
-first_bad v (l ∷ ls) = either (token_fault v l.kind l.bytes) (first_bad v ls)
+first_bad v (l ∷ ls) = option_or (token_fault v l.kind l.bytes) (first_bad v ls)
 
 abbrev pub both : {A B C : Type 0} → (A → B → C) → Option A → Option B → Option C
 both f None b = None
@@ -65,18 +62,13 @@ abbrev pub each : {A B : Type 0} → (A → Option B) → List A → Option (Lis
 each f [] = Some []
 each f (x ∷ xs) = both (λ y ys. y ∷ ys) (f x) (each f xs)
 
--- l put before the first list
-abbrev pub into_first : Lexeme → List (List Lexeme) → List (List Lexeme)
-into_first l [] = (l ∷ []) ∷ []
-into_first l (m ∷ ms) = (l ∷ m) ∷ ms
-
 -- The tokens between commas; a comma in parentheses separates nothing. parens: a parenthesis is open before these tokens.
 abbrev pub members_in : Bool → List Lexeme → List (List Lexeme)
 members_in parens [] = [] ∷ []
 members_in parens (l ∷ ls) =
     elim (is_mark (byte ",") l && not parens) [
       | true ↦ [] ∷ members_in parens ls
-      | false ↦ into_first l (members_in (is_mark (byte "(") l || parens && not (is_mark (byte ")") l)) ls)
+      | false ↦ onto_first l (members_in (is_mark (byte "(") l || parens && not (is_mark (byte ")") l)) ls)
     ]
 
 -- MEMBER, .. where f reads a MEMBER
@@ -147,8 +139,8 @@ attribute v _ = None
 -- a statement without its `;`, by its section
 abbrev pub body : Version → Section → List Lexeme → Option Statement
 body v Globals ls = global v ls
-body v Dimensions ls = either (global v ls) (option_map DeclareDimensions (list_of (dimension v) ls))
-body v Variables ls = either (global v ls) (either (attribute v ls) (typed ls))
+body v Dimensions ls = option_or (global v ls) (option_map DeclareDimensions (list_of (dimension v) ls))
+body v Variables ls = option_or (global v ls) (option_or (attribute v ls) (typed ls))
 body v Values ls = assigned v true Listed ls
 body v _ ls = None
 
@@ -172,4 +164,4 @@ unfoldable pub shape : Version → Section → List Lexeme → Option Statement
 shape v Unopened ls = single (λ l. if_so (is_opening_kind l.kind) (Some Open)) ls
 shape v Closed ls = single (λ l. if_so (is_end_kind l.kind) (Some End)) ls
 shape v Ended ls = None
-shape v section ls = either (single (λ l. if_so (is_mark (byte "}") l) (Some Close)) ls) (either (section_mark section ls) (option_and_then (body v section) (before_mark (byte ";") ls)))
+shape v section ls = option_or (single (λ l. if_so (is_mark (byte "}") l) (Some Close)) ls) (option_or (section_mark section ls) (option_and_then (body v section) (before_mark (byte ";") ls)))

@@ -4,7 +4,7 @@ ghost use Rattle.std.specs.Prelude.{◌≡◌, false, true, is_none, None, Some}
 ghost use Rattle.cdl_statements.specs.code.Cutters.{Follows, is_done, version_of, words};
 ghost use Rattle.cdl_statements.specs.code.DueTokens.{completes};
 ghost use Rattle.cdl_statements.specs.code.ShapesFound.{HasShape, SaysStatement};
-ghost use Rattle.cdl_statements.specs.Shapes.{either, first_bad, token_fault};
+ghost use Rattle.cdl_statements.specs.Shapes.{first_bad, token_fault};
 
 use crate::cutter::Cutter;
 use crate::due::Due;
@@ -52,7 +52,7 @@ pub fn check_shape_from(start: Cutter<'_>, first: Due) -> ShapeCheck<'_>
     let mut due = first;
     'tokens: loop {
         let token = cutter.lexeme();
-        bad = either(bad, token_fault(version, token));
+        bad = bad.or(token_fault(version, token));
         due = due.after(token);
         let ends = cutter.advance();
         if ends {
@@ -86,11 +86,4 @@ fn number_fault(version: Version, bytes: &[u8]) -> Option<CdlKind>
     } else {
         None
     }
-}
-
-/// Returns the first of two faults, or the second one if the first is `None`.
-fn either(a: Option<CdlKind>, b: Option<CdlKind>) -> Option<CdlKind>
-    ensures { result ≡ either a b }
-{
-    a.or(b)
 }

@@ -23,20 +23,20 @@ number_escape mark base digits = record { value = if length digits == 0 then Non
 abbrev pub plain_escape : ℕ → ℕ
 plain_escape b =
     if b == byte "a" then 0x07
-    else (if b == byte "b" then 0x08
-    else (if b == byte "f" then 0x0c
-    else (if b == byte "n" then 0x0a
-    else (if b == byte "r" then 0x0d
-    else (if b == byte "t" then 0x09
-    else (if b == byte "v" then 0x0b
-    else b))))))
+    else if b == byte "b" then 0x08
+    else if b == byte "f" then 0x0c
+    else if b == byte "n" then 0x0a
+    else if b == byte "r" then 0x0d
+    else if b == byte "t" then 0x09
+    else if b == byte "v" then 0x0b
+    else b
 
 -- the escape of a backslash before these bytes; its length counts the backslash
 abbrev pub escaped_character : Bytes → Character
 escaped_character bs =
     if is_octal (slice_index bs 0) then number_escape 1 8 (take_while is_octal (take 3 bs))
-    else (if slice_index bs 0 == byte "x" then number_escape 2 16 (take_while is_hex (take 2 (drop 1 bs)))
-    else record { value = Some (plain_escape (slice_index bs 0)); len = 2 })
+    else if slice_index bs 0 == byte "x" then number_escape 2 16 (take_while is_hex (take 2 (drop 1 bs)))
+    else record { value = Some (plain_escape (slice_index bs 0)); len = 2 }
 
 unfoldable pub character : Bytes → Character
 character bs = if slice_index bs 0 == byte "\\" then escaped_character (drop 1 bs) else record { value = Some (slice_index bs 0); len = 1 }

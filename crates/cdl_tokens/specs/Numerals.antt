@@ -39,8 +39,8 @@ in_base v minus base n bs =
 abbrev pub with_sign : Version → Bool → Bytes → Option Parts
 with_sign v minus bs =
     if slice_index bs 0 == byte "0" && to_ascii_lowercase (slice_index bs 1) == byte "x" then in_base v minus 16 (prefix_len is_hex (drop 2 bs)) (drop 2 bs)
-    else (if slice_index bs 0 == byte "0" then in_base v minus 8 (prefix_len is_octal bs) bs
-    else in_base v minus 10 (prefix_len is_digit bs) bs)
+    else if slice_index bs 0 == byte "0" then in_base v minus 8 (prefix_len is_octal bs) bs
+    else in_base v minus 10 (prefix_len is_digit bs) bs
 
 unfoldable pub parts : Version → Bytes → Option Parts
 parts v bs = if is_sign (slice_index bs 0) then with_sign v (slice_index bs 0 == byte "-") (drop 1 bs) else with_sign v false bs

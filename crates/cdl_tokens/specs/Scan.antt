@@ -13,7 +13,7 @@ word_len [] = 0
 word_len (b ∷ []) = if goes_on_word b then 1 else 0
 word_len (b ∷ c ∷ rest) =
     if is_escape b c then 2 + word_len rest
-    else (if goes_on_word b then 1 + word_len (c ∷ rest) else 0)
+    else if goes_on_word b then 1 + word_len (c ∷ rest) else 0
 
 -- how many bytes come before the first `close` that no backslash escapes, or before the end
 unfoldable pub len_until : ℕ → Bytes → ℕ
@@ -21,7 +21,7 @@ len_until close [] = 0
 len_until close (b ∷ []) = if b == close then 0 else 1
 len_until close (b ∷ c ∷ rest) =
     if b == byte "\\" then 2 + len_until close rest
-    else (if b == close then 0 else 1 + len_until close (c ∷ rest))
+    else if b == close then 0 else 1 + len_until close (c ∷ rest)
 
 abbrev pub begins_a_word : Bytes → Bool
 begins_a_word bs = may_begin_word (slice_index bs 0) || is_escape (slice_index bs 0) (slice_index bs 1)
@@ -56,10 +56,10 @@ scan_text bs n = if nat_lt n (length bs) then token (if list_all is_some (unesca
 unfoldable pub scan : Bool → Bytes → Scanned
 scan at_start bs =
     if at_start && begins_opening bs then scan_opening (drop 6 bs) (len_until (byte "{") (drop 6 bs))
-    else (if begins_a_word bs then token Word (word_len bs)
-    else (if begins_number bs then token Number (1 + prefix_len goes_on_number (drop 1 bs))
-    else (if is_blank (slice_index bs 0) then gap 1
-    else (if begins_comment bs then gap (prefix_len (λ b. not (b == byte "\n")) bs)
-    else (if slice_index bs 0 == byte "\"" then scan_text (drop 1 bs) (len_until (byte "\"") (drop 1 bs))
-    else (if is_mark_byte (slice_index bs 0) then token Mark 1
-    else token Bad 1))))))
+    else if begins_a_word bs then token Word (word_len bs)
+    else if begins_number bs then token Number (1 + prefix_len goes_on_number (drop 1 bs))
+    else if is_blank (slice_index bs 0) then gap 1
+    else if begins_comment bs then gap (prefix_len (λ b. not (b == byte "\n")) bs)
+    else if slice_index bs 0 == byte "\"" then scan_text (drop 1 bs) (len_until (byte "\"") (drop 1 bs))
+    else if is_mark_byte (slice_index bs 0) then token Mark 1
+    else token Bad 1

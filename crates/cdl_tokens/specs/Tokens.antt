@@ -25,8 +25,8 @@ unfoldable pub tokens_at : Bytes → Bool → ℕ → ℕ → Bytes → List Tok
 tokens_at text at_start at more [] = token_at text at End 0 ∷ []
 tokens_at text at_start at (suc more) (b ∷ bytes) = tokens_at text at_start (at + 1) more bytes
 tokens_at text at_start at zero (b ∷ bytes) =
-    with_token text at (scan at_start (b ∷ bytes)).kind (scan at_start (b ∷ bytes)).len
-    (tokens_at text (at_start && is_none (scan at_start (b ∷ bytes)).kind) (at + 1) ((scan at_start (b ∷ bytes)).len - 1) bytes)
+    let scanned = scan at_start (b ∷ bytes) in
+    with_token text at scanned.kind scanned.len (tokens_at text (at_start && is_none scanned.kind) (at + 1) (scanned.len - 1) bytes)
 
 abbrev pub tokens : Bytes → List Token
 tokens text = tokens_at text true 0 0 text

@@ -1,5 +1,5 @@
 -- The names that proofs of this crate cite from elsewhere, passed on from one place.
-pub use Rattle.cdl_meaning.specs.State.{Draft, Listing, State, add_characters, add_constant, add_number, add_row, at_named, filled, in_turn, listed_by, row_count, same_type, type_said, unless, values_in, when, with_values}
+pub use Rattle.cdl_meaning.specs.State.{Draft, Listing, State, add_characters, add_constant, add_number, add_row, at_named, filled, in_turn, listed_by, same_type, type_said, unless, values_in, when, with_values}
 unfoldable pub use Rattle.cdl_meaning.specs.State.{act, at_variable, capacity_of, has_number, listing_of}
 pub use Rattle.cdl_statements.proofs.Listing.{fine_on, only_completes, past_mark}
 pub use Rattle.cdl_statements.proofs.NumberLists.{at_same_comma, same_after, same_words}

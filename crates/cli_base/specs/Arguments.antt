@@ -7,7 +7,7 @@ use Rattle.nc_base.specs.Bytes.{Bytes}
 use Rattle.clap.specs.Words.{App, Kinds, Row, Rule, new_rule, one_of}
 use Rattle.clap.specs.declared.builder.ArgAction.TheVariants.{Set, SetTrue}
 
--- an option of one letter that takes no value
+-- an option of one letter that takes no value (all options may be given once; `new_rule` alone is a word that may be missing)
 abbrev pub flag : Bytes → Bytes → Rule
 flag id letter = record (new_rule id) { short = slice_get letter 0; action = Some SetTrue }
 

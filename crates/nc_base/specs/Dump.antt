@@ -85,7 +85,7 @@ abbrev pub with_variable : Look → List ℤ → Option ℕ → ℕ → DataText
 with_variable look values None v others = record { text = variable_text look values ++ others.text; ending = others.ending }
 with_variable look values (Some k) v others = record { text = variable_prefix look (take k values); ending = data_truncated v k }
 
--- what is shown: values_of gives the values of the variable in each place
+-- what is shown: values_of gives the values of the variable in each place (of a file by the variable, of a dataset by the place)
 pub record ShownData : Type 0 where
   pub header : Header
   pub values_of : ℕ → Var → VariableValues

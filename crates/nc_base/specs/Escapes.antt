@@ -42,13 +42,13 @@ octal_escape b = byte "\\" ∷ (byte "0" + b / 64) ∷ (byte "0" + b / 8 % 8) �
 abbrev pub escaped_in_string : ℕ → Bytes
 escaped_in_string b =
     if b == 8 then codes "\\b"
-    else (if b == 9 then codes "\\t"
-    else (if b == byte "\n" then codes "\\n"
-    else (if b == 11 then codes "\\v"
-    else (if b == 12 then codes "\\f"
-    else (if b == 13 then codes "\\r"
-    else (if (b == byte "\"") || (b == byte "'") || (b == byte "\\") then byte "\\" ∷ b ∷ []
-    else (if is_ascii_control b then octal_escape b else b ∷ [])))))))
+    else if b == 9 then codes "\\t"
+    else if b == byte "\n" then codes "\\n"
+    else if b == 11 then codes "\\v"
+    else if b == 12 then codes "\\f"
+    else if b == 13 then codes "\\r"
+    else if (b == byte "\"") || (b == byte "'") || (b == byte "\\") then byte "\\" ∷ b ∷ []
+    else if is_ascii_control b then octal_escape b else b ∷ []
 
 unfoldable pub escaped_text : Bytes → Bytes
 escaped_text bytes = flat_map escaped_in_string bytes

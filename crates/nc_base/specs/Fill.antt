@@ -1,5 +1,5 @@
 -- Definition. Fill values, and which types print them as `_`.
-use Rattle.std.specs.Prelude.{ℤ, Bool, true, false, ◌==◌, ◌&&◌, length, find, Option, Some, None, if◌then◌else◌, codes}
+use Rattle.std.specs.Prelude.{ℤ, Bool, true, false, ◌==◌, ◌&&◌, length, find, Option, Some, None, unwrap_or, if◌then◌else◌, codes}
 use Rattle.std.specs.Str.{bytes_eq}
 use Rattle.nc_base.specs.declared.{header.Att.Att, header.Var.Var, nc_type.NcType.NcType}
 use Rattle.nc_base.specs.declared.nc_type.NcType.TheVariants.{Byte, Char, Ubyte}
@@ -22,12 +22,8 @@ fill_of_att ty (Some att) = if is_one_of_type ty att then Some (number_of ty att
 abbrev pub own_fill : Var → Option ℤ
 own_fill var = fill_of_att var.ty (find is_fill_att var.atts)
 
-abbrev pub fill_or_default : NcType → Option ℤ → ℤ
-fill_or_default ty None = default_fill_of ty
-fill_or_default ty (Some fill) = fill
-
 unfoldable pub fill_value : Var → ℤ
-fill_value var = fill_or_default var.ty (own_fill var)
+fill_value var = unwrap_or (own_fill var) (default_fill_of var.ty)
 
 -- characters never print as `_`, and numbers of one byte only if the variable has a fill value of its own
 abbrev pub prints_fill : NcType → Bool → Bool

@@ -1,5 +1,6 @@
 -- Definition. The first wrong field of a header, from the left: what is wrong with it, and the rest after it. After a field that
 -- the file's end cuts short there is no rest. `InX` says how reading stops in X: at one of its fields, which come one after the other.
+-- `XThen` says it of X and what follows it, which may depend on the value of X.
 use Rattle.std.specs.Prelude.{ℕ, zero, suc, ◌≡◌, ◌+◌, ◌*◌, ◌<◌, ◌==◌, ◌||◌, true, false, ◌⊎◌, List, [], ◌∷◌, ◌++◌, length, codes}
 use Rattle.std.specs.Int.{Width, w32, byte_len}
 use Rattle.nc_base.specs.declared.{fault.FormatFault.FormatFault, header.Att.Att, header.Dim.Dim, header.Var.Var, nc_type.NcType.NcType, version.Version.Version}
@@ -8,7 +9,7 @@ use Rattle.nc_base.specs.Bytes.{Bytes, padding_len}
 use Rattle.nc_base.specs.Types.{code_of, size_of}
 use Rattle.nc_base.specs.Versions.{version_byte, count_width, offset_width, count_limit, offset_limit, streaming_mark, has_type}
 use Rattle.nc_base.specs.Names.{IsName}
-use Rattle.nc_base.specs.Grammar.{IsDimid, ElementSpelling, dimension_tag, attribute_tag, variable_tag, SpellsNumber, SpellsCount, SpellsMagic, SpellsName, SpellsType, SpellsCounted, SpellsList, SpellsDim, SpellsAtt, SpellsAtts, SpellsDimid, SpellsVar, SpellsNumRecs, IsWithinLimits}
+use Rattle.nc_base.specs.Grammar.{IsDimid, ElementSpelling, dimension_tag, attribute_tag, variable_tag, SpellsNumber, SpellsMagic, SpellsName, SpellsType, SpellsCounted, SpellsList, SpellsDim, SpellsAtt, SpellsAtts, SpellsDimid, SpellsVar, SpellsNumRecs, IsWithinLimits}
 use Rattle.nc_base.specs.Sizes.{has_record_dim}
 
 -- ---- fields one after the other
@@ -37,37 +38,43 @@ pub data Requires (Holds : Type 0) (wrong : FormatFault) (InNext : Stops) (bytes
 
 -- ---- numbers, names and types
 
--- a number, and what follows it
-abbrev pub InNumber : Width → (ℕ → Stops) → Stops
-InNumber width InNext = Then (SpellsNumber width) (EndsWithin HeaderTruncated (byte_len width)) InNext
+-- a number
+abbrev pub NumberThen : Width → (ℕ → Stops) → Stops
+NumberThen width InNext = Then (SpellsNumber width) (EndsWithin HeaderTruncated (byte_len width)) InNext
 
 -- NON_NEG
-abbrev pub InCount : Version → Stops
-InCount v = InNumber (count_width v) (λ n. Requires (n < count_limit v) BadCount Never)
+abbrev pub CountThen : Version → (ℕ → Stops) → Stops
+CountThen v InNext = NumberThen (count_width v) (λ n. Requires (n < count_limit v) BadCount (InNext n))
 
 -- OFFSET
 abbrev pub InOffset : Version → Stops
-InOffset v = InNumber (offset_width v) (λ n. Requires (n < offset_limit v) BadOffset Never)
+InOffset v = NumberThen (offset_width v) (λ n. Requires (n < offset_limit v) BadOffset Never)
 
 -- n bytes
 pub record SpellsBytes (n : ℕ) (bytes content rest : Bytes) : Type 0 where
   pub count : length content ≡ n
   pub spelled : bytes ≡ content ++ rest
 
--- n bytes, and what follows them
-abbrev pub InBytes : ℕ → (Bytes → Stops) → Stops
-InBytes n InNext = Then (SpellsBytes n) (EndsWithin HeaderTruncated n) InNext
+abbrev pub BytesThen : ℕ → (Bytes → Stops) → Stops
+BytesThen n InNext = Then (SpellsBytes n) (EndsWithin HeaderTruncated n) InNext
 
 abbrev pub InPadding : ℕ → Stops
 InPadding n = EndsWithin HeaderTruncated (padding_len n)
 
 abbrev pub InName : Version → Stops
-InName v = Then (SpellsCount v) (InCount v) (λ n. InBytes n (λ name. Requires (IsName name) BadName (InPadding n)))
+InName v = CountThen v (λ n. BytesThen n (λ name. Requires (IsName name) BadName (InPadding n)))
 
+abbrev pub NameThen : Version → (Bytes → Stops) → Stops
+NameThen v InNext = Then (SpellsName v) (InName v) InNext
+
+-- (5 is the code of float, and 6 that of double)
 abbrev pub InType : Version → Stops
-InType v = InNumber w32 (λ code.
+InType v = NumberThen w32 (λ code.
     Requires (((code == 5) || (code == 6)) ≡ false) FloatingType (
     Requires ((ty : NcType) × (code ≡ code_of ty) × (has_type v ty ≡ true)) BadType Never))
+
+abbrev pub TypeThen : Version → (NcType → Stops) → Stops
+TypeThen v InNext = Then (SpellsType v) (InType v) InNext
 
 -- ---- lists
 
@@ -81,45 +88,39 @@ InEach Element InElement zero before = Never
 InEach Element InElement (suc n) before = Then (Element before) (InElement before) (λ x. InEach Element InElement n (before ++ x ∷ []))
 
 abbrev pub InCounted : {A : Type 0} → Version → ElementSpelling A → ElementStops A → Stops
-InCounted v Element InElement = Then (SpellsCount v) (InCount v) (λ n. InEach Element InElement n [])
+InCounted v Element InElement = CountThen v (λ n. InEach Element InElement n [])
 
 -- a list: its tag is 0 or its own, and after a tag of 0 its count is 0
 abbrev pub InList : {A : Type 0} → Version → ℕ → ElementSpelling A → ElementStops A → Stops
-InList v tag Element InElement = InNumber w32 (λ found.
+InList v tag Element InElement = NumberThen w32 (λ found.
     Requires ((found ≡ 0) ⊎ (found ≡ tag)) BadTag (
-    Then (SpellsCount v) (InCount v) (λ n.
-    Requires (found ≡ 0 → n ≡ 0) BadCount (InEach Element InElement n []))))
+    CountThen v (λ n. Requires (found ≡ 0 → n ≡ 0) BadCount (InEach Element InElement n []))))
 
 -- ---- dimensions, attributes and variables
 
 abbrev pub InDim : Version → ElementStops Dim
 InDim v before =
-    Then (SpellsName v) (InName v) (λ name.
-    Then (SpellsCount v) (InCount v) (λ len.
-    Requires (len ≡ 0 → has_record_dim before ≡ false) TwoRecordDims Never))
+    NameThen v (λ name. CountThen v (λ len. Requires (len ≡ 0 → has_record_dim before ≡ false) TwoRecordDims Never))
 
 abbrev pub InAtt : Version → ElementStops Att
 InAtt v before =
-    Then (SpellsName v) (InName v) (λ name.
-    Then (SpellsType v) (InType v) (λ ty.
-    Then (SpellsCount v) (InCount v) (λ n.
-    InBytes (n * size_of ty) (λ vals. InPadding (n * size_of ty)))))
+    NameThen v (λ name. TypeThen v (λ ty. CountThen v (λ n. BytesThen (n * size_of ty) (λ vals. InPadding (n * size_of ty)))))
 
 abbrev pub InAtts : Version → Stops
 InAtts v = InList v attribute_tag (SpellsAtt v) (InAtt v)
 
 abbrev pub InDimid : Version → List Dim → ElementStops ℕ
-InDimid v dims before = InNumber (count_width v) (λ id. Requires (IsDimid dims before id) BadShape Never)
+InDimid v dims before = NumberThen (count_width v) (λ id. Requires (IsDimid dims before id) BadShape Never)
 
 -- If a variable is too large, its type is the wrong field. Its begin, which comes later, doesn't matter.
 abbrev pub InVar : Version → List Dim → ElementStops Var
 InVar v dims before =
-    Then (SpellsName v) (InName v) (λ name.
+    NameThen v (λ name.
     Then (SpellsCounted v (SpellsDimid v dims)) (InCounted v (SpellsDimid v dims) (InDimid v dims)) (λ dimids.
     Then (SpellsAtts v) (InAtts v) (λ atts.
-    Then (SpellsType v) (InType v) (λ ty.
+    TypeThen v (λ ty.
     Requires (IsWithinLimits dims before (record { name = name; dimids = dimids; atts = atts; ty = ty; begin_at = 0 })) TooLarge (
-    InNumber (count_width v) (λ vsize. InOffset v))))))
+    NumberThen (count_width v) (λ vsize. InOffset v))))))
 
 -- ---- the whole
 
@@ -133,7 +134,7 @@ InMagic =
 
 -- NON_NEG or STREAMING
 abbrev pub InNumRecs : Version → Stops
-InNumRecs v = InNumber (count_width v) (λ n. Requires ((n < count_limit v) ⊎ (n ≡ streaming_mark v)) BadCount Never)
+InNumRecs v = NumberThen (count_width v) (λ n. Requires ((n < count_limit v) ⊎ (n ≡ streaming_mark v)) BadCount Never)
 
 -- the first wrong field of a header has this fault, and this rest after it
 unfoldable pub StopsWith : Stops

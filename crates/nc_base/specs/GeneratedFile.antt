@@ -116,7 +116,8 @@ data_of h arrays =
 abbrev pub fixed_vars : List Dim → List Var → List Var
 fixed_vars dims vars = filter (λ (var : Var). not (is_record_var dims var)) vars
 
--- the length of the header, which no begin changes, and the padded slabs before the variable; those of record variables come last
+-- the header's length, which no begin changes, and the padded slabs before this one: of the variables before it that aren't record
+-- variables; before that of a record variable, of all such variables, and of the record variables before it
 abbrev pub begin_after : Header → List Var → Var → ℕ
 begin_after h before var =
     length (header_spelling h)

@@ -1,9 +1,10 @@
 -- Definition. The text of a header in CDL, up to `data:`. Each line ends with a line feed. The line of a dimension or a
 -- declaration begins with a tab, and that of an attribute with two.
-use Rattle.std.specs.Prelude.{ℕ, ◌-◌, ◌==◌, ℤ, if◌then◌else◌, List, [], ◌∷◌, ◌++◌, length, map, take, codes, decimal, slice_get, Option, Some, None}
+use Rattle.std.specs.Prelude.{ℕ, ◌-◌, ◌==◌, ℤ, if◌then◌else◌, List, [], ◌∷◌, ◌++◌, length, map, take, codes, decimal, slice_get}
 use Rattle.std.specs.Str.{byte}
 use Rattle.std.specs.Fmt.{signed_decimal}
 use Rattle.std.specs.List.{suffix_len}
+use Rattle.std.specs.Option.{option_map_or}
 use Rattle.nc_base.specs.declared.{header.Att.Att, header.Dim.Dim, header.Var.Var, header.Header.Header, nc_type.NcType.NcType, nc_type.NcType.TheVariants.Char}
 use Rattle.nc_base.specs.Bytes.{Bytes, concat_parts}
 use Rattle.nc_base.specs.Numbers.{numbers}
@@ -85,12 +86,8 @@ dim_lines records dims = concat_parts (map (dim_line records) dims)
 unfoldable pub dims_text : ℕ → List Dim → Bytes
 dims_text records dims = if length dims == 0 then [] else concat_parts (dimensions_word ∷ dim_lines records dims ∷ [])
 
-abbrev pub name_or_none : Option Dim → Bytes
-name_or_none None = []
-name_or_none (Some dim) = escaped_name dim.name
-
 abbrev pub dim_name : List Dim → ℕ → Bytes
-dim_name dims id = name_or_none (slice_get dims id)
+dim_name dims id = option_map_or (λ (dim : Dim). escaped_name dim.name) (slice_get dims id) []
 
 -- nothing at rank 0
 unfoldable pub shape_text : List Dim → List ℕ → Bytes

@@ -1,6 +1,6 @@
 -- The other direction: bytes, numbers, names and types that are spelled are read, and reading stops with the first wrong field.
 use Rattle.std.proofs.Common.{◌≡◌, ◌≢◌, ℕ, zero, suc, ◌<◌, ◌≤◌, Bool, true, false, cond, leb, List, [], ◌∷◌, ◌++◌, length, Option, Some, None, Ok, Err, refl, sym, ap, ◌∙◌, append_assoc, arith, ◌==◌, ◌||◌, rules}
-use Rattle.nc_file.proofs.Prelude.{append-nil, Width, w32, byte_len, to_be_bytes, FormatFault, HeaderTruncated, BadType, NcType, Version, padding_len, code_of, type_of_code, count_width, offset_width, has_type, SpellsBytes, SpellsNumber, SpellsCount, SpellsOffset, SpellsName, SpellsType, EndsWithin, ends_within, Stops, Never, Then, in_part, in_next, Requires, breaks, keeps, InCount, InOffset, InName, InType, HeadFault, Format, Outcome, Part, next, done, stop, wrong, byte_or, number_at, count_at, offset_at, bytes_at, skip_at, name_at, type_at, known_type, type_in, type_or_wrong}
+use Rattle.nc_file.proofs.Prelude.{append-nil, Width, w32, byte_len, to_be_bytes, FormatFault, HeaderTruncated, BadType, NcType, Version, padding_len, code_of, type_of_code, count_width, offset_width, has_type, SpellsBytes, SpellsNumber, SpellsCount, SpellsOffset, SpellsName, SpellsType, EndsWithin, ends_within, Stops, Never, Then, in_part, in_next, Requires, breaks, keeps, CountThen, InOffset, InName, InType, HeadFault, Format, Outcome, Part, next, done, stop, wrong, byte_or, number_at, count_at, offset_at, bytes_at, skip_at, name_at, type_at, known_type, type_in, type_or_wrong}
 use Rattle.nc_file.specs.code.Reading.{◌>>=◌}
 use Rattle.nc_base.specs.Names.{is_name}
 use Rattle.nc_file.proofs.FieldLaws.{IsWide, wide-32, count-wide, offset-wide, code-known, type_of_code-code_of}
@@ -135,10 +135,19 @@ unfolding count_at ◌>>=◌ done
 count-again v bytes n rest s =
     then-ok _ (number-again (count_width v) (count-wide v) bytes n rest s.number) (if-not _ _ (below-test _ _ s.non_negative) refl)
 
-pub count-stop : (v : Version) → StopsAgain (InCount v) (count_at v)
+count-stop : (v : Version) → StopsAgain (CountThen v (λ n. Never)) (count_at v)
 unfolding count_at
 count-stop v =
     then-stops _ _ (number-again (count_width v) (count-wide v)) (number-stop (count_width v)) (λ n. rule-stops _ _ (reached-test _ _) (below-test _ _) (never-stops (done n)))
+
+then-of-count : {InNext : ℕ → Stops} (v : Version) (bytes : List ℕ) (fault : FormatFault) (rest : List ℕ)
+    → CountThen v InNext bytes fault rest → Then (SpellsCount v) (CountThen v (λ n. Never)) InNext bytes fault rest
+then-of-count v bytes fault rest (in_part cut) = in_part (in_part cut)
+then-of-count v bytes _ _ (in_next n middle number (breaks high)) = in_part (in_next n middle number (breaks high))
+then-of-count v bytes _ _ (in_next n middle number (keeps fault rest low more)) = in_next n middle (record { number = number; non_negative = low }) more
+
+pub counted-stops : {A : Type 0} {InNext : ℕ → Stops} (v : Version) (f : ℕ → Part A) → ((n : ℕ) → StopsAgain (InNext n) (f n)) → StopsAgain (CountThen v InNext) (count_at v >>= f)
+counted-stops v f after bytes fault rest s = then-stops (count_at v) f (count-again v) (count-stop v) after bytes fault rest (then-of-count v bytes fault rest s)
 
 pub offset-again : (v : Version) → ReadAgain (SpellsOffset v) (offset_at v)
 unfolding offset_at ◌>>=◌ done
@@ -159,7 +168,7 @@ name-again v bytes name rest s = search (rules, then-ok, count-again, bytes-agai
 pub name-stop : (v : Version) → StopsAgain (InName v) (name_at v)
 unfolding name_at
 name-stop v =
-    then-stops _ _ (count-again v) (count-stop v) (λ n.
+    counted-stops v _ (λ n.
     then-stops _ _ (bytes-again n) (bytes-stop n) (λ name.
     kept-stops (is_name name) _ (not-so _) (λ valid. valid) (value-stop _ _ (skip-stop (padding_len n)))))
 

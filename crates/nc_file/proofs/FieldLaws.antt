@@ -1,6 +1,6 @@
 -- Bytes, numbers, names and types are read as the grammar says.
 use Rattle.std.proofs.Common.{◌≡◌, ◌≢◌, ℕ, zero, suc, ◌<◌, Bool, true, false, cond, leb, List, [], ◌∷◌, ◌++◌, length, Option, Some, None, refl, sym, ap, subst, ◌∙◌, append_assoc, arith, take, ◌^◌, ◌==◌, ◌||◌, find, ◌⊎◌, if◌then◌else◌, rules}
-use Rattle.nc_file.proofs.Prelude.{leb-false, leb-true, eqb-true, eqb-false, append-nil, get_or-take, get_or_past, length-take, Width, w32, w64, byte_len, to_be_bytes, from_be_bytes, AllByRecursion, FormatFault, HeaderTruncated, BadType, NcType, Version, AreBytes, padding_len, code_of, type_of_code, all_types, count_width, count_limit, offset_width, offset_limit, has_type, SpellsBytes, SpellsNumber, SpellsCount, SpellsOffset, SpellsPadded, SpellsName, SpellsType, EndsWithin, ends_within, Requires, breaks, Never, InCount, InOffset, InName, InType, done, stop, byte_or, number_at, count_at, offset_at, bytes_at, skip_at, name_at, type_at, known_type, type_in, type_or_wrong}
+use Rattle.nc_file.proofs.Prelude.{leb-false, leb-true, eqb-true, eqb-false, append-nil, get_or-take, get_or_past, length-take, Width, w32, w64, byte_len, to_be_bytes, from_be_bytes, AllByRecursion, FormatFault, HeaderTruncated, BadType, NcType, Version, AreBytes, padding_len, code_of, type_of_code, all_types, count_width, count_limit, offset_width, offset_limit, has_type, SpellsBytes, SpellsNumber, SpellsCount, SpellsOffset, SpellsPadded, SpellsName, SpellsType, EndsWithin, ends_within, Stops, Then, in_part, in_next, Requires, breaks, keeps, Never, CountThen, InOffset, InName, InType, done, stop, byte_or, Part, number_at, count_at, offset_at, bytes_at, skip_at, name_at, type_at, known_type, type_in, type_or_wrong}
 use Rattle.std.proofs.Math.Seq.{take-append_seam}
 use Rattle.std.proofs.lemmas.Nat.{be_bytes_4, be_bytes_8, from_be_bytes-to_be_bytes_4, from_be_bytes-to_be_bytes_8}
 use Rattle.nc_base.specs.Names.{is_name, IsName}
@@ -86,12 +86,26 @@ means-number w wide bytes fits =
 reaches : (limit n : ℕ) → leb limit n ≡ true → ¬ (n < limit)
 reaches limit n test low = let high = leb-true _ _ test in absurd (omega (arith, high, low))
 
-pub means-count : (v : Version) → ReadsAs (SpellsCount v) (InCount v) (count_at v)
+means-count : (v : Version) → ReadsAs (SpellsCount v) (CountThen v (λ n. Never)) (count_at v)
 unfolding count_at ◌>>=◌ done
 means-count v bytes fits =
     means-then _ (means-number (count_width v) (count-wide v) bytes fits)
     (λ n rest number more. means-rule _ _ rest (reaches (count_limit v) n) (leb-false _ _)
     (λ low. spells n rest (record { number = number; non_negative = low }) more))
+
+count-of-then : {InNext : ℕ → Stops} (v : Version) (bytes : List ℕ) (fault : FormatFault) (rest : List ℕ)
+    → Then (SpellsCount v) (CountThen v (λ n. Never)) InNext bytes fault rest → CountThen v InNext bytes fault rest
+count-of-then v bytes _ _ (in_part (in_part cut)) = in_part cut
+count-of-then v bytes _ _ (in_part (in_next n middle number (breaks high))) = in_next n middle number (breaks high)
+count-of-then v bytes fault rest (in_part (in_next n middle number (keeps _ _ low never))) = absurd never
+count-of-then v bytes fault rest (in_next n middle count more) = in_next n middle count.number (keeps fault rest count.non_negative more)
+
+-- a NON_NEG and what follows it
+pub means-counted : {A : Type 0} {InNext : ℕ → Stops} {P : A → List ℕ → Type 0} (v : Version) (f : ℕ → Part A) (bytes : List ℕ) → AreBytes bytes
+    → ((n : ℕ) (rest : List ℕ) → SpellsCount v bytes n rest → AreBytes rest → Means P (InNext n) rest ((f n).run rest))
+    → Means P (CountThen v InNext) bytes ((count_at v >>= f).run bytes)
+unfolding ◌>>=◌
+means-counted v f bytes fits go = means-map (means-then f (means-count v bytes fits) go) (λ x rest p. p) (count-of-then v bytes)
 
 pub means-offset : (v : Version) → ReadsAs (SpellsOffset v) (InOffset v) (offset_at v)
 unfolding offset_at ◌>>=◌ done
@@ -118,7 +132,7 @@ not-false b e h = grind arith
 pub means-name : (v : Version) → ReadsAs (SpellsName v) (InName v) (name_at v)
 unfolding name_at ◌>>=◌ done
 means-name v bytes fits =
-    means-then _ (means-count v bytes fits)
+    means-counted v _ bytes fits
     (λ n body count more. means-then _ (means-bytes n body more)
     (λ name following taken more2. means-kept (is_name name) _ following (not-true _) (λ valid. valid)
     (λ valid. means-value _ (means-skip (padding_len n) following more2)

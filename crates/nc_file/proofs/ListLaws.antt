@@ -1,9 +1,9 @@
 -- Lists, dimensions and attributes are read as the grammar says.
 use Rattle.std.proofs.Common.{◌≡◌, ℕ, zero, suc, ◌*◌, Bool, true, false, cond, List, [], ◌∷◌, ◌++◌, length, inl, inr, Ok, Err, refl, sym, subst, ◌∙◌, append_assoc, arith, ◌==◌, ◌&&◌, not, ◌⊎◌, rules}
-use Rattle.nc_file.proofs.Prelude.{eqb-true, eq-eqb, append-nil, w32, FormatFault, BadTag, BadCount, Dim, Version, AreBytes, padding_len, size_of, has_record_dim, ElementSpelling, dimension_tag, attribute_tag, SpellsNumber, SpellsCount, SpellsPadded, SpellsEach, SpellsCounted, SpellsList, absent, present, SpellsDim, SpellsAtt, SpellsAtts, ElementStops, InBytes, InPadding, InEach, InList, InDim, InAtt, InAtts, Outcome, Part, next, done, stop, wrong, number_at, count_at, list_len_at, list_at, padded_at, each_at, dim_at, dim_after, dim_list_at, att_at, att_after, att_list_at}
+use Rattle.nc_file.proofs.Prelude.{eqb-true, eq-eqb, append-nil, w32, FormatFault, BadTag, BadCount, Dim, Version, AreBytes, padding_len, size_of, has_record_dim, ElementSpelling, dimension_tag, attribute_tag, SpellsNumber, SpellsCount, SpellsPadded, SpellsEach, SpellsCounted, SpellsList, absent, present, SpellsDim, SpellsAtt, SpellsAtts, ElementStops, BytesThen, InPadding, InEach, InList, InDim, InAtt, InAtts, Outcome, Part, next, done, stop, wrong, number_at, count_at, list_len_at, list_at, padded_at, each_at, dim_at, dim_after, dim_list_at, att_at, att_after, att_list_at}
 use Rattle.nc_file.specs.code.Reading.{◌>>=◌}
 use Rattle.nc_file.proofs.Means.{Means, spells, ReadsAs, means-map, means-value, means-then, means-rule}
-use Rattle.nc_file.proofs.FieldLaws.{wide-32, padded-at, means-number, means-count, means-bytes, means-skip, means-name, means-type}
+use Rattle.nc_file.proofs.FieldLaws.{wide-32, padded-at, means-number, means-counted, means-bytes, means-skip, means-name, means-type}
 
 -- ---- elements
 
@@ -122,7 +122,7 @@ means-list {A = A} v tag Element InElement element reads bytes fits =
     subst (Means (SpellsList v tag Element bytes) (InList v tag Element InElement) bytes) (sym (list-is v tag element bytes))
     (means-then _ (means-number w32 wide-32 bytes fits)
     (λ found after_tag number more. means-rule _ _ after_tag (other-tag tag found _ _ refl refl) (is-tag tag found _ _ refl refl)
-    (λ is. means-then _ (means-count v after_tag more)
+    (λ is. means-counted v _ after_tag more
     (λ n body count more2. means-rule _ _ body (is-present found n _ _ refl refl) (is-absent found n _ _ refl refl)
     (λ none. means-map (means-each Element InElement element reads n [] body more2)
     (λ all rest. spells-list v tag found Element n bytes after_tag body all rest number is count none) (λ fault rest s. s))))))
@@ -140,7 +140,7 @@ dim-read : (v : Version) → ReadsElement (SpellsDim v) (InDim v) (dim_after v)
 unfolding dim_at ◌>>=◌ done
 dim-read v before bytes fits =
     means-then _ (means-name v bytes fits)
-    (λ name after_name named more. means-then _ (means-count v after_name more)
+    (λ name after_name named more. means-counted v _ after_name more
     (λ len rest counted more2. means-rule (has_record_dim before && (len == 0)) _ rest (is-second before len) (is-single before len)
     (λ single. spells (record { name = name; len = len }) rest
     (record { after_name = after_name; name = named; len = counted; one_record_dim = single }) more2)))
@@ -155,7 +155,7 @@ pub record PaddedBytes (n : ℕ) (bytes content rest : List ℕ) : Type 0 where
   pub count : length content ≡ n
   pub padded : SpellsPadded bytes content rest
 
-pub means-padded : (n : ℕ) → ReadsAs (PaddedBytes n) (InBytes n (λ content. InPadding n)) (padded_at n)
+pub means-padded : (n : ℕ) → ReadsAs (PaddedBytes n) (BytesThen n (λ content. InPadding n)) (padded_at n)
 unfolding padded_at ◌>>=◌ done
 means-padded n bytes fits =
     means-then _ (means-bytes n bytes fits)
@@ -167,7 +167,7 @@ unfolding att_at ◌>>=◌ done
 att-read v before bytes fits =
     means-then _ (means-name v bytes fits)
     (λ name after_name named more. means-then _ (means-type v after_name more)
-    (λ ty after_type typed more2. means-then _ (means-count v after_type more2)
+    (λ ty after_type typed more2. means-counted v _ after_type more2
     (λ n body counted more3. means-value _ (means-padded (n * size_of ty) body more3)
     (λ vals rest p more4. spells (record { name = name; ty = ty; vals = vals }) rest
     (record {

@@ -1,10 +1,10 @@
 -- The other direction: lists, dimensions and attributes that are spelled are read, and reading stops with their first wrong field.
 use Rattle.std.proofs.Common.{◌≡◌, ℕ, zero, suc, ◌*◌, Bool, true, false, List, [], ◌∷◌, ◌++◌, length, inl, inr, Ok, refl, sym, ap, ◌∙◌, append_assoc, ◌==◌, ◌&&◌, not, ◌⊎◌, arith, rules}
-use Rattle.nc_file.proofs.Prelude.{eqb-true, eq-eqb, append-nil, w32, Version, padding_len, size_of, has_record_dim, ElementSpelling, dimension_tag, attribute_tag, SpellsPadded, SpellsEach, SpellsList, absent, present, SpellsDim, SpellsAtt, SpellsAtts, ElementStops, InBytes, InPadding, InEach, InList, InDim, InAtt, InAtts, Part, done, stop, list_at, padded_at, each_at, dim_at, dim_after, dim_list_at, att_at, att_after, att_list_at}
+use Rattle.nc_file.proofs.Prelude.{eqb-true, eq-eqb, append-nil, w32, Version, padding_len, size_of, has_record_dim, ElementSpelling, dimension_tag, attribute_tag, SpellsPadded, SpellsEach, SpellsList, absent, present, SpellsDim, SpellsAtt, SpellsAtts, ElementStops, BytesThen, InPadding, InEach, InList, InDim, InAtt, InAtts, Part, done, stop, list_at, padded_at, each_at, dim_at, dim_after, dim_list_at, att_at, att_after, att_list_at}
 use Rattle.nc_file.specs.code.Reading.{◌>>=◌}
 use Rattle.nc_file.proofs.FieldLaws.{wide-32}
 use Rattle.nc_file.proofs.ListLaws.{whole_list_at, list-is, is-absent, is-single}
-use Rattle.nc_file.proofs.Again.{then-ok, if-not, other-test, not-false, ReadAgain, StopsAgain, then-stops, rule-stops, never-stops, number-again, number-stop, count-again, count-stop, bytes-again, bytes-stop, skip-again, skip-stop, value-stop, name-again, name-stop, type-again, type-stop}
+use Rattle.nc_file.proofs.Again.{then-ok, if-not, other-test, not-false, ReadAgain, StopsAgain, then-stops, rule-stops, never-stops, number-again, number-stop, count-again, counted-stops, bytes-again, bytes-stop, skip-again, skip-stop, value-stop, name-again, name-stop, type-again, type-stop}
 
 -- ---- elements
 
@@ -77,7 +77,7 @@ list-stop {A = A} v tag Element InElement element again stop bytes fault rest s 
     in_order =
         then-stops _ _ (number-again w32 wide-32) (number-stop w32) (λ found.
         rule-stops _ _ (wrong-tag tag found) (right-tag tag found) (
-        then-stops _ _ (count-again v) (count-stop v) (λ n.
+        counted-stops v _ (λ n.
         rule-stops _ _ (wrong-count found n) (right-count found n) (each-stop Element InElement element again stop n []))))
 
 -- ---- dimensions
@@ -97,7 +97,7 @@ pub dim-stop : (v : Version) → ElementStopsAgain (InDim v) (dim_after v)
 unfolding dim_at
 dim-stop v before =
     then-stops _ _ (name-again v) (name-stop v) (λ name.
-    then-stops _ _ (count-again v) (count-stop v) (λ len.
+    counted-stops v _ (λ len.
     rule-stops (has_record_dim before && (len == 0)) _ (λ second. not-false _ (λ e. second (is-single before len e)))
     (λ single. single-test (has_record_dim before) (len == 0) (λ none. single (eqb-true _ _ none))) (never-stops (done (record { name = name; len = len })))))
 
@@ -113,7 +113,7 @@ pub padded-again : (n : ℕ) (bytes content rest : List ℕ) → length content 
 unfolding padded_at ◌>>=◌ done
 padded-again n bytes content rest count s = search (rules, then-ok, bytes-again, skip-again)
 
-pub padded-stop : (n : ℕ) → StopsAgain (InBytes n (λ content. InPadding n)) (padded_at n)
+pub padded-stop : (n : ℕ) → StopsAgain (BytesThen n (λ content. InPadding n)) (padded_at n)
 unfolding padded_at
 padded-stop n = then-stops _ _ (bytes-again n) (bytes-stop n) (λ content. value-stop _ _ (skip-stop (padding_len n)))
 
@@ -130,7 +130,7 @@ unfolding att_at
 att-stop v before =
     then-stops _ _ (name-again v) (name-stop v) (λ name.
     then-stops _ _ (type-again v) (type-stop v) (λ ty.
-    then-stops _ _ (count-again v) (count-stop v) (λ n. value-stop _ _ (padded-stop (n * size_of ty)))))
+    counted-stops v _ (λ n. value-stop _ _ (padded-stop (n * size_of ty)))))
 
 pub atts-again : (v : Version) → ReadAgain (SpellsAtts v) (att_list_at v)
 atts-again v = list-again v attribute_tag (SpellsAtt v) (att_after v) refl (att-again v)

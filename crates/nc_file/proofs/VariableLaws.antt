@@ -4,7 +4,7 @@ use Rattle.nc_file.proofs.Prelude.{eqb-true, leb-true, leb-false, ltb-true, TooL
 use Rattle.nc_file.specs.code.Reading.{◌>>=◌}
 use Rattle.nc_file.proofs.Totals.{total_of, total_of-append}
 use Rattle.nc_file.proofs.Means.{Means, spells, stops, ReadsAs, means-map, means-value, means-then, means-kept}
-use Rattle.nc_file.proofs.FieldLaws.{count-wide, means-number, means-count, means-offset, means-name, means-type}
+use Rattle.nc_file.proofs.FieldLaws.{count-wide, means-number, means-counted, means-offset, means-name, means-type}
 use Rattle.nc_file.proofs.ListLaws.{ReadsElement, means-each, counted, means-list, means-atts}
 
 -- ---- dimension ids
@@ -39,7 +39,7 @@ dimid-read v dims before bytes fits =
 means-shape : (v : Version) (dims : List Dim) → ReadsAs (SpellsCounted v (SpellsDimid v dims)) (InCounted v (SpellsDimid v dims) (InDimid v dims)) (shape_at v dims)
 unfolding shape_at ◌>>=◌
 means-shape v dims bytes fits =
-    means-then _ (means-count v bytes fits)
+    means-counted v _ bytes fits
     (λ n body count more. means-map (means-each (SpellsDimid v dims) (InDimid v dims) (dimid_after v dims) (dimid-read v dims) n [] body more)
     (λ all rest. counted v (SpellsDimid v dims) n bytes body all rest count) (λ fault rest s. s))
 

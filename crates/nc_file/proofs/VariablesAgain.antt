@@ -5,7 +5,7 @@ use Rattle.nc_file.specs.code.Reading.{◌>>=◌}
 use Rattle.nc_file.proofs.FieldLaws.{count-wide}
 use Rattle.nc_file.proofs.Totals.{total_of}
 use Rattle.nc_file.proofs.VariableLaws.{is_first, is-dimid, known-and-first, Fits, within, fits-within}
-use Rattle.nc_file.proofs.Again.{then-ok, then-err, if-so, above-test, not-so, ReadAgain, StopsAgain, then-stops, value-stop, kept-stops, never-stops, number-again, number-stop, count-again, count-stop, offset-again, offset-stop, name-again, name-stop, type-again, type-stop}
+use Rattle.nc_file.proofs.Again.{then-ok, then-err, if-so, above-test, not-so, ReadAgain, StopsAgain, then-stops, value-stop, kept-stops, never-stops, number-again, number-stop, count-again, counted-stops, offset-again, offset-stop, name-again, name-stop, type-again, type-stop}
 use Rattle.nc_file.proofs.ListsAgain.{ElementAgain, ElementStopsAgain, each-again, each-stop, list-again, list-stop, atts-again, atts-stop}
 
 -- ---- dimension ids
@@ -32,7 +32,7 @@ shape-again v dims bytes ids rest s = search (rules, then-ok, count-again, each-
 pub shape-stop : (v : Version) (dims : List Dim) → StopsAgain (InCounted v (SpellsDimid v dims) (InDimid v dims)) (shape_at v dims)
 unfolding shape_at
 shape-stop v dims =
-    then-stops _ _ (count-again v) (count-stop v) (λ n. each-stop (SpellsDimid v dims) (InDimid v dims) (dimid_after v dims) (dimid-again v dims) (dimid-stop v dims) n [])
+    counted-stops v _ (λ n. each-stop (SpellsDimid v dims) (InDimid v dims) (dimid_after v dims) (dimid-again v dims) (dimid-stop v dims) n [])
 
 -- ---- limits
 

@@ -92,7 +92,7 @@ pub data IsUnread {A : Type 0} (o : Options) (call : Call) (result : Result A Du
   in_header : IsInHeader call → call.sink.after ≡ call.sink.before → IsUnread o call result
   after_header : IsAfterHeader o call result → IsUnread o call result
 
--- after the header, only values that are shown were read
+-- after the header, only values that are shown were read; with a fault of the header, an unknown name or out of memory, none were
 abbrev pub ReadsForward : {A : Type 0} → Options → Call → Result A DumpFault → Type 0
 ReadsForward o call (Ok done) = IsAfterHeader o call (Ok done)
 ReadsForward o call (Err (DataTruncated v k)) = IsAfterHeader {A = Unit {0}} o call (Err (DataTruncated v k))

@@ -44,8 +44,8 @@ fault_text (DataTruncated var value) = concat_parts (codes "variable " ∷ decim
 unfoldable pub program_words : Bytes
 program_words = codes "ncdump: "
 
-unfoldable pub line_of : Bytes → DumpFault → Bytes
-line_of file fault = concat_parts (program_words ∷ file ∷ codes ": " ∷ fault_text fault ∷ codes "\n" ∷ [])
+unfoldable pub dump_fault_line : Bytes → DumpFault → Bytes
+dump_fault_line file fault = concat_parts (program_words ∷ file ∷ codes ": " ∷ fault_text fault ∷ codes "\n" ∷ [])
 
 unfoldable pub cannot_open_words : Bytes
 cannot_open_words = codes ": cannot open\n"
@@ -55,7 +55,7 @@ cannot_open_line path = concat_parts (program_words ∷ path ∷ cannot_open_wor
 
 unfoldable pub file_line : Bytes → FileFault → Bytes
 file_line path CannotOpen = cannot_open_line path
-file_line path (Dump fault) = line_of path fault
+file_line path (Dump fault) = dump_fault_line path fault
 
 unfoldable pub usage_line : Bytes
 usage_line = codes "usage: ncdump [-h] [-c] [-v names] [-n name] [-l width] file\n"

@@ -71,7 +71,8 @@ DumpsAsked run out (Err Flush) = ⊥
 
 -- ---- the run
 
--- the dump gave this answer, and then standard output was flushed, as `Flushed` says
+-- the dump gave this answer, and then standard output was flushed, as `Flushed` says (that nothing is held back then is the clause
+-- `flushed` of `run_with`)
 pub record DumpsThenFlushes {A : Type 0} (run : Run) (answer : Result A Failure) (Flushed : SinkView → Type 0) : Type 0 where
   pub out : SinkView
   pub dumped : DumpsAsked run out answer

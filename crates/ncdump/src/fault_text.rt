@@ -2,7 +2,7 @@
 
 ghost use Rattle.std.specs.Prelude.{◌≡◌};
 ghost use Rattle.devices.specs.code.SinkWrites.{Wrote};
-ghost use Rattle.ncdump.specs.Faults.{cannot_open_line, cannot_open_words, fault_text, file_line, flush_fault_line, format_text, item_words, line_of, line_of_failure, opt_fault_line, program_words, truncated_words, usage_line, version_words};
+ghost use Rattle.ncdump.specs.Faults.{cannot_open_line, cannot_open_words, fault_text, file_line, flush_fault_line, format_text, item_words, dump_fault_line, line_of_failure, opt_fault_line, program_words, truncated_words, usage_line, version_words};
 ghost use Rattle.nc_base.specs.declared.fault.FormatFault.TheVariants.{UnknownVersion};
 ghost use Rattle.ncdump.specs.declared.fault.DumpFault.TheVariants.{DataTruncated, NoSuchVariable};
 
@@ -92,9 +92,9 @@ fn cannot_open_words() -> &'static [u8]
 /// # Errors
 ///
 /// The sink failed. It took some prefix of the line.
-#[tactic(auto, using(devices::proofs::Writes::writes), unfolding(crate::specs::Faults::line_of))]
+#[tactic(auto, using(devices::proofs::Writes::writes), unfolding(crate::specs::Faults::dump_fault_line))]
 pub fn fault_line<W: Sink>(sink: &mut W, file: &[u8], fault: &DumpFault) -> Result<(), WriteFailed>
-    ensures { Wrote W.view sink.old sink.new (line_of file.now fault.now) result }
+    ensures { Wrote W.view sink.old sink.new (dump_fault_line file.now fault.now) result }
 {
     put(sink, program_words())?;
     put(sink, file)?;

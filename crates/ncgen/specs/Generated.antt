@@ -6,7 +6,7 @@ use Rattle.nc_base.specs.GeneratedFile.{file_of, fits}
 use Rattle.devices.specs.Sinks.{SinkView, Appended, FailedPartway}
 use Rattle.cdl_statements.specs.declared.fault.CdlFault.{CdlFault}
 use Rattle.cdl_meaning.specs.Meaning.{meaning}
-use Rattle.cdl_parse.specs.code.Parsing.{out_of_memory}
+use Rattle.cdl_meaning.specs.Meaning.{out_of_memory}
 use Rattle.ncgen.specs.declared.fault.GenFault.{GenFault}
 use Rattle.ncgen.specs.declared.fault.GenFault.TheVariants.{Cdl, OffsetTooLarge, WriteFailed}
 

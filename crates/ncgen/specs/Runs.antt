@@ -26,9 +26,9 @@ pub record IsUntouched (i : Inputs) (o : Outputs) : Type 0 where
   pub output : o.after ≡ o.before
 
 -- Nothing was touched: memory ran out before the words were understood, or they ask for nothing.
-abbrev pub AsksNothing : Inputs → Outputs → Option Asked → OptFault → Type 0
-AsksNothing i o asked OutOfMemory = IsUntouched i o
-AsksNothing i o asked Usage = (asked ≡ None) × IsUntouched i o
+abbrev pub IsNotBegun : Inputs → Outputs → Option Asked → OptFault → Type 0
+IsNotBegun i o asked OutOfMemory = IsUntouched i o
+IsNotBegun i o asked Usage = (asked ≡ None) × IsUntouched i o
 
 -- The text gives no file, and nothing was created.
 pub record GivesNothing (i : Inputs) (o : Outputs) (asked : Option Asked) (path : Option Bytes) (fault : InputFault) : Type 0 where
@@ -48,7 +48,7 @@ pub record IsUnwritten (i : Inputs) (o : Outputs) (asked : Option Asked) (path :
   pub fails : OutputFails o path file fault
 
 abbrev pub FailsWith : Inputs → Outputs → Option Asked → Failure → Type 0
-FailsWith i o asked (CommandLine fault) = AsksNothing i o asked fault
+FailsWith i o asked (CommandLine fault) = IsNotBegun i o asked fault
 FailsWith i o asked (Input path fault) = GivesNothing i o asked (option_map string_bytes path) fault
 FailsWith i o asked (Output path fault) = IsUnwritten i o asked (string_bytes path) fault
 

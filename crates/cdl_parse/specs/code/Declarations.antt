@@ -13,7 +13,8 @@ use Rattle.cdl_statements.specs.declared.{cutter.Cutter.Cutter, fault.CdlKind.Cd
 use Rattle.cdl_statements.specs.Lexemes.{Lexeme, is_mark, is_word}
 use Rattle.cdl_tokens.specs.Escapes.{word_value}
 use Rattle.cdl_statements.specs.declared.fault.CdlKind.TheVariants.{BadName, BadShape, DuplicateName, UnknownDimension, UnknownType}
-use Rattle.cdl_meaning.specs.State.{Draft, add_dimid, add_var, some_or, in_turn, type_of, unless, when, ◌>>=◌}
+use Rattle.std.specs.Option.{ok_or}
+use Rattle.cdl_meaning.specs.State.{Draft, add_dimid, add_var, in_turn, type_of, unless, when, ◌>>=◌}
 use Rattle.cdl_values.specs.code.Answers.{ContinuesRead}
 use Rattle.cdl_values.specs.declared.read_error.ReadError.{ReadError}
 use Rattle.cdl_parse.specs.code.Drafts.{draft, is_variable_name, with_new_draft}
@@ -46,7 +47,7 @@ declared_by start dims drafts = declared (version_of start) dims drafts (words s
 abbrev pub next_dimid : List Dim → List ℕ → List ℕ → Result ℕ CdlKind
 next_dimid dims before name = do
   _ ← unless (is_name name) BadName
-  id ← some_or (position (λ (d : Dim). bytes_eq d.name name) dims) UnknownDimension
+  id ← ok_or (position (λ (d : Dim). bytes_eq d.name name) dims) UnknownDimension
   _ ← when (nat_lt 0 (length before) && is_record_dim dims id) BadShape
   Ok id
 

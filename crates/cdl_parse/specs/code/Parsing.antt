@@ -1,9 +1,9 @@
 -- For contracts. What the calls that read a whole text answer.
 use Rattle.std.specs.Prelude.{ℕ, ◌≡◌, ◌⊎◌, ◌<◌, ◌^◌, length, List, Result, Ok, Err}
 use Rattle.nc_base.specs.declared.{dataset.Dataset.Dataset, header.Dim.Dim, header.Var.Var}
-use Rattle.cdl_statements.specs.declared.{fault.CdlFault.CdlFault, fault.CdlKind.TheVariants.OutOfMemory, cutter.Cutter.Cutter, section.Section.Section}
+use Rattle.cdl_statements.specs.declared.{fault.CdlFault.CdlFault, cutter.Cutter.Cutter, section.Section.Section}
 use Rattle.cdl_statements.specs.code.Cutters.{pieces_left, text_of, version_of}
-use Rattle.cdl_meaning.specs.Meaning.{run}
+use Rattle.cdl_meaning.specs.Meaning.{out_of_memory, run}
 use Rattle.cdl_meaning.specs.State.{State, Draft}
 use Rattle.cdl_values.specs.code.Listed.{AllList, AreShaped, unlisted_drafts}
 use Rattle.cdl_values.specs.code.Meant.{names_of}
@@ -11,10 +11,6 @@ use Rattle.cdl_parse.specs.code.DeclaredDatasets.{dataset_of_declared}
 use Rattle.cdl_parse.specs.code.Runs.{FailsAt}
 use Rattle.cdl_parse.specs.declared.{declared_values.Declared.Declared, text.Contents.Contents, text.Values.Values, parse_error.ParseError.ParseError}
 use Rattle.cdl_parse.specs.declared.parse_error.ParseError.TheVariants as stops
-
--- an allocation failed
-abbrev pub out_of_memory : CdlFault
-out_of_memory = record { line = 0; kind = OutOfMemory }
 
 -- what the text means; or an allocation failed, which says nothing of the text
 abbrev pub MeansOrOutOfMemory : {A : Type 0} → Result A CdlFault → Result A CdlFault → Type 0

@@ -5,7 +5,7 @@ use Rattle.cdl_parse.proofs.data_section.read_one.Goals as goal
 
 pub returns-then-is_mark-clause-reads : goal.returns-then-is_mark-clause-reads
 returns-then-is_mark-clause-reads c = λ vars s stands short.
-    closed vars c.args.start s c.args.listings.now.targets.items c.args.listings.now.arrays.items c.args.names.now c.close.result stands (c.close.ensures.reads s stands.section)
+    closed vars c.args.start s c.args.listings.now.targets.items c.args.listings.now.arrays.items c.args.names.now c.pass_closing_brace.result stands (c.pass_closing_brace.ensures.reads s stands.section)
 
 pub returns-clause-reads : goal.returns-clause-reads
 returns-clause-reads c = λ vars s stands short.
