@@ -104,7 +104,7 @@ add_dimid dims ids name = do
   _ ← when (nat_lt 0 (length ids) && is_record_dim dims k) BadShape
   Ok (ids ++ k ∷ [])
 
--- appends a variable; `GeneratedFile.with_begins` sets where its values begin
+-- appends a variable; its begin stays 0 (`GeneratedFile.with_begins` sets begins)
 unfoldable pub add_var : List Dim → NcType → List Draft → Variable → Result (List Draft) CdlKind
 add_var dims ty drafts v = do
   _ ← unless (is_name v.name) BadName
@@ -187,7 +187,7 @@ capacity_of dims var = record {
   count = slab_count dims var;
   in_rows = not (nat_lt (length var.dimids) 2);
   rows = product (map (dim_len dims) (take (length var.dimids - 1) var.dimids));
-  -- (the 0 would be the length of a row below rank 2; it is never used)
+  -- (rows and row count only if in_rows)
   row = row_len dims var.dimids 0;
 }
 

@@ -48,7 +48,7 @@ fn put_dims<W: Sink>(sink: &mut W, dims: &[Dim], records: u64) -> Result<(), Wri
     put_dims_part(sink, dims, records)
 }
 
-/// Writes the dimensions under their title.
+/// Writes the heading `dimensions:` and the lines of all dimensions. The caller knows that there are some.
 #[tactic(auto, using(devices::proofs::Writes::writes))]
 fn put_dims_part<W: Sink>(sink: &mut W, dims: &[Dim], records: u64) -> Result<(), WriteFailed>
     ensures { Wrote W.view sink.old sink.new (dims_part records dims.now) result }
@@ -122,7 +122,7 @@ fn put_gatts<W: Sink>(sink: &mut W, gatts: &[Att]) -> Result<(), WriteFailed>
     put_gatts_part(sink, gatts)
 }
 
-/// Writes the global attributes under their title.
+/// Writes the heading of the global attributes and their lines. The caller knows that there are some.
 #[tactic(auto, using(devices::proofs::Writes::writes, crate::proofs::Runs::nameless))]
 fn put_gatts_part<W: Sink>(sink: &mut W, gatts: &[Att]) -> Result<(), WriteFailed>
     ensures { Wrote W.view sink.old sink.new (gatts_part gatts.now) result }

@@ -136,8 +136,9 @@ fn gather_number(
     start + len
 }
 
-/// Puts numbers of one row, none of them the row's first, at the offset `at` of `text`, each with what stands before it. Moves
-/// `progress` past them, and returns the offset at which they end.
+/// Puts numbers of one row, none of them the row's first, at the offset `at` of `text`, each with what stands before it (40 and 7 bytes at
+/// most). Moves `progress` past them, and returns the offset at which they end. `bytes` has the numbers, whole and big-endian, as many as
+/// the row still has, or fewer.
 fn gather_in_row(
     text: &mut [u8],
     at: usize,

@@ -143,8 +143,8 @@ impl<'a> ValuePrinter<'a> {
     }
 }
 
-/// Writes the next values of a variable, each with what stands before it, and moves `progress` past them. `text` is a buffer for
-/// numbers.
+/// Writes the next values of a variable, each with what stands before it, and moves `progress` past them. `bytes` has these values,
+/// big-endian, and no more than the variable still has. `text` is a buffer for numbers. After an error `progress` may be anything.
 fn put_values<W: Sink>(
     sink: &mut W,
     layout: &Layout<'_>,

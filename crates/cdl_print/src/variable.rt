@@ -22,7 +22,7 @@ pub fn put_vars<W: Sink>(sink: &mut W, dims: &[Dim], vars: &[Var]) -> Result<(),
     put_vars_part(sink, dims, vars)
 }
 
-/// Writes the variables under their title.
+/// Writes the heading `variables:` and the lines of all variables. The caller knows that there are some.
 #[tactic(auto, using(devices::proofs::Writes::writes))]
 fn put_vars_part<W: Sink>(sink: &mut W, dims: &[Dim], vars: &[Var]) -> Result<(), WriteFailed>
     ensures { Wrote W.view sink.old sink.new (vars_part dims.now vars.now) result }

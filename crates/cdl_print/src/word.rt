@@ -8,19 +8,19 @@ ghost use Rattle.cdl_print.specs.code.Words.{word_text};
 pub enum Word {
     /// What a dump begins with.
     Netcdf,
-    /// The title of the dimensions.
+    /// The heading of the dimensions.
     Dimensions,
     /// What stands before the number of records.
     Unlimited,
     /// What stands after the number of records.
     Currently,
-    /// The title of the variables.
+    /// The heading of the variables.
     Variables,
-    /// The title of the global attributes.
+    /// The heading of the global attributes.
     GlobalAttributes,
     /// What ends a line inside a string.
     StringBreak,
-    /// The title of the values.
+    /// The heading of the values.
     Data,
     /// What a dump ends with.
     End,

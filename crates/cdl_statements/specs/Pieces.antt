@@ -36,7 +36,7 @@ abbrev pub piece_len : {X : Type 0} → (X → Lexeme) → Bool → X → List X
 piece_len lexeme_of true t ts = if is_end_kind (lexeme_of t).kind then 1 else len_before_end lexeme_of (t ∷ ts)
 piece_len lexeme_of false t ts = if is_alone (lexeme_of t) then 1 else if is_section_mark lexeme_of t ts then 2 else statement_len lexeme_of (t ∷ ts)
 
--- closed: the piece before began with `}`. The first `more` tokens belong to that piece.
+-- closed: the piece before began with `}` (End is a piece by itself, whether closed or not). The first `more` tokens belong to that piece.
 unfoldable pub pieces_at : {X : Type 0} → (X → Lexeme) → Bool → ℕ → List X → List (List X)
 pieces_at lexeme_of closed more [] = []
 pieces_at lexeme_of closed (suc more) (t ∷ ts) = pieces_at lexeme_of closed more ts

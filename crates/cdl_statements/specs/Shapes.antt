@@ -84,7 +84,7 @@ abbrev pub if_so : {A : Type 0} → Bool → Option A → Option A
 if_so true a = a
 if_so false a = None
 
--- LENGTH; Some None: the record dimension
+-- LENGTH, a token of this kind; Some None: the record dimension
 abbrev pub length_of : Version → Lexeme → TokenKind → Option (Option ℤ)
 length_of v l kinds.Number = option_map (λ (n : Numeral). Some n.value) (numeral v l.bytes)
 length_of v l _ = if_so (is_word (codes "unlimited") l || is_word (codes "UNLIMITED") l) (Some None)
@@ -94,7 +94,7 @@ abbrev pub dimension : Version → List Lexeme → Option Dimension
 dimension v (n ∷ e ∷ l ∷ []) = if_so (is_mark (byte "=") e) (both (λ name len. record { name = name; len = len }) (name_of n) (length_of v l l.kind))
 dimension v _ = None
 
--- VALUE if `_` is taken, otherwise CONST
+-- VALUE if `_` is taken, otherwise CONST: a token of this kind
 abbrev pub constant_of : Version → Bool → Lexeme → TokenKind → Option Value
 constant_of v takes_fill l kinds.Number = option_map Number (numeral v l.bytes)
 constant_of v takes_fill l kinds.Text = Some (Characters (string_value (inner l.bytes)))

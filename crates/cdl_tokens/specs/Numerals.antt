@@ -15,7 +15,7 @@ pub record Numeral : Type 0 where
   pub value : ℤ
   pub ty : NcType
 
--- these bytes, in lower case, are the suffix that a dump prints for the type, or `l` for int
+-- these bytes, which are in lower case, are the suffix that a dump prints for the type in lower case, or `l` for int
 abbrev pub has_suffix : Bytes → NcType → Bool
 has_suffix bs Char = false
 has_suffix bs Int = bytes_eq bs [] || bytes_eq bs (codes "l")

@@ -98,8 +98,9 @@ pub fn first_digits(bytes: &[u8]) -> (usize, u64)
     (at, value)
 }
 
-/// Returns what `bytes` say, the bytes of a number after its sign, which begin with `0`. If `x` or `X` follows, the number is hexadecimal,
+/// Returns what a number says. `bytes` has all of it after the sign, and begins with `0`: if `x` or `X` follows, the number is hexadecimal,
 /// otherwise octal. Returns `None` if no hexadecimal digit follows the `x`, or if what comes after the digits is no suffix of the version.
+/// A magnitude above 64 bits is `None`.
 #[inline(never)]
 fn after_zero(version: Version, minus: bool, bytes: &[u8]) -> Option<Numeral>
     requires { slice_index bytes.now 0 ≡ 0x30 }

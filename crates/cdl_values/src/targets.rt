@@ -16,7 +16,8 @@ use crate::filling::Filling;
 use nc_base::{Dim, NcType, Var, dim_len, fill_of, is_record_var};
 use std::alloc::{AllocError, Global};
 
-/// Returns what each variable takes as long as no statement of the data section has given its values, in the order of the variables.
+/// Returns a [`Target`] for each variable, in order: how much the data section may give it. No values are given yet. The contract says
+/// nothing of variables whose shapes have other ids than those of `dims`.
 ///
 /// A record variable takes any number of values (the CDL chapter of the NetCDF User's Guide, "CDL Syntax"). Any other variable takes as
 /// many as the product of its dimension lengths, or `u64::MAX` if the product is greater. Characters of rank 2 and up are taken by rows,

@@ -69,6 +69,7 @@ impl<R: Files<File = File>> TextOpener for SystemFiles<'_, R> {
 
     ghost view = { view_of };
 
+    // it is counted, whether it opens or not
     fn open_text(&mut self, path: &str) -> Result<CountedRead<File>, OpenFailed> {
         self.opens = self.opens.saturating_add(1);
         let file = self.open_file(path)?;

@@ -17,7 +17,7 @@ pub record Options : Type 0 where
   pub name : Bytes
   -- `-h`: the header alone
   pub head_only : Bool
-  -- `-c`: the values of coordinate variables alone
+  -- `-c`: the values of coordinate variables alone: those named as a dimension, of any rank
   pub coords : Bool
   -- `-v`: the names of the variables whose values are shown, if any are chosen
   pub chosen : Option (List Bytes)
@@ -76,7 +76,7 @@ pub record VariableValues : Type 0 where
   pub values : List ℤ
   pub missing : Option ℕ
 
--- what a file with these bytes has of a variable over n records
+-- what a file with these bytes has of a variable over n records, in whatever place v
 abbrev pub values_in_file : Header → Bytes → ℕ → ℕ → Var → VariableValues
 values_in_file h bytes n v var = record { values = stored_values h bytes var n; missing = first_missing h bytes var n }
 
@@ -85,7 +85,7 @@ abbrev pub with_variable : Look → List ℤ → Option ℕ → ℕ → DataText
 with_variable look values None v others = record { text = variable_text look values ++ others.text; ending = others.ending }
 with_variable look values (Some k) v others = record { text = variable_prefix look (take k values); ending = data_truncated v k }
 
--- what is shown: values_of gives the values of the variable in each place (of a file by the variable, of a dataset by the place)
+-- what is shown; values_of gives the values of each variable by its place or by itself (`Datasets` gives those of a dataset by the place)
 pub record ShownData : Type 0 where
   pub header : Header
   pub values_of : ℕ → Var → VariableValues

@@ -12,7 +12,7 @@ use Rattle.nc_base.specs.Names.{IsName}
 use Rattle.nc_base.specs.Grammar.{IsDimid, ElementSpelling, dimension_tag, attribute_tag, variable_tag, SpellsNumber, SpellsMagic, SpellsName, SpellsType, SpellsCounted, SpellsList, SpellsDim, SpellsAtt, SpellsAtts, SpellsDimid, SpellsVar, SpellsNumRecs, IsWithinLimits}
 use Rattle.nc_base.specs.Sizes.{has_record_dim}
 
--- ---- fields one after the other
+-- ---- fields one after the other (`EndsWithin` of two arguments, `Then` of three and `Requires` of three are `Stops`)
 
 -- reading these bytes stops with this fault, and leaves this rest
 abbrev pub Stops : Type 1

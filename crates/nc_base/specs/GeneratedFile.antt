@@ -116,8 +116,9 @@ data_of h arrays =
 abbrev pub fixed_vars : List Dim → List Var → List Var
 fixed_vars dims vars = filter (λ (var : Var). not (is_record_var dims var)) vars
 
--- the header's length, which no begin changes, and the padded slabs before this one: of the variables before it that aren't record
--- variables; before that of a record variable, of all such variables, and of the record variables before it
+-- A variable that isn't a record variable begins after the header and the padded slabs of such variables before it. A record variable
+-- begins after the header, the padded slabs of all such variables, and those of the record variables before it. (No begin changes the
+-- header's length.)
 abbrev pub begin_after : Header → List Var → Var → ℕ
 begin_after h before var =
     length (header_spelling h)

@@ -59,7 +59,7 @@ pub record SpellsType (v : Version) (bytes : Bytes) (ty : NcType) (rest : Bytes)
 
 -- ---- lists
 
--- the spelling of an element: the elements before it, the bytes, the element, and the rest
+-- the spelling of an element: the elements before it, by which a dimension or a variable is judged, the bytes, the element, and the rest
 abbrev pub ElementSpelling : Type 0 → Type 1
 ElementSpelling A = List A → Bytes → A → Bytes → Type 0
 

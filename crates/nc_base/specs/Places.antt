@@ -23,7 +23,7 @@ index_vectors dims var n = vectors_below (lens_over dims var n)
 
 -- ---- offsets
 
--- for each length, how many bytes apart two values are whose index there differs by one
+-- the stride of each of these dimensions, in bytes: the size of a value, times the lengths of the dimensions after it
 abbrev pub slab_strides : ℕ → List ℕ → List ℕ
 slab_strides size [] = []
 slab_strides size (n ∷ ns) = size * product ns ∷ slab_strides size ns

@@ -20,7 +20,7 @@ pub record Look : Type 0 where
   pub in_rows : Bool
   -- how many values a row has
   pub row : ℕ
-  -- how many values it has
+  -- how many values it has (for contracts: no text depends on it)
   pub total : ℕ
   pub fill : ℤ
   -- the fill value prints as `_`
@@ -75,8 +75,8 @@ number_lead look i =
     if begins_row look i then (if look.in_rows then (if i == 0 then codes "\n  " else codes ",\n  ") else codes " ")
     else codes ", "
 
--- A new line between the lead and value i, if the value, of len bytes, and two bytes more would pass the width. No line is broken before
--- a row's first number.
+-- A new line between the text through the lead and value i, if the value, of len bytes, and two bytes more would pass the width. No line
+-- is broken before a row's first number.
 abbrev pub line_break : Look → Bytes → ℕ → ℕ → Bytes
 line_break look before i len =
     if not (begins_row look i) && nat_lt look.width (column before + len + 2) then codes "\n    " else []

@@ -141,7 +141,7 @@ impl<S: Source> Window<'_, S> {
     }
 
     /// Reads a big-endian number of the width that counts have in the version, eight bytes in CDF-5 and otherwise four. Any value is
-    /// allowed. Errs as [`read_u64`](Window::read_u64) does.
+    /// allowed. Errs with `HeaderTruncated` if fewer bytes are left, and with `ReadFailed` if the source fails.
     pub(crate) fn number(&mut self, version: Version) -> Result<u64, HeadFault>
         ensures { Read self.old self.new (number_at (count_width version)) result }
     {

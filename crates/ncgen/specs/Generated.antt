@@ -33,7 +33,7 @@ pub record IsCutShort (stated : Result Bytes GenFault) (old new : SinkView) : Ty
   pub partway : FailedPartway old new file
 
 -- With success the stated file was written. If the sink failed, a prefix of it was written. Otherwise nothing was written, and the fault is
--- the stated one or out of memory.
+-- the stated one or out of memory. (Which bytes were written is said of a transparent sink alone.)
 abbrev pub Generates : {A : Type 0} → Result Bytes GenFault → SinkView → SinkView → Result A GenFault → Type 0
 Generates stated old new (Ok done) = IsWritten stated old new
 Generates stated old new (Err WriteFailed) = IsCutShort stated old new
