@@ -4,7 +4,7 @@
     tests/definitions.py [NAME ...]
 
 Each tests/definitions/NAME.edit is a wrong text, token, meaning, file or header, in the format of the edits in
-crates/*/must-fail, but with paths from the top of the repository: those edits are tried in their own crate alone, and the laws
+crates/nc_base/must-fail, but with paths from the top of the repository: those edits are tried in their own crate alone, and the laws
 stand above the definitions. A line 'law: CRATE LAW' names the law that has to refuse; where there is none, any law of cdl_laws
 may, where those stand that join a dump to what is read of it. The laws are proved here over the sources of the crates below,
 without the functions of these: so it is a law that refuses, or a lemma on its way. Worked examples are left out of the copy for

@@ -1,6 +1,6 @@
 """Wrong bodies: what an edit changes, where that stands, and which test it names.
 
-An edit is a file crates/CRATE/wrong-bodies/NAME.edit, in the format of crates/CRATE/must-fail: lines 'file: src/FILE', 'old: TEXT'
+An edit is a file crates/CRATE/wrong-bodies/NAME.edit, in the format of crates/nc_base/must-fail: lines 'file: src/FILE', 'old: TEXT'
 and 'new: TEXT'. Here it may also have a line 'test: TESTCRATE MODULE::TEST', the test that fails under it.
 """
 
@@ -93,4 +93,4 @@ def function_at(crate, file, place):
         trait, of, type_name = [it for it in IMPL.finditer(text) if it.start() < before[-1].start()][-1].groups()
         of = "".join(it[0].upper() + it[1:] for it in (of or "").split("::") if it)
         return f"{type_name}{trait or ''}{of}::{name}"
-    return "::".join([*(it for it in Path(file).with_suffix("").parts[1:] if it != "lib"), name])
+    return "::".join([*(it for it in Path(file).with_suffix("").parts[1:] if it not in ["lib", "main"]), name])

@@ -30,7 +30,8 @@ def stands_on():
 
 def check_words(crate):
     """The command line of a check of a crate, in its folder, but for the libraries that it stands on."""
-    words = [f"{kit()}/bin/rattle", "check", "--crate-name", crate, "src/lib.rt", "--links", f"{crate}=", "--jobs", "1"]
+    root = "src/main.rt" if (CRATES / crate / "src" / "main.rt").exists() else "src/lib.rt"
+    words = [f"{kit()}/bin/rattle", "check", "--crate-name", crate, root, "--links", f"{crate}=", "--jobs", "1"]
     return words + ["--antt-project", f"{kit()}/rattle/logic/antt-project.json", "--logic-built", f"{kit()}/logic_built"]
 
 
