@@ -207,7 +207,7 @@ def results_of(crate):
     kept = KEPT / f"{crate}-{checksum(crate)}"
     if kept.exists():
         results = json.loads(kept.read_text())
-        print(f"{crate}: its {len(results)} wrong bodies were tried by an earlier run")
+        print(f"{crate}: an earlier run tried the wrong bodies ({len(results)})")
         return results
     results = try_crate(crate)
     if all(is_refused is not False for is_refused, _ in results):
