@@ -207,7 +207,7 @@ def results_of(crate):
     kept = KEPT / f"{crate}-{checksum(crate)}"
     if kept.exists():
         results = json.loads(kept.read_text())
-        print(f"{crate}: an earlier run tried the wrong bodies ({len(results)})")
+        print(f"{crate}: an earlier run said:", *(line for _, line in results), sep="\n")
         return results
     results = try_crate(crate)
     if all(is_refused is not False for is_refused, _ in results):
