@@ -1,6 +1,6 @@
 -- What the statements of a dump make of a state.
 use Rattle.std.proofs.Common.{◌≡◌, ℕ, zero, suc, ◌<◌, ◌≤◌, true, false, List, [], ◌∷◌, ◌++◌, length, map, sym, ◌∙◌, ap, refl, arith, append_assoc, append-nil, ℤ, pos, ◌==◌, nat_lt, nat_le, None, Some, Result, Ok, rules}
-use Rattle.cdl_laws.proofs.Prelude.{flat_map, list_any, position, position_or_len, int_eq, bytes_eq, false≢true, eqb-true, bytes_eq-Decides, Att, Dim, NcType, Char, Version, has_name, has_record_dim, IsDimid, AreDimids, IsName, type_word, count_limit, has_type, CdlKind, Value, Number, Characters, Draft, add_dim, add_dimid, add_var, type_of, add_att, add_constant, first_type, same_type, at_named, at_variable, in_turn, ok_or, int_within, has_number, said_dim, AreDistinct, bytes_of_number, and_both, Each}
+use Rattle.cdl_laws.proofs.Prelude.{flat_map, list_any, position, position_or_len, int_eq, bytes_eq, false≢true, eqb-true, bytes_eq-Decides, Att, Dim, NcType, Char, Version, has_name, has_record_dim, IsDimid, AreDimids, IsName, type_word, count_limit, has_type, CdlKind, Value, Number, Characters, Draft, add_dim, add_dimid, add_var, type_of, add_att, add_constant, first_type, same_type, change_named, change_variable, in_turn, ok_or, int_within, has_number, said_dim, AreDistinct, bytes_of_number, and_both, Each}
 use Rattle.cdl_laws.proofs.Bools.{or_left, or_right}
 use Rattle.cdl_laws.proofs.Texts.{word}
 use Rattle.cdl_laws.proofs.ValueTexts.{turn}
@@ -67,7 +67,7 @@ att_added atts att said name new ty vals = grind arith
 abbrev pub no_draft : List ℕ → List Draft → Type 0
 no_draft name ds = list_any (λ (d : Draft). bytes_eq d.var.name name) ds ≡ false
 
-named_past : (name : List ℕ) (f : Draft → Result Draft CdlKind) (before ds es : List Draft) → no_draft name before → at_named name f ds ≡ Ok es → at_named name f (before ++ ds) ≡ Ok (before ++ es)
+named_past : (name : List ℕ) (f : Draft → Result Draft CdlKind) (before ds es : List Draft) → no_draft name before → change_named name f ds ≡ Ok es → change_named name f (before ++ ds) ≡ Ok (before ++ es)
 named_past name f [] ds es new h = h
 named_past name f (b ∷ before) ds es new h =
     grind (arith, or_left, or_right, named_past name f before ds es (or_right (bytes_eq b.var.name name) (list_any (λ (d : Draft). bytes_eq d.var.name name) before) new) h)
@@ -77,8 +77,8 @@ same_bytes name = (bytes_eq-Decides name name).1 refl
 
 -- what becomes of the variable after others
 pub variable_is : (f : Draft → Result Draft CdlKind) (before : List Draft) (d e : Draft) (after : List Draft) → IsName d.var.name → no_draft d.var.name before → f d ≡ Ok e →
-    at_variable d.var.name f (before ++ d ∷ after) ≡ Ok (before ++ e ∷ after)
-unfolding at_variable
+    change_variable d.var.name f (before ++ d ∷ after) ≡ Ok (before ++ e ∷ after)
+unfolding change_variable
 variable_is f before d e after name new h = search (rules, named_past)
 
 -- ---- declarations

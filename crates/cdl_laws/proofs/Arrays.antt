@@ -1,6 +1,6 @@
 -- The array of each variable of a dataset is given back.
 use Rattle.std.proofs.Common.{◌≡◌, ℕ, zero, suc, ◌*◌, ◌<◌, Bool, true, false, List, [], ◌∷◌, length, sym, ◌∙◌, ap, refl, subst, arith, ℤ, pos, ◌&&◌, ◌==◌, not, if◌then◌else◌, nat_lt, Option, None, Some}
-use Rattle.cdl_laws.proofs.Prelude.{int_eq, false≢true, Dim, Header, Var, Version, has_values, fill_value, value_count, IsArray, IsName, numbers, is_record_var, has_records, slab_lens, product, look_of, is_char, row_len, trimmed_var, array_of, listed_values, Listing, is_off, and_false, is_on}
+use Rattle.cdl_laws.proofs.Prelude.{int_eq, false≢true, Dim, Header, Var, Version, has_values, fill_value, value_count, IsArray, IsName, numbers, is_record_var, is_record_shape, slab_lens, product, look_of, is_char, row_len, trimmed_var, array_of, listed_values, Listing, is_off, and_false, is_on}
 use Rattle.cdl_laws.proofs.DataTexts.{Gives, IsGivenBy, given_draft}
 use Rattle.cdl_laws.proofs.Given.{slab_rows, number_row_reads_back, line_reads_back, table_reads_back, array_none, array_len}
 
@@ -27,7 +27,7 @@ unfolding look_of
 look_rows h var n width rank some = table_rows h.dims var.dimids (value_count h.dims var n) (if is_record_var h.dims var then n else 1) rank refl some
 
 -- a record variable of rank 1 isn't trimmed
-never_trimmed : (dims : List Dim) (ids : List ℕ) (b : Bool) → not (nat_lt (length ids) 2) ≡ false → has_records dims ids ≡ true → (b && not (has_records dims ids && (length ids == 1))) ≡ false
+never_trimmed : (dims : List Dim) (ids : List ℕ) (b : Bool) → not (nat_lt (length ids) 2) ≡ false → is_record_shape dims ids ≡ true → (b && not (is_record_shape dims ids && (length ids == 1))) ≡ false
 never_trimmed dims ids b h h2 = grind (arith, and_false, false≢true, is_on)
 
 line_whole : (h : Header) (var : Var) (n width : ℕ) → (look_of h var n width).in_rows ≡ false → is_record_var h.dims var ≡ true → (look_of h var n width).trimmed ≡ false

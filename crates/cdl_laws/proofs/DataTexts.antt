@@ -1,7 +1,7 @@
 -- The data section of a dump, variable after variable.
 use Rattle.std.proofs.Common.{◌≡◌, ℕ, ◌+◌, ◌<◌, ◌≤◌, Bool, true, false, List, [], ◌∷◌, ◌++◌, length, map, sym, ◌∙◌, ap, refl, subst, append_assoc, ℤ, pos, if◌then◌else◌, Option, None, Some, Ok, arith, rules}
 use Rattle.cdl_laws.proofs.Prelude.{Att, Dim, Header, Var, Version, VariableValues, whole, shown_data, with_variable, has_values, fill_value, IsName, is_record_var, Look, look_of, is_char, variable_text, Values, trimmed_var, Value, Characters, Listed, State, Draft, Listing, Numbers, Joined, Rows, Capacity, capacity_of, act, listing_of, values_in, filled, has_number, Each}
-use Rattle.nc_base.specs.Dump.{DataText, data_text}
+use Rattle.nc_base.specs.Dump.{DataText, variables_text}
 use Rattle.cdl_laws.proofs.ValueTexts.{AreSmall, value_said, numbers_listed}
 use Rattle.cdl_laws.proofs.Characters.{flat, shown}
 use Rattle.cdl_laws.proofs.Filled.{IsCharacter, row_back, rows_listed, rows_full, line_listed, back_whole, filled_whole}
@@ -122,7 +122,7 @@ one_taken v h gatts before after look var c o place others t true valid new all 
 one_taken v h gatts before after look var c o place others t false valid new all given more = search rules
 
 pub data_taken : (v : Version) (h : Header) (content : ℕ → Var → VariableValues) (n width place : ℕ) (gatts : List Att) (before : List Draft) (vars : List Var) (os : List (Option Listing)) → AreGiven v h content n width place before vars os →
-    Takes v (data_text (shown_data h content n width) place vars (all_marked vars)).text (state Values h.dims gatts (before ++ map draft_of vars)) (state Values h.dims gatts (before ++ given_drafts vars os))
+    Takes v (variables_text (shown_data h content n width) place vars (all_marked vars)).text (state Values h.dims gatts (before ++ map draft_of vars)) (state Values h.dims gatts (before ++ given_drafts vars os))
 data_taken v h content n width place gatts before [] [] given = takes_nothing v (state Values h.dims gatts (before ++ []))
 data_taken v h content n width place gatts before (var ∷ vars) (o ∷ os) given =
     grind (arith, one_taken, append_assoc, data_taken v h content n width (place + 1) gatts (before ++ given_draft var o ∷ []) vars os given.1)
@@ -130,7 +130,7 @@ data_taken v h content n width place gatts before _ _ given = absurd given
 
 -- and the section is whole
 pub data_whole : (v : Version) (h : Header) (content : ℕ → Var → VariableValues) (n width place : ℕ) (before : List Draft) (vars : List Var) (os : List (Option Listing)) → AreGiven v h content n width place before vars os →
-    (data_text (shown_data h content n width) place vars (all_marked vars)).ending ≡ whole
+    (variables_text (shown_data h content n width) place vars (all_marked vars)).ending ≡ whole
 data_whole v h content n width place before [] os given = refl
 data_whole v h content n width place before (var ∷ vars) [] given = absurd given
 data_whole v h content n width place before (var ∷ vars) (o ∷ os) given =

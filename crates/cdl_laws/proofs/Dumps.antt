@@ -1,7 +1,7 @@
 -- A full dump is read back.
 use Rattle.std.proofs.Common.{◌≡◌, ℕ, true, false, List, [], ◌∷◌, ◌++◌, length, map, ◌∙◌, ap, refl, append_assoc, append-nil, ◌||◌, ◌==◌, if◌then◌else◌, Option, None, Ok, codes, arith, rules}
-use Rattle.cdl_laws.proofs.Prelude.{concat_parts, Dataset, Att, Dim, Header, Var, Version, Options, VariableValues, dump_text, shown_data_text, values_in_dataset, shown_data, selection_of, is_selected, data_word, closing_word, escaped_name, head_text, netcdf_word, dims_text, vars_text, gatts_text, Globals, Variables, Values, Ended, meaning, piece_read, empty, finished, is_small_enough, dataset_of, cut_lexemes, lexemes, pieces_of, IsFull, trimmed, trimmed_att, Listing, in_turn, not_none, Each}
-use Rattle.nc_base.specs.Dump.{DataText, data_text}
+use Rattle.cdl_laws.proofs.Prelude.{concat_parts, Dataset, Att, Dim, Header, Var, Version, Options, VariableValues, dump_text, shown_data_text, values_in_dataset, shown_data, selection_of, is_selected, data_word, closing_word, escaped_name, head_text, netcdf_word, dims_text, vars_text, gatts_text, Globals, Variables, Values, Ended, meaning, piece_read, empty, finished, are_within_limits, dataset_of, cut_lexemes, lexemes, pieces_of, IsFull, trimmed, trimmed_att, Listing, in_turn, not_none, Each}
+use Rattle.nc_base.specs.Dump.{DataText, variables_text}
 use Rattle.cdl_laws.proofs.Takes.{is_open}
 use Rattle.cdl_laws.proofs.Acts.{AreDistinctDims, HaveNames}
 use Rattle.cdl_laws.proofs.Wholes.{state, AreNewDims, Speaks, AreNewAtts, AreFit, draft_of}
@@ -24,12 +24,12 @@ selected : (h : Header) (o : Options) (vars : List Var) → o.chosen ≡ None �
 selected h o [] c d = refl
 selected h o (var ∷ vars) c d = search (rules, selected h o vars c d)
 
-shown_is : (h : Header) (o : Options) (content : ℕ → Var → VariableValues) (n : ℕ) → IsFull o → shown_data_text h o content n (selection_of h o) ≡ data_text (shown_data h content n o.width) 0 h.vars (all_marked h.vars)
+shown_is : (h : Header) (o : Options) (content : ℕ → Var → VariableValues) (n : ℕ) → IsFull o → shown_data_text h o content n (selection_of h o) ≡ variables_text (shown_data h content n o.width) 0 h.vars (all_marked h.vars)
 shown_is h o content n full = grind (arith, selected h o h.vars full.chosen full.coords)
 
 -- after the head
 data_read : (v : Version) (h : Header) (o : Options) (content : ℕ → Var → VariableValues) (n : ℕ) (gatts : List Att) (os : List (Option Listing)) → IsFull o → (vars : List Var) → h.vars ≡ vars → AreGiven v h content n o.width 0 [] vars os →
-    in_turn (piece_read v) (state (after_vars (after_dims h.dims) vars) h.dims gatts (map draft_of vars)) (pieces_of (data_word h o ++ ((data_text (shown_data h content n o.width) 0 vars (all_marked vars)).text ++ codes "}\n"))) ≡ Ok (state Ended h.dims gatts (given_drafts vars os))
+    in_turn (piece_read v) (state (after_vars (after_dims h.dims) vars) h.dims gatts (map draft_of vars)) (pieces_of (data_word h o ++ ((variables_text (shown_data h content n o.width) 0 vars (all_marked vars)).text ++ codes "}\n"))) ≡ Ok (state Ended h.dims gatts (given_drafts vars os))
 unfolding data_word
 data_read v h o content n gatts os full [] none given =
     rw (none) (ap (λ b. in_turn (piece_read v) (state (after_dims h.dims) h.dims gatts []) (pieces_of ((if b || true then [] else codes "data:\n") ++ codes "}\n"))) full.values ∙
@@ -39,7 +39,7 @@ data_read v h o content n gatts os full [] none given =
     opens [] = refl
     opens (d ∷ dims) = refl
 data_read v h o content n gatts os full (var ∷ vars) some given =
-    let values = (data_text (shown_data h content n o.width) 0 (var ∷ vars) (all_marked (var ∷ vars))).text in
+    let values = (variables_text (shown_data h content n o.width) 0 (var ∷ vars) (all_marked (var ∷ vars))).text in
     let word : data_word h o ≡ codes "data:\n" = ap (λ b. if b || (length h.vars == 0) then [] else codes "data:\n") full.values ∙ ap (λ (ws : List Var). if length ws == 0 then [] else codes "data:\n") some ∙ ap (λ b. if b then [] else codes "data:\n") (not_none (length vars)) in
     ap (λ w. in_turn (piece_read v) (state Variables h.dims gatts (map draft_of (var ∷ vars))) (pieces_of (w ++ (values ++ codes "}\n")))) word ∙
     data_mark v h.dims gatts (map draft_of (var ∷ vars)) (values ++ codes "}\n") ∙
@@ -57,7 +57,7 @@ pub record IsReadable (d : Dataset) (n width : ℕ) (os : List (Option Listing))
   pub gatts : Each (Speaks d.header.version) d.header.gatts
   pub fresh : AreNewAtts [] d.header.gatts
   pub given : AreGiven d.header.version d.header (values_in_dataset d) n width 0 [] d.header.vars os
-  pub small : is_small_enough d.header.version (state Ended d.header.dims (map trimmed_att d.header.gatts) (given_drafts d.header.vars os)) ≡ true
+  pub small : are_within_limits d.header.version (state Ended d.header.dims (map trimmed_att d.header.gatts) (given_drafts d.header.vars os)) ≡ true
   pub back : dataset_of d.header.version (state Ended d.header.dims (map trimmed_att d.header.gatts) (given_drafts d.header.vars os)) ≡ trimmed d
 
 -- the state at the end
@@ -67,8 +67,8 @@ unfolding closing_word
 state_read d o n os full ready section is =
     let h = d.header in
     let v = h.version in
-    let section_is : section ≡ data_text (shown_data h (values_in_dataset d) n o.width) 0 h.vars (all_marked h.vars) = is ∙ shown_is h o (values_in_dataset d) n full in
-    let values = (data_text (shown_data h (values_in_dataset d) n o.width) 0 h.vars (all_marked h.vars)).text in
+    let section_is : section ≡ variables_text (shown_data h (values_in_dataset d) n o.width) 0 h.vars (all_marked h.vars) = is ∙ shown_is h o (values_in_dataset d) n full in
+    let values = (variables_text (shown_data h (values_in_dataset d) n o.width) 0 h.vars (all_marked h.vars)).text in
     let tail = data_word h o ++ (values ++ codes "}\n") in
     let closes : closing_word section.ending ≡ codes "}\n" = ap (λ (s : DataText). closing_word s.ending) section_is ∙ ap closing_word (data_whole v h (values_in_dataset d) n o.width 0 [] h.vars os ready.given) in
     let dims = dims_text n h.dims in

@@ -1,6 +1,6 @@
 -- What holds of the dataset so far, of its attributes, dimensions and declarations.
 use Rattle.std.proofs.Common.{◌≡◌, ℕ, ◌+◌, ◌-◌, ◌*◌, ◌≤◌, ◌<◌, Bool, true, false, List, [], ◌∷◌, ◌++◌, length, map, sym, ◌∙◌, ap, refl, subst, arith, suc, append_assoc, append-nil, ℤ, pos, Option, Result, Ok, Err, filter, unsigned_abs, rules}
-use Rattle.cdl_laws.proofs.Prelude.{false≢true, eqb-true, length-append, map-append, list_any-append, list_any, position, bytes_eq, Att, Dim, NcType, Char, Version, has_name, has_record_dim, IsDimid, AreDimids, value_count, IsName, is_name, bytes_of_number, size_of, is_char, count_limit, has_type, AreDistinct, Value, Number, Characters, Underscore, Dimension, Variable, Draft, in_turn, when, ok_or, int_within, has_number, same_type, dim_len_of, add_dim, add_dimid, add_var, at_named, at_variable, add_constant, first_type, add_att, with_att, listed_values, CdlKind, BadName, DuplicateName, MixedConstants, and_left, and_right, some_product, some_size, some-limit, none_before, unless, NumberRange, Each, each_map, ◌>>=◌}
+use Rattle.cdl_laws.proofs.Prelude.{false≢true, eqb-true, length-append, map-append, list_any-append, list_any, position, bytes_eq, Att, Dim, NcType, Char, Version, has_name, has_record_dim, IsDimid, AreDimids, value_count, IsName, is_name, bytes_of_number, size_of, is_char, count_limit, has_type, AreDistinct, Value, Number, Characters, Underscore, Dimension, Variable, Draft, in_turn, when, ok_or, int_within, has_number, same_type, dim_len_of, add_dim, add_dimid, add_var, change_named, change_variable, add_constant, first_type, add_att, with_att, listed_values, CdlKind, BadName, DuplicateName, MixedConstants, and_left, and_right, some_product, some_size, some-limit, none_before, unless, NumberRange, Each, each_map, ◌>>=◌}
 use Rattle.cdl_laws.proofs.Bools.{or_left, or_right}
 use Rattle.cdl_laws.proofs.Outcomes.{SomeIs, OkIs, ok_then, ok_unless, ok_when, ok_found, total, each_under, turns, each_more}
 use Rattle.cdl_laws.proofs.Said.{IsByte, cost, IsFineValue, dim_cost, name_cost, var_cost}
@@ -213,14 +213,14 @@ record AreRenewed (P : Draft → Type 0) (ds es : List Draft) : Type 0 where
   count : length es ≡ length ds
 
 named_keeps : (P P' : Draft → Type 0) (name : List ℕ) (f : Draft → Result Draft CdlKind) → ((d : Draft) → P d → P' d) → ((d : Draft) → P d → OkIs (Renewed P' d) (f d)) →
-    (ds : List Draft) → Each P ds → OkIs (AreRenewed P' ds) (at_named name f ds)
+    (ds : List Draft) → Each P ds → OkIs (AreRenewed P' ds) (change_named name f ds)
 named_keeps P P' name f more step [] h = tt
 named_keeps P P' name f more step (d ∷ ds) h = grind (arith, ok_then, each_map, named_keeps P P' name f more step ds h.1)
 
 -- what keeps its draft fine keeps all, and adds none
 pub at_keeps : (v : Version) (N n m : ℕ) (dims : List Dim) (name : List ℕ) (f : Draft → Result Draft CdlKind) → ((d : Draft) → IsFineDraft v N n dims d → OkIs (λ e. IsFineDraft v N (n + m) dims e × (e.var.name ≡ d.var.name)) (f d)) →
-    (ds : List Draft) → AreFineDrafts v N n dims ds → OkIs (λ es. AreFineDrafts v N (n + m) dims es × (length es ≡ length ds)) (at_variable name f ds)
-unfolding at_variable
+    (ds : List Draft) → AreFineDrafts v N n dims ds → OkIs (λ es. AreFineDrafts v N (n + m) dims es × (length es ≡ length ds)) (change_variable name f ds)
+unfolding change_variable
 at_keeps v N n m dims name f step ds fine =
     grind (arith, named_keeps (IsFineDraft v N n dims) (IsFineDraft v N (n + m) dims) name f, later v N n (n + m) dims, ok_unless)
 

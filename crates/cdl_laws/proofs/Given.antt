@@ -1,6 +1,6 @@
 -- The array of a variable is given back by the text of its values.
 use Rattle.std.proofs.Common.{◌≡◌, ℕ, zero, suc, ◌*◌, ◌-◌, ◌<◌, ◌≤◌, Bool, true, false, List, [], ◌∷◌, length, drop, take, map, sym, ◌∙◌, ap, refl, subst, arith, length-take, length-drop, ℤ, pos, ◌&&◌, ◌==◌, not, nat_lt, slice_index, find, None, Some, rules}
-use Rattle.cdl_laws.proofs.Prelude.{flat_map, int_eq, lt_of_mul-lt-mul_right, false≢true, Decides-int_eq, take-append-drop, Att, Dim, Header, Var, NcType, Version, fill_value, fill_of_att, is_fill_att, value_count, IsArray, IsName, numbers, bytes_of_number, IsInRange, dim_len, has_records, is_record_var, product, slab_lens, Look, look_of, is_char, row_len, trimmed_att, trimmed_var, capacity_of, filled, has_number, array_of, and_left, is_off, is_on, look-type, length-numbers_from, Each, each_map}
+use Rattle.cdl_laws.proofs.Prelude.{flat_map, int_eq, lt_of_mul-lt-mul_right, false≢true, Decides-int_eq, take-append-drop, Att, Dim, Header, Var, NcType, Version, fill_value, fill_of_att, is_fill_att, value_count, IsArray, IsName, numbers, bytes_of_number, IsInRange, dim_len, is_record_shape, is_record_var, product, slab_lens, Look, look_of, is_char, row_len, trimmed_att, trimmed_var, capacity_of, filled, has_number, array_of, and_left, is_off, is_on, look-type, length-numbers_from, Each, each_map}
 use Rattle.std.specs.Prelude.{unwrap_or}
 use Rattle.nc_base.specs.Types.{default_fill_of}
 use Rattle.cdl_laws.proofs.Attributes.{numbers_back, numbers_range, all_fit, all_small, count_is}
@@ -75,10 +75,10 @@ last_place n = omega arith
 pub record HasRows (dims : List Dim) (ids : List ℕ) : Type 0 where
   pub rows : ℕ
   pub whole : product (slab_lens dims ids) ≡ rows * row_len dims ids 0
-  pub all : has_records dims ids ≡ false → rows ≡ product (map (dim_len dims) (take (length ids - 1) ids))
+  pub all : is_record_shape dims ids ≡ false → rows ≡ product (map (dim_len dims) (take (length ids - 1) ids))
 
 pub slab_rows : (dims : List Dim) (ids : List ℕ) → nat_lt (length ids) 2 ≡ false → HasRows dims ids
-slab_rows dims (a ∷ b ∷ ids) h = by (has_records dims (a ∷ b ∷ ids)) refl
+slab_rows dims (a ∷ b ∷ ids) h = by (is_record_shape dims (a ∷ b ∷ ids)) refl
   where
     f : ℕ → ℕ
     f = dim_len dims
@@ -86,7 +86,7 @@ slab_rows dims (a ∷ b ∷ ids) h = by (has_records dims (a ∷ b ∷ ids)) ref
     row : f (slice_index (b ∷ ids) (length ids)) ≡ row_len dims (a ∷ b ∷ ids) 0
     row = sym (rw (h) (ap (λ k. f (slice_index (a ∷ b ∷ ids) k)) (last_place (length ids))))
 
-    by : (is : Bool) → has_records dims (a ∷ b ∷ ids) ≡ is → HasRows dims (a ∷ b ∷ ids)
+    by : (is : Bool) → is_record_shape dims (a ∷ b ∷ ids) ≡ is → HasRows dims (a ∷ b ∷ ids)
     by true is =
         let n = product (map f (take (length ids) (b ∷ ids))) in
         record { rows = n; whole = rw (is) (last_divides f b ids ∙ ap (λ m. n * m) row); all = λ no. absurd (false≢true (sym no ∙ is)) }

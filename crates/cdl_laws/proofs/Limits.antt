@@ -1,6 +1,6 @@
 -- What is read back keeps its limits.
 use Rattle.std.proofs.Common.{◌≡◌, ℕ, ◌≤◌, true, List, [], ◌∷◌, map, ◌∙◌, ap, refl, arith, sum}
-use Rattle.cdl_laws.proofs.Prelude.{list_all, Dim, Header, Var, Version, AreArrays, slab_size, record_vars, record_size_of, padded_size, padded_total, slab_limit, trimmed_var, is_small, and_both, le-leb, Each}
+use Rattle.cdl_laws.proofs.Prelude.{list_all, Dim, Header, Var, Version, AreArrays, slab_size, record_vars, record_size_of, padded_size, padded_total, slab_limit, trimmed_var, is_within_limits, and_both, le-leb, Each}
 use Rattle.cdl_laws.proofs.DataTexts.{given_drafts}
 use Rattle.cdl_laws.proofs.Datasets.{AreBack, listings}
 
@@ -9,7 +9,7 @@ use Rattle.cdl_laws.proofs.Datasets.{AreBack, listings}
 -- ---- limits
 
 pub all_small : (v : Version) (h : Header) (n width : ℕ) (vars : List Var) (arrays : List (List ℕ)) (backs : AreBack v h n width vars arrays) → AreArrays h.dims n vars arrays → Each (λ (var : Var). slab_size h.dims var ≤ slab_limit) vars →
-    list_all (is_small h.dims n) (given_drafts vars (listings v h n width vars arrays backs)) ≡ true
+    list_all (is_within_limits h.dims n) (given_drafts vars (listings v h n width vars arrays backs)) ≡ true
 all_small v h n width [] [] backs are slabs = refl
 all_small v h n width (var ∷ vars) (a ∷ arrays) backs are slabs =
     grind (arith, and_both, le-leb, all_small v h n width vars arrays backs.1 are.1 slabs.1)

@@ -1,6 +1,6 @@
 -- What a text means is good.
 use Rattle.std.proofs.Common.{◌≡◌, ℕ, ◌+◌, ◌-◌, ◌*◌, ◌/◌, ◌≤◌, ◌<◌, true, false, List, [], ◌∷◌, length, map, ap, refl, subst, arith, zero, suc, ℤ, if◌then◌else◌, Option, None, Some, Result, Ok, Err, nat_le, codes, All, rules}
-use Rattle.cdl_laws.proofs.Prelude.{length-map, div-lt_iff_lt-mul, lt-div-mul-add, mul_comm, mul-le-mul_left, flat_map, list_all, AreBytes, Dataset, Att, Dim, Known, Var, NcType, Version, IsGood, IsSound, IsSoundAtt, IsSoundVar, IsSoundDim, IsArray, AreArrays, bare_var, value_count, IsName, bytes_of_number, is_record_var, record_vars, slab_count, slab_size, record_size, slab_limit, array_limit, record_limit, size_of, count_limit, has_type, MeaningsAreGood, MeaningsAreNearlySayable, IsNearlySayable, NearlyIsSayable, text_limit, Lexeme, lexeme, statements, shaped, checked, piece_read, starting_line, run, empty, listed_values, records_of, records_in, array_of, header_of, dataset_of, is_small, is_small_enough, closing_line, finished, meaning, AreDistinct, AreSayableAtts, HasSomeNumber, Statement, Open, Enter, DeclareDimensions, DeclareVariables, Attribute, Listed, shape, first_bad, State, Draft, act, add_var, at_variable, with_att, with_values, type_of, ok_or, in_turn, filled, CdlFault, CdlKind, Section, Token, and_left, and_right, some_count, length-numbers, Each, each_map, ◌>>=◌}
+use Rattle.cdl_laws.proofs.Prelude.{length-map, div-lt_iff_lt-mul, lt-div-mul-add, mul_comm, mul-le-mul_left, flat_map, list_all, AreBytes, Dataset, Att, Dim, Known, Var, NcType, Version, IsGood, IsSound, IsSoundAtt, IsSoundVar, IsSoundDim, IsArray, AreArrays, bare_var, value_count, IsName, bytes_of_number, is_record_var, record_vars, slab_count, slab_size, record_size, slab_limit, array_limit, record_limit, size_of, count_limit, has_type, MeaningsAreGood, MeaningsAreNearlySayable, IsNearlySayable, NearlyIsSayable, text_limit, Lexeme, lexeme, statements, shaped, checked, piece_read, starting_line, run, empty, listed_values, records_of, records_in, array_of, header_of, dataset_of, is_within_limits, are_within_limits, closing_line, finished, meaning, AreDistinct, AreSayableAtts, HasSomeNumber, Statement, Open, Enter, DeclareDimensions, DeclareVariables, Attribute, Listed, shape, first_bad, State, Draft, act, add_var, change_variable, with_att, with_values, type_of, ok_or, in_turn, filled, CdlFault, CdlKind, Section, Token, and_left, and_right, some_count, length-numbers, Each, each_map, ◌>>=◌}
 use Rattle.cdl_laws.proofs.Outcomes.{SomeIs, OkIs, ok_then, in_if, total, each_more, all_of}
 use Rattle.cdl_laws.proofs.Sayables.{draft_name}
 use Rattle.cdl_laws.proofs.Said.{IsByte, HasBytes, mass}
@@ -53,11 +53,11 @@ act_keeps v N n m s (DeclareVariables word vs) small f said =
 act_keeps v N n m s (Attribute None name cs) small f said =
     grind (arith, att_keeps v N n m name cs s.gatts small said f.gatts, dims_later v N n m s.dims f.dims, ok_then, all_later)
 act_keeps v N n m s (Attribute (Some variable) name cs) small f said =
-    ok_then (λ es. AreFineDrafts v N (n + m) s.dims es × (length es ≡ length s.drafts)) (IsFineState v N (n + m)) (at_variable variable (with_att name cs) s.drafts) (λ drafts. Ok (record s { drafts = drafts }))
+    ok_then (λ es. AreFineDrafts v N (n + m) s.dims es × (length es ≡ length s.drafts)) (IsFineState v N (n + m)) (change_variable variable (with_att name cs) s.drafts) (λ drafts. Ok (record s { drafts = drafts }))
     (at_keeps v N n m s.dims variable (with_att name cs) (with_att_keeps v N n m s.dims name cs small said) s.drafts f.drafts) (λ es h.
     record { dims = dims_later v N n m s.dims f.dims; gatts = atts_later v N n m s.gatts f.gatts; drafts = h.0; early = none_left (late s.section) s.drafts es f.early h.1 })
 act_keeps v N n m s (Listed variable xs) small f said =
-    ok_then (λ es. AreFineDrafts v N (n + m) s.dims es × (length es ≡ length s.drafts)) (IsFineState v N (n + m)) (at_variable variable (with_values s.dims xs) s.drafts) (λ drafts. Ok (record s { drafts = drafts }))
+    ok_then (λ es. AreFineDrafts v N (n + m) s.dims es × (length es ≡ length s.drafts)) (IsFineState v N (n + m)) (change_variable variable (with_values s.dims xs) s.drafts) (λ drafts. Ok (record s { drafts = drafts }))
     (at_keeps v N n m s.dims variable (with_values s.dims xs) (with_values_keeps v N n m s.dims variable xs small said) s.drafts f.drafts) (λ es h.
     record { dims = dims_later v N n m s.dims f.dims; gatts = atts_later v N n m s.gatts f.gatts; drafts = h.0; early = none_left (late s.section) s.drafts es f.early h.1 })
 act_keeps v N n m s _ small f said = advanced v N n m s _ (λ h. absurd (omega (arith, h))) f
@@ -143,10 +143,10 @@ numbers_bytes ty (x ∷ xs) = each_more IsByte (bytes_of_number ty x) (flat_map 
 abbrev IsSmall : List Dim → ℕ → Draft → Type 0
 IsSmall dims r d = (slab_size dims d.var ≤ slab_limit) × (value_count dims d.var r * size_of d.var.ty ≤ array_limit)
 
-each_small : (dims : List Dim) (r : ℕ) (ds : List Draft) → list_all (is_small dims r) ds ≡ true → Each (IsSmall dims r) ds
+each_small : (dims : List Dim) (r : ℕ) (ds : List Draft) → list_all (is_within_limits dims r) ds ≡ true → Each (IsSmall dims r) ds
 each_small dims r [] h = tt
 each_small dims r (d ∷ ds) h =
-    grind (arith, and_left, up_to, and_right, each_small dims r ds (and_right (is_small dims r d) (list_all (is_small dims r) ds) h))
+    grind (arith, and_left, up_to, and_right, each_small dims r ds (and_right (is_within_limits dims r d) (list_all (is_within_limits dims r) ds) h))
 
 array_is : (v : Version) (N n : ℕ) (dims : List Dim) (r : ℕ) (d : Draft) → IsFineDraft v N n dims d → IsSmall dims r d → records_of dims d ≤ r → IsArray dims r d.var (array_of dims r d)
 array_is v N n dims r d f small h = search (rules, filled, length-numbers, filled_len, listed_fits, are_bytes, numbers_bytes)
@@ -179,11 +179,11 @@ atts_sound v N n lim atts f = all_of (IsSoundAtt v) atts (each_map (IsFineAtt v 
 var_sound : (v : Version) (N n : ℕ) (dims : List Dim) (r : ℕ) → N < count_limit v → n ≤ N → (d : Draft) → IsFineDraft v N n dims d → IsSmall dims r d → IsSoundVar v dims d.var
 var_sound v N n dims r lim under d f small = grind (arith, shape, all_of, each_map, att_sound)
 
-sound : (v : Version) (N n : ℕ) (s : State) → N < count_limit v → n ≤ N → IsFineState v N n s → is_small_enough v s ≡ true → IsSound (header_of v s)
-unfolding is_small_enough
+sound : (v : Version) (N n : ℕ) (s : State) → N < count_limit v → n ≤ N → IsFineState v N n s → are_within_limits v s ≡ true → IsSound (header_of v s)
+unfolding are_within_limits
 sound v N n s lim under f small =
     let r = records_in s.dims s.drafts in
-    let all = list_all (is_small s.dims r) s.drafts in
+    let all = list_all (is_within_limits s.dims r) s.drafts in
     let rec_ = nat_le (record_size (header_of v s)) record_limit in
     let smalls = each_small s.dims r s.drafts (and_left all rec_ small) in
     record {
@@ -207,8 +207,8 @@ all_bytes v N n atts f = all_of (λ (a : Att). AreBytes a.vals) atts (each_map (
 over_drafts : (v : Version) (N n : ℕ) (s : State) (P : Var → Type 0) → IsFineState v N n s → ((d : Draft) → IsFineDraft v N n s.dims d → P d.var) → All P (map (λ (d : Draft). d.var) s.drafts)
 over_drafts v N n s P f g = search (rules, all_of, each_of_map, each_map)
 
-good : (v : Version) (N n : ℕ) (s : State) → N < count_limit v → n ≤ N → IsFineState v N n s → is_small_enough v s ≡ true → IsGood (dataset_of v s)
-unfolding is_small_enough
+good : (v : Version) (N n : ℕ) (s : State) → N < count_limit v → n ≤ N → IsFineState v N n s → are_within_limits v s ≡ true → IsGood (dataset_of v s)
+unfolding are_within_limits
 good v N n s lim under f small =
     let r = records_in s.dims s.drafts in
     record {
@@ -221,7 +221,7 @@ good v N n s lim under f small =
         vars = over_drafts v N n s (λ (var : Var). IsName var.name × All (λ (a : Att). IsName a.name) var.atts) f (λ d g. (g.name, all_named v N n d.var.atts g.atts));
       };
       values = grind (arith, all_bytes v N n s.gatts f.gatts, over_drafts v N n s (λ (var : Var). All (λ (a : Att). AreBytes a.vals) var.atts) f, all_bytes v N n);
-      arrays = arrays_are v N n s.dims r s.drafts f.drafts.fine (each_small s.dims r s.drafts (and_left (list_all (is_small s.dims r) s.drafts) (nat_le (record_size (header_of v s)) record_limit) small)) (omega arith);
+      arrays = arrays_are v N n s.dims r s.drafts f.drafts.fine (each_small s.dims r s.drafts (and_left (list_all (is_within_limits s.dims r) s.drafts) (nat_le (record_size (header_of v s)) record_limit) small)) (omega arith);
     }
 
 -- ---- nearly sayable
@@ -237,7 +237,7 @@ draft_names : (ds : List Draft) → map draft_name ds ≡ map (λ (var : Var). v
 draft_names [] = refl
 draft_names (d ∷ ds) = ap (λ ns. d.var.name ∷ ns) (draft_names ds)
 
-nearly : (v : Version) (N n : ℕ) (s : State) → N < count_limit v → n ≤ N → IsFineState v N n s → is_small_enough v s ≡ true → IsNearlySayable (dataset_of v s)
+nearly : (v : Version) (N n : ℕ) (s : State) → N < count_limit v → n ≤ N → IsFineState v N n s → are_within_limits v s ≡ true → IsNearlySayable (dataset_of v s)
 nearly v N n s lim under f small = record {
   good = good v N n s lim under f small;
   dims = f.dims.names;

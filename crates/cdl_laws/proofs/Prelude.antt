@@ -6,11 +6,11 @@ unfoldable pub use Rattle.cdl_laws.specs.Reading.{lexemes_at, pieces_of}
 pub use Rattle.cdl_laws.specs.RoundTrip.{IsFull, TextReadsBack}
 pub use Rattle.cdl_laws.specs.TokenLaws.{AreToken, BlanksAndMarksStop, ConstantsReadBack, NameReadsBack, NamesReadBack, StandsForBytes, StopsNumber, StopsWord, StringsReadBack, StringsStandForBytes, ValuesReadBack, quoted}
 pub use Rattle.cdl_laws.specs.Trims.{FillValueSurvivesTrim, MeaningsAreSayable, MeaningsComeBack, SecondTripIsSame, TrimmedIsSayable, TrimsOnce, has_cut_fill, is_cut}
-pub use Rattle.cdl_meaning.specs.Meaning.{array_of, closing_line, dataset_of, empty, header_of, is_small, starting_line, meaning, records_in, records_of, text_limit, listed_values}
+pub use Rattle.cdl_meaning.specs.Meaning.{array_of, closing_line, dataset_of, empty, header_of, is_within_limits, starting_line, meaning, records_in, records_of, text_limit, listed_values}
 pub use Rattle.cdl_meaning.proofs.Readings.{checked, shaped}
-unfoldable pub use Rattle.cdl_meaning.specs.Meaning.{finished, is_small_enough, piece_read, run}
-pub use Rattle.cdl_meaning.specs.State.{Capacity, Draft, Joined, Listing, Numbers, Rows, State, add_characters, add_constant, add_number, add_row, at_named, int_within, dim_len_of, filled, first_type, in_turn, listed_by, same_type, unless, values_in, when, with_att, with_values, ◌>>=◌}
-unfoldable pub use Rattle.cdl_meaning.specs.State.{act, add_att, add_dim, add_dimid, add_var, at_variable, capacity_of, has_number, listing_of, type_of}
+unfoldable pub use Rattle.cdl_meaning.specs.Meaning.{finished, are_within_limits, piece_read, run}
+pub use Rattle.cdl_meaning.specs.State.{Capacity, Draft, Joined, Listing, Numbers, Rows, State, add_characters, add_constant, add_number, add_row, change_named, int_within, dim_len_of, filled, first_type, in_turn, listed_by, same_type, unless, values_in, when, with_att, with_values, ◌>>=◌}
+unfoldable pub use Rattle.cdl_meaning.specs.State.{act, add_att, add_dim, add_dimid, add_var, change_variable, capacity_of, has_number, listing_of, type_of}
 pub use Rattle.cdl_statements.proofs.PieceLengths.{pieces_by_steps}
 pub use Rattle.cdl_statements.specs.Lexemes.{Lexeme, is_end_kind, is_mark, is_opening_kind, is_word, is_word_kind, lexeme}
 unfoldable pub use Rattle.cdl_statements.specs.Lexemes.{name_of}
@@ -20,7 +20,7 @@ unfoldable pub use Rattle.cdl_statements.specs.Pieces.{pieces_at}
 pub use Rattle.cdl_statements.specs.Shapes.{Attribute, Close, Characters, DeclareDimensions, Dimension, End, Listed, Enter, Number, Open, Statement, DeclareVariables, Underscore, Value, Variable, assigned, attribute, before_mark, body, both, constant, constant_of, dimension, each, first_bad, if_so, global, length_of, members_in, section_mark, section_number, single, token_fault, typed, variable}
 unfoldable pub use Rattle.cdl_statements.specs.Shapes.{shape}
 pub use Rattle.cdl_statements.specs.Statements.{statements}
-pub use Rattle.cdl_statements.specs.code.CutSteps.{going, step, unless_end, with_first}
+pub use Rattle.cdl_statements.specs.code.CutSteps.{going_on, step, unless_end, with_first}
 unfoldable pub use Rattle.cdl_statements.specs.code.CutSteps.{pieces_after}
 pub use Rattle.cdl_statements.specs.code.Roles.{first_role, role}
 unfoldable pub use Rattle.cdl_statements.specs.code.Roles.{is_section}
@@ -53,9 +53,10 @@ pub use Rattle.nc_base.specs.HeadText.{att_text, broken_text, dim_name, joined, 
 unfoldable pub use Rattle.nc_base.specs.HeadText.{att_line, att_lines, chars_text, currently_word, dim_len_text, dim_line, dim_lines, dimensions_word, dims_text, gatts_text, global_word, head_text, netcdf_word, numbers_text, shape_text, string_break, unlimited_word, var_lines, variables_word, vars_text}
 pub use Rattle.nc_base.specs.Headers.{AreArrays, AreDimids, IsArray, IsGood, IsSound, IsSoundAtt, IsSoundDim, IsSoundVar, bare, bare_var}
 pub use Rattle.nc_base.specs.Grammar.{IsDimid}
-pub use Rattle.nc_base.specs.Sizes.{has_record_dim, value_count, array_limit, dim_len, has_records, is_record_dim, is_record_var, padded_size, padded_total, product, record_limit, record_size, record_size_of, record_vars, slab_count, slab_lens, slab_limit, slab_size}
+pub use Rattle.nc_base.specs.Sizes.{has_record_dim, value_count, array_limit, dim_len, is_record_shape, is_record_dim, is_record_var, padded_size, padded_total, product, record_limit, record_size, record_size_of, record_vars, slab_count, slab_lens, slab_limit, slab_size}
 pub use Rattle.nc_base.specs.Names.{IsName, ends_with_space, has_name_bytes, is_beyond_ascii, is_name, may_begin_name, may_follow_in_name}
-pub use Rattle.nc_base.specs.Numbers.{IsInRange, bytes_of_number, number_of, numbers_from}
+pub use Rattle.nc_base.specs.NumberLaws.{IsInRange}
+pub use Rattle.nc_base.specs.Numbers.{bytes_of_number, number_of, numbers_from}
 unfoldable pub use Rattle.nc_base.specs.Numbers.{numbers}
 pub use Rattle.nc_base.specs.Sayable.{AreDistinct, AreSayableAtts, HasSomeNumber, IsSayable, IsSayableVar, trimmed, trimmed_att, trimmed_header, trimmed_var}
 pub use Rattle.nc_base.specs.Types.{all_types, code_of, number_suffix, size_of, type_word}

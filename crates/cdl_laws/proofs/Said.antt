@@ -1,5 +1,5 @@
 -- What the shapes give: names, counts and types of what a statement says, against the bytes of its tokens.
-use Rattle.std.proofs.Common.{◌≡◌, ℕ, ◌+◌, ◌-◌, ◌≤◌, ◌<◌, Bool, true, false, List, [], ◌∷◌, length, sym, subst, arith, zero, suc, Option, None, Some, drop, ◌&&◌, ◌||◌, not, ◌==◌, slice_index, codes, map, rules}
+use Rattle.std.proofs.Common.{◌≡◌, ℕ, ◌+◌, ◌-◌, ◌≤◌, ◌<◌, Bool, true, false, List, [], ◌∷◌, length, sym, subst, arith, zero, suc, Option, None, Some, drop, ◌&&◌, ◌||◌, not, ◌==◌, slice_index, codes, map, rules, if◌then◌else◌}
 use Rattle.cdl_laws.proofs.Prelude.{length-take, length-drop, is_reserved, Version, has_type, is_escape, character, inner, unescape_at, word_value, or_zero, Lexeme, is_word_kind, is_mark, name_of, Parts, parts, number, Numeral, numeral, type_of_suffix, in_base, with_sign, Value, Number, Characters, Underscore, Dimension, Variable, both, each, if_so, onto_first, members_in, members, single, dimension, constant_of, constant, constants, constants_are, constants_by, name_alone, before_mark, variable, TokenKind, Each}
 use Rattle.cdl_statements.proofs.Members.{dimensions, dimensions_are, dimensions_by}
 use Rattle.cdl_tokens.specs.declared.scan.Character.{Character}
@@ -28,9 +28,11 @@ first_mass l ms = grind arith
 members_mass : (parens : Bool) (ls : List Lexeme) → total mass (members_in parens ls) ≤ mass ls
 members_mass parens [] = omega arith
 members_mass parens (l ∷ ls) =
-    elim (is_mark 0x2c l && not parens) as (λ b. total mass (elim b as (λ z. List (List Lexeme)) [ true ↦ [] ∷ members_in parens ls | false ↦ onto_first l (members_in (is_mark 0x28 l || parens && not (is_mark 0x29 l)) ls) ]) ≤ weight l + mass ls) [
-      | true ↦ (let ih = members_mass parens ls in omega (arith, ih))
-      | false ↦ (let q = is_mark 0x28 l || parens && not (is_mark 0x29 l) in let ih = members_mass q ls in let e = first_mass l (members_in q ls) in omega (arith, ih, e))
+    let q = is_mark 0x28 l || parens && not (is_mark 0x29 l) in
+    let ih = members_mass q ls in
+    elim (is_mark 0x2c l && not parens) as (λ b. total mass (if b then [] ∷ members_in q ls else onto_first l (members_in q ls)) ≤ weight l + mass ls) [
+      | true ↦ omega (arith, ih)
+      | false ↦ (let e = first_mass l (members_in q ls) in omega (arith, ih, e))
     ]
 
 -- all but the last

@@ -1,6 +1,6 @@
 -- What a text makes of a state, statement by statement.
 use Rattle.std.proofs.Common.{◌≡◌, ℕ, Bool, true, false, List, [], ◌∷◌, ◌++◌, ◌∙◌, ap, refl, append_assoc, ◌&&◌, if◌then◌else◌, Option, None, Some, is_none, Ok, arith, rules}
-use Rattle.cdl_laws.proofs.Prelude.{list_all, option_map, Version, CdlKind, Section, Globals, Dimensions, Variables, Values, Role, Lexeme, first_role, role, piece_read, pieces_after, going, unless_end, with_first, is_section, pieces_by_steps, cut_lexemes, pieces_of, Statement, first_bad, token_fault, shape, before_mark, body, State, act, in_turn, and_left, and_right, and_both}
+use Rattle.cdl_laws.proofs.Prelude.{list_all, option_map, Version, CdlKind, Section, Globals, Dimensions, Variables, Values, Role, Lexeme, first_role, role, piece_read, pieces_after, going_on, unless_end, with_first, is_section, pieces_by_steps, cut_lexemes, pieces_of, Statement, first_bad, token_fault, shape, before_mark, body, State, act, in_turn, and_left, and_right, and_both}
 use Rattle.cdl_statements.specs.declared.piece.Role.TheVariants as roles
 use Rattle.cdl_statements.specs.declared.piece.CutState.TheVariants.{Begins, Inside}
 use Rattle.cdl_laws.proofs.Texts as texts
@@ -29,7 +29,7 @@ abbrev is_end_role : Role → Bool
 is_end_role roles.End = true
 is_end_role _ = false
 
-unless_going : (n : Role) → is_end_role n ≡ false → unless_end n Inside ≡ going Inside
+unless_going : (n : Role) → is_end_role n ≡ false → unless_end n Inside ≡ going_on Inside
 unless_going n h = grind arith
 
 plain_no_end : (r : Role) → is_plain r ≡ true → is_end_role r ≡ false

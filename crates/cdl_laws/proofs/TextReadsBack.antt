@@ -1,6 +1,6 @@
 -- The full dump of a dataset that a text can declare means that dataset, trimmed.
 use Rattle.std.proofs.Common.{◌≡◌, ℕ, ◌<◌, ◌≤◌, true, List, [], ◌∷◌, ◌++◌, map, sym, ◌∙◌, ap, refl, subst, arith, All, Option, Ok, rules}
-use Rattle.cdl_laws.proofs.Prelude.{list_all, map-append, AreBytes, Dataset, Att, Dim, Header, Known, Streaming, Var, Version, Options, Ending, whole, IsText, unknown, dump_text, shown_data_text, values_in_dataset, selection_of, IsGood, IsSoundVar, bare, bare_var, IsName, slab_count, slab_size, slab_limit, record_limit, record_vars, record_size_of, Ended, meaning, is_small, is_small_enough, records_in, IsFull, TextReadsBack, trimmed, trimmed_att, trimmed_var, AreDistinct, IsSayable, IsSayableVar, Draft, Listing, and_both, some_count, Each, each_map, each_of}
+use Rattle.cdl_laws.proofs.Prelude.{list_all, map-append, AreBytes, Dataset, Att, Dim, Header, Known, Streaming, Var, Version, Options, Ending, whole, IsText, unknown, dump_text, shown_data_text, values_in_dataset, selection_of, IsGood, IsSoundVar, bare, bare_var, IsName, slab_count, slab_size, slab_limit, record_limit, record_vars, record_size_of, Ended, meaning, is_within_limits, are_within_limits, records_in, IsFull, TextReadsBack, trimmed, trimmed_att, trimmed_var, AreDistinct, IsSayable, IsSayableVar, Draft, Listing, and_both, some_count, Each, each_map, each_of}
 use Rattle.nc_base.specs.declared.header.NumRecs.{NumRecs}
 use Rattle.nc_base.specs.Dump.{DataText}
 use Rattle.cdl_laws.proofs.DataTexts.{given_draft, given_drafts}
@@ -35,8 +35,8 @@ heads v dims [] sound names bytes say bare = tt
 heads v dims (var ∷ vars) sound names bytes say bare = search (rules, bare, heads v dims vars sound.1 names.1 bytes.1 say.1 bare.1)
 
 small_all : (v : Version) (dims : List Dim) (gatts : List Att) (drafts : List Draft) (vars : List Var) (n : ℕ) → records_in dims drafts ≡ n → map (λ (d : Draft). d.var) drafts ≡ vars →
-    list_all (is_small dims n) drafts ≡ true → record_size_of dims (record_vars dims vars) ≤ record_limit → is_small_enough v (state Ended dims gatts drafts) ≡ true
-unfolding is_small_enough
+    list_all (is_within_limits dims n) drafts ≡ true → record_size_of dims (record_vars dims vars) ≤ record_limit → are_within_limits v (state Ended dims gatts drafts) ≡ true
+unfolding are_within_limits
 small_all v dims gatts drafts vars n r vs small limit = search (rules, and_both)
 
 ready : (d : Dataset) (o : Options) → IsSayable d → IsFull o → (section : DataText) → (g : IsGood d) → section ≡ shown_data_text d.header o (values_in_dataset d) g.records (selection_of d.header o) →

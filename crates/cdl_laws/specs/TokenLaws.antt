@@ -5,7 +5,7 @@ use Rattle.nc_base.specs.Bytes.{Bytes}
 use Rattle.nc_base.specs.declared.{nc_type.NcType.NcType, nc_type.NcType.TheVariants.Int, version.Version.Version}
 use Rattle.nc_base.specs.Escapes.{escaped_name, escaped_text, is_reserved}
 use Rattle.nc_base.specs.Names.{IsName}
-use Rattle.nc_base.specs.Numbers.{IsInRange}
+use Rattle.nc_base.specs.NumberLaws.{IsInRange}
 use Rattle.nc_base.specs.Types.{number_suffix}
 use Rattle.nc_base.specs.ValueText.{is_char}
 use Rattle.nc_base.specs.Versions.{has_type}

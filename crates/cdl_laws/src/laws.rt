@@ -1,7 +1,8 @@
 //! Laws of the definitions, each the contract of a function that does nothing.
 //!
-//! "A text can declare a dataset" stands for `IsSayable`, and "a full dump" for a dump of all values under a valid name. "Within the
-//! limit" is a text of at most 268,435,456 bytes. The NULs at the end of attributes are those of attributes of characters.
+//! "A text can declare a dataset" stands for `IsSayable`, and "a full dump" for a dump of all values under a valid name. A "good"
+//! dataset (`IsGood`) is one that a file can hold, with each begin 0. "Within the limit" is a text of at most 268,435,456 bytes. The NULs
+//! at the end of attributes are those of attributes of characters.
 
 ghost use Rattle.nc_base.specs.declared.version.Version.{Version};
 ghost use Rattle.cdl_laws.specs.Goods.{LimitIsNeeded, MeaningsAreGood, MeaningsAreNearlySayable, NearlyIsSayable};
@@ -14,12 +15,12 @@ ghost use Rattle.cdl_laws.specs.Trims.{FillValueSurvivesTrim, MeaningsAreSayable
 /// What a dump prints of a name, a string or a number is read as one token, of exactly the printed bytes, and that token says what was
 /// printed.
 ///
-/// If a valid name is escaped, it is one word, which isn't reserved and stands for the name. If bytes are escaped and put between quotes,
-/// they are one string, which stands for the bytes. If the version has the type of a number, the number with the type's suffix is one
-/// number token, of this number and this type. Without the suffix it is one number token of this number.
-///
-/// A string is read back whatever follows it. A word or a number is read back if what follows doesn't continue it. White space and marks
-/// don't, and in a dump one of them follows each word and each number.
+/// - `names`: a valid name, escaped, is one word, which isn't reserved and stands for the name. Nothing that continues a word may follow.
+/// - `strings`: bytes, escaped and put between quotes, are one string, which stands for the bytes. Anything may follow.
+/// - `constants`: a number with the suffix of its type, as an attribute has it, is one number token, of this number and this type. The
+///   version has to have the type, and nothing that continues a number may follow.
+/// - `values`: a number without a suffix, as a variable has it, is one number token of this number, under the same two conditions.
+/// - `stops`: white space and marks continue neither a word nor a number. In a dump one of them follows each word and each number.
 pub fn token_reads_back()
     ensures names { NamesReadBack }
     ensures strings { StringsReadBack }
@@ -28,19 +29,19 @@ pub fn token_reads_back()
     ensures stops { BlanksAndMarksStop }
 {}
 
-/// If a token of a text is a string, each character between its quotes stands for a byte. So these bytes can be taken without asking if
-/// there are any: a string with an escape that stands for no byte isn't a token of that kind.
+/// If a token of a text is a string, each character between its quotes (a byte that stands for itself, or an escape) stands for a byte. So
+/// no caller has to ask if it does: a string with an escape that stands for no byte, such as `\400`, is a bad token instead.
 pub fn strings_stand_for_bytes()
     ensures { StringsStandForBytes }
 {}
 
-/// If a text can declare a dataset, then each of these parts of its dump is one piece, whatever follows: the line of a dimension, the
-/// declaration of a variable, the line of an attribute, and the text of a variable's values. This piece is the statement that declares the
-/// dimension or the variable, gives the attribute, or lists the values.
+/// A piece is a part that a text is cut into, such as a statement. If a text can declare a dataset, then each of these parts of its dump is
+/// one piece, whatever follows: the line of a dimension, the declaration of a variable, the line of an attribute, and the text of a
+/// variable's values. This piece is the statement that declares the dimension or the variable, gives the attribute, or lists the values.
 ///
 /// The first line, the section marks and the last line of a dump are pieces, too. The comment before the global attributes is none.
 ///
-/// The pieces are the statements of a text. They are cut from lexemes, which are its tokens without their places.
+/// The clause `pieces` says of any text that its lexemes (its tokens without their places) are cut into the same pieces as its tokens.
 pub fn piece_reads_back()
     ensures pieces { PiecesAreStatements }
     ensures marks { (v : Version) → MarksReadBack v }
@@ -51,16 +52,18 @@ pub fn piece_reads_back()
     ensures values { DataReadsBack }
 {}
 
-/// If a text can declare a dataset, then the text of a variable's values in its dump, at any width, is a statement that lists values. If
-/// these values are added one after the other, and filled up with the fill value, they give the variable's array.
+/// If a text can declare a dataset, then in the dump of the dataset, at any width, the text of a variable's values is a statement that
+/// lists values. If a data section gives these values to the variable, one after the other, and the rest is filled up with the fill value,
+/// the result is the variable's array.
 ///
-/// If a variable of the dataset has no value, its array is empty.
-pub fn row_reads_back()
+/// The clause `rows` is about a variable that has values. A variable without values has no such text, and its array is empty (`empty`).
+pub fn array_reads_back()
     ensures rows { RowsReadBack }
     ensures empty { EmptyRowsReadBack }
 {}
 
-/// If a text can declare a dataset, then its full dump, at any width, means this dataset without the NULs at the end of its attributes.
+/// If a text can declare a dataset, then its full dump (of all values, under a valid name), at any width, means this dataset without the
+/// NULs at the end of its attributes of characters.
 pub fn text_reads_back()
     ensures { TextReadsBack }
 {}
@@ -71,7 +74,8 @@ pub fn dumps_tell_datasets_apart()
     ensures { DumpsTellDatasetsApart }
 {}
 
-/// If a text of bytes within the limit means a dataset, then this dataset is good, and of the version that was asked for.
+/// If a text of at most 268,435,456 bytes means a dataset, then this dataset is good (a file can hold it, and each begin is 0), and of the
+/// version that was asked for.
 pub fn meanings_are_good()
     ensures { MeaningsAreGood }
 {}
@@ -82,29 +86,31 @@ pub fn limit_is_needed()
     ensures { LimitIsNeeded }
 {}
 
-/// If a text of bytes within the limit means a dataset, then this dataset is good, and no two names of one list are equal. Each attribute
-/// of numbers has a value, and if no variable has records, the number of records is 0.
+/// If a text of bytes within the limit means a dataset, then this dataset is good. No two of its dimensions, of its variables, of its own
+/// attributes, or of the attributes of one variable have the same name. Each attribute of numbers has a value. If there is no record
+/// variable, the number of records is 0.
 ///
-/// A dataset that a text can declare is all this, and the fill value of each variable of characters stays the same without the NULs at the
-/// end of its attributes.
+/// Such a dataset is nearly sayable. A sayable dataset (`IsSayable`), which a text can declare, is all this, and the fill value of each
+/// variable of characters stays the same without the NULs at the end of its attributes.
 pub fn meanings_are_nearly_sayable()
     ensures { MeaningsAreNearlySayable }
 {}
 
-/// If a dataset is all that [`meanings_are_nearly_sayable`] says, and the fill value of each variable of characters stays the same without
-/// the NULs at the end of its attributes, then a text can declare the dataset.
+/// If a dataset is nearly sayable, as [`meanings_are_nearly_sayable`] explains, and the fill value of each variable of characters stays the
+/// same without the NULs at the end of its attributes, then the dataset is sayable: a text can declare it.
 pub fn nearly_is_sayable()
     ensures { NearlyIsSayable }
 {}
 
-/// The fill value of a variable of characters stays the same without the NULs at the end of its attributes, except in one case. In that
-/// case its first attribute named `_FillValue` is one character other than NUL, and then one or more NULs.
+/// The fill value of a variable of characters stays the same without the NULs at the end of its attributes, except in one case: its first
+/// attribute named `_FillValue` is one character other than NUL, and then one or more NULs. Only without these NULs is it a single value,
+/// and so the fill value.
 pub fn fill_value_survives_trim()
     ensures { FillValueSurvivesTrim }
 {}
 
 /// If a text of bytes within the limit means a dataset, then a text can declare this dataset (in the sense of `IsSayable`) if and only if
-/// none of its variables of characters is in that case of [`fill_value_survives_trim`].
+/// none of its variables of characters is in the one case that [`fill_value_survives_trim`] excepts.
 pub fn meanings_are_sayable()
     ensures { MeaningsAreSayable }
 {}
@@ -119,14 +125,15 @@ pub fn trimmed_is_sayable()
     ensures { TrimmedIsSayable }
 {}
 
-/// If a text can declare a dataset, then its full dump means a second dataset. The full dump of the second dataset means the second dataset
-/// again. The two dumps may have different names and widths.
+/// If a text can declare a dataset, then its full dump means a second dataset, which is the first without the NULs at the end of its
+/// attributes. The full dump of the second dataset means the second dataset again: a second trip, from dataset to text and back, changes
+/// nothing. The two dumps may have different names and widths.
 pub fn second_trip_is_same()
     ensures { SecondTripIsSame }
 {}
 
 /// If a text of bytes within the limit means a dataset that a text can declare, then the full dump of this dataset means a second dataset.
-/// The full dump of the second dataset means the second dataset again.
+/// The full dump of the second dataset means the second dataset again. This is [`second_trip_is_same`] for a dataset that a text means.
 pub fn meanings_come_back()
     ensures { MeaningsComeBack }
 {}

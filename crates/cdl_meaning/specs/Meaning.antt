@@ -15,10 +15,6 @@ use Rattle.cdl_statements.specs.declared.fault.CdlKind.TheVariants.{Syntax, TooL
 use Rattle.cdl_tokens.specs.declared.token.Token.{Token}
 use Rattle.cdl_meaning.specs.State.{State, Draft, act, capacity_of, filled, values_in}
 
--- the most bytes of a text for `ncgen` and for the laws; `meaning` has no limit
-abbrev pub text_limit : ℕ
-text_limit = 268435456
-
 -- ---- statements
 
 -- A bad token comes before a fault of syntax, and that before a fault of meaning.
@@ -33,7 +29,7 @@ abbrev pub starting_line : List Token → ℕ
 starting_line [] = 0
 starting_line (t ∷ ts) = t.line
 
--- Each piece has to have a shape of its section, and only the End of the text ends the last section: a run without a fault has read it.
+-- the state after these pieces, or the fault of the first that has one, on the line on which that piece begins
 unfoldable pub run : Bytes → Version → State → List (List Token) → Result State CdlFault
 run text v s [] = Ok s
 run text v s (p ∷ ps) =
@@ -59,7 +55,7 @@ abbrev pub records_in : List Dim → List Draft → ℕ
 records_in dims [] = 0
 records_in dims (d ∷ ds) = max (records_of dims d) (records_in dims ds)
 
--- the array of a variable over n records
+-- the array of a variable over n records: what is listed, and then fill values
 abbrev pub array_of : List Dim → ℕ → Draft → Bytes
 array_of dims n d = flat_map (bytes_of_number d.var.ty) (filled (value_count dims d.var n) (fill_value d.var) (listed_values dims d))
 
@@ -75,22 +71,21 @@ header_of v s = record {
 abbrev pub dataset_of : Version → State → Dataset
 dataset_of v s = record { header = header_of v s; arrays = map (array_of s.dims (records_in s.dims s.drafts)) s.drafts }
 
-abbrev pub is_small : List Dim → ℕ → Draft → Bool
-is_small dims n d = nat_le (slab_size dims d.var) slab_limit && nat_le (value_count dims d.var n * size_of d.var.ty) array_limit
+abbrev pub is_within_limits : List Dim → ℕ → Draft → Bool
+is_within_limits dims n d = nat_le (slab_size dims d.var) slab_limit && nat_le (value_count dims d.var n * size_of d.var.ty) array_limit
 
-unfoldable pub is_small_enough : Version → State → Bool
-is_small_enough v s = list_all (is_small s.dims (records_in s.dims s.drafts)) s.drafts && nat_le (record_size (header_of v s)) record_limit
+unfoldable pub are_within_limits : Version → State → Bool
+are_within_limits v s = list_all (is_within_limits s.dims (records_in s.dims s.drafts)) s.drafts && nat_le (record_size (header_of v s)) record_limit
 
--- the line of the last piece but one, the closing brace
+-- the line of the last piece but one: in a text without a fault, the closing brace
 abbrev pub closing_line : List (List Token) → ℕ
 closing_line [] = 0
-closing_line (p ∷ []) = 0
 closing_line (p ∷ q ∷ []) = starting_line p
-closing_line (p ∷ q ∷ r ∷ ps) = closing_line (q ∷ r ∷ ps)
+closing_line (p ∷ ps) = closing_line ps
 
 unfoldable pub finished : Version → ℕ → Result State CdlFault → Result Dataset CdlFault
 finished v line (Err fault) = Err fault
-finished v line (Ok s) = if is_small_enough v s then Ok (dataset_of v s) else Err (record { line = line; kind = TooLarge })
+finished v line (Ok s) = if are_within_limits v s then Ok (dataset_of v s) else Err (record { line = line; kind = TooLarge })
 
 abbrev pub meaning : Bytes → Version → Result Dataset CdlFault
 meaning text v = finished v (closing_line (statements text)) (run text v empty (statements text))
@@ -98,3 +93,7 @@ meaning text v = finished v (closing_line (statements text)) (run text v empty (
 -- the answer if an allocation failed: it has no line, and says nothing of the text
 abbrev pub out_of_memory : CdlFault
 out_of_memory = record { line = 0; kind = OutOfMemory }
+
+-- `ncgen` takes no longer text than this, and the laws are about no longer one (whose dataset could have counts that no field holds)
+abbrev pub text_limit : ℕ
+text_limit = 268435456

@@ -61,7 +61,7 @@ when false e = Ok tt
 abbrev pub int_within : ℤ → ℤ → ℤ → Bool
 int_within low high n = int_le low n && int_le n high
 
--- `IsInRange`, as a test
+-- the type has the number
 unfoldable pub has_number : NcType → ℤ → Bool
 has_number ty n =
     if is_signed ty then int_within (neg_ℤ (pos (2 ^ hbits (width_of ty)))) (pos (2 ^ hbits (width_of ty) - 1)) n
@@ -113,24 +113,24 @@ add_var dims ty drafts v = do
   Ok (drafts ++ record { var = record { name = v.name; dimids = ids; atts = []; ty = ty; begin_at = 0 }; listed = None } ∷ [])
 
 -- the variables, with f applied to the one of this name
-abbrev pub at_named : Bytes → (Draft → Result Draft CdlKind) → List Draft → Result (List Draft) CdlKind
-at_named name f [] = Err UnknownVariable
-at_named name f (d ∷ ds) =
+abbrev pub change_named : Bytes → (Draft → Result Draft CdlKind) → List Draft → Result (List Draft) CdlKind
+change_named name f [] = Err UnknownVariable
+change_named name f (d ∷ ds) =
     if bytes_eq d.var.name name then (do
       e ← f d
       Ok (e ∷ ds))
     else (do
-      es ← at_named name f ds
+      es ← change_named name f ds
       Ok (d ∷ es))
 
-unfoldable pub at_variable : Bytes → (Draft → Result Draft CdlKind) → List Draft → Result (List Draft) CdlKind
-at_variable name f ds = do
+unfoldable pub change_variable : Bytes → (Draft → Result Draft CdlKind) → List Draft → Result (List Draft) CdlKind
+change_variable name f ds = do
   _ ← unless (is_name name) BadName
-  at_named name f ds
+  change_named name f ds
 
 -- ---- attributes
 
--- No constant of an attribute is `_`.
+-- the type of a constant (no constant of an attribute is `_`)
 abbrev pub type_said : Value → NcType
 type_said (Number n) = n.ty
 type_said (Characters bytes) = Char
@@ -146,7 +146,7 @@ add_constant ty vals (Characters bytes) = do
   Ok (vals ++ bytes)
 add_constant ty vals Underscore = Err MixedConstants
 
--- An attribute has the type of its first constant, and at least one.
+-- the type of an attribute: that of its first constant, and it has one at least
 abbrev pub first_type : List Value → NcType
 first_type [] = Char
 first_type (c ∷ cs) = type_said c
@@ -175,7 +175,7 @@ pub record Capacity : Type 0 where
   pub count : ℕ
   -- the rank is 2 or more
   pub in_rows : Bool
-  -- how many rows there are (0 for a record variable, which is open), and how many values each has
+  -- if in_rows: how many rows there are (0 for a record variable, which is open), and how many values a row has
   pub rows : ℕ
   pub row : ℕ
 
@@ -187,7 +187,7 @@ capacity_of dims var = record {
   count = slab_count dims var;
   in_rows = not (nat_lt (length var.dimids) 2);
   rows = product (map (dim_len dims) (take (length var.dimids - 1) var.dimids));
-  -- (rows and row count only if in_rows)
+  -- (the 0 is for rank 0 and 1)
   row = row_len dims var.dimids 0;
 }
 
@@ -214,7 +214,6 @@ add_row capacity before (Characters bytes) = do
   Ok (before ++ bytes ∷ [])
 add_row capacity before _ = Err WrongKind
 
--- the values, added one by one with add, as a listing
 abbrev pub listed_by : {A : Type 0} → (List A → Value → Result (List A) CdlKind) → (List A → Listing) → List Value → Result Listing CdlKind
 listed_by add listing values = in_turn add [] values >>= (λ items. Ok (listing items))
 
@@ -223,10 +222,11 @@ listing_of capacity values =
     if is_char capacity.ty then (if capacity.in_rows then listed_by (add_row capacity) Rows values else listed_by (add_characters capacity) Joined values)
     else listed_by (add_number capacity) Numbers values
 
+-- the values, and fill values up to n in all
 abbrev pub filled : ℕ → ℤ → List ℤ → List ℤ
 filled n fill values = values ++ replicate (n - length values) fill
 
--- Each row is filled up.
+-- what a listing lists; each row is filled up
 abbrev pub values_in : Capacity → Listing → List ℤ
 values_in capacity (Numbers values) = values
 values_in capacity (Joined bytes) = map pos bytes
@@ -254,10 +254,10 @@ act v s (Attribute None name cs) = do
   atts ← add_att name cs s.gatts
   Ok (record s { gatts = atts })
 act v s (Attribute (Some variable) name cs) = do
-  drafts ← at_variable variable (with_att name cs) s.drafts
+  drafts ← change_variable variable (with_att name cs) s.drafts
   Ok (record s { drafts = drafts })
 act v s (Listed variable xs) = do
-  drafts ← at_variable variable (with_values s.dims xs) s.drafts
+  drafts ← change_variable variable (with_values s.dims xs) s.drafts
   Ok (record s { drafts = drafts })
 act v s Close = Ok (record s { section = Closed })
 act v s End = Ok (record s { section = Ended })

@@ -4,10 +4,10 @@ ghost use Rattle.std.specs.Prelude.{◌≡◌, ◌+◌, ◌<◌, ◌≤◌, ◌^
 ghost use Rattle.std.specs.Fmt.{decimal, signed_decimal};
 ghost use Rattle.cdl_number_text.specs.code.NumberTexts.{text_of};
 
-use crate::put::put_at;
+use crate::put::put_bytes;
 use itoa::write_digits;
 
-/// Returns how many bytes a number has in decimal, with a minus if it is negative.
+/// Returns how many bytes `number` has in decimal, with a minus if it is negative: at most 21. Needs an absolute value below 2^64.
 #[inline(always)]
 pub fn decimal_len(number: i128) -> usize
     requires { unsigned_abs number < 2 ^ 64 }
@@ -18,7 +18,7 @@ pub fn decimal_len(number: i128) -> usize
     if number < 0 { digits + 1 } else { digits }
 }
 
-/// Returns how many digits a number has in decimal.
+/// Returns how many digits `n` has in decimal, from 1 to 20.
 #[inline(always)]
 fn digit_count(n: u64) -> usize
     ensures len { result ≡ length (decimal n) }
@@ -37,7 +37,7 @@ fn digit_count(n: u64) -> usize
     }
 }
 
-/// Returns how many digits a number below 10,000 has.
+/// Returns how many digits `n` has in decimal, as [`digit_count`] does for any number. Needs a number below 10,000.
 #[inline(always)]
 fn few_digit_count(n: u64) -> usize
     requires { n < 10000 }
@@ -53,7 +53,8 @@ fn few_digit_count(n: u64) -> usize
     }
 }
 
-/// Writes a number in decimal at the offset `at` of `text`. The number has `len` bytes in decimal.
+/// Writes `number` in decimal, with a minus if it is negative, at the offset `at` of `text`. Needs an absolute value below 2^64, the number
+/// of these bytes as `len` ([`decimal_len`]), and room for them. The contract says nothing of the bytes after them.
 #[inline(always)]
 pub fn put_decimal(text: &mut [u8], at: usize, len: usize, number: i128)
     requires short { unsigned_abs number < 2 ^ 64 }
@@ -63,14 +64,15 @@ pub fn put_decimal(text: &mut [u8], at: usize, len: usize, number: i128)
 {
     let magnitude = number.unsigned_abs() as u64;
     if number < 0 {
-        let start = put_at(text, at, b"-");
+        let start = put_bytes(text, at, b"-");
         put_digits(text, start, len - 1, magnitude);
     } else {
         put_digits(text, at, len, magnitude);
     }
 }
 
-/// Returns how many bytes the text of a number has. If `is_fill`, the text is `_`, otherwise the number in decimal.
+/// Returns how many bytes [`put_text`] writes: 1 for `_` if `is_fill`, otherwise as many as `number` has in decimal. Needs an absolute
+/// value below 2^64.
 #[inline(always)]
 pub fn text_len(is_fill: bool, number: i128) -> usize
     requires { unsigned_abs number < 2 ^ 64 }
@@ -80,8 +82,9 @@ pub fn text_len(is_fill: bool, number: i128) -> usize
     if is_fill { 1 } else { decimal_len(number) }
 }
 
-/// Writes the text of a number at the offset `at` of `text`. If `is_fill`, the text of the number is `_`, otherwise it is the number in
-/// decimal. The text of the number has `len` bytes.
+/// Writes a variable's number, as a dump prints it, at the offset `at` of `text`: `_` if `is_fill`, otherwise `number` in decimal. Needs an
+/// absolute value below 2^64, the number of these bytes as `len` ([`text_len`]), and room for them. The contract says nothing of the bytes
+/// after them.
 #[inline(always)]
 pub fn put_text(text: &mut [u8], at: usize, len: usize, is_fill: bool, number: i128)
     requires short { unsigned_abs number < 2 ^ 64 }
@@ -96,7 +99,8 @@ pub fn put_text(text: &mut [u8], at: usize, len: usize, is_fill: bool, number: i
     }
 }
 
-/// Writes a number in decimal at the offset `at` of `text`, without a sign. The number has `len` digits. The bytes after it may change.
+/// Writes the decimal digits of `n` at the offset `at` of `text`. Needs the number of these digits as `len`, and room for them. The
+/// contract says nothing of the bytes after them.
 #[inline(always)]
 pub fn put_digits(text: &mut [u8], at: usize, len: usize, n: u64)
     requires len { len ≡ length (decimal n) }

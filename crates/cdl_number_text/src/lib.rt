@@ -17,4 +17,4 @@ mod decimal;
 mod put;
 
 pub use decimal::{decimal_len, put_decimal, put_digits, put_text, text_len};
-pub use put::{put_at, put_byte, put_comma};
+pub use put::{put_byte, put_bytes, put_comma};

@@ -2,9 +2,9 @@
 
 ghost use Rattle.std.specs.Prelude.{◌≡◌, ◌+◌, ◌≤◌, ◌++◌, ◌∷◌, [], codes, length, take};
 
-/// Writes `bytes` at the offset `at` of `text`, and returns the offset of their end.
+/// Writes `bytes` at the offset `at` of `text`, and returns the offset of their end. Needs room for them.
 #[inline(always)]
-pub fn put_at(text: &mut [u8], at: usize, bytes: &[u8]) -> usize
+pub fn put_bytes(text: &mut [u8], at: usize, bytes: &[u8]) -> usize
     requires { at + length bytes.now ≤ length text.old }
     ensures end { result ≡ at + length bytes.now }
     ensures written { take result text.new ≡ take at text.old ++ bytes.now }
@@ -14,7 +14,7 @@ pub fn put_at(text: &mut [u8], at: usize, bytes: &[u8]) -> usize
     end
 }
 
-/// Writes `, ` at the offset `at` of `text`, and returns the offset of its end.
+/// Writes a comma and a space at the offset `at` of `text`, and returns the offset of their end. Needs room for both.
 #[inline(always)]
 pub fn put_comma(text: &mut [u8], at: usize) -> usize
     requires { at + 2 ≤ length text.old }
@@ -25,7 +25,7 @@ pub fn put_comma(text: &mut [u8], at: usize) -> usize
     put_byte(text, next, b' ')
 }
 
-/// Writes a byte at the offset `at` of `text`, and returns the offset of its end.
+/// Writes `byte` at the offset `at` of `text`, and returns the offset after it. Needs room for it.
 #[inline(always)]
 pub fn put_byte(text: &mut [u8], at: usize, byte: u8) -> usize
     requires { at + 1 ≤ length text.old }

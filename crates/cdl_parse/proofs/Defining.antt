@@ -1,6 +1,6 @@
 -- What the statements before the data section make of the state.
 use Rattle.std.proofs.Common.{◌≡◌, Bool, true, false, List, [], ◌∷◌, drop, refl, sym, ap, ◌∙◌, Option, None, Some, is_some, Result, Ok, Err, if◌then◌else◌, arith, rules}
-use Rattle.cdl_parse.proofs.Prelude.{false≢true, Att, Dim, Version, attribute_said, dimensions_said, mark_said, other_said, statement_said, variable_said, is_done, next_token, text_of, words, Cutter, completes, opens_section_after, is_whole, next, only, word_value, Lexeme, lexeme, is_mark, is_word_kind, Close, End, Statement, first_bad, section_of, shape, Due, CdlKind, Syntax, Section, Unopened, Globals, Dimensions, Variables, Closed, Ended, piece_read, checked, shaped, State, Draft, act, add_att, add_dim, at_variable, in_turn, with_att, Leaves, name_first, ReadError, OutOfMemory, Fault, constants_said, declared, Makes, after_mark, is_defining, is_over, state_of, ◌>>=◌, ⊤}
+use Rattle.cdl_parse.proofs.Prelude.{false≢true, Att, Dim, Version, attribute_said, dimensions_said, mark_said, other_said, statement_said, variable_said, is_done, next_token, text_of, words, Cutter, completes, opens_section_after, is_whole, next, only, word_value, Lexeme, lexeme, is_mark, is_word_kind, Close, End, Statement, first_bad, section_of, shape, Due, CdlKind, Syntax, Section, Unopened, Globals, Dimensions, Variables, Closed, Ended, piece_read, checked, shaped, State, Draft, act, add_att, add_dim, change_variable, in_turn, with_att, Leaves, name_first, ReadError, OutOfMemory, Fault, constants_said, declared, Makes, after_mark, is_defining, is_over, state_of, ◌>>=◌, ⊤}
 use Rattle.cdl_statements.specs.code.DueTokens.{is_name}
 use Rattle.cdl_statements.specs.declared.due.Due.TheVariants as dues
 use Rattle.cdl_statements.proofs.Options.{none_of}
@@ -108,7 +108,7 @@ unfolding next
 next_colon named section c on is = rw (on) (rw (is) refl)
 
 said_attribute : (v : Version) (s : State) (l c : Lexeme) (ls : List Lexeme) → is_mark 0x3a c ≡ true → is_name l ≡ true → completes dues.AttributeName ls ≡ true →
-    act v s (variable_said v l (c ∷ ls)) ≡ (at_variable (word_value l.bytes) (with_att (name_first ls) (constants_said v ls)) s.drafts >>= (λ drafts. Ok (record s { drafts = drafts })))
+    act v s (variable_said v l (c ∷ ls)) ≡ (change_variable (word_value l.bytes) (with_att (name_first ls) (constants_said v ls)) s.drafts >>= (λ drafts. Ok (record s { drafts = drafts })))
 unfolding act completes
 said_attribute v s l c ls h h2 h3 = grind arith
 
@@ -118,7 +118,7 @@ goes_attribute l c ls rest on named second whole = ap (λ d. completes d rest) (
 
 pub makes_attribute : (v : Version) (s : State) (l c : Lexeme) (rest ls ws : List Lexeme) (drafts : List Draft) (r : Result ⊤ ReadError) →
     is_mark 0x7d l ≡ false → is_mark 0x3a l ≡ false → is_mark 0x3a c ≡ true → is_name l ≡ true → ls ≡ c ∷ rest → ws ≡ l ∷ ls → completes (dues.AfterWord (is_name l) (opens_section_after Variables l)) ls ≡ true →
-    Leaves drafts r (at_variable (name_first ws) (with_att (name_first (drop 2 ws)) (constants_said v (drop 2 ws))) s.drafts) → Makes (record s { drafts = drafts }) r (act v s (statement_said v Variables ws))
+    Leaves drafts r (change_variable (name_first ws) (with_att (name_first (drop 2 ws)) (constants_said v (drop 2 ws))) s.drafts) → Makes (record s { drafts = drafts }) r (act v s (statement_said v Variables ws))
 makes_attribute v s l c rest ls ws drafts r off other on named second first whole h =
     search (rules, name_first, said_attribute, goes_attribute, makes_then, said_other)
 

@@ -1,6 +1,6 @@
 -- What a text declares is the dataset that it means.
 use Rattle.std.proofs.Common.{◌≡◌, ℕ, Bool, true, false, List, [], ◌∷◌, map, refl, sym, ap, ◌∙◌, ◌&&◌, if◌then◌else◌, nat_le, Option, None, Some, Ok, is_some, arith, rules}
-use Rattle.cdl_parse.proofs.Prelude.{filter, list_all, Att, Dim, Header, Known, Var, Version, checked_record_size, has_small_slab, record_limit, record_size, is_record_var, array_of, dataset_of, finished, header_of, is_small, is_small_enough, records_in, AllList, AreShaped, records_kept, whole_array, whole_arrays, Draft, State, dataset_of_declared, or_too_large, Declared, and_left}
+use Rattle.cdl_parse.proofs.Prelude.{filter, list_all, Att, Dim, Header, Known, Var, Version, checked_record_size, has_small_slab, record_limit, record_size, is_record_var, array_of, dataset_of, finished, header_of, is_within_limits, are_within_limits, records_in, AllList, AreShaped, records_kept, whole_array, whole_arrays, Draft, State, dataset_of_declared, or_too_large, Declared, and_left}
 use Rattle.std.proofs.lemmas.Grind.{flat_map-append}
 use Rattle.cdl_parse.proofs.SizeLimits.{all_are, all_small, has_small, listed_count, listed_of, var_of}
 
@@ -15,7 +15,7 @@ of_vars dims [] = refl
 of_vars dims (d ∷ drafts) = ap (λ b. has_small dims d && b) (of_vars dims drafts)
 
 -- where the arrays keep their limits, the record's limit decides
-pub record_checked : (v : Version) (s : State) → list_all (is_small s.dims (records_in s.dims s.drafts)) s.drafts ≡ true →
+pub record_checked : (v : Version) (s : State) → list_all (is_within_limits s.dims (records_in s.dims s.drafts)) s.drafts ≡ true →
     checked_record_size (header_of v s) ≡ (if nat_le (record_size (header_of v s)) record_limit then Some (record_size (header_of v s)) else None)
 record_checked v s small =
     grind (arith, all_small s.dims (records_in s.dims s.drafts) s.drafts, kept_all (has_small_slab s.dims) (is_record_var s.dims) (map var_of s.drafts), of_vars s.dims s.drafts, and_left)
@@ -37,13 +37,13 @@ dataset_is v s = ap (λ arrays. record { header = header_of v s; arrays = arrays
 
 -- ---- the answers
 
-answer : (v : Version) (s : State) (line : ℕ) (enough : Bool) → is_small_enough v s ≡ enough → finished v line (Ok s) ≡ or_too_large line (if enough then Some (declared v s) else None)
+answer : (v : Version) (s : State) (line : ℕ) (enough : Bool) → are_within_limits v s ≡ enough → finished v line (Ok s) ≡ or_too_large line (if enough then Some (declared v s) else None)
 unfolding finished
 answer v s line true is = rw (is) (ap Ok (dataset_is v s))
 answer v s line false is = rw (is) refl
 
-enough_is : (v : Version) (s : State) (small within : Bool) → list_all (is_small s.dims (records_in s.dims s.drafts)) s.drafts ≡ small → nat_le (record_size (header_of v s)) record_limit ≡ within → is_small_enough v s ≡ (small && within)
-unfolding is_small_enough
+enough_is : (v : Version) (s : State) (small within : Bool) → list_all (is_within_limits s.dims (records_in s.dims s.drafts)) s.drafts ≡ small → nat_le (record_size (header_of v s)) record_limit ≡ within → are_within_limits v s ≡ (small && within)
+unfolding are_within_limits
 enough_is v s small within a b = rw (a) (rw (b) refl)
 
 some_of : {A : Type 0} (b : Bool) (n m : A) → (if b then Some n else None) ≡ Some m → (b ≡ true) × (n ≡ m)
@@ -55,7 +55,7 @@ none_of b n h = grind arith
 -- no number of records is kept
 pub array_too_large : (v : Version) (s : State) (line : ℕ) → records_kept s.dims s.drafts ≡ None → finished v line (Ok s) ≡ or_too_large line None
 array_too_large v s line none =
-    let small = none_of (list_all (is_small s.dims (records_in s.dims s.drafts)) s.drafts) (records_in s.dims s.drafts) none in
+    let small = none_of (list_all (is_within_limits s.dims (records_in s.dims s.drafts)) s.drafts) (records_in s.dims s.drafts) none in
     answer v s line false (enough_is v s false (nat_le (record_size (header_of v s)) record_limit) small refl)
 
 -- the header that these make
@@ -77,7 +77,7 @@ header_at v n s dims gatts vars listed is att-is lists = search (rules, all_are)
 
 pub record_too_large : (v : Version) (s : State) (line n : ℕ) → records_kept s.dims s.drafts ≡ Some n → checked_record_size (header_with v n s) ≡ None → finished v line (Ok s) ≡ or_too_large line None
 record_too_large v s line n kept none =
-    let some = some_of (list_all (is_small s.dims (records_in s.dims s.drafts)) s.drafts) (records_in s.dims s.drafts) n kept in
+    let some = some_of (list_all (is_within_limits s.dims (records_in s.dims s.drafts)) s.drafts) (records_in s.dims s.drafts) n kept in
     let checked = sym (record_checked v s some.0) ∙ ap checked_record_size (sym (same_header v s n some.1)) ∙ none in
     let over = none_of (nat_le (record_size (header_of v s)) record_limit) (record_size (header_of v s)) checked in
     answer v s line false (enough_is v s true false some.0 over)

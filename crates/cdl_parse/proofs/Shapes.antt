@@ -1,6 +1,6 @@
 -- The statements of the section of the variables keep the variables' shapes.
 use Rattle.std.proofs.Common.{◌≡◌, ℕ, suc, ◌<◌, Bool, true, false, List, [], ◌∷◌, ◌++◌, length, sym, subst, append_assoc, append-nil, arith, Option, Result, Ok, Err, IfOk, IfSome, if◌then◌else◌, rules}
-use Rattle.cdl_parse.proofs.Prelude.{All-cons, All-push, position, bytes_eq, AreDimids, IsDimid, is_name, Dim, NcType, Value, CdlKind, BadName, DuplicateName, Draft, add_dimid, add_var, at_named, at_variable, ok_or, in_turn, unless, when, with_att, AreShaped, draft, is_variable_name, none_before, ◌>>=◌, ⊤}
+use Rattle.cdl_parse.proofs.Prelude.{All-cons, All-push, position, bytes_eq, AreDimids, IsDimid, is_name, Dim, NcType, Value, CdlKind, BadName, DuplicateName, Draft, add_dimid, add_var, change_named, change_variable, ok_or, in_turn, unless, when, with_att, AreShaped, draft, is_variable_name, none_before, ◌>>=◌, ⊤}
 use Rattle.cdl_statements.specs.Shapes.{Variable}
 
 -- ---- what an Ok has
@@ -63,19 +63,19 @@ added_shaped dims ty drafts xs are = turns (add_var dims ty) (AreShaped dims) (v
 abbrev pub Keeps : (Draft → Result Draft CdlKind) → Type 0
 Keeps f = (d : Draft) → IfOk (f d) (λ e. e.var.dimids ≡ d.var.dimids)
 
-named_shaped : (dims : List Dim) (name : List ℕ) (f : Draft → Result Draft CdlKind) → Keeps f → (drafts : List Draft) → AreShaped dims drafts → IfOk (at_named name f drafts) (AreShaped dims)
+named_shaped : (dims : List Dim) (name : List ℕ) (f : Draft → Result Draft CdlKind) → Keeps f → (drafts : List Draft) → AreShaped dims drafts → IfOk (change_named name f drafts) (AreShaped dims)
 named_shaped dims name f keeps [] are = tt
 named_shaped dims name f keeps (d ∷ drafts) are =
     let first : IsShaped dims d = are 0 d (omega arith) in
     let others : AreShaped dims drafts = λ k e h. are (suc k) e (omega (arith, h)) in
-    elim (bytes_eq d.var.name name) as (λ b. IfOk (if b then f d >>= (λ e. Ok (e ∷ drafts)) else at_named name f drafts >>= (λ es. Ok (d ∷ es))) (AreShaped dims)) [
+    elim (bytes_eq d.var.name name) as (λ b. IfOk (if b then f d >>= (λ e. Ok (e ∷ drafts)) else change_named name f drafts >>= (λ es. Ok (d ∷ es))) (AreShaped dims)) [
       | true ↦ ok_then (λ (e : Draft). e.var.dimids ≡ d.var.dimids) (AreShaped dims) (f d) (λ e. Ok (e ∷ drafts)) (keeps d) (λ e same. All-cons (IsShaped dims) e drafts (subst (AreDimids dims []) (sym same) first) others)
-      | false ↦ ok_then (AreShaped dims) (AreShaped dims) (at_named name f drafts) (λ es. Ok (d ∷ es)) (named_shaped dims name f keeps drafts others) (λ es all. All-cons (IsShaped dims) d es first all)
+      | false ↦ ok_then (AreShaped dims) (AreShaped dims) (change_named name f drafts) (λ es. Ok (d ∷ es)) (named_shaped dims name f keeps drafts others) (λ es all. All-cons (IsShaped dims) d es first all)
     ]
 
-pub variable_shaped : (dims : List Dim) (name : List ℕ) (f : Draft → Result Draft CdlKind) → Keeps f → (drafts : List Draft) → AreShaped dims drafts → IfOk (at_variable name f drafts) (AreShaped dims)
-unfolding at_variable
-variable_shaped dims name f keeps drafts are = ok_unless (AreShaped dims) (is_name name) BadName (λ u. at_named name f drafts) (named_shaped dims name f keeps drafts are)
+pub variable_shaped : (dims : List Dim) (name : List ℕ) (f : Draft → Result Draft CdlKind) → Keeps f → (drafts : List Draft) → AreShaped dims drafts → IfOk (change_variable name f drafts) (AreShaped dims)
+unfolding change_variable
+variable_shaped dims name f keeps drafts are = ok_unless (AreShaped dims) (is_name name) BadName (λ u. change_named name f drafts) (named_shaped dims name f keeps drafts are)
 
 pub att_keeps : (name : List ℕ) (cs : List Value) → Keeps (with_att name cs)
 att_keeps name cs d = search rules

@@ -1,6 +1,6 @@
 -- Every statement keeps the shapes: each variable's dimensions are known ones, and the record dimension stands first.
 use Rattle.std.proofs.Common.{◌≡◌, ℕ, ◌<◌, List, [], ◌∷◌, ◌++◌, length, map, sym, ap, ◌∙◌, subst, arith, append_assoc, None, Some, Result, Ok, Err, IfOk, slice_index, slice_index_or, rules}
-use Rattle.cdl_parse.proofs.Prelude.{append-nil, get_or_append_left, length-append, length-map, map-append, Dim, Version, AreDimids, dim_len, Lexeme, Dimension, Statement, Value, DeclareVariables, Attribute, Listed, shape, CdlKind, piece_read, shaped, State, Draft, act, add_att, add_dim, at_variable, in_turn, type_of, with_att, with_values, AreShaped, ⊤}
+use Rattle.cdl_parse.proofs.Prelude.{append-nil, get_or_append_left, length-append, length-map, map-append, Dim, Version, AreDimids, dim_len, Lexeme, Dimension, Statement, Value, DeclareVariables, Attribute, Listed, shape, CdlKind, piece_read, shaped, State, Draft, act, add_att, add_dim, change_variable, in_turn, type_of, with_att, with_values, AreShaped, ⊤}
 use Rattle.cdl_statements.specs.Shapes.{DeclareDimensions}
 use Rattle.cdl_parse.proofs.Shapes.{Keeps, added_shaped, att_keeps, ok_then, variable_shaped}
 
@@ -59,9 +59,9 @@ acts v s (DeclareDimensions ds) are = ok_then (Grows s.dims) HasShapes (in_turn 
 acts v s (DeclareVariables word vs) are = grind (arith, any (type_of v word), ok_then (AreShaped s.dims) HasShapes, added_shaped s.dims)
 acts v s (Attribute None name cs) are = ok_then (λ atts. ⊤) HasShapes (add_att name cs s.gatts) (λ atts. Ok (record s { gatts = atts })) (any (add_att name cs s.gatts)) (λ atts u. are)
 acts v s (Attribute (Some variable) name cs) are =
-    ok_then (AreShaped s.dims) HasShapes (at_variable variable (with_att name cs) s.drafts) (λ drafts. Ok (record s { drafts = drafts })) (variable_shaped s.dims variable (with_att name cs) (att_keeps name cs) s.drafts are) (λ drafts h. h)
+    ok_then (AreShaped s.dims) HasShapes (change_variable variable (with_att name cs) s.drafts) (λ drafts. Ok (record s { drafts = drafts })) (variable_shaped s.dims variable (with_att name cs) (att_keeps name cs) s.drafts are) (λ drafts h. h)
 acts v s (Listed variable xs) are =
-    ok_then (AreShaped s.dims) HasShapes (at_variable variable (with_values s.dims xs) s.drafts) (λ drafts. Ok (record s { drafts = drafts })) (variable_shaped s.dims variable (with_values s.dims xs) (values_keep s.dims xs) s.drafts are) (λ drafts h. h)
+    ok_then (AreShaped s.dims) HasShapes (change_variable variable (with_values s.dims xs) s.drafts) (λ drafts. Ok (record s { drafts = drafts })) (variable_shaped s.dims variable (with_values s.dims xs) (values_keep s.dims xs) s.drafts are) (λ drafts h. h)
 acts v s _ are = are
 
 reads : (v : Version) (s : State) (ws : List Lexeme) → HasShapes s → IfOk (piece_read v s ws) HasShapes

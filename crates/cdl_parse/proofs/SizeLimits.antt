@@ -1,6 +1,6 @@
 -- What is listed keeps its limits where its slabs, its records and the header do.
 use Rattle.std.proofs.Common.{◌≡◌, ℕ, suc, ◌*◌, ◌/◌, ◌<◌, ◌≤◌, Bool, true, false, List, [], ◌∷◌, length, map, refl, sym, ap, ◌∙◌, arith, All, ◌&&◌, if◌then◌else◌, max, nat_le, Option, None, Some, rules}
-use Rattle.cdl_parse.proofs.Prelude.{flat_map, list_all, All-cons, All-head, All-nil, All-tail, Dim, Var, AreDimids, bytes_of_number, is_record_var, slab_count, slab_size, slab_limit, array_limit, is_small, records_in, listed_values, Draft, AllList, AreShaped, records_for, records_kept, records_within, with_all, Extent, le-leb, some_count, some_product, length-numbers}
+use Rattle.cdl_parse.proofs.Prelude.{flat_map, list_all, All-cons, All-head, All-nil, All-tail, Dim, Var, AreDimids, bytes_of_number, is_record_var, slab_count, slab_size, slab_limit, array_limit, is_within_limits, records_in, listed_values, Draft, AllList, AreShaped, records_for, records_kept, records_within, with_all, Extent, le-leb, some_count, some_product, length-numbers}
 use Rattle.std.proofs.Math.Nat.{mul-div_cancel, mul-le-mul_left, mul_comm, mul_right_comm}
 use Rattle.nc_base.specs.Types.{size_of}
 use Rattle.nc_base.proofs.SoundLaws.{some_size}
@@ -89,10 +89,10 @@ none_wide n = le-leb (n * 0) array_limit (omega arith)
 le_max : (n a b m : ℕ) → nat_le (n * max a b) m ≡ (nat_le (n * a) m && nat_le (n * b) m)
 le_max n a b m = search (rules, mul-le-mul_left)
 
-one_small : (dims : List Dim) (n : ℕ) (d : Draft) → is_small dims n d ≡ (has_small dims d && nat_le (n * wide dims d) array_limit)
+one_small : (dims : List Dim) (n : ℕ) (d : Draft) → is_within_limits dims n d ≡ (has_small dims d && nat_le (n * wide dims d) array_limit)
 one_small dims n d = search (rules, mul_right_comm, mul_comm)
 
-pub all_small : (dims : List Dim) (n : ℕ) (drafts : List Draft) → list_all (is_small dims n) drafts ≡ (list_all (has_small dims) drafts && nat_le (n * widest_in dims drafts) array_limit)
+pub all_small : (dims : List Dim) (n : ℕ) (drafts : List Draft) → list_all (is_within_limits dims n) drafts ≡ (list_all (has_small dims) drafts && nat_le (n * widest_in dims drafts) array_limit)
 all_small dims n [] = sym (none_wide n)
 all_small dims n (d ∷ drafts) = search (rules, one_small, wide, le_max, all_small dims n drafts)
 

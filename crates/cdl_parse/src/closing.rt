@@ -8,8 +8,8 @@ ghost use Rattle.cdl_meaning.specs.Meaning.{closing_line};
 use cdl_statements::Cutter;
 use nc_base::Version;
 
-/// Returns the line on which the last statement but one of the text begins, or 0 if the text has fewer than two statements. The
-/// last statement is the end of the text. If each statement has its shape, the one before the last is the closing brace.
+/// Returns the line for the fault `TooLarge`: the line on which the last statement but one of the text begins, or 0 if the text has fewer
+/// than two statements. The last statement is the end of the text. If each statement has its shape, the one before it is the closing brace.
 ///
 /// Reads the whole text. Does not allocate.
 pub fn closing_line(text: &[u8], version: Version) -> u64
@@ -21,13 +21,13 @@ pub fn closing_line(text: &[u8], version: Version) -> u64
     while !cutter.is_done() {
         before = last;
         last = cutter.line();
-        cutter = after_statement(cutter);
+        cutter = pass_statement(cutter);
     }
     before
 }
 
-/// Passes over the next statement, and returns the cutter after it.
-fn after_statement(start: Cutter<'_>) -> Cutter<'_>
+/// Passes over the next statement without a check of it, and returns the cutter after it. Needs a `start` that isn't done.
+fn pass_statement(start: Cutter<'_>) -> Cutter<'_>
     requires { is_done start ≡ false }
     ensures { Follows start.entry result }
 {

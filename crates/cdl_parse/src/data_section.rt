@@ -43,10 +43,10 @@ struct DataStatement<'a> {
     rest: Cutter<'a>,
 }
 
-/// Reads the statements of the data section up to the closing brace, or to the end of the text. Returns what they list, and the
-/// statements after them.
+/// Reads the statements of the data section up to and including the closing brace. Returns what they list, and the statements after the
+/// brace. If no statement is left in `start`, reads nothing, and `is_closed` of the result is false.
 ///
-/// Each statement lists the values of the variable that it names, and no two of them name the same variable (the CDL chapter of the
+/// Each statement lists the values of the variable that it names, and no two of them may name the same variable (the CDL chapter of the
 /// NetCDF User's Guide, and ncgen(1)). `names` are the names of the variables, and `targets` what each may take, in the same order.
 /// The end of the text counts as a statement that this section doesn't allow. So a text that ends before the closing brace has a
 /// fault at its end.
@@ -75,7 +75,7 @@ pub fn read_data<'a>(
                 is_closed: false,
             });
         }
-        match read_one(alloc, names, &mut listings, cutter) {
+        match read_next_statement(alloc, names, &mut listings, cutter) {
             Ok(passed) => {
                 cutter = passed.rest;
                 if passed.is_brace {
@@ -102,10 +102,10 @@ pub fn empty_arrays(alloc: Global, count: usize) -> Result<Vec<ListedArray>, All
     Ok(arrays)
 }
 
-/// Reads the next statement of the data section, and stores the values that it lists in `listings`. Returns whether the statement
-/// is the closing brace, which lists nothing, and the statements after it. Errs with the statement's first fault, or if an
-/// allocation failed.
-fn read_one<'a>(
+/// Reads the next statement of the data section. If it lists values, puts them into `listings`, and sets `given` of its variable's target
+/// there. If it is the closing brace, changes nothing in `listings`, and `is_brace` of the result is true. `names` are the names of the
+/// variables. Errs with the statement's first fault, or if an allocation failed. Then `listings` is what it was.
+fn read_next_statement<'a>(
     alloc: Global,
     names: &VariableNames<'_>,
     listings: &mut Listings,
@@ -119,7 +119,7 @@ fn read_one<'a>(
         return pass_closing_brace(start);
     }
     let given = read_data_statement(alloc, names, &listings.targets, start)?;
-    store(&mut listings.arrays, given.position, given.array);
+    replace_array(&mut listings.arrays, given.position, given.array);
     mark_given(&mut listings.targets, given.position);
     Ok(DataStatement {
         is_brace: false,
@@ -127,7 +127,8 @@ fn read_one<'a>(
     })
 }
 
-/// Passes over the closing brace, and returns the statements after it. Errs as [`check_statement`] does, which finds no fault in a brace.
+/// Passes over the next statement, which has to be the closing brace. Returns the statements after it, with `is_brace` true. In fact it
+/// never errs, since [`check_statement`] finds no fault in a closing brace.
 fn pass_closing_brace(start: Cutter<'_>) -> Result<DataStatement<'_>, ReadError>
     requires more { is_done start ≡ false }
     requires brace { begins_brace (words start) ≡ true }
@@ -142,7 +143,7 @@ fn pass_closing_brace(start: Cutter<'_>) -> Result<DataStatement<'_>, ReadError>
 }
 
 /// Replaces the array at `position` with `array`. Changes nothing if there is no array at that position.
-fn store(arrays: &mut Vec<ListedArray>, position: u64, array: ListedArray)
+fn replace_array(arrays: &mut Vec<ListedArray>, position: u64, array: ListedArray)
     ensures { arrays.new.items ≡ slice_set arrays.old.items position array }
 {
     let at = position as usize;
@@ -151,7 +152,8 @@ fn store(arrays: &mut Vec<ListedArray>, position: u64, array: ListedArray)
     }
 }
 
-/// Notes that a statement gave the values of the variable at `position`. Changes nothing if there is no target at that position.
+/// Sets `given` of the target at `position`, since a statement has given the values of its variable. Changes nothing if there is no target
+/// at that position.
 fn mark_given(targets: &mut Vec<Target>, position: u64)
     ensures { targets.new.items ≡ given_at position targets.old.items }
 {

@@ -18,7 +18,7 @@ use crate::variables::Variables;
 use cdl_statements::{CdlKind, Cutter, Lexeme};
 use cdl_tokens::TokenKind;
 use cdl_values::{ReadError, name_of_word, read_name};
-use nc_base::{NcType, Version, check_name, is_record_dim};
+use nc_base::{NcType, Version, is_record_dim, is_valid_name};
 use std::alloc::{AllocError, Global};
 
 /// A variable as far as its declaration is read.
@@ -32,7 +32,7 @@ struct PartialVariable {
     is_open: bool,
 }
 
-/// Reads a declaration, and adds its variables to `variables`. `dims` are the dimensions of the dataset.
+/// Reads a declaration, and adds its variables to `variables`. `start` is at its type word, and `dims` are the dimensions of the dataset.
 ///
 /// A declaration is a type word and variables joined by commas. A variable is a name alone, or a name and then, in parentheses, the
 /// names of the variable's dimensions, joined by commas (the CDL chapter of the NetCDF User's Guide, and ncgen(1)).
@@ -116,8 +116,9 @@ fn read_variables(
     }
 }
 
-/// Returns a variable of type `ty` without dimensions, whose name is `token`. Errs with `BadName` if the format doesn't allow the
-/// name. Also errs if an allocation failed.
+/// Returns a variable of type `ty` without dimensions, with the name that `token` stands for. Needs a token that isn't a mark. Errs with
+/// `BadName` if the format doesn't allow the name, or if an allocation failed. A name that another variable has is no error here:
+/// [`add_variable`] refuses it later.
 fn new_variable(alloc: Global, ty: NcType, token: Lexeme<'_>) -> Result<PartialVariable, ReadError>
     requires { is_mark_kind token.kind ≡ false }
     ensures { BeginsVariable ty (lexeme_of token.entry) result }
@@ -131,9 +132,10 @@ fn new_variable(alloc: Global, ty: NcType, token: Lexeme<'_>) -> Result<PartialV
     })
 }
 
-/// Reads one token after the name of the variable `begun`. If the token is the name of the next variable, adds `begun` to
-/// `variables` and returns the next variable, without dimensions. Otherwise returns `begun` with what the token adds: a dimension,
-/// or a mark that may be a parenthesis. Errs as [`with_dimension`], [`add_variable`] and [`new_variable`] do.
+/// Reads on in a declaration by one token, `token`, which comes after the name of the variable `begun`. If it is a mark, returns `begun` as
+/// [`after_mark`] does. If it is a name inside of parentheses, returns `begun` with the dimension of this name added at the end. Otherwise
+/// it is the name of the next variable: adds `begun` to `variables`, and returns the next variable, without dimensions. Errs as
+/// [`with_dimension`], [`add_variable`] and [`new_variable`] do.
 fn read_on(
     alloc: Global,
     dims: &Dimensions,
@@ -154,7 +156,8 @@ fn read_on(
     }
 }
 
-/// Returns the variable `begun` after a mark: only its `is_open` may change, if the mark is a parenthesis.
+/// Returns the variable `begun` as it is after the token `mark`: its `is_open` is true after `(`, false after `)`, and the same as before
+/// after any other mark. Nothing else changes.
 fn after_mark(begun: PartialVariable, mark: Lexeme<'_>) -> PartialVariable
     requires { is_mark_kind mark.kind ≡ true }
     ensures { PassesMark begun (lexeme_of mark.entry) result }
@@ -180,13 +183,13 @@ fn is_open_after(is_open: bool, mark: Lexeme<'_>) -> bool
     mark.is_mark(b'(') || is_open && !mark.is_mark(b')')
 }
 
-/// Returns `begun` with one dimension more, the one that `word` names.
+/// Returns `begun` with one dimension more, the one that `word` names. Needs a `begun` whose parenthesis is open.
 ///
 /// # Errors
 ///
-/// If the dimension has a fault, as [`dimid_of_word`] says: `DuplicateName` if one of `variables` has the name of `begun`,
-/// otherwise the fault of the dimension. Or an allocation failed. If the dimension has no fault, the name of `begun` isn't looked
-/// up here.
+/// The fault of the dimension that [`dimid_of_word`] finds. But if one of `variables` has the name of `begun`, the error is `DuplicateName`
+/// instead, since that name comes first in the text. Or an allocation failed. If the dimension has no fault, the name of `begun` isn't
+/// looked up here.
 fn with_dimension(
     alloc: Global,
     dims: &Dimensions,
@@ -209,8 +212,9 @@ fn with_dimension(
     }
 }
 
-/// Returns the position of the dimension that a word names. `before` has the positions of the same variable's dimensions before it.
-/// Errs with a fault of [`next_dimid`], or if an allocation failed.
+/// Returns the position of the dimension that `word` names. `word` may have escapes: they are replaced, and [`next_dimid`] looks up the
+/// name that this gives. `before` has the positions of the dimensions that the variable has before this one. Errs with a fault of
+/// [`next_dimid`], or if an allocation failed.
 fn dimid_of_word(
     alloc: Global,
     dims: &Dimensions,
@@ -223,7 +227,8 @@ fn dimid_of_word(
     Ok(next_dimid(dims, before, name.as_slice())?)
 }
 
-/// Returns the position of the dimension of this name. `before` has the positions of the same variable's dimensions before it.
+/// Returns the position in `dims` of the dimension of this name, which is its id in the shape of a variable. `before` has the ids of the
+/// dimensions that the variable has before this one.
 ///
 /// # Errors
 ///
@@ -232,7 +237,7 @@ fn dimid_of_word(
 fn next_dimid(dims: &Dimensions, before: &[u64], name: &[u8]) -> Result<u64, CdlKind>
     ensures { result ≡ next_dimid dims.now before.now name.now }
 {
-    if !check_name(name) {
+    if !is_valid_name(name) {
         return Err(CdlKind::BadName);
     }
     match dims.position(name) {
@@ -244,11 +249,11 @@ fn next_dimid(dims: &Dimensions, before: &[u64], name: &[u8]) -> Result<u64, Cdl
     }
 }
 
-/// Adds the variable `begun`, whose declaration has been read to its end, to `variables`.
+/// Adds the variable `begun` to `variables`. Needs a `begun` that has all of its dimensions.
 ///
 /// # Errors
 ///
-/// Another variable has the name (`DuplicateName`), or an allocation failed.
+/// Another variable has the name (`DuplicateName`), or an allocation failed. In both cases `variables` is what it was.
 fn add_variable(
     alloc: Global,
     variables: &mut Variables,

@@ -16,7 +16,7 @@ use std::alloc::{AllocError, Global};
 /// at its end aren't stored here; they are its fill value.
 #[derive(Drop)]
 pub struct Declared {
-    /// The header, with the number of records.
+    /// The header, with the number of records. The begin of each variable is 0.
     pub header: Header,
     /// For each variable its listed values, big-endian and one after the other.
     pub listed: Sequence<ListedArray>,
@@ -47,8 +47,9 @@ impl Declared {
     }
 }
 
-/// Returns the whole array of each variable, as [`whole_array`] does. `listed` has the listed values of each variable, in the order
-/// of `vars`. Errs as [`whole_array`] does.
+/// Returns for each variable an array of all its values over `records` records, which [`whole_array`] makes. `listed` has the listed values
+/// of each variable, in the order of `vars`. If it has fewer items than `vars`, the variables beyond them get no array. Errs as
+/// [`whole_array`] does.
 fn whole_arrays(
     alloc: Global,
     dims: &[Dim],
@@ -81,13 +82,13 @@ fn whole_array(
     ensures { IfOk result (λ array. array ≡ whole_array dims.now records var.now listed) }
 {
     match owed_count(dims, var, records, listed.len()) {
-        Some(owed) => filled(alloc, var, listed, owed),
+        Some(owed) => filled_array(alloc, var, listed, owed),
         None => Err(AllocError),
     }
 }
 
 /// Returns the bytes of `listed`, followed by the variable's fill value `owed` times. Errs only if an allocation failed.
-fn filled(
+fn filled_array(
     alloc: Global,
     var: &Var,
     listed: ListedArray,
@@ -111,7 +112,8 @@ fn owed_count(dims: &[Dim], var: &Var, records: u64, len: u128) -> Option<u64>
     u64::try_from(owed).ok()
 }
 
-/// Returns how many values a variable has over `records` records, or `None` if its slab has more than 2^48 bytes.
+/// Returns how many values a variable has: those of a slab, times `records` for a record variable. Returns `None` if its slab has more than
+/// 2^48 bytes.
 fn value_count(dims: &[Dim], var: &Var, records: u64) -> Option<u128>
     ensures { SomeIff result (HasSmallSlab dims.now var.now) (value_count dims.now var.now records) }
 {
@@ -133,7 +135,7 @@ fn fill_bytes(alloc: Global, var: &Var) -> Result<Vec<u8>, AllocError>
     fill.into_bytes(alloc, 0)
 }
 
-/// Appends `count` copies of `copy` to `bytes`. Errs only if an allocation failed.
+/// Appends `count` copies of `copy` to `bytes`. Errs only if an allocation failed; then some of the copies may have been appended.
 fn add_copies(bytes: &mut Vec<u8>, copy: &[u8], count: u64) -> Result<(), AllocError>
     ensures { OnOk result (bytes.new.items ≡ bytes.old.items ++ concat (replicate count copy.now)) }
 {

@@ -20,8 +20,9 @@ pub struct Defined<'a> {
     pub rest: Cutter<'a>,
 }
 
-/// Reads the statements of a text up to and including `data:` or the closing brace, or up to the end of the text. Returns what they
-/// declare, and the statements after them.
+/// Reads the statements of a text up to and including `data:` or the closing brace. Returns what they declare, and the statements after
+/// them. If no statement is left in `start`, reads nothing. The end of the text counts as a statement that these sections don't allow, so
+/// a text that ends too early has a fault.
 ///
 /// # Errors
 ///

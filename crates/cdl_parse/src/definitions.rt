@@ -47,12 +47,12 @@ impl Definitions {
         }
     }
 
-    /// Reads the next statement, which stands before the data section: adds what it declares, or moves on to the section
-    /// that it begins. Returns the statements after it.
+    /// Reads the next statement: adds what it declares, or moves on to the section that it begins. Returns the statements after it.
+    /// Needs a statement that is left, and a `section` before the data section.
     ///
     /// # Errors
     ///
-    /// The statement's first fault; or an allocation failed.
+    /// The statement's first fault; or an allocation failed. In each case a part of what the statement declares may have been added.
     pub fn read_statement<'a>(
         &mut self,
         alloc: Global,
@@ -64,13 +64,14 @@ impl Definitions {
         ensures rest { IfOk result (λ c. Follows start.entry c) }
     {
         let rest = check_statement(start, self.section)?;
-        self.apply(alloc, start)?;
+        self.apply_statement(alloc, start)?;
         Ok(rest)
     }
 
-    /// Does what the next statement says, which has its shape: adds what it declares, or goes to another section. Errs with the
-    /// fault of what it says, or if an allocation failed.
-    fn apply(&mut self, alloc: Global, start: Cutter<'_>) -> Result<(), ReadError>
+    /// Does what the next statement says: adds what it declares, or moves on to another section. Needs a statement in which
+    /// [`check_statement`] finds no fault. Errs with the first fault of what it says, such as a bad name, or if an allocation failed. Then
+    /// a part of what the statement declares may have been added.
+    fn apply_statement(&mut self, alloc: Global, start: Cutter<'_>) -> Result<(), ReadError>
         requires more { is_done start ≡ false }
         requires early { is_early self.old.section ≡ true }
         requires whole { completes (First self.old.section) (words start) ≡ true }
@@ -81,13 +82,14 @@ impl Definitions {
                 self.section = Section::Globals;
                 Ok(())
             }
-            _ => self.define(alloc, start),
+            _ => self.apply_after_opening(alloc, start),
         }
     }
 
-    /// Does what the next statement says, which has its shape and stands after the opening and before the data section. Errs with
-    /// the fault of what it says, or if an allocation failed.
-    fn define(&mut self, alloc: Global, start: Cutter<'_>) -> Result<(), ReadError>
+    /// Does what the next statement says, for any statement after the opening. A closing brace moves on to `Closed`, and a statement that
+    /// begins with `:` adds an attribute of the dataset. What any other statement does depends on the section, which has to be `Globals`,
+    /// `Dimensions` or `Variables`. Errs as `apply_statement` does.
+    fn apply_after_opening(&mut self, alloc: Global, start: Cutter<'_>) -> Result<(), ReadError>
         requires more { is_done start ≡ false }
         requires defining { is_defining self.old.section ≡ true }
         requires whole { completes (First self.old.section) (words start) ≡ true }
@@ -103,17 +105,18 @@ impl Definitions {
             return read_attribute(alloc, &mut self.gatts, name);
         }
         match self.section {
-            Section::Dimensions => self.define_dimensions(alloc, start),
-            Section::Variables => self.define_variables(alloc, start),
+            Section::Dimensions => self.apply_in_dimensions(alloc, start),
+            Section::Variables => self.apply_in_variables(alloc, start),
             _ => {
-                self.go_to(first);
+                self.enter_section(first);
                 Ok(())
             }
         }
     }
 
-    /// Moves on to the section that `word` begins, as `dimensions` does in `dimensions:`, or to `Ended` if it begins none.
-    fn go_to(&mut self, word: Lexeme<'_>)
+    /// Sets `section` to the section that `word` begins, for example to `Dimensions` if the word is `dimensions`. Changes nothing else. If
+    /// `word` begins no section, sets `section` to `Ended`; but no caller passes such a word.
+    fn enter_section(&mut self, word: Lexeme<'_>)
         ensures section { self.new.section ≡ after_mark (section_of (lexeme_of word.entry)) }
         ensures dims { self.new.dims ≡ self.old.dims }
         ensures gatts { self.new.gatts ≡ self.old.gatts }
@@ -122,9 +125,10 @@ impl Definitions {
         self.section = word.section().unwrap_or(Section::Ended);
     }
 
-    /// Does what the next statement says in the section of the dimensions: goes to a later section, or adds dimensions. Errs with a
-    /// fault of [`read_dimensions`], or if an allocation failed.
-    fn define_dimensions(&mut self, alloc: Global, start: Cutter<'_>) -> Result<(), ReadError>
+    /// Does what the next statement of the section of dimensions says: moves on to a later section, or adds dimensions. Needs a statement
+    /// that begins with neither `}` nor `:`. Errs with a fault of [`read_dimensions`], or if an allocation failed. Then the dimensions
+    /// before the failing one have been added.
+    fn apply_in_dimensions(&mut self, alloc: Global, start: Cutter<'_>) -> Result<(), ReadError>
         requires more { is_done start ≡ false }
         requires section { self.old.section ≡ Section.Dimensions }
         requires brace { is_mark 0x7d (lexeme (text_of start) (next_token start)) ≡ false }
@@ -134,15 +138,16 @@ impl Definitions {
     {
         let word = start.lexeme();
         if word.opens_section_after(Section::Dimensions) {
-            self.go_to(word);
+            self.enter_section(word);
             return Ok(());
         }
         read_dimensions(alloc, &mut self.dims, start)
     }
 
-    /// Does what the next statement says in the section of the variables: adds an attribute of a variable, goes to a later section,
-    /// or adds variables. Errs with a fault of [`Variables::read_attribute`] or [`read_declaration`], or if an allocation failed.
-    fn define_variables(&mut self, alloc: Global, start: Cutter<'_>) -> Result<(), ReadError>
+    /// Does what the next statement of the section of variables says: adds an attribute of a variable, moves on to a later section, or adds
+    /// variables. Needs a statement that begins with neither `}` nor `:`. Errs with a fault of [`Variables::read_attribute`] or
+    /// [`read_declaration`], or if an allocation failed. Then some of the variables may have been added.
+    fn apply_in_variables(&mut self, alloc: Global, start: Cutter<'_>) -> Result<(), ReadError>
         requires more { is_done start ≡ false }
         requires section { self.old.section ≡ Section.Variables }
         requires brace { is_mark 0x7d (lexeme (text_of start) (next_token start)) ≡ false }
@@ -158,7 +163,7 @@ impl Definitions {
         if word.is_name() {
             return self.variables.read_attribute(alloc, start);
         }
-        self.go_to(word);
+        self.enter_section(word);
         Ok(())
     }
 }

@@ -9,13 +9,14 @@ use cdl_statements::CdlKind;
 use cdl_tokens::Numeral;
 use nc_base::Version;
 
-/// Returns the length of a new dimension. `n` is the number that the text gives as its length. If `n` is `None`, the dimension is
-/// the record dimension, and its length is 0. `has_record` is true if there is a record dimension already.
+/// Returns the length that a new dimension gets (`dim_len` of `nc_base` returns the length of one that is there already). `n` is the number
+/// that the text gives as its length. If `n` is `None`, the dimension is the record dimension, and its length is 0. `has_record` is true if
+/// there is a record dimension already.
 ///
 /// # Errors
 ///
-/// A length of 0 (`ZeroDimension`); a length that is negative or that the version doesn't have (`NumberRange`); a second record
-/// dimension (`TwoRecordDims`).
+/// A length of 0 (`ZeroDimension`); a length that is negative or too great for the version (`NumberRange`); a second record dimension
+/// (`TwoRecordDims`).
 #[tactic(auto, using(crate::proofs::Lengths::lens))]
 pub fn dim_len(version: Version, has_record: bool, n: Option<Numeral>) -> Result<u64, CdlKind>
     ensures unlimited { n ≡ None → IsLength version has_record None result }
@@ -28,8 +29,8 @@ pub fn dim_len(version: Version, has_record: bool, n: Option<Numeral>) -> Result
     }
 }
 
-/// Returns the length that the number `n` stands for. Errs with `ZeroDimension` if it is 0, and with `NumberRange` if it is
-/// negative or the version doesn't have it.
+/// Returns the length that the number `n` stands for. Errs with `ZeroDimension` if it is 0, and with `NumberRange` if it is negative or too
+/// great for the version, that is, not below [`Version::count_limit`].
 fn number_len(version: Version, n: Numeral) -> Result<u64, CdlKind>
     ensures { result ≡ number_len version n }
 {

@@ -38,8 +38,8 @@ struct NextDimension<'a> {
 /// # Errors
 ///
 /// The first of these faults: a name that the format doesn't allow (`BadName`); the name of another dimension (`DuplicateName`); a
-/// length of 0 (`ZeroDimension`), or one that is negative or that the version doesn't have (`NumberRange`); a second record
-/// dimension (`TwoRecordDims`). Or an allocation failed. In each case the dimensions before the failing one have been added.
+/// length of 0 (`ZeroDimension`), or one that is negative or too great for the version (`NumberRange`); a second record dimension
+/// (`TwoRecordDims`). Or an allocation failed. In each case the dimensions before the failing one have been added.
 pub fn read_dimensions(
     alloc: Global,
     dims: &mut Dimensions,
@@ -84,7 +84,7 @@ fn next_dimension(start: Cutter<'_>) -> NextDimension<'_>
 }
 
 /// Adds a dimension to `dims`. `name` and `length` are the tokens of its name and its length. Errs with a fault of
-/// [`read_dimensions`], or if an allocation failed.
+/// [`read_dimensions`], or if an allocation failed. Then `dims` is what it was.
 fn add_dimension(
     alloc: Global,
     dims: &mut Dimensions,
@@ -126,11 +126,11 @@ fn is_unlimited(length: Lexeme<'_>) -> bool
     length.is_word(b"unlimited") || length.is_word(b"UNLIMITED")
 }
 
-/// Adds the dimension of this name and length to `dims`.
+/// Adds the dimension of this name and length to `dims`. [`add_dimension`] calls it after it has read both from their tokens.
 ///
 /// # Errors
 ///
-/// Another dimension has the name (`DuplicateName`), or an allocation failed.
+/// Another dimension has the name (`DuplicateName`), or an allocation failed. In both cases `dims` is what it was.
 fn add_named_dimension(
     alloc: Global,
     dims: &mut Dimensions,

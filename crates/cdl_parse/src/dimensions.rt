@@ -57,14 +57,15 @@ impl Dimensions {
         self.list.as_slice()
     }
 
-    /// Returns true if one of them is the record dimension, which has length 0.
+    /// Returns true if one of the dimensions is the record dimension, which has length 0.
     pub fn has_record(&self) -> bool
         ensures { result ≡ has_record_dim self.now }
     {
         self.has_record
     }
 
-    /// Returns the position of the first dimension that has the name, or `None` if none has it.
+    /// Returns the position, counted from 0, of the first dimension that has the name, or `None` if none has it. In the shape of a variable
+    /// this position is the dimension's id.
     pub fn position(&self, name: &[u8]) -> Option<u64>
         ensures { result ≡ position (λ (d : header.Dim). bytes_eq d.name name.now) self.now }
     {

@@ -7,8 +7,9 @@ use crate::declared_values::Declared;
 use crate::records::records_of;
 use nc_base::{Att, Dim, Header, ListedArray, NumRecs, Sequence, Var, Version, rec_size};
 
-/// Returns what a text with these dimensions, attributes of the dataset, variables and listed values declares. `listed` has the
-/// listed values of each variable, in the order of `vars`. [`records_of`] gives the number of records.
+/// Finishes the reading of a text: makes a header of the parts that the text declares, and returns it with the listed values. `gatts` are
+/// the attributes of the dataset, and `listed` has the listed values of each variable, in the order of `vars`. [`records_of`] gives the
+/// number of records.
 ///
 /// Returns `None` if the dataset is too large: a slab or an array of more than 2^48 bytes, or a record of more than 2^62 bytes.
 /// Does not allocate.

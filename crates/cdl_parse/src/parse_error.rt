@@ -19,7 +19,8 @@ pub enum ParseError {
 impl ParseError {
     ghost use Rattle.cdl_parse.specs.code.Runs.{at_line};
 
-    /// Returns the error of a statement that begins on this line: its fault with the line, or `OutOfMemory`.
+    /// Turns `error`, the error of a statement that begins on this line, into a `ParseError`. A fault gets the line, and `OutOfMemory` gets
+    /// none.
     pub fn at_line(line: u64, error: ReadError) -> ParseError
         ensures { result ≡ at_line line error }
     {
@@ -33,6 +34,7 @@ impl ParseError {
 impl From<AllocError> for ParseError {
     ghost from_gives = { λ _ e. e ≡ OutOfMemory };
 
+    /// Returns `OutOfMemory`, for `?` after a call that errs only if an allocation failed.
     fn from(_e: AllocError) -> ParseError {
         ParseError::OutOfMemory
     }
@@ -41,6 +43,7 @@ impl From<AllocError> for ParseError {
 impl From<CdlFault> for ParseError {
     ghost from_gives = { λ fault e. e ≡ Fault fault };
 
+    /// Returns `Fault` with this fault, for `?` after a call that errs with a fault and its line.
     fn from(fault: CdlFault) -> ParseError {
         ParseError::Fault(fault)
     }

@@ -9,9 +9,9 @@ use nc_base::{Dim, ListedArray, Var, is_record_var, slab_of};
 /// The most bytes that the array of a variable may have, and the most records.
 const ARRAY_LIMIT: u128 = 1 << 48;
 
-/// Returns the number of records: as many as it takes to hold the listed values of each record variable. A record counts even if
-/// only a part of it is listed. Returns `None` if a slab, or the array of a record variable over that many records, has more than
-/// 2^48 bytes.
+/// Returns the number of records: as many as it takes to hold the listed values of each record variable. A record counts even if only a
+/// part of it is listed. `listed` has the listed values of each variable, in the order of `vars`. Returns `None` if a slab, or the array
+/// of a record variable over that many records, has more than 2^48 bytes.
 pub fn records_of(dims: &[Dim], vars: &[Var], listed: &[ListedArray]) -> Option<u64>
     ensures { CountsRecords dims.now vars.now listed.now result }
 {
@@ -47,8 +47,8 @@ impl Extent {
         })
     }
 
-    /// Returns the number of records, or `None` if it is more than 2^48, or if a record variable's array over that many records has
-    /// more than 2^48 bytes.
+    /// Returns the field `records` if it keeps the limits. Returns `None` if it is more than 2^48, or if the array of a record variable
+    /// over that many records has more than 2^48 bytes.
     fn records(self) -> Option<u64>
         ensures { result ≡ records_within self }
     {

@@ -9,7 +9,8 @@ ghost use Rattle.cdl_parse.specs.code.Defined.{ActsAsSaid};
 
 use cdl_statements::{CdlKind, Cutter, Section, check_shape};
 
-/// Passes over the next statement, which stands in `section`, and returns the statements after it. Does not allocate.
+/// Checks that the next statement has the shape of a statement of `section`, and returns the statements after it. What the statement says,
+/// such as its names, isn't checked. Does not allocate.
 ///
 /// # Errors
 ///

@@ -15,7 +15,7 @@ use crate::definition_sections::{Defined, read_definitions};
 use crate::definitions::Definitions;
 use crate::finishing::finish;
 use crate::parse_error::ParseError;
-use crate::text_end::read_end;
+use crate::text_end::check_end;
 use cdl_statements::{CdlFault, CdlKind, Cutter, Section};
 use cdl_values::{VariableNames, targets_of};
 use nc_base::{Att, Dataset, Dim, ListedArray, Sequence, Var, Version};
@@ -23,15 +23,17 @@ use std::alloc::Global;
 
 /// Returns the dataset that a CDL text means (the CDL chapter of the NetCDF User's Guide, and ncgen(1)).
 ///
-/// `version` is the version of the format. It decides which types and suffixes numbers may have, and how long a dimension may be.
+/// `version` is the version of the format. It decides which types variables may have, which suffixes numbers may have, and how long a
+/// dimension may be.
 ///
 /// For callers of the library: `ncgen` itself calls [`declared`].
 ///
 /// # Errors
 ///
-/// The first fault of the text, with the line of the first token of the statement that has it; or [`TooLarge`](CdlKind::TooLarge),
-/// with the line of the closing brace. Or [`OutOfMemory`](CdlKind::OutOfMemory), with line 0, as soon as an allocation failed, or
-/// if a variable has more values than memory can hold.
+/// The fault of the first bad statement, with the line of its first token. [`TooLarge`](CdlKind::TooLarge), with the line of the closing
+/// brace, if no statement is bad, but a slab or an array has more than 2^48 bytes, or a record more than 2^62. Or
+/// [`OutOfMemory`](CdlKind::OutOfMemory), with line 0, as soon as an allocation failed, or if a variable has more values than memory can
+/// hold.
 pub fn parse(alloc: Global, text: &[u8], version: Version) -> Result<Dataset, CdlFault>
     ensures { MeansOrOutOfMemory result (meaning text.now version) }
 {
@@ -52,14 +54,15 @@ pub fn declared(alloc: Global, text: &[u8], version: Version) -> Result<Declared
     ensures declares { MeansOrOutOfMemory (as_dataset result) (meaning text.now version) }
     ensures one_each { IfOk result (λ d. length d.listed ≡ length d.header.vars) }
 {
-    match read_text(alloc, text, version) {
+    match read_declared(alloc, text, version) {
         Ok(declared) => Ok(declared),
         Err(e) => Err(e.fault()),
     }
 }
 
 impl ParseError {
-    /// Returns the fault with its line; `OutOfMemory` has line 0.
+    /// Returns this error as a [`CdlFault`]: the fault that it has, with its line. For `OutOfMemory`, returns a fault of that kind with
+    /// line 0.
     fn fault(self) -> CdlFault
         ensures { result ≡ fault_of self }
     {
@@ -73,9 +76,10 @@ impl ParseError {
     }
 }
 
-/// Reads a text, and returns what it declares, as [`declared`] does. Errs with the fault of the first bad statement; with `TooLarge`, on the
-/// line of the closing brace, if a slab, an array or the record is above its limit; or if an allocation failed.
-fn read_text(alloc: Global, text: &[u8], version: Version) -> Result<Declared, ParseError>
+/// Reads a text, and returns what it declares. [`declared`] calls this, and only turns the error into a [`CdlFault`]. Errs with the fault
+/// of the first bad statement, or if an allocation failed. Errs with `TooLarge`, on the line of the closing brace, if a slab, an array or
+/// the record is above its limit.
+fn read_declared(alloc: Global, text: &[u8], version: Version) -> Result<Declared, ParseError>
     ensures reads { ReadsOn (λ d. Ok (dataset_of_declared d)) result (meaning text.now version) }
     ensures one_each { IfOk result (λ d. length d.listed ≡ length d.header.vars) }
 {
@@ -105,8 +109,8 @@ struct Contents {
     listed: Vec<ListedArray>,
 }
 
-/// Reads all statements of a text, and returns what they declare and list. Errs with the fault of the first bad statement, or if an
-/// allocation failed.
+/// Reads all statements of a text, and returns what they declare and list. `start` is a cutter at the text's start. The sizes of slabs,
+/// arrays and the record aren't checked: [`finish`] does that. Errs with the fault of the first bad statement, or if an allocation failed.
 fn read_contents(alloc: Global, start: Cutter<'_>) -> Result<Contents, ParseError>
     ensures { length (text_of start.entry) < 2 ^ 63 → ReadsAll result (run_from start.entry empty) }
 {
@@ -127,7 +131,7 @@ fn read_contents(alloc: Global, start: Cutter<'_>) -> Result<Contents, ParseErro
         rest,
         section,
     )?;
-    read_end(values.rest, values.section)?;
+    check_end(values.rest, values.section)?;
     Ok(Contents {
         dims,
         gatts: gatts.into_sequence(),
@@ -147,9 +151,10 @@ struct Values<'a> {
     rest: Cutter<'a>,
 }
 
-/// Reads the data section if `section` is that section, and returns what it lists and what comes after it. Otherwise returns an array
-/// without values for each variable, and reads nothing. `section` is the section of the next statement, and `names` are the names of the variables.
-/// Errs with the fault of the first bad statement of the data section, or if an allocation failed.
+/// Reads the data section if `section`, the section of the next statement of `start`, is `Values`. Returns what the section lists, and what
+/// comes after it. If `section` is another one, the text has no data section: reads nothing, and returns an array without values for each
+/// variable, and `section` and `start` unchanged. `names` are the names of the variables. Errs with the fault of the first bad statement of
+/// the data section, or if an allocation failed.
 fn read_values<'a>(
     alloc: Global,
     dims: &[Dim],
@@ -173,9 +178,10 @@ fn read_values<'a>(
     }
 }
 
-/// Reads the data section, and returns what it lists and what comes after it. `names` are the names of the variables. If the text ends
-/// before the closing brace, this call doesn't err: the section returned is then `Values`. Errs with the fault of the first bad
-/// statement of the section, or if an allocation failed.
+/// Reads the data section, whose first statement is the next one of `start`. First finds out how many values each variable may take
+/// ([`targets_of`]), and then reads the statements by [`read_data`]. Returns what the section lists, and what comes after it. `names` are
+/// the names of the variables. Errs with the fault of the first bad statement of the section, or if an allocation failed. If the text ends
+/// before the closing brace, its end is a bad statement.
 fn read_data_section<'a>(
     alloc: Global,
     dims: &[Dim],
@@ -190,15 +196,15 @@ fn read_data_section<'a>(
     let targets = targets_of(alloc, dims, vars)?;
     let data = read_data(alloc, names, targets, start)?;
     Ok(Values {
-        section: after_data(data.is_closed),
+        section: section_after_data(data.is_closed),
         rest: data.rest,
         listed: data.arrays,
     })
 }
 
 /// Returns the section of the statement after the data section: `Closed` if `is_closed` is true (the data section ended with the
-/// closing brace), otherwise `Values`.
-fn after_data(is_closed: bool) -> Section
+/// closing brace). Otherwise no statement is left, and it returns `Values`.
+fn section_after_data(is_closed: bool) -> Section
     ensures { result ≡ (if is_closed then Section.Closed else Section.Values) }
 {
     if is_closed {

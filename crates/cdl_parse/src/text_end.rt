@@ -9,12 +9,13 @@ ghost use Rattle.cdl_parse.specs.code.Runs.{run_from};
 use crate::statement::check_statement;
 use cdl_statements::{CdlFault, Cutter, Section};
 
-/// Checks that no statement is left but the end of the text. `section` is the section of the next statement. Does not allocate.
+/// Checks that nothing comes after the closing brace but the end of the text. `start` has the statements after the brace. If it has any,
+/// `section` has to be the section of the next one, `Closed` or `Ended`. Does not allocate.
 ///
 /// # Errors
 ///
 /// The fault of the first bad statement, with its line.
-pub fn read_end(start: Cutter<'_>, section: Section) -> Result<(), CdlFault>
+pub fn check_end(start: Cutter<'_>, section: Section) -> Result<(), CdlFault>
     requires { is_done start ≡ false → is_over section ≡ true }
     ensures { (s : State) → s.section ≡ section → EndsAs s result (run_from start.entry s) }
 {

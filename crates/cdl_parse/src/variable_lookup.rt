@@ -10,7 +10,8 @@ use cdl_values::{NameIndex, ReadError, read_name};
 use nc_base::Named;
 use std::alloc::Global;
 
-/// Returns the position of the variable that a word names. `names` is the index of `variables`.
+/// Returns the position in `variables` of the variable that `word` names. `word` may have escapes, and `names` has to be the index of
+/// `variables`.
 ///
 /// # Errors
 ///

@@ -119,7 +119,7 @@ impl Variables {
     /// # Errors
     ///
     /// The first of these faults: a variable's name that the format doesn't allow (`BadName`), or that no variable has
-    /// (`UnknownVariable`); a fault of [`read_attribute`](crate::read_attribute). Or an allocation failed. In each case the
+    /// (`UnknownVariable`); a fault of [`read_attribute`](crate::attribute::read_attribute). Or an allocation failed. In each case the
     /// variables are what they were.
     pub fn read_attribute(&mut self, alloc: Global, start: Cutter<'_>) -> Result<(), ReadError>
         requires more { is_done start ≡ false }
@@ -139,7 +139,7 @@ impl Variables {
         read_attribute(alloc, &mut variable.atts, name)
     }
 
-    /// Returns the variables as those of a header, and the index of their names. No name, shape or attribute is copied.
+    /// Returns the variables as those of a header, each with begin 0, and the index of their names. No name, shape or attribute is copied.
     ///
     /// # Errors
     ///
@@ -154,7 +154,7 @@ impl Variables {
     }
 }
 
-/// Returns the variables as those of a header. Errs only if an allocation failed.
+/// Turns each variable of `list` into one of a header, by [`var_of`], and returns them in this order. Errs only if an allocation failed.
 ///
 /// The capacity is reserved first: `collect` would try a failed allocation again with less.
 fn vars_of(alloc: Global, list: Vec<Variable>) -> Result<Vec<Var>, AllocError>

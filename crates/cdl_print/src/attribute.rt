@@ -30,15 +30,16 @@ pub fn put_att_lines<W: Sink>(sink: &mut W, owner: &[u8], atts: &[Att]) -> Resul
 fn put_att_line<W: Sink>(sink: &mut W, owner: &[u8], att: &Att) -> Result<(), WriteFailed>
     ensures { Wrote W.view sink.old sink.new (att_line (escaped_name owner.now) att.now) result }
 {
-    put_att_name(sink, owner, att.name.as_slice())?;
+    put_owner_and_name(sink, owner, att.name.as_slice())?;
     put(sink, b" = ")?;
     put_values(sink, att)?;
     put(sink, b" ;\n")
 }
 
-/// Writes two tabs, the name of the variable, `:` and the name of the attribute. `owner` is empty for an attribute of the dataset.
+/// Writes two tabs, `owner`, `:` and `name`, the name of the attribute. `owner` is the name of its variable, or empty for an attribute of
+/// the dataset.
 #[tactic(auto, using(devices::proofs::Writes::writes))]
-fn put_att_name<W: Sink>(sink: &mut W, owner: &[u8], name: &[u8]) -> Result<(), WriteFailed>
+fn put_owner_and_name<W: Sink>(sink: &mut W, owner: &[u8], name: &[u8]) -> Result<(), WriteFailed>
     ensures { Wrote W.view sink.old sink.new (att_prefix owner.now name.now) result }
 {
     put(sink, b"\t\t")?;
@@ -52,7 +53,7 @@ fn put_values<W: Sink>(sink: &mut W, att: &Att) -> Result<(), WriteFailed>
     ensures { Wrote W.view sink.old sink.new (att_text att.now.ty att.now.vals) result }
 {
     match att.ty {
-        NcType::Char => put_char_values(sink, att.vals.as_slice()),
+        NcType::Char => put_quoted_chars(sink, att.vals.as_slice()),
         ty => put_numbers(sink, ty, att.vals.as_slice()),
     }
 }
@@ -60,7 +61,7 @@ fn put_values<W: Sink>(sink: &mut W, att: &Att) -> Result<(), WriteFailed>
 /// Writes the characters of an attribute as a string, without the NULs at their end. The string is closed and opened again after
 /// each line feed that isn't its last byte.
 #[tactic(auto, using(devices::proofs::Writes::writes), unfolding(nc_base::specs::HeadText::chars_text))]
-fn put_char_values<W: Sink>(sink: &mut W, vals: &[u8]) -> Result<(), WriteFailed>
+fn put_quoted_chars<W: Sink>(sink: &mut W, vals: &[u8]) -> Result<(), WriteFailed>
     ensures { Wrote W.view sink.old sink.new (chars_text vals.now) result }
 {
     put(sink, b"\"")?;

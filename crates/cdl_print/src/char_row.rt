@@ -15,8 +15,9 @@ use crate::progress::{Progress, row_index_after};
 use devices::{Sink, WriteFailed, put};
 use nc_base::Quoting;
 
-/// Writes the next characters of a variable, and moves `progress` past them. Before the first character of a row it writes what
-/// [`Layout::char_lead`] returns.
+/// Writes the next characters of a variable, `bytes`, run by run ([`run_len_in_row`]), and moves `progress` past them. Before the first
+/// character of a row it writes what [`Layout::char_lead`] returns. In a trimmed layout it holds a NUL back until a character other than
+/// NUL follows in the row. If the sink fails, `progress` stays before the run that wasn't written whole.
 pub fn put_char_values<W: Sink>(
     sink: &mut W,
     layout: &Layout<'_>,
@@ -50,8 +51,9 @@ fn run_len_in_row(row: u128, row_index: u128, bytes: &[u8]) -> usize
     run_len(Quoting::InString, &bytes[..in_row])
 }
 
-/// Writes the next run of characters, with what stands before it, as [`put_led_run`] does: in a trimmed layout, a run that is a single
-/// NUL isn't written. Moves `progress` past the run. The clauses say this for any values printed before. Errs only if the sink failed.
+/// Writes what opens the row if the next run begins one, the NULs that were held back, and then the run, as [`put_run_with_lead`] does, and
+/// moves `progress` past the run. It only makes that call, and is there for its contract: what is written is the text of these values,
+/// whichever values were printed before. Errs only if the sink failed.
 fn put_next_run<W: Sink>(
     sink: &mut W,
     layout: &Layout<'_>,
@@ -66,13 +68,14 @@ fn put_next_run<W: Sink>(
     ensures after { OnOk result (IsAfterNext (next layout.now progress.old run.now) progress.new) }
     ensures wrote { WroteNext W.view sink.old sink.new (next layout.now progress.old run.now) result }
 {
-    put_led_run(sink, layout, progress, run)
+    put_run_with_lead(sink, layout, progress, run)
 }
 
-/// Writes the next run with what stands before it, and moves `progress` past it. If the layout is trimmed, a run that is a single
-/// NUL isn't written: `progress` counts it as held back, unless it ends its row.
+/// Writes the lead, which is what [`Layout::char_lead`] returns, then the NULs that were held back, and then the next run. Moves `progress`
+/// past the run. If the layout is trimmed and the run is a single NUL, only the lead is written: this NUL is held back too, or all that are
+/// held back are dropped if it ends its row.
 #[tactic(auto, using(devices::proofs::Writes::writes))]
-fn put_led_run<W: Sink>(
+fn put_run_with_lead<W: Sink>(
     sink: &mut W,
     layout: &Layout<'_>,
     progress: &mut Progress,
@@ -99,8 +102,9 @@ fn put_led_run<W: Sink>(
 }
 
 /// Returns how many NULs are held back after a run. `held_nuls` is how many were held back before the run, and `is_held_back` is true
-/// if the run is one more such NUL. `row_index` is the index, in its row, of the character after the run. If `row_index` is 0, the row has
-/// ended, and the result is 0.
+/// if the run is one more such NUL. If `is_held_back` is false, the NULs were written with the run, and the result is 0. `row_index` is the
+/// index, in its row, of the character after the run. If `row_index` is 0, the row has ended, so its last NULs are dropped, and the result
+/// is 0.
 fn held_nuls_after(held_nuls: u128, row_index: u128, is_held_back: bool) -> u128
     requires { held_nuls + 1 < 2 ^ 128 }
     ensures held_nuls { result ≡ (if (row_index == 0) || not is_held_back then 0 else held_nuls + 1) }

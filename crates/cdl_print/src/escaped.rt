@@ -28,13 +28,13 @@ pub fn put_run<W: Sink>(sink: &mut W, quoting: Quoting, run: &[u8]) -> Result<()
     ensures { Wrote W.view sink.old sink.new (flat_map (escaped_in quoting) run.now) result }
 {
     match *run {
-        [b] => put_byte(sink, quoting, b),
+        [b] => put_escaped_byte(sink, quoting, b),
         _ => put(sink, run),
     }
 }
 
 /// Writes one byte, with its escape if it needs one.
-fn put_byte<W: Sink>(sink: &mut W, quoting: Quoting, b: u8) -> Result<(), WriteFailed>
+fn put_escaped_byte<W: Sink>(sink: &mut W, quoting: Quoting, b: u8) -> Result<(), WriteFailed>
     ensures { Wrote W.view sink.old sink.new (escaped_in quoting b) result }
 {
     match quoting.escape(b) {

@@ -3,12 +3,12 @@
 ghost use Rattle.std.specs.Prelude.{◌≡◌, ◌+◌, ◌++◌, ◌≤◌, length, take};
 ghost use Rattle.cdl_print.specs.code.Leads.{gap_bytes, gap_in_row, columns_left_after};
 
-use cdl_number_text::{put_at, put_comma};
+use cdl_number_text::{put_bytes, put_comma};
 
 /// What stands before a number.
 #[derive(Clone, Copy)]
 pub enum Gap {
-    /// Before the first number of a variable without rows.
+    /// Before the first number of a variable of rank 0 or 1.
     Space,
     /// Before the first number of the first row.
     FirstRow,
@@ -21,7 +21,8 @@ pub enum Gap {
 }
 
 impl Gap {
-    /// Returns how many columns are left on a line of this width after the gap, if `columns_left` were left before it.
+    /// Returns how many bytes more a line may have after the gap, or 0 if the line is full. `columns_left` is how many bytes more it could
+    /// have before the gap, and `width` is how many bytes a line may have in all.
     #[inline(always)]
     pub fn columns_left_after(self, columns_left: usize, width: usize) -> usize
         ensures { result ≡ columns_left_after self columns_left width }
@@ -35,8 +36,9 @@ impl Gap {
     }
 }
 
-/// Returns what stands before a number that isn't its row's first and has `len` bytes. `columns_left` is how many bytes more the
-/// line may have. A line begins before the number if `, `, the number and two bytes after it would be more than that.
+/// Returns what stands before a number that isn't its row's first and has `len` bytes. `columns_left` is how many bytes more the line may
+/// have. A line begins before the number if `, `, the number, and two bytes for what follows it would be more than that. Needs a `len` of
+/// at most 40.
 #[inline(always)]
 pub fn gap_in_row(columns_left: usize, len: usize) -> Gap
     requires { len ≤ 40 }
@@ -49,8 +51,8 @@ pub fn gap_in_row(columns_left: usize, len: usize) -> Gap
     }
 }
 
-/// Writes a gap at the offset `at` of `text`, and returns the offset of its end. Each gap has a branch of its own, since a copy of
-/// a known length needs no call.
+/// Writes a gap at the offset `at` of `text`, which must have room for it, and returns the offset of its end. Each gap has a branch of its
+/// own, since a copy of a known length needs no call.
 #[inline(always)]
 pub fn put_gap(text: &mut [u8], at: usize, gap: Gap) -> usize
     requires { at + length (gap_bytes gap) ≤ length text.old }
@@ -58,10 +60,10 @@ pub fn put_gap(text: &mut [u8], at: usize, gap: Gap) -> usize
     ensures written { take result text.new ≡ take at text.old ++ gap_bytes gap }
 {
     match gap {
-        Gap::Space => put_at(text, at, b" "),
-        Gap::FirstRow => put_at(text, at, b"\n  "),
-        Gap::NextRow => put_at(text, at, b",\n  "),
+        Gap::Space => put_bytes(text, at, b" "),
+        Gap::FirstRow => put_bytes(text, at, b"\n  "),
+        Gap::NextRow => put_bytes(text, at, b",\n  "),
         Gap::Comma => put_comma(text, at),
-        Gap::NewLine => put_at(text, at, b", \n    "),
+        Gap::NewLine => put_bytes(text, at, b", \n    "),
     }
 }

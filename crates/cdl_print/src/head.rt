@@ -37,7 +37,8 @@ pub fn put_head<W: Sink>(
     put_gatts(sink, header.gatts.as_slice())
 }
 
-/// Writes the dimensions, if there are any.
+/// Writes the heading `dimensions:` and a line for each dimension, or nothing if there are none. `records` is the number of records, which
+/// the line of the record dimension shows.
 #[tactic(auto, using(devices::proofs::Writes::writes), unfolding(nc_base::specs::HeadText::dims_text))]
 fn put_dims<W: Sink>(sink: &mut W, dims: &[Dim], records: u64) -> Result<(), WriteFailed>
     ensures { Wrote W.view sink.old sink.new (dims_text records dims.now) result }
@@ -45,19 +46,20 @@ fn put_dims<W: Sink>(sink: &mut W, dims: &[Dim], records: u64) -> Result<(), Wri
     if dims.is_empty() {
         return Ok(());
     }
-    put_dims_part(sink, dims, records)
+    put_dims_section(sink, dims, records)
 }
 
-/// Writes the heading `dimensions:` and the lines of all dimensions. The caller knows that there are some.
+/// Writes the heading `dimensions:` and the lines of all dimensions. It is called only if there are some. `records` is the number of
+/// records, which the line of the record dimension shows.
 #[tactic(auto, using(devices::proofs::Writes::writes))]
-fn put_dims_part<W: Sink>(sink: &mut W, dims: &[Dim], records: u64) -> Result<(), WriteFailed>
+fn put_dims_section<W: Sink>(sink: &mut W, dims: &[Dim], records: u64) -> Result<(), WriteFailed>
     ensures { Wrote W.view sink.old sink.new (dims_part records dims.now) result }
 {
     put(sink, Word::Dimensions.bytes())?;
     put_dim_lines(sink, dims, records)
 }
 
-/// Writes a line for each dimension.
+/// Writes a line for each dimension, without a heading. `records` is the number of records, which the line of the record dimension shows.
 #[tactic(auto, using(devices::proofs::Writes::writes), unfolding(nc_base::specs::HeadText::dim_lines))]
 fn put_dim_lines<W: Sink>(sink: &mut W, dims: &[Dim], records: u64) -> Result<(), WriteFailed>
     ensures { Wrote W.view sink.old sink.new (dim_lines records dims.now) result }
@@ -68,7 +70,8 @@ fn put_dim_lines<W: Sink>(sink: &mut W, dims: &[Dim], records: u64) -> Result<()
     Ok(())
 }
 
-/// Writes the line of a dimension.
+/// Writes the line of a dimension: a tab, its name with its escapes, ` = `, and its length, with which the line ends. `records` is the
+/// number of records, which the line of the record dimension shows.
 #[tactic(auto, using(devices::proofs::Writes::writes), unfolding(nc_base::specs::HeadText::dim_line))]
 fn put_dim_line<W: Sink>(sink: &mut W, dim: &Dim, records: u64) -> Result<(), WriteFailed>
     ensures { Wrote W.view sink.old sink.new (dim_line records dim.now) result }
@@ -76,25 +79,25 @@ fn put_dim_line<W: Sink>(sink: &mut W, dim: &Dim, records: u64) -> Result<(), Wr
     put(sink, b"\t")?;
     put_name(sink, dim.name.as_slice())?;
     put(sink, b" = ")?;
-    put_extent(sink, dim.len, records)
+    put_dim_length(sink, dim.len, records)
 }
 
 /// Writes the length of a dimension and the end of its line. A `len` of 0 is that of the record dimension: for it, `UNLIMITED` and
 /// the number of records in a comment are written.
 #[tactic(auto, unfolding(nc_base::specs::HeadText::dim_len_text))]
-fn put_extent<W: Sink>(sink: &mut W, len: u64, records: u64) -> Result<(), WriteFailed>
+fn put_dim_length<W: Sink>(sink: &mut W, len: u64, records: u64) -> Result<(), WriteFailed>
     ensures { Wrote W.view sink.old sink.new (dim_len_text records len) result }
 {
     if len == 0 {
-        put_records(sink, records)
+        put_unlimited(sink, records)
     } else {
-        put_length(sink, len)
+        put_fixed_length(sink, len)
     }
 }
 
-/// Writes the length of the record dimension, which is `UNLIMITED`, and the number of records in a comment.
+/// Writes what the line of the record dimension ends with: `UNLIMITED ;`, and the number of records in a comment.
 #[tactic(auto, using(devices::proofs::Writes::writes), unfolding(nc_base::specs::HeadText::dim_len_text))]
-fn put_records<W: Sink>(sink: &mut W, records: u64) -> Result<(), WriteFailed>
+fn put_unlimited<W: Sink>(sink: &mut W, records: u64) -> Result<(), WriteFailed>
     ensures { Wrote W.view sink.old sink.new (dim_len_text records 0) result }
 {
     put(sink, Word::Unlimited.bytes())?;
@@ -102,16 +105,16 @@ fn put_records<W: Sink>(sink: &mut W, records: u64) -> Result<(), WriteFailed>
     put(sink, Word::Currently.bytes())
 }
 
-/// Writes the length of a dimension that is fixed, and the end of its line.
+/// Writes `len`, the length of a dimension that isn't the record dimension, and the end of its line: ` ;` and a line feed.
 #[tactic(auto, using(devices::proofs::Writes::writes))]
-fn put_length<W: Sink>(sink: &mut W, len: u64) -> Result<(), WriteFailed>
+fn put_fixed_length<W: Sink>(sink: &mut W, len: u64) -> Result<(), WriteFailed>
     ensures { Wrote W.view sink.old sink.new (concat_parts (decimal len ∷ codes " ;\n" ∷ [])) result }
 {
     put_decimal(sink, len as u128)?;
     put(sink, b" ;\n")
 }
 
-/// Writes the global attributes, if there are any.
+/// Writes the heading `// global attributes:` and a line for each global attribute, or nothing if there are none.
 #[tactic(auto, using(devices::proofs::Writes::writes), unfolding(nc_base::specs::HeadText::gatts_text))]
 fn put_gatts<W: Sink>(sink: &mut W, gatts: &[Att]) -> Result<(), WriteFailed>
     ensures { Wrote W.view sink.old sink.new (gatts_text gatts.now) result }
@@ -119,12 +122,12 @@ fn put_gatts<W: Sink>(sink: &mut W, gatts: &[Att]) -> Result<(), WriteFailed>
     if gatts.is_empty() {
         return Ok(());
     }
-    put_gatts_part(sink, gatts)
+    put_gatts_section(sink, gatts)
 }
 
-/// Writes the heading of the global attributes and their lines. The caller knows that there are some.
+/// Writes the heading of the global attributes and their lines. It is called only if there are some.
 #[tactic(auto, using(devices::proofs::Writes::writes, crate::proofs::Runs::nameless))]
-fn put_gatts_part<W: Sink>(sink: &mut W, gatts: &[Att]) -> Result<(), WriteFailed>
+fn put_gatts_section<W: Sink>(sink: &mut W, gatts: &[Att]) -> Result<(), WriteFailed>
     ensures { Wrote W.view sink.old sink.new (gatts_part gatts.now) result }
 {
     put(sink, Word::GlobalAttributes.bytes())?;

@@ -36,7 +36,8 @@ pub struct Layout<'a> {
     pub width: usize,
 }
 
-/// Returns the layout of the variable at index `v` over `records` records, in lines of this width.
+/// Returns the layout of the variable at index `v` over `records` records. `width` is the width at which lines of numbers are broken. Needs
+/// a sound header (`nc_base::Header::sound`).
 pub fn layout_of(header: &Header, v: usize, records: u64, width: usize) -> Layout<'_>
     requires sound { IsSound header.now }
     requires there { v < length header.now.vars }
@@ -46,7 +47,7 @@ pub fn layout_of(header: &Header, v: usize, records: u64, width: usize) -> Layou
     layout_of_var(header, var, value_count(header, v, records), width)
 }
 
-/// Returns the layout of a variable with `total` values, in lines of this width.
+/// Returns the layout of the variable `var` with `total` values. `width` is the width at which lines of numbers are broken.
 #[tactic(auto, unfolding(nc_base::specs::ValueText::look_of))]
 fn layout_of_var<'a>(header: &'a Header, var: &'a Var, total: u128, width: usize) -> Layout<'a>
     ensures total { result.total ≡ total }
@@ -93,7 +94,7 @@ impl Layout<'_> {
         matches!(self.ty, NcType::Char)
     }
 
-    /// Returns what stands after the values.
+    /// Returns what stands after the variable's last value: ` ;` and a line feed, and before them a `"` if the values are characters.
     #[tactic(auto, unfolding(nc_base::specs::ValueText::variable_closing))]
     pub fn closing(&self) -> &'static [u8]
         ensures { result.now ≡ variable_closing (look_at self.now) }
@@ -101,7 +102,7 @@ impl Layout<'_> {
         if self.is_char() { b"\" ;\n" } else { b" ;\n" }
     }
 
-    /// Returns true if a number prints as `_`.
+    /// Returns true if this number prints as `_`: if the variable prints its fill value so, and the number equals that value.
     #[inline(always)]
     pub fn prints_as_fill(&self, number: i128) -> bool
         ensures { result ≡ self.now.prints_fill && int_eq number self.now.fill }
@@ -109,9 +110,9 @@ impl Layout<'_> {
         self.prints_fill && number == self.fill
     }
 
-    /// Returns how many values are left in a row. `row_index` is the index of the next value in its row. Returns 0 if the next
-    /// value is its row's first.
-    pub fn left_in_row(&self, row_index: u128) -> u128
+    /// Returns how many values are left in the row that has begun. `row_index` is the index of the next value in its row. If it is 0, no
+    /// row has begun, and the result is 0.
+    pub fn values_left_in_row(&self, row_index: u128) -> u128
         ensures some { 0 < result → 0 < row_index }
         ensures within { 0 < result → row_index + result ≤ self.now.row }
     {
@@ -122,7 +123,8 @@ impl Layout<'_> {
         }
     }
 
-    /// Returns what stands before the next number, whose text has `len` bytes.
+    /// Returns what stands before the next number, whose text has `len` bytes. `progress` is how far the numbers before it are printed.
+    /// Needs a `len` of at most 40, which is enough for any `i128`.
     pub fn number_gap(&self, progress: &Progress, len: usize) -> Gap
         requires { len ≤ 40 }
         ensures { result ≡ next_gap (look_at self.now) progress.now len }
@@ -147,8 +149,8 @@ impl Layout<'_> {
         }
     }
 
-    /// Returns what stands before the next character: what ends the row before and begins its own if it is its row's first,
-    /// otherwise nothing.
+    /// Returns what stands before the next character, apart from NULs held back. If the character is its row's first, this closes the
+    /// string of the row before it, if there is one, and opens a string. Otherwise it is empty.
     pub fn char_lead(&self, progress: &Progress) -> &'static [u8]
         ensures { result.now ≡ next_char_lead (look_at self.now) progress.now }
     {

@@ -31,7 +31,7 @@ pub fn put_name<W: Sink>(sink: &mut W, name: &[u8]) -> Result<(), WriteFailed>
 fn put_leading_backslash<W: Sink>(sink: &mut W, name: &[u8]) -> Result<(), WriteFailed>
     ensures { Wrote W.view sink.old sink.new (prefix_escape name.now) result }
 {
-    if needs_prefix_escape(name) {
+    if needs_leading_backslash(name) {
         return put(sink, b"\\");
     }
     Ok(())
@@ -39,7 +39,7 @@ fn put_leading_backslash<W: Sink>(sink: &mut W, name: &[u8]) -> Result<(), Write
 
 /// Returns true if a backslash stands before the printed name: its first byte is a digit, `.`, `@`, `+` or `-`, or the name is a
 /// reserved word.
-pub fn needs_prefix_escape(name: &[u8]) -> bool
+pub fn needs_leading_backslash(name: &[u8]) -> bool
     ensures { result ≡ (begins_with_digit_or_mark name.now || is_reserved name.now) }
 {
     begins_with_digit_or_mark(name) || is_reserved(name)

@@ -27,7 +27,8 @@ pub fn put_numbers<W: Sink>(sink: &mut W, ty: NcType, vals: &[u8]) -> Result<(),
     Ok(())
 }
 
-/// Writes a number with the suffix of its type, and then a comma and a space unless `is_last`.
+/// Writes the number of the type `ty` that has the big-endian bytes `value`, with the suffix of the type, and then a comma and a space
+/// unless `is_last`.
 #[tactic(auto, using(devices::proofs::Writes::writes), unfolding(crate::specs::code::Pieces::number_text))]
 fn put_number<W: Sink>(
     sink: &mut W,
@@ -38,7 +39,7 @@ fn put_number<W: Sink>(
     requires { length value.now ≡ size_of ty }
     ensures { Wrote W.view sink.old sink.new (number_text ty value.now is_last) result }
 {
-    put_value(sink, ty, value)?;
+    put_bare_number(sink, ty, value)?;
     put(sink, ty.suffix())?;
     if is_last {
         return Ok(());
@@ -46,8 +47,8 @@ fn put_number<W: Sink>(
     put(sink, b", ")
 }
 
-/// Writes a number in decimal, without a suffix.
-fn put_value<W: Sink>(sink: &mut W, ty: NcType, value: &[u8]) -> Result<(), WriteFailed>
+/// Writes the number of the type `ty` that has the big-endian bytes `value`, in decimal and without a suffix.
+fn put_bare_number<W: Sink>(sink: &mut W, ty: NcType, value: &[u8]) -> Result<(), WriteFailed>
     requires { length value.now ≡ size_of ty }
     ensures { Wrote W.view sink.old sink.new (signed_decimal (number_of ty value.now)) result }
 {

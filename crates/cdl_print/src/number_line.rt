@@ -23,9 +23,10 @@ pub struct LastLine {
     pub columns_left: usize,
 }
 
-/// Puts numbers of one row, none of them the row's first, into `text` at the end of `line`, each with what stands before it.
-/// Returns the last line after them. `bytes` has the numbers, big-endian. Each type has a loop of its own.
-pub fn gather_line(text: &mut [u8], line: LastLine, layout: &Layout<'_>, bytes: &[u8]) -> LastLine
+/// Puts numbers of one row, none of them the row's first, into `text` at the end of `line`, each with what stands before it, by the loop of
+/// their type. Returns the last line after them. `bytes` has the numbers, big-endian. Needs room for 47 bytes a number in `text`: 40 of its
+/// own, and 7 of what stands before it.
+pub fn gather_at_end(text: &mut [u8], line: LastLine, layout: &Layout<'_>, bytes: &[u8]) -> LastLine
     requires fits { line.end + 47 * length (values layout.now bytes.now) ≤ length text.old }
     ensures more { PutLine layout.now (values layout.now bytes.now) line text.old result text.new }
     ensures short { result.end ≤ line.end + 47 * length (values layout.now bytes.now) }
@@ -43,7 +44,8 @@ pub fn gather_line(text: &mut [u8], line: LastLine, layout: &Layout<'_>, bytes: 
     }
 }
 
-/// Does what [`gather_line`] does for numbers of the type `ty`.
+/// Puts numbers of the type `ty` into `text` at the end of `line`, as [`gather_at_end`] does, and returns the last line after them. It is
+/// inlined once for each type, so each type has a loop of its own.
 #[inline(always)]
 fn gather_typed(
     ty: NcType,
@@ -68,8 +70,9 @@ fn gather_typed(
     now
 }
 
-/// Puts a number that isn't its row's first at the end of the line in `text`, with what stands before it: 40 and 7 bytes at most. Returns
-/// the last line after it. `value` has the bytes of the number.
+/// Puts the number of the type `ty` that has the big-endian bytes `value` into `text` at the end of `line`, as [`put_next_number`] does,
+/// and returns the last line after it. Needs a `fill` made of `layout`, and room for 47 bytes in `text`: at most 40 of the number, and 7 of
+/// what stands before it.
 #[inline(always)]
 fn gather_next(
     ty: NcType,
@@ -85,14 +88,15 @@ fn gather_next(
     ensures put { PutNumber layout.now (number_of ty value.now) line text.old result text.new }
     ensures short { result.end ≤ line.end + 47 }
 {
-    put_next(text, line, layout, fill, number_of(ty, value))
+    put_next_number(text, line, layout, fill, number_of(ty, value))
 }
 
-/// Puts a number that isn't its row's first at the end of the line, with what stands before it, and returns the last line after it.
-/// A number below 100 that isn't the fill value takes fewer steps if the line has room for `, `, two digits and two bytes more: no
-/// line begins before it.
+/// Puts a number that isn't its row's first into `text` at the end of `line`, with what stands before it, and returns the last line after
+/// it. Needs a `fill` made of `layout`, a number below 2^64 without its sign, and room for 47 bytes in `text`. A number from 0 to 99 that
+/// doesn't print as `_` takes fewer steps if the line has at least six columns left: for `, `, two digits, and two bytes for what follows
+/// them. Then no line begins before it.
 #[inline(always)]
-fn put_next(
+fn put_next_number(
     text: &mut [u8],
     line: LastLine,
     layout: &Layout<'_>,
@@ -114,7 +118,8 @@ fn put_next(
     }
 }
 
-/// Puts a comma, a space and a number below 100 at the end of the line, which has room for them, and returns the line after them.
+/// Puts a comma, a space and a number below 100 at the end of the line, and returns the line after them. Needs at least six columns left:
+/// four for these, and two after them, so that no line begins before the number. Needs room for four bytes in `text`.
 #[inline(always)]
 fn put_below_100(text: &mut [u8], line: LastLine, n: u64) -> LastLine
     requires below_100 { n < 100 }
@@ -139,7 +144,8 @@ fn put_below_100(text: &mut [u8], line: LastLine, n: u64) -> LastLine
     }
 }
 
-/// Puts `_` at the end of the line, with what stands before it, and returns the last line after it.
+/// Puts `_`, the text of a number that equals the fill value, at the end of the line, with what stands before it. Returns the last line
+/// after it. `width` is how many bytes a line may have. Needs room for 8 bytes in `text`: one of `_`, and 7 of what stands before it.
 #[inline(always)]
 fn put_fill(text: &mut [u8], line: LastLine, width: usize) -> LastLine
     requires fits { line.end + 8 ≤ length text.old }
@@ -153,7 +159,9 @@ fn put_fill(text: &mut [u8], line: LastLine, width: usize) -> LastLine
     }
 }
 
-/// Puts a number in decimal at the end of the line, with what stands before it, and returns the last line after it.
+/// Puts a number in decimal at the end of the line, with what stands before it, and returns the last line after it. `width` is how many
+/// bytes a line may have. Needs a number below 2^64 without its sign, and room for 28 bytes in `text`: 21 of the number, and 7 of what
+/// stands before it.
 #[inline(always)]
 fn put_number(text: &mut [u8], line: LastLine, width: usize, number: i128) -> LastLine
     requires magnitude { unsigned_abs number < 2 ^ 64 }
@@ -170,8 +178,9 @@ fn put_number(text: &mut [u8], line: LastLine, width: usize, number: i128) -> La
     }
 }
 
-/// Puts what stands before a number of `len` bytes (at most 40) at the end of the line in `text`, without the number; that is 7 bytes at
-/// most. Returns where the number begins, and how many columns are left after the number.
+/// Puts what stands before a number of `len` bytes, but not the number, at the end of the line in `text`. Returns a line whose `end` is
+/// where the number begins, and whose `columns_left` already counts the number. `width` is how many bytes a line may have. Needs a `len` of
+/// at most 40, and room for 7 bytes in `text`.
 #[inline(always)]
 fn put_gap_in_row(text: &mut [u8], line: LastLine, width: usize, len: usize) -> LastLine
     requires short { len ≤ 40 }

@@ -8,7 +8,7 @@ ghost use Rattle.cdl_print.specs.code.Printing.{next, next_number, AreLeft, AreI
 
 use crate::gap::put_gap;
 use crate::layout::Layout;
-use crate::number_line::{LastLine, gather_line};
+use crate::number_line::{LastLine, gather_at_end};
 use crate::progress::{Progress, row_index_after};
 use cdl_number_text::{put_text, text_len};
 use devices::{Sink, WriteFailed, put};
@@ -21,7 +21,8 @@ const AT_ONCE: usize = 80;
 pub type Gathered = [u8; 4096];
 
 /// Writes the next numbers of a variable, each with what stands before it, and moves `progress` past them. `bytes` has the numbers,
-/// big-endian. `text` is a buffer in which at most 80 of them at a time are gathered.
+/// big-endian. `text` is a buffer in which at most 80 of them at a time are gathered, and may hold anything. If the sink fails, `progress`
+/// may be past numbers that weren't written.
 pub fn put_number_values<W: Sink>(
     sink: &mut W,
     layout: &Layout<'_>,
@@ -44,7 +45,8 @@ pub fn put_number_values<W: Sink>(
     Ok(())
 }
 
-/// Writes at most 80 numbers at once, each with what stands before it, and moves `progress` past them. `text` is a buffer for them.
+/// Writes numbers in one piece, each with what stands before it, and moves `progress` past them, even if the sink fails. `bytes` has the
+/// numbers, big-endian, and `text` is a buffer for their text. Needs at most 80 numbers ([`AT_ONCE`]), so that their text fits.
 fn put_few_numbers<W: Sink>(
     sink: &mut W,
     layout: &Layout<'_>,
@@ -62,7 +64,8 @@ fn put_few_numbers<W: Sink>(
     put(sink, &text[..end])
 }
 
-/// Puts numbers at the start of `text`, each with what stands before it, moves `progress` past them, and returns where they end.
+/// Puts numbers at the start of `text`, each with what stands before it, moves `progress` past them, and returns the offset at which they
+/// end. `bytes` has the numbers, big-endian. Needs room for 47 bytes a number in `text`: 40 of its own, and 7 of what stands before it.
 fn gather_numbers(
     text: &mut [u8],
     layout: &Layout<'_>,
@@ -91,21 +94,22 @@ fn gather_numbers(
     end
 }
 
-/// Returns how many of the first bytes are whole values of the row that `progress` is in. Returns 0 if the next value is its row's
-/// first.
+/// Returns how many bytes at the start of `bytes` are whole values of the row that has begun, as `progress` says. Returns 0 if the next
+/// value is its row's first.
 fn len_in_row(layout: &Layout<'_>, progress: &Progress, bytes: &[u8]) -> usize
     ensures whole { AreWhole layout.now (take result bytes.now) }
     ensures within { result ≤ length bytes.now }
     ensures in_row { AreInRow (next layout.now progress.now (take result bytes.now)) }
 {
     let size = layout.ty.size() as usize;
-    let left = layout.left_in_row(progress.row_index);
+    let left = layout.values_left_in_row(progress.row_index);
     let count = left.min((bytes.len() / size) as u128) as usize;
     count * size
 }
 
-/// Puts the number with the bytes `value` at the offset `at` of `text`, with what stands before it. Moves `progress` past it, and
-/// returns the offset at which it ends.
+/// Puts the next number, which may be its row's first, at the offset `at` of `text`, with what stands before it. Moves `progress` past it,
+/// and returns the offset at which it ends. `value` has its big-endian bytes. Needs room for 47 bytes in `text`: 40 of the number, and 7 of
+/// what stands before it.
 fn gather_number(
     text: &mut [u8],
     at: usize,
@@ -136,9 +140,9 @@ fn gather_number(
     start + len
 }
 
-/// Puts numbers of one row, none of them the row's first, at the offset `at` of `text`, each with what stands before it (40 and 7 bytes at
-/// most). Moves `progress` past them, and returns the offset at which they end. `bytes` has the numbers, whole and big-endian, as many as
-/// the row still has, or fewer.
+/// Puts numbers of one row, none of them the row's first, at the offset `at` of `text`, each with what stands before it. Moves `progress`
+/// past them, and returns the offset at which they end. `bytes` must have whole numbers, big-endian, and no more than the row still has.
+/// Needs room for 47 bytes a number in `text`: 40 of its own, and 7 of what stands before it.
 fn gather_in_row(
     text: &mut [u8],
     at: usize,
@@ -162,7 +166,7 @@ fn gather_in_row(
         end: at,
         columns_left: progress.columns_left,
     };
-    let line = gather_line(text, line, layout, bytes);
+    let line = gather_at_end(text, line, layout, bytes);
     let count = (bytes.len() / layout.ty.size() as usize) as u128;
     *progress = Progress {
         position: progress.position + count,

@@ -7,7 +7,7 @@ ghost use Rattle.devices.specs.code.SinkWrites.{Wrote};
 ghost use Rattle.cdl_print.specs.code.Leads.{LeavesColumns};
 ghost use Rattle.cdl_print.specs.code.Pieces.{opening_of};
 
-use crate::name::{needs_prefix_escape, put_name};
+use crate::name::{needs_leading_backslash, put_name};
 use devices::{Sink, WriteFailed, put};
 use nc_base::Quoting;
 
@@ -22,7 +22,7 @@ pub fn put_opening<W: Sink>(sink: &mut W, name: &[u8]) -> Result<(), WriteFailed
     put(sink, b" =")
 }
 
-/// Returns how many columns are left on a line of this width after the opening.
+/// Returns how many bytes more a line of `width` bytes may have after what [`put_opening`] writes for this name, or 0 if it is full.
 pub fn columns_left_after_opening(width: usize, name: &[u8]) -> usize
     ensures { result ≡ width - column (opening_of name.now) }
 {
@@ -33,7 +33,7 @@ pub fn columns_left_after_opening(width: usize, name: &[u8]) -> usize
 fn columns_left_after_name(width: usize, name: &[u8]) -> usize
     ensures { result ≡ width - column (codes "\n " ++ escaped_name name.now) }
 {
-    let len = if needs_prefix_escape(name) { 2 } else { 1 };
+    let len = if needs_leading_backslash(name) { 2 } else { 1 };
     let mut columns_left = width.saturating_sub(len);
     for b in name {
         columns_left = columns_left_after_byte(width, columns_left, *b);
@@ -41,8 +41,8 @@ fn columns_left_after_name(width: usize, name: &[u8]) -> usize
     columns_left
 }
 
-/// Returns how many columns are left on a line of this width after `b`, a byte of a name, was written with the backslash that it may need,
-/// if `columns_left` were left before it: none if the line is full, and the whole width after a line feed.
+/// Returns how many columns are left on a line of this width after the byte `b` of a name, with the backslash that it may need.
+/// `columns_left` is how many were left before it. The result is 0 if the line is full, and the whole width after a line feed.
 fn columns_left_after_byte(width: usize, columns_left: usize, b: u8) -> usize
     ensures { LeavesColumns width columns_left (escaped_in_name b) result }
 {

@@ -17,7 +17,7 @@ pub struct PrintedFill {
 }
 
 impl PrintedFill {
-    /// Returns the fill value of a layout, in each of the forms.
+    /// Returns the fill value of a layout, in both forms in which numbers are compared with it.
     pub fn of(layout: &Layout<'_>) -> PrintedFill
         ensures { IsFillOf (look_at layout.now) result }
     {
@@ -27,7 +27,7 @@ impl PrintedFill {
         }
     }
 
-    /// Returns true if a number is from 0 to 99 and doesn't print as `_`.
+    /// Returns true if a number is from 0 to 99 and doesn't print as `_`, so that its digits are shown.
     #[inline(always)]
     pub fn shows_below_100(self, number: i128) -> bool
         ensures { result ≡ shows_below_100 self.below_100 number }
@@ -35,21 +35,23 @@ impl PrintedFill {
         number >= 0 && number < 100 && number as u64 != self.below_100
     }
 
-    /// Returns true if a number prints as `_`. `self` must have been made of `layout` by [`PrintedFill::of`].
+    /// Returns true if a number prints as `_`, as [`Layout::prints_as_fill`] does, but compares 64 bits if an `i64` can hold the number.
+    /// `self` must have been made of `layout` by [`PrintedFill::of`].
     #[inline(always)]
     pub fn prints(self, layout: &Layout<'_>, number: i128) -> bool
         requires { IsFillOf (look_at layout.now) self }
         ensures { result ≡ prints_as_fill (look_at layout.now) number }
     {
         match narrow(number) {
-            Some(n) => self.is_narrow(n),
+            Some(n) => self.is_equal_to(n),
             None => layout.prints_as_fill(number),
         }
     }
 
-    /// Returns true if a number that an `i64` holds prints as `_`.
+    /// Returns true if `number` equals the fill value in `narrow`, and so prints as `_`. Returns false if `narrow` is `None`, since then no
+    /// number that an `i64` can hold prints as `_`.
     #[inline(always)]
-    fn is_narrow(self, number: i64) -> bool
+    fn is_equal_to(self, number: i64) -> bool
         ensures { result ≡ is_fill self.narrow number }
     {
         match self.narrow {
@@ -59,7 +61,7 @@ impl PrintedFill {
     }
 }
 
-/// Returns the fill value if it prints as `_` and is from 0 to 99, otherwise 100.
+/// Returns the fill value if it prints as `_` and is from 0 to 99, otherwise 100, which equals no number that is compared with it.
 fn fill_below_100(layout: &Layout<'_>) -> u64
     ensures { IsFillBelow100 (look_at layout.now) result }
 {

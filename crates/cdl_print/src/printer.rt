@@ -30,7 +30,8 @@ pub struct ValuePrinter<'a> {
 }
 
 impl<'a> ValuePrinter<'a> {
-    /// Returns the printer of the variable at index `v` over `records` records, in lines of numbers of this width.
+    /// Returns the printer of the variable at index `v` over `records` records, which breaks lines of numbers at this width. Needs a sound
+    /// header (`nc_base::Header::sound`).
     pub fn new(header: &'a Header, v: usize, records: u64, width: usize) -> ValuePrinter<'a>
         requires sound { IsSound header.now }
         requires there { v < length header.now.vars }
@@ -66,12 +67,12 @@ impl<'a> ValuePrinter<'a> {
             return Err(WriteFailed);
         }
         let written = put_opening(sink, self.layout.name);
-        self.remember(written)
+        self.remember_failure(written)
     }
 
     /// Returns true if the bytes are whole values, and the variable has at least as many left to print.
     ///
-    /// For callers of the library, to test what [`values`](ValuePrinter::values) asks for: the chunks that `ncdump` prints are known to be so.
+    /// For callers of the library, to test what [`values`](ValuePrinter::values) asks for: `ncdump` itself knows this of its chunks.
     pub fn takes(&self, bytes: &[u8]) -> bool
         ensures { IsTrue result ↔ Takes self.now bytes.now }
     {
@@ -88,9 +89,9 @@ impl<'a> ValuePrinter<'a> {
         position <= total && count <= total - position
     }
 
-    /// Writes the next values of the variable. `bytes` has them whole, big-endian and one after the other, and no more of them
-    /// than the variable has left, as [`takes`](ValuePrinter::takes) tests. Numbers are gathered in `text`, which may hold
-    /// anything: one buffer serves all variables.
+    /// Writes the next values of the variable. `bytes` must have whole values, big-endian and one after the other, and no more of them than
+    /// the variable has left, as [`takes`](ValuePrinter::takes) tests. Numbers are gathered in `text`, which may hold anything: one buffer
+    /// serves all variables.
     ///
     /// # Errors
     ///
@@ -108,11 +109,11 @@ impl<'a> ValuePrinter<'a> {
         if self.has_failed {
             return Err(WriteFailed);
         }
-        let written = put_values(sink, &self.layout, &mut self.progress, text, bytes);
-        self.remember(written)
+        let written = put_next_values(sink, &self.layout, &mut self.progress, text, bytes);
+        self.remember_failure(written)
     }
 
-    /// Writes what stands after the values.
+    /// Writes what stands after the values: ` ;` and a line feed, and before them a `"` if the values are characters.
     ///
     /// # Errors
     ///
@@ -127,11 +128,11 @@ impl<'a> ValuePrinter<'a> {
             return Err(WriteFailed);
         }
         let written = put(sink, self.layout.closing());
-        self.remember(written)
+        self.remember_failure(written)
     }
 
-    /// Sets `has_failed` if `written` is an error, and returns `written`.
-    fn remember(&mut self, written: Result<(), WriteFailed>) -> Result<(), WriteFailed>
+    /// Returns `written`, and sets `has_failed` if that is an error, so that each later call fails too.
+    fn remember_failure(&mut self, written: Result<(), WriteFailed>) -> Result<(), WriteFailed>
         ensures same { result ≡ written }
         ensures ok { OnOk written (self.new ≡ self.old) }
         ensures failed { OnErr written (has_failed self.new ≡ true) }
@@ -144,8 +145,9 @@ impl<'a> ValuePrinter<'a> {
 }
 
 /// Writes the next values of a variable, each with what stands before it, and moves `progress` past them. `bytes` has these values,
-/// big-endian, and no more than the variable still has. `text` is a buffer for numbers. After an error `progress` may be anything.
-fn put_values<W: Sink>(
+/// big-endian; there must be no more than the variable still has. `text` is a buffer for numbers. After an error `progress` may be
+/// anything.
+fn put_next_values<W: Sink>(
     sink: &mut W,
     layout: &Layout<'_>,
     progress: &mut Progress,

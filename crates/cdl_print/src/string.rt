@@ -29,14 +29,14 @@ pub fn put_broken_text<W: Sink>(sink: &mut W, bytes: &[u8]) -> Result<(), WriteF
 fn line_len(bytes: &[u8]) -> usize
     ensures { result ≡ line_len bytes.now }
 {
-    match line_feed(bytes) {
+    match line_feed_offset(bytes) {
         Some(at) => at + 1,
         None => bytes.len(),
     }
 }
 
 /// Returns the offset of the first line feed, or `None` if there is none.
-fn line_feed(bytes: &[u8]) -> Option<usize>
+fn line_feed_offset(bytes: &[u8]) -> Option<usize>
     ensures { result ≡ position (λ b. b == 10) bytes.now }
 {
     bytes.iter().position(|b| *b == b'\n')

@@ -11,7 +11,8 @@ use crate::word::Word;
 use devices::{Sink, WriteFailed, put};
 use nc_base::{Dim, NcType, Var};
 
-/// Writes the variables, if there are any.
+/// Writes the heading `variables:`, and the declaration and the attributes of each variable, or nothing if there are no variables. `dims`
+/// has the header's dimensions, whose names the declarations show.
 #[tactic(auto, using(devices::proofs::Writes::writes), unfolding(nc_base::specs::HeadText::vars_text, crate::specs::code::Pieces::var_rows))]
 pub fn put_vars<W: Sink>(sink: &mut W, dims: &[Dim], vars: &[Var]) -> Result<(), WriteFailed>
     ensures { Wrote W.view sink.old sink.new (vars_text dims.now vars.now) result }
@@ -19,21 +20,21 @@ pub fn put_vars<W: Sink>(sink: &mut W, dims: &[Dim], vars: &[Var]) -> Result<(),
     if vars.is_empty() {
         return Ok(());
     }
-    put_vars_part(sink, dims, vars)
+    put_vars_section(sink, dims, vars)
 }
 
-/// Writes the heading `variables:` and the lines of all variables. The caller knows that there are some.
+/// Writes the heading `variables:` and the lines of all variables. It is called only if there are some.
 #[tactic(auto, using(devices::proofs::Writes::writes))]
-fn put_vars_part<W: Sink>(sink: &mut W, dims: &[Dim], vars: &[Var]) -> Result<(), WriteFailed>
+fn put_vars_section<W: Sink>(sink: &mut W, dims: &[Dim], vars: &[Var]) -> Result<(), WriteFailed>
     ensures { Wrote W.view sink.old sink.new (vars_part dims.now vars.now) result }
 {
     put(sink, Word::Variables.bytes())?;
-    put_var_rows(sink, dims, vars)
+    put_each_var(sink, dims, vars)
 }
 
 /// Writes the lines of each variable, one variable after the other.
 #[tactic(auto, using(devices::proofs::Writes::writes), unfolding(crate::specs::code::Pieces::var_rows))]
-fn put_var_rows<W: Sink>(sink: &mut W, dims: &[Dim], vars: &[Var]) -> Result<(), WriteFailed>
+fn put_each_var<W: Sink>(sink: &mut W, dims: &[Dim], vars: &[Var]) -> Result<(), WriteFailed>
     ensures { Wrote W.view sink.old sink.new (var_rows dims.now vars.now) result }
 {
     for var in vars {
@@ -47,15 +48,15 @@ fn put_var_rows<W: Sink>(sink: &mut W, dims: &[Dim], vars: &[Var]) -> Result<(),
 fn put_var_lines<W: Sink>(sink: &mut W, dims: &[Dim], var: &Var) -> Result<(), WriteFailed>
     ensures { Wrote W.view sink.old sink.new (var_lines dims.now var.now) result }
 {
-    put_declared(sink, var.ty, var.name.as_slice())?;
+    put_type_and_name(sink, var.ty, var.name.as_slice())?;
     put_shape(sink, dims, var.dimids.as_slice())?;
     put(sink, b" ;\n")?;
     put_att_lines(sink, var.name.as_slice(), var.atts.as_slice())
 }
 
-/// Writes the type and the name of a variable.
+/// Writes what the declaration of a variable begins with: a tab, the word of its type, a space and its name.
 #[tactic(auto, using(devices::proofs::Writes::writes))]
-fn put_declared<W: Sink>(sink: &mut W, ty: NcType, name: &[u8]) -> Result<(), WriteFailed>
+fn put_type_and_name<W: Sink>(sink: &mut W, ty: NcType, name: &[u8]) -> Result<(), WriteFailed>
     ensures { Wrote W.view sink.old sink.new (type_and_name ty name.now) result }
 {
     put(sink, b"\t")?;
@@ -64,8 +65,8 @@ fn put_declared<W: Sink>(sink: &mut W, ty: NcType, name: &[u8]) -> Result<(), Wr
     put_name(sink, name)
 }
 
-/// Writes the names of a variable's dimensions in parentheses and joined by commas, or nothing if it has no dimension. `dims` are the
-/// header's dimensions, and `dimids` the positions of the variable's in them.
+/// Writes the names of a variable's dimensions in parentheses and joined by commas, or nothing if it has no dimension. `dimids` has the ids
+/// of these dimensions, which are indexes into `dims`, the header's dimensions.
 #[tactic(auto, using(devices::proofs::Writes::writes), unfolding(nc_base::specs::HeadText::shape_text))]
 fn put_shape<W: Sink>(sink: &mut W, dims: &[Dim], dimids: &[u64]) -> Result<(), WriteFailed>
     ensures { Wrote W.view sink.old sink.new (shape_text dims.now dimids.now) result }
@@ -76,7 +77,7 @@ fn put_shape<W: Sink>(sink: &mut W, dims: &[Dim], dimids: &[u64]) -> Result<(), 
     put_dim_list(sink, dims, dimids)
 }
 
-/// Writes the names of these dimensions in parentheses, joined by commas.
+/// Writes the names of the dimensions with the ids `dimids` in parentheses and joined by commas. It is called only if there are some.
 #[tactic(auto, using(devices::proofs::Writes::writes))]
 fn put_dim_list<W: Sink>(sink: &mut W, dims: &[Dim], dimids: &[u64]) -> Result<(), WriteFailed>
     ensures { Wrote W.view sink.old sink.new (dim_list dims.now dimids.now) result }
@@ -86,7 +87,7 @@ fn put_dim_list<W: Sink>(sink: &mut W, dims: &[Dim], dimids: &[u64]) -> Result<(
     put(sink, b")")
 }
 
-/// Writes the names of the dimensions, joined by commas.
+/// Writes the names of the dimensions with the ids `dimids`, joined by commas and without parentheses.
 fn put_dim_names<W: Sink>(sink: &mut W, dims: &[Dim], dimids: &[u64]) -> Result<(), WriteFailed>
     ensures { Wrote W.view sink.old sink.new (joined (map (dim_name dims.now) dimids.now)) result }
 {
@@ -98,7 +99,7 @@ fn put_dim_names<W: Sink>(sink: &mut W, dims: &[Dim], dimids: &[u64]) -> Result<
     Ok(())
 }
 
-/// Writes the name of a dimension, and then a comma and a space unless `is_last`.
+/// Writes the name of the dimension with the id `dimid`, and then a comma and a space, unless it is the last of its shape (`is_last`).
 #[tactic(auto, using(devices::proofs::Writes::writes), unfolding(crate::specs::code::Pieces::dim_text))]
 fn put_dim_name<W: Sink>(
     sink: &mut W,
@@ -108,16 +109,17 @@ fn put_dim_name<W: Sink>(
 ) -> Result<(), WriteFailed>
     ensures { Wrote W.view sink.old sink.new (dim_text dims.now dimid is_last) result }
 {
-    put_name_of(sink, dims, dimid)?;
+    put_bare_dim_name(sink, dims, dimid)?;
     if is_last {
         return Ok(());
     }
     put(sink, b", ")
 }
 
-/// Writes the name of the dimension at the index `dimid` of the header's list, or nothing if there is none.
+/// Writes the name of the dimension with the id `dimid`, its index in `dims`, without a comma after it. Writes nothing if `dims` has no
+/// such dimension.
 #[tactic(auto, using(devices::proofs::Writes::writes))]
-fn put_name_of<W: Sink>(sink: &mut W, dims: &[Dim], dimid: u64) -> Result<(), WriteFailed>
+fn put_bare_dim_name<W: Sink>(sink: &mut W, dims: &[Dim], dimid: u64) -> Result<(), WriteFailed>
     ensures { Wrote W.view sink.old sink.new (dim_name dims.now dimid) result }
 {
     match dims.get(dimid as usize) {

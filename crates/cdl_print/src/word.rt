@@ -27,7 +27,7 @@ pub enum Word {
 }
 
 impl Word {
-    /// Returns the bytes of the word.
+    /// Returns the bytes that are printed for this word, with its spaces and line feeds.
     #[tactic(auto, unfolding(nc_base::specs::HeadText::netcdf_word, nc_base::specs::HeadText::dimensions_word, nc_base::specs::HeadText::unlimited_word, nc_base::specs::HeadText::currently_word, nc_base::specs::HeadText::variables_word, nc_base::specs::HeadText::global_word, nc_base::specs::HeadText::string_break))]
     pub fn bytes(self) -> &'static [u8]
         ensures { result.now ≡ word_text self }

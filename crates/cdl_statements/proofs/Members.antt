@@ -1,5 +1,5 @@
 -- Lists with commas between their members, cut token by token.
-use Rattle.std.proofs.Common.{◌≡◌, ℕ, ℤ, Bool, true, false, List, [], ◌∷◌, refl, sym, ap, ◌∙◌, Option, None, Some, ◌&&◌, ◌||◌, not, arith, nat_lt, rules}
+use Rattle.std.proofs.Common.{◌≡◌, ℕ, ℤ, Bool, true, false, List, [], ◌∷◌, refl, sym, ap, ◌∙◌, Option, None, Some, ◌&&◌, ◌||◌, not, arith, nat_lt, rules, if◌then◌else◌, ◌==◌}
 use Rattle.cdl_tokens.proofs.Words.{and_false}
 use Rattle.cdl_tokens.specs.declared.token.TokenKind.{TokenKind}
 use Rattle.nc_base.specs.declared.version.Version.{Version}
@@ -52,13 +52,17 @@ no_mark : (b : ℕ) (l : Lexeme) → is_mark_kind l.kind ≡ false → is_mark b
 no_mark b l h = rw (h) refl
 
 abbrev split : Bool → Bool → Bool → Lexeme → List Lexeme → List (List Lexeme)
-split a b c l ls = elim (a && not false) [ true ↦ [] ∷ members_in false ls | false ↦ onto_first l (members_in (b || false && not c) ls) ]
+split a b c l ls = let others = members_in (b || false && not c) ls in if a && not false then [] ∷ others else onto_first l others
 
 members_at : (a b : Bool) (l : Lexeme) (ls : List Lexeme) → is_mark 0x2c l ≡ a → is_mark 0x28 l ≡ b → members_in false (l ∷ ls) ≡ split a b (is_mark 0x29 l) l ls
 members_at a b l ls ha hb = ap (λ x. split x (is_mark 0x28 l) (is_mark 0x29 l) l ls) ha ∙ ap (λ x. split a x (is_mark 0x29 l) l ls) hb
 
+-- no byte is two marks
+pub one_mark : (b d : ℕ) (l : Lexeme) → (b == d) ≡ false → is_mark b l ≡ true → is_mark d l ≡ false
+one_mark b d l e h = search rules
+
 comma_first : (l : Lexeme) (ls : List Lexeme) → is_mark 0x2c l ≡ true → members_in false (l ∷ ls) ≡ [] ∷ members_in false ls
-comma_first l ls h = members_at true (is_mark 0x28 l) l ls h refl
+comma_first l ls h = members_at true false l ls h (one_mark 0x2c 0x28 l refl h)
 
 other_first : (l : Lexeme) (ls : List Lexeme) → is_mark 0x2c l ≡ false → members_in false (l ∷ ls) ≡ onto_first l (members_in (is_mark 0x28 l || false && not (is_mark 0x29 l)) ls)
 other_first l ls h = members_at false (is_mark 0x28 l) l ls h refl

@@ -1,10 +1,10 @@
 -- Declarations, token by token: the names of a variable's dimensions, in parentheses.
 use Rattle.std.proofs.Common.{◌≡◌, ℕ, Bool, true, false, List, [], ◌∷◌, ◌++◌, refl, sym, ap, ◌∙◌, None, Some, if◌then◌else◌, ◌||◌, arith, rules}
-use Rattle.cdl_statements.proofs.Prelude.{option_map, Declaration, declaration_said, only, next, completes, is_name, word_value, Lexeme, is_mark, name_of, Variable, variable, each, both, if_so, members, members_in, onto_first, name_alone}
+use Rattle.cdl_statements.proofs.Prelude.{option_map, Declaration, declaration_said, only, next, completes, is_name, word_value, Lexeme, is_mark, name_of, Variable, variable, each, both, if_so, members, members_in, onto_first, name_alone, one_mark}
 use Rattle.cdl_statements.specs.declared.due.Due.TheVariants as dues
 use Rattle.cdl_statements.proofs.Listing.{never_completes, kind_of_mark}
 use Rattle.cdl_statements.proofs.Options.{both_some, given_map, given_none, map_if, none_if, same_if}
-use Rattle.cdl_statements.proofs.VariableNames.{Claims, ends_said, given_whole, if_whole, inside, members_at, name_mark, named, no_dimensions, nothing_after, one_mark, refer, referred, said_mark, said_name, separator_whole}
+use Rattle.cdl_statements.proofs.VariableNames.{Claims, ends_said, given_whole, if_whole, inside, members_at, name_mark, named, no_dimensions, nothing_after, refer, referred, said_mark, said_name, separator_whole}
 use Rattle.cdl_statements.proofs.Shaping.{nameless}
 
 -- ---- a dimension's name

@@ -1,6 +1,6 @@
 -- What a whole statement says stands in its tokens, section by section.
 use Rattle.std.proofs.Common.{◌≡◌, Bool, true, false, List, [], ◌∷◌, drop, refl, sym, ap, ◌∙◌, Option, None, Some, if◌then◌else◌, ◌&&◌, is_some, arith, rules}
-use Rattle.cdl_statements.proofs.Prelude.{option_map, option_and_then, false≢true, Version, attribute_said, declaration_said, dimensions_said, mark_said, statement_said, values, variable_said, completes, opens_section_after, is_name, next, only, word_value, Lexeme, is_mark, is_word_kind, is_opening_kind, is_end_kind, Statement, Listed, Attribute, Close, DeclareDimensions, DeclareVariables, Open, End, alone, body, option_or, first_bad, if_so, section_mark, section_of, shape, Section, Unopened, Globals, Dimensions, Variables, Values}
+use Rattle.cdl_statements.proofs.Prelude.{option_map, option_and_then, false≢true, Version, attribute_said, declaration_said, dimensions_said, mark_said, statement_said, values, variable_said, completes, opens_section_after, is_name, next, only, word_value, Lexeme, is_mark, is_word_kind, is_opening_kind, is_end_kind, Statement, Listed, Attribute, Close, DeclareDimensions, DeclareVariables, Open, End, alone, body, option_or, first_bad, if_so, section_mark, section_of, shape, Section, Unopened, Globals, Dimensions, Variables, Values, one_mark}
 use Rattle.cdl_statements.specs.Shapes as Shapes
 use Rattle.cdl_statements.specs.declared.due.Due.TheVariants as dues
 use Rattle.cdl_statements.specs.declared.section.Section.TheVariants.{Closed}
@@ -11,7 +11,6 @@ use Rattle.cdl_statements.proofs.Listing.{fine_on, never_completes}
 use Rattle.cdl_statements.proofs.Options.{either_none, either_only, none_of}
 use Rattle.cdl_statements.proofs.SectionParts.{global_lone, global_more, global_to, mark_completes, no_colon, no_global, section_no_name}
 use Rattle.cdl_statements.proofs.Shaping.{assigned_is, data_is, data_said, mark_name, mark_word, no_mark, no_section, no_brace, nameless}
-use Rattle.cdl_statements.proofs.VariableNames.{one_mark}
 use Rattle.cdl_statements.proofs.VariableSection as variable
 
 -- of two ways

@@ -1,6 +1,6 @@
 -- Declarations, token by token: a variable's name and what comes after it.
 use Rattle.std.proofs.Common.{◌≡◌, ℕ, Bool, true, false, List, [], ◌∷◌, ◌++◌, refl, sym, ap, ◌∙◌, arith, Option, None, Some, if◌then◌else◌, ◌&&◌, ◌||◌, ◌==◌, not, slice_index, rules}
-use Rattle.cdl_statements.proofs.Prelude.{option_map, option_and_then, Declaration, with_name, declaration_said, only, separator, next, is_whole, completes, is_name, word_value, Lexeme, is_mark, is_mark_kind, name_of, Variable, variable, each, both, if_so, before_mark, members, members_in, onto_first, name_alone, Due}
+use Rattle.cdl_statements.proofs.Prelude.{option_map, option_and_then, Declaration, with_name, declaration_said, only, separator, next, is_whole, completes, is_name, word_value, Lexeme, is_mark, is_mark_kind, name_of, Variable, variable, each, both, if_so, before_mark, members, one_mark, members_in, onto_first, name_alone, Due}
 use Rattle.cdl_statements.specs.declared.due.Due.TheVariants as dues
 use Rattle.cdl_statements.proofs.Listing.{never_completes, nothing_more, kind_of_mark}
 use Rattle.cdl_statements.proofs.Options.{both_some, given_map, given_none, map_if, none_if, same_if}
@@ -17,14 +17,10 @@ name_mark b n h = ap (λ k. k && slice_index n.bytes 0 == b) (name_kind n h)
 pub named : (n : Lexeme) → is_name n ≡ true → name_of n ≡ Some (word_value n.bytes)
 named n h = name_is n ∙ rw (h) refl
 
--- no byte is two marks
-pub one_mark : (b d : ℕ) (l : Lexeme) → (b == d) ≡ false → is_mark b l ≡ true → is_mark d l ≡ false
-one_mark b d l e h = search rules
-
 -- ---- one token on
 
 abbrev pub split : Bool → Bool → Bool → Bool → Lexeme → List Lexeme → List (List Lexeme)
-split p a b c l ls = elim (a && not p) [ true ↦ [] ∷ members_in p ls | false ↦ onto_first l (members_in (b || p && not c) ls) ]
+split p a b c l ls = let others = members_in (b || p && not c) ls in if a && not p then [] ∷ others else onto_first l others
 
 pub members_at : (p a b c : Bool) (l : Lexeme) (ls : List Lexeme) → is_mark 0x2c l ≡ a → is_mark 0x28 l ≡ b → is_mark 0x29 l ≡ c → members_in p (l ∷ ls) ≡ split p a b c l ls
 members_at p a b c l ls ha hb hc =

@@ -1,9 +1,9 @@
 -- The table of due tokens says whether a piece has its shape, in the section of the variables.
 use Rattle.std.proofs.Common.{◌≡◌, ℕ, Bool, true, false, List, [], ◌∷◌, drop, refl, sym, ap, ◌∙◌, Option, None, Some, if◌then◌else◌, ◌&&◌, is_some, arith, rules}
-use Rattle.cdl_statements.proofs.Prelude.{option_map, option_and_then, Version, declaration_said, values, only, next, is_whole, completes, is_name, opens_section_after, word_value, Lexeme, is_mark, is_word_kind, name_of, Statement, Attribute, Close, DeclareVariables, Variable, first_bad, alone, assigned, attribute, before_mark, body, each, option_or, if_so, section_mark, shape, typed, Variables}
+use Rattle.cdl_statements.proofs.Prelude.{option_map, option_and_then, Version, declaration_said, values, only, next, is_whole, completes, is_name, opens_section_after, word_value, Lexeme, is_mark, is_word_kind, name_of, Statement, Attribute, Close, DeclareVariables, Variable, first_bad, alone, assigned, attribute, before_mark, body, each, option_or, if_so, section_mark, shape, typed, Variables, one_mark}
 use Rattle.cdl_statements.specs.declared.due.Due.TheVariants as dues
 use Rattle.cdl_statements.proofs.Declarations.{listed_variables, variables_are}
-use Rattle.cdl_statements.proofs.VariableNames.{named, not_variable, one_mark}
+use Rattle.cdl_statements.proofs.VariableNames.{named, not_variable}
 use Rattle.cdl_statements.proofs.Listing.{fine_on, never_completes, nothing_more, only_completes}
 use Rattle.cdl_statements.proofs.Options.{either_none, either_only, given_none, some_if}
 use Rattle.cdl_statements.proofs.SectionParts.{alone_completes, global_completes, global_to, mark_completes, no_colon, no_global, section_no_name}

@@ -1,4 +1,4 @@
--- Definition. The tokens cut into pieces.
+-- Definition. The tokens cut into pieces. X is the type of the tokens, whose lexemes `lexeme_of` gives (in laws it is that of lexemes).
 use Rattle.std.specs.Prelude.{ℕ, zero, suc, Bool, true, false, List, [], ◌∷◌, ◌-◌, ◌&&◌, ◌||◌, if◌then◌else◌, take, codes, Option, None, Some, is_some}
 use Rattle.std.specs.Str.{byte}
 use Rattle.cdl_statements.specs.Lexemes.{Lexeme, is_mark, is_word, is_opening_kind, is_end_kind}
@@ -9,7 +9,7 @@ use Rattle.cdl_statements.specs.declared.section.Section.TheVariants.{Dimensions
 abbrev pub section_of : Lexeme → Option Section
 section_of l = if is_word (codes "dimensions") l then Some Dimensions else if is_word (codes "variables") l then Some Variables else if is_word (codes "data") l then Some Values else None
 
--- such a word and a colon; `lexeme_of` gives the kind and the bytes of an X, which is a token or a lexeme
+-- such a word and a colon
 abbrev pub is_section_mark : {X : Type 0} → (X → Lexeme) → X → List X → Bool
 is_section_mark lexeme_of t [] = false
 is_section_mark lexeme_of t (u ∷ ts) = is_some (section_of (lexeme_of t)) && is_mark (byte ":") (lexeme_of u)
@@ -31,13 +31,15 @@ statement_len lexeme_of (t ∷ ts) =
     else if is_mark (byte ";") (lexeme_of t) then 1
     else suc (statement_len lexeme_of ts)
 
--- how many tokens the piece has that begins with t; `true` if the piece before began with `}`
+-- the number of tokens of the piece that begins with t; true: the piece before it began with `}`, and so all tokens up to End are one piece
 abbrev pub piece_len : {X : Type 0} → (X → Lexeme) → Bool → X → List X → ℕ
 piece_len lexeme_of true t ts = if is_end_kind (lexeme_of t).kind then 1 else len_before_end lexeme_of (t ∷ ts)
 piece_len lexeme_of false t ts = if is_alone (lexeme_of t) then 1 else if is_section_mark lexeme_of t ts then 2 else statement_len lexeme_of (t ∷ ts)
 
--- closed: the piece before began with `}` (End is a piece by itself, whether closed or not). The first `more` tokens belong to that piece.
+-- the pieces of these tokens; the first `more` belong to the piece before, and closed: that piece began with `}`
 unfoldable pub pieces_at : {X : Type 0} → (X → Lexeme) → Bool → ℕ → List X → List (List X)
 pieces_at lexeme_of closed more [] = []
 pieces_at lexeme_of closed (suc more) (t ∷ ts) = pieces_at lexeme_of closed more ts
-pieces_at lexeme_of closed zero (t ∷ ts) = take (piece_len lexeme_of closed t ts) (t ∷ ts) ∷ pieces_at lexeme_of (is_mark (byte "}") (lexeme_of t)) (piece_len lexeme_of closed t ts - 1) ts
+pieces_at lexeme_of closed zero (t ∷ ts) =
+    let len = piece_len lexeme_of closed t ts in
+    take len (t ∷ ts) ∷ pieces_at lexeme_of (is_mark (byte "}") (lexeme_of t)) (len - 1) ts

@@ -52,6 +52,9 @@ abbrev pub first_bad : Version → List Lexeme → Option CdlKind
 first_bad v [] = None
 first_bad v (l ∷ ls) = option_or (token_fault v l.kind l.bytes) (first_bad v ls)
 
+-- ---- parts of statements: what tokens say, or None if they have another shape
+
+-- f of both, if both are there
 abbrev pub both : {A B C : Type 0} → (A → B → C) → Option A → Option B → Option C
 both f None b = None
 both f (Some a) None = None
@@ -62,20 +65,20 @@ abbrev pub each : {A B : Type 0} → (A → Option B) → List A → Option (Lis
 each f [] = Some []
 each f (x ∷ xs) = both (λ y ys. y ∷ ys) (f x) (each f xs)
 
--- The tokens between commas; a comma in parentheses separates nothing. parens: a parenthesis is open before these tokens.
+abbrev pub parens_after : Bool → Lexeme → Bool
+parens_after parens l = is_mark (byte "(") l || parens && not (is_mark (byte ")") l)
+
+-- the tokens between commas; parens: these tokens are inside parentheses, where a comma separates nothing
 abbrev pub members_in : Bool → List Lexeme → List (List Lexeme)
 members_in parens [] = [] ∷ []
 members_in parens (l ∷ ls) =
-    elim (is_mark (byte ",") l && not parens) [
-      | true ↦ [] ∷ members_in parens ls
-      | false ↦ onto_first l (members_in (is_mark (byte "(") l || parens && not (is_mark (byte ")") l)) ls)
-    ]
+    let others = members_in (parens_after parens l) ls in
+    if is_mark (byte ",") l && not parens then [] ∷ others else onto_first l others
 
 -- MEMBER, .. where f reads a MEMBER
 abbrev pub list_of : {A : Type 0} → (List Lexeme → Option A) → List Lexeme → Option (List A)
 list_of f ls = each f (members_in false ls)
 
--- one token alone
 abbrev pub single : {A : Type 0} → (Lexeme → Option A) → List Lexeme → Option A
 single f (l ∷ []) = f l
 single f _ = None
@@ -114,7 +117,9 @@ abbrev pub variable : List Lexeme → Option Variable
 variable [] = None
 variable (n ∷ []) = option_map (λ name. record { name = name; dimensions = [] }) (name_of n)
 variable (n ∷ p ∷ ls) =
-    if_so (is_mark (byte "(") p) (both (λ name ds. record { name = name; dimensions = ds }) (name_of n) (option_and_then (list_of (single name_of)) (before_mark (byte ")") ls)))
+    if_so (is_mark (byte "(") p) (
+    both (λ name ds. record { name = name; dimensions = ds }) (name_of n) (
+    option_and_then (list_of (single name_of)) (before_mark (byte ")") ls)))
 
 -- f of a name and values: NAME = VALUE, .. if `_` is taken, otherwise NAME = CONST, ..
 abbrev pub assigned : {A : Type 0} → Version → Bool → (Bytes → List Value → A) → List Lexeme → Option A
@@ -136,6 +141,8 @@ abbrev pub attribute : Version → List Lexeme → Option Statement
 attribute v (n ∷ c ∷ ls) = if_so (is_mark (byte ":") c) (option_and_then (λ name. assigned v false (Attribute (Some name)) ls) (name_of n))
 attribute v _ = None
 
+-- ---- statements
+
 -- a statement without its `;`, by its section
 abbrev pub body : Version → Section → List Lexeme → Option Statement
 body v Globals ls = global v ls
@@ -154,14 +161,20 @@ section_number Values = 4
 section_number Closed = 5
 section_number Ended = 6
 
+abbrev pub is_later : Section → Section → Bool
+is_later before s = nat_lt (section_number before) (section_number s)
+
 -- the mark of a section that comes after this one
 abbrev pub section_mark : Section → List Lexeme → Option Statement
-section_mark before (l ∷ c ∷ []) = if_so (is_mark (byte ":") c) (option_and_then (λ s. if_so (nat_lt (section_number before) (section_number s)) (Some (Enter s))) (section_of l))
+section_mark before (l ∷ c ∷ []) = if_so (is_mark (byte ":") c) (option_and_then (λ s. if_so (is_later before s) (Some (Enter s))) (section_of l))
 section_mark before _ = None
 
--- what a piece says, if it has a shape of its section
+-- What a piece says, if it has a shape of its section. Most sections have `}`, the mark of a later section, and statements with a `;`.
 unfoldable pub shape : Version → Section → List Lexeme → Option Statement
 shape v Unopened ls = single (λ l. if_so (is_opening_kind l.kind) (Some Open)) ls
 shape v Closed ls = single (λ l. if_so (is_end_kind l.kind) (Some End)) ls
 shape v Ended ls = None
-shape v section ls = option_or (single (λ l. if_so (is_mark (byte "}") l) (Some Close)) ls) (option_or (section_mark section ls) (option_and_then (body v section) (before_mark (byte ";") ls)))
+shape v section ls =
+    option_or (single (λ l. if_so (is_mark (byte "}") l) (Some Close)) ls) (
+    option_or (section_mark section ls) (
+    option_and_then (body v section) (before_mark (byte ";") ls)))

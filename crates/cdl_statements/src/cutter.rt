@@ -108,7 +108,7 @@ impl<'a> Cutter<'a> {
             let token = cutter.next;
             let (after, ends) = cutter.advanced();
             if let Err(refused) = into.push(token) {
-                return emptied(into, refused.into());
+                return clear_and_fail(into, refused.into());
             }
             cutter = after;
             if ends {
@@ -118,7 +118,7 @@ impl<'a> Cutter<'a> {
         }
     }
 
-    /// Passes one token, and returns true if it was the last of its statement. Does not allocate.
+    /// Passes the next token, and returns true if it is the last of its statement. Needs a cutter that isn't done. Does not allocate.
     #[inline]
     pub fn advance(&mut self) -> bool
         requires { is_done self.old ≡ false }
@@ -139,15 +139,17 @@ impl<'a> Cutter<'a> {
         found.ends
     }
 
-    /// Returns true if a comma comes next, inside of a statement.
+    /// Returns true if the next token is a comma inside of a statement: neither its first token nor after the closing brace. Then
+    /// [`number_and_comma`](Cutter::number_and_comma) and the other calls that pass a comma may be called.
     pub fn is_at_comma(&self) -> bool
         ensures { result ≡ true → IsAtComma self.now }
     {
         !self.done && is_inside(self.state) && self.lexeme().is_mark(b',')
     }
 
-    /// If a plain number and another comma come after the next comma, with only white space between the three, passes the first comma and
-    /// the number, and returns the number. Otherwise returns `None`, and the cutter stays where it is. Does not allocate.
+    /// Looks, after the comma that the cutter is at, for a plain number (an optional sign and at most 19 decimal digits) and then a second
+    /// comma, with only white space between the three. If they are there, moves to the second comma, and returns the number. Otherwise
+    /// returns `None`, and the cutter stays where it is. Does not allocate.
     #[inline(always)]
     pub fn number_and_comma(&mut self) -> Option<Numeral>
         requires { IsAtComma self.old }
@@ -157,13 +159,13 @@ impl<'a> Cutter<'a> {
     {
         let mut scanner = self.scanner;
         let listed = scanner.number_and_comma()?;
-        self.go_to(listed.comma, scanner);
+        self.move_to_comma(listed.comma, scanner);
         Some(listed.numeral)
     }
 
-    /// If a string without an escape or a line feed and another comma come after the next comma, with only white space between the three,
-    /// passes the first comma and the string. Returns the string's bytes with the quotes. Otherwise returns `None`, and the cutter stays
-    /// where it is. Does not allocate.
+    /// Looks, after the comma that the cutter is at, for a string without an escape or a line feed and then a second comma, with only white
+    /// space between the three. If they are there, moves to the second comma, and returns the string's bytes with the quotes. Otherwise
+    /// returns `None`, and the cutter stays where it is. Does not allocate.
     #[inline(always)]
     pub fn string_and_comma(&mut self) -> Option<&'a [u8]>
         requires { IsAtComma self.old }
@@ -173,12 +175,13 @@ impl<'a> Cutter<'a> {
         let mut scanner = self.scanner;
         let listed = scanner.string_and_comma()?;
         let bytes = listed.token.bytes(self.scanner.text());
-        self.go_to(listed.comma, scanner);
+        self.move_to_comma(listed.comma, scanner);
         Some(bytes)
     }
 
-    /// Passes the next comma and the token after it, and returns this token, if its role is `Other` and another comma follows it, with only
-    /// white space before that comma. Otherwise returns `None`, and the cutter stays where it is. Does not allocate.
+    /// Looks, after the comma that the cutter is at, for a token of the role `Other` (no opening, no word of a section, none of `: ; }`)
+    /// and then a second comma, with only white space before it. If they are there, moves to the second comma, and returns the token.
+    /// Otherwise returns `None`, and the cutter stays where it is. Does not allocate.
     #[inline(always)]
     pub fn token_and_comma(&mut self) -> Option<Lexeme<'a>>
         requires { IsAtComma self.old }
@@ -191,7 +194,7 @@ impl<'a> Cutter<'a> {
         if !is_other(Role::of(listed.token, text)) {
             return None;
         }
-        self.go_to(listed.comma, scanner);
+        self.move_to_comma(listed.comma, scanner);
         Some(Lexeme::of(listed.token, text))
     }
 
@@ -203,9 +206,9 @@ impl<'a> Cutter<'a> {
         self.scanner
     }
 
-    /// Makes `comma` the next token, a comma of the same statement. `scanner` stands just after it.
+    /// Makes `comma` the next token. Needs a comma of the same statement, and a `scanner` that stands just after this comma.
     #[inline(always)]
-    pub(crate) fn go_to(&mut self, comma: Token, scanner: Scanner<'a>)
+    pub(crate) fn move_to_comma(&mut self, comma: Token, scanner: Scanner<'a>)
         requires { role_in (scanners.text_of scanner) comma ≡ Role.Other }
         ensures scanner { self.new.scanner ≡ scanner.entry }
         ensures comma { next_token self.new ≡ comma }
@@ -218,7 +221,8 @@ impl<'a> Cutter<'a> {
         self.next_role = Role::Other;
     }
 
-    /// Returns the cutter after the next token, and true if this token is the last of its statement. Does not allocate.
+    /// Returns the cutter after the next token, and true if this token is the last of its statement. It is [`advance`](Cutter::advance) on
+    /// a copy of the cutter. Needs a cutter that isn't done. Does not allocate.
     pub fn advanced(self) -> (Cutter<'a>, bool)
         requires { is_done self ≡ false }
         ensures same { SameText self.entry result.0 }
@@ -234,14 +238,14 @@ impl<'a> Cutter<'a> {
     }
 }
 
-/// Returns true if the state is `Inside`.
+/// Returns true for the state `Inside`: tokens of a statement that isn't whole yet come before the next token.
 fn is_inside(state: CutState) -> bool
     ensures { result ≡ true → state ≡ CutState.Inside }
 {
     matches!(state, CutState::Inside)
 }
 
-/// Returns true if the role is `Other`.
+/// Returns true for `Other`, the role of a token that is no opening, no word of a section, none of `: ; }` and not the end of the text.
 fn is_other(role: Role) -> bool
     ensures { result ≡ true → role ≡ Role.Other }
 {
@@ -249,7 +253,7 @@ fn is_other(role: Role) -> bool
 }
 
 /// Empties `into`, which could not be extended, and returns `refusal` as the error.
-fn emptied(into: &mut Vec<Token>, refusal: AllocError) -> Result<bool, AllocError>
+fn clear_and_fail(into: &mut Vec<Token>, refusal: AllocError) -> Result<bool, AllocError>
     ensures empty { into.new.items ≡ [] }
     ensures err { IsErr result }
 {

@@ -54,8 +54,8 @@ impl Due {
     ghost use Rattle.cdl_statements.specs.code.DueTokens.{is_whole, next, next_first, only, separator};
     ghost use Rattle.cdl_statements.specs.code.Views.{lexeme_of};
 
-    /// Returns which token is due after `token`, if `self` was due. Returns `Nothing` if the statement is whole with `token`,
-    /// and `Never` if `token` isn't what was due (the CDL chapter of the NetCDF User's Guide, "CDL Syntax").
+    /// Returns which token is due (has to come next) after `token`, in whose place `self` was due. Returns `Nothing` if the statement is
+    /// whole with `token`, and `Never` if `token` isn't what was due (the CDL chapter of the NetCDF User's Guide, "CDL Syntax").
     #[inline]
     #[tactic(auto, unfolding(crate::specs::code::DueTokens::next))]
     pub fn after(self, token: Lexeme<'_>) -> Due
@@ -71,7 +71,8 @@ impl Due {
         }
     }
 
-    /// Returns which token is due after `token`, as [`after`](Due::after) does, by a table of all tokens that may be due.
+    /// Returns which token is due after `token`, by a table of all tokens that may be due. [`after`](Due::after) calls it unless
+    /// a constant or the separator after one was due.
     #[inline(never)]
     #[tactic(auto, unfolding(crate::specs::code::DueTokens::next))]
     fn after_in_table(self, token: Lexeme<'_>) -> Due
@@ -171,7 +172,8 @@ impl Due {
         }
     }
 
-    /// Returns `due` if the token is a comma, since the list goes on; `Nothing` if it is a semicolon; otherwise `Never`.
+    /// Returns which token is due after `token`, the separator of a list: `due` after a comma, since the list goes on, and `Nothing` after
+    /// a semicolon, since the statement is whole. Returns `Never` if `token` is any other token.
     fn separator(due: Due, token: Lexeme<'_>) -> Due
         ensures { result ≡ separator due (lexeme_of token.entry) }
     {
@@ -182,14 +184,14 @@ impl Due {
         }
     }
 
-    /// Returns `due` if the test holds, otherwise `Never`.
+    /// Returns `due`, but only if `test` is true, that is, if a token is the one that was due. Otherwise returns `Never`.
     fn only(test: bool, due: Due) -> Due
         ensures { result ≡ only test due }
     {
         if test { due } else { Due::Never }
     }
 
-    /// Returns true if the statement is whole.
+    /// Returns true for `Nothing`: the statement is whole. Returns false for `Never`, although then no token is due either.
     pub fn is_whole(self) -> bool
         ensures { result ≡ is_whole self }
     {

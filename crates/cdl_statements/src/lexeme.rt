@@ -21,7 +21,7 @@ impl<'a> Lexeme<'a> {
     ghost use Rattle.cdl_statements.specs.Pieces.{section_of};
     ghost use Rattle.cdl_statements.specs.code.Views.{lexeme_of};
 
-    /// Returns a token of this text, without its place.
+    /// Returns `token` without its place: its kind and its bytes. `text` has to be the text that the token was read from.
     #[inline]
     pub fn of(token: Token, text: &'a [u8]) -> Lexeme<'a>
         ensures { lexeme_of result ≡ lexeme text.now token }
@@ -32,7 +32,7 @@ impl<'a> Lexeme<'a> {
         }
     }
 
-    /// Returns true if the token is this mark.
+    /// Returns true if the token is the mark `mark`, one of `: ; = , ( ) }`.
     pub fn is_mark(self, mark: u8) -> bool
         ensures { result ≡ is_mark mark (lexeme_of self.entry) }
     {
@@ -46,7 +46,7 @@ impl<'a> Lexeme<'a> {
         is_word_kind(self.kind) && self.bytes == word
     }
 
-    /// Returns true if the token is a word.
+    /// Returns true if the token is any word. Unlike [`is_name`](Lexeme::is_name), it counts reserved words, too.
     pub fn is_any_word(self) -> bool
         ensures { result ≡ is_word_kind self.entry.kind }
     {
@@ -60,7 +60,8 @@ impl<'a> Lexeme<'a> {
         is_word_kind(self.kind) && !is_reserved(self.bytes)
     }
 
-    /// Returns true if the token is a number or a string, or if it is an unescaped `_` and `takes_fill` is true.
+    /// Returns true if the token is a constant: a number, a string or an unescaped `_`, which stands for the fill value. `_` counts only if
+    /// `takes_fill` is true.
     pub fn is_value(self, takes_fill: bool) -> bool
         ensures { result ≡ is_value_of takes_fill (lexeme_of self.entry) self.entry.kind }
     {
@@ -111,7 +112,7 @@ fn is_word_kind(kind: TokenKind) -> bool
     matches!(kind, TokenKind::Word)
 }
 
-/// Returns true if a token of this kind is a mark.
+/// Returns true if a token of this kind is a mark: one of `: ; = , ( ) }`.
 fn is_mark_kind(kind: TokenKind) -> bool
     ensures { result ≡ is_mark_kind kind }
 {

@@ -31,4 +31,4 @@ pub use lexeme::Lexeme;
 pub use number_list::NumberList;
 pub use piece::{CutState, Role, Step};
 pub use section::Section;
-pub use shape_check::{ShapeCheck, check_shape, check_shape_from, token_fault};
+pub use shape_check::{ShapeCheck, check_shape, check_shape_by_due, token_fault};

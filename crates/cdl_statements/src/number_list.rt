@@ -20,8 +20,8 @@ pub struct NumberList<'a> {
 }
 
 impl<'a> NumberList<'a> {
-    /// Creates the list of the numbers after a comma. This comma is the next token of `start`, and the scanner of `start` stands just after
-    /// it.
+    /// Creates the list of the numbers after a comma. Needs a `start` that has this comma as its next token, and whose scanner stands just
+    /// after the comma.
     #[inline(always)]
     pub fn new(start: Cutter<'a>) -> NumberList<'a>
         requires { EndsAtScanner start }
@@ -33,8 +33,8 @@ impl<'a> NumberList<'a> {
         }
     }
 
-    /// Passes the next number and the comma after it, and returns the number. If no plain number with a comma after it comes next, returns
-    /// `None`, and the list stays where it is. Does not allocate.
+    /// If a plain number (an optional sign and at most 19 decimal digits) and a comma come next, with only white space before each, passes
+    /// both and returns the number. Otherwise returns `None`, and the list stays where it is. Does not allocate.
     #[inline(always)]
     pub fn number_and_comma(&mut self) -> Option<Numeral>
         requires { IsAtComma (reached self.old) }
@@ -52,7 +52,7 @@ impl<'a> NumberList<'a> {
         ensures { SamePlace result (reached self.entry) }
     {
         let mut cutter = self.start;
-        cutter.go_to(self.scanner.comma_before(), self.scanner);
+        cutter.move_to_comma(self.scanner.comma_before(), self.scanner);
         cutter
     }
 }

@@ -1,7 +1,7 @@
 //! How a list of tokens is cut into statements.
 
 ghost use Rattle.std.specs.Prelude.{◌≡◌, true, if◌then◌else◌};
-ghost use Rattle.cdl_statements.specs.code.CutSteps.{ending, going, section_step, unless_end};
+ghost use Rattle.cdl_statements.specs.code.CutSteps.{ending, going_on, section_step, unless_end};
 ghost use Rattle.cdl_statements.specs.code.Roles.{is_section, mark_role};
 
 use cdl_tokens::{Token, TokenKind, byte_at};
@@ -25,7 +25,7 @@ pub enum Role {
 impl Role {
     ghost use Rattle.cdl_statements.specs.code.Roles.{role_in};
 
-    /// Returns the role of a token of this text.
+    /// Returns the role that `token` has when tokens are cut into statements. `text` has to be the text that the token was read from.
     #[inline]
     pub fn of(token: Token, text: &[u8]) -> Role
         ensures { result ≡ role_in text.now token }
@@ -128,30 +128,30 @@ fn ending(state: CutState) -> Step
 }
 
 /// Returns the step of a token after which its statement goes on. `state` is the state before the token that comes next.
-fn going(state: CutState) -> Step
-    ensures { result ≡ going state }
+fn going_on(state: CutState) -> Step
+    ensures { result ≡ going_on state }
 {
     Step { ends: false, state }
 }
 
-/// If `next`, the role of the token that comes next, is the end of the text, returns the step of a statement's last token. Otherwise
-/// returns the step of a token after which its statement goes on, with this state.
+/// Returns the step of a token after which its statement goes on, unless the text ends there. `next` is the role of the token that comes
+/// next. If `next` is `End`, returns the step of a statement's last token. Otherwise `state` is the state before the token that comes next.
 fn unless_end(next: Role, state: CutState) -> Step
     ensures { result ≡ unless_end next state }
 {
     match next {
         Role::End => ending(CutState::Begins),
-        _ => going(state),
+        _ => going_on(state),
     }
 }
 
-/// Returns the step of the word of a section that begins a statement. `next` is the role of the token after the word. If `next` is a colon,
-/// the word and the colon are a section mark.
+/// Returns the step of `dimensions`, `variables` or `data` as the first token of a statement. `next` is the role of the token after it. If
+/// `next` is `Colon`, both are a section mark, which ends with the colon. Otherwise the statement goes on, unless the text ends there.
 fn section_step(next: Role) -> Step
     ensures { result ≡ section_step next }
 {
     match next {
-        Role::Colon => going(CutState::Marked),
+        Role::Colon => going_on(CutState::Marked),
         _ => unless_end(next, CutState::Inside),
     }
 }

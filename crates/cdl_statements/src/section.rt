@@ -22,7 +22,7 @@ pub enum Section {
 impl Section {
     ghost use Rattle.cdl_statements.specs.Shapes.{section_number};
 
-    /// Returns the position of the section in a text, from 0 on.
+    /// Returns the section's number in the order of a text: 0 for `Unopened`, up to 6 for `Ended`. A later section has a greater number.
     pub fn number(self) -> u8
         ensures { result ≡ section_number self }
     {

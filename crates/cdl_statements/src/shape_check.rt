@@ -35,12 +35,13 @@ pub fn check_shape(start: Cutter<'_>, section: Section) -> ShapeCheck<'_>
     ensures table { result.shaped ≡ completes (Due.First section) (words start.entry) }
     ensures rest { Follows start.entry result.rest }
 {
-    check_shape_from(start, Due::First(section))
+    check_shape_by_due(start, Due::First(section))
 }
 
-/// Checks the next statement of `start` as [`check_shape`] does, but for the shape in which `first` is due at its first token. Does not
-/// allocate.
-pub fn check_shape_from(start: Cutter<'_>, first: Due) -> ShapeCheck<'_>
+/// Checks the next statement of `start` as [`check_shape`] does, but not for a section: `first` says which token has to come first, and
+/// [`Due::after`] says which one has to come after each token. If `first` is `DataName`, for example, the statement has to list the values
+/// of a variable. Does not allocate.
+pub fn check_shape_by_due(start: Cutter<'_>, first: Due) -> ShapeCheck<'_>
     requires { is_done start ≡ false }
     ensures bad { result.bad ≡ first_bad (version_of start.entry) (words start.entry) }
     ensures shaped { result.shaped ≡ completes first (words start.entry) }
@@ -77,7 +78,7 @@ pub fn token_fault(version: Version, token: Lexeme<'_>) -> Option<CdlKind>
     }
 }
 
-/// Returns `BadNumber` if a number token is no number, or if the version lacks its suffix; otherwise `None`.
+/// Returns `BadNumber` if the number token of these bytes is no number, or if the version lacks its suffix; otherwise `None`.
 fn number_fault(version: Version, bytes: &[u8]) -> Option<CdlKind>
     ensures { result ≡ token_fault version TokenKind.Number bytes.now }
 {

@@ -1,4 +1,4 @@
--- Definition. The escapes of words and of strings.
+-- Definition. The escapes of words and of strings. A `Character` has the byte that it stands for, if any, and its length.
 use Rattle.std.specs.Prelude.{ℕ, zero, suc, List, [], ◌∷◌, ◌+◌, ◌-◌, ◌==◌, nat_lt, if◌then◌else◌, slice_index, take, drop, length, map, Option, None, Some, unwrap_or}
 use Rattle.std.specs.Str.{byte}
 use Rattle.std.specs.List.{take_while}
@@ -15,7 +15,7 @@ word_value (b ∷ c ∷ rest) = if is_escape b c then c ∷ word_value rest else
 abbrev pub up_to_255 : ℕ → Option ℕ
 up_to_255 n = if nat_lt 255 n then None else Some n
 
--- an escape by number: `mark` bytes (a backslash, perhaps an x), and digits
+-- an escape of `mark` bytes (a backslash, or that and an x) and these digits; without digits, or above 255, it is no byte
 abbrev pub number_escape : ℕ → ℕ → Bytes → Character
 number_escape mark base digits = record { value = if length digits == 0 then None else up_to_255 (number_in base 0 digits); len = mark + length digits }
 
@@ -31,21 +31,23 @@ plain_escape b =
     else if b == byte "v" then 0x0b
     else b
 
--- the escape of a backslash before these bytes; its length counts the backslash
+-- the escape of a backslash and what comes after it; its length counts the backslash
 abbrev pub escaped_character : Bytes → Character
-escaped_character bs =
-    if is_octal (slice_index bs 0) then number_escape 1 8 (take_while is_octal (take 3 bs))
-    else if slice_index bs 0 == byte "x" then number_escape 2 16 (take_while is_hex (take 2 (drop 1 bs)))
-    else record { value = Some (plain_escape (slice_index bs 0)); len = 2 }
+escaped_character after =
+    if is_octal (slice_index after 0) then number_escape 1 8 (take_while is_octal (take 3 after))
+    else if slice_index after 0 == byte "x" then number_escape 2 16 (take_while is_hex (take 2 (drop 1 after)))
+    else record { value = Some (plain_escape (slice_index after 0)); len = 2 }
 
 unfoldable pub character : Bytes → Character
 character bs = if slice_index bs 0 == byte "\\" then escaped_character (drop 1 bs) else record { value = Some (slice_index bs 0); len = 1 }
 
--- the byte that each character stands for, if any; the first `more` bytes belong to the character before
+-- the byte that each character stands for, if any; the first `more` bytes still belong to the character before
 unfoldable pub unescape_at : ℕ → Bytes → List (Option ℕ)
 unescape_at more [] = []
 unescape_at (suc more) (b ∷ bs) = unescape_at more bs
-unescape_at zero (b ∷ bs) = (character (b ∷ bs)).value ∷ unescape_at ((character (b ∷ bs)).len - 1) bs
+unescape_at zero (b ∷ bs) =
+    let found = character (b ∷ bs) in
+    found.value ∷ unescape_at (found.len - 1) bs
 
 -- the bytes between the quotes of a string
 abbrev pub inner : Bytes → Bytes

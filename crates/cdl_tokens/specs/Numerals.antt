@@ -15,7 +15,7 @@ pub record Numeral : Type 0 where
   pub value : ℤ
   pub ty : NcType
 
--- these bytes, which are in lower case, are the suffix that a dump prints for the type in lower case, or `l` for int
+-- these bytes, which are in lower case, spell a suffix of the type: that of a dump, and of int `l` too
 abbrev pub has_suffix : Bytes → NcType → Bool
 has_suffix bs Char = false
 has_suffix bs Int = bytes_eq bs [] || bytes_eq bs (codes "l")
@@ -30,7 +30,7 @@ pub record Parts : Type 0 where
   pub magnitude : ℕ
   pub ty : NcType
 
--- n digits, one at least, and a suffix
+-- n digits of this base, one at least, and a suffix that the version has
 abbrev pub in_base : Version → Bool → ℕ → ℕ → Bytes → Option Parts
 in_base v minus base n bs =
     if n == 0 then None else option_map (λ ty. record { minus = minus; magnitude = number_in base 0 (take n bs); ty = ty }) (type_of_suffix v (drop n bs))

@@ -1,4 +1,5 @@
--- Definition. The gap or the token at the start of bytes, and its length. A byte past the end counts as 0.
+-- Definition. The gap or the token at the start of bytes: its kind, which is `None` for a gap, and its length. A byte past the end counts
+-- as 0.
 use Rattle.std.specs.Prelude.{ℕ, Bool, [], ◌∷◌, ◌+◌, ◌&&◌, ◌||◌, ◌==◌, nat_lt, nat_eq, not, if◌then◌else◌, slice_index, take, drop, length, codes, None, Some, is_some}
 use Rattle.std.specs.Str.{byte}
 use Rattle.std.specs.List.{list_all, prefix_len, starts_with}
@@ -52,10 +53,10 @@ scan_opening bs n = if nat_lt n (length bs) then token Opening (6 + n + 1) else 
 abbrev pub scan_text : Bytes → ℕ → Scanned
 scan_text bs n = if nat_lt n (length bs) then token (if list_all is_some (unescape (take n bs)) then Text else Bad) (n + 2) else token Bad (1 + length bs)
 
--- at_start: no token comes before
+-- is_first: no token comes before
 unfoldable pub scan : Bool → Bytes → Scanned
-scan at_start bs =
-    if at_start && begins_opening bs then scan_opening (drop 6 bs) (len_until (byte "{") (drop 6 bs))
+scan is_first bs =
+    if is_first && begins_opening bs then scan_opening (drop 6 bs) (len_until (byte "{") (drop 6 bs))
     else if begins_a_word bs then token Word (word_len bs)
     else if begins_number bs then token Number (1 + prefix_len goes_on_number (drop 1 bs))
     else if is_blank (slice_index bs 0) then gap 1

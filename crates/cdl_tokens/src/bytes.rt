@@ -73,7 +73,8 @@ pub fn is_mark(b: u8) -> bool
     matches!(b, b':' | b';' | b'=' | b',' | b'(' | b')' | b'}')
 }
 
-/// Returns true if a word may begin with the byte, unescaped: a letter, `_` or a byte from 0x80.
+/// Returns true if a word may begin with the byte: a letter, `_` or a byte from 0x80. A word may also begin with an escape, for which
+/// `begins_a_word` of the module `scan` looks at two bytes.
 pub fn begins_word(b: u8) -> bool
     ensures { result ≡ may_begin_word b }
 {
@@ -94,7 +95,8 @@ pub fn goes_on_number(b: u8) -> bool
     is_letter(b) || is_digit(b) || b == b'_' || b == b'.'
 }
 
-/// Returns true if the two bytes are an escape of a word: a backslash, and a byte that it may escape.
+/// Returns true if `b` and then `c` are an escape of a word: a backslash, and a byte from 0x20 to 0x7e or from 0x80. Strings have other
+/// escapes.
 pub fn is_escape(b: u8, c: u8) -> bool
     ensures { result ≡ is_escape b c }
 {

@@ -1,4 +1,4 @@
-//! Digits, and their number in a base.
+//! Digits, and the number that they spell in a base.
 
 ghost use Rattle.std.specs.Prelude.{◌≡◌, ◌≤◌, ◌+◌, ◌*◌, length};
 ghost use Rattle.std.specs.List.{prefix_len};
@@ -53,14 +53,15 @@ pub fn number_in(base: u64, digits: &[u8]) -> Option<u64>
 {
     let mut value = 0;
     for b in digits {
-        value = one_more(base, value, *b)?;
+        value = with_digit(base, value, *b)?;
     }
     Some(value)
 }
 
-/// Returns `base * value` plus the value of the digit `b`, or `None` if that takes more than 64 bits.
+/// Returns the number that `value` becomes if the digit `b` is appended in the base `base`: `base * value` plus the digit's value. Returns
+/// `None` if this number takes more than 64 bits.
 #[tactic(auto, using(crate::proofs::Sizes::small_product))]
-fn one_more(base: u64, value: u64, b: u8) -> Option<u64>
+fn with_digit(base: u64, value: u64, b: u8) -> Option<u64>
     requires { base ≤ 16 }
     ensures { result ≡ word (base * value + digit_value b) }
 {

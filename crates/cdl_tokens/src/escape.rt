@@ -9,7 +9,7 @@ ghost use Rattle.cdl_tokens.specs.code.Scanners.{is_unescaped};
 use crate::bytes::{byte_at, first_bytes, is_octal};
 use crate::digits::{hex_len, number_in, octal_len};
 use crate::scan::Character;
-use crate::search::len_before;
+use crate::search::len_before_any;
 
 /// Returns the number as a byte, or `None` if it is greater than 255.
 fn byte(n: u64) -> Option<u8>
@@ -47,7 +47,7 @@ fn byte_in(base: u64, digits: &[u8]) -> Option<u8>
     byte(number_in(base, digits)?)
 }
 
-/// Returns the byte that a backslash and then `b` stand for. `b` is neither an octal digit nor `x`.
+/// Returns the byte that a backslash and then `b` stand for, if `b` is neither an octal digit nor `x`: these begin an escape by number.
 fn plain_escape(b: u8) -> u8
     ensures { result ≡ plain_escape b }
 {
@@ -63,8 +63,9 @@ fn plain_escape(b: u8) -> u8
     }
 }
 
-/// Returns the escape that a backslash and the first of these bytes make. After the backslash come up to three octal digits, or `x` and up
-/// to two hexadecimal digits, or one other byte. If `bytes` is empty, a 0 byte counts as the other byte.
+/// Reads the escape that a backslash begins; `bytes` are those after the backslash. It takes up to three octal digits, or `x` and up to two
+/// hexadecimal digits, or one other byte. The length counts the backslash. The value is `None` if `x` has no digit, or if octal digits say
+/// more than 255. If `bytes` is empty, the value is 0 and the length is 2, as if a 0 byte came next.
 fn escape(bytes: &[u8]) -> Character
     ensures escape { result ≡ escaped_character bytes.now }
     ensures some { 0 < result.len }
@@ -86,7 +87,8 @@ fn escape(bytes: &[u8]) -> Character
     }
 }
 
-/// Returns the first character of these bytes: an escape, or a byte that stands for itself.
+/// Returns the first character of these bytes: an escape, or a byte that stands for itself. If the bytes are a backslash alone, the length
+/// of the character is 2, more than there are bytes.
 #[tactic(auto, unfolding(crate::specs::Escapes::character))]
 pub fn character(bytes: &[u8]) -> Character
     requires { 0 < length bytes.now }
@@ -109,11 +111,11 @@ pub fn len_before_escape(bytes: &[u8]) -> usize
     ensures len { result ≡ prefix_len is_unescaped bytes.now }
     ensures within { result ≤ length bytes.now }
 {
-    len_before(bytes, b'\\', b'\\', b'\\')
+    len_before_any(bytes, b'\\', b'\\', b'\\')
 }
 
 /// Returns true if each character in `raw` stands for a byte. `raw` is what a string has between its quotes.
-pub fn is_string(raw: &[u8]) -> bool
+pub fn has_good_escapes(raw: &[u8]) -> bool
     ensures { result ≡ list_all is_some (unescape raw.now) }
 {
     let mut at = len_before_escape(raw);

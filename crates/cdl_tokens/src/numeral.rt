@@ -35,20 +35,20 @@ pub fn number_of_token(version: Version, bytes: &[u8]) -> Option<Numeral>
     let sign = byte_at(bytes, 0);
     if is_sign(sign) {
         let (_, rest) = bytes.split_at(1);
-        unsigned(version, sign == b'-', rest)
+        numeral_after_sign(version, sign == b'-', rest)
     } else {
-        unsigned(version, false, bytes)
+        numeral_after_sign(version, false, bytes)
     }
 }
 
-/// Returns what `bytes` say, the bytes of a number after its sign. `minus` is true if the sign is a minus. Returns `None` if they are no
-/// number, or if the version doesn't have their suffix.
+/// Returns what a number says. `bytes` is the number without its sign, and `minus` is true if the sign is a minus. Returns `None` if
+/// `bytes` is no such number, or if the version doesn't have its suffix.
 #[inline(always)]
-fn unsigned(version: Version, minus: bool, bytes: &[u8]) -> Option<Numeral>
+fn numeral_after_sign(version: Version, minus: bool, bytes: &[u8]) -> Option<Numeral>
     ensures { result ≡ option_map held (with_sign version minus bytes.now) }
 {
     if byte_at(bytes, 0) == b'0' {
-        after_zero(version, minus, bytes)
+        octal_or_hex(version, minus, bytes)
     } else {
         decimal(version, minus, bytes)
     }
@@ -57,8 +57,8 @@ fn unsigned(version: Version, minus: bool, bytes: &[u8]) -> Option<Numeral>
 /// A number of at most this many decimal digits fits in 64 bits.
 const SHORT: usize = 19;
 
-/// Returns what `bytes` say, which are decimal digits and an optional suffix, after the sign. `minus` is true if the sign is a minus.
-/// Returns `None` if there are no digits, or if what comes after them is no suffix of the version.
+/// Returns what a decimal number says. `bytes` is the number without its sign: decimal digits, and then an optional suffix. `minus` is true
+/// if the sign is a minus. Returns `None` if there are no digits, or if what comes after them is no suffix of the version.
 #[inline(always)]
 fn decimal(version: Version, minus: bool, bytes: &[u8]) -> Option<Numeral>
     ensures { result ≡ option_map held (in_decimal version minus bytes.now) }
@@ -98,11 +98,11 @@ pub fn first_digits(bytes: &[u8]) -> (usize, u64)
     (at, value)
 }
 
-/// Returns what a number says. `bytes` has all of it after the sign, and begins with `0`: if `x` or `X` follows, the number is hexadecimal,
-/// otherwise octal. Returns `None` if no hexadecimal digit follows the `x`, or if what comes after the digits is no suffix of the version.
-/// A magnitude above 64 bits is `None`.
+/// Returns what an octal or hexadecimal number says. `bytes` is the number without its sign, and has to begin with `0`. If `x` or `X` comes
+/// next, the number is hexadecimal; otherwise it is octal. `minus` is true if the sign is a minus. Returns `None` if no hexadecimal digit
+/// comes after the `x`, or if what comes after the digits is no suffix of the version. A magnitude above 64 bits is `None`.
 #[inline(never)]
-fn after_zero(version: Version, minus: bool, bytes: &[u8]) -> Option<Numeral>
+fn octal_or_hex(version: Version, minus: bool, bytes: &[u8]) -> Option<Numeral>
     requires { slice_index bytes.now 0 ≡ 0x30 }
     ensures { result ≡ option_map held (with_sign version minus bytes.now) }
 {
@@ -114,8 +114,9 @@ fn after_zero(version: Version, minus: bool, bytes: &[u8]) -> Option<Numeral>
     }
 }
 
-/// Returns what `bytes` say: the first `n` of them are digits of the base `base`, and the others are a suffix, if there are any. Returns
-/// `None` if `n` is 0, or if the version doesn't have the suffix.
+/// Returns what a number says. `bytes` is the number without its sign and without `0x`: `n` digits of the base `base`, and then an optional
+/// suffix. `minus` is true if the sign is a minus. Returns `None` if `n` is 0, or if the version doesn't have the suffix. A magnitude above
+/// 64 bits is `None`.
 fn in_base(version: Version, minus: bool, base: u64, n: usize, bytes: &[u8]) -> Option<Numeral>
     requires some { 1 ≤ base }
     requires small { base ≤ 16 }
@@ -147,7 +148,8 @@ fn suffix(version: Version, bytes: &[u8]) -> Option<NcType>
     find_suffix(version, bytes)
 }
 
-/// Returns the type that a suffix stands for, as [`suffix`] does, but searches all types for it.
+/// Searches all types for the one that the suffix `bytes` stands for, and returns it, or `None` if the version doesn't have the suffix.
+/// [`suffix`] calls it for a suffix that isn't empty.
 #[tactic(auto, unfolding(crate::specs::Numerals::type_of_suffix))]
 #[inline(never)]
 fn find_suffix(version: Version, bytes: &[u8]) -> Option<NcType>

@@ -18,8 +18,9 @@ pub struct PlainNumber {
     pub at_comma: bool,
 }
 
-/// Returns the plain number that the bytes begin with, if a comma or white space follows it. Returns `None` if they begin otherwise, as
-/// with an octal number or more than 19 digits. The number is the same in every version.
+/// Returns the plain number (an optional sign and at most 19 decimal digits, without a suffix) that the bytes begin with, if a comma or
+/// white space follows it. Otherwise returns `None`, also if a zero before other digits makes the number octal. It needs no version, which
+/// decides only which suffixes there are.
 #[inline(always)]
 pub fn plain_number(bytes: &[u8]) -> Option<PlainNumber>
     ensures { IfSome result (λ p. Begins bytes.now p) }
@@ -43,7 +44,7 @@ pub fn plain_number(bytes: &[u8]) -> Option<PlainNumber>
     }
 }
 
-/// Returns the numeral of a number without a suffix: its type is int.
+/// Returns the numeral (sign, magnitude and type) of a number without a suffix: `value` is its magnitude, and its type is int.
 fn int(minus: bool, value: u64) -> Numeral
     ensures { result ≡ record { minus = minus; magnitude = Some value; ty = NcType.Int } }
 {
@@ -72,7 +73,7 @@ fn plain_digits(bytes: &[u8]) -> Option<(usize, u64)>
     Some((n, value))
 }
 
-/// Returns true if the byte after the first `n` is a comma.
+/// Returns true if a comma comes right after the first `n` bytes, those of a number. Needs at least `n` bytes.
 #[inline(always)]
 fn is_before_comma(bytes: &[u8], n: usize) -> bool
     requires { n ≤ length bytes.now }
@@ -82,7 +83,8 @@ fn is_before_comma(bytes: &[u8], n: usize) -> bool
     byte_at(rest, 0) == b','
 }
 
-/// Returns true if the byte is a comma or white space. No number token has such a byte.
+/// Returns true if the byte is a comma or white space: no number token goes on with it. Other bytes that end a number, such as `;`, give
+/// false.
 fn ends_number(b: u8) -> bool
     ensures { result ≡ true → goes_on_number b ≡ false }
 {

@@ -4,9 +4,10 @@ ghost use Rattle.std.specs.Prelude.{◌≡◌, IfSome};
 ghost use Rattle.cdl_tokens.specs.code.PlainTokens.{BeginsString};
 
 use crate::bytes::byte_at;
-use crate::search::len_before;
+use crate::search::len_before_any;
 
-/// If the bytes begin with a plain string, returns its length with both quotes. Otherwise returns `None`.
+/// If the bytes begin with a plain string (one without an escape or a line feed), returns its length with both quotes. Otherwise returns
+/// `None`.
 #[inline(always)]
 #[tactic(auto, using(crate::proofs::PlainStrings::begins_string))]
 pub fn plain_string_len(bytes: &[u8]) -> Option<usize>
@@ -16,7 +17,7 @@ pub fn plain_string_len(bytes: &[u8]) -> Option<usize>
         return None;
     }
     let (_, rest) = bytes.split_at(1);
-    let n = len_before(rest, b'\\', b'"', b'\n');
+    let n = len_before_any(rest, b'\\', b'"', b'\n');
     if byte_at(rest, n) == b'"' {
         Some(n + 2)
     } else {

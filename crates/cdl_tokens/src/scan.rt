@@ -10,8 +10,8 @@ use crate::bytes::{
     begins_word, byte_at, goes_on_number, goes_on_word, is_blank, is_digit, is_escape, is_mark,
     is_sign,
 };
-use crate::escape::is_string;
-use crate::search::len_before;
+use crate::escape::has_good_escapes;
+use crate::search::len_before_any;
 use crate::token::TokenKind;
 
 /// The length of the word that opens a text, `netcdf`.
@@ -35,8 +35,9 @@ pub struct Character {
     pub len: usize,
 }
 
-/// Returns what the bytes begin with: the longest token, or a gap. `at_start` is true if no token comes before the bytes: only the first
-/// token of a text can be an opening.
+/// Returns what the bytes begin with: the longest token, which may be of the kind `Bad`, or a gap, which is one byte of white space or a
+/// comment without its line feed. `at_start` is true if no token comes before the bytes: only the first token of a text can be an opening,
+/// which is `netcdf` and what follows up to the first unescaped `{`.
 #[tactic(auto, unfolding(crate::specs::Scan::scan))]
 pub fn scan(at_start: bool, bytes: &[u8]) -> Scanned
     requires { 0 < length bytes.now }
@@ -91,7 +92,7 @@ fn scan_opening(bytes: &[u8]) -> Scanned
     ensures scan { result ≡ scan_opening bytes.now (len_until 0x7b bytes.now) }
     ensures within { result.len ≤ length bytes.now + 6 }
 {
-    let n = until(bytes, b'{');
+    let n = len_until(bytes, b'{');
     if n < bytes.len() {
         token(TokenKind::Opening, OPENING_LEN + n + 1)
     } else {
@@ -100,17 +101,17 @@ fn scan_opening(bytes: &[u8]) -> Scanned
 }
 
 /// Returns the kind and the length of the token that begins with a quote; `bytes` is what comes after the quote. The token is a string
-/// that ends with the first quote that isn't escaped. It is a bad token if there is no such quote, or if an escape of the string
-/// stands for no byte (`\400`, for example, is above 255). The length counts both quotes.
+/// that ends with the first quote that isn't escaped. If there is no such quote, it is a bad token that goes on to the end of the bytes. If
+/// an escape of the string stands for no byte (`\400`, for example, is above 255), it is a bad token, too. The length counts the quotes.
 fn scan_text(bytes: &[u8]) -> Scanned
     requires { length bytes.now + 1 < 2 ^ 64 }
     ensures scan { result ≡ scan_text bytes.now (len_until 0x22 bytes.now) }
     ensures within { result.len ≤ length bytes.now + 1 }
 {
-    let n = until(bytes, b'"');
+    let n = len_until(bytes, b'"');
     if n == bytes.len() {
         token(TokenKind::Bad, 1 + n)
-    } else if is_string(&bytes[..n]) {
+    } else if has_good_escapes(&bytes[..n]) {
         token(TokenKind::Text, n + 2)
     } else {
         token(TokenKind::Bad, n + 2)
@@ -153,18 +154,18 @@ fn begins_opening(bytes: &[u8]) -> bool
     bytes.starts_with(b"netcdf") && (is_blank(b) || b == b'{')
 }
 
-/// Returns the length of the number token that the bytes begin with.
+/// Returns the length of the number token that the bytes begin with. Needs bytes for which [`begins_number`] returns true.
 pub fn number_len(bytes: &[u8]) -> usize
     requires { begins_number bytes.now ≡ true }
     ensures len { result ≡ 1 + prefix_len goes_on_number (drop 1 bytes.now) }
     ensures within { result ≤ length bytes.now }
 {
     let (_, rest) = bytes.split_at(1);
-    1 + going_on_len(rest)
+    1 + continuation_len(rest)
 }
 
 /// Returns how many bytes at the start can continue a number token: letters, digits, `_` and `.`.
-fn going_on_len(bytes: &[u8]) -> usize
+fn continuation_len(bytes: &[u8]) -> usize
     ensures len { result ≡ prefix_len goes_on_number bytes.now }
     ensures within { result ≤ length bytes.now }
 {
@@ -177,7 +178,7 @@ fn line_len(bytes: &[u8]) -> usize
     ensures len { result ≡ prefix_len (λ b. not (b == 0x0a)) bytes.now }
     ensures within { result ≤ length bytes.now }
 {
-    len_before(bytes, b'\n', b'\n', b'\n')
+    len_before_any(bytes, b'\n', b'\n', b'\n')
 }
 
 /// Returns how many bytes at the start belong to a word: escapes, letters, digits, `_`, `.`, `@`, `+`, `-` and bytes from 0x80.
@@ -214,12 +215,12 @@ fn ordinary_len(bytes: &[u8], close: u8) -> usize
     ensures len { result ≡ prefix_len (is_ordinary close) bytes.now }
     ensures within { result ≤ length bytes.now }
 {
-    len_before(bytes, b'\\', close, close)
+    len_before_any(bytes, b'\\', close, close)
 }
 
 /// Returns how many bytes come before the first `close` that isn't escaped. If there is none, returns the number of all bytes.
 #[tactic(auto, using(crate::proofs::Words::until_at, crate::proofs::Words::until_past, crate::proofs::Words::until_run))]
-fn until(bytes: &[u8], close: u8) -> usize
+fn len_until(bytes: &[u8], close: u8) -> usize
     ensures len { result ≡ len_until close bytes.now }
     ensures within { result ≤ length bytes.now }
 {

@@ -66,7 +66,8 @@ impl<'a> Scanner<'a> {
         self.text
     }
 
-    /// Reads the next token. At the end of the text it returns a token of the kind `End`, each time.
+    /// Reads the next token, and skips the white space and comments before it. At the end of the text it returns a token of the kind `End`,
+    /// each time.
     ///
     /// White space, marks and numbers, which long lists consist of, are read here; [`scan`] reads every other token.
     #[inline(always)]
@@ -90,8 +91,8 @@ impl<'a> Scanner<'a> {
         }
     }
 
-    /// Reads a plain number (an optional sign and decimal digits) and the comma after it, if they come next with only white space before
-    /// each. Otherwise returns `None`, and the scanner stays where it is.
+    /// Reads a plain number (an optional sign and at most 19 decimal digits, without a suffix) and the comma after it, if they come next
+    /// with only white space before each. Otherwise, also if the number is octal, returns `None`, and the scanner stays where it is.
     #[inline(always)]
     pub fn number_and_comma(&mut self) -> Option<ListedNumber>
         ensures tokens { IfSome result (λ l. left self.old ≡ l.number ∷ l.comma ∷ left self.new) }
@@ -106,7 +107,7 @@ impl<'a> Scanner<'a> {
         let (_, rest) = scanner.text.split_at(scanner.at);
         let plain = plain_number(rest)?;
         let number = scanner.take(TokenKind::Number, plain.len);
-        let comma = scanner.comma_after(plain.at_comma)?;
+        let comma = scanner.take_or_find_comma(plain.at_comma)?;
         *self = scanner;
         Some(ListedNumber {
             numeral: plain.numeral,
@@ -156,7 +157,8 @@ impl<'a> Scanner<'a> {
         Some(ListedToken { token, comma })
     }
 
-    /// Returns the token of the comma that ends where the scanner stands. The caller has just read this comma, so the byte isn't checked.
+    /// Returns the token of the comma that the scanner has just passed, which is the byte before the next one. Call it only after a call
+    /// that passed a comma: the byte isn't checked.
     #[inline(always)]
     pub fn comma_before(&self) -> Token
         ensures { result ≡ comma_before self.now }
@@ -179,17 +181,17 @@ impl<'a> Scanner<'a> {
         ensures text { text_of self.new ≡ text_of self.old }
         ensures on { offset_of self.old ≤ offset_of self.new }
     {
-        if self.goes_to_comma() {
+        if self.skip_to_comma() {
             Some(self.take_comma())
         } else {
             None
         }
     }
 
-    /// Reads a comma as [`comma`](Scanner::comma) does. If `at_comma`, the caller knows that the next byte is a comma, and no white space
-    /// is skipped.
+    /// Reads a comma as [`comma`](Scanner::comma) does, but doesn't look for it if `at_comma` is true. Needs an `at_comma` that is true
+    /// only if the next byte is a comma.
     #[inline(always)]
-    fn comma_after(&mut self, at_comma: bool) -> Option<Token>
+    fn take_or_find_comma(&mut self, at_comma: bool) -> Option<Token>
         requires { at_comma ≡ true → slice_index (text_of self.old) (offset_of self.old) ≡ 0x2c }
         ensures token { IfSome result (λ c. left self.old ≡ c ∷ left self.new) }
         ensures comma { IfSome result (λ c. IsComma (text_of self.old) c) }
@@ -204,7 +206,7 @@ impl<'a> Scanner<'a> {
         }
     }
 
-    /// Passes the next byte, which is a comma, and returns its token.
+    /// Passes the next byte, which has to be a comma, and returns its token.
     #[inline(always)]
     fn take_comma(&mut self) -> Token
         requires { slice_index (text_of self.old) (offset_of self.old) ≡ 0x2c }
@@ -217,7 +219,7 @@ impl<'a> Scanner<'a> {
         self.take(TokenKind::Mark, 1)
     }
 
-    /// Skips white space.
+    /// Skips white space, but no comment.
     fn skip_blanks(&mut self)
         ensures left { left self.new ≡ left self.old }
         ensures text { text_of self.new ≡ text_of self.old }
@@ -269,9 +271,9 @@ impl<'a> Scanner<'a> {
         }
     }
 
-    /// Skips white space, though there is mostly none. Returns true if a comma comes next.
+    /// Skips white space, though there is mostly none. Returns true if a comma comes next; this comma isn't passed.
     #[inline(always)]
-    fn goes_to_comma(&mut self) -> bool
+    fn skip_to_comma(&mut self) -> bool
         ensures left { left self.new ≡ left self.old }
         ensures text { text_of self.new ≡ text_of self.old }
         ensures on { offset_of self.old ≤ offset_of self.new }
@@ -298,7 +300,8 @@ impl<'a> Scanner<'a> {
         }
     }
 
-    /// Passes the token of this kind and length that begins at the next byte, and returns it. The token has no line feed.
+    /// Passes the token of this kind and length that begins at the next byte, and returns it. Needs the kind and the length that [`scan`]
+    /// would find there, and a token without a line feed: the bytes aren't looked at, and the line stays the same.
     #[inline]
     fn take(&mut self, kind: TokenKind, len: usize) -> Token
         requires here { scan self.old.at_start (drop self.old.at self.old.text.now) ≡ token kind len }
@@ -380,7 +383,8 @@ impl<'a> Scanner<'a> {
         }
     }
 
-    /// Returns the scanner `len` bytes further on, with this `at_start`. Each line feed among the passed bytes adds one to its line.
+    /// Returns the scanner `len` bytes further on. Each line feed among the passed bytes adds one to its line. `at_start` is true if still
+    /// no token has been read.
     fn after(self, len: usize, at_start: bool) -> Scanner<'a>
         requires { self.at + len ≤ length self.text.now }
         ensures text { result.text.now ≡ self.entry.text.now }

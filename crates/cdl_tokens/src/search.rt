@@ -7,12 +7,12 @@ ghost use Rattle.cdl_tokens.specs.code.Scanners.{is_none_of};
 /// The number of bytes that a search tests at once.
 const BLOCK: usize = 64;
 
-/// The number of bytes that [`len_before`] tests one by one before it tests blocks: escapes often follow one another.
+/// The number of bytes that [`len_before_any`] tests one by one before it tests blocks: escapes often follow one another.
 const NEAR: usize = 8;
 
 /// Returns how many bytes come before the first one that equals the argument `a`, `b` or `c`. If there is none, returns the number of all
 /// bytes.
-pub fn len_before(bytes: &[u8], a: u8, b: u8, c: u8) -> usize
+pub fn len_before_any(bytes: &[u8], a: u8, b: u8, c: u8) -> usize
     ensures len { result ≡ prefix_len (is_none_of a b c) bytes.now }
     ensures within { result ≤ length bytes.now }
 {
@@ -25,7 +25,8 @@ pub fn len_before(bytes: &[u8], a: u8, b: u8, c: u8) -> usize
     }
 }
 
-/// Returns what [`len_before`] returns. It looks at one block after the other.
+/// Returns how many bytes come before the first one that equals `a`, `b` or `c`, as [`len_before_any`] does. It tests [`BLOCK`] bytes at
+/// once, which suits a match that is far away.
 #[inline(never)]
 fn far_len(bytes: &[u8], a: u8, b: u8, c: u8) -> usize
     ensures len { result ≡ prefix_len (is_none_of a b c) bytes.now }
@@ -44,7 +45,8 @@ fn far_len(bytes: &[u8], a: u8, b: u8, c: u8) -> usize
     at + near_len(rest, a, b, c)
 }
 
-/// Returns what [`len_before`] returns. It looks at one byte after the other.
+/// Returns how many bytes come before the first one that equals `a`, `b` or `c`, as [`len_before_any`] does. It tests one byte after the
+/// other, which suits a match that is near.
 fn near_len(bytes: &[u8], a: u8, b: u8, c: u8) -> usize
     ensures len { result ≡ prefix_len (is_none_of a b c) bytes.now }
     ensures within { result ≤ length bytes.now }
@@ -75,7 +77,7 @@ pub fn count_of(bytes: &[u8], byte: u8) -> usize
     while at < bytes.len() {
         let (_, rest) = bytes.split_at(at);
         let (block, _) = rest.split_at(rest.len().min(COUNTED));
-        count += few_of(block, byte) as usize;
+        count += count_in_block(block, byte) as usize;
         at += block.len();
     }
     count
@@ -84,8 +86,9 @@ pub fn count_of(bytes: &[u8], byte: u8) -> usize
 /// The number of bytes that [`count_of`] counts at once. It is at most 255, the most that a `u8` can count.
 const COUNTED: usize = 240;
 
-/// Returns how many of these bytes, at most 255, are `byte`.
-fn few_of(bytes: &[u8], byte: u8) -> u8
+/// Returns how many of `bytes` equal `byte`, for [`count_of`], which calls it block by block. Needs at most 255 bytes, so that the count
+/// fits in a `u8`.
+fn count_in_block(bytes: &[u8], byte: u8) -> u8
     requires { length bytes.now ≤ 255 }
     ensures count { result ≡ count_by (λ b. b == byte) bytes.now }
     ensures within { result ≤ length bytes.now }

@@ -48,7 +48,8 @@ pub struct Token {
 }
 
 impl Token {
-    /// Returns the token's bytes. `text` is the text that the token was read from.
+    /// Returns the token's bytes. Give it the text that the token was read from: if `text` is shorter, it returns only the bytes that lie
+    /// in `text`.
     #[inline(always)]
     pub fn bytes(self, text: &[u8]) -> &[u8]
         ensures { result.now ≡ raw text.now self }
@@ -56,12 +57,13 @@ impl Token {
         if self.first <= self.past && self.past <= text.len() {
             return &text[self.first..self.past];
         }
-        self.bytes_outside(text)
+        self.clipped_bytes(text)
     }
 
-    /// Returns as many of the token's bytes as `text` has, which may be shorter than the text that the token was read from.
+    /// Returns those of the token's bytes that `text` has. [`bytes`](Token::bytes) calls it if the token doesn't lie within
+    /// `text`, which then isn't the text that the token was read from.
     #[inline(never)]
-    fn bytes_outside(self, text: &[u8]) -> &[u8]
+    fn clipped_bytes(self, text: &[u8]) -> &[u8]
         ensures { result.now ≡ raw text.now self }
     {
         let rest = if self.first < text.len() {

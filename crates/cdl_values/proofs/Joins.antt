@@ -1,6 +1,6 @@
 -- What a statement of the data section means is what its state lists.
 use Rattle.std.proofs.Common.{◌≡◌, ℕ, suc, ◌≤◌, arith, Bool, true, false, List, [], ◌∷◌, ◌++◌, length, refl, ap, ◌∙◌, length-append, append_assoc, Option, None, Some, Result, Ok, Err, if◌then◌else◌, slice_get, drop, rules}
-use Rattle.cdl_values.proofs.Prelude.{flat_map, position_from, bytes_eq, length-drop, bytes_of_number, Dim, Version, values, completes, next, word_value, Lexeme, is_mark, Listed, first_bad, shape, CdlKind, Syntax, UnknownVariable, fine_on, State, Draft, Listing, capacity_of, at_named, at_variable, values_in, with_values, act, data_read, bytes_assigned, target_of, target_at, if_new, packed_for, unless_bad, AllSuit, names_of, HasListed, Means, begins_brace, ReadsStatement, result_array, GivesRead, ReadError, as_bytes, most, Target}
+use Rattle.cdl_values.proofs.Prelude.{flat_map, position_from, bytes_eq, length-drop, bytes_of_number, Dim, Version, values, completes, next, word_value, Lexeme, is_mark, Listed, first_bad, shape, CdlKind, Syntax, UnknownVariable, fine_on, State, Draft, Listing, capacity_of, change_named, change_variable, values_in, with_values, act, data_read, bytes_assigned, target_of, target_at, unless_given, packed_for, unless_bad, AllSuit, names_of, HasListed, Means, begins_brace, ReadsStatement, result_array, GivesRead, ReadError, as_bytes, most, Target}
 use Rattle.cdl_statements.specs.declared.due.Due.TheVariants as dues
 use Rattle.cdl_statements.specs.declared.section.Section.TheVariants.{Values}
 use Rattle.cdl_statements.proofs.Shaping.{data_is}
@@ -11,7 +11,7 @@ use Rattle.cdl_values.proofs.Counts.{all_taken, values_len}
 
 -- the target of the first of these names that is this one
 named : List (List ℕ) → List Target → List ℕ → Result Target CdlKind
-named (n ∷ ns) (t ∷ ts) name = if bytes_eq n name then if_new (Some t) else named ns ts name
+named (n ∷ ns) (t ∷ ts) name = if bytes_eq n name then unless_given (Some t) else named ns ts name
 named _ _ name = Err UnknownVariable
 
 get_seam : (pre ts : List Target) (t : Target) → slice_get (pre ++ t ∷ ts) (length pre) ≡ Some t
@@ -41,7 +41,7 @@ one_listed dims d (Err e) (Err g) is name ds same = let f : e ≡ g = cc in ap E
 one_listed dims d _ _ is name ds same = cc
 
 at_target : (v : Version) (dims : List Dim) (ts : List Target) (ds : List Draft) (name : List ℕ) (ws : List Lexeme) → AllSuit dims ts ds → length (values v ws) ≤ most →
-    HasListed dims name ds (packed_for v ws (named (names_of ds) ts name)) (at_named name (with_values dims (values v ws)) ds)
+    HasListed dims name ds (packed_for v ws (named (names_of ds) ts name)) (change_named name (with_values dims (values v ws)) ds)
 unfolding named
 at_target v dims [] [] name ws h few = refl
 at_target v dims (t ∷ ts) (d ∷ ds) name ws h few =
@@ -50,8 +50,8 @@ at_target v dims _ _ name ws h few = absurd h
 
 -- by its name
 at_name : (v : Version) (dims : List Dim) (ts : List Target) (ds : List Draft) (name : List ℕ) (ws : List Lexeme) → AllSuit dims ts ds → length (values v ws) ≤ most →
-    HasListed dims name ds (packed_for v ws (target_of (names_of ds) ts name)) (at_variable name (with_values dims (values v ws)) ds)
-unfolding at_variable
+    HasListed dims name ds (packed_for v ws (target_of (names_of ds) ts name)) (change_variable name (with_values dims (values v ws)) ds)
+unfolding change_variable
 at_name v dims ts ds name ws h few = grind (arith, values v ws, found_from dims [] ts ds name h, at_target v dims ts ds name ws h few)
 
 acted : (s : State) (name : List ℕ) (p : Result (List ℕ) CdlKind) (after : Result (List Draft) CdlKind) → HasListed s.dims name s.drafts p after → (v : Version) (l : Lexeme) (ls : List Lexeme) → word_value l.bytes ≡ name →
@@ -85,7 +85,7 @@ data_means v s ts (l ∷ ls) section suit off few = by (first_bad v (l ∷ ls)) 
         omega (arith, a, b, c)
 
     all : Result (List Draft) CdlKind
-    all = at_variable name (with_values s.dims (values v (drop 1 ls))) s.drafts
+    all = change_variable name (with_values s.dims (values v (drop 1 ls))) s.drafts
 
     read : first_bad v ws ≡ None → piece_read v s ws ≡ shaped v s (shape v Values ws)
     read good = ap (λ b. checked v s b ws) good ∙ ap (λ section. shaped v s (shape v section ws)) section

@@ -1,6 +1,6 @@
 -- The names that proofs of this crate cite from elsewhere, passed on from one place.
-pub use Rattle.cdl_meaning.specs.State.{Draft, Listing, State, add_characters, add_constant, add_number, add_row, at_named, filled, in_turn, listed_by, same_type, type_said, unless, values_in, when, with_values}
-unfoldable pub use Rattle.cdl_meaning.specs.State.{act, at_variable, capacity_of, has_number, listing_of}
+pub use Rattle.cdl_meaning.specs.State.{Draft, Listing, State, add_characters, add_constant, add_number, add_row, change_named, filled, in_turn, listed_by, same_type, type_said, unless, values_in, when, with_values}
+unfoldable pub use Rattle.cdl_meaning.specs.State.{act, change_variable, capacity_of, has_number, listing_of}
 pub use Rattle.cdl_statements.proofs.Listing.{fine_on, only_completes, past_mark}
 pub use Rattle.cdl_statements.proofs.NumberLists.{at_same_comma, same_after, same_words}
 pub use Rattle.cdl_statements.proofs.ShapeChecks.{ending, first_word, going, good_end, good_on}
@@ -29,21 +29,22 @@ pub use Rattle.cdl_tokens.specs.code.Scanners.{followed, is_unescaped, left}
 pub use Rattle.cdl_tokens.specs.declared.{numeral.Numeral.Numeral, token.TokenKind.TokenKind}
 pub use Rattle.cdl_values.specs.code.Answers.{Adds, ContinuesRead, FailsRead, GivesRead, Leaves}
 pub use Rattle.cdl_values.specs.code.Capacities.{Fills, HasCapacity, as_bytes, capacity_for, most, positions_in}
-pub use Rattle.cdl_values.specs.code.DataRead.{bytes_assigned, if_new, packed_for, target_at, target_of, unless_bad}
+pub use Rattle.cdl_values.specs.code.DataRead.{bytes_assigned, unless_given, packed_for, target_at, target_of, unless_bad}
 unfoldable pub use Rattle.cdl_values.specs.code.DataRead.{data_read}
 pub use Rattle.cdl_values.specs.code.Listed.{AreShaped, unlisted_draft, unlisted_drafts}
 pub use Rattle.cdl_values.specs.code.Meant.{AllSuit, HasListed, Means, ReadsStatement, Suits, begins_brace, listing_bytes, names_of, result_array, with_listing}
 pub use Rattle.cdl_values.specs.code.NameIndices.{IsIndex, first_with_hash, hash_of, is_new, later_position, position_of, unless_first}
 unfoldable pub use Rattle.cdl_values.specs.code.NameIndices.{hash_on}
 pub use Rattle.cdl_values.specs.declared.{capacity.Capacity.Capacity, name_index.NameIndex.NameIndex, data.Given.Given, data.Target.Target, fill.Fill.Fill, filling.Filling.Filling, read_error.ReadError.ReadError}
-pub use Rattle.cdl_values.specs.code.PackedValues.{bytes_of, capacity_after, char_bytes, followed_by, greatest, held_bytes, is_full, is_past, joined, capacity_minus, number_bytes, row_bytes, text_bytes, value_bytes}
+pub use Rattle.cdl_values.specs.code.PackedValues.{bytes_of, capacity_after, char_bytes, followed_by, greatest, held_bytes, is_full, is_exceeded_by, joined, capacity_minus, number_bytes, row_bytes, text_bytes, value_bytes}
 unfoldable pub use Rattle.cdl_values.specs.code.PackedValues.{packed}
 pub use Rattle.cdl_values.specs.code.ValueRuns.{GoesOn, Place, TakesValues, place}
 pub use Rattle.cdl_values.specs.declared.capacity.Capacity.TheVariants.{AtMost, Unlimited}
 pub use Rattle.cdl_values.specs.declared.filling.Filling.TheVariants.{Joined, Numbers, Rows}
 pub use Rattle.cdl_values.specs.declared.read_error.ReadError.TheVariants.{Fault, OutOfMemory}
 pub use Rattle.nc_base.specs.Names.{is_name}
-pub use Rattle.nc_base.specs.Numbers.{IsInRange, bytes_of_number}
+pub use Rattle.nc_base.specs.NumberLaws.{IsInRange}
+pub use Rattle.nc_base.specs.Numbers.{bytes_of_number}
 pub use Rattle.nc_base.specs.Sizes.{dim_len, is_record_var, product, slab_count}
 pub use Rattle.nc_base.specs.ValueText.{is_char}
 pub use Rattle.nc_base.specs.declared.{header.Dim.Dim, nc_type.NcType.NcType, version.Version.Version}

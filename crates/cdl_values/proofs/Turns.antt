@@ -1,6 +1,6 @@
 -- The values of a statement one by one: their bytes are the bytes of what the state lists.
 use Rattle.std.proofs.Common.{◌≡◌, ℕ, zero, suc, ◌+◌, ◌-◌, ℤ, Bool, true, false, List, [], ◌∷◌, ◌++◌, length, map, refl, sym, ap, ◌∙◌, arith, append-nil, length-append, rules, subst, pos, Result, Ok, Err, ◌||◌, not, nat_lt, nat_le, replicate}
-use Rattle.cdl_values.proofs.Prelude.{flat_map, flat_map-append, map-append, NcType, Char, bytes_of_number, is_char, Value, Number, Characters, Underscore, CdlKind, TooManyValues, NumberRange, StringTooLong, WrongKind, Capacity, AtMost, Unlimited, Listing, add_number, add_characters, add_row, in_turn, listed_by, listing_of, values_in, has_number, filled, Fills, positions_in, as_bytes, packed, followed_by, joined, bytes_of, capacity_after, is_full, is_past, capacity_minus, char_bytes, Fill, Filling, length-map}
+use Rattle.cdl_values.proofs.Prelude.{flat_map, flat_map-append, map-append, NcType, Char, bytes_of_number, is_char, Value, Number, Characters, Underscore, CdlKind, TooManyValues, NumberRange, StringTooLong, WrongKind, Capacity, AtMost, Unlimited, Listing, add_number, add_characters, add_row, in_turn, listed_by, listing_of, values_in, has_number, filled, Fills, positions_in, as_bytes, packed, followed_by, joined, bytes_of, capacity_after, is_full, is_exceeded_by, capacity_minus, char_bytes, Fill, Filling, length-map}
 use Rattle.cdl_meaning.specs.State as states
 use Rattle.cdl_meaning.specs.State.{Numbers, Joined, Rows, ◌>>=◌}
 use Rattle.cdl_values.specs.declared.filling.Filling.TheVariants as fillings
@@ -67,19 +67,19 @@ number_steps fill r h = record { none = refl; joins = λ xs ys. refl; step = num
 
 -- ---- strings, one after the other
 
-past_is : (n : ℕ) (capacity : Capacity) (is_open : Bool) (count m : ℕ) → Left capacity is_open count m → (is_open || nat_le (m + n) count) ≡ not (is_past n capacity)
+past_is : (n : ℕ) (capacity : Capacity) (is_open : Bool) (count m : ℕ) → Left capacity is_open count m → (is_open || nat_le (m + n) count) ≡ not (is_exceeded_by n capacity)
 past_is n capacity is_open count m h = grind arith
 
-left_chars : (capacity : Capacity) (is_open : Bool) (count : ℕ) (before bs : List ℕ) → is_past (length bs) capacity ≡ false → Left capacity is_open count (length before) → Left (capacity_minus (length bs) capacity) is_open count (length (before ++ bs))
+left_chars : (capacity : Capacity) (is_open : Bool) (count : ℕ) (before bs : List ℕ) → is_exceeded_by (length bs) capacity ≡ false → Left capacity is_open count (length before) → Left (capacity_minus (length bs) capacity) is_open count (length (before ++ bs))
 left_chars capacity is_open count before bs h h2 = grind (arith, length-append)
 
 chars_are : (ty : NcType) (bs : List ℕ) → ty ≡ Char → char_bytes bs ≡ flat_map (bytes_of_number ty) (map pos bs)
 chars_are ty bs h = ap (λ t. flat_map (bytes_of_number t) (map pos bs)) (sym h)
 
 joined_step : (r : states.Capacity) → Fills fillings.Joined r → (capacity : Capacity) (before : List ℕ) (x : Value) → Left capacity r.is_open r.count (length before) → Step fillings.Joined r (add_characters r) Joined r.count capacity before x
-joined_step r h capacity before (Characters bs) left = by (is_past (length bs) capacity) refl
+joined_step r h capacity before (Characters bs) left = by (is_exceeded_by (length bs) capacity) refl
   where
-    by : (past : Bool) → is_past (length bs) capacity ≡ past → Step fillings.Joined r (add_characters r) Joined r.count capacity before (Characters bs)
+    by : (past : Bool) → is_exceeded_by (length bs) capacity ≡ past → Step fillings.Joined r (add_characters r) Joined r.count capacity before (Characters bs)
     by true on =
         let is = past_is (length bs) capacity r.is_open r.count (length before) left ∙ ap not on in
         wrong StringTooLong (rw (is) refl) (rw (on) refl)

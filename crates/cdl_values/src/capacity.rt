@@ -12,7 +12,7 @@ pub enum Capacity {
 }
 
 impl Capacity {
-    ghost use Rattle.cdl_values.specs.code.PackedValues.{capacity_limit, capacity_minus, is_full, is_past};
+    ghost use Rattle.cdl_values.specs.code.PackedValues.{capacity_limit, capacity_minus, is_full, is_exceeded_by};
 
     /// Returns true if no more values are taken.
     pub fn is_full(self) -> bool
@@ -24,9 +24,9 @@ impl Capacity {
         }
     }
 
-    /// Returns true if fewer than `n` more values are taken.
-    pub fn is_past(self, n: u128) -> bool
-        ensures { result ≡ is_past n self }
+    /// Returns true if `n` more values are too many: the variable takes fewer than `n`.
+    pub fn is_exceeded_by(self, n: u128) -> bool
+        ensures { result ≡ is_exceeded_by n self }
     {
         match self {
             Capacity::Unlimited => false,
@@ -34,7 +34,7 @@ impl Capacity {
         }
     }
 
-    /// Returns the capacity that is left after `n` values, which is 0 if fewer are taken.
+    /// Returns the capacity that is left after `n` more values. It is 0 if these are too many; `Unlimited` stays `Unlimited`.
     pub fn minus(self, n: u128) -> Capacity
         ensures { result ≡ capacity_minus n self }
     {
@@ -44,7 +44,7 @@ impl Capacity {
         }
     }
 
-    /// Returns the limit, or `u64::MAX` if there is none.
+    /// Returns how many more values the variable takes, or `u64::MAX` if it takes any number.
     pub fn limit(self) -> u64
         ensures limit { result ≡ capacity_limit self }
         ensures room { (n : ℕ) → n < result → is_full (capacity_minus n self) ≡ false }

@@ -9,7 +9,7 @@ ghost use Rattle.cdl_values.specs.code.TokenValues.{AddsNumber, AddsToken, text_
 use crate::capacity::Capacity;
 use crate::number::{number_or_zero, put_numeral};
 use crate::read_error::ReadError;
-use crate::string::put_text;
+use crate::string::put_joined_string;
 use cdl_statements::{CdlKind, Cutter, Lexeme};
 use cdl_tokens::{Numeral, TokenKind};
 use nc_base::{ListedArray, NcType, Version};
@@ -27,8 +27,8 @@ pub fn type_said(version: Version, token: Lexeme<'_>) -> NcType
     }
 }
 
-/// Reads the constants from the next token to the end of the statement, and returns their bytes, big-endian and one after the
-/// other.
+/// Reads the constants of an attribute, from the next token of `start` to the end of the statement, and returns their bytes, big-endian and
+/// one after the other. Each constant has to be of the type `ty`. The shape of the statement isn't checked.
 ///
 /// # Errors
 ///
@@ -55,7 +55,7 @@ pub fn read_constants(
     }
 }
 
-/// Appends to `vals` the bytes of the token's constant, or nothing if the token is a mark. Any other token is a constant. Errs as
+/// Appends to `vals` the bytes of the token's constant, or nothing if the token is a mark. Takes any other token for a constant. Errs as
 /// [`put_constant`] does.
 fn put_token(
     vals: &mut ListedArray,
@@ -72,7 +72,8 @@ fn put_token(
 }
 
 /// Appends to `vals` the bytes of a constant. Errs with `MixedConstants` if the token is neither a number nor a string or if its type isn't
-/// `ty`, with `NumberRange` if the number is out of the range of `ty`, and with `OutOfMemory` if an allocation failed.
+/// `ty`, with `NumberRange` if the number is out of the range of `ty` (nothing is appended in either case), and with `OutOfMemory` if an
+/// allocation failed.
 #[tactic(auto, unfolding(cdl_statements::specs::code::Contents::value_of))]
 fn put_constant(
     vals: &mut ListedArray,
@@ -83,15 +84,16 @@ fn put_constant(
     ensures { Leaves vals.new result (add_constant ty vals.old (value_said version token.entry)) }
 {
     match token.kind {
-        TokenKind::Number => put_number(vals, ty, number_or_zero(version, token.bytes)),
+        TokenKind::Number => put_number_constant(vals, ty, number_or_zero(version, token.bytes)),
         TokenKind::Text => put_characters(vals, ty, token.bytes),
         _ => Err(ReadError::Fault(CdlKind::MixedConstants)),
     }
 }
 
-/// Appends to `vals` the bytes of a number, big-endian. Errs with `MixedConstants` if its type isn't `ty`, with `NumberRange` if it is out
-/// of the range of `ty`, and with `OutOfMemory` if an allocation failed.
-fn put_number(vals: &mut ListedArray, ty: NcType, n: Numeral) -> Result<(), ReadError>
+/// Appends to `vals` the bytes of a number, big-endian. Unlike [`put_numeral`], it checks the type, which comes from the number's suffix.
+/// Errs with `MixedConstants` if this type isn't `ty`, with `NumberRange` if the number is out of the range of `ty` (nothing is appended in
+/// either case), and with `OutOfMemory` if an allocation failed.
+fn put_number_constant(vals: &mut ListedArray, ty: NcType, n: Numeral) -> Result<(), ReadError>
     ensures { AddsNumber ty n vals.old vals.new result }
 {
     if n.ty.code() != ty.code() {
@@ -101,12 +103,12 @@ fn put_number(vals: &mut ListedArray, ty: NcType, n: Numeral) -> Result<(), Read
 }
 
 /// Appends to `vals` the bytes that a string stands for. `bytes` is the string with its quotes. Errs with `MixedConstants` if `ty` isn't
-/// char, and with `OutOfMemory` if an allocation failed.
+/// char (nothing is appended then), and with `OutOfMemory` if an allocation failed (some of the bytes may be appended then).
 fn put_characters(vals: &mut ListedArray, ty: NcType, bytes: &[u8]) -> Result<(), ReadError>
     ensures { Leaves vals.new result (add_constant ty vals.old (text_said bytes.now)) }
 {
     if ty.code() != NcType::Char.code() {
         return Err(ReadError::Fault(CdlKind::MixedConstants));
     }
-    put_text(vals, Capacity::Unlimited, bytes)
+    put_joined_string(vals, Capacity::Unlimited, bytes)
 }

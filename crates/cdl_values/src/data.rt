@@ -4,18 +4,18 @@ ghost use Rattle.std.specs.Prelude.{◌≡◌, Ok, IfOk, false, option_map};
 ghost use Rattle.cdl_statements.specs.code.Cutters.{Follows, is_done};
 ghost use Rattle.cdl_tokens.specs.Escapes.{word_value};
 ghost use Rattle.cdl_values.specs.code.Answers.{GivesRead};
-ghost use Rattle.cdl_values.specs.code.DataRead.{if_new, statement_read, target_said};
+ghost use Rattle.cdl_values.specs.code.DataRead.{unless_given, statement_read, target_said};
 ghost use Rattle.cdl_values.specs.code.Meant.{MeansWhatIsGiven, name_said};
 ghost use Rattle.cdl_values.specs.code.NameIndices.{IsPosition};
 
 use crate::capacity::Capacity;
 use crate::filling::Filling;
 use crate::name::read_name;
-use crate::packing::{pack, pack_good};
+use crate::packing::{pack, pack_and_check};
 use crate::read_error::ReadError;
 use crate::value::FastPathFault;
 use crate::variable_names::VariableNames;
-use cdl_statements::{CdlKind, Cutter, Due, check_shape_from};
+use cdl_statements::{CdlKind, Cutter, Due, check_shape_by_due};
 use nc_base::ListedArray;
 use std::alloc::Global;
 
@@ -52,7 +52,8 @@ pub struct Given<'a> {
 /// Reads the next statement of `start`, which stands in the data section. Returns the position of the variable that the statement names,
 /// the bytes of the values that the statement lists, and the cutter after the statement.
 ///
-/// `names` are the names of the variables, and `targets` has what each variable takes, in the same order.
+/// `names` are the names of the variables, and `targets` has what each variable takes, in the same order. If the statement has no fault,
+/// the caller has to set `given` of its variable's target afterwards.
 ///
 /// # Errors
 ///
@@ -68,12 +69,13 @@ pub fn read_data_statement<'a>(
     ensures position { IfOk result (λ g. IsPosition names.now (name_said start.entry) g.position) }
     ensures rest { IfOk result (λ g. Follows start.entry g.rest) }
 {
-    read_either(alloc, names, targets, start)
+    read_quickly_or_slowly(alloc, names, targets, start)
 }
 
 /// Reads the next statement by [`read_quickly`]. If this finds some fault in the statement, reads it again by [`read_slowly`]. Errs with
-/// the statement's first fault, or if an allocation failed.
-fn read_either<'a>(
+/// the statement's first fault, or if an allocation failed. Its contract is about the tokens of the statement; from it follows that of
+/// [`read_data_statement`], which is about the dataset.
+fn read_quickly_or_slowly<'a>(
     alloc: Global,
     names: &VariableNames<'_>,
     targets: &[Target],
@@ -91,8 +93,8 @@ fn read_either<'a>(
     }
 }
 
-/// Reads a statement without faults in one pass. Errs with `Unnamed` if the statement has some fault, and with `OutOfMemory` if an
-/// allocation failed.
+/// Reads the next statement of `start` in one pass, if it has no fault. Errs with `Unnamed` if it has some fault, which [`read_slowly`]
+/// names, and with `OutOfMemory` if an allocation failed.
 fn read_quickly<'a>(
     alloc: Global,
     names: &VariableNames<'_>,
@@ -125,7 +127,7 @@ fn read_quickly<'a>(
         _ => return Err(FastPathFault::Unnamed),
     }
     let FoundTarget { position, target } = target_of(alloc, names, targets, name.bytes)?;
-    let packed = pack_good(alloc, value, target.filling, target.capacity)?;
+    let packed = pack_and_check(alloc, value, target.filling, target.capacity)?;
     Ok(Given {
         position,
         array: packed.array,
@@ -133,8 +135,8 @@ fn read_quickly<'a>(
     })
 }
 
-/// Reads a statement in two passes: the first finds a bad token or a wrong shape, and the second reads the values. Errs with the
-/// statement's first fault, or if an allocation failed.
+/// Reads a statement as [`read_quickly`] does, but in two passes, so that it can name the first fault: the first pass finds a bad token or
+/// a wrong shape, and the second reads the values. Errs with the statement's first fault, or if an allocation failed.
 fn read_slowly<'a>(
     alloc: Global,
     names: &VariableNames<'_>,
@@ -146,7 +148,7 @@ fn read_slowly<'a>(
     ensures position { IfOk result (λ g. IsPosition names.now (name_said start.entry) g.position) }
     ensures rest { IfOk result (λ g. Follows start.entry g.rest) }
 {
-    let found = check_shape_from(start, Due::DataName);
+    let found = check_shape_by_due(start, Due::DataName);
     if let Some(kind) = found.bad {
         return Err(ReadError::Fault(kind));
     }
@@ -179,14 +181,14 @@ fn target_of(
 {
     let name = read_name(alloc, word)?;
     let position = names.find(name.as_slice()).ok_or(CdlKind::UnknownVariable)?;
-    let target = if_new(targets.get(position as usize))?;
+    let target = unless_given(targets.get(position as usize))?;
     Ok(FoundTarget { position, target })
 }
 
-/// Returns the target. Errs with `DuplicateData` if an earlier statement gave the variable's values, and with `UnknownVariable` if `target`
-/// is `None`.
-fn if_new(target: Option<&Target>) -> Result<Target, CdlKind>
-    ensures { result ≡ if_new (option_map (λ t. t.now) target.entry) }
+/// Returns the target of a variable whose values no statement has given yet. Errs with `DuplicateData` if an earlier statement gave them,
+/// and with `UnknownVariable` if `target` is `None`, since the caller's list has no target for the variable.
+fn unless_given(target: Option<&Target>) -> Result<Target, CdlKind>
+    ensures { result ≡ unless_given (option_map (λ t. t.now) target.entry) }
 {
     match target {
         Some(target) if target.given => Err(CdlKind::DuplicateData),

@@ -16,9 +16,9 @@ pub struct Fill {
 }
 
 impl Fill {
-    ghost use Rattle.nc_base.specs.Numbers.{IsInRange};
+    ghost use Rattle.nc_base.specs.NumberLaws.{IsInRange};
 
-    /// Returns the fill value of this type and number. The number is in the type's range.
+    /// Returns the fill value `value` of a variable of the type `ty`. Needs a `value` in the range of `ty`.
     #[tactic(auto, using(cdl_meaning::proofs::InRange::is_had))]
     pub fn new(ty: NcType, value: i128) -> Fill
         requires { IsInRange ty value }

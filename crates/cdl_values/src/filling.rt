@@ -5,7 +5,8 @@ ghost use Rattle.std.specs.Prelude.{◌≡◌, ℕ, List, length};
 use crate::capacity::Capacity;
 use crate::fill::Fill;
 
-/// The form in which a variable takes the values that a statement lists.
+/// The form in which a variable takes the values that a statement lists: numbers, joined strings, or rows. It is not a fill value, though
+/// numbers and rows have one.
 #[derive(Clone, Copy)]
 pub enum Filling {
     /// Numbers of the type of this fill value. `_` stands for the fill value.

@@ -30,7 +30,7 @@ impl NameIndex {
         }
     }
 
-    /// Returns the position of the item of this name, or `None` if the list doesn't have it. `list` is the list that this is the index of.
+    /// Returns the position of the item of this name, or `None` if `list` doesn't have it. Needs the `list` that this is the index of.
     pub fn find<T: Named>(&self, list: &[T], name: &[u8]) -> Option<u64>
         requires { IsIndex self.now (map T.name_of list.now) }
         ensures { result ≡ position_of (map T.name_of list.now) name.now }
@@ -42,8 +42,8 @@ impl NameIndex {
         self.others.get(name).copied()
     }
 
-    /// If no item of the list has the name, makes this the index of the list with an item of this name at its end, and returns true.
-    /// Otherwise changes nothing and returns false. `list` is the list that this is the index of.
+    /// If no item of `list` has the name, adds the name with the position just after the end of the list, and returns true: the caller has
+    /// to append an item of this name. Otherwise changes nothing and returns false. Needs the `list` that this is the index of.
     ///
     /// # Errors
     ///
@@ -76,7 +76,7 @@ impl NameIndex {
 /// The base of hashes, a prime number.
 const BASE: u64 = 0x100_0000_01b3;
 
-/// Returns the hash of a name: its bytes as the digits of a number in [`BASE`], modulo 2^64.
+/// Returns the hash of a name: the number whose digits in the base [`BASE`] are its bytes, modulo 2^64.
 #[tactic(auto, unfolding(crate::specs::code::NameIndices::hash_on))]
 fn hash_of(name: &[u8]) -> u64
     ensures { result ≡ hash_of name.now }

@@ -1,7 +1,8 @@
 //! Numbers of a text, and their bytes in a file.
 
 ghost use Rattle.std.specs.Prelude.{◌≡◌, ◌++◌, OnOk, nat_le};
-ghost use Rattle.nc_base.specs.Numbers.{IsInRange, bytes_of_number};
+ghost use Rattle.nc_base.specs.NumberLaws.{IsInRange};
+ghost use Rattle.nc_base.specs.Numbers.{bytes_of_number};
 ghost use Rattle.cdl_statements.specs.code.Contents.{parts_or_zero};
 ghost use Rattle.cdl_tokens.specs.code.Magnitudes.{held};
 ghost use Rattle.cdl_tokens.specs.Numerals.{parts, signed};
@@ -14,7 +15,8 @@ use cdl_tokens::{Numeral, number_of_token};
 use nc_base::{ListedArray, NcType, Version};
 use std::alloc::AllocError;
 
-/// Returns what a number token says. Returns 0, of the type int, if the bytes are no number or the version lacks their suffix.
+/// Returns the number that a number token says. Its magnitude is `None` if that takes more than 64 bits. Returns 0, of the type int, if the
+/// bytes are no number or the version lacks their suffix: such a token is a fault of its own, which is found where tokens are checked.
 pub fn number_or_zero(version: Version, bytes: &[u8]) -> Numeral
     ensures { result ≡ held (parts_or_zero (parts version bytes.now)) }
 {
@@ -26,7 +28,7 @@ pub fn number_or_zero(version: Version, bytes: &[u8]) -> Numeral
 }
 
 /// Appends to `array` the bytes of a number, big-endian, in the width of `ty`. The type of the number's suffix is ignored. Errs with
-/// `NumberRange` if the number is out of the range of `ty`, and with `OutOfMemory` if an allocation failed.
+/// `NumberRange` if the number is out of the range of `ty` (nothing is appended then), and with `OutOfMemory` if an allocation failed.
 #[inline(always)]
 pub fn put_numeral(array: &mut ListedArray, ty: NcType, n: Numeral) -> Result<(), ReadError>
     ensures adds { Adds array.old array.new result (held_bytes ty n.minus n.magnitude) }
@@ -40,32 +42,33 @@ pub fn put_numeral(array: &mut ListedArray, ty: NcType, n: Numeral) -> Result<()
     }
 }
 
-/// Appends the bytes of a number as [`put_numeral`] does, but inlines [`put_number_here`], for a loop over numbers of one type.
+/// Appends the bytes of a number as [`put_numeral`] does, but inlines [`put_number_inline`], for a loop over numbers of one type.
 #[inline(always)]
-pub fn put_numeral_here(array: &mut ListedArray, ty: NcType, n: Numeral) -> Result<(), ReadError>
+pub fn put_numeral_inline(array: &mut ListedArray, ty: NcType, n: Numeral) -> Result<(), ReadError>
     ensures adds { Adds array.old array.new result (held_bytes ty n.minus n.magnitude) }
     ensures refuses { RefusesValue result (held_bytes ty n.minus n.magnitude) }
 {
     match n.magnitude {
         Some(magnitude) if is_in_range(ty, n.minus, magnitude) => {
-            Ok(put_number_here(array, ty, signed(n.minus, magnitude))?)
+            Ok(put_number_inline(array, ty, signed(n.minus, magnitude))?)
         }
         Some(_) | None => Err(ReadError::Fault(CdlKind::NumberRange)),
     }
 }
 
-/// Appends to `array` the number, big-endian, in the width of the type. Errs only if an allocation failed.
+/// Appends to `array` a number that is in the range of `ty`, big-endian, in the width of `ty`. Unlike [`put_numeral`], it doesn't check the
+/// range. Errs only if an allocation failed.
 #[inline(never)]
 pub fn put_number(array: &mut ListedArray, ty: NcType, number: i128) -> Result<(), AllocError>
     requires { IsInRange ty number }
     ensures { OnOk result (array.new ≡ array.old ++ bytes_of_number ty number) }
 {
-    put_number_here(array, ty, number)
+    put_number_inline(array, ty, number)
 }
 
 /// Appends to `array` the number as [`put_number`] does, but is inlined into its caller.
 #[inline(always)]
-fn put_number_here(array: &mut ListedArray, ty: NcType, number: i128) -> Result<(), AllocError>
+fn put_number_inline(array: &mut ListedArray, ty: NcType, number: i128) -> Result<(), AllocError>
     requires { IsInRange ty number }
     ensures { OnOk result (array.new ≡ array.old ++ bytes_of_number ty number) }
 {
@@ -111,7 +114,7 @@ fn greatest(ty: NcType, minus: bool) -> u64
     }
 }
 
-/// Returns the number of this sign and magnitude.
+/// Returns the number of this magnitude, negated if `minus` is true.
 fn signed(minus: bool, magnitude: u64) -> i128
     ensures { result ≡ signed minus magnitude }
 {

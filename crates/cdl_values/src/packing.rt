@@ -10,13 +10,13 @@ ghost use Rattle.cdl_values.specs.code.TokenValues.{packed_from};
 use crate::capacity::Capacity;
 use crate::filling::Filling;
 use crate::read_error::ReadError;
-use crate::value::{FastPathFault, put_token, take_good};
+use crate::value::{FastPathFault, put_checked_token, put_token};
 use crate::value_run::{UnreadValues, take_run};
 use cdl_statements::{Cutter, Due};
 use nc_base::ListedArray;
 use std::alloc::Global;
 
-/// What [`pack_good`] reads in a statement.
+/// What [`pack_and_check`] reads in a statement.
 #[derive(Drop)]
 pub struct Packed<'a> {
     /// The bytes of the listed values.
@@ -25,8 +25,9 @@ pub struct Packed<'a> {
     pub rest: Cutter<'a>,
 }
 
-/// Packs the values from the next token to the end of the statement, and returns their bytes, big-endian and one after the other. `filling`
-/// is the form in which the variable takes values, and `capacity` is how many it takes.
+/// Packs the values from the next token of `start` to the end of the statement, and returns their bytes, big-endian and one after the
+/// other. `filling` is the form in which the variable takes values, and `capacity` is how many it takes. Unlike [`pack_and_check`], it
+/// checks neither the tokens nor their shape.
 ///
 /// # Errors
 ///
@@ -62,7 +63,7 @@ pub fn pack(
 ///
 /// `Unnamed` if a token, a value or the shape has a fault; `OutOfMemory` if an allocation failed.
 #[inline(never)]
-pub fn pack_good<'a>(
+pub fn pack_and_check<'a>(
     alloc: Global,
     start: Cutter<'a>,
     filling: Filling,
@@ -85,7 +86,9 @@ pub fn pack_good<'a>(
         let token = unread.cutter.lexeme();
         let ends = unread.cutter.advance();
         let capacity = unread.capacity;
-        (unread.capacity, due) = take_good(&mut array, version, &filling, capacity, due, token)?;
+        (unread.capacity, due) = put_checked_token(
+            &mut array, version, &filling, capacity, due, token,
+        )?;
         if ends {
             if due.is_whole() {
                 return Ok(Packed {

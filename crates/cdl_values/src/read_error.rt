@@ -18,6 +18,7 @@ pub enum ReadError {
 impl From<AllocError> for ReadError {
     ghost from_gives = { λ _ e. e ≡ OutOfMemory };
 
+    /// Returns `OutOfMemory`, for `?` after a call that errs only if an allocation failed.
     fn from(_e: AllocError) -> ReadError {
         ReadError::OutOfMemory
     }
@@ -26,6 +27,7 @@ impl From<AllocError> for ReadError {
 impl From<CdlKind> for ReadError {
     ghost from_gives = { λ kind e. e ≡ Fault kind };
 
+    /// Returns `Fault` with this kind, for `?` after a call that errs with the kind of a fault.
     fn from(kind: CdlKind) -> ReadError {
         ReadError::Fault(kind)
     }

@@ -1,4 +1,4 @@
-//! Strings of the data section.
+//! The bytes that strings stand for, in attributes and in the data section.
 
 ghost use Rattle.std.specs.Prelude.{◌≡◌, ◌++◌, ◌≤◌, Err, IfOk, OnOk, length, take, false, true};
 ghost use Rattle.std.specs.List.{prefix_len};
@@ -17,23 +17,29 @@ use cdl_tokens::{character, first_bytes, len_before_escape};
 use nc_base::ListedArray;
 use std::alloc::AllocError;
 
-/// Appends to `array` the bytes that a string stands for. `bytes` is the string with its quotes. Errs with `StringTooLong` if the string
-/// stands for more bytes than the capacity (they stay appended), and with `OutOfMemory` if an allocation failed.
+/// Appends to `array` the bytes that a string stands for, so that strings are joined: unlike [`put_row`], it fills up no row. `bytes` is
+/// the string with its quotes, and `capacity` is how many more bytes the variable takes. Errs with `StringTooLong` if the string stands for
+/// more bytes than that (they stay appended), and with `OutOfMemory` if an allocation failed (some of them may be appended then).
 #[tactic(auto, using(crate::proofs::PackedTokens::chars_len, std::proofs::lemmas::Grind::common_steps))]
-pub fn put_text(array: &mut ListedArray, capacity: Capacity, bytes: &[u8]) -> Result<(), ReadError>
+pub fn put_joined_string(
+    array: &mut ListedArray,
+    capacity: Capacity,
+    bytes: &[u8],
+) -> Result<(), ReadError>
     ensures { Adds array.old array.new result (text_bytes capacity (text_said bytes.now)) }
 {
     let before = array.len();
     put_string(array, inner(bytes))?;
-    if capacity.is_past(array.len().saturating_sub(before)) {
+    if capacity.is_exceeded_by(array.len().saturating_sub(before)) {
         return Err(ReadError::Fault(CdlKind::StringTooLong));
     }
     Ok(())
 }
 
 /// Appends to `array` a row of `len` bytes: the bytes that a string stands for, filled up with `fill`. `bytes` is the string with its
-/// quotes, and `full` is true if the variable takes no more rows. Errs with `TooManyValues` if `full`, with `StringTooLong` if the string
-/// stands for more than `len` bytes (they stay appended), and with `OutOfMemory` if an allocation failed.
+/// quotes, and `full` is true if the variable takes no more rows. Errs with `TooManyValues` if `full` (nothing is appended then), with
+/// `StringTooLong` if the string stands for more than `len` bytes (they stay appended), and with `OutOfMemory` if an allocation failed
+/// (some of them may be appended then).
 #[tactic(auto, using(crate::proofs::PackedTokens::chars_len, std::proofs::lemmas::Grind::common_steps))]
 pub fn put_row(
     array: &mut ListedArray,
@@ -58,9 +64,10 @@ pub fn put_row(
     Ok(())
 }
 
-/// Appends to `array` a row of `len` bytes: those of a string, filled up with `fill`. `bytes` is the string with its quotes, and each byte
-/// between the quotes stands for itself. Errs with `StringTooLong` if the string has more than `len` bytes, and with `OutOfMemory` if an
-/// allocation failed.
+/// Appends to `array` a row of `len` bytes, filled up with `fill`, as [`put_row`] does, but looks neither for escapes nor at the capacity.
+/// `bytes` is the string with its quotes. Needs a string in which each byte between the quotes stands for itself, and a variable that takes
+/// one more row. Errs with `StringTooLong` if there are more than `len` bytes between the quotes (nothing is appended then), and with
+/// `OutOfMemory` if an allocation failed (the bytes may be appended then).
 pub fn put_plain_row(
     array: &mut ListedArray,
     len: u64,
@@ -81,7 +88,7 @@ pub fn put_plain_row(
 }
 
 /// Appends to `array` the bytes that a string stands for. `raw` is what the string has between its quotes. An escape that stands for no
-/// byte gives a 0 byte. Errs only if an allocation failed.
+/// byte gives a 0 byte. Errs only if an allocation failed; some of the bytes may be appended then.
 fn put_string(array: &mut ListedArray, raw: &[u8]) -> Result<(), AllocError>
     ensures { OnOk result (array.new ≡ array.old ++ char_bytes (string_value raw.now)) }
 {
@@ -101,7 +108,7 @@ fn put_string(array: &mut ListedArray, raw: &[u8]) -> Result<(), AllocError>
 }
 
 /// Appends to `array` the bytes before the first backslash, or all if there is none, and returns how many it appended. Errs only if an
-/// allocation failed.
+/// allocation failed; nothing is appended then.
 fn put_unescaped(array: &mut ListedArray, bytes: &[u8]) -> Result<usize, AllocError>
     ensures put { IfOk result (λ n. array.new ≡ array.old ++ char_bytes (take n bytes.now)) }
     ensures len { IfOk result (λ n. n ≡ prefix_len is_unescaped bytes.now) }
@@ -113,7 +120,8 @@ fn put_unescaped(array: &mut ListedArray, bytes: &[u8]) -> Result<usize, AllocEr
     Ok(n)
 }
 
-/// Returns the bytes between a string's quotes, or no bytes if there are fewer than two.
+/// Returns the bytes that a string has between its quotes. `bytes` is the string with its quotes. If it has fewer than two bytes, returns
+/// an empty slice.
 fn inner(bytes: &[u8]) -> &[u8]
     ensures { result.now ≡ inner bytes.now }
 {

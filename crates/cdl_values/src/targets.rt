@@ -48,8 +48,8 @@ fn target(dims: &[Dim], var: &Var) -> Target
     }
 }
 
-/// Returns in which form a variable takes the values that the data section lists for it: as strings if its type is char, otherwise as
-/// numbers of its type.
+/// Returns the [`Filling`] of a variable, which is not its fill value but the form in which it takes the values that the data section lists
+/// for it: strings if its type is char, otherwise numbers of its type.
 fn filling(dims: &[Dim], var: &Var) -> Filling
     ensures { AreDimids dims.now [] var.now.dimids → Fills result (capacity_of dims.now var.now) }
 {
@@ -59,7 +59,7 @@ fn filling(dims: &[Dim], var: &Var) -> Filling
     }
 }
 
-/// Returns in which form a variable of characters takes its values: as joined strings at rank 0 and 1, otherwise as rows.
+/// Returns the [`Filling`] of a variable of the type char: joined strings at rank 0 and 1, otherwise a string for each row.
 fn characters(dims: &[Dim], var: &Var) -> Filling
     requires { var.now.ty ≡ Char }
     ensures { AreDimids dims.now [] var.now.dimids → Fills result (capacity_of dims.now var.now) }
@@ -74,7 +74,8 @@ fn characters(dims: &[Dim], var: &Var) -> Filling
     }
 }
 
-/// Returns how many numbers, bytes or rows, as `filling` counts them, a variable takes. A record variable has no limit.
+/// Returns how many values a variable takes from the data section: numbers, bytes or rows, as its form `filling` counts them. A record
+/// variable has no limit.
 #[tactic(auto, unfolding(cdl_meaning::specs::State::capacity_of))]
 fn capacity(dims: &[Dim], var: &Var, filling: Filling) -> Capacity
     ensures { HasCapacityAsFilled dims.now var.now filling result }
@@ -90,7 +91,7 @@ fn capacity(dims: &[Dim], var: &Var, filling: Filling) -> Capacity
     }
 }
 
-/// Returns the product of the lengths of these dimensions, or `u64::MAX` if the product is greater.
+/// Returns how many values these dimensions have places for: the product of their lengths, or `u64::MAX` if the product is greater.
 fn place_count(dims: &[Dim], dimids: &[u64]) -> u64
     ensures { result ≡ min (product (map (dim_len dims.now) dimids.now)) most }
 {
@@ -108,7 +109,7 @@ fn capped_product(count: u64, len: u64) -> u64
     count.saturating_mul(len)
 }
 
-/// Returns the length of the first of these dimensions, or 1 if there is none.
+/// Returns the length of the first of these dimensions, or 1 if there is none: the number of bytes of a char variable of rank 0 or 1.
 fn first_len(dims: &[Dim], dimids: &[u64]) -> u64
     ensures { length dimids.now < 2 → result ≡ product (map (dim_len dims.now) dimids.now) }
 {

@@ -15,7 +15,7 @@ use crate::fill::Fill;
 use crate::filling::Filling;
 use crate::number::{number_or_zero, put_number, put_numeral};
 use crate::read_error::ReadError;
-use crate::string::{put_row, put_text};
+use crate::string::{put_joined_string, put_row};
 use cdl_statements::{CdlKind, Due, Lexeme};
 use cdl_tokens::{TokenKind, number_of_token};
 use nc_base::{ListedArray, Version};
@@ -35,6 +35,7 @@ impl From<ReadError> for FastPathFault {
 
     ghost from_gives = { λ error stop. (error ≡ ReadError.OutOfMemory → stop ≡ FastPathFault.OutOfMemory) × ((kind : CdlKind) → error ≡ ReadError.Fault kind → stop ≡ FastPathFault.Unnamed) };
 
+    /// Returns `OutOfMemory` for `OutOfMemory`, and `Unnamed` for a fault of any kind, for `?` in the quick pass over a statement.
     fn from(error: ReadError) -> FastPathFault {
         match error {
             ReadError::OutOfMemory => FastPathFault::OutOfMemory,
@@ -43,7 +44,8 @@ impl From<ReadError> for FastPathFault {
     }
 }
 
-/// Appends to `array` the token's value, or nothing if the token is a mark. Returns what capacity is left. Errs as [`put_token_value`] does.
+/// Appends to `array` the bytes of the token's value, or nothing if the token is a mark, and returns the capacity that is left. Errs as
+/// [`put_token_value`] does.
 pub fn put_token(
     array: &mut ListedArray,
     version: Version,
@@ -63,11 +65,12 @@ pub fn put_token(
     }
 }
 
-/// Appends to `array` the token's value, or nothing if the token is a mark. Returns what capacity is left, and which token is due after
-/// `token`, or `Never` if `token` isn't what `due` asks for. Errs with `Unnamed` if the token or its value has a fault, and with
-/// `OutOfMemory` if an allocation failed.
+/// Appends to `array` the token's value as [`put_token`] does, but checks the token, too. `due` says which token has to stand here. Returns
+/// what capacity is left, and which token has to come after `token`, or `Never` if `token` isn't the one that `due` asks for. Errs with
+/// `Unnamed` if the token or its value has a fault (bytes of the value may be appended then), and with `OutOfMemory` if an allocation
+/// failed.
 #[inline]
-pub fn take_good(
+pub fn put_checked_token(
     array: &mut ListedArray,
     version: Version,
     filling: &Filling,
@@ -83,15 +86,15 @@ pub fn take_good(
     match token.kind {
         TokenKind::Mark => Ok((capacity, then)),
         _ => {
-            let left = put_good_value(array, version, filling, capacity, token)?;
+            let left = put_checked_value(array, version, filling, capacity, token)?;
             Ok((left, then))
         }
     }
 }
 
 /// Appends to `array` the value of a token that is no mark, and returns what capacity is left. Errs with `Unnamed` if the token or its
-/// value has a fault, and with `OutOfMemory` if an allocation failed.
-pub fn put_good_value(
+/// value has a fault (bytes of the value may be appended then), and with `OutOfMemory` if an allocation failed.
+pub fn put_checked_value(
     array: &mut ListedArray,
     version: Version,
     filling: &Filling,
@@ -105,22 +108,22 @@ pub fn put_good_value(
     match token.kind {
         // A number is one value, so that its bytes needn't be counted.
         TokenKind::Number => {
-            put_good_number(array, version, *filling, capacity, token.bytes)?;
+            put_checked_number(array, version, *filling, capacity, token.bytes)?;
             Ok(capacity.minus(1))
         }
         _ => {
             let before = array.len();
-            put_good(array, version, filling, capacity, token)?;
+            put_non_number(array, version, filling, capacity, token)?;
             let added = array.len().saturating_sub(before);
             Ok(filling.capacity_after(added, capacity))
         }
     }
 }
 
-/// Appends to `array` the bytes of a value that is no number. Errs with `Unnamed` if the token is bad or the value has a fault, and with
-/// `OutOfMemory` if an allocation failed.
+/// Appends to `array` the value of a token that is no number: a string, or `_` for the fill value. Errs with `Unnamed` if the token is bad
+/// or its value has a fault (bytes of it may stay appended), and with `OutOfMemory` if an allocation failed.
 #[inline(never)]
-fn put_good(
+fn put_non_number(
     array: &mut ListedArray,
     version: Version,
     filling: &Filling,
@@ -137,11 +140,11 @@ fn put_good(
     }
 }
 
-/// Appends to `array` the bytes of a number. `bytes` is its token. Errs with `Unnamed` if the filling isn't `Numbers`, if the capacity is
-/// 0, if the token is no number of the version, or if the number is out of the type's range. Errs with `OutOfMemory` if an allocation
-/// failed.
+/// Appends to `array` the bytes of a number. `bytes` is its token. Errs with `Unnamed`, and appends nothing, if the filling isn't
+/// `Numbers`, if the capacity is 0, if the token is no number of the version, or if the number is out of the type's range. Errs with
+/// `OutOfMemory` if an allocation failed.
 #[tactic(auto, unfolding(cdl_statements::specs::code::Contents::value_of), using(crate::proofs::Ranges::number_added, crate::proofs::Ranges::good_number))]
-fn put_good_number(
+fn put_checked_number(
     array: &mut ListedArray,
     version: Version,
     filling: Filling,
@@ -162,9 +165,10 @@ fn put_good_number(
     Ok(put_numeral(array, fill.ty, n)?)
 }
 
-/// Appends to `array` the bytes of the value that `token`, which is no mark, says, in the form that `filling` takes. `version` decides
-/// which suffixes a number may have. Errs with `WrongKind`, `TooManyValues`, `NumberRange` or `StringTooLong` if the value has that fault,
-/// and with `OutOfMemory` if an allocation failed.
+/// Appends to `array` the bytes of the value that `token` says, in the form `filling`. Don't call it for a mark: any token that is neither
+/// a number nor a string counts as `_`. `version` decides which suffixes a number may have. Errs with `WrongKind`, `TooManyValues`,
+/// `NumberRange` or `StringTooLong` if the value has that fault, and with `OutOfMemory` if an allocation failed. After `StringTooLong` or
+/// `OutOfMemory`, bytes of a string may be appended.
 #[tactic(auto, unfolding(cdl_statements::specs::code::Contents::value_of))]
 fn put_token_value(
     array: &mut ListedArray,
@@ -179,7 +183,7 @@ fn put_token_value(
     match filling {
         Filling::Numbers(fill) => put_number_or_fill(array, version, fill, full, token),
         Filling::Joined => match token.kind {
-            TokenKind::Text => put_text(array, capacity, token.bytes),
+            TokenKind::Text => put_joined_string(array, capacity, token.bytes),
             _ => Err(ReadError::Fault(CdlKind::WrongKind)),
         },
         Filling::Rows { len, fill } => match token.kind {
@@ -190,8 +194,9 @@ fn put_token_value(
 }
 
 /// Appends to `array` the bytes of the number that `token` says, or those of the fill value if the token is neither a string nor a number.
-/// `version` decides which suffixes a number may have. `full` is true if the capacity is 0. Errs with `WrongKind` if the token is a string, with `TooManyValues` if `full`, with `NumberRange`
-/// if the number is out of the type's range, and with `OutOfMemory` if an allocation failed.
+/// `version` decides which suffixes a number may have. `full` is true if the capacity is 0. Errs with `WrongKind` if the token is a string,
+/// with `TooManyValues` if `full`, with `NumberRange` if the number is out of the type's range (nothing is appended in these three cases),
+/// and with `OutOfMemory` if an allocation failed.
 #[tactic(auto, unfolding(cdl_statements::specs::code::Contents::value_of), using(crate::proofs::Ranges::held_is, cdl_meaning::proofs::InRange::has_it))]
 fn put_number_or_fill(
     array: &mut ListedArray,

@@ -9,9 +9,9 @@ ghost use Rattle.cdl_values.specs.code.ValueRuns.{GoesTo, TakesPlain, TakesTo, p
 use crate::capacity::Capacity;
 use crate::fill::Fill;
 use crate::filling::Filling;
-use crate::number::{put_numeral, put_numeral_here};
+use crate::number::{put_numeral, put_numeral_inline};
 use crate::string::put_plain_row;
-use crate::value::{FastPathFault, put_good_value};
+use crate::value::{FastPathFault, put_checked_value};
 use cdl_statements::{Cutter, Due, Lexeme, NumberList};
 use cdl_tokens::TokenKind;
 use nc_base::{ListedArray, NcType};
@@ -26,11 +26,12 @@ pub struct UnreadValues<'a> {
 }
 
 /// Appends to `array` the values that come next, as long as a comma stands before and after each, and returns what is unread after them.
-/// `due` is the token that is due at `start`. If it isn't a separator, or if no comma comes next, appends nothing and returns `start`.
+/// `due` says which token has to come next at `start`. If that isn't a separator, or if no comma comes next, appends nothing and returns
+/// `start`.
 ///
 /// # Errors
 ///
-/// `Unnamed` if the statement has some fault; `OutOfMemory` if an allocation failed.
+/// `Unnamed` if the statement has some fault; `OutOfMemory` if an allocation failed. Either way, the values before stay appended.
 #[inline(always)]
 pub fn take_run<'a>(
     array: &mut ListedArray,
@@ -49,9 +50,9 @@ pub fn take_run<'a>(
     }
 }
 
-/// Appends to `array` the values that come next, each with a comma before and after it, and returns what is unread after them. `_` counts
-/// as a value if `takes_fill` is true. Errs with `Unnamed` if a token between two commas is no value or the value has a fault, and with
-/// `OutOfMemory` if an allocation failed.
+/// Appends to `array` the values that come next, each with a comma before and after it, and returns what is unread after them. Needs a
+/// cutter at the first comma. `_` counts as a value if `takes_fill` is true. Errs with `Unnamed` if a token between two commas is no value
+/// or the value has a fault, and with `OutOfMemory` if an allocation failed; the values before stay appended.
 #[inline(never)]
 fn take_values<'a>(
     array: &mut ListedArray,
@@ -67,7 +68,7 @@ fn take_values<'a>(
     let mut looks = true;
     'values: loop {
         if looks {
-            unread = take_plain(array, unread, filling)?;
+            unread = take_plain_values(array, unread, filling)?;
         }
         let Some(token) = unread.cutter.token_and_comma() else {
             return Ok(unread);
@@ -75,14 +76,16 @@ fn take_values<'a>(
         if !token.is_value(takes_fill) {
             return Err(FastPathFault::Unnamed);
         }
-        unread.capacity = put_good_value(array, version, filling, unread.capacity, token)?;
-        looks = may_be_plain(token);
+        unread.capacity = put_checked_value(array, version, filling, unread.capacity, token)?;
+        looks = plain_may_follow(token);
     }
 }
 
-/// Appends to `array` the plain numbers or strings that come next, and returns what is unread after them. Returns `start` if the filling is
-/// `Joined`. Errs with `Unnamed` if a value has a fault, and with `OutOfMemory` if an allocation failed.
-fn take_plain<'a>(
+/// Appends to `array` the plain numbers (an optional sign and at most 19 decimal digits) or the plain strings (no escape, no line feed)
+/// that come next, and returns what is unread after them. Returns `start` if the filling is `Joined`, which has no loop for plain strings.
+/// Needs a cutter at a comma. Errs with `Unnamed` if a value has a fault, and with `OutOfMemory` if an allocation failed; the values before
+/// stay appended.
+fn take_plain_values<'a>(
     array: &mut ListedArray,
     start: UnreadValues<'a>,
     filling: &Filling,
@@ -97,9 +100,10 @@ fn take_plain<'a>(
     }
 }
 
-/// Returns true if this value is a string, a number of one byte, or a longer number that doesn't begin with `0` and ends with a digit. Then
-/// plain values may follow it. This is a guess for speed: a wrong one changes no result.
-fn may_be_plain(token: Lexeme<'_>) -> bool {
+/// Guesses if plain values come after `token`, so that [`take_values`] calls [`take_plain_values`] for them. Returns true if `token` is a
+/// string, a number of one byte, or a longer number that doesn't begin with `0` and ends with a digit. A wrong guess costs time, but
+/// changes no result.
+fn plain_may_follow(token: Lexeme<'_>) -> bool {
     match (token.kind, token.bytes) {
         (TokenKind::Text, _) => true,
         (TokenKind::Number, [first, .., last]) => *first != b'0' && last.is_ascii_digit(),
@@ -108,9 +112,10 @@ fn may_be_plain(token: Lexeme<'_>) -> bool {
     }
 }
 
-/// Appends to `array` the plain numbers that come next, and returns what is unread after them. Returns `start` if the capacity is 0, or if
-/// no plain number with a comma after it comes next. Errs with `Unnamed` if a number is out of the type's range, and with `OutOfMemory` if
-/// an allocation failed.
+/// Appends to `array` the plain numbers (an optional sign and at most 19 decimal digits) that come next, the first by the cutter and the
+/// others by [`take_more_numbers`]. Returns what is unread after them, or `start` if the capacity is 0, or if no plain number with a comma
+/// after it comes next. Needs a cutter at a comma. Errs with `Unnamed` if a number is out of the type's range, and with `OutOfMemory` if an
+/// allocation failed; the numbers before stay appended.
 #[inline(never)]
 fn take_numbers<'a>(
     array: &mut ListedArray,
@@ -132,9 +137,10 @@ fn take_numbers<'a>(
     Ok(rest)
 }
 
-/// Appends to `array` the plain numbers that come next, and returns what is unread after them. It stops before the first value that isn't a
-/// plain number with a comma after it, and when the capacity is used up. The scanner of the cutter in `start` stands just after the next
-/// comma. Errs with `Unnamed` if a number is out of the type's range, and with `OutOfMemory` if an allocation failed.
+/// Appends to `array` the plain numbers that come after the first one, which [`take_numbers`] reads. Returns what is unread after them.
+/// Stops before the first value that isn't a plain number with a comma after it, and when the capacity is used up. Needs a cutter at a
+/// comma, with its scanner just after this comma. Errs with `Unnamed` if a number is out of the type's range, and with `OutOfMemory` if an
+/// allocation failed; the numbers before stay appended.
 #[inline(always)]
 fn take_more_numbers<'a>(
     array: &mut ListedArray,
@@ -147,21 +153,22 @@ fn take_more_numbers<'a>(
 {
     // A loop for each type, so that the loop itself doesn't ask for it.
     match fill.ty {
-        NcType::Byte => take_typed(array, start, fill, NcType::Byte),
-        NcType::Char => take_typed(array, start, fill, NcType::Char),
-        NcType::Short => take_typed(array, start, fill, NcType::Short),
-        NcType::Int => take_typed(array, start, fill, NcType::Int),
-        NcType::Ubyte => take_typed(array, start, fill, NcType::Ubyte),
-        NcType::Ushort => take_typed(array, start, fill, NcType::Ushort),
-        NcType::Uint => take_typed(array, start, fill, NcType::Uint),
-        NcType::Int64 => take_typed(array, start, fill, NcType::Int64),
-        NcType::Uint64 => take_typed(array, start, fill, NcType::Uint64),
+        NcType::Byte => take_numbers_of_type(array, start, fill, NcType::Byte),
+        NcType::Char => take_numbers_of_type(array, start, fill, NcType::Char),
+        NcType::Short => take_numbers_of_type(array, start, fill, NcType::Short),
+        NcType::Int => take_numbers_of_type(array, start, fill, NcType::Int),
+        NcType::Ubyte => take_numbers_of_type(array, start, fill, NcType::Ubyte),
+        NcType::Ushort => take_numbers_of_type(array, start, fill, NcType::Ushort),
+        NcType::Uint => take_numbers_of_type(array, start, fill, NcType::Uint),
+        NcType::Int64 => take_numbers_of_type(array, start, fill, NcType::Int64),
+        NcType::Uint64 => take_numbers_of_type(array, start, fill, NcType::Uint64),
     }
 }
 
-/// Appends plain numbers as [`take_more_numbers`] does. `ty` is the type of `fill`.
+/// Appends plain numbers as [`take_more_numbers`] does, which calls it. Needs the type of `fill` as `ty`, too: each call gives it as a
+/// constant, so that the loop doesn't ask for the type.
 #[inline(always)]
-fn take_typed<'a>(
+fn take_numbers_of_type<'a>(
     array: &mut ListedArray,
     start: UnreadValues<'a>,
     fill: Fill,
@@ -178,7 +185,7 @@ fn take_typed<'a>(
     'numbers: while left > 0 {
         match list.number_and_comma() {
             Some(n) => {
-                put_numeral_here(array, ty, n)?;
+                put_numeral_inline(array, ty, n)?;
                 left -= 1;
             }
             None => return Ok(after_values(list.cutter(), room - left, start.capacity)),
@@ -187,9 +194,10 @@ fn take_typed<'a>(
     Ok(after_values(list.cutter(), room - left, start.capacity))
 }
 
-/// Appends to `array` the plain strings that come next, each as a row of `len` bytes filled up with `fill`, and returns what is unread
-/// after them. It stops before the first value that isn't a plain string with a comma after it, and when the capacity is used up. Errs with
-/// `Unnamed` if a string has more than `len` bytes, and with `OutOfMemory` if an allocation failed.
+/// Appends to `array` the plain strings (no escape, no line feed) that come next, each as a row of `len` bytes filled up with `fill`, and
+/// returns what is unread after them. It stops before the first value that isn't a plain string with a comma after it, and when the
+/// capacity is used up. Errs with `Unnamed` if a string has more than `len` bytes, and with `OutOfMemory` if an allocation failed; the rows
+/// before stay appended.
 #[inline(never)]
 fn take_rows<'a>(
     array: &mut ListedArray,

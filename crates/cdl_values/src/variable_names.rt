@@ -26,7 +26,7 @@ impl<'a> Model for VariableNames<'a> {
 }
 
 impl<'a> VariableNames<'a> {
-    /// Returns the names of the variables. `index` is the index of `vars`.
+    /// Returns the names of the variables `vars`, with their index. Needs the `index` of just these variables.
     pub fn new(vars: &'a [Var], index: &'a NameIndex) -> VariableNames<'a>
         requires { IsIndex index.now (var_names vars.now) }
         ensures { result ≡ var_names vars.now }

@@ -28,7 +28,7 @@ impl From<AllocError> for OptFault {
     }
 }
 
-// words that could not be read
+/// A failed allocation becomes `OutOfMemory`. Any other error means that a word of the command line isn't UTF-8, and becomes `Usage`.
 impl From<io::Error> for OptFault {
     ghost from_gives = { λ error e. (error_kind error ≡ io_kind.OutOfMemory → e ≡ opt.OutOfMemory) × (error_kind error ≢ io_kind.OutOfMemory → e ≡ opt.Usage) };
 
@@ -40,7 +40,7 @@ impl From<io::Error> for OptFault {
     }
 }
 
-// words that are not those of the program
+/// A failed allocation becomes `OutOfMemory`. Any other error means that the command doesn't take the words, and becomes `Usage`.
 impl From<clap::Error> for OptFault {
     ghost from_gives = { λ error e. (kind_of error ≡ kind.OutOfMemory → e ≡ opt.OutOfMemory) × (kind_of error ≢ kind.OutOfMemory → e ≡ opt.Usage) };
 

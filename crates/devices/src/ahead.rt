@@ -11,8 +11,8 @@ const MOST_AHEAD: usize = 65536;
 /// The length of the shortest stretch that is read ahead, as after a jump: 4 KiB.
 const LEAST_AHEAD: usize = 4096;
 
-/// A source of the bytes of another source, which it reads in stretches. A read is answered from the stretch that was read last, if the
-/// byte at its offset is in there. So reads that lie near each other take few reads of the other source.
+/// A source of the bytes of another source. It asks that source for stretches of 4 to 64 KiB, and keeps the last one. A read is answered
+/// from this stretch if the stretch has the byte at its offset. So reads that lie near each other take few reads of the other source.
 ///
 /// Stretches grow as long as each begins near the end of the one before. A read that fails is not tried again.
 #[derive(Drop)]
@@ -35,7 +35,8 @@ pub struct ReadAhead<S: Source> {
 impl<S: Source> ReadAhead<S> {
     ghost use Rattle.devices.specs.code.Ahead.{Answers, ReadsAhead, SameCounts, SourceFails, bytes_of, taken, view_of};
 
-    /// Creates a source of the bytes of `source`. It has read none of them yet.
+    /// Creates a source of the bytes of `source`, without a stretch. Its counts of bytes and of failures start at 0, whatever `source` has
+    /// counted.
     pub fn new(source: S) -> ReadAhead<S>
         ensures { view_of result ≡ unread (S.view source).bytes }
     {
@@ -49,9 +50,9 @@ impl<S: Source> ReadAhead<S> {
         }
     }
 
-    /// Copies bytes of the stretch, from the offset `at` of the source on, to the start of `into`: as many as the stretch has and as fit.
-    /// Returns how many, or 0 if the byte at this offset isn't in the stretch.
-    fn copy(&self, at: u64, into: &mut [u8]) -> usize
+    /// Copies bytes of the stretch, from the offset `at` of the source on, to the start of `into`: as many as the stretch has from there
+    /// on, but no more than fit. Returns how many, or 0 if the byte at this offset isn't in the stretch.
+    fn copy_from_stretch(&self, at: u64, into: &mut [u8]) -> usize
         ensures within { result ≤ length into.old }
         ensures held { result ≤ self.now.len }
         ensures bytes { S.is_transparent ≡ true → AreFrom at result (bytes_of self.now) into.new }
@@ -66,9 +67,9 @@ impl<S: Source> ReadAhead<S> {
         n
     }
 
-    /// Returns how many bytes to read ahead from the offset `at` on. If `at` isn't before the stretch, and lies less than twice the
-    /// stretch's length after its start, the result is twice that length, but at least 4 KiB and at most 64 KiB. Otherwise it is 4 KiB.
-    fn next_len(&self, at: u64) -> usize
+    /// Returns how long the stretch from the offset `at` on is to be. If `at` is at the start of the last stretch, or less than twice its
+    /// length after the start, the result is twice that length, but at least 4 KiB and at most 64 KiB. Otherwise it is 4 KiB.
+    fn next_stretch_len(&self, at: u64) -> usize
         ensures some { 0 < result }
         ensures within { result ≤ 65536 }
     {
@@ -80,8 +81,9 @@ impl<S: Source> ReadAhead<S> {
         }
     }
 
-    /// Reads a stretch from the offset `at` on, in place of the one before. If the source fails, it errs, and there is no stretch any more.
-    fn refill(&mut self, at: u64) -> Result<(), SourceFailed>
+    /// Reads a stretch from the offset `at` on, in place of the last one. If the source fails, it errs, and there is no stretch any more.
+    /// Needs an offset before the source's end.
+    fn read_stretch(&mut self, at: u64) -> Result<(), SourceFailed>
         requires { at < length (bytes_of self.old) }
         ensures bytes { bytes_of self.new ≡ bytes_of self.old }
         ensures counts { SameCounts self.old self.new }
@@ -90,17 +92,18 @@ impl<S: Source> ReadAhead<S> {
         ensures held { IfOk result (λ _. taken self.old + self.new.len ≡ taken self.new) }
         ensures blame { OnErr result (SourceFails self.old self.new) }
     {
-        let wanted = self.next_len(at);
+        let wanted = self.next_stretch_len(at);
         self.len = 0;
         self.at = at;
-        self.len = read_first(&mut self.source, at, wanted, &mut self.stretch)?;
+        self.len = read_at_most(&mut self.source, at, wanted, &mut self.stretch)?;
         Ok(())
     }
 
-    /// Reads bytes that aren't in the stretch, from the offset `at` on, to the start of `into`, and returns how many. If `into` has fewer
-    /// than 64 KiB, it reads a new stretch, and copies the first bytes of it. Otherwise it reads directly into `into`. Errs if the source
-    /// fails.
-    fn read_some(&mut self, at: u64, into: &mut [u8]) -> Result<usize, SourceFailed>
+    /// Reads bytes, from the offset `at` on, to the start of `into`, and returns how many. It doesn't look into the stretch: if `into` has
+    /// fewer than 64 KiB, it reads a new one and copies the first bytes of it, otherwise it reads directly into `into`. If the source
+    /// fails, it errs, and `into` may hold anything. It counts neither bytes nor failures: [`read_and_count`](ReadAhead::read_and_count)
+    /// does. Needs an `into` that isn't empty, and an offset before the source's end.
+    fn read_uncounted(&mut self, at: u64, into: &mut [u8]) -> Result<usize, SourceFailed>
         requires room { 0 < length into.old }
         requires inside { at < length (bytes_of self.old) }
         ensures bytes { bytes_of self.new ≡ bytes_of self.old }
@@ -112,15 +115,16 @@ impl<S: Source> ReadAhead<S> {
         if MOST_AHEAD <= into.len() {
             return self.source.read_at(at, into);
         }
-        self.refill(at)?;
-        Ok(self.copy(at, into))
+        self.read_stretch(at)?;
+        Ok(self.copy_from_stretch(at, into))
     }
 
-    /// Reads bytes that aren't in the stretch, as [`read_some`](ReadAhead::read_some) does, and adds their number to `handed`. If the
-    /// source fails, it errs, and adds 1 to `failures`.
+    /// Reads bytes as [`read_uncounted`](ReadAhead::read_uncounted) does, and counts them: adds their number to `handed`. If the source
+    /// fails, it errs, and adds 1 to `failures`, which stops at `u128::MAX`. Needs what `read_uncounted` needs, and a `handed` that stays
+    /// below 2^128 even if `into` is filled.
     #[inline(never)]
     #[tactic(auto, unfolding(crate::specs::Failures::HasFailed))]
-    fn read_on(&mut self, at: u64, into: &mut [u8]) -> Result<usize, SourceFailed>
+    fn read_and_count(&mut self, at: u64, into: &mut [u8]) -> Result<usize, SourceFailed>
         requires room { 0 < length into.old }
         requires inside { at < length (bytes_of self.old) }
         requires counted { CanCount self.old.handed into.old }
@@ -128,7 +132,7 @@ impl<S: Source> ReadAhead<S> {
         ensures given { IfOk result (λ n. taken self.old + n ≤ taken self.new) }
         ensures blame { OnErr result (SourceFails self.old self.new) }
     {
-        match self.read_some(at, into) {
+        match self.read_uncounted(at, into) {
             Ok(n) => {
                 self.handed += n as u128;
                 Ok(n)
@@ -140,7 +144,7 @@ impl<S: Source> ReadAhead<S> {
         }
     }
 
-    /// Returns how often it has failed.
+    /// Returns how many reads of this source have failed, at most `u128::MAX`.
     pub(crate) fn failures(&self) -> u128
         ensures { result ≡ self.now.failures }
     {
@@ -148,7 +152,7 @@ impl<S: Source> ReadAhead<S> {
     }
 }
 
-/// Copies all bytes of `from` over those of `into`, which has the same length.
+/// Copies the bytes of `from` over those of `into`. Needs slices of the same length.
 // Most values have four bytes, and values of interleaved variables are read one by one: these bytes are moved by one load and one
 // store, and without a call.
 #[inline(always)]
@@ -163,7 +167,7 @@ fn copy_bytes(into: &mut [u8], from: &[u8])
     }
 }
 
-/// Copies the four bytes of `from` over the four of `into`.
+/// Copies the bytes of `from` over those of `into`, without a call. Needs slices of exactly four bytes.
 #[inline(always)]
 fn copy_four(into: &mut [u8], from: &[u8])
     requires into { length into.old ≡ 4 }
@@ -177,8 +181,9 @@ fn copy_four(into: &mut [u8], from: &[u8])
     into[3] = d;
 }
 
-/// Copies all bytes of `from` over those of `into`, which has the same length, by one call.
-// Inside of a caller's loop, the test for slices that overlap would be prepared anew for each read.
+/// Copies the bytes of `from` over those of `into`, by one call of `copy_from_slice`, as [`copy_bytes`] does unless there are four. Needs
+/// slices of the same length.
+// It isn't inlined: in a caller's loop, the test for slices that overlap would be prepared anew for each read.
 #[inline(never)]
 fn copy_many(into: &mut [u8], from: &[u8])
     requires { length into.old ≡ length from.now }
@@ -187,9 +192,9 @@ fn copy_many(into: &mut [u8], from: &[u8])
     into.copy_from_slice(from);
 }
 
-/// Reads at most `wanted` bytes of the source `from`, from the offset `at` on, to the start of `to`, and returns how many. Errs if the
-/// source fails.
-fn read_first<S: Source>(
+/// Reads at most `wanted` bytes of the source `from`, from the offset `at` on, to the start of `to`, and returns how many. If the source
+/// fails, it errs, and `to` may hold anything. Needs a `wanted` from 1 to the length of `to`, and an offset before the source's end.
+fn read_at_most<S: Source>(
     from: &mut S,
     at: u64,
     wanted: usize,
@@ -214,13 +219,14 @@ impl<S: Source> Source for ReadAhead<S> {
         self.source.len()
     }
 
+    /// Copies the bytes out of the stretch if it has the one at the offset `at`. Otherwise it reads them as `read_and_count` does.
     #[tactic(auto, unfolding(crate::specs::Failures::HasFailed))]
     fn read_at(&mut self, at: u64, into: &mut [u8]) -> Result<usize, SourceFailed>
         requires room { 0 < length into.old }
         requires inside { at < length (bytes_of self.old) }
         ensures read { ReadsAhead self.old self.new at into.new result }
 
-        // It hands over no more bytes than its source has, and fails where its source has failed, or where it can't count.
+        // It hands over no more bytes than this call reads and the stretch had. It errs only if its source fails, or if it can't count.
         ensures given { IfOk result (λ n. taken self.old + n ≤ taken self.new + self.old.len) }
         ensures blame { OnErr result (SourceFails self.old self.new ⊎ CantCount self.old.handed into.old) }
     {
@@ -228,11 +234,11 @@ impl<S: Source> Source for ReadAhead<S> {
             self.failures = self.failures.saturating_add(1);
             return Err(SourceFailed);
         }
-        let n = self.copy(at, into);
+        let n = self.copy_from_stretch(at, into);
         if 0 < n {
             self.handed += n as u128;
             return Ok(n);
         }
-        self.read_on(at, into)
+        self.read_and_count(at, into)
     }
 }

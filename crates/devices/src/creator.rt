@@ -32,7 +32,7 @@ pub trait Creator {
     ///
     /// # Errors
     ///
-    /// What was written to the output can't all be handed on. The creator counts one failure.
+    /// What was written to the output can't all be handed on. The creator counts one failure, and not those of the output.
     fn close(&mut self, path: &str, output: Self::Output) -> Result<(), CloseFailed>
         ensures { let sink = Self.Output.view output in
             Closed is_transparent (view self.old) (view self.new) path.now sink result };

@@ -6,11 +6,11 @@ ghost use Rattle.devices.specs.code.SinkWrites.{Wrote};
 use crate::{Sink, WriteFailed, put};
 use itoa::Buffer;
 
-/// Writes a number in decimal.
+/// Writes `n` to the sink in decimal.
 ///
 /// # Errors
 ///
-/// The sink failed, and took some prefix of the text.
+/// The sink failed, and took some prefix of the digits.
 pub fn put_decimal<W: Sink>(sink: &mut W, n: u128) -> Result<(), WriteFailed>
     ensures { Wrote W.view sink.old sink.new (decimal n) result }
 {

@@ -24,6 +24,7 @@ pub struct CreateFailed;
 #[derive(Clone, Copy, Debug, PartialEq, Eq)]
 pub struct CloseFailed;
 
+/// Lets a function that writes a text pass on a failure of its sink with `?`.
 impl From<SinkFailed> for WriteFailed {
     fn from(_failure: SinkFailed) -> WriteFailed {
         WriteFailed

@@ -18,7 +18,7 @@ use std::{fs, io};
 pub type FileSource = ReadAhead<OpenFile>;
 
 impl ReadAhead<OpenFile> {
-    /// Opens the regular file at the path, and takes its length.
+    /// Opens the regular file at the path as a source, which keeps the length that the file has now. `rt` stands for the system.
     ///
     /// # Errors
     ///
@@ -97,7 +97,7 @@ pub struct IoSink<W: Write> {
 impl<W: Write> IoSink<W> {
     ghost use Rattle.devices.specs.code.IoSinks.{view_of};
 
-    /// Creates a sink over the writer. What the writer holds already counts as taken by the sink.
+    /// Creates a sink over the writer. Bytes that the writer already holds count as taken by the sink.
     pub fn new(writer: W) -> IoSink<W>
         ensures { view_of W.contents result ≡ unfailed (W.contents writer) }
     {
@@ -108,7 +108,7 @@ impl<W: Write> IoSink<W> {
         }
     }
 
-    /// Returns how often it has failed.
+    /// Returns how many writes and flushes of the sink have failed, at most `u128::MAX`.
     pub(crate) fn failures(&self) -> u128
         ensures { result ≡ (view_of W.contents self.now).failures }
     {

@@ -10,7 +10,7 @@ use std::alloc::Global;
 
 /// A transparent source of the bytes of a slice.
 ///
-/// It fails only if a count would reach 2^128.
+/// It fails only if the number of bytes that were read would reach 2^128.
 #[derive(Drop)]
 pub struct MemSource<'a> {
     bytes: &'a [u8],
@@ -32,7 +32,7 @@ impl<'a> MemSource<'a> {
         }
     }
 
-    /// Returns how often it has failed.
+    /// Returns how many reads of the source have failed, at most `u128::MAX`.
     pub(crate) fn failures(&self) -> u128
         ensures { result ≡ (view_of self.now).failures }
     {
@@ -70,7 +70,7 @@ impl Source for MemSource<'_> {
     }
 }
 
-/// Returns the number of the bytes. The contract also states that each byte is below 256.
+/// Returns the number of the bytes. It is for the `len` of a transparent source, whose contract also states that each byte is below 256.
 pub(crate) fn length_of(bytes: &[u8]) -> u64
     ensures length { result ≡ length bytes.now }
     ensures bytes { AreBytes bytes.now }
@@ -100,14 +100,14 @@ impl MemSink {
         }
     }
 
-    /// Returns all the bytes that it took.
+    /// Returns all bytes that the sink has taken.
     pub fn as_slice(&self) -> &[u8]
         ensures { (sink_view_of self.now).taken ≡ Some result.now }
     {
         self.bytes.as_slice()
     }
 
-    /// Returns how often it has failed.
+    /// Returns how many writes to the sink have failed, at most `u128::MAX`.
     pub(crate) fn failures(&self) -> u128
         ensures { result ≡ (sink_view_of self.now).failures }
     {

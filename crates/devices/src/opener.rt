@@ -20,11 +20,11 @@ pub trait Opener {
     // The opener as contracts see it.
     ghost view: { Self → OpenerView };
 
-    /// Opens the path as a source that has read nothing yet.
+    /// Opens the path as a source from which nothing has been read yet.
     ///
     /// # Errors
     ///
-    /// The path can't be opened.
+    /// The path can't be opened. The opener counts that it was asked, but no failure.
     fn open(&mut self, path: &str) -> Result<Self::Source, OpenFailed>
         ensures once { OpensOnce (view self.old) (view self.new) }
         ensures failures { IfOk result (λ source. (Self.Source.view source).failures ≡ 0) }

@@ -70,6 +70,7 @@ impl<R: Files<File = File>> Creator for SystemOutputs<'_, R> {
         Err(CreateFailed)
     }
 
+    /// Flushes the output to its file, and then drops the output, which closes the file. The path isn't needed for that.
     #[tactic(auto, unfolding(crate::specs::Failures::HasFailed))]
     fn close(
         &mut self,

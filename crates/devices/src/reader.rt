@@ -23,7 +23,7 @@ pub struct CountedRead<R: Read> {
 }
 
 impl<R: Read> CountedRead<R> {
-    /// Creates a reader of the bytes that are still to come of `reader`. It has read none of them yet.
+    /// Creates a reader of the bytes that `reader` has still to give. All counts start at 0.
     pub fn new(reader: R) -> CountedRead<R>
         ensures { view_of R.remaining result ≡ unread (R.remaining reader) }
     {
@@ -42,7 +42,8 @@ impl<R: Read> CountedRead<R> {
     ///
     /// # Errors
     ///
-    /// The reader failed, or a count could reach 2^128. No byte is handed over, and `into` may hold anything.
+    /// The reader failed, or the number of reads or of bytes could reach 2^128. This counts as one failure. No byte is handed over, and
+    /// `into` may hold anything.
     #[tactic(auto, unfolding(crate::specs::Failures::HasFailed))]
     pub fn read_some(&mut self, into: &mut [u8]) -> Result<usize, SourceFailed>
         ensures read { ReadsNext R.remaining self.old self.new into.old into.new result }
@@ -70,7 +71,7 @@ impl<R: Read> CountedRead<R> {
         }
     }
 
-    /// Returns how often it has failed.
+    /// Returns how many calls of `read_some` have failed, at most `u128::MAX`.
     pub fn failures(&self) -> u128
         ensures { result ≡ (view_of R.remaining self.now).failures }
     {

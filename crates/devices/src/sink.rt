@@ -30,11 +30,11 @@ pub trait Flush: Sink {
     // All that it took was passed on.
     ghost is_flushed: { Self → Bool };
 
-    /// Passes on what it holds back.
+    /// Passes on all bytes that the sink holds back.
     ///
     /// # Errors
     ///
-    /// The sink failed.
+    /// The sink failed. It may still hold bytes back.
     fn flush(&mut self) -> Result<(), SinkFailed>
         ensures wrote { Wrote Self.view self.old self.new [] result }
         ensures flushed { IfOk result (λ _. is_flushed self.new ≡ true) };

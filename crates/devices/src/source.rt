@@ -27,10 +27,11 @@ pub trait Source {
         ensures length { result ≡ length (view self.now).bytes }
         ensures bytes { OnTrue is_transparent (AreBytes (view self.now).bytes) };
 
-    /// Reads bytes from the offset `at` on to the start of `into`, and returns how many. `at` is before the source's end, and `into` isn't
-    /// empty.
+    /// Reads bytes from the offset `at` on to the start of `into`, and returns how many. Needs an offset before the source's end, and an
+    /// `into` that isn't empty.
     ///
-    /// It may read fewer bytes than `into` has room for. A transparent source reads at least one.
+    /// It may read fewer bytes than `into` has room for. A transparent source reads at least one. An opaque one may read none, as from a
+    /// file that has become shorter since it was opened.
     ///
     /// # Errors
     ///

@@ -31,8 +31,8 @@ impl<'a, R: Files<File = File>> SystemFiles<'a, R> {
         }
     }
 
-    /// Opens the file at the path. Errs if it can't be opened, if the system doesn't tell its kind, or if it is a directory: the system
-    /// opens a directory, but fails to read from it.
+    /// Opens the file at the path to be read as a text, so it may also be a pipe or a device. Errs if it can't be opened, if the system
+    /// doesn't tell its kind, or if it is a directory: the system opens a directory, but fails to read from it.
     fn open_file(&self, path: &str) -> Result<File, OpenFailed> {
         let file = File::open(self.rt, path).map_err(|_| OpenFailed)?;
         let metadata = file.metadata().map_err(|_| OpenFailed)?;
@@ -69,7 +69,7 @@ impl<R: Files<File = File>> TextOpener for SystemFiles<'_, R> {
 
     ghost view = { view_of };
 
-    // it is counted, whether it opens or not
+    // the attempt is counted, whether the path opens or not
     fn open_text(&mut self, path: &str) -> Result<CountedRead<File>, OpenFailed> {
         self.opens = self.opens.saturating_add(1);
         let file = self.open_file(path)?;

@@ -1,6 +1,6 @@
 -- A generated file holds its dataset.
 use Rattle.std.proofs.Common.{◌≡◌, ℕ, suc, ◌+◌, ◌*◌, ◌<◌, List, [], ◌∷◌, ◌++◌, length, map, refl, sym, ◌∙◌, ap, subst, arith, length-append, All, sum}
-use Rattle.nc_base.proofs.Prelude.{to_be_bytes, flat_map, range_with_len, append-nil, length-map, All-nil, All-cons, All-head, All-tail, Att, Dim, Var, Header, NumRecs, Known, Dataset, Version, offset_width, count_limit, IsName, padded_size, record_size_of, record_vars, record_size, record_count, IsSoundVar, IsSound, HasValidNames, bare_var, AreArrays, IsGood, HoldsDataset, list_spelling, var_spelling, header_spelling, blocks, is_sole_narrow, record_of, known_records, data_of, vars_after, with_begins, Fits, file_of}
+use Rattle.nc_base.proofs.Prelude.{to_be_bytes, flat_map, range_with_len, append-nil, length-map, All-nil, All-cons, All-head, All-tail, Att, Dim, Var, Header, NumRecs, Known, Dataset, Version, offset_width, count_limit, IsName, padded_size, record_size_of, record_vars, record_size, record_count, IsSoundVar, IsSound, HasValidNames, bare_var, AreArrays, IsGood, HoldsDataset, list_spelling, var_spelling, header_spelling, blocks, is_sole_narrow, record_of, known_records, data_of, vars_with_begins, with_begins, Fits, file_of}
 use Rattle.nc_base.proofs.IsAt.{IsAt, stands-here, stands-after, stands-in, stands-at, stands-first, stands-second, stands-row}
 use Rattle.nc_base.proofs.FilePlaces.{slots, fixed_total, record_size_of-slots, length-blocks, length-record, IsPlaced, agree-all, agree-arrays, agree-whole}
 use Rattle.nc_base.proofs.HeaderSpelled.{header-spelled}
@@ -8,12 +8,12 @@ use Rattle.nc_base.proofs.WholeValues.{map-map}
 
 -- ---- begins change nothing else
 
-pub bare-after : (h : Header) (before vars : List Var) → map bare_var (vars_after h before vars) ≡ map bare_var vars
+pub bare-after : (h : Header) (before vars : List Var) → map bare_var (vars_with_begins h before vars) ≡ map bare_var vars
 bare-after h before [] = refl
 bare-after h before (var ∷ vars) = ap (λ (vs : List Var). bare_var var ∷ vs) (bare-after h (before ++ var ∷ []) vars)
 
 -- what doesn't speak of begins holds of each variable with its begin
-all-after : (P : Var → Type 0) → ((var : Var) (at : ℕ) → P var → P (record var { begin_at = at })) → (h : Header) (before vars : List Var) → All P vars → All P (vars_after h before vars)
+all-after : (P : Var → Type 0) → ((var : Var) (at : ℕ) → P var → P (record var { begin_at = at })) → (h : Header) (before vars : List Var) → All P vars → All P (vars_with_begins h before vars)
 all-after P same h before [] all = All-nil P
 all-after P same h before (var ∷ vars) all =
     grind (arith, All-cons, All-head, All-tail, all-after P same h (before ++ var ∷ []) vars (All-tail P var vars all))
@@ -31,8 +31,8 @@ record_size_of-bare dims _ = refl
 size-bare : (h : Header) (vars : List Var) → record_size (record h { vars = map bare_var vars }) ≡ record_size (record h { vars = vars })
 size-bare h vars = ap (record_size_of h.dims) (records-bare h.dims vars) ∙ record_size_of-bare h.dims (record_vars h.dims vars)
 
-size-after : (h : Header) → record_size (record h { vars = vars_after h [] h.vars }) ≡ record_size h
-size-after h = sym (size-bare h (vars_after h [] h.vars)) ∙ ap (λ (vs : List Var). record_size (record h { vars = vs })) (bare-after h [] h.vars) ∙ size-bare h h.vars
+size-after : (h : Header) → record_size (record h { vars = vars_with_begins h [] h.vars }) ≡ record_size h
+size-after h = sym (size-bare h (vars_with_begins h [] h.vars)) ∙ ap (λ (vs : List Var). record_size (record h { vars = vs })) (bare-after h [] h.vars) ∙ size-bare h h.vars
 
 -- ---- the length of the header
 
@@ -60,16 +60,16 @@ header-len-bare : (h : Header) (vars : List Var) → length (header_spelling (re
 unfolding header_spelling
 header-len-bare h vars = grind (arith, longer, list-len, var-len)
 
-pub len-after : (h : Header) → length (header_spelling (record h { vars = vars_after h [] h.vars })) ≡ length (header_spelling h)
+pub len-after : (h : Header) → length (header_spelling (record h { vars = vars_with_begins h [] h.vars })) ≡ length (header_spelling h)
 len-after h =
-    sym (header-len-bare h (vars_after h [] h.vars)) ∙ ap (λ (vs : List Var). length (header_spelling (record h { vars = vs }))) (bare-after h [] h.vars) ∙ header-len-bare h h.vars
+    sym (header-len-bare h (vars_with_begins h [] h.vars)) ∙ ap (λ (vs : List Var). length (header_spelling (record h { vars = vs }))) (bare-after h [] h.vars) ∙ header-len-bare h h.vars
 
 -- ---- the header with begins is sound
 
 abbrev HasNames : Var → Type 0
 HasNames var = IsName var.name × All (λ (att : Att). IsName att.name) var.atts
 
-pub sound-after : (h : Header) → IsSound h → IsSound (record h { vars = vars_after h [] h.vars })
+pub sound-after : (h : Header) → IsSound h → IsSound (record h { vars = vars_with_begins h [] h.vars })
 sound-after h s = record {
   numrecs = s.numrecs;
   dim_count = s.dim_count;
@@ -83,25 +83,25 @@ sound-after h s = record {
   small_records = omega (arith, s.small_records, size-after h);
 }
   where
-    count : (k : Header) (before vars : List Var) → length (vars_after k before vars) ≡ length vars
+    count : (k : Header) (before vars : List Var) → length (vars_with_begins k before vars) ≡ length vars
     count k before [] = refl
     count k before (var ∷ vars) = ap suc (count k (before ++ var ∷ []) vars)
 
-names-after : (h : Header) → HasValidNames h → HasValidNames (record h { vars = vars_after h [] h.vars })
+names-after : (h : Header) → HasValidNames h → HasValidNames (record h { vars = vars_with_begins h [] h.vars })
 names-after h s = record { dims = s.dims; gatts = s.gatts; vars = all-after HasNames (λ var at t. t) h [] h.vars s.vars }
 
 -- ---- the data part stands after the header
 
 all-placed : (d : Dataset) (n : ℕ) → AreArrays d.header.dims n d.header.vars d.arrays → known_records d.header.numrecs ≡ n
-    → IsPlaced d.header (file_of d) n (record_size (record d.header { vars = vars_after d.header [] d.header.vars })) (is_sole_narrow (record_vars d.header.dims d.header.vars)) [] d.header.vars d.arrays
+    → IsPlaced d.header (file_of d) n (record_size (record d.header { vars = vars_with_begins d.header [] d.header.vars })) (is_sole_narrow (record_vars d.header.dims d.header.vars)) [] d.header.vars d.arrays
 unfolding file_of data_of with_begins
 all-placed d n are known =
     let h = d.header in
     let dims = h.dims in
     let is_sole = is_sole_narrow (record_vars dims h.vars) in
-    let stride : ℕ = record_size (record h { vars = vars_after h [] h.vars }) in
+    let stride : ℕ = record_size (record h { vars = vars_with_begins h [] h.vars }) in
     let stride_is : slots is_sole dims h.vars ≡ stride = sym (record_size_of-slots dims h.vars) ∙ sym (size-after h) in
-    let head = header_spelling (record h { vars = vars_after h [] h.vars }) in
+    let head = header_spelling (record h { vars = vars_with_begins h [] h.vars }) in
     let head_len = len-after h in
     let prefix = blocks dims h.vars d.arrays in
     let f : ℕ → List ℕ = λ r. record_of is_sole dims r h.vars d.arrays in
@@ -132,9 +132,9 @@ unfolding file_of with_begins
 file-holds d good fits =
     let h = d.header in
     let n = good.records in
-    let k : Header = record h { vars = vars_after h [] h.vars } in
+    let k : Header = record h { vars = vars_with_begins h [] h.vars } in
     let known : h.numrecs ≡ Known n = ap (λ (x : Header). x.numrecs) good.is_bare in
-    let agree = agree-all h (vars_after h [] h.vars) (file_of d) n [] h.vars d.arrays refl good.arrays
+    let agree = agree-all h (vars_with_begins h [] h.vars) (file_of d) n [] h.vars d.arrays refl good.arrays
     (all-placed d n good.arrays (ap known_records known)) in
     record {
       header = k;
@@ -143,6 +143,6 @@ file-holds d good fits =
       spelled = header-spelled k (data_of d.header d.arrays) (sound-after h good.is_sound) (names-after h good.names) fits;
       counted = counted k n (length (file_of d)) known;
       is_bare = good.is_bare ∙ ap (λ (vs : List Var). let x : Header = record h { numrecs = Known n; vars = vs } in x) (sym (bare-after h [] h.vars));
-      whole = agree-whole k (file_of d) n (vars_after h [] h.vars) d.arrays agree;
-      arrays = agree-arrays k (file_of d) n (vars_after h [] h.vars) d.arrays agree;
+      whole = agree-whole k (file_of d) n (vars_with_begins h [] h.vars) d.arrays agree;
+      arrays = agree-arrays k (file_of d) n (vars_with_begins h [] h.vars) d.arrays agree;
     }

@@ -1,7 +1,7 @@
 -- The dump of a file that holds a dataset is the text of that dataset.
 use Rattle.std.proofs.Common.{◌≡◌, ℕ, ℤ, suc, ◌+◌, ◌≤◌, Bool, ◌&&◌, ◌||◌, List, [], ◌∷◌, length, map, refl, sym, ◌∙◌, ap, subst, arith, Option, Some, None, ◌==◌, codes, All, not, if◌then◌else◌, slice_index_or, rules}
 use Rattle.std.proofs.Math.Path.{fun_ext}
-use Rattle.nc_base.proofs.Prelude.{record_count, concat, position, position_or_len, bytes_eq, lt-ltb, ltb-false, length-map, All-head, All-tail, All-map, All-weaker, All-from_get_or, fails_before_first, Dim, Header, Known, Var, Dataset, numbers, bare_var, bare, escaped_name, fill_value, Look, look_of, concat_parts, SpellsHeader, stored_bytes, stored_values, ends_after, first_missing, HoldsDataset, Options, Ending, DataText, VariableValues, has_variable, has_values, first_unknown, is_selected, selection_of, values_in_file, values_in_dataset, with_variable, data_text, shown_data_text, data_word, dump_text, IsDump, IsText, shown_data, stopped, unknown, shown, is_shown, is_unknown}
+use Rattle.nc_base.proofs.Prelude.{record_count, concat, position, position_or_len, bytes_eq, lt-ltb, ltb-false, length-map, All-head, All-tail, All-map, All-weaker, All-from_get_or, fails_before_first, Dim, Header, Known, Var, Dataset, numbers, bare_var, bare, escaped_name, fill_value, Look, look_of, concat_parts, SpellsHeader, stored_bytes, stored_values, ends_after, first_missing, HoldsDataset, Options, Ending, DataText, VariableValues, has_variable, has_values, first_unknown, is_selected, selection_of, values_in_file, values_in_dataset, with_variable, variables_text, shown_data_text, data_word, dump_text, IsDump, IsText, shown_data, stopped, unknown, shown, is_shown, is_unknown}
 use Rattle.nc_base.specs.HeadText.{vars_text, var_lines, head_text, netcdf_word, dims_text, gatts_text}
 use Rattle.nc_base.specs.FirstFault.{StopsAt}
 use Rattle.nc_base.specs.declared.fault.FormatFault.{FormatFault}
@@ -62,7 +62,7 @@ row shows v look content others = if shows then with_variable look content.value
 values-held : (h : Header) (bytes : List ℕ) (n width : ℕ) (d : Dataset) (vars : List Var) (v : ℕ) (marks : List Bool)
     → ((k : ℕ) → slice_index_or d.arrays (v + k) [] ≡ slice_index_or (map (λ (var : Var). concat (stored_bytes h bytes var n)) vars) k [])
     → All (λ (var : Var). first_missing h bytes var n ≡ None) vars
-    → data_text (shown_data (bare h n) (values_in_dataset d) n width) v (map bare_var vars) marks ≡ data_text (shown_data h (values_in_file h bytes n) n width) v vars marks
+    → variables_text (shown_data (bare h n) (values_in_dataset d) n width) v (map bare_var vars) marks ≡ variables_text (shown_data h (values_in_file h bytes n) n width) v vars marks
 values-held h bytes n width d (var ∷ vars) v (mark ∷ marks) arrays whole =
     let Whole : Var → Type 0 = λ x. first_missing h bytes x n ≡ None in
     let none : first_missing h bytes var n ≡ None = All-head Whole var vars whole in
@@ -76,8 +76,8 @@ values-held h bytes n width d (var ∷ vars) v (mark ∷ marks) arrays whole =
     (λ k. ap (λ (i : ℕ). slice_index_or d.arrays i []) (let e : v + 1 + k ≡ v + suc k = omega arith in e) ∙ arrays (suc k)) (All-tail Whole var vars whole) in
     let shows : Bool = mark && has_values h.dims n var in
     ap (λ (s : DataText). row shows v (look_of (bare h n) (bare_var var) n width) (values_in_dataset d v (bare_var var)) s) rest
-    ∙ ap (λ (c : VariableValues). row shows v (look_of (bare h n) (bare_var var) n width) c (data_text (shown_data h (values_in_file h bytes n) n width) (v + 1) vars marks)) content
-    ∙ ap (λ (l : Look). row shows v l (values_in_file h bytes n v var) (data_text (shown_data h (values_in_file h bytes n) n width) (v + 1) vars marks)) (look-bare h var n width)
+    ∙ ap (λ (c : VariableValues). row shows v (look_of (bare h n) (bare_var var) n width) c (variables_text (shown_data h (values_in_file h bytes n) n width) (v + 1) vars marks)) content
+    ∙ ap (λ (l : Look). row shows v l (values_in_file h bytes n v var) (variables_text (shown_data h (values_in_file h bytes n) n width) (v + 1) vars marks)) (look-bare h var n width)
 values-held h bytes n width d _ v _ arrays whole = refl
 
 -- ---- the dump

@@ -1,12 +1,12 @@
 -- The names that proofs of this crate cite from elsewhere, passed on from one place.
 pub use Rattle.nc_base.specs.Bytes.{AreBytes, padding_len}
 unfoldable pub use Rattle.nc_base.specs.Bytes.{concat_parts}
-pub use Rattle.nc_base.specs.Dump.{VariableValues, Ending, IsDump, first_unknown, Options, DataText, values_in_file, shown_data, dump_text, has_values, has_variable, is_selected, selection_of, shown, shown_data_text, stopped, unknown, with_variable, data_text}
+pub use Rattle.nc_base.specs.Dump.{VariableValues, Ending, IsDump, first_unknown, Options, DataText, values_in_file, shown_data, dump_text, has_values, has_variable, is_selected, selection_of, shown, shown_data_text, stopped, unknown, with_variable, variables_text}
 pub use Rattle.nc_base.specs.Datasets.{Fits, HoldsDataset, IsText, is_shown, is_unknown, values_in_dataset}
 unfoldable pub use Rattle.nc_base.specs.Dump.{closing_word, data_word}
 unfoldable pub use Rattle.nc_base.specs.Escapes.{escaped_name, escaped_text, is_reserved}
 unfoldable pub use Rattle.nc_base.specs.Fill.{fill_value}
-pub use Rattle.nc_base.specs.GeneratedFile.{atts_spelling, begin_after, blocks, count_spelling, fits, fixed_vars, is_sole_narrow, known_records, list_head, list_spelling, name_spelling, numrecs_spelling, record_of, slab_in, vars_after, vsize_of, zero_padded}
+pub use Rattle.nc_base.specs.GeneratedFile.{atts_spelling, begin_after, blocks, count_spelling, fits, fixed_vars, is_sole_narrow, known_records, list_head, list_spelling, name_spelling, numrecs_spelling, record_of, slab_in, vars_with_begins, vsize_of, zero_padded}
 unfoldable pub use Rattle.nc_base.specs.GeneratedFile.{att_spelling, data_of, dim_spelling, file_of, fill_bytes, header_spelling, magic_spelling, padded_slab, var_spelling, with_begins, word_spelling}
 pub use Rattle.nc_base.specs.Grammar.{ElementSpelling, IsWithinLimits, SpellsAtt, SpellsAtts, SpellsCount, SpellsCounted, SpellsDim, SpellsDimid, SpellsEach, SpellsHeader, SpellsList, SpellsName, SpellsNumRecs, SpellsNumber, SpellsPadded, SpellsType, SpellsVar, absent, attribute_tag, dimension_tag, present, variable_tag, IsDimid}
 pub use Rattle.nc_base.specs.Headers.{AreArrays, AreDimids, HasValidNames, HasWholeValues, IsArray, IsGood, IsSound, IsSoundAtt, IsSoundDim, IsSoundNumRecs, IsSoundVar, bare, bare_var}
@@ -17,7 +17,7 @@ unfoldable pub use Rattle.nc_base.specs.Numbers.{numbers}
 pub use Rattle.nc_base.specs.Places.{bytes_at, distance, ends_after, first_missing, slab_strides, stored_bytes, stored_values, vectors_below}
 pub use Rattle.nc_base.specs.code.Extents.{extent_end, end_after}
 unfoldable pub use Rattle.nc_base.specs.Places.{value_offsets}
-pub use Rattle.nc_base.specs.code.SizeParts.{slab_of, checked_record_size, extent_sum, first_begin, has_small_slab, is_fixed_dim, lesser, slab_at}
+pub use Rattle.nc_base.specs.code.SizeParts.{slab_of, checked_record_size, extent_sum, least_record_begin, has_small_slab, is_fixed_dim, lesser, slab_at}
 pub use Rattle.nc_base.specs.Types.{code_of, size_of}
 pub use Rattle.nc_base.specs.ValueText.{Look, column, held, is_nul, number_text, row_so_far}
 pub use Rattle.nc_base.specs.code.LaterPieces.{later_pieces}

@@ -1,6 +1,6 @@
 -- What a sound header keeps.
 use Rattle.std.proofs.Common.{◌≡◌, ℕ, ◌*◌, ◌/◌, ◌%◌, ◌<◌, ◌≤◌, Bool, true, false, ◌&&◌, ◌||◌, List, [], ◌∷◌, ◌++◌, length, get_or, drop, map, refl, sym, ◌∙◌, ap, subst, arith, Option, Some, None, filter, nat_lt, ◌==◌, not, if◌then◌else◌, IsTrue, All, IsSome, SomeIff, is_some, IfSome, ◌-◌}
-use Rattle.nc_base.proofs.Prelude.{list_all, count_by, mul-le-mul_left, mod-eq-sub-div-mul, div-mul-le_self, le-leb, leb-true, ltb-true, lt-ltb, length-map, div-mul-add, nat_tests, All-filter, All-head, All-tail, All-weaker, All-get_or, All-map, sum-map, sum_by-cons, length-filter, size_of, dim_len, product, is_record_dim, is_record_var, slab_lens, slab_size, padded_size, record_size_of, record_vars, record_size, slab_limit, record_limit, checked_record_size, first_begin, slab_at, is_fixed_dim, has_values, IsSound, IsSoundVar, HasWholeValues, AreDimids, NcType, Version, count_limit, Att, Dim, Var, Header, Streaming, records_between, record_count, and_left, and_right}
+use Rattle.nc_base.proofs.Prelude.{list_all, count_by, mul-le-mul_left, mod-eq-sub-div-mul, div-mul-le_self, le-leb, leb-true, ltb-true, lt-ltb, length-map, div-mul-add, nat_tests, All-filter, All-head, All-tail, All-weaker, All-get_or, All-map, sum-map, sum_by-cons, length-filter, size_of, dim_len, product, is_record_dim, is_record_var, slab_lens, slab_size, padded_size, record_size_of, record_vars, record_size, slab_limit, record_limit, checked_record_size, least_record_begin, slab_at, is_fixed_dim, has_values, IsSound, IsSoundVar, HasWholeValues, AreDimids, NcType, Version, count_limit, Att, Dim, Var, Header, Streaming, records_between, record_count, and_left, and_right}
 
 not_both : (b : Bool) → not b ≡ true → b ≡ true → ⊥
 not_both b h h2 = grind arith
@@ -61,11 +61,11 @@ some_record_size_of dims var [] h = grind arith
 some_record_size_of dims var (next ∷ vars) h = omega (arith, sum-map (padded_size dims) (var ∷ next ∷ vars), sum_by-cons (padded_size dims) var (next ∷ vars))
 
 -- a record of a sound header with record variables has bytes
-pub some_record : (h : Header) → IsSound h → IsSome (first_begin (record_vars h.dims h.vars)) → 0 < record_size h
+pub some_record : (h : Header) → IsSound h → IsSome (least_record_begin (record_vars h.dims h.vars)) → 0 < record_size h
 some_record h sound some =
     go (record_vars h.dims h.vars) (All-filter (is_record_var h.dims) (IsSoundVar h.version h.dims) h.vars sound.vars) some
   where
-    go : (vars : List Var) → All (IsSoundVar h.version h.dims) vars → IsSome (first_begin vars) → 0 < record_size_of h.dims vars
+    go : (vars : List Var) → All (IsSoundVar h.version h.dims) vars → IsSome (least_record_begin vars) → 0 < record_size_of h.dims vars
     go [] all some = cc
     go (var ∷ vars) all some =
         let s = All-head (IsSoundVar h.version h.dims) var vars all in
@@ -115,11 +115,11 @@ pub one_record_dim : (dims : List Dim) → length (filter (λ (dim : Dim). dim.l
 one_record_dim dims = length-filter (λ (dim : Dim). dim.len == 0) dims
 
 -- the number of whole records after the first begin
-between : (size len begin : ℕ) (vars : List Var) → first_begin vars ≡ Some begin → records_between size vars len ≡ (len - begin) / size
+between : (size len begin : ℕ) (vars : List Var) → least_record_begin vars ≡ Some begin → records_between size vars len ≡ (len - begin) / size
 between size len begin vars h = grind arith
 
 -- where a sound header doesn't tell its number of records, it is that of the whole records
-pub streamed : (h : Header) (len begin quotient : ℕ) (size : Option ℕ) → h.numrecs ≡ Streaming → first_begin (record_vars h.dims h.vars) ≡ Some begin
+pub streamed : (h : Header) (len begin quotient : ℕ) (size : Option ℕ) → h.numrecs ≡ Streaming → least_record_begin (record_vars h.dims h.vars) ≡ Some begin
     → size ≡ checked_record_size h → IfSome size (λ s. quotient ≡ (len - begin) / s) → IsSound h → quotient ≡ record_count h len
 streamed h len begin quotient size streaming found is_size divided sound = grind (arith, checked-sound, between)
 

@@ -51,7 +51,6 @@ abbrev pub is_chosen : Option (List Bytes) → Bytes → Bool
 is_chosen None name = true
 is_chosen (Some names) name = has_name names name
 
--- it has a chosen name, and if only coordinate variables are shown, that of a dimension
 abbrev pub is_selected : Header → Options → Var → Bool
 is_selected h o var = is_chosen o.chosen var.name && (not o.coords || has_dimension h.dims var.name)
 
@@ -76,16 +75,16 @@ pub record VariableValues : Type 0 where
   pub values : List ℤ
   pub missing : Option ℕ
 
--- what a file with these bytes has of a variable over n records, in whatever place v
+-- what a file with these bytes has of a variable over n records, whatever its place
 abbrev pub values_in_file : Header → Bytes → ℕ → ℕ → Var → VariableValues
-values_in_file h bytes n v var = record { values = stored_values h bytes var n; missing = first_missing h bytes var n }
+values_in_file h bytes n _ var = record { values = stored_values h bytes var n; missing = first_missing h bytes var n }
 
--- the text of the variable in place v, and the others after it; if value k is missing, the text ends before it
+-- the text of the variable in place v, and then the others; if value k is missing, the text ends before it, and nothing comes after
 abbrev pub with_variable : Look → List ℤ → Option ℕ → ℕ → DataText → DataText
 with_variable look values None v others = record { text = variable_text look values ++ others.text; ending = others.ending }
 with_variable look values (Some k) v others = record { text = variable_prefix look (take k values); ending = data_truncated v k }
 
--- what is shown; values_of gives the values of each variable by its place or by itself (`Datasets` gives those of a dataset by the place)
+-- what is shown: `values_of v var` are the values of var in place v (a file is asked by the variable, and a dataset, in `Datasets`, by the place)
 pub record ShownData : Type 0 where
   pub header : Header
   pub values_of : ℕ → Var → VariableValues
@@ -95,19 +94,21 @@ pub record ShownData : Type 0 where
 abbrev pub shown_data : Header → (ℕ → Var → VariableValues) → ℕ → ℕ → ShownData
 shown_data h values_of n width = record { header = h; values_of = values_of; records = n; width = width }
 
--- The marked ones of these variables. The first variable is in place v. One without values has no text.
-abbrev pub data_text : ShownData → ℕ → List Var → List Bool → DataText
-data_text d v (var ∷ vars) (mark ∷ marks) =
+-- the marked ones of these variables, the first in place v; one without values has no text
+abbrev pub variables_text : ShownData → ℕ → List Var → List Bool → DataText
+variables_text d v (var ∷ vars) (mark ∷ marks) =
+    let found = d.values_of v var in
+    let others = variables_text d (v + 1) vars marks in
     if mark && has_values d.header.dims d.records var
-    then with_variable (look_of d.header var d.records d.width) (d.values_of v var).values (d.values_of v var).missing v (data_text d (v + 1) vars marks)
-    else data_text d (v + 1) vars marks
-data_text d v vars marks = no_data_text
+    then with_variable (look_of d.header var d.records d.width) found.values found.missing v others
+    else others
+variables_text d v _ _ = no_data_text
 
 -- the marked ones of all variables, or none if the header alone is shown
 abbrev pub shown_data_text : Header → Options → (ℕ → Var → VariableValues) → ℕ → List Bool → DataText
-shown_data_text h o values_of n marks = data_text (shown_data h values_of n o.width) 0 h.vars (if o.head_only then [] else marks)
+shown_data_text h o values_of n marks = variables_text (shown_data h values_of n o.width) 0 h.vars (if o.head_only then [] else marks)
 
--- before the values
+-- before the values: nothing if the header alone is shown, or has no variables
 unfoldable pub data_word : Header → Options → Bytes
 data_word h o = if o.head_only || (length h.vars == 0) then [] else codes "data:\n"
 

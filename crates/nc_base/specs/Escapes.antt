@@ -6,11 +6,10 @@ use Rattle.std.specs.Str.{byte, bytes_eq}
 use Rattle.nc_base.specs.Bytes.{Bytes}
 use Rattle.nc_base.specs.Names.{is_beyond_ascii}
 
--- a name may have it unescaped, but not as its first byte
+-- a name may have this byte unescaped, but not as its first
 abbrev pub is_name_mark : ℕ → Bool
 is_name_mark b = (b == byte ".") || (b == byte "@") || (b == byte "+") || (b == byte "-")
 
--- a byte that stands for itself in a name
 abbrev pub is_plain : ℕ → Bool
 is_plain b = is_ascii_alphanumeric b || (b == byte "_") || is_name_mark b || is_beyond_ascii b
 
@@ -31,7 +30,7 @@ begins_with_digit_or_mark (b ∷ bs) = is_ascii_digit b || is_name_mark b
 abbrev pub escaped_in_name : ℕ → Bytes
 escaped_in_name b = if is_plain b then b ∷ [] else byte "\\" ∷ b ∷ []
 
--- a backslash comes before each byte that isn't plain, and before the first byte of a name that could be read as something else
+-- a backslash before each byte that isn't plain, and one before a name that could be read as something else (its first byte is plain)
 unfoldable pub escaped_name : Bytes → Bytes
 escaped_name name = (if begins_with_digit_or_mark name || is_reserved name then byte "\\" ∷ [] else []) ++ flat_map escaped_in_name name
 

@@ -10,13 +10,13 @@ abbrev pub is_fill_att : Att → Bool
 is_fill_att att = bytes_eq att.name (codes "_FillValue")
 
 -- the attribute is one value of the type
-abbrev pub is_one_of_type : NcType → Att → Bool
-is_one_of_type ty att = (code_of att.ty == code_of ty) && (length att.vals == size_of ty)
+abbrev pub has_one_value_of : NcType → Att → Bool
+has_one_value_of ty att = (code_of att.ty == code_of ty) && (length att.vals == size_of ty)
 
 -- what an attribute gives to a variable of this type
 abbrev pub fill_of_att : NcType → Option Att → Option ℤ
 fill_of_att ty None = None
-fill_of_att ty (Some att) = if is_one_of_type ty att then Some (number_of ty att.vals) else None
+fill_of_att ty (Some att) = if has_one_value_of ty att then Some (number_of ty att.vals) else None
 
 -- the one that the first attribute named `_FillValue` gives
 abbrev pub own_fill : Var → Option ℤ
@@ -25,7 +25,7 @@ own_fill var = fill_of_att var.ty (find is_fill_att var.atts)
 unfoldable pub fill_value : Var → ℤ
 fill_value var = unwrap_or (own_fill var) (default_fill_of var.ty)
 
--- characters never print as `_`, and numbers of one byte only if the variable has a fill value of its own
+-- as in Unidata's ncdump: characters never print as `_`, and numbers of one byte only if the variable has a fill value of its own
 abbrev pub prints_fill : NcType → Bool → Bool
 prints_fill Char has_own = false
 prints_fill Byte has_own = has_own

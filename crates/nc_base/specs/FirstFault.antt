@@ -1,18 +1,17 @@
--- Definition. The first wrong field of a header, from the left: what is wrong with it, and the rest after it. After a field that
--- the file's end cuts short there is no rest. `InX` says how reading stops in X: at one of its fields, which come one after the other.
--- `XThen` says it of X and what follows it, which may depend on the value of X.
-use Rattle.std.specs.Prelude.{ℕ, zero, suc, ◌≡◌, ◌+◌, ◌*◌, ◌<◌, ◌==◌, ◌||◌, true, false, ◌⊎◌, List, [], ◌∷◌, ◌++◌, length, codes}
+-- Definition. The first wrong field of a header, from the left: its fault, and the rest after it (none if the file's end cuts the field
+-- short). `InX`: reading stops inside X. `XThen InNext`: it stops inside X, or after it, in `InNext x`, where x is the value of X.
+use Rattle.std.specs.Prelude.{ℕ, zero, suc, ◌≡◌, ◌≢◌, ◌+◌, ◌*◌, ◌<◌, true, false, ◌⊎◌, List, [], ◌∷◌, ◌++◌, length, codes}
 use Rattle.std.specs.Int.{Width, w32, byte_len}
-use Rattle.nc_base.specs.declared.{fault.FormatFault.FormatFault, header.Att.Att, header.Dim.Dim, header.Var.Var, nc_type.NcType.NcType, version.Version.Version}
+use Rattle.nc_base.specs.declared.{fault.FormatFault.FormatFault, header.Att.Att, header.Dim.Dim, header.NumRecs.NumRecs, header.Var.Var, nc_type.NcType.NcType, version.Version.Version}
 use Rattle.nc_base.specs.declared.fault.FormatFault.TheVariants.{NotNetcdf, UnknownVersion, HeaderTruncated, BadTag, BadCount, BadName, FloatingType, BadType, BadShape, TwoRecordDims, BadOffset, TooLarge}
 use Rattle.nc_base.specs.Bytes.{Bytes, padding_len}
 use Rattle.nc_base.specs.Types.{code_of, size_of}
 use Rattle.nc_base.specs.Versions.{version_byte, count_width, offset_width, count_limit, offset_limit, streaming_mark, has_type}
 use Rattle.nc_base.specs.Names.{IsName}
-use Rattle.nc_base.specs.Grammar.{IsDimid, ElementSpelling, dimension_tag, attribute_tag, variable_tag, SpellsNumber, SpellsMagic, SpellsName, SpellsType, SpellsCounted, SpellsList, SpellsDim, SpellsAtt, SpellsAtts, SpellsDimid, SpellsVar, SpellsNumRecs, IsWithinLimits}
+use Rattle.nc_base.specs.Grammar.{IsDimid, ElementSpelling, dimension_tag, attribute_tag, variable_tag, SpellsNumber, SpellsMagic, SpellsName, SpellsType, SpellsList, SpellsDim, SpellsAtt, SpellsAtts, SpellsDimid, SpellsShape, SpellsVar, SpellsNumRecs, IsWithinLimits}
 use Rattle.nc_base.specs.Sizes.{has_record_dim}
 
--- ---- fields one after the other (`EndsWithin` of two arguments, `Then` of three and `Requires` of three are `Stops`)
+-- ---- fields one after the other
 
 -- reading these bytes stops with this fault, and leaves this rest
 abbrev pub Stops : Type 1
@@ -23,34 +22,31 @@ abbrev pub Never : Stops
 Never bytes fault rest = ⊥
 
 -- n bytes: reading stops with this fault if the file has fewer
-pub data EndsWithin (cut : FormatFault) (n : ℕ) (bytes : Bytes) : FormatFault → Bytes → Type 0 where
-  ends_within : length bytes < n → EndsWithin cut n bytes cut []
+abbrev pub EndsWithin : FormatFault → ℕ → Stops
+EndsWithin cut n bytes fault rest = (length bytes < n) × (fault ≡ cut) × (rest ≡ [])
 
--- A part and what follows it: reading stops in the part, or the part is spelled, and reading stops in what follows.
-pub data Then {A : Type 0} (Spells : Bytes → A → Bytes → Type 0) (InPart : Stops) (InNext : A → Stops) (bytes : Bytes) (fault : FormatFault) (rest : Bytes) : Type 0 where
-  in_part : InPart bytes fault rest → Then Spells InPart InNext bytes fault rest
-  in_next : (x : A) (middle : Bytes) → Spells bytes x middle → InNext x middle fault rest → Then Spells InPart InNext bytes fault rest
+-- a part and what follows it: reading stops in the part (`InPart`), or the part is spelled (`Spells`) with a value x, and reading stops
+-- after it, in `InNext x`
+abbrev pub Then : {A : Type 0} → (Bytes → A → Bytes → Type 0) → Stops → (A → Stops) → Stops
+Then {A = A} Spells InPart InNext bytes fault rest =
+    InPart bytes fault rest ⊎ ((x : A) × (middle : Bytes) × Spells bytes x middle × InNext x middle fault rest)
 
--- After a field: if it breaks this rule, it is the wrong one, and these bytes are the rest. Otherwise reading stops in what follows.
-pub data Requires (Holds : Type 0) (wrong : FormatFault) (InNext : Stops) (bytes : Bytes) : FormatFault → Bytes → Type 0 where
-  breaks : ¬ Holds → Requires Holds wrong InNext bytes wrong bytes
-  keeps : (fault : FormatFault) (rest : Bytes) → Holds → InNext bytes fault rest → Requires Holds wrong InNext bytes fault rest
+-- a rule on the field before: it is broken, and these bytes, which come after the field, are the rest; or it holds, and reading stops in
+-- what follows
+abbrev pub Requires : Type 0 → FormatFault → Stops → Stops
+Requires Holds wrong InNext bytes fault rest = ((¬ Holds) × (fault ≡ wrong) × (rest ≡ bytes)) ⊎ (Holds × InNext bytes fault rest)
 
 -- ---- numbers, names and types
 
--- a number
 abbrev pub NumberThen : Width → (ℕ → Stops) → Stops
 NumberThen width InNext = Then (SpellsNumber width) (EndsWithin HeaderTruncated (byte_len width)) InNext
 
--- NON_NEG
 abbrev pub CountThen : Version → (ℕ → Stops) → Stops
 CountThen v InNext = NumberThen (count_width v) (λ n. Requires (n < count_limit v) BadCount (InNext n))
 
--- OFFSET
 abbrev pub InOffset : Version → Stops
 InOffset v = NumberThen (offset_width v) (λ n. Requires (n < offset_limit v) BadOffset Never)
 
--- n bytes
 pub record SpellsBytes (n : ℕ) (bytes content rest : Bytes) : Type 0 where
   pub count : length content ≡ n
   pub spelled : bytes ≡ content ++ rest
@@ -70,7 +66,7 @@ NameThen v InNext = Then (SpellsName v) (InName v) InNext
 -- (5 is the code of float, and 6 that of double)
 abbrev pub InType : Version → Stops
 InType v = NumberThen w32 (λ code.
-    Requires (((code == 5) || (code == 6)) ≡ false) FloatingType (
+    Requires ((code ≢ 5) × (code ≢ 6)) FloatingType (
     Requires ((ty : NcType) × (code ≡ code_of ty) × (has_type v ty ≡ true)) BadType Never))
 
 abbrev pub TypeThen : Version → (NcType → Stops) → Stops
@@ -78,12 +74,12 @@ TypeThen v InNext = Then (SpellsType v) (InType v) InNext
 
 -- ---- lists
 
--- reading an element stops, after those before it
+-- reading stops in an element; `before` are the elements read so far
 abbrev pub ElementStops : Type 0 → Type 1
 ElementStops A = List A → Stops
 
--- n elements, after those before them
-abbrev pub InEach : {A : Type 0} → ElementSpelling A → ElementStops A → ℕ → ElementStops A
+-- reading stops in one of the next n elements, which come after the elements `before`
+abbrev pub InEach : {A : Type 0} → ElementSpelling A → ElementStops A → ℕ → List A → Stops
 InEach Element InElement zero before = Never
 InEach Element InElement (suc n) before = Then (Element before) (InElement before) (λ x. InEach Element InElement n (before ++ x ∷ []))
 
@@ -92,9 +88,9 @@ InCounted v Element InElement = CountThen v (λ n. InEach Element InElement n []
 
 -- a list: its tag is 0 or its own, and after a tag of 0 its count is 0
 abbrev pub InList : {A : Type 0} → Version → ℕ → ElementSpelling A → ElementStops A → Stops
-InList v tag Element InElement = NumberThen w32 (λ found.
-    Requires ((found ≡ 0) ⊎ (found ≡ tag)) BadTag (
-    CountThen v (λ n. Requires (found ≡ 0 → n ≡ 0) BadCount (InEach Element InElement n []))))
+InList v tag Element InElement = NumberThen w32 (λ found_tag.
+    Requires ((found_tag ≡ 0) ⊎ (found_tag ≡ tag)) BadTag (
+    CountThen v (λ n. Requires (found_tag ≡ 0 → n ≡ 0) BadCount (InEach Element InElement n []))))
 
 -- ---- dimensions, attributes and variables
 
@@ -109,40 +105,55 @@ InAtt v before =
 abbrev pub InAtts : Version → Stops
 InAtts v = InList v attribute_tag (SpellsAtt v) (InAtt v)
 
+abbrev pub AttsThen : Version → (List Att → Stops) → Stops
+AttsThen v InNext = Then (SpellsAtts v) (InAtts v) InNext
+
 abbrev pub InDimid : Version → List Dim → ElementStops ℕ
 InDimid v dims before = NumberThen (count_width v) (λ id. Requires (IsDimid dims before id) BadShape Never)
 
--- If a variable is too large, its type is the wrong field. Its begin, which comes later, doesn't matter.
+abbrev pub ShapeThen : Version → List Dim → (List ℕ → Stops) → Stops
+ShapeThen v dims InNext = Then (SpellsShape v dims) (InCounted v (SpellsDimid v dims) (InDimid v dims)) InNext
+
+-- If a variable is too large, its type is the wrong field. (No limit depends on its begin.)
 abbrev pub InVar : Version → List Dim → ElementStops Var
 InVar v dims before =
     NameThen v (λ name.
-    Then (SpellsCounted v (SpellsDimid v dims)) (InCounted v (SpellsDimid v dims) (InDimid v dims)) (λ dimids.
-    Then (SpellsAtts v) (InAtts v) (λ atts.
+    ShapeThen v dims (λ dimids.
+    AttsThen v (λ atts.
     TypeThen v (λ ty.
     Requires (IsWithinLimits dims before (record { name = name; dimids = dimids; atts = atts; ty = ty; begin_at = 0 })) TooLarge (
     NumberThen (count_width v) (λ vsize. InOffset v))))))
 
 -- ---- the whole
 
+abbrev pub SpellsByte : Bytes → ℕ → Bytes → Type 0
+SpellsByte bytes b rest = bytes ≡ b ∷ rest
+
 -- the three bytes `CDF`, and the version byte
 abbrev pub InMagic : Stops
 InMagic =
     Then (SpellsBytes 3) (EndsWithin NotNetcdf 3) (λ word.
     Requires (word ≡ codes "CDF") NotNetcdf (
-    Then (λ bytes n rest. bytes ≡ n ∷ rest) (EndsWithin HeaderTruncated 1) (λ n.
+    Then SpellsByte (EndsWithin HeaderTruncated 1) (λ n.
     Requires ((v : Version) × (n ≡ version_byte v)) (UnknownVersion n) Never)))
 
 -- NON_NEG or STREAMING
 abbrev pub InNumRecs : Version → Stops
 InNumRecs v = NumberThen (count_width v) (λ n. Requires ((n < count_limit v) ⊎ (n ≡ streaming_mark v)) BadCount Never)
 
+abbrev pub NumRecsThen : Version → (NumRecs → Stops) → Stops
+NumRecsThen v InNext = Then (SpellsNumRecs v) (InNumRecs v) InNext
+
+abbrev pub DimsThen : Version → (List Dim → Stops) → Stops
+DimsThen v InNext = Then (SpellsList v dimension_tag (SpellsDim v)) (InList v dimension_tag (SpellsDim v) (InDim v)) InNext
+
 -- the first wrong field of a header has this fault, and this rest after it
 unfoldable pub StopsWith : Stops
 StopsWith =
     Then SpellsMagic InMagic (λ v.
-    Then (SpellsNumRecs v) (InNumRecs v) (λ numrecs.
-    Then (SpellsList v dimension_tag (SpellsDim v)) (InList v dimension_tag (SpellsDim v) (InDim v)) (λ dims.
-    Then (SpellsAtts v) (InAtts v) (λ gatts.
+    NumRecsThen v (λ numrecs.
+    DimsThen v (λ dims.
+    AttsThen v (λ gatts.
     InList v variable_tag (SpellsVar v dims) (InVar v dims)))))
 
 -- the same, with the offset at which the wrong field ends in place of the rest

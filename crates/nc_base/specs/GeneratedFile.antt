@@ -49,7 +49,7 @@ att_spelling v att =
 abbrev pub atts_spelling : Version → List Att → Bytes
 atts_spelling v atts = list_spelling v attribute_tag (att_spelling v) atts
 
--- vsize: the padded slab. In CDF-1 and CDF-2 it is 2^32 - 1 if the padded slab has 2^32 bytes or more.
+-- vsize: the bytes of the padded slab, or in CDF-1 and CDF-2 2^32 - 1, if there are 2^32 or more
 abbrev pub vsize_of : Version → ℕ → ℕ
 vsize_of Cdf5 padded = padded
 vsize_of v padded = if nat_lt padded (2 ^ 32) then padded else (2 ^ 32 - 1)
@@ -72,7 +72,7 @@ header_spelling h =
 
 -- ---- the values
 
--- n bytes of a variable's fill value
+-- n bytes of a variable's fill value (n is a multiple of its size)
 unfoldable pub fill_bytes : Var → ℕ → Bytes
 fill_bytes var n = concat (replicate (n / size_of var.ty) (bytes_of_number var.ty (fill_value var)))
 
@@ -83,9 +83,9 @@ padded_slab var slab = slab ++ fill_bytes var (padding_len (length slab))
 -- the padded slabs of the variables that aren't record variables, in header order
 abbrev pub blocks : List Dim → List Var → List Bytes → Bytes
 blocks dims (var ∷ vars) (array ∷ arrays) = (if is_record_var dims var then [] else padded_slab var array) ++ blocks dims vars arrays
-blocks dims vars arrays = []
+blocks dims _ _ = []
 
--- of the record variables: there is only one, and it is narrow; its slabs have no padding
+-- there is only one of these record variables, and it is narrow: its slabs have no padding
 abbrev pub is_sole_narrow : List Var → Bool
 is_sole_narrow (var ∷ []) = is_narrow var
 is_sole_narrow vars = false
@@ -95,10 +95,10 @@ slab_in dims var array r = take (slab_size dims var) (drop (r * slab_size dims v
 
 -- record r: a slab of each record variable, in header order
 abbrev pub record_of : Bool → List Dim → ℕ → List Var → List Bytes → Bytes
-record_of is_sole dims r (var ∷ vars) (array ∷ arrays) =
-    (if is_record_var dims var then (if is_sole then slab_in dims var array r else padded_slab var (slab_in dims var array r)) else [])
-    ++ record_of is_sole dims r vars arrays
-record_of is_sole dims r vars arrays = []
+record_of unpadded dims r (var ∷ vars) (array ∷ arrays) =
+    (if is_record_var dims var then (if unpadded then slab_in dims var array r else padded_slab var (slab_in dims var array r)) else [])
+    ++ record_of unpadded dims r vars arrays
+record_of unpadded dims r _ _ = []
 
 -- the number of records, which is known in a dataset
 abbrev pub known_records : NumRecs → ℕ
@@ -108,31 +108,30 @@ known_records Streaming = 0
 -- the blocks, and after them one record after the other
 unfoldable pub data_of : Header → List Bytes → Bytes
 data_of h arrays =
-    blocks h.dims h.vars arrays
-    ++ flat_map (λ r. record_of (is_sole_narrow (record_vars h.dims h.vars)) h.dims r h.vars arrays) (range_with_len 0 (known_records h.numrecs))
+    let unpadded = is_sole_narrow (record_vars h.dims h.vars) in
+    blocks h.dims h.vars arrays ++ flat_map (λ r. record_of unpadded h.dims r h.vars arrays) (range_with_len 0 (known_records h.numrecs))
 
 -- ---- the file
 
 abbrev pub fixed_vars : List Dim → List Var → List Var
 fixed_vars dims vars = filter (λ (var : Var). not (is_record_var dims var)) vars
 
--- A variable that isn't a record variable begins after the header and the padded slabs of such variables before it. A record variable
--- begins after the header, the padded slabs of all such variables, and those of the record variables before it. (No begin changes the
--- header's length.)
+-- A variable begins after the header (no begin changes its length). One that isn't a record variable comes after the padded slabs of those
+-- of its kind before it in the header; a record variable after those of all of these, and of the record variables before it.
 abbrev pub begin_after : Header → List Var → Var → ℕ
 begin_after h before var =
     length (header_spelling h)
     + (if is_record_var h.dims var then padded_total h.dims (fixed_vars h.dims h.vars) + padded_total h.dims (record_vars h.dims before)
     else padded_total h.dims (fixed_vars h.dims before))
 
-abbrev pub vars_after : Header → List Var → List Var → List Var
-vars_after h before [] = []
-vars_after h before (var ∷ vars) = record var { begin_at = begin_after h before var } ∷ vars_after h (before ++ var ∷ []) vars
+abbrev pub vars_with_begins : Header → List Var → List Var → List Var
+vars_with_begins h before [] = []
+vars_with_begins h before (var ∷ vars) = record var { begin_at = begin_after h before var } ∷ vars_with_begins h (before ++ var ∷ []) vars
 
 unfoldable pub with_begins : Header → Header
-with_begins h = record h { vars = vars_after h [] h.vars }
+with_begins h = record h { vars = vars_with_begins h [] h.vars }
 
--- each begin fits its field
+-- each begin that `with_begins` sets fits its field (in CDF-2 slabs may be larger than the User's Guide allows)
 abbrev pub fits : Header → Bool
 fits h = list_all (λ (var : Var). nat_lt var.begin_at (offset_limit h.version)) (with_begins h).vars
 

@@ -1,5 +1,6 @@
 -- Definition. The grammar of a header, as the NetCDF Classic Format Specification has it: for each of its lines a relation between
--- bytes, the value at their start, and the rest after it. Padding and vsize may be any.
+-- bytes, the value at their start, and the rest after it. A field such as `after_name : Bytes` says that there are such bytes. Padding and
+-- vsize may be any.
 use Rattle.std.specs.Prelude.{ℕ, ◌≡◌, ◌*◌, ◌^◌, ◌<◌, ◌≤◌, true, false, IsTrue, List, [], ◌∷◌, ◌++◌, length, codes}
 use Rattle.std.specs.Int.{Width, w32, to_be_bytes, byte_len}
 use Rattle.nc_base.specs.declared.{header.Att.Att, header.Dim.Dim, header.Var.Var, header.Header.Header, header.NumRecs.NumRecs, nc_type.NcType.NcType, version.Version.Version}
@@ -22,7 +23,6 @@ attribute_tag = 12
 
 -- ---- numbers
 
--- a number of this width
 pub record SpellsNumber (width : Width) (bytes : Bytes) (n : ℕ) (rest : Bytes) : Type 0 where
   pub fits : n < 256 ^ byte_len width
   pub spelled : bytes ≡ to_be_bytes width n ++ rest
@@ -59,10 +59,12 @@ pub record SpellsType (v : Version) (bytes : Bytes) (ty : NcType) (rest : Bytes)
 
 -- ---- lists
 
--- the spelling of an element: the elements before it, by which a dimension or a variable is judged, the bytes, the element, and the rest
+-- A relation such as `SpellsDim v` below. `Element before bytes x rest`: the bytes begin with the element x and go on with the rest;
+-- `before` are the elements of the list before it, by which a dimension, an id or a variable is judged.
 abbrev pub ElementSpelling : Type 0 → Type 1
 ElementSpelling A = List A → Bytes → A → Bytes → Type 0
 
+-- these elements, one after the other; `before` are those before them
 abbrev pub SpellsEach : {A : Type 0} → ElementSpelling A → List A → Bytes → List A → Bytes → Type 0
 SpellsEach Element before bytes [] rest = bytes ≡ rest
 SpellsEach Element before bytes (x ∷ xs) rest =
@@ -74,7 +76,7 @@ pub record SpellsCounted {A : Type 0} (v : Version) (Element : ElementSpelling A
   pub count : SpellsCount v bytes (length xs) after_count
   pub each : SpellsEach Element [] after_count xs rest
 
--- a list = ABSENT | TAG nelems [element ...]
+-- a list = ABSENT | TAG nelems [element ...] (an empty one has either form)
 pub data SpellsList {A : Type 0} (v : Version) (tag : ℕ) (Element : ElementSpelling A) (bytes : Bytes) (xs : List A) (rest : Bytes) : Type 0 where
   absent : (after_tag : Bytes)
       → SpellsNumber w32 bytes 0 after_tag → SpellsCount v after_tag 0 rest → xs ≡ []
@@ -114,15 +116,18 @@ pub record IsDimid (dims : List Dim) (before : List ℕ) (id : ℕ) : Type 0 whe
   pub known : id < length dims
   pub record_first : IsTrue (is_record_dim dims id) → before ≡ []
 
--- dimid
 pub record SpellsDimid (v : Version) (dims : List Dim) (before : List ℕ) (bytes : Bytes) (id : ℕ) (rest : Bytes) : Type 0 where
   pub number : SpellsNumber (count_width v) bytes id rest
   pub known : IsDimid dims before id
 
--- this project's limits
+-- this project's limits: of the slab, and of the padded slabs in a record up to this variable
 pub record IsWithinLimits (dims : List Dim) (before : List Var) (var : Var) : Type 0 where
   pub slab : slab_size dims var ≤ slab_limit
   pub record_bytes : padded_total dims (record_vars dims (before ++ var ∷ [])) ≤ record_limit
+
+-- nelems [dimid ...]
+abbrev pub SpellsShape : Version → List Dim → Bytes → List ℕ → Bytes → Type 0
+SpellsShape v dims bytes dimids rest = SpellsCounted v (SpellsDimid v dims) bytes dimids rest
 
 -- var = name nelems [dimid ...] vatt_list nc_type vsize begin
 pub record SpellsVar (v : Version) (dims : List Dim) (before : List Var) (bytes : Bytes) (var : Var) (rest : Bytes) : Type 0 where
@@ -133,7 +138,7 @@ pub record SpellsVar (v : Version) (dims : List Dim) (before : List Var) (bytes 
   pub after_vsize : Bytes
   pub vsize : ℕ
   pub named : SpellsName v bytes var.name after_name
-  pub shape : SpellsCounted v (SpellsDimid v dims) after_name var.dimids after_shape
+  pub shape : SpellsShape v dims after_name var.dimids after_shape
   pub atts : SpellsAtts v after_shape var.atts after_atts
   pub typed : SpellsType v after_atts var.ty after_type
   pub small : IsWithinLimits dims before var

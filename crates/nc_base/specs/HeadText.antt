@@ -49,7 +49,7 @@ numbers_text ty vals = joined (map (λ (n : ℤ). signed_decimal n ++ number_suf
 abbrev pub without_trailing_nuls : Bytes → Bytes
 without_trailing_nuls bytes = take (length bytes - suffix_len (λ b. b == 0) bytes) bytes
 
--- broken after each line feed that isn't the last byte
+-- broken after the `\n` of each line feed that isn't the last byte
 abbrev pub broken_text : Bytes → Bytes
 broken_text [] = []
 broken_text (b ∷ []) = escaped_in_string b
@@ -64,14 +64,14 @@ att_text ty vals = numbers_text ty vals
 
 -- ---- lines
 
--- the owner's escaped name: a variable's, or nothing for the whole dataset
+-- escaped_owner: the escaped name of the variable, or nothing for the whole dataset
 unfoldable pub att_line : Bytes → Att → Bytes
 att_line escaped_owner att = concat_parts (codes "\t\t" ∷ escaped_owner ∷ codes ":" ∷ escaped_name att.name ∷ codes " = " ∷ att_text att.ty att.vals ∷ codes " ;\n" ∷ [])
 
 unfoldable pub att_lines : Bytes → List Att → Bytes
 att_lines escaped_owner atts = concat_parts (map (att_line escaped_owner) atts)
 
--- the length and the end of the line; the record dimension has the number of records in a comment
+-- the length of a dimension, and the end of its line; that of the record dimension ends with the number of records in a comment
 unfoldable pub dim_len_text : ℕ → ℕ → Bytes
 dim_len_text records len =
     if len == 0 then concat_parts (unlimited_word ∷ decimal records ∷ currently_word ∷ [])

@@ -8,10 +8,11 @@ use Rattle.nc_base.specs.Bytes.{Bytes}
 abbrev pub is_beyond_ascii : ℕ → Bool
 is_beyond_ascii b = nat_le 128 b
 
+-- ID1 of the specification
 abbrev pub may_begin_name : ℕ → Bool
 may_begin_name b = is_ascii_alphabetic b || is_ascii_digit b || (b == byte "_") || is_beyond_ascii b
 
--- any printing ASCII character but `/`, or a byte of a character beyond ASCII
+-- IDN of the specification: any printing ASCII character but `/`, or a byte of a character beyond ASCII
 abbrev pub may_follow_in_name : ℕ → Bool
 may_follow_in_name b = (nat_le 32 b && nat_le b 126 && not (b == byte "/")) || is_beyond_ascii b
 

@@ -1,9 +1,14 @@
 -- Law. What holds of numbers and their bytes.
-use Rattle.std.specs.Prelude.{◌≡◌, ℤ, length}
+use Rattle.std.specs.Prelude.{◌≡◌, ℤ, length, MatchBool, FitsSigned}
+use Rattle.std.specs.Int.{FitsUnsigned}
 use Rattle.nc_base.specs.declared.nc_type.NcType.{NcType}
 use Rattle.nc_base.specs.Bytes.{Bytes, AreBytes}
-use Rattle.nc_base.specs.Types.{size_of}
-use Rattle.nc_base.specs.Numbers.{number_of, bytes_of_number, IsInRange}
+use Rattle.nc_base.specs.Types.{width_of, size_of, is_signed}
+use Rattle.nc_base.specs.Numbers.{number_of, bytes_of_number}
+
+-- the type has the number
+abbrev pub IsInRange : NcType → ℤ → Type 0
+IsInRange ty number = MatchBool (is_signed ty) (FitsSigned (width_of ty) number) (FitsUnsigned (width_of ty) number)
 
 -- a number in the type's range is read back from its bytes
 abbrev pub NumbersReadBack : Type 0

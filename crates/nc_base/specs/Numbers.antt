@@ -1,6 +1,6 @@
 -- Definition. Values as big-endian numbers, the signed ones in two's complement.
-use Rattle.std.specs.Prelude.{ℕ, zero, suc, ◌/◌, ℤ, pos, List, [], ◌∷◌, length, take, drop, if◌then◌else◌, MatchBool, FitsSigned}
-use Rattle.std.specs.Int.{FitsUnsigned, to_be_bytes, from_be_bytes, cast_signed, cast_unsigned}
+use Rattle.std.specs.Prelude.{ℕ, zero, suc, ◌/◌, ℤ, pos, List, [], ◌∷◌, length, take, drop, if◌then◌else◌}
+use Rattle.std.specs.Int.{to_be_bytes, from_be_bytes, cast_signed, cast_unsigned}
 use Rattle.nc_base.specs.Bytes.{Bytes}
 use Rattle.nc_base.specs.declared.nc_type.NcType.{NcType}
 use Rattle.nc_base.specs.Types.{width_of, size_of, is_signed}
@@ -13,10 +13,6 @@ number_of ty bytes =
 
 abbrev pub bytes_of_number : NcType → ℤ → Bytes
 bytes_of_number ty number = to_be_bytes (width_of ty) (cast_unsigned (width_of ty) number)
-
--- the type has the number
-abbrev pub IsInRange : NcType → ℤ → Type 0
-IsInRange ty number = MatchBool (is_signed ty) (FitsSigned (width_of ty) number) (FitsUnsigned (width_of ty) number)
 
 -- the first n numbers in these bytes, one after the other
 abbrev pub numbers_from : NcType → ℕ → Bytes → List ℤ

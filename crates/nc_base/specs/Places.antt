@@ -13,7 +13,7 @@ use Rattle.nc_base.specs.Sizes.{is_record_var, slab_lens, product, record_size}
 abbrev pub lens_over : List Dim → Var → ℕ → List ℕ
 lens_over dims var n = if is_record_var dims var then n ∷ slab_lens dims var.dimids else slab_lens dims var.dimids
 
--- all vectors of indices below these lengths, in row-major order: the last index varies fastest
+-- all vectors of indices below these lengths (one empty vector, if there are none), in row-major order: the last index varies fastest
 abbrev pub vectors_below : List ℕ → List (List ℕ)
 vectors_below [] = [] ∷ []
 vectors_below (n ∷ ns) = flat_map (λ i. map (λ index. i ∷ index) (vectors_below ns)) (range_with_len 0 n)
@@ -31,10 +31,10 @@ slab_strides size (n ∷ ns) = size * product ns ∷ slab_strides size ns
 -- the stride of the record dimension is the record size
 abbrev pub strides : Header → Var → List ℕ
 strides h var =
-    if is_record_var h.dims var
-    then record_size h ∷ slab_strides (size_of var.ty) (slab_lens h.dims var.dimids)
-    else slab_strides (size_of var.ty) (slab_lens h.dims var.dimids)
+    let of_slab = slab_strides (size_of var.ty) (slab_lens h.dims var.dimids) in
+    if is_record_var h.dims var then record_size h ∷ of_slab else of_slab
 
+-- how far these indices lead along these strides
 abbrev pub distance : List ℕ → List ℕ → ℕ
 distance [] strides = 0
 distance (i ∷ index) [] = 0

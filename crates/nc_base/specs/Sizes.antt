@@ -17,17 +17,17 @@ is_record_dim dims id = nat_lt id (length dims) && (dim_len dims id == 0)
 abbrev pub has_record_dim : List Dim → Bool
 has_record_dim dims = list_any (λ (dim : Dim). dim.len == 0) dims
 
--- a shape's first dimension is the record dimension
-abbrev pub has_records : List Dim → List ℕ → Bool
-has_records dims [] = false
-has_records dims (id ∷ ids) = is_record_dim dims id
+-- the shape of a record variable: the record dimension comes first
+abbrev pub is_record_shape : List Dim → List ℕ → Bool
+is_record_shape dims [] = false
+is_record_shape dims (id ∷ ids) = is_record_dim dims id
 
 abbrev pub is_record_var : List Dim → Var → Bool
-is_record_var dims var = has_records dims var.dimids
+is_record_var dims var = is_record_shape dims var.dimids
 
--- the lengths of all dimensions but the record dimension
+-- the lengths of the dimensions, but for a record dimension in front
 abbrev pub slab_lens : List Dim → List ℕ → List ℕ
-slab_lens dims ids = map (dim_len dims) (if has_records dims ids then drop 1 ids else ids)
+slab_lens dims ids = map (dim_len dims) (if is_record_shape dims ids then drop 1 ids else ids)
 
 abbrev pub product : List ℕ → ℕ
 product [] = 1
@@ -41,7 +41,6 @@ slab_count dims var = product (slab_lens dims var.dimids)
 abbrev pub value_count : List Dim → Var → ℕ → ℕ
 value_count dims var n = slab_count dims var * (if is_record_var dims var then n else 1)
 
--- the bytes of a slab
 abbrev pub slab_size : List Dim → Var → ℕ
 slab_size dims var = slab_count dims var * size_of var.ty
 
@@ -52,14 +51,14 @@ padded_size dims var = slab_size dims var + padding_len (slab_size dims var)
 abbrev pub record_vars : List Dim → List Var → List Var
 record_vars dims vars = filter (is_record_var dims) vars
 
--- a value takes less than four bytes
+-- a value has less than four bytes
 abbrev pub is_narrow : Var → Bool
 is_narrow var = nat_lt (size_of var.ty) 4
 
 abbrev pub padded_total : List Dim → List Var → ℕ
 padded_total dims vars = sum (map (padded_size dims) vars)
 
--- the bytes of a record of these variables: a sole variable has no padding if it is narrow
+-- the bytes of a record of these variables: their padded slabs; but the slab of a sole variable has no padding if it is narrow
 abbrev pub record_size_of : List Dim → List Var → ℕ
 record_size_of dims (var ∷ []) = if is_narrow var then slab_size dims var else padded_size dims var
 record_size_of dims vars = padded_total dims vars
@@ -68,11 +67,10 @@ record_size_of dims vars = padded_total dims vars
 abbrev pub record_size : Header → ℕ
 record_size h = record_size_of h.dims (record_vars h.dims h.vars)
 
--- this project's limits, in bytes
+-- this project's limits, in bytes: of a slab, of all values of a variable of a dataset, and of a record
 abbrev pub slab_limit : ℕ
 slab_limit = 2 ^ 48
 
--- of all values of one variable of a dataset
 abbrev pub array_limit : ℕ
 array_limit = 2 ^ 48
 
@@ -83,7 +81,7 @@ abbrev pub least_begin : Var → List Var → ℕ
 least_begin var [] = var.begin_at
 least_begin var (next ∷ others) = min var.begin_at (least_begin next others)
 
--- how many whole records of this size lie from the least begin of these variables to the end of the file; none if it ends before that
+-- the whole records of this size, which isn't 0, from the least begin of these variables to the end of the file
 abbrev pub records_between : ℕ → List Var → ℕ → ℕ
 records_between size [] file_len = 0
 records_between size (var ∷ vars) file_len = (file_len - least_begin var vars) / size

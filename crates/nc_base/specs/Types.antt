@@ -42,6 +42,7 @@ is_signed Int = true
 is_signed Int64 = true
 is_signed ty = false
 
+-- NC_FILL_BYTE, NC_FILL_CHAR and so on
 abbrev pub default_fill_of : NcType → ℤ
 default_fill_of Byte = neg_ℤ (pos 127)
 default_fill_of Char = pos 0
@@ -53,7 +54,6 @@ default_fill_of Uint = pos 4294967295
 default_fill_of Int64 = neg_ℤ (pos 9223372036854775806)
 default_fill_of Uint64 = pos 18446744073709551614
 
--- the word of a type in CDL
 abbrev pub type_word : NcType → Bytes
 type_word Byte = codes "byte"
 type_word Char = codes "char"
@@ -65,7 +65,7 @@ type_word Uint = codes "uint"
 type_word Int64 = codes "int64"
 type_word Uint64 = codes "uint64"
 
--- of a number in an attribute; characters are written in strings, and have none
+-- the suffix of a number in an attribute; characters are written in strings, and have none
 abbrev pub number_suffix : NcType → Bytes
 number_suffix Byte = codes "b"
 number_suffix Char = []

@@ -20,7 +20,7 @@ pub record Look : Type 0 where
   pub in_rows : Bool
   -- how many values a row has
   pub row : ℕ
-  -- how many values it has (for contracts: no text depends on it)
+  -- how many values the variable has (for contracts)
   pub total : ℕ
   pub fill : ℤ
   -- the fill value prints as `_`
@@ -34,12 +34,12 @@ abbrev pub is_char : NcType → Bool
 is_char Char = true
 is_char ty = false
 
--- at rank 0 and 1 there is one row
+-- the values of a row: all (`total`) at rank 0 and 1, otherwise as many as the last dimension is long
 abbrev pub row_len : List Dim → List ℕ → ℕ → ℕ
 row_len dims dimids total =
     if nat_lt (length dimids) 2 then total else dim_len dims (slice_index dimids (length dimids - 1))
 
--- the fill value is NUL, and the variable isn't a record variable of rank 1
+-- the fill value is NUL, and the variable isn't a record variable of rank 1 (whose NULs say how many records there are)
 abbrev pub is_trimmed : List Dim → Var → Bool
 is_trimmed dims var = int_eq (fill_value var) (pos 0) && not (is_record_var dims var && (length var.dimids == 1))
 
@@ -75,19 +75,23 @@ number_lead look i =
     if begins_row look i then (if look.in_rows then (if i == 0 then codes "\n  " else codes ",\n  ") else codes " ")
     else codes ", "
 
--- A new line between the text through the lead and value i, if the value, of len bytes, and two bytes more would pass the width. No line
--- is broken before a row's first number.
+-- The break between the text so far, with the lead of value i, and the len bytes of value i: there is one if these and two bytes more
+-- (`, ` or ` ;`) would pass the width, but never before a row's first number.
 abbrev pub line_break : Look → Bytes → ℕ → ℕ → Bytes
-line_break look before i len =
-    if not (begins_row look i) && nat_lt look.width (column before + len + 2) then codes "\n    " else []
+line_break look with_lead i len =
+    if not (begins_row look i) && nat_lt look.width (column with_lead + len + 2) then codes "\n    " else []
 
--- value i after this text, with what comes before it
+-- value i, after the text so far, with what comes before it
 unfoldable pub number_piece : Look → Bytes → ℕ → ℤ → Bytes
 number_piece look before i value =
-    (number_lead look i ++ line_break look (before ++ number_lead look i) i (length (number_text look value)))
-    ++ number_text look value
+    let lead = number_lead look i in
+    let text = number_text look value in
+    (lead ++ line_break look (before ++ lead) i (length text)) ++ text
 
 -- ---- characters
+
+-- In a trimmed row a NUL is held back. The next other character of the row has the text of the held NULs and its own: of a, NUL, NUL, b, NUL
+-- the pieces are `a`, nothing, nothing, `\000\000b` and nothing. (No character's value is negative.)
 
 -- what comes before value i, its row's first
 abbrev pub char_lead : Look → ℕ → Bytes
@@ -96,15 +100,15 @@ char_lead look i = if look.in_rows then (if i == 0 then codes "\n  \"" else code
 abbrev pub is_nul : ℤ → Bool
 is_nul value = unsigned_abs value == 0
 
--- the values so far that are in the same row as the next one
+-- those of the values so far that are in the row of the next one
 abbrev pub row_so_far : Look → List ℤ → List ℤ
 row_so_far look values = drop (length values - length values % look.row) values
 
--- how many NULs before the next value, in its row, aren't printed yet
+-- how many NULs are held back before the next value
 abbrev pub held : Look → List ℤ → ℕ
 held look values = if look.trimmed then suffix_len is_nul (row_so_far look values) else 0
 
--- if rows are trimmed, a NUL is printed with the next other character of its row
+-- a character, with the NULs held before it
 abbrev pub char_text : Look → ℕ → ℤ → Bytes
 char_text look nuls value =
     if look.trimmed && is_nul value then [] else escaped_text (replicate nuls 0 ++ unsigned_abs value ∷ [])
@@ -116,7 +120,7 @@ char_piece look values value =
 
 -- ---- values
 
--- a value after this text and these values, with what comes before it
+-- a value, with what comes before it: a number after the text so far (`before`), a character after the values so far
 unfoldable pub piece : Look → Bytes → List ℤ → ℤ → Bytes
 piece look before values value =
     if is_char look.ty then char_piece look values value else number_piece look before (length values) value
@@ -125,10 +129,9 @@ piece look before values value =
 unfoldable pub pieces : Look → Bytes → List ℤ → List ℤ → Bytes
 pieces look before values [] = []
 pieces look before values (value ∷ others) =
-    piece look before values value
-    ++ pieces look (before ++ piece look before values value) (values ++ value ∷ []) others
+    let next = piece look before values value in
+    next ++ pieces look (before ++ next) (values ++ value ∷ []) others
 
--- what comes before a variable's values
 unfoldable pub variable_opening : Look → Bytes
 variable_opening look = concat_parts (codes "\n " ∷ escaped_name look.name ∷ codes " =" ∷ [])
 

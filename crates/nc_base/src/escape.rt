@@ -53,8 +53,8 @@ pub enum Escape {
 impl Quoting {
     ghost use Rattle.nc_base.specs.code.Quoted.{escaped_in, stands_for_itself, written};
 
-    /// Returns true if the byte needs no escape here. As the first byte of a name it may need one nonetheless
-    /// ([`begins_with_digit_or_mark`]).
+    /// Returns true if the byte needs no escape in a name or in a string, whichever this is. As the first byte of a name it may need one
+    /// nonetheless ([`begins_with_digit_or_mark`], [`is_reserved`]).
     pub fn is_plain(self, b: u8) -> bool
         ensures { result ≡ stands_for_itself self b }
     {
@@ -76,7 +76,7 @@ impl Quoting {
     }
 }
 
-/// Returns how a byte is written in a name: as it is if it stands for itself, otherwise after a backslash.
+/// Returns how a byte is written in a name: as it is if [`is_plain_in_name`] is true of it, otherwise after a backslash.
 fn escape_in_name(b: u8) -> Escape
     ensures { written result b ≡ escaped_in_name b }
 {
@@ -87,8 +87,8 @@ fn escape_in_name(b: u8) -> Escape
     }
 }
 
-/// Returns how a byte is written in a string: a quote or a backslash after a backslash, a control character as a backslash with
-/// a letter or three octal digits, and any other byte as it is.
+/// Returns how a byte is written in a string. A quote (`"` or `'`) or a backslash gets a backslash before it. A control character becomes a
+/// backslash and a letter if its code is 8 to 13, otherwise a backslash and three octal digits. Any other byte is written as it is.
 fn escape_in_string(b: u8) -> Escape
     ensures { written result b ≡ escaped_in_string b }
 {
@@ -105,14 +105,15 @@ fn escape_in_string(b: u8) -> Escape
     }
 }
 
-/// Returns true if the byte stands for itself in a name.
+/// Returns true if the byte stands for itself in a name, at least after the name's first byte: if it is a letter, a digit, `_`, `.`, `@`,
+/// `+`, `-`, or part of a character beyond ASCII.
 fn is_plain_in_name(b: u8) -> bool
     ensures { result ≡ is_plain b }
 {
     b.is_ascii_alphanumeric() || b == b'_' || is_name_mark(b) || b >= 0x80
 }
 
-/// Returns true if the byte stands for itself in a string.
+/// Returns true if the byte stands for itself in a string: if it is neither a control character nor `"`, `'` or a backslash.
 fn is_plain_in_string(b: u8) -> bool
     ensures { result ≡ is_literal b }
 {

@@ -1,15 +1,15 @@
 //! The fill value of a variable.
 
 ghost use Rattle.std.specs.Prelude.{◌≡◌, find, is_some, option_map};
-ghost use Rattle.nc_base.specs.Fill.{fill_value, prints_fill, is_fill_att, is_one_of_type, own_fill};
-ghost use Rattle.nc_base.specs.Numbers.{IsInRange};
+ghost use Rattle.nc_base.specs.Fill.{fill_value, prints_fill, is_fill_att, has_one_value_of, own_fill};
+ghost use Rattle.nc_base.specs.NumberLaws.{IsInRange};
 
 use crate::header::{Att, Var};
 use crate::nc_type::NcType;
 use crate::number::number_of;
 
-/// Returns the fill value of a variable, as a number. If the variable's first attribute named `_FillValue` has exactly one value, and of
-/// the variable's type, the result is that value (attribute conventions of the NetCDF User's Guide). Otherwise the result is the default
+/// Returns the fill value of a variable, as a number. If the variable's first attribute named `_FillValue` has the variable's type and
+/// exactly one value, the result is that value (attribute conventions of the NetCDF User's Guide). Otherwise the result is the default
 /// fill value of the type (`NC_FILL_BYTE` and its like in `netcdf.h`).
 #[tactic(auto, unfolding(crate::specs::Fill::fill_value))]
 pub fn fill_of(var: &Var) -> i128
@@ -17,7 +17,7 @@ pub fn fill_of(var: &Var) -> i128
     ensures in_range { IsInRange var.now.ty result }
 {
     match fill_att(var.atts.as_slice()) {
-        Some(att) if is_one_of_type(var.ty, att) => number_of(var.ty, att.vals.as_slice()),
+        Some(att) if has_one_value_of(var.ty, att) => number_of(var.ty, att.vals.as_slice()),
         _ => var.ty.default_fill(),
     }
 }
@@ -35,13 +35,13 @@ pub fn prints_fill(var: &Var) -> bool
     }
 }
 
-/// Returns true if the variable has a fill value of its own: if its first attribute named `_FillValue` has exactly one value, and of the
-/// variable's type.
+/// Returns true if the variable has a fill value of its own: if its first attribute named `_FillValue` has the variable's type and exactly
+/// one value.
 fn has_own_fill(var: &Var) -> bool
     ensures { result ≡ is_some (own_fill var.now) }
 {
     match fill_att(var.atts.as_slice()) {
-        Some(att) => is_one_of_type(var.ty, att),
+        Some(att) => has_one_value_of(var.ty, att),
         None => false,
     }
 }
@@ -60,9 +60,9 @@ fn is_fill_att(att: &Att) -> bool
     att.name.as_slice() == b"_FillValue".as_slice()
 }
 
-/// Returns true if the attribute has exactly one value, and of this type.
-fn is_one_of_type(ty: NcType, att: &Att) -> bool
-    ensures { result ≡ is_one_of_type ty att.now }
+/// Returns true if the attribute has this type and exactly one value.
+fn has_one_value_of(ty: NcType, att: &Att) -> bool
+    ensures { result ≡ has_one_value_of ty att.now }
 {
     att.ty.code() == ty.code() && att.vals.len() as u64 == ty.size()
 }

@@ -2,10 +2,10 @@
 
 ghost use Rattle.nc_base.specs.NumberLaws.{NumbersReadBack, BytesReadBack, NumbersAreInRange};
 
-/// If a number is in the range of a type, its big-endian bytes are read as this number.
+/// States three laws, and does nothing. `numbers`: if a number is in the range of a type, its big-endian bytes are read as this number.
 ///
-/// If there are as many bytes as the size of a type, they are read as a number in the range of the type, and the bytes of this number are
-/// the same bytes.
+/// `in_range` and `bytes`: if there are as many bytes as the size of a type, they are read as a number in the range of the type, and the
+/// bytes of this number are the same bytes.
 pub fn numbers_read_back()
     ensures numbers { NumbersReadBack }
     ensures bytes { BytesReadBack }

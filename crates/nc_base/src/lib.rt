@@ -45,14 +45,14 @@ pub use fault::FormatFault;
 pub use fill::{fill_of, prints_fill};
 pub use header::{Att, Dim, Header, NumRecs, Var};
 pub use listed_array::{ListedArray, Run};
-pub use name::check_name;
+pub use name::is_valid_name;
 pub use named::Named;
 pub use nc_type::NcType;
 pub use number::number_of;
 pub use path::stem;
 pub use sequence::Sequence;
 pub use sizes::{
-    RECORD_LIMIT, RecordLayout, dim_len, extent_end, has_records, is_record_dim, is_record_var,
+    RECORD_LIMIT, RecordLayout, dim_len, extent_end, is_record_dim, is_record_shape, is_record_var,
     padding_len, rec_size, record_layout, records, slab_bytes, slab_of, sound_rec_size,
     value_count,
 };

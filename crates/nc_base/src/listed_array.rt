@@ -8,8 +8,8 @@ use std::marker::Model;
 
 /// The bytes of the values that a text lists for a variable, big-endian and one value after the other.
 ///
-/// A row of values may lack bytes at its end. Each missing byte is a fill byte, and usually isn't stored: a row takes the memory of its
-/// listed bytes, and four bytes more. Contracts see the bytes with each row filled up.
+/// A row of values, such as those that one string lists, may lack bytes at its end. Each missing byte is a fill byte, and usually isn't
+/// stored: a row takes the memory of its listed bytes, and four bytes more. Contracts see the bytes with each row filled up.
 #[derive(Drop)]
 pub struct ListedArray {
     /// The stored bytes: all bytes without those that the rows of `row_ends` lack.
@@ -44,7 +44,7 @@ impl Model for ListedArray {
 }
 
 impl ListedArray {
-    /// Creates an array without bytes. Does not allocate.
+    /// Creates an array without bytes. It takes no memory from `alloc` before bytes are appended.
     #[tactic(auto, unfolding(crate::specs::code::ListedRows::filled_rows))]
     pub fn new(alloc: Global) -> ListedArray
         ensures { result ≡ [] }
@@ -58,11 +58,11 @@ impl ListedArray {
         }
     }
 
-    /// Appends the bytes.
+    /// Appends `bytes`. To append a row that may lack bytes, append those that it has, and then call [`end_row`](ListedArray::end_row).
     ///
     /// # Errors
     ///
-    /// An allocation failed.
+    /// An allocation failed. The array stays as it was.
     #[inline(always)]
     #[tactic(auto, using(crate::proofs::FilledRows::filled_append))]
     pub fn add(&mut self, bytes: &[u8]) -> Result<(), AllocError>
@@ -76,7 +76,7 @@ impl ListedArray {
     ///
     /// # Errors
     ///
-    /// An allocation failed.
+    /// An allocation failed. The array stays as it was.
     #[tactic(auto, using(crate::proofs::FilledRows::filled_append))]
     pub fn add_byte(&mut self, byte: u8) -> Result<(), AllocError>
         ensures { OnOk result (self.new ≡ self.old ++ byte ∷ []) }
@@ -85,15 +85,15 @@ impl ListedArray {
         Ok(())
     }
 
-    /// Ends a row that lacks `lacking` bytes at its end, each of them `fill`: these bytes are appended.
+    /// Ends a row: appends the bytes that it lacks, which are `lacking` copies of the byte `fill`.
     ///
-    /// They are stored only if the row, filled up, differs from the rows before in its length or its fill byte, if its end among the stored
-    /// bytes is past `u32::MAX`, or if its length is past `u64::MAX`. The row begins at the end of the last row whose missing bytes weren't
-    /// stored.
+    /// The row is kept short, which means that these bytes aren't stored, if three things hold: its full length and its fill byte are those
+    /// of all rows kept short before, its end among the stored bytes fits into a `u32`, and its full length fits into a `u64`. Otherwise
+    /// these bytes are stored. The row begins where the last row kept short ends, or at the start if there is none.
     ///
     /// # Errors
     ///
-    /// An allocation failed.
+    /// An allocation failed. The array stays as it was.
     #[tactic(auto, using(crate::proofs::FilledRows::filled_append, crate::proofs::FilledRows::filled_end, crate::proofs::FilledRows::ends_end))]
     pub fn end_row(&mut self, lacking: u64, fill: u8) -> Result<(), AllocError>
         ensures { OnOk result (self.new ≡ self.old ++ replicate lacking fill) }
@@ -103,7 +103,7 @@ impl ListedArray {
         let is_like_others = self.row_ends.is_empty()
             || (row_len == self.row_len as u128 && fill == self.fill);
         if !is_like_others || end > u32::MAX as usize || row_len > u64::MAX as u128 {
-            return fill_up(&mut self.bytes, lacking, fill);
+            return append_copies(&mut self.bytes, lacking, fill);
         }
         self.row_ends.push(end as u32)?;
         self.last_row_end = end;
@@ -121,20 +121,20 @@ impl ListedArray {
         in_rows + (self.bytes.len() - self.last_row_end) as u128
     }
 
-    /// Returns a run that begins at the offset `at` into the bytes with each row filled up. The run is empty if and only if `at` is at
-    /// their end or after it.
+    /// Returns a run of the bytes that begins at the offset `at`. Offsets count each row as filled up. A caller that needs more bytes asks
+    /// again at the run's end. The run is empty if and only if `at` is at the end of the bytes or after it.
     pub fn run_at(&self, at: u128) -> Run<'_>
         ensures { StandAt self.now at result.bytes.now result.filling result.fill }
     {
-        match self.full_bytes() {
-            Some(bytes) => full_run(bytes, at),
+        match self.bytes_if_all_stored() {
+            Some(bytes) => rest_of_bytes(bytes, at),
             None => self.run_of_rows(at),
         }
     }
 
     /// Returns the stored bytes if they are all of the bytes, or `None` if some bytes aren't stored.
     #[tactic(auto, using(crate::proofs::FilledRows::filled_full))]
-    fn full_bytes(&self) -> Option<&[u8]>
+    fn bytes_if_all_stored(&self) -> Option<&[u8]>
         ensures { IfSome result (λ bytes. bytes.now ≡ self.now) }
     {
         if self.len() == self.bytes.len() as u128 {
@@ -144,20 +144,20 @@ impl ListedArray {
         }
     }
 
-    /// Returns the run at the offset `at`, as [`run_at`](ListedArray::run_at) does. It is the rest of the row that has this offset, or the
-    /// rest of the bytes after the last row.
+    /// Returns the run at the offset `at` for [`run_at`](ListedArray::run_at), which calls it if some bytes aren't stored. If `at` is in
+    /// one of the rows of `row_ends`, the run is the rest of that row. Otherwise it is the rest of the bytes that come after these rows.
     fn run_of_rows(&self, at: u128) -> Run<'_>
         ensures { StandAt self.now at result.bytes.now result.filling result.fill }
     {
         let row_len = self.row_len as u128;
         let in_rows = self.row_ends.len() as u128 * row_len;
         if at < in_rows {
-            let row = row_at(
+            let row = listed_row(
                 self.bytes.as_slice(),
                 self.row_ends.as_slice(),
                 (at / row_len) as usize,
             );
-            return run_in_row(row, (at % row_len) as u64, self.row_len, self.fill);
+            return rest_of_row(row, (at % row_len) as u64, self.row_len, self.fill);
         }
         let after = &self.bytes[self.last_row_end..];
         let skipped = (at - in_rows).min(after.len() as u128) as usize;
@@ -168,11 +168,12 @@ impl ListedArray {
         }
     }
 
-    /// Returns the bytes with each row filled up, with capacity for `more` bytes after them.
+    /// Returns the bytes with each row filled up, with capacity for `more` bytes after them. If there are rows to fill up, the bytes are
+    /// copied to a new `Vec`, which takes its memory from `alloc`.
     ///
     /// # Errors
     ///
-    /// An allocation failed.
+    /// An allocation failed. The array is dropped.
     pub fn into_bytes(self, alloc: Global, more: usize) -> Result<Vec<u8>, AllocError>
         ensures { IfOk result (λ bytes. bytes.items ≡ self) }
     {
@@ -184,8 +185,8 @@ impl ListedArray {
         self.to_bytes(alloc, more)
     }
 
-    /// Copies the bytes with each row filled up to a new `Vec`, with capacity for `more` bytes after them. Errs if an
-    /// allocation failed.
+    /// Copies the bytes to a new `Vec` of memory from `alloc`, with each row filled up, and with capacity for `more` bytes after them.
+    /// [`into_bytes`](ListedArray::into_bytes) calls it if there are rows to fill up. Errs if an allocation fails.
     fn to_bytes(&self, alloc: Global, more: usize) -> Result<Vec<u8>, AllocError>
         ensures { IfOk result (λ bytes. bytes.items ≡ self.now) }
     {
@@ -199,14 +200,14 @@ impl ListedArray {
         while (filled.len() as u128) < len {
             let run = self.run_at(filled.len() as u128);
             filled.extend_from_slice(run.bytes)?;
-            fill_up(&mut filled, run.filling, run.fill)?;
+            append_copies(&mut filled, run.filling, run.fill)?;
         }
         Ok(filled)
     }
 }
 
 /// Returns the bytes from the offset `at` on as a run without fill bytes. The run is empty if `at` is at their end or after it.
-fn full_run(bytes: &[u8], at: u128) -> Run<'_>
+fn rest_of_bytes(bytes: &[u8], at: u128) -> Run<'_>
     ensures { StandAt bytes.now at result.bytes.now result.filling result.fill }
 {
     let skipped = at.min(bytes.len() as u128) as usize;
@@ -218,20 +219,21 @@ fn full_run(bytes: &[u8], at: u128) -> Run<'_>
     }
 }
 
-/// Returns the listed bytes of row `r`, counted from 0. `row_ends` has for each row the offset in `bytes` at which it ends.
-fn row_at<'a>(bytes: &'a [u8], row_ends: &[u32], r: usize) -> &'a [u8]
+/// Returns the listed bytes of row `r`, counted from 0. In `bytes` they begin where the row before ends, or at 0 if `r` is 0, and end at
+/// the offset `row_ends[r]`. Needs a row of `row_ends`, and its two offsets in order and within `bytes`.
+fn listed_row<'a>(bytes: &'a [u8], row_ends: &[u32], r: usize) -> &'a [u8]
     requires of { r < length row_ends.now }
     requires after { row_start 0 row_ends.now r ≤ get_or row_ends.now r 0 }
     requires inside { get_or row_ends.now r 0 ≤ length bytes.now }
     ensures { result.now ≡ row_of bytes.now row_ends.now r }
 {
-    let start = start_of(row_ends, r);
+    let start = start_of_row(row_ends, r);
     &bytes[start..row_ends[r] as usize]
 }
 
-/// Returns the rest of a row, from its byte `column` on, as a run. It has the listed bytes of `row` from there on, and as many copies of
-/// `fill` as fill the row up to `row_len` bytes.
-fn run_in_row(row: &[u8], column: u64, row_len: u64, fill: u8) -> Run<'_>
+/// Returns the rest of a row of `row_len` bytes, from its byte `column` (counted from 0) on, as a run. `row` has the listed bytes of the
+/// row, and each byte after them is `fill`. Needs at most `row_len` bytes in `row`, and a `column` below `row_len`.
+fn rest_of_row(row: &[u8], column: u64, row_len: u64, fill: u8) -> Run<'_>
     requires listed { length row.now ≤ row_len }
     requires column { column < row_len }
     ensures listed { result.bytes.now ≡ drop (min column (length row.now)) row.now }
@@ -246,9 +248,9 @@ fn run_in_row(row: &[u8], column: u64, row_len: u64, fill: u8) -> Run<'_>
     }
 }
 
-/// Returns the offset at which row `r` starts: 0 if `r` is 0, otherwise the offset at which the row before it ends.
+/// Returns the offset in the stored bytes at which row `r` starts: 0 if `r` is 0, otherwise where the row before it ends (`row_ends`).
 #[tactic(auto, using(crate::proofs::FilledRows::row_start_after), unfolding(crate::specs::code::ListedRows::row_start))]
-fn start_of(row_ends: &[u32], r: usize) -> usize
+fn start_of_row(row_ends: &[u32], r: usize) -> usize
     requires { r ≤ length row_ends.now }
     ensures { result ≡ row_start 0 row_ends.now r }
 {
@@ -260,7 +262,7 @@ fn start_of(row_ends: &[u32], r: usize) -> usize
 
 /// Appends `n` copies of the byte `fill` to `bytes`. If an allocation fails, it errs, and `bytes` stays as it was.
 #[inline(never)]
-fn fill_up(bytes: &mut Vec<u8>, n: u64, fill: u8) -> Result<(), AllocError>
+fn append_copies(bytes: &mut Vec<u8>, n: u64, fill: u8) -> Result<(), AllocError>
     ensures ok { OnOk result (bytes.new.items ≡ bytes.old.items ++ replicate n fill) }
     ensures err { OnErr result (bytes.new.items ≡ bytes.old.items) }
 {

@@ -8,30 +8,31 @@ ghost use Rattle.nc_base.specs.Names.{is_name, has_name_bytes, ends_with_space, 
 /// Returns true if the bytes are a name that a dimension, a variable or an attribute may have (`name` of the NetCDF Classic Format
 /// Specification). Such a name is UTF-8, isn't empty, and doesn't end with a space. It begins with a letter, a digit, `_` or a character
 /// beyond ASCII; after that come printing ASCII characters other than `/`, or characters beyond ASCII.
-pub fn check_name(name: &[u8]) -> bool
+pub fn is_valid_name(name: &[u8]) -> bool
     ensures { result ≡ is_name name.now }
 {
     has_name_bytes(name) && !ends_with_space(name) && is_utf8(name)
 }
 
-/// Returns true if the name isn't empty, a name may begin with its first byte, and each other byte may stand after the first.
+/// Returns true if `name` isn't empty, its first byte may begin a name, and each other byte may follow in one. This is the part of
+/// [`is_valid_name`] that looks at single bytes.
 fn has_name_bytes(name: &[u8]) -> bool
     ensures { result ≡ has_name_bytes name.now }
 {
     match name {
         [] => false,
-        [first, others @ ..] => may_begin(*first) && may_go_on(others),
+        [first, others @ ..] => may_begin(*first) && may_all_follow(others),
     }
 }
 
 /// Returns true if each of these bytes may stand in a name after its first byte.
-fn may_go_on(others: &[u8]) -> bool
+fn may_all_follow(others: &[u8]) -> bool
     ensures { result ≡ list_all may_follow_in_name others.now }
 {
     others.iter().all(|b| may_follow(*b))
 }
 
-/// Returns true if the last byte is a space.
+/// Returns true if the last byte of `name` is a space. Needs a name of at least one byte.
 fn ends_with_space(name: &[u8]) -> bool
     requires { 0 < length name.now }
     ensures { result ≡ ends_with_space name.now }

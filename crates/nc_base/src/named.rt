@@ -5,12 +5,12 @@ ghost use Rattle.std.specs.Prelude.{◌≡◌, List, ℕ};
 use crate::header::{Att, Dim, Var};
 use crate::sequence::Sequence;
 
-/// An item that has a name: a dimension, an attribute, a variable, or a name itself.
+/// An item that has a name: a dimension, an attribute, a variable, or a name itself. Code that looks up names takes a list of any of these.
 pub trait Named {
     // The name as contracts see it.
     ghost name_of: { Self → List ℕ };
 
-    /// Returns the name.
+    /// Returns the bytes of the item's name.
     fn name(&self) -> &[u8]
         ensures { result.now ≡ name_of self.now };
 }

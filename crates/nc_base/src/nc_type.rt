@@ -54,7 +54,7 @@ impl NcType {
         }
     }
 
-    /// Returns the code of the type in a file.
+    /// Returns the number that stands for the type in a file: 1 to 4, or 7 to 11 for the types that only CDF-5 has.
     pub fn code(self) -> u32
         ensures { result ≡ code_of self }
     {
@@ -71,7 +71,8 @@ impl NcType {
         }
     }
 
-    /// Returns the type with this code in a file. Returns `None` for the floating types 5 and 6, and for any other code without a type.
+    /// Returns the type with this code in a file, even if only CDF-5 has the type. Returns `None` for the floating types 5 and 6, and for
+    /// any other code without a type.
     pub fn of_code(code: u32) -> Option<NcType>
         ensures { result ≡ type_of_code code }
     {

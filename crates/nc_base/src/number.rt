@@ -1,13 +1,14 @@
 //! Values as numbers.
 
 ghost use Rattle.std.specs.Prelude.{◌≡◌, length};
-ghost use Rattle.nc_base.specs.Numbers.{IsInRange, number_of};
+ghost use Rattle.nc_base.specs.NumberLaws.{IsInRange};
+ghost use Rattle.nc_base.specs.Numbers.{number_of};
 ghost use Rattle.nc_base.specs.Types.{size_of};
 
 use crate::nc_type::NcType;
 
-/// Reads the big-endian bytes of one value of the type, and returns their number. They are in two's complement if the type has a sign
-/// (NetCDF Classic Format Specification). A character is a number from 0 to 255.
+/// Returns the number that `bytes` spell: big-endian, and in two's complement if the type `ty` has a sign (NetCDF Classic Format
+/// Specification). A character is a number from 0 to 255. Needs exactly the bytes of one value of this type.
 pub fn number_of(ty: NcType, bytes: &[u8]) -> i128
     requires { length bytes.now ≡ size_of ty }
     ensures number { result ≡ number_of ty bytes.now }
@@ -25,7 +26,7 @@ pub fn number_of(ty: NcType, bytes: &[u8]) -> i128
     }
 }
 
-/// Returns two bytes as an array.
+/// Copies a slice into an array, for `from_be_bytes`. Needs exactly two bytes.
 fn two_bytes(bytes: &[u8]) -> [u8; 2]
     requires { length bytes.now ≡ 2 }
     ensures { result ≡ bytes.now }
@@ -33,7 +34,7 @@ fn two_bytes(bytes: &[u8]) -> [u8; 2]
     [bytes[0], bytes[1]]
 }
 
-/// Returns four bytes as an array.
+/// Copies a slice into an array, for `from_be_bytes`. Needs exactly four bytes.
 fn four_bytes(bytes: &[u8]) -> [u8; 4]
     requires { length bytes.now ≡ 4 }
     ensures { result ≡ bytes.now }
@@ -41,7 +42,7 @@ fn four_bytes(bytes: &[u8]) -> [u8; 4]
     [bytes[0], bytes[1], bytes[2], bytes[3]]
 }
 
-/// Returns eight bytes as an array.
+/// Copies a slice into an array, for `from_be_bytes`. Needs exactly eight bytes.
 fn eight_bytes(bytes: &[u8]) -> [u8; 8]
     requires { length bytes.now ≡ 8 }
     ensures { result ≡ bytes.now }

@@ -4,7 +4,7 @@ ghost use Rattle.std.specs.Prelude.{◌≡◌};
 ghost use Rattle.nc_base.specs.Paths.{file_name_of, without_extension, stem_of};
 
 /// Returns the name that a dump gives the dataset of the file at this path (`-n` in ncdump(1)): the part after the last `/`,
-/// without its extension. The extension begins at the last `.` of that part, unless this is its first byte.
+/// without its extension. The extension begins at the last `.` of that part, unless that `.` is the part's first byte.
 pub fn stem(path: &str) -> &str
     ensures { result.now ≡ stem_of path.now }
 {
@@ -21,7 +21,7 @@ fn file_name(path: &str) -> &str
     }
 }
 
-/// Returns a name up to its last `.`, or the whole name if no `.` comes after its first byte.
+/// Returns the part of a name before its last `.`, or the whole name if no `.` comes after its first byte.
 fn without_extension(name: &str) -> &str
     ensures { result.now ≡ without_extension name.now }
 {

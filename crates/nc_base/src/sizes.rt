@@ -3,8 +3,8 @@
 ghost use Rattle.std.specs.Prelude.{◌≡◌, ◌+◌, ◌*◌, ◌/◌, ◌<◌, ◌≤◌, ◌^◌, ◌&&◌, IfSome, if◌then◌else◌, length, map, min, slice_get, SomeIff};
 ghost use Rattle.nc_base.specs.Types.{size_of};
 ghost use Rattle.nc_base.specs.Bytes.{padding_len};
-ghost use Rattle.nc_base.specs.Sizes.{dim_len, is_record_dim, has_records, is_record_var, is_narrow, product, slab_size, padded_size, slab_limit, record_size, record_limit, record_vars, record_count};
-ghost use Rattle.nc_base.specs.code.SizeParts.{slab_of, slab_at, checked_record_size, extent_sum, first_begin, lesser, CountsValues, IsCappedSlab};
+ghost use Rattle.nc_base.specs.Sizes.{dim_len, is_record_dim, is_record_shape, is_record_var, is_narrow, product, slab_size, padded_size, slab_limit, record_size, record_limit, record_vars, record_count};
+ghost use Rattle.nc_base.specs.code.SizeParts.{slab_of, slab_at, checked_record_size, extent_sum, least_record_begin, lesser, CountsValues, IsCappedSlab};
 ghost use Rattle.nc_base.specs.GeneratedFile.{known_records};
 ghost use Rattle.nc_base.specs.code.Extents.{extent_end};
 ghost use Rattle.nc_base.specs.Headers.{IsSound};
@@ -44,8 +44,8 @@ pub fn rec_size(header: &Header) -> Option<u64>
     for var in header.vars.as_slice() {
         if is_record_var(dims, var) {
             let slab = slab_of(dims, var.dimids.as_slice(), var.ty)?;
-            let with_padding = padded + padded_bytes(slab);
-            size = record_size_of_bytes(is_first, var, slab, with_padding);
+            let with_padding = padded + padded_len(slab);
+            size = record_size_up_to(is_first, var, slab, with_padding);
             padded = with_padding;
             is_first = false;
         }
@@ -58,7 +58,7 @@ pub fn rec_size(header: &Header) -> Option<u64>
 }
 
 impl NumRecs {
-    /// Returns the number of records if it is known, otherwise 0.
+    /// Returns the number of records if the header has it, otherwise 0. To count the records of a file instead, call [`records`].
     pub fn known(self) -> u64
         ensures { result ≡ known_records self }
     {
@@ -73,13 +73,16 @@ impl NumRecs {
 /// unknown (`STREAMING`), it is the number of whole records between the least begin of the record variables and the file's end, or 0 if
 /// there are no record variables or the file ends before that begin (`numrecs` of the NetCDF Classic Format Specification).
 ///
-/// If the header isn't sound, the returned number means nothing.
+/// If the header isn't sound ([`Header::sound`]), the returned number means nothing.
 pub fn records(header: &Header, len: u64) -> u64
     ensures { IsSound header.now → result ≡ record_count header.now len }
 {
     match header.numrecs {
         NumRecs::Known(n) => n,
-        NumRecs::Streaming => match first_begin(header.dims.as_slice(), header.vars.as_slice()) {
+        NumRecs::Streaming => match least_record_begin(
+            header.dims.as_slice(),
+            header.vars.as_slice(),
+        ) {
             Some(begin) => whole_records(len.saturating_sub(begin), rec_size(header)),
             None => 0,
         },
@@ -95,8 +98,9 @@ pub struct RecordLayout {
     pub record_size: u64,
 }
 
-/// Returns the number of records of a file of `len` bytes with this header, and the record size. It takes time in proportion to
-/// the number of variables and their dimensions, so a caller that goes over the variables asks for it once.
+/// Returns the number of records of a file of `len` bytes with this header ([`records`]), and the record size ([`sound_rec_size`]). Needs a
+/// sound header ([`Header::sound`]). It takes time in proportion to the number of variables and their dimensions, so a caller that goes
+/// over the variables asks for it once.
 pub fn record_layout(header: &Header, len: u64) -> RecordLayout
     requires { IsSound header.now }
     ensures records { result.records ≡ record_count header.now len }
@@ -108,7 +112,8 @@ pub fn record_layout(header: &Header, len: u64) -> RecordLayout
     }
 }
 
-/// Returns how many whole records of `size` bytes fit into `bytes` bytes, or 0 if `size` is 0 or `None`.
+/// Returns how many whole records of `size` bytes fit into `bytes` bytes. Returns 0 if `size` is 0, and also if it is `None`, as the record
+/// size is if a limit is passed ([`rec_size`]).
 fn whole_records(bytes: u64, size: Option<u64>) -> u64
     ensures { IfSome size (λ size. result ≡ bytes / size) }
 {
@@ -119,7 +124,7 @@ fn whole_records(bytes: u64, size: Option<u64>) -> u64
 }
 
 /// Returns the first offset after the last value that the variable at index `v` has over `records` records, in bytes from the file's start.
-/// Returns the variable's begin if it has no value, such as a record variable over 0 records.
+/// Returns the variable's begin if it has no value, such as a record variable over 0 records. Needs a sound header ([`Header::sound`]).
 ///
 /// For callers of the library: the programs themselves never ask for it.
 pub fn extent_end(header: &Header, v: usize, records: u64) -> u128
@@ -130,8 +135,9 @@ pub fn extent_end(header: &Header, v: usize, records: u64) -> u128
     extent_sum(header, v, records)
 }
 
-/// Returns the offset that [`extent_end`] returns, as a sum: the begin, the bytes of the slab, and for a record variable one record size
-/// more for each record after the first. For a record variable over 0 records it is the begin alone.
+/// Returns the offset that [`extent_end`] returns. It is the sum of the variable's begin, the bytes of its slab, and for a record variable
+/// one record size for each record after the first. For a record variable over 0 records it is the begin alone. Needs a sound header
+/// ([`Header::sound`]).
 fn extent_sum(header: &Header, v: usize, records: u64) -> u128
     requires sound { IsSound header.now }
     requires there { v < length header.now.vars }
@@ -139,7 +145,7 @@ fn extent_sum(header: &Header, v: usize, records: u64) -> u128
 {
     let var = &header.vars.as_slice()[v];
     let begin = var.begin_at as u128;
-    let slab = sound_slab(header, v) as u128;
+    let slab = sound_slab_size(header, v) as u128;
     if !is_record_var(header.dims.as_slice(), var) {
         begin + slab
     } else if records == 0 {
@@ -149,15 +155,15 @@ fn extent_sum(header: &Header, v: usize, records: u64) -> u128
     }
 }
 
-/// Returns how many values the variable at index `v` has over `records` records. A record variable has one slab for each
-/// record, and any other variable has one slab.
+/// Returns how many values the variable at index `v` has over `records` records. A record variable has one slab for each record, and any
+/// other variable has one slab. Needs a sound header ([`Header::sound`]).
 pub fn value_count(header: &Header, v: usize, records: u64) -> u128
     requires sound { IsSound header.now }
     requires there { v < length header.now.vars }
     ensures { CountsValues header.now v records result }
 {
     let var = &header.vars.as_slice()[v];
-    let count = (sound_slab(header, v) / var.ty.size()) as u128;
+    let count = (sound_slab_size(header, v) / var.ty.size()) as u128;
     if is_record_var(header.dims.as_slice(), var) {
         count * records as u128
     } else {
@@ -165,7 +171,8 @@ pub fn value_count(header: &Header, v: usize, records: u64) -> u128
     }
 }
 
-/// Returns the record size of a sound header, as [`rec_size`] does. It is at most 2^62 bytes.
+/// Returns the record size in bytes, as [`rec_size`] does, but not as an `Option`. Needs a sound header ([`Header::sound`]), whose record
+/// size is at most 2^62 bytes.
 pub fn sound_rec_size(header: &Header) -> u64
     requires { IsSound header.now }
     ensures size { result ≡ record_size header.now }
@@ -174,8 +181,9 @@ pub fn sound_rec_size(header: &Header) -> u64
     rec_size(header).unwrap()
 }
 
-/// Returns the number of bytes of the slab of the variable at index `v` of a sound header, without padding. It is at most 2^48.
-fn sound_slab(header: &Header, v: usize) -> u64
+/// Returns the number of bytes of the slab of the variable at index `v`, as [`slab_bytes`] does, but not as an `Option`. Needs a sound
+/// header ([`Header::sound`]), whose slabs have at most 2^48 bytes each.
+fn sound_slab_size(header: &Header, v: usize) -> u64
     requires sound { IsSound header.now }
     requires there { v < length header.now.vars }
     ensures size { result ≡ slab_at header.now v }
@@ -185,8 +193,8 @@ fn sound_slab(header: &Header, v: usize) -> u64
 }
 
 /// Returns the least begin of the record variables, or `None` if there are none.
-fn first_begin(dims: &[Dim], vars: &[Var]) -> Option<u64>
-    ensures { result ≡ first_begin (record_vars dims.now vars.now) }
+fn least_record_begin(dims: &[Dim], vars: &[Var]) -> Option<u64>
+    ensures { result ≡ least_record_begin (record_vars dims.now vars.now) }
 {
     let mut least = None;
     for var in vars {
@@ -197,7 +205,7 @@ fn first_begin(dims: &[Dim], vars: &[Var]) -> Option<u64>
     least
 }
 
-/// Returns the lesser of two offsets, or `begin` if `least` is `None`.
+/// Returns the lesser of the offsets `least` and `begin`, or `begin` if `least` is `None`, as it is before the first record variable.
 fn lesser(least: Option<u64>, begin: u64) -> u64
     ensures { result ≡ lesser least begin }
 {
@@ -207,9 +215,10 @@ fn lesser(least: Option<u64>, begin: u64) -> u64
     }
 }
 
-/// Returns the size of a record that ends with the slab of this variable. It is `slab`, the bytes of that slab, if the variable is the
-/// first record variable (`is_first`) and narrow. Otherwise it is `with_padding`, the padded bytes of all slabs of the record.
-fn record_size_of_bytes(is_first: bool, var: &Var, slab: u64, with_padding: u128) -> u128
+/// Returns what the record size in bytes would be if `var` were the last record variable. It is `slab`, the bytes of the slab of `var`, if
+/// `var` is also the first one (`is_first`) and its values take less than four bytes each. Otherwise it is `with_padding`, the padded bytes
+/// of the slabs of all record variables up to `var` and of `var` itself.
+fn record_size_up_to(is_first: bool, var: &Var, slab: u64, with_padding: u128) -> u128
     ensures { result ≡ (if is_first && is_narrow var.now then slab else with_padding) }
 {
     if is_first && is_narrow(var) {
@@ -219,8 +228,8 @@ fn record_size_of_bytes(is_first: bool, var: &Var, slab: u64, with_padding: u128
     }
 }
 
-/// Returns the number of bytes of a slab, rounded up to a multiple of four.
-fn padded_bytes(slab: u64) -> u128
+/// Returns `slab`, the number of bytes of a slab, rounded up to a multiple of four.
+fn padded_len(slab: u64) -> u128
     ensures { result ≡ slab + padding_len slab }
 {
     slab as u128 + padding_len(slab as u128) as u128
@@ -245,7 +254,7 @@ fn is_narrow(var: &Var) -> bool
 pub fn is_record_var(dims: &[Dim], var: &Var) -> bool
     ensures { result ≡ is_record_var dims.now var.now }
 {
-    has_records(dims, var.dimids.as_slice())
+    is_record_shape(dims, var.dimids.as_slice())
 }
 
 /// Returns the number of bytes of a slab of this shape and type, without padding. It is the size of a value times the lengths
@@ -253,10 +262,10 @@ pub fn is_record_var(dims: &[Dim], var: &Var) -> bool
 pub fn slab_of(dims: &[Dim], dimids: &[u64], ty: NcType) -> Option<u64>
     ensures { IsCappedSlab dims.now dimids.now ty result }
 {
-    let bytes = if has_records(dims, dimids) {
-        capped_bytes(dims, &dimids[1..], ty)
+    let bytes = if is_record_shape(dims, dimids) {
+        capped_slab_size(dims, &dimids[1..], ty)
     } else {
-        capped_bytes(dims, dimids, ty)
+        capped_slab_size(dims, dimids, ty)
     };
     if bytes <= SLAB_LIMIT {
         Some(bytes)
@@ -265,8 +274,9 @@ pub fn slab_of(dims: &[Dim], dimids: &[u64], ty: NcType) -> Option<u64>
     }
 }
 
-/// Returns the size of a value times the lengths of these dimensions, or 2^48 + 1 if the product is greater.
-fn capped_bytes(dims: &[Dim], dimids: &[u64], ty: NcType) -> u64
+/// Returns the size of a value of the type `ty` in bytes times the lengths of the dimensions with these ids. If the product passes 2^48,
+/// the limit of a slab, it returns 2^48 + 1 instead.
+fn capped_slab_size(dims: &[Dim], dimids: &[u64], ty: NcType) -> u64
     ensures { result ≡ min (product (map (dim_len dims.now) dimids.now) * size_of ty) (slab_limit + 1) }
 {
     let mut bytes = ty.size();
@@ -276,7 +286,7 @@ fn capped_bytes(dims: &[Dim], dimids: &[u64], ty: NcType) -> u64
     bytes
 }
 
-/// Returns the product of `bytes` and `len`, or 2^48 + 1 if the product is greater.
+/// Returns the product of `bytes` and `len`. If it passes 2^48, the limit of a slab, returns 2^48 + 1 instead.
 fn capped_product(bytes: u64, len: u64) -> u64
     ensures { result ≡ min (bytes * len) (slab_limit + 1) }
 {
@@ -287,8 +297,8 @@ fn capped_product(bytes: u64, len: u64) -> u64
 }
 
 /// Returns true if the first dimension of a shape is the record dimension, which has length 0.
-pub fn has_records(dims: &[Dim], dimids: &[u64]) -> bool
-    ensures { result ≡ has_records dims.now dimids.now }
+pub fn is_record_shape(dims: &[Dim], dimids: &[u64]) -> bool
+    ensures { result ≡ is_record_shape dims.now dimids.now }
 {
     match dimids {
         [] => false,
@@ -303,7 +313,7 @@ pub fn is_record_dim(dims: &[Dim], id: u64) -> bool
     id < dims.len() as u64 && dim_len(dims, id) == 0
 }
 
-/// Returns the length of the dimension with this id, or 0 if there is none.
+/// Returns the length of the dimension with this id, or 0 if no dimension has the id. The record dimension has length 0 too.
 pub fn dim_len(dims: &[Dim], id: u64) -> u64
     ensures { result ≡ dim_len dims.now id }
 {

@@ -35,7 +35,7 @@ impl Header {
     }
 }
 
-/// Returns true if the variables are sound, and the record size doesn't pass 2^62 bytes.
+/// Returns true if the variables are sound ([`are_sound_vars`]), and the record size doesn't pass 2^62 bytes.
 fn has_sound_vars(header: &Header) -> bool
     ensures { IsTrue result ↔ HasSoundVars header.now }
 {
@@ -63,14 +63,14 @@ fn is_countable(version: Version, count: usize) -> bool
     (count as u64) < version.count_limit()
 }
 
-/// Returns true if there are no more dimensions than the version can count, and each is sound.
+/// Returns true if there are no more dimensions than the version can count, and each is sound ([`is_sound_dim`]).
 fn are_sound_dims(version: Version, dims: &[Dim]) -> bool
     ensures { IsTrue result ↔ AreSoundDims version dims.now }
 {
     is_countable(version, dims.len()) && dims.iter().all(|dim| is_sound_dim(version, dim))
 }
 
-/// Returns true if the version can count the name's bytes and the dimension's length.
+/// Returns true if the number of the name's bytes and the dimension's length are below the version's limit of counts.
 fn is_sound_dim(version: Version, dim: &Dim) -> bool
     ensures { IsTrue result ↔ IsSoundDim version dim.now }
 {
@@ -91,7 +91,7 @@ fn record_dim_count(dims: &[Dim]) -> usize
     dims.iter().filter(|dim| dim.len == 0).count()
 }
 
-/// Returns true if there are no more attributes than the version can count, and each is sound.
+/// Returns true if there are no more attributes than the version can count, and each is sound ([`is_sound_att`]).
 fn are_sound_atts(version: Version, atts: &[Att]) -> bool
     ensures { IsTrue result ↔ AreSoundAtts version atts.now }
 {
@@ -117,15 +117,16 @@ fn has_whole_values(version: Version, att: &Att) -> bool
     bytes % size == 0 && bytes / size < version.count_limit()
 }
 
-/// Returns true if there are no more variables than the version can count, and each is sound.
+/// Returns true if there are no more variables than the version can count, and each is sound ([`is_sound_var`]).
 fn are_sound_vars(version: Version, dims: &[Dim], vars: &[Var]) -> bool
     ensures { IsTrue result ↔ AreSoundVars version dims.now vars.now }
 {
     is_countable(version, vars.len()) && vars.iter().all(|var| is_sound_var(version, dims, var))
 }
 
-/// Returns true if the version can count the name's bytes and the dimension ids, the variable's type is one of the version's,
-/// its shape and its attributes are sound, and its slab is no greater than 2^48 bytes.
+/// Returns true if the version can count the name's bytes and the dimension ids, the variable's type is one of the version's, its
+/// attributes are sound ([`are_sound_atts`]), its dimension ids are a sound shape ([`are_sound_dimids`]), and its slab has at most 2^48
+/// bytes.
 fn is_sound_var(version: Version, dims: &[Dim], var: &Var) -> bool
     ensures { IsTrue result ↔ IsSoundVar version dims.now var.now }
 {
@@ -137,15 +138,15 @@ fn is_sound_var(version: Version, dims: &[Dim], var: &Var) -> bool
         && has_sound_slab(dims, dimids, var.ty)
 }
 
-/// Returns true if the shape is sound, and a slab of this shape and type is no greater than 2^48 bytes.
+/// Returns true if the dimension ids are a sound shape ([`are_sound_dimids`]), and a slab of this shape and type has at most 2^48 bytes.
 fn has_sound_slab(dims: &[Dim], dimids: &[u64], ty: NcType) -> bool
     ensures { IsTrue result ↔ IsSoundShape dims.now dimids.now ty }
 {
-    is_sound_shape(dims, dimids) && slab_of(dims, dimids, ty).is_some()
+    are_sound_dimids(dims, dimids) && slab_of(dims, dimids, ty).is_some()
 }
 
 /// Returns true if each id of a shape names a dimension, and none after the first names the record dimension.
-fn is_sound_shape(dims: &[Dim], dimids: &[u64]) -> bool
+fn are_sound_dimids(dims: &[Dim], dimids: &[u64]) -> bool
     ensures { IsTrue result ↔ AreDimids dims.now [] dimids.now }
 {
     match dimids {

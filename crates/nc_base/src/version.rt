@@ -19,7 +19,8 @@ impl Version {
     ghost use Rattle.nc_base.specs.Versions.{version_byte, count_limit, offset_limit, streaming_mark, has_type};
     ghost use Rattle.nc_base.specs.code.TypeCodes.{version_of_byte};
 
-    /// Returns the version that the byte after `CDF` names: 1, 2 or 5; or `None` for any other byte.
+    /// Returns the version that has the version byte `b`, which comes after `CDF` at a file's start: 1, 2 or 5. Returns `None` for any
+    /// other byte.
     pub fn of_byte(b: u8) -> Option<Version>
         ensures { result ≡ version_of_byte b }
     {
@@ -31,7 +32,7 @@ impl Version {
         }
     }
 
-    /// Returns the byte after `CDF`.
+    /// Returns the version byte, which comes after `CDF` at a file's start: 1, 2 or 5.
     pub fn byte(self) -> u8
         ensures { result ≡ version_byte self }
     {
@@ -63,7 +64,8 @@ impl Version {
         }
     }
 
-    /// Returns the number that a file has in place of an unknown number of records (`STREAMING`). All of its bits are 1.
+    /// Returns the number that a file has in place of an unknown number of records (`STREAMING`): 2^32 - 1, or 2^64 - 1 in CDF-5. All bits
+    /// of the field are 1.
     pub fn streaming_mark(self) -> u64
         ensures { result ≡ streaming_mark self }
     {

@@ -1,6 +1,6 @@
 -- The other direction: bytes, numbers, names and types that are spelled are read, and reading stops with the first wrong field.
-use Rattle.std.proofs.Common.{◌≡◌, ◌≢◌, ℕ, zero, suc, ◌<◌, ◌≤◌, Bool, true, false, cond, leb, List, [], ◌∷◌, ◌++◌, length, Option, Some, None, Ok, Err, refl, sym, ap, ◌∙◌, append_assoc, arith, ◌==◌, ◌||◌, rules}
-use Rattle.nc_file.proofs.Prelude.{append-nil, Width, w32, byte_len, to_be_bytes, FormatFault, HeaderTruncated, BadType, NcType, Version, padding_len, code_of, type_of_code, count_width, offset_width, has_type, SpellsBytes, SpellsNumber, SpellsCount, SpellsOffset, SpellsName, SpellsType, EndsWithin, ends_within, Stops, Never, Then, in_part, in_next, Requires, breaks, keeps, CountThen, InOffset, InName, InType, HeadFault, Format, Outcome, Part, next, done, stop, wrong, byte_or, number_at, count_at, offset_at, bytes_at, skip_at, name_at, type_at, known_type, type_in, type_or_wrong}
+use Rattle.std.proofs.Common.{◌≡◌, ◌≢◌, ℕ, zero, suc, ◌<◌, ◌≤◌, Bool, true, false, cond, leb, List, [], ◌∷◌, ◌++◌, length, Option, Some, None, Ok, Err, refl, sym, ap, ◌∙◌, append_assoc, arith, ◌==◌, ◌||◌, rules, inl, inr}
+use Rattle.nc_file.proofs.Prelude.{append-nil, Width, w32, byte_len, to_be_bytes, FormatFault, HeaderTruncated, BadType, NcType, Version, padding_len, code_of, type_of_code, count_width, offset_width, has_type, SpellsBytes, SpellsNumber, SpellsCount, SpellsOffset, SpellsName, SpellsType, EndsWithin, Stops, Never, Then, Requires, CountThen, InOffset, InName, InType, HeadFault, Format, Outcome, Part, next, done, stop, wrong, byte_or, number_at, count_at, offset_at, bytes_at, skip_at, name_at, type_at, known_type, type_in, type_or_wrong}
 use Rattle.nc_file.specs.code.Reading.{◌>>=◌}
 use Rattle.nc_base.specs.Names.{is_name}
 use Rattle.nc_file.proofs.FieldLaws.{IsWide, wide-32, count-wide, offset-wide, code-known, type_of_code-code_of}
@@ -57,8 +57,8 @@ StopsAgain In part = (bytes : List ℕ) (fault : FormatFault) (rest : List ℕ) 
 pub then-stops : {A B : Type 0} {Spells : List ℕ → A → List ℕ → Type 0} {In : Stops} {InNext : A → Stops} (part : Part A) (f : A → Part B)
     → ReadAgain Spells part → StopsAgain In part → ((x : A) → StopsAgain (InNext x) (f x)) → StopsAgain (Then Spells In InNext) (part >>= f)
 unfolding ◌>>=◌
-then-stops part f again stops after bytes fault rest (in_part s) = then-err f (stops bytes fault rest s)
-then-stops part f again stops after bytes fault rest (in_next x middle spelled s) = then-ok f (again bytes x middle spelled) (after x middle fault rest s)
+then-stops part f again stops after bytes fault rest (inl s) = then-err f (stops bytes fault rest s)
+then-stops part f again stops after bytes fault rest (inr (x, middle, spelled, s)) = then-ok f (again bytes x middle spelled) (after x middle fault rest s)
 
 -- a part whose value is only passed on
 pub value-stop : {A B : Type 0} {In : Stops} (part : Part A) (f : A → Part B) → StopsAgain In part → StopsAgain In (part >>= f)
@@ -69,15 +69,15 @@ value-stop part f stops bytes fault rest s = then-err f (stops bytes fault rest 
 pub rule-stops : {A : Type 0} {Holds : Type 0} {broken : FormatFault} {InNext : Stops} (b : Bool) (part : Part A)
     → (¬ Holds → b ≡ true) → (Holds → b ≡ false) → StopsAgain InNext part → StopsAgain (Requires Holds broken InNext) (cond b (wrong broken) part)
 unfolding stop
-rule-stops b part refuted kept after bytes _ _ (breaks not_so) = if-so _ _ (refuted not_so) refl
-rule-stops b part refuted kept after bytes _ _ (keeps fault rest so s) = if-not _ _ (kept so) (after bytes fault rest s)
+rule-stops b part refuted kept after bytes fault rest (inl (not_so, is, left)) = rw (is, left) (if-so _ _ (refuted not_so) refl)
+rule-stops b part refuted kept after bytes fault rest (inr (so, s)) = if-not _ _ (kept so) (after bytes fault rest s)
 
 -- a rule whose test says that it is kept
 pub kept-stops : {A : Type 0} {Holds : Type 0} {broken : FormatFault} {InNext : Stops} (b : Bool) (part : Part A)
     → (¬ Holds → b ≡ false) → (Holds → b ≡ true) → StopsAgain InNext part → StopsAgain (Requires Holds broken InNext) (cond b part (wrong broken))
 unfolding stop
-kept-stops b part refuted kept after bytes _ _ (breaks not_so) = if-not _ _ (refuted not_so) refl
-kept-stops b part refuted kept after bytes _ _ (keeps fault rest so s) = if-so _ _ (kept so) (after bytes fault rest s)
+kept-stops b part refuted kept after bytes fault rest (inl (not_so, is, left)) = rw (is, left) (if-not _ _ (refuted not_so) refl)
+kept-stops b part refuted kept after bytes fault rest (inr (so, s)) = if-so _ _ (kept so) (after bytes fault rest s)
 
 pub never-stops : {A : Type 0} (part : Part A) → StopsAgain Never part
 never-stops part bytes fault rest s = absurd s
@@ -101,7 +101,7 @@ bytes-stop_after (suc n) prefix [] cut = refl
 bytes-stop_after (suc n) prefix (b ∷ bytes) cut = bytes-stop_after n (prefix ++ b ∷ []) bytes (omega (arith, cut))
 
 pub bytes-stop : (n : ℕ) → StopsAgain (EndsWithin HeaderTruncated n) (bytes_at n [])
-bytes-stop n bytes _ _ (ends_within cut) = bytes-stop_after n [] bytes cut
+bytes-stop n bytes fault rest (cut, is, left) = rw (is, left) (bytes-stop_after n [] bytes cut)
 
 -- n bytes are skipped
 pub skip-again : (n : ℕ) (content rest : List ℕ) → length content ≡ n → (skip_at n).run (content ++ rest) ≡ Ok (tt, rest)
@@ -117,7 +117,7 @@ skip-stop_after (suc n) [] cut = refl
 skip-stop_after (suc n) (b ∷ bytes) cut = skip-stop_after n bytes (omega (arith, cut))
 
 pub skip-stop : (n : ℕ) → StopsAgain (EndsWithin HeaderTruncated n) (skip_at n)
-skip-stop n bytes _ _ (ends_within cut) = skip-stop_after n bytes cut
+skip-stop n bytes fault rest (cut, is, left) = rw (is, left) (skip-stop_after n bytes cut)
 
 -- ---- numbers
 
@@ -140,14 +140,15 @@ unfolding count_at
 count-stop v =
     then-stops _ _ (number-again (count_width v) (count-wide v)) (number-stop (count_width v)) (λ n. rule-stops _ _ (reached-test _ _) (below-test _ _) (never-stops (done n)))
 
-then-of-count : {InNext : ℕ → Stops} (v : Version) (bytes : List ℕ) (fault : FormatFault) (rest : List ℕ)
+then-of-count : (InNext : ℕ → Stops) (v : Version) (bytes : List ℕ) (fault : FormatFault) (rest : List ℕ)
     → CountThen v InNext bytes fault rest → Then (SpellsCount v) (CountThen v (λ n. Never)) InNext bytes fault rest
-then-of-count v bytes fault rest (in_part cut) = in_part (in_part cut)
-then-of-count v bytes _ _ (in_next n middle number (breaks high)) = in_part (in_next n middle number (breaks high))
-then-of-count v bytes _ _ (in_next n middle number (keeps fault rest low more)) = in_next n middle (record { number = number; non_negative = low }) more
+then-of-count InNext v bytes fault rest (inl cut) = inl (inl cut)
+then-of-count InNext v bytes fault rest (inr (n, middle, number, inl high)) = inl (inr (n, middle, number, inl high))
+then-of-count InNext v bytes fault rest (inr (n, middle, number, inr (low, more))) = inr (n, middle, record { number = number; non_negative = low }, more)
 
 pub counted-stops : {A : Type 0} {InNext : ℕ → Stops} (v : Version) (f : ℕ → Part A) → ((n : ℕ) → StopsAgain (InNext n) (f n)) → StopsAgain (CountThen v InNext) (count_at v >>= f)
-counted-stops v f after bytes fault rest s = then-stops (count_at v) f (count-again v) (count-stop v) after bytes fault rest (then-of-count v bytes fault rest s)
+counted-stops {InNext = InNext} v f after bytes fault rest s =
+    then-stops (count_at v) f (count-again v) (count-stop v) after bytes fault rest (then-of-count InNext v bytes fault rest s)
 
 pub offset-again : (v : Version) → ReadAgain (SpellsOffset v) (offset_at v)
 unfolding offset_at ◌>>=◌ done
@@ -196,8 +197,9 @@ no-type v code (Some ty) is none = none-unless (has_type v ty) ty (λ has. none 
 -- reading stops after a code of no type
 type-none : (v : Version) (code : ℕ) → StopsAgain (Requires (IsType v code) BadType Never) (type_or_wrong (type_in v code))
 unfolding type_in stop
-type-none v code bytes _ _ (breaks none) = ap (λ (known : Option NcType). (type_or_wrong known).run bytes) (no-type v code (type_of_code code) refl none)
-type-none v code bytes _ _ (keeps fault rest is s) = absurd s
+type-none v code bytes fault rest (inl (none, is, left)) =
+    rw (is, left) (ap (λ (known : Option NcType). (type_or_wrong known).run bytes) (no-type v code (type_of_code code) refl none))
+type-none v code bytes fault rest (inr (is, s)) = absurd s
 
 pub type-again : (v : Version) → ReadAgain (SpellsType v) (type_at v)
 unfolding type_at ◌>>=◌ done
@@ -205,6 +207,12 @@ type-again v bytes ty rest s =
     then-ok _ (number-again w32 wide-32 bytes (code_of ty) rest s.number)
     (if-not _ _ (is-whole ty) (ap (λ (known : Option NcType). (type_or_wrong known).run rest) (type_in-again v ty s.has)))
 
+float-test : (code : ℕ) → ¬ ((code ≢ 5) × (code ≢ 6)) → ((code == 5) || (code == 6)) ≡ true
+float-test code float = grind arith
+
+no-float-test : (code : ℕ) → (code ≢ 5) × (code ≢ 6) → ((code == 5) || (code == 6)) ≡ false
+no-float-test code other = grind arith
+
 pub type-stop : (v : Version) → StopsAgain (InType v) (type_at v)
 unfolding type_at
-type-stop v = then-stops _ _ (number-again w32 wide-32) (number-stop w32) (λ code. rule-stops _ _ (not-false _) (λ other. other) (type-none v code))
+type-stop v = then-stops _ _ (number-again w32 wide-32) (number-stop w32) (λ code. rule-stops _ _ (float-test code) (no-float-test code) (type-none v code))

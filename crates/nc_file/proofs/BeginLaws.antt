@@ -1,6 +1,6 @@
 -- Begins that are summed up as they go are those of the padded slabs before.
 use Rattle.std.proofs.Common.{◌≡◌, ℕ, ◌+◌, ◌-◌, ◌^◌, ◌≤◌, min, Ok, Err, Bool, true, false, ◌&&◌, List, [], ◌∷◌, ◌++◌, length, refl, sym, ◌∙◌, ap, arith, if◌then◌else◌, rules}
-use Rattle.nc_file.proofs.Prelude.{list_all, le-ltb, Dim, Var, Header, Version, padded_total, record_vars, offset_limit, header_spelling, fixed_vars, begin_after, vars_after, with_begins, fits, after, is_below, offset_of, placed}
+use Rattle.nc_file.proofs.Prelude.{list_all, le-ltb, Dim, Var, Header, Version, padded_total, record_vars, offset_limit, header_spelling, fixed_vars, begin_after, vars_with_begins, with_begins, fits, after, is_below, offset_of, placed}
 use Rattle.nc_base.proofs.FilePlaces.{fixed_total, fixed-push}
 use Rattle.nc_file.proofs.Totals.{total_of-append}
 use Rattle.nc_file.specs.declared.write.begins.NextBegins.{NextBegins}
@@ -24,7 +24,7 @@ after-push h head before var = search (rules, fixed-push, total_of-append, same-
 offset-begin : (h : Header) (before : List Var) (var : Var) → offset_of h.dims (offsets_after h (length (header_spelling h)) before) var ≡ begin_after h before var
 offset-begin h before var = search rules
 
-placed-after : (h : Header) (before vars : List Var) → placed h.dims (offsets_after h (length (header_spelling h)) before) vars ≡ vars_after h before vars
+placed-after : (h : Header) (before vars : List Var) → placed h.dims (offsets_after h (length (header_spelling h)) before) vars ≡ vars_with_begins h before vars
 placed-after h before [] = refl
 placed-after h before (var ∷ vars) =
     let head : ℕ = length (header_spelling h) in
@@ -65,16 +65,16 @@ late-placed : (h : Header) (start : ℕ) (var : Var) (vars : List Var) → 2 ^ 6
 late-placed h start var vars late = search (rules, picked-le, not-first, le-ltb, limit-le)
 
 late-after : (h : Header) (var : Var) (vars : List Var) → 2 ^ 63 ≤ length (header_spelling h)
-    → list_all (is_below (offset_limit h.version)) (vars_after h [] (var ∷ vars)) ≡ false
+    → list_all (is_below (offset_limit h.version)) (vars_with_begins h [] (var ∷ vars)) ≡ false
 late-after h var vars late = search (rules, not-first, le-ltb, limit-le)
 
 late-answer : (h : Header) (start : ℕ) (vars : List Var) → 2 ^ 63 ≤ start → 2 ^ 63 ≤ length (header_spelling h)
-    → list_all (is_below (offset_limit h.version)) (placed h.dims (first_offsets h start) vars) ≡ list_all (is_below (offset_limit h.version)) (vars_after h [] vars)
+    → list_all (is_below (offset_limit h.version)) (placed h.dims (first_offsets h start) vars) ≡ list_all (is_below (offset_limit h.version)) (vars_with_begins h [] vars)
 late-answer h start [] late long = refl
 late-answer h start (var ∷ vars) late long = late-placed h start var vars late ∙ sym (late-after h var vars long)
 
 late-begins : (h : Header) (start : ℕ) (vars : List Var) → 2 ^ 63 ≤ length (header_spelling h)
-    → list_all (is_below (offset_limit h.version)) (vars_after h [] vars) ≡ true → placed h.dims (first_offsets h start) vars ≡ vars_after h [] vars
+    → list_all (is_below (offset_limit h.version)) (vars_with_begins h [] vars) ≡ true → placed h.dims (first_offsets h start) vars ≡ vars_with_begins h [] vars
 late-begins h start [] long e = refl
 late-begins h start (var ∷ vars) long e = absurd (not-both (sym e ∙ late-after h var vars long))
 

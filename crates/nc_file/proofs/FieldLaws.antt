@@ -1,6 +1,6 @@
 -- Bytes, numbers, names and types are read as the grammar says.
-use Rattle.std.proofs.Common.{◌≡◌, ◌≢◌, ℕ, zero, suc, ◌<◌, Bool, true, false, cond, leb, List, [], ◌∷◌, ◌++◌, length, Option, Some, None, refl, sym, ap, subst, ◌∙◌, append_assoc, arith, take, ◌^◌, ◌==◌, ◌||◌, find, ◌⊎◌, if◌then◌else◌, rules}
-use Rattle.nc_file.proofs.Prelude.{leb-false, leb-true, eqb-true, eqb-false, append-nil, get_or-take, get_or_past, length-take, Width, w32, w64, byte_len, to_be_bytes, from_be_bytes, AllByRecursion, FormatFault, HeaderTruncated, BadType, NcType, Version, AreBytes, padding_len, code_of, type_of_code, all_types, count_width, count_limit, offset_width, offset_limit, has_type, SpellsBytes, SpellsNumber, SpellsCount, SpellsOffset, SpellsPadded, SpellsName, SpellsType, EndsWithin, ends_within, Stops, Then, in_part, in_next, Requires, breaks, keeps, Never, CountThen, InOffset, InName, InType, done, stop, byte_or, Part, number_at, count_at, offset_at, bytes_at, skip_at, name_at, type_at, known_type, type_in, type_or_wrong}
+use Rattle.std.proofs.Common.{◌≡◌, ◌≢◌, ℕ, zero, suc, ◌<◌, Bool, true, false, cond, leb, List, [], ◌∷◌, ◌++◌, length, Option, Some, None, refl, sym, ap, subst, ◌∙◌, append_assoc, arith, take, ◌^◌, ◌==◌, ◌||◌, find, ◌⊎◌, if◌then◌else◌, rules, inl, inr}
+use Rattle.nc_file.proofs.Prelude.{leb-false, leb-true, eqb-true, eqb-false, append-nil, get_or-take, get_or_past, length-take, Width, w32, w64, byte_len, to_be_bytes, from_be_bytes, AllByRecursion, FormatFault, HeaderTruncated, BadType, NcType, Version, AreBytes, padding_len, code_of, type_of_code, all_types, count_width, count_limit, offset_width, offset_limit, has_type, SpellsBytes, SpellsNumber, SpellsCount, SpellsOffset, SpellsPadded, SpellsName, SpellsType, EndsWithin, Stops, Then, Requires, Never, CountThen, InOffset, InName, InType, done, stop, byte_or, Part, number_at, count_at, offset_at, bytes_at, skip_at, name_at, type_at, known_type, type_in, type_or_wrong}
 use Rattle.std.proofs.Math.Seq.{take-append_seam}
 use Rattle.std.proofs.lemmas.Nat.{be_bytes_4, be_bytes_8, from_be_bytes-to_be_bytes_4, from_be_bytes-to_be_bytes_8}
 use Rattle.nc_base.specs.Names.{is_name, IsName}
@@ -19,12 +19,12 @@ after-cons : (n b : ℕ) (prefix bytes all rest : List ℕ) → TakenAfter n (pr
 after-cons n b prefix bytes all rest t = grind (arith, append_assoc prefix)
 
 cut-cons : (n b : ℕ) (bytes : List ℕ) (fault : FormatFault) (rest : List ℕ) → EndsWithin HeaderTruncated n bytes fault rest → EndsWithin HeaderTruncated (suc n) (b ∷ bytes) fault rest
-cut-cons n b bytes fault rest (ends_within cut) = ends_within (omega (arith, cut))
+cut-cons n b bytes fault rest (cut, is, left) = (omega (arith, cut), is, left)
 
 means-bytes_after : (n : ℕ) (prefix bytes : List ℕ) → AreBytes bytes → Means (TakenAfter n prefix bytes) (EndsWithin HeaderTruncated n) bytes ((bytes_at n prefix).run bytes)
 unfolding bytes_at ◌>>=◌ byte_or done
 means-bytes_after zero prefix bytes fits = spells prefix bytes (record { content = []; taken = record { count = refl; spelled = refl }; joined = sym (append-nil prefix) }) fits
-means-bytes_after (suc n) prefix [] fits = stops _ _ (ends_within (omega arith))
+means-bytes_after (suc n) prefix [] fits = stops _ _ (omega arith, refl, refl)
 means-bytes_after (suc n) prefix (b ∷ bytes) fits =
     means-map (means-bytes_after n (prefix ++ b ∷ []) bytes (AreBytes-tail b bytes fits)) (λ all rest. after-cons n b prefix bytes all rest) (cut-cons n b bytes)
 
@@ -43,7 +43,7 @@ skipped-cons n b bytes rest s = record { content = b ∷ s.content; taken = reco
 pub means-skip : (n : ℕ) (bytes : List ℕ) → AreBytes bytes → Means (λ skipped. Skipped n bytes) (EndsWithin HeaderTruncated n) bytes ((skip_at n).run bytes)
 unfolding skip_at ◌>>=◌ byte_or done
 means-skip zero bytes fits = spells tt bytes (record { content = []; taken = record { count = refl; spelled = refl } }) fits
-means-skip (suc n) [] fits = stops _ _ (ends_within (omega arith))
+means-skip (suc n) [] fits = stops _ _ (omega arith, refl, refl)
 means-skip (suc n) (b ∷ bytes) fits = means-map (means-skip n bytes (AreBytes-tail b bytes fits)) (λ u rest. skipped-cons n b bytes rest) (cut-cons n b bytes)
 
 -- ---- numbers
@@ -93,19 +93,20 @@ means-count v bytes fits =
     (λ n rest number more. means-rule _ _ rest (reaches (count_limit v) n) (leb-false _ _)
     (λ low. spells n rest (record { number = number; non_negative = low }) more))
 
-count-of-then : {InNext : ℕ → Stops} (v : Version) (bytes : List ℕ) (fault : FormatFault) (rest : List ℕ)
+count-of-then : (InNext : ℕ → Stops) (v : Version) (bytes : List ℕ) (fault : FormatFault) (rest : List ℕ)
     → Then (SpellsCount v) (CountThen v (λ n. Never)) InNext bytes fault rest → CountThen v InNext bytes fault rest
-count-of-then v bytes _ _ (in_part (in_part cut)) = in_part cut
-count-of-then v bytes _ _ (in_part (in_next n middle number (breaks high))) = in_next n middle number (breaks high)
-count-of-then v bytes fault rest (in_part (in_next n middle number (keeps _ _ low never))) = absurd never
-count-of-then v bytes fault rest (in_next n middle count more) = in_next n middle count.number (keeps fault rest count.non_negative more)
+count-of-then InNext v bytes fault rest (inl (inl cut)) = inl cut
+count-of-then InNext v bytes fault rest (inl (inr (n, middle, number, inl high))) = inr (n, middle, number, inl high)
+count-of-then InNext v bytes fault rest (inl (inr (n, middle, number, inr (low, never)))) = absurd never
+count-of-then InNext v bytes fault rest (inr (n, middle, count, more)) = inr (n, middle, count.number, inr (count.non_negative, more))
 
 -- a NON_NEG and what follows it
 pub means-counted : {A : Type 0} {InNext : ℕ → Stops} {P : A → List ℕ → Type 0} (v : Version) (f : ℕ → Part A) (bytes : List ℕ) → AreBytes bytes
     → ((n : ℕ) (rest : List ℕ) → SpellsCount v bytes n rest → AreBytes rest → Means P (InNext n) rest ((f n).run rest))
     → Means P (CountThen v InNext) bytes ((count_at v >>= f).run bytes)
 unfolding ◌>>=◌
-means-counted v f bytes fits go = means-map (means-then f (means-count v bytes fits) go) (λ x rest p. p) (count-of-then v bytes)
+means-counted {InNext = InNext} v f bytes fits go =
+    means-map (means-then {Spells = SpellsCount v} {InNext = InNext} f (means-count v bytes fits) go) (λ x rest p. p) (count-of-then InNext v bytes)
 
 pub means-offset : (v : Version) → ReadsAs (SpellsOffset v) (InOffset v) (offset_at v)
 unfolding offset_at ◌>>=◌ done
@@ -125,9 +126,6 @@ spelled-name v n bytes body name following rest count taken valid skipped = sear
 
 pub not-true : (b : Bool) → b ≡ false → ¬ (b ≡ true)
 not-true b e h = grind arith
-
-not-false : (b : Bool) → b ≡ true → ¬ (b ≡ false)
-not-false b e h = grind arith
 
 pub means-name : (v : Version) → ReadsAs (SpellsName v) (InName v) (name_at v)
 unfolding name_at ◌>>=◌ done
@@ -178,7 +176,7 @@ type-means : (v : Version) (code : ℕ) (bytes rest : List ℕ) (known : Option 
     → SpellsNumber w32 bytes code rest → AreBytes rest
     → Means (SpellsType v bytes) (Requires ((ty : NcType) × (code ≡ code_of ty) × (has_type v ty ≡ true)) BadType Never) rest ((type_or_wrong (known_type v known)).run rest)
 unfolding done stop
-type-means v code bytes rest None is number fits = stops _ _ (breaks (no-type v code (sym is)))
+type-means v code bytes rest None is number fits = stops _ _ (inl (no-type v code (sym is), refl, refl))
 type-means v code bytes rest (Some ty) is number fits = at (has_type v ty) refl
   where
     same : code ≡ code_of ty
@@ -187,11 +185,17 @@ type-means v code bytes rest (Some ty) is number fits = at (has_type v ty) refl
     at : (b : Bool) → has_type v ty ≡ b
         → Means (SpellsType v bytes) (Requires ((ty : NcType) × (code ≡ code_of ty) × (has_type v ty ≡ true)) BadType Never) rest ((type_or_wrong (if b then Some ty else None)).run rest)
     at true has = spells ty rest (record { number = subst (λ (c : ℕ). SpellsNumber w32 bytes c rest) same number; has = has }) fits
-    at false lacks = stops _ _ (breaks (no-other v code ty is lacks))
+    at false lacks = stops _ _ (inl (no-other v code ty is lacks, refl, refl))
+
+float_found : (code : ℕ) → ((code == 5) || (code == 6)) ≡ true → ¬ ((code ≢ 5) × (code ≢ 6))
+float_found code e none = grind arith
+
+no-float_found : (code : ℕ) → ((code == 5) || (code == 6)) ≡ false → (code ≢ 5) × (code ≢ 6)
+no-float_found code e = grind arith
 
 pub means-type : (v : Version) → ReadsAs (SpellsType v) (InType v) (type_at v)
 unfolding type_at type_in ◌>>=◌
 means-type v bytes fits =
     means-then _ (means-number w32 wide-32 bytes fits)
-    (λ code rest number more. means-rule ((code == 5) || (code == 6)) _ rest (not-false _) (λ other. other)
+    (λ code rest number more. means-rule ((code == 5) || (code == 6)) _ rest (float_found code) (no-float_found code)
     (λ other. type-means v code bytes rest (type_of_code code) refl number more))

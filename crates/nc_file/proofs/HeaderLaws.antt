@@ -1,6 +1,6 @@
 -- A header is read as the grammar says.
 use Rattle.std.proofs.Common.{◌≡◌, ℕ, suc, ◌<◌, Bool, true, false, cond, leb, List, [], ◌∷◌, ◌++◌, Option, Some, None, inl, inr, refl, ap, subst, arith, ◌==◌, ◌&&◌, ◌⊎◌, rules}
-use Rattle.nc_file.proofs.Prelude.{eqb-true, eqb-false, leb-true, leb-false, HeaderTruncated, Known, Streaming, Version, AreBytes, version_byte, version_of_byte, count_width, count_limit, streaming_mark, SpellsNumber, SpellsMagic, SpellsNumRecs, SpellsHeader, EndsWithin, ends_within, InMagic, InNumRecs, Never, Requires, breaks, Stops, StopsWith, Then, in_part, in_next, UnknownVersion, BadCount, done, stop, wrong, byte_or, version_or, version_at, magic_at, numrecs_at, header_at, and_parts}
+use Rattle.nc_file.proofs.Prelude.{eqb-true, eqb-false, leb-true, leb-false, HeaderTruncated, Known, Streaming, Version, AreBytes, version_byte, version_of_byte, count_width, count_limit, streaming_mark, SpellsByte, SpellsNumber, SpellsMagic, SpellsNumRecs, SpellsHeader, EndsWithin, InMagic, InNumRecs, Never, Requires, Stops, StopsWith, Then, UnknownVersion, BadCount, done, stop, wrong, byte_or, version_or, version_at, magic_at, numrecs_at, header_at, and_parts}
 use Rattle.nc_file.specs.code.Reading.{◌>>=◌}
 use Rattle.nc_file.proofs.Means.{Means, spells, stops, ReadsAs, means-map, means-value, means-then, means-kept, AreBytes-tail}
 use Rattle.nc_file.proofs.FieldLaws.{count-wide, means-number, found}
@@ -27,26 +27,26 @@ no-version n is v = grind arith
 version-means : (bytes : List ℕ) (n : ℕ) (rest : List ℕ) (known : Option Version) → known ≡ version_of_byte n → bytes ≡ 67 ∷ 68 ∷ 70 ∷ n ∷ rest → AreBytes rest
     → Means (λ v more. SpellsMagic bytes v more) (Requires ((v : Version) × (n ≡ version_byte v)) (UnknownVersion n) Never) rest ((version_or n known).run rest)
 unfolding done stop
-version-means bytes n rest None is e fits = stops _ _ (breaks (no-version n is))
+version-means bytes n rest None is e fits = stops _ _ (inl (no-version n is, refl, refl))
 version-means bytes n rest (Some v) is e fits = search (rules, eqb-true, found, spells)
 
 -- the version byte, and the rest after it
 abbrev pub InVersion : Stops
-InVersion = Then (λ bytes n rest. bytes ≡ n ∷ rest) (EndsWithin HeaderTruncated 1) (λ n. Requires ((v : Version) × (n ≡ version_byte v)) (UnknownVersion n) Never)
+InVersion = Then SpellsByte (EndsWithin HeaderTruncated 1) (λ n. Requires ((v : Version) × (n ≡ version_byte v)) (UnknownVersion n) Never)
 
 means-version : (bytes rest : List ℕ) → bytes ≡ 67 ∷ 68 ∷ 70 ∷ rest → AreBytes rest → Means (λ v more. SpellsMagic bytes v more) InVersion rest (version_at.run rest)
 unfolding version_at ◌>>=◌ byte_or
-means-version bytes [] e fits = stops _ _ (in_part (ends_within (omega arith)))
+means-version bytes [] e fits = stops _ _ (inl (omega arith, refl, refl))
 means-version bytes (n ∷ rest) e fits =
-    means-map (version-means bytes n rest (version_of_byte n) refl e (AreBytes-tail n rest fits)) (λ v more p. p) (λ fault more q. in_next n rest refl q)
+    means-map (version-means bytes n rest (version_of_byte n) refl e (AreBytes-tail n rest fits)) (λ v more p. p) (λ fault more q. inr (n, rest, refl, q))
 
 pub means-magic : ReadsAs SpellsMagic InMagic magic_at
 unfolding magic_at ◌>>=◌ byte_or
 means-magic (a ∷ b ∷ c ∷ rest) fits =
     means-map (means-kept ((a == 67) && (b == 68) && (c == 70)) _ rest (other-word a b c) (is-word a b c)
     (λ is. means-version (a ∷ b ∷ c ∷ rest) rest (ap (λ (word : List ℕ). word ++ rest) is) (λ i. fits (suc (suc (suc i))))))
-    (λ v more p. p) (λ fault more q. in_next (a ∷ b ∷ c ∷ []) rest (record { count = refl; spelled = refl }) q)
-means-magic _ fits = stops _ _ (in_part (ends_within (omega arith)))
+    (λ v more p. p) (λ fault more q. inr (a ∷ b ∷ c ∷ [], rest, record { count = refl; spelled = refl }, q))
+means-magic _ fits = stops _ _ (inl (omega arith, refl, refl))
 
 -- ---- the number of records
 
@@ -63,7 +63,7 @@ means-numrecs v bytes fits =
     by-tests : (n : ℕ) (rest : List ℕ) → SpellsNumber (count_width v) bytes n rest → AreBytes rest → (is_mark is_high : Bool) → (n == streaming_mark v) ≡ is_mark → leb (count_limit v) n ≡ is_high
         → Means (SpellsNumRecs v bytes) (Requires ((n < count_limit v) ⊎ (n ≡ streaming_mark v)) BadCount Never) rest ((cond is_mark (done Streaming) (cond is_high (wrong BadCount) (done (Known n)))).run rest)
     by-tests n rest number more true is_high mark high = spells Streaming rest (subst (λ (k : ℕ). SpellsNumber (count_width v) bytes k rest) (eqb-true _ _ mark) number) more
-    by-tests n rest number more false true mark high = stops _ _ (breaks (neither n v mark high))
+    by-tests n rest number more false true mark high = stops _ _ (inl (neither n v mark high, refl, refl))
     by-tests n rest number more false false mark high = spells (Known n) rest (record { number = number; non_negative = leb-false _ _ high }) more
 
 -- ---- the whole

@@ -1,7 +1,7 @@
 -- The other direction: a header that is spelled is read, and reading stops with the first wrong field. So each list of bytes
 -- has one header or one first wrong field.
 use Rattle.std.proofs.Common.{◌≡◌, ◌≢◌, ℕ, ◌<◌, true, cond, leb, List, [], ◌∷◌, length, Option, Some, None, inl, inr, Ok, Err, refl, ap, ◌∙◌, arith, ◌==◌, ◌&&◌, ◌⊎◌, rules}
-use Rattle.nc_file.proofs.Prelude.{eq-eqb, NotNetcdf, UnknownVersion, BadCount, Known, Streaming, Version, Cdf1, version_byte, version_of_byte, count_width, count_limit, streaming_mark, SpellsMagic, SpellsNumRecs, SpellsHeader, ends_within, InMagic, InNumRecs, Never, Requires, breaks, keeps, StopsWith, in_part, in_next, Format, done, stop, wrong, byte_or, version_or, version_at, magic_at, numrecs_at, header_at}
+use Rattle.nc_file.proofs.Prelude.{eq-eqb, NotNetcdf, UnknownVersion, BadCount, Known, Streaming, Version, Cdf1, version_byte, version_of_byte, count_width, count_limit, streaming_mark, SpellsMagic, SpellsNumRecs, SpellsHeader, InMagic, InNumRecs, Never, Requires, StopsWith, Format, done, stop, wrong, byte_or, version_or, version_at, magic_at, numrecs_at, header_at}
 use Rattle.nc_file.specs.code.Reading.{◌>>=◌}
 use Rattle.nc_file.proofs.FieldLaws.{count-wide}
 use Rattle.nc_file.proofs.HeaderLaws.{InVersion, is-word, version-is}
@@ -30,14 +30,15 @@ no-version n (Some v) is none = absurd (none (v, version-is n v is))
 
 bad-byte : (n : ℕ) → StopsAgain (Requires ((v : Version) × (n ≡ version_byte v)) (UnknownVersion n) Never) (version_or n (version_of_byte n))
 unfolding stop
-bad-byte n bytes _ _ (breaks none) = ap (λ (known : Option Version). (version_or n known).run bytes) (no-version n (version_of_byte n) refl none)
-bad-byte n bytes _ _ (keeps fault rest is s) = absurd s
+bad-byte n bytes fault rest (inl (none, is, left)) =
+    rw (is, left) (ap (λ (known : Option Version). (version_or n known).run bytes) (no-version n (version_of_byte n) refl none))
+bad-byte n bytes fault rest (inr (is, s)) = absurd s
 
 version-stop : StopsAgain InVersion version_at
 unfolding version_at ◌>>=◌ byte_or
-version-stop [] fault rest (in_part (ends_within cut)) = refl
-version-stop (b ∷ bytes) fault rest (in_part (ends_within cut)) = absurd (omega (arith, cut))
-version-stop bytes fault rest (in_next n middle is s) = ap version_at.run is ∙ bad-byte n middle fault rest s
+version-stop [] fault rest (inl (cut, is, left)) = rw (is, left) refl
+version-stop (b ∷ bytes) fault rest (inl (cut, is, left)) = absurd (omega (arith, cut))
+version-stop bytes fault rest (inr (n, middle, is, s)) = ap version_at.run is ∙ bad-byte n middle fault rest s
 
 word-test : (a b c : ℕ) → a ∷ b ∷ c ∷ [] ≡ 67 ∷ 68 ∷ 70 ∷ [] → ((a == 67) && (b == 68) && (c == 70)) ≡ true
 word-test a b c is = grind (arith, eq-eqb)
@@ -47,9 +48,9 @@ three-stop a b c = kept-stops _ _ (λ other. not-so _ (λ e. other (is-word a b 
 
 pub magic-stop : StopsAgain InMagic magic_at
 unfolding magic_at ◌>>=◌ byte_or
-magic-stop bytes _ _ (in_part (ends_within cut)) = cut-magic-again bytes cut
-magic-stop bytes fault rest (in_next (a ∷ b ∷ c ∷ []) middle word s) = ap magic_at.run word.spelled ∙ three-stop a b c middle fault rest s
-magic-stop bytes fault rest (in_next _ middle word s) = absurd (omega (arith, word.count))
+magic-stop bytes fault rest (inl (cut, is, left)) = rw (is, left) (cut-magic-again bytes cut)
+magic-stop bytes fault rest (inr (a ∷ b ∷ c ∷ [], middle, word, s)) = ap magic_at.run word.spelled ∙ three-stop a b c middle fault rest s
+magic-stop bytes fault rest (inr (_, middle, word, s)) = absurd (omega (arith, word.count))
 
 -- ---- the number of records
 
@@ -66,9 +67,9 @@ numrecs-again v bytes numrecs rest h = grind (arith, then-ok, number-again, coun
 high-stop : (v : Version) (n : ℕ) → StopsAgain (Requires ((n < count_limit v) ⊎ (n ≡ streaming_mark v)) BadCount Never)
     (cond (n == streaming_mark v) (done Streaming) (cond (leb (count_limit v) n) (wrong BadCount) (done (Known n))))
 unfolding stop
-high-stop v n bytes _ _ (breaks high) =
-    if-not _ _ (other-test n (streaming_mark v) (λ e. high (inr e))) (if-so _ _ (reached-test _ _ (λ low. high (inl low))) refl)
-high-stop v n bytes _ _ (keeps fault rest low s) = absurd s
+high-stop v n bytes fault rest (inl (high, is, left)) =
+    rw (is, left) (if-not _ _ (other-test n (streaming_mark v) (λ e. high (inr e))) (if-so _ _ (reached-test _ _ (λ low. high (inl low))) refl))
+high-stop v n bytes fault rest (inr (low, s)) = absurd s
 
 numrecs-stop : (v : Version) → StopsAgain (InNumRecs v) (numrecs_at v)
 unfolding numrecs_at

@@ -1,6 +1,6 @@
 -- That a part of a header reads what the grammar says: how such facts are put together.
-use Rattle.std.proofs.Common.{◌≡◌, ℕ, suc, Bool, true, false, cond, List, ◌∷◌, Ok, Err, refl}
-use Rattle.nc_file.proofs.Prelude.{FormatFault, AreBytes, Stops, Then, in_part, in_next, Requires, breaks, keeps, Format, Outcome, Part, next, stop, wrong}
+use Rattle.std.proofs.Common.{◌≡◌, ℕ, suc, Bool, true, false, cond, List, ◌∷◌, Ok, Err, refl, inl, inr}
+use Rattle.nc_file.proofs.Prelude.{FormatFault, AreBytes, Stops, Then, Requires, Format, Outcome, Part, next, stop, wrong}
 
 -- What reading gives is what the grammar says: a value and the rest, or what is wrong with the first wrong field of these bytes and
 -- the rest after it.
@@ -34,8 +34,8 @@ pub means-then : {A B : Type 0} {Spells : List ℕ → A → List ℕ → Type 0
     → Means (Spells bytes) In bytes o
     → ((x : A) (rest : List ℕ) → Spells bytes x rest → AreBytes rest → Means P (InNext x) rest ((f x).run rest))
     → Means P (Then Spells In InNext) bytes (next o f)
-means-then f (spells x rest s fits) go = means-map (go x rest s fits) (λ y more p. p) (λ fault more q. in_next x rest s q)
-means-then f (stops fault rest q) go = stops fault rest (in_part q)
+means-then f (spells x rest s fits) go = means-map (go x rest s fits) (λ y more p. p) (λ fault more q. inr (x, rest, s, q))
+means-then f (stops fault rest q) go = stops fault rest (inl q)
 
 -- a rule whose test says that it is broken, and what follows it
 pub means-rule : {A : Type 0} {Holds : Type 0} {broken : FormatFault} {InNext : Stops} {P : A → List ℕ → Type 0} (b : Bool) (part : Part A) (bytes : List ℕ)
@@ -43,8 +43,8 @@ pub means-rule : {A : Type 0} {Holds : Type 0} {broken : FormatFault} {InNext : 
     → (Holds → Means P InNext bytes (part.run bytes))
     → Means P (Requires Holds broken InNext) bytes ((cond b (wrong broken) part).run bytes)
 unfolding stop
-means-rule true part bytes refuted kept go = stops _ _ (breaks (refuted refl))
-means-rule false part bytes refuted kept go = means-map (go (kept refl)) (λ x rest p. p) (λ fault rest q. keeps fault rest (kept refl) q)
+means-rule true part bytes refuted kept go = stops _ _ (inl (refuted refl, refl, refl))
+means-rule false part bytes refuted kept go = means-map (go (kept refl)) (λ x rest p. p) (λ fault rest q. inr (kept refl, q))
 
 -- a rule whose test says that it is kept
 pub means-kept : {A : Type 0} {Holds : Type 0} {broken : FormatFault} {InNext : Stops} {P : A → List ℕ → Type 0} (b : Bool) (part : Part A) (bytes : List ℕ)
@@ -52,8 +52,8 @@ pub means-kept : {A : Type 0} {Holds : Type 0} {broken : FormatFault} {InNext : 
     → (Holds → Means P InNext bytes (part.run bytes))
     → Means P (Requires Holds broken InNext) bytes ((cond b part (wrong broken)).run bytes)
 unfolding stop
-means-kept true part bytes refuted kept go = means-map (go (kept refl)) (λ x rest p. p) (λ fault rest q. keeps fault rest (kept refl) q)
-means-kept false part bytes refuted kept go = stops _ _ (breaks (refuted refl))
+means-kept true part bytes refuted kept go = means-map (go (kept refl)) (λ x rest p. p) (λ fault rest q. inr (kept refl, q))
+means-kept false part bytes refuted kept go = stops _ _ (inl (refuted refl, refl, refl))
 
 pub AreBytes-tail : (b : ℕ) (bytes : List ℕ) → AreBytes (b ∷ bytes) → AreBytes bytes
 AreBytes-tail b bytes fits i = fits (suc i)

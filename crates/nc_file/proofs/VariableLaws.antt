@@ -1,6 +1,6 @@
 -- Variables are read as the grammar says.
-use Rattle.std.proofs.Common.{◌≡◌, ℕ, ◌+◌, ◌≤◌, Bool, true, false, cond, leb, List, [], ◌∷◌, length, Some, None, refl, arith, ◌==◌, ◌||◌, ◌&&◌, not, rules}
-use Rattle.nc_file.proofs.Prelude.{eqb-true, leb-true, leb-false, ltb-true, TooLarge, Dim, Var, NcType, Version, AreBytes, count_width, slab_of, slab_limit, record_limit, IsDimid, variable_tag, SpellsCounted, SpellsList, SpellsDimid, SpellsVar, IsWithinLimits, InCounted, InList, InDimid, InVar, Requires, breaks, keeps, Stops, Part, SizedVar, next, done, stop, is_dimid, dimid_at, dimid_after, shape_at, record_part, total_with, total_or_wrong, var_at, var_after, var_list_at, and_parts}
+use Rattle.std.proofs.Common.{◌≡◌, ℕ, ◌+◌, ◌≤◌, Bool, true, false, cond, leb, List, [], ◌∷◌, length, Some, None, refl, arith, ◌==◌, ◌||◌, ◌&&◌, not, rules, inl, inr}
+use Rattle.nc_file.proofs.Prelude.{eqb-true, leb-true, leb-false, ltb-true, TooLarge, Dim, Var, NcType, Version, AreBytes, count_width, slab_of, slab_limit, record_limit, IsDimid, variable_tag, SpellsCounted, SpellsList, SpellsDimid, SpellsVar, IsWithinLimits, InCounted, InList, InDimid, InVar, Requires, Stops, Part, SizedVar, next, done, stop, is_dimid, dimid_at, dimid_after, shape_at, record_part, total_with, total_or_wrong, var_at, var_after, var_list_at, and_parts}
 use Rattle.nc_file.specs.code.Reading.{◌>>=◌}
 use Rattle.nc_file.proofs.Totals.{total_of, total_of-append}
 use Rattle.nc_file.proofs.Means.{Means, spells, stops, ReadsAs, means-map, means-value, means-then, means-kept}
@@ -71,9 +71,9 @@ means-total {P = P} {InNext = InNext} dims before var total f bytes same go = by
         (next ((total_or_wrong (cond (slab_test && record_test) (Some (total + record_part dims var.dimids var.ty)) None)).run bytes) f)
     by-tests true true a b =
         let small : IsWithinLimits dims before var = within dims before var total same (record { slab = leb-true _ _ a; records = leb-true _ _ b }) in
-        means-map (go (total + record_part dims var.dimids var.ty) small) (λ x rest p. p) (λ fault rest q. keeps fault rest small q)
-    by-tests true false a b = stops _ _ (breaks (λ w. let high = leb-false _ _ b in let low = (fits-within dims before var total same w).records in absurd (omega (arith, high, low))))
-    by-tests false r a b = stops _ _ (breaks (λ w. let high = leb-false _ _ a in let low = (fits-within dims before var total same w).slab in absurd (omega (arith, high, low))))
+        means-map (go (total + record_part dims var.dimids var.ty) small) (λ x rest p. p) (λ fault rest q. inr (small, q))
+    by-tests true false a b = stops _ _ (inl ((λ w. let high = leb-false _ _ b in let low = (fits-within dims before var total same w).records in absurd (omega (arith, high, low))), refl, refl))
+    by-tests false r a b = stops _ _ (inl ((λ w. let high = leb-false _ _ a in let low = (fits-within dims before var total same w).slab in absurd (omega (arith, high, low))), refl, refl))
 
 -- ---- variables
 

@@ -1,6 +1,6 @@
 -- The other direction: variables that are spelled are read, and reading stops with their first wrong field.
-use Rattle.std.proofs.Common.{◌≡◌, ℕ, ◌+◌, true, List, [], Ok, Err, refl, rules}
-use Rattle.nc_file.proofs.Prelude.{leb-true, TooLarge, Dim, Var, NcType, Version, count_width, IsDimid, variable_tag, SpellsCounted, SpellsList, SpellsDimid, SpellsVar, IsWithinLimits, InCounted, InList, InDimid, InVar, Requires, breaks, keeps, Stops, Format, SizedVar, Part, done, stop, is_dimid, dimid_at, dimid_after, shape_at, record_part, total_with, total_or_wrong, var_at, var_after, var_list_at, and_both, and_parts}
+use Rattle.std.proofs.Common.{◌≡◌, ℕ, ◌+◌, true, List, [], Ok, Err, refl, rules, inl, inr}
+use Rattle.nc_file.proofs.Prelude.{leb-true, TooLarge, Dim, Var, NcType, Version, count_width, IsDimid, variable_tag, SpellsCounted, SpellsList, SpellsDimid, SpellsVar, IsWithinLimits, InCounted, InList, InDimid, InVar, Requires, Stops, Format, SizedVar, Part, done, stop, is_dimid, dimid_at, dimid_after, shape_at, record_part, total_with, total_or_wrong, var_at, var_after, var_list_at, and_both, and_parts}
 use Rattle.nc_file.specs.code.Reading.{◌>>=◌}
 use Rattle.nc_file.proofs.FieldLaws.{count-wide}
 use Rattle.nc_file.proofs.Totals.{total_of}
@@ -52,9 +52,9 @@ total-stop : {InNext : Stops} (dims : List Dim) (before : List Var) (var : Var) 
     → ((sum : ℕ) → StopsAgain InNext (f sum))
     → StopsAgain (Requires (IsWithinLimits dims before var) TooLarge InNext) (total_or_wrong (total_with dims var.dimids var.ty total) >>= f)
 unfolding ◌>>=◌
-total-stop dims before var total f same after bytes _ _ (breaks large) =
-    then-err f (large-again dims var.dimids var.ty total bytes (λ fits. large (within dims before var total same fits)))
-total-stop dims before var total f same after bytes _ _ (keeps fault rest small s) =
+total-stop dims before var total f same after bytes fault rest (inl (large, is, left)) =
+    rw (is, left) (then-err f (large-again dims var.dimids var.ty total bytes (λ fits. large (within dims before var total same fits))))
+total-stop dims before var total f same after bytes fault rest (inr (small, s)) =
     then-ok f (total-again dims var.dimids var.ty total bytes (fits-within dims before var total same small)) (after _ bytes fault rest s)
 
 -- ---- variables

@@ -22,6 +22,7 @@ pub enum HeadFault {
 impl From<SourceFailed> for HeadFault {
     ghost from_gives = { λ _ e. e ≡ ReadFailed };
 
+    /// Turns a failed read of the source into [`HeadFault::ReadFailed`], for the `?` after the read.
     fn from(_e: SourceFailed) -> HeadFault {
         HeadFault::ReadFailed
     }
@@ -30,6 +31,7 @@ impl From<SourceFailed> for HeadFault {
 impl From<FormatFault> for HeadFault {
     ghost from_gives = { λ fault e. e ≡ Format fault };
 
+    /// Turns a fault of the header's bytes into [`HeadFault::Format`] with this fault, for the `?` after a check of the bytes.
     fn from(fault: FormatFault) -> HeadFault {
         HeadFault::Format(fault)
     }
@@ -38,6 +40,7 @@ impl From<FormatFault> for HeadFault {
 impl From<AllocError> for HeadFault {
     ghost from_gives = { λ _ e. e ≡ OutOfMemory };
 
+    /// Turns a failed allocation into [`HeadFault::OutOfMemory`], for the `?` after a call that allocates.
     fn from(_e: AllocError) -> HeadFault {
         HeadFault::OutOfMemory
     }

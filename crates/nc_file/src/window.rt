@@ -12,10 +12,12 @@ use nc_base::{FormatFault, Sequence, Version, padding_len};
 use std::alloc::Global;
 
 /// A window on a source: a caller's buffer that holds `filled` bytes of the source, from the offset `base` on. The first `pos` of them have
-/// been used. The source has `len` bytes. The window reads on from the source only when all `filled` bytes have been used.
+/// been used, which means read or passed over. The source has `len` bytes. The window reads on from the source only when all `filled` bytes
+/// have been used.
 ///
 /// Each function that reads through the window errs with `HeaderTruncated` if the source ends too early, with `ReadFailed` if the source
-/// fails, and with `OutOfMemory` if an allocation fails. Its own comment names its other errors.
+/// fails, and with `OutOfMemory` if an allocation fails. Its other errors are those that its own comment names, and those of the functions
+/// that it calls. After an error nothing more is read through the window.
 #[derive(Drop)]
 pub(crate) struct Window<'a, S: Source> {
     pub(crate) source: &'a mut S,
@@ -35,8 +37,8 @@ pub(crate) struct Window<'a, S: Source> {
 impl<S: Source> Window<'_, S> {
     ghost use Rattle.nc_file.specs.code.Window.{FailsOnly, Kept, Refilled, Read, ReadNext, Filled, Ready};
 
-    /// Reads bytes of the source into a window whose bytes have all been used, and returns true if at least one came. Returns
-    /// false if the source has no more. Errs with `ReadFailed` if the source fails.
+    /// Needs a window whose bytes have all been used. Reads the next bytes of the source in their place, and returns true if at least one
+    /// came, or false if the source has no more. If the source fails, it errs with `ReadFailed`, and the window holds no bytes.
     fn refill(&mut self) -> Result<bool, HeadFault>
         requires empty { self.old.pos ≡ self.old.filled }
         ensures kept { Kept self.old self.new }
@@ -61,9 +63,9 @@ impl<S: Source> Window<'_, S> {
         Ok(0 < n)
     }
 
-    /// Makes sure that the window has the next byte. Errs with `HeaderTruncated` if no byte is left, and with `ReadFailed` if
-    /// the source fails.
-    fn fill(&mut self) -> Result<(), HeadFault>
+    /// Makes sure that the window holds a byte that hasn't been used. Reads from the source only if all bytes that it holds have been used.
+    /// Errs with `HeaderTruncated` if the source has no byte left, and with `ReadFailed` if the source fails.
+    fn ensure_byte(&mut self) -> Result<(), HeadFault>
         ensures kept { Kept self.old self.new }
         ensures cause { FailsOnly self.old self.new result }
         ensures filled { Filled self.old self.new result }
@@ -79,14 +81,14 @@ impl<S: Source> Window<'_, S> {
     pub(crate) fn byte(&mut self) -> Result<u8, HeadFault>
         ensures { Read self.old self.new byte_at result }
     {
-        self.fill()?;
+        self.ensure_byte()?;
         let b = self.buf[self.pos];
         self.pos += 1;
         Ok(b)
     }
 
-    /// Reads as many bytes as the array has. Errs with `HeaderTruncated` if fewer are left, and with `ReadFailed` if the source
-    /// fails.
+    /// Reads `N` bytes, and returns them: by one copy if the window holds them all, otherwise byte by byte. Errs with
+    /// `HeaderTruncated` if fewer are left, and with `ReadFailed` if the source fails.
     fn array<const N: usize>(&mut self) -> Result<[u8; N], HeadFault>
         ensures { Read self.old self.new (bytes_at N []) result }
     {
@@ -98,7 +100,7 @@ impl<S: Source> Window<'_, S> {
         Ok(bytes)
     }
 
-    /// Returns the next `N` bytes, and leaves them unused. The window has all of them.
+    /// Returns the next `N` bytes, and leaves them unused. Needs a window that holds all of them.
     fn peek_array<const N: usize>(&self) -> [u8; N]
         requires { self.now.pos + N ≤ self.now.filled }
         ensures { result ≡ take N (drop self.now.pos self.now.buf.now) }
@@ -108,7 +110,7 @@ impl<S: Source> Window<'_, S> {
         bytes
     }
 
-    /// Reads an array as [`array`](Window::array) does, but byte by byte, for an array that the window doesn't hold whole.
+    /// Reads an array as [`array`](Window::array) does, but byte by byte. It is for an array that the window doesn't hold whole.
     #[tactic(auto, using(crate::proofs::Loops::array))]
     fn array_by_bytes<const N: usize>(&mut self) -> Result<[u8; N], HeadFault>
         ensures { Read self.old self.new (bytes_at N []) result }
@@ -158,7 +160,7 @@ impl<S: Source> Window<'_, S> {
         Ok(self.read_u32()? as u64)
     }
 
-    /// Reads a count or a length of the version. Errs with `BadCount` if its top bit is 1.
+    /// Reads a count or a length (`NON_NEG`) as [`number`](Window::number) does, but errs with `BadCount` if its top bit is 1.
     #[tactic(auto, using(crate::proofs::Parts::parts), unfolding(crate::specs::code::Reading::count_at))]
     pub(crate) fn count(&mut self, version: Version) -> Result<u64, HeadFault>
         ensures { Read self.old self.new (count_at version) result }
@@ -170,7 +172,8 @@ impl<S: Source> Window<'_, S> {
         Ok(n)
     }
 
-    /// Returns the next bytes, as many as the window has and at most `most`, and leaves them unused.
+    /// Returns the unused bytes that the window holds, or the first `most` if there are more, without a read of the source. Leaves them
+    /// unused. Needs a window with at least one unused byte, and a `most` above 0.
     fn ready(&self, most: u128) -> &[u8]
         requires some { self.now.pos < self.now.filled }
         requires most { 0 < most }
@@ -185,8 +188,10 @@ impl<S: Source> Window<'_, S> {
         &self.buf[self.pos..self.pos + k]
     }
 
-    /// Reads at least one byte and at most `most`, appends them to `out`, and returns how many. Errs with `HeaderTruncated` if
-    /// no byte is left, with `ReadFailed` if the source fails, and with `OutOfMemory` if an allocation fails.
+    /// Reads the next bytes, at least one and at most `most`, appends them to `out`, and returns how many. It takes the unused bytes that
+    /// the window holds; if there are none, it first reads from the source, once. Needs a `most` above 0. Errs with `HeaderTruncated` if no
+    /// byte is left, with `ReadFailed` if the source fails, and with `OutOfMemory` if an allocation fails. After an error `out` is as it
+    /// was before.
     #[tactic(auto, using(crate::proofs::Chunks::drop_more))]
     fn read_some(&mut self, out: &mut Sequence<u8>, most: u128) -> Result<usize, HeadFault>
         requires most { 0 < most }
@@ -195,7 +200,7 @@ impl<S: Source> Window<'_, S> {
         ensures count { IfOk result (λ k. (0 < k) × (k ≤ most)) }
         ensures next { ReadNext self.old self.new out.old out.new result }
     {
-        self.fill()?;
+        self.ensure_byte()?;
         let piece = self.ready(most);
         let k = piece.len();
         out.extend_from_slice(piece)?;
@@ -228,7 +233,7 @@ impl<S: Source> Window<'_, S> {
         Ok(())
     }
 
-    /// Passes over `n` bytes as [`skip`](Window::skip) does, but byte by byte, for bytes that the window doesn't hold all of.
+    /// Passes over `n` bytes as [`skip`](Window::skip) does, but byte by byte. It is for the case that the window doesn't hold them all.
     #[tactic(auto, using(crate::proofs::Loops::skip))]
     fn skip_by_bytes(&mut self, n: u64) -> Result<(), HeadFault>
         ensures { Read self.old self.new (skip_at n) result }
@@ -239,7 +244,8 @@ impl<S: Source> Window<'_, S> {
         Ok(())
     }
 
-    /// Reads `n` bytes and the padding after them, up to a multiple of four, and returns the bytes without the padding.
+    /// Reads `n` bytes and the padding after them, up to a multiple of four, and returns the bytes without the padding, which may be any
+    /// bytes. Errs as [`bytes`](Window::bytes) and [`skip`](Window::skip) do.
     #[tactic(auto, using(crate::proofs::Parts::parts), unfolding(crate::specs::code::Reading::padded_at))]
     pub(crate) fn padded(&mut self, alloc: Global, n: u128) -> Result<Sequence<u8>, HeadFault>
         ensures { Read self.old self.new (padded_at n) result }

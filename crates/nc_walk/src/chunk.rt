@@ -31,14 +31,15 @@ impl Chunk {
     }
 }
 
-/// Reads `ready` values of one slab into the start of `into`. The first one is at `cursor`, and `at` is its offset in the file.
-/// Returns the chunk of the values that were read, which are fewer if the source has ended.
+/// Reads `ready` values of one slab into the start of `into`, as [`read_values`] does and under its conditions. The first one is at
+/// `cursor`, and `at` is its offset in the file. Returns a [`Chunk`]: how many values were read, which are fewer than `ready` if the source
+/// has ended before its length, and the cursor after them.
 ///
 /// # Errors
 ///
 /// `ReadFailed` if the source failed; `DataTruncated` if it has no whole value at this cursor.
 #[inline(always)]
-fn read_ready<S: Source>(
+fn read_values_as_chunk<S: Source>(
     slabs: &Slabs,
     cursor: Cursor,
     at: u64,
@@ -53,18 +54,19 @@ fn read_ready<S: Source>(
     ensures slab_read { IfOk result (ReadToSlabEnd slabs.now cursor S.view source.old source.new) }
 {
     let values = read_values(slabs, cursor, at, ready, source, into)?;
-    let next = cursor.following(*slabs, values);
+    let next = cursor.cursor_after(*slabs, values);
     Ok(Chunk { values, next })
 }
 
-/// Reads the values of one slab from this cursor on, at most `capacity`, into the start of `into`. Returns the chunk of the values
-/// that were read, which are fewer if the source has ended.
+/// Reads values of one slab, from this cursor on, into the start of `into`: those up to the slab's end that are whole inside of the source,
+/// but at most `capacity`. Returns a [`Chunk`]: how many values were read, which are fewer if the source has ended before its length, and
+/// the cursor after them. Needs a value at the cursor, and in `into` room for `capacity` values, at least one.
 ///
 /// # Errors
 ///
 /// `ReadFailed` if the source failed; `DataTruncated` if it has no whole value at this cursor.
 #[inline(never)]
-fn read_run<S: Source>(
+fn read_from_slab<S: Source>(
     slabs: &Slabs,
     cursor: Cursor,
     capacity: u64,
@@ -81,18 +83,19 @@ fn read_run<S: Source>(
         return Err(WalkFault::DataTruncated(cursor.number(*slabs)));
     }
     let at = slabs.offset(cursor) as u64;
-    read_ready(slabs, cursor, at, ready, source, into)
+    read_values_as_chunk(slabs, cursor, at, ready, source, into)
 }
 
 /// Reads values from this cursor on, of one slab after the other, into the start of `into`. Stops after `capacity` values, after
-/// the variable's last value, and before a value that isn't whole in the source. Returns the chunk of the values that were read. There is
-/// a value at the cursor, and `into` has room for `capacity` values, at least one.
+/// the variable's last value, and before a value that isn't whole in the source. Returns a [`Chunk`]: how many values were read, and the
+/// cursor after them. Needs a value at the cursor, and in `into` room for `capacity` values, at least one.
 ///
 /// # Errors
 ///
-/// `ReadFailed` if the source failed; `DataTruncated` if it has no whole value at this cursor.
-// The rest of a slab, then whole slabs, and last what fits of one more. Where a slab has few values, calls and tests would take longer
-// than the reads: so the loop over whole slabs has all of a read inside of it, and no more.
+/// `ReadFailed` if the source failed, even if it gave values before; `DataTruncated` if it has no whole value at this cursor. After an
+/// error `into` may hold anything.
+// Reads the rest of a slab, then whole slabs, and last what fits of one more. If slabs have few values, calls and tests take longer than
+// the reads. So the code of a read is inlined in the loop over whole slabs, and little else is there.
 #[inline(never)]
 pub(crate) fn read_chunk<S: Source>(
     slabs: &Slabs,
@@ -107,14 +110,14 @@ pub(crate) fn read_chunk<S: Source>(
 {
     let slabs = *slabs;
     let len = source.len();
-    let mut chunk = read_run(&slabs, cursor, capacity, source, into)?;
-    let mut at = slabs.offset_or_most(chunk.next);
+    let mut chunk = read_from_slab(&slabs, cursor, capacity, source, into)?;
+    let mut at = slabs.capped_offset(chunk.next);
     while chunk.continues_in_next_slab(slabs, capacity)
         && slabs.has_whole_slab(at, capacity - chunk.values, len)
     {
         let bytes_so_far = (chunk.values * slabs.size) as usize;
         let rest = &mut into[bytes_so_far..];
-        match read_ready(&slabs, chunk.next, at, slabs.values_per_slab, source, rest) {
+        match read_values_as_chunk(&slabs, chunk.next, at, slabs.values_per_slab, source, rest) {
             Ok(slab) => {
                 chunk = Chunk {
                     values: chunk.values + slab.values,
@@ -131,7 +134,7 @@ pub(crate) fn read_chunk<S: Source>(
     }
     let bytes_so_far = (chunk.values * slabs.size) as usize;
     let space = &mut into[bytes_so_far..];
-    match read_run(&slabs, chunk.next, capacity - chunk.values, source, space) {
+    match read_from_slab(&slabs, chunk.next, capacity - chunk.values, source, space) {
         Ok(more) => Ok(Chunk {
             values: chunk.values + more.values,
             next: more.next,

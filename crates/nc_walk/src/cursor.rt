@@ -15,7 +15,7 @@ pub(crate) struct Cursor {
 }
 
 impl Cursor {
-    /// Returns the number of the value among all values, from 0 on.
+    /// Returns the number of the value at this cursor among all values of the variable, from 0 on.
     pub(crate) fn number(self, slabs: Slabs) -> u128
         ensures { result ≡ number_at slabs self }
     {
@@ -30,8 +30,9 @@ impl Cursor {
         self.slab == slabs.total_slabs
     }
 
-    /// Returns the cursor `n` values further on. The values that are passed are of one slab.
-    pub(crate) fn following(self, slabs: Slabs, n: u64) -> Cursor
+    /// Returns the cursor `n` values further on. Needs a slab that has at least `n` values from this cursor on. If it has no more than `n`,
+    /// the result is at the start of the next slab, or after the last slab the cursor after the last value.
+    pub(crate) fn cursor_after(self, slabs: Slabs, n: u64) -> Cursor
         requires cursor { IsCursor slabs self }
         requires in_slab { self.within + n ≤ slabs.values_per_slab }
         requires left { number_at slabs self + n ≤ total slabs }

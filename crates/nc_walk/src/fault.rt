@@ -18,6 +18,7 @@ pub enum WalkFault {
 impl From<SourceFailed> for WalkFault {
     ghost from_gives = { λ _ e. e ≡ ReadFailed };
 
+    /// Turns a failed read of the source into [`WalkFault::ReadFailed`], for the `?` after the read.
     fn from(_e: SourceFailed) -> WalkFault {
         WalkFault::ReadFailed
     }

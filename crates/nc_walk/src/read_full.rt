@@ -6,12 +6,13 @@ ghost use Rattle.nc_walk.specs.code.FullReads.{ReadsInFull};
 use devices::{Source, SourceFailed};
 
 /// Reads the bytes from the offset `at` on until the slice is full, or a read gets no byte because the source has ended. Returns how
-/// many bytes were read. A source that is transparent fills the slice.
+/// many bytes were read. Needs a slice that isn't empty, and a source that by its length has bytes for all of it. A transparent source
+/// fills the slice, and an opaque one may end before its length ([`Source`] explains the two words).
 ///
 /// # Errors
 ///
-/// The source failed.
-// Most slices are filled by one read.
+/// The source failed. The slice may hold anything.
+// Most slices are filled by one read. So this function is inlined, and the loop over more reads is in `read_on`.
 #[inline(always)]
 pub(crate) fn read_full<S: Source>(
     source: &mut S,
@@ -31,11 +32,12 @@ pub(crate) fn read_full<S: Source>(
     Ok(got + more)
 }
 
-/// Reads bytes as [`read_full`] does, read by read, into a slice that may be empty.
+/// Reads bytes as [`read_full`] does, in as many reads as it takes, into a slice that may be empty. It is for the bytes that the one read
+/// of [`read_full`] didn't get.
 ///
 /// # Errors
 ///
-/// The source failed.
+/// The source failed. The slice may hold anything.
 #[inline(never)]
 fn read_on<S: Source>(source: &mut S, at: u64, into: &mut [u8]) -> Result<usize, SourceFailed>
     requires fits { at + length into.old < 2 ^ 64 }

@@ -11,8 +11,9 @@ use crate::read_full::read_full;
 use crate::slabs::Slabs;
 use devices::Source;
 
-/// Reads `ready` values of one slab into the start of `into`. The first one is at `cursor`, and `at` is its offset in the file.
-/// Returns how many whole values were read: at least 1, and fewer than `ready` if the source has ended.
+/// Reads `ready` values of one slab into the start of `into`. The first one is at `cursor`, and `at` is its offset in the file. Needs a
+/// `ready` of at least 1, and values that all end inside of the slab, of `into`, and of the source by its length. Returns how many whole
+/// values were read: at least 1, and fewer than `ready` if the source has ended before its length.
 ///
 /// # Errors
 ///

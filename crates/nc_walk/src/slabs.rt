@@ -25,7 +25,8 @@ pub(crate) struct Slabs {
 
 impl Slabs {
     /// Returns the slabs of the variable at index `v` over the records of the layout: one for each record, or one in all if the
-    /// variable has no record dimension. Slabs that are side by side become one, as [`Slabs::joined`] says.
+    /// variable has no record dimension. Slabs that are side by side become one, as [`Slabs::joined`] says. Needs a sound header
+    /// (`nc_base::Header::sound`), whose record size must be that of `layout`.
     pub(crate) fn of(header: &Header, v: usize, layout: RecordLayout) -> Slabs
         requires sound { IsSound header.now }
         requires there { v < length header.now.vars }
@@ -44,8 +45,8 @@ impl Slabs {
         slabs.joined()
     }
 
-    /// Returns the same values in one slab, if each slab begins at the end of the one before it. Otherwise, or if there are no
-    /// values or 2^64 or more, returns the slabs as they are.
+    /// Returns the same values in one slab, if each slab begins at the end of the one before it, so that one read can take values of many
+    /// records. Otherwise returns the slabs as they are. It does so too if there are no values, or more of them than a `u64` can count.
     fn joined(self) -> Slabs
         requires { IsSized self }
         ensures size { result.size ≡ self.size }
@@ -66,7 +67,7 @@ impl Slabs {
         }
     }
 
-    /// Returns the offset of the value at this cursor.
+    /// Returns the offset, in the file, of the value at this cursor. It may be past the end of the file, and past 2^64.
     pub(crate) fn offset(&self, cursor: Cursor) -> u128
         requires sized { IsSized self.now }
         requires within { cursor.within < self.now.values_per_slab }
@@ -78,7 +79,7 @@ impl Slabs {
     }
 
     /// Returns the offset of the value at this cursor, but at most 2^64 - 1, where no file has a byte.
-    pub(crate) fn offset_or_most(&self, cursor: Cursor) -> u64
+    pub(crate) fn capped_offset(&self, cursor: Cursor) -> u64
         requires sized { IsSized self.now }
         requires within { cursor.within < self.now.values_per_slab }
         ensures { IsOffset self.now (number_at self.now cursor) result }
@@ -98,8 +99,8 @@ impl Slabs {
             && self.values_per_slab * self.size <= len.saturating_sub(at)
     }
 
-    /// Returns how many values, from the one at this cursor to the end of its slab, are whole inside of a file of `len` bytes,
-    /// but at most `capacity`.
+    /// Returns how many values one read can take from this cursor on: those up to the end of its slab that are whole inside of a file of
+    /// `len` bytes, but at most `capacity`.
     pub(crate) fn ready(&self, cursor: Cursor, capacity: u64, len: u64) -> u64
         requires sized { IsSized self.now }
         requires within { cursor.within < self.now.values_per_slab }
@@ -125,7 +126,7 @@ fn total_slabs(dims: &[Dim], var: &Var, records: u64) -> u64
     if is_record_var(dims, var) { records } else { 1 }
 }
 
-/// Returns the number of values in a slab of the variable, which must have at most 2^48 bytes.
+/// Returns the number of values in a slab of the variable. Needs a slab of at most 2^48 bytes.
 fn values_per_slab(dims: &[Dim], var: &Var) -> u64
     requires { slab_size dims.now var.now ≤ slab_limit }
     ensures { result ≡ slab_count dims.now var.now }

@@ -45,7 +45,8 @@ impl<'a> Model for Walk<'a> {
 
 impl<'a> Walk<'a> {
     /// Returns a walk at the first value of the variable at index `v` of the header, over `records` records. The variable's `begin`
-    /// and its shape, and not its `vsize`, say where the values lie (NetCDF Classic Format Specification).
+    /// and its shape, and not its `vsize`, say where the values lie (NetCDF Classic Format Specification). Needs a sound header
+    /// (`nc_base::Header::sound`), and a buffer of at least 16 bytes.
     ///
     /// For callers of the library: `ncdump` itself calls [`with_layout`](Walk::with_layout), for many variables of one header.
     pub fn new(header: &Header, v: usize, records: u64, buf: &'a mut [u8]) -> Walk<'a>
@@ -66,8 +67,9 @@ impl<'a> Walk<'a> {
         )
     }
 
-    /// Returns a walk as [`Walk::new`] does, but over the records of this layout, for a caller that walks over many variables of
-    /// one file. It takes time in proportion to the variable's rank alone, whatever the other variables are.
+    /// Returns a walk at the first value of the variable at index `v`, as [`Walk::new`] does. `layout` has the number of records and the
+    /// record size, as `nc_base::record_layout` returns them, so this takes time in proportion to the variable's rank alone. It is for a
+    /// caller that walks over many variables of one file.
     pub fn with_layout(
         header: &Header,
         v: usize,
@@ -92,15 +94,15 @@ impl<'a> Walk<'a> {
     }
 
     /// Returns the first `n` bytes of the buffer.
-    fn prefix(&self, n: usize) -> &[u8]
+    fn buffer_prefix(&self, n: usize) -> &[u8]
         requires { n ≤ length self.now.buf }
         ensures { result.now ≡ take n self.now.buf }
     {
         &self.buf[..n]
     }
 
-    /// Reads the next values into the start of the buffer, and returns the number of their bytes, which is 0 after the last value.
-    /// Errs as [`Walk::next`] does.
+    /// Reads the next values into the start of the buffer, moves the walk past them, and returns the number of their bytes, or 0 after the
+    /// last value. Errs as [`Walk::next`] does, which calls this and lends the bytes.
     fn step<S: Source>(&mut self, source: &mut S) -> Result<usize, WalkFault>
         ensures advanced { Advanced self.old self.new (as_answer self.new.buf result) }
         ensures steps { TakesStep S.is_transparent self.old S.view source.old source.new
@@ -129,7 +131,7 @@ impl<'a> Walk<'a> {
     /// Reads the next values, one or more, of one slab or of several, and returns their bytes, which lie in the buffer. Returns
     /// `None` after the last value.
     ///
-    /// Of a transparent source the bytes of the chunk are read, and no others.
+    /// Of a transparent source ([`Source`]) the bytes of the chunk are read, and no others.
     ///
     /// # Errors
     ///
@@ -145,7 +147,7 @@ impl<'a> Walk<'a> {
     {
         match self.step(source) {
             Ok(0) => Ok(None),
-            Ok(n) => Ok(Some(self.prefix(n))),
+            Ok(n) => Ok(Some(self.buffer_prefix(n))),
             Err(fault) => Err(fault),
         }
     }

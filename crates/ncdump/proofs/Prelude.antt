@@ -9,7 +9,7 @@ unfoldable pub use Rattle.devices.specs.Sinks.{IsCut, append, taken_len, is_tran
 pub use Rattle.devices.specs.Sources.{SourceView}
 pub use Rattle.devices.specs.code.SourceReads.{having_read}
 pub use Rattle.nc_base.proofs.ValueLaws.{prefix-append, prefix_nil, look-type}
-pub use Rattle.nc_base.specs.Dump.{Ending, IsDump, first_unknown, Options, DataText, values_in_file, shown_data, data_truncated, dump_text, has_values, has_variable, no_data_text, no_such_variable, selection_of, shown, shown_data_text, stopped, unknown, with_variable, data_text, whole, wrong_field}
+pub use Rattle.nc_base.specs.Dump.{Ending, IsDump, first_unknown, Options, DataText, values_in_file, shown_data, data_truncated, dump_text, has_values, has_variable, no_data_text, no_such_variable, selection_of, shown, shown_data_text, stopped, unknown, with_variable, variables_text, whole, wrong_field}
 unfoldable pub use Rattle.nc_base.specs.Dump.{closing_word, data_word}
 pub use Rattle.nc_base.specs.Grammar.{SpellsHeader}
 unfoldable pub use Rattle.nc_base.specs.HeadText.{head_text}

@@ -44,7 +44,7 @@ pub fn command<'a>(alloc: Global) -> Result<Command<'a>, AllocError>
 /// # Errors
 ///
 /// Those of [`options_of`], and [`OptFault::Usage`] for words that the command doesn't take.
-pub(crate) fn options_by(alloc: Global, words: &[&str]) -> Result<DumpOptions, OptFault>
+pub(crate) fn options_of_words(alloc: Global, words: &[&str]) -> Result<DumpOptions, OptFault>
     ensures { AnswersBy asked_for (asked_by (texts_of words.now)) result }
 {
     let matches = command(alloc)?.try_get_matches_from(words)?;
@@ -58,7 +58,7 @@ pub(crate) fn options_by(alloc: Global, words: &[&str]) -> Result<DumpOptions, O
 ///
 /// # Errors
 ///
-/// [`OptFault::Usage`] if there is no file, if both `-c` and `-h` are given, or if the value of `-l` isn't of decimal digits alone or
+/// [`OptFault::Usage`] if no file is named, if both `-c` and `-h` are given, or if the value of `-l` isn't of decimal digits alone or
 /// isn't from 20 to 1000. [`OptFault::OutOfMemory`] only if an allocation failed.
 #[tactic(auto, unfolding(crate::specs::CommandLine::asked_in))]
 pub fn options_of(alloc: Global, matches: &ArgMatches) -> Result<DumpOptions, OptFault>
@@ -73,10 +73,10 @@ pub fn options_of(alloc: Global, matches: &ArgMatches) -> Result<DumpOptions, Op
     let width = width_in(value_of(matches, "width")).ok_or(OptFault::Usage)?;
     Ok(DumpOptions {
         file: String::from_str(alloc, path)?,
-        name: name_of(alloc, value_of(matches, "name"), path)?,
+        name: dataset_name(alloc, value_of(matches, "name"), path)?,
         head_only,
         coords,
-        chosen: chosen_in(alloc, value_of(matches, "names"))?,
+        chosen: names_if_given(alloc, value_of(matches, "names"))?,
         width,
     })
 }
@@ -101,11 +101,12 @@ fn width_in(word: Option<&str>) -> Option<usize>
     }
 }
 
-/// Returns the number that a word stands for, or `None` if the word isn't of decimal digits alone or the number isn't from 20 to 1000.
+/// Returns the width that `word`, the value of `-l`, says. Returns `None` if the word isn't of decimal digits alone, or if its number isn't
+/// from 20 to 1000.
 fn width_of(word: &str) -> Option<usize>
     ensures { result ≡ width_said word.now }
 {
-    if !is_of_digits(word) {
+    if !has_only_digits(word) {
         return None;
     }
     let width = word.parse().ok()?;
@@ -120,21 +121,23 @@ fn is_width(width: usize) -> bool
 }
 
 /// Returns true if the word is of decimal digits alone, or empty.
-fn is_of_digits(word: &str) -> bool
+fn has_only_digits(word: &str) -> bool
     ensures { result ≡ list_all is_ascii_digit word.now }
 {
     word.as_bytes().iter().all(|byte| byte.is_ascii_digit())
 }
 
-/// Returns a copy of `word`, the value of `-n`, or of the stem of the path if there is no word. Errs only if an allocation failed.
-fn name_of(alloc: Global, word: Option<&str>, path: &str) -> Result<Sequence<u8>, AllocError>
+/// Returns the name that the dump gives the dataset: a copy of `word`, the value of `-n`, or of the [`stem`] of the file's path if there is
+/// no word. Errs only if an allocation failed.
+fn dataset_name(alloc: Global, word: Option<&str>, path: &str) -> Result<Sequence<u8>, AllocError>
     ensures { IfOk result (λ name. name ≡ unwrap_or (text_of word.entry) (stem_of path.now)) }
 {
     copy_bytes(alloc, word.unwrap_or(stem(path)))
 }
 
-/// Returns the names in `word`, the value of `-v`, or `None` if there is no word. Errs only if an allocation failed.
-fn chosen_in(
+/// Returns the chosen names, those in `word`, the value of `-v`. If there is no word, returns `None`, which allows every name. Errs only if
+/// an allocation failed.
+fn names_if_given(
     alloc: Global,
     word: Option<&str>,
 ) -> Result<Option<Sequence<Sequence<u8>>>, AllocError>
@@ -146,7 +149,7 @@ fn chosen_in(
     }
 }
 
-/// Returns the parts of a word between its commas, also empty ones. Errs only if an allocation failed.
+/// Returns the names in `word`, the value of `-v`: its parts between the commas, also empty ones. Errs only if an allocation failed.
 fn names_in(alloc: Global, word: &str) -> Result<Sequence<Sequence<u8>>, AllocError>
     ensures { IfOk result (λ names. names ≡ names_in word.now) }
 {

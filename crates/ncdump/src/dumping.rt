@@ -15,7 +15,8 @@ use devices::{Sink, Source};
 use nc_file::read_header;
 use std::alloc::Global;
 
-/// Reads the file that the source has, through `buf`, which has at least 16 bytes, and writes its dump to the sink.
+/// Reads the file that the source has, and writes its dump to the sink. Reads through `buf`, which has to have at least 16 bytes, as
+/// [`read_header`] and [`show`] need.
 ///
 /// The text is that of ncdump(1): the header in CDL, and after `data:` the values of the variables that the options select
 /// ([`select`]). Allocates for the header and for the selection, and not for values.

@@ -106,6 +106,7 @@ impl From<OptFault> for Failure {
     }
 }
 
+/// Only the flush after the dump gives a `SinkFailed`: a failed write is a `WriteFailed`.
 impl From<SinkFailed> for Failure {
     ghost from_gives = { λ _ e. e ≡ flush };
 

@@ -1,4 +1,5 @@
-//! The line of each fault.
+//! The line of each fault. Each function that writes errs only if the sink failed. The sink has then taken some prefix of what the
+//! function writes.
 
 ghost use Rattle.std.specs.Prelude.{◌≡◌};
 ghost use Rattle.devices.specs.code.SinkWrites.{Wrote};
@@ -11,7 +12,7 @@ use cli_base::OptFault;
 use devices::{Sink, WriteFailed, put, put_decimal};
 use nc_base::FormatFault;
 
-/// Writes the line of a failure.
+/// Writes the line that says why a run failed.
 ///
 /// # Errors
 ///
@@ -79,7 +80,7 @@ fn put_cannot_open<W: Sink>(sink: &mut W, path: &[u8]) -> Result<(), WriteFailed
     put(sink, cannot_open_words())
 }
 
-/// Returns the end of the line for a path that can't be opened, from after the path on.
+/// Returns what comes after the path in the line for a path that can't be opened: `: cannot open` and a line feed.
 #[tactic(auto, unfolding(crate::specs::Faults::cannot_open_words))]
 fn cannot_open_words() -> &'static [u8]
     ensures { result.now ≡ cannot_open_words }
@@ -87,7 +88,8 @@ fn cannot_open_words() -> &'static [u8]
     b": cannot open\n"
 }
 
-/// Writes the fault line of a file that could not be dumped: `ncdump: FILE: MESSAGE`.
+/// Writes the fault line of a file that could not be dumped: `ncdump: FILE: MESSAGE`. FILE is `file`, such as the file's path, and MESSAGE
+/// says what `fault` is.
 ///
 /// # Errors
 ///
@@ -99,13 +101,13 @@ pub fn fault_line<W: Sink>(sink: &mut W, file: &[u8], fault: &DumpFault) -> Resu
     put(sink, program_words())?;
     put(sink, file)?;
     put(sink, b": ")?;
-    put_fault(sink, fault)?;
+    put_message(sink, fault)?;
     put(sink, b"\n")
 }
 
-/// Writes the message of a fault.
+/// Writes the message of a fault: what its line has between `ncdump: FILE: ` and the line feed.
 #[tactic(auto, unfolding(crate::specs::Faults::fault_text))]
-fn put_fault<W: Sink>(sink: &mut W, fault: &DumpFault) -> Result<(), WriteFailed>
+fn put_message<W: Sink>(sink: &mut W, fault: &DumpFault) -> Result<(), WriteFailed>
     ensures { Wrote W.view sink.old sink.new (fault_text fault.now) result }
 {
     match fault {
@@ -118,7 +120,7 @@ fn put_fault<W: Sink>(sink: &mut W, fault: &DumpFault) -> Result<(), WriteFailed
     }
 }
 
-/// Writes the message for the chosen name with this index, from 0 on, which no variable has.
+/// Writes the message for a chosen name (`-v`) that no variable has. `index` is its index among the chosen names, counted from 0.
 #[tactic(auto, using(devices::proofs::Writes::writes), unfolding(crate::specs::Faults::fault_text))]
 fn put_unknown_name<W: Sink>(sink: &mut W, index: usize) -> Result<(), WriteFailed>
     ensures { Wrote W.view sink.old sink.new (fault_text (NoSuchVariable index)) result }
@@ -128,7 +130,8 @@ fn put_unknown_name<W: Sink>(sink: &mut W, index: usize) -> Result<(), WriteFail
     put(sink, b" of -v")
 }
 
-/// Writes the message for the variable with the index `var`, whose first missing value has the number `value`, both from 0 on.
+/// Writes the message for data that isn't all in the file: the first missing value has the number `value`, and its variable has the index
+/// `var`, both counted from 0.
 #[tactic(auto, using(devices::proofs::Writes::writes), unfolding(crate::specs::Faults::fault_text))]
 fn put_missing_value<W: Sink>(sink: &mut W, var: usize, value: u128) -> Result<(), WriteFailed>
     ensures { Wrote W.view sink.old sink.new (fault_text (DataTruncated var value)) result }
@@ -160,7 +163,7 @@ fn put_format_fault<W: Sink>(sink: &mut W, fault: FormatFault) -> Result<(), Wri
     }
 }
 
-/// Writes the message for a version byte that names no version.
+/// Writes the message for a file whose version byte, `n`, names no version.
 #[tactic(auto, using(devices::proofs::Writes::writes), unfolding(crate::specs::Faults::format_text))]
 fn put_unknown_version<W: Sink>(sink: &mut W, n: u8) -> Result<(), WriteFailed>
     ensures { Wrote W.view sink.old sink.new (format_text (UnknownVersion n)) result }
@@ -169,7 +172,7 @@ fn put_unknown_version<W: Sink>(sink: &mut W, n: u8) -> Result<(), WriteFailed>
     put_decimal(sink, n as u128)
 }
 
-/// Returns the words before a version byte.
+/// Returns the words that stand before the version byte in the message for an unknown version.
 #[tactic(auto, unfolding(crate::specs::Faults::version_words))]
 fn version_words() -> &'static [u8]
     ensures { result.now ≡ version_words }
@@ -177,7 +180,7 @@ fn version_words() -> &'static [u8]
     b"unknown version "
 }
 
-/// Returns the words before the index of a chosen name.
+/// Returns the words that stand before the index in the message for a chosen name that no variable has.
 #[tactic(auto, unfolding(crate::specs::Faults::item_words))]
 fn item_words() -> &'static [u8]
     ensures { result.now ≡ item_words }
@@ -185,7 +188,8 @@ fn item_words() -> &'static [u8]
     b"no such variable: item "
 }
 
-/// Returns the words between the index of a variable and the number of its first missing value.
+/// Returns the words that stand between the two numbers in the message for missing data: the index of the variable, and the number of its
+/// first missing value.
 #[tactic(auto, unfolding(crate::specs::Faults::truncated_words))]
 fn truncated_words() -> &'static [u8]
     ensures { result.now ≡ truncated_words }

@@ -9,9 +9,9 @@ pub struct DumpOptions {
     pub file: String,
     /// The name that the text gives the dataset: `-n`, or the stem of the path.
     pub name: Sequence<u8>,
-    /// Whether the header alone is shown: `-h`.
+    /// True if the header alone is shown: `-h`.
     pub head_only: bool,
-    /// Whether the values of coordinate variables alone are shown: `-c`.
+    /// True if the values of coordinate variables alone are shown: `-c`.
     pub coords: bool,
     /// The names of the variables whose values may be shown: `-v`. `None` allows every name.
     pub chosen: Option<Sequence<Sequence<u8>>>,

@@ -9,7 +9,7 @@ ghost use Rattle.ncdump.specs.Dumps as dumps;
 ghost use Rattle.ncdump.specs.Runs.{run_of, DumpsAsked, DumpsFile, Ends, OfDump, OpensFile, Runs};
 ghost use Rattle.ncdump.specs.code.Shows.{ReadFailsOnly};
 
-use crate::command_line::options_by;
+use crate::command_line::options_of_words;
 use crate::dumping::dump;
 use crate::fault::{Failure, FileFault};
 use crate::fault_text::put_failure;
@@ -61,7 +61,7 @@ fn dump_and_flush<P: Opener, O: Flush>(
         (use_of O.Sink.view out.old out.new)) result }
     ensures flushed { IfOk result (λ _. O.is_flushed out.new ≡ true) }
 {
-    let dumped = dump_asked(opener, alloc, words, out);
+    let dumped = dump_for_words(opener, alloc, words, out);
     let flushed = out.flush();
     dumped?;
     flushed?;
@@ -71,7 +71,7 @@ fn dump_and_flush<P: Opener, O: Flush>(
 /// Opens the file that the words name, writes its dump to `out`, and gives the file back to `opener`. Errs with `CommandLine` if the
 /// words are no valid command line, or if an allocation failed while they were read. Errs with `File` if the file can't be opened, or
 /// if its dump failed.
-fn dump_asked<P: Opener, O: Sink>(
+fn dump_for_words<P: Opener, O: Sink>(
     opener: &mut P,
     alloc: Global,
     words: &[&str],
@@ -83,16 +83,16 @@ fn dump_asked<P: Opener, O: Sink>(
         (use_of O.view out.old out.new))
         (O.view out.new) result }
 {
-    let options = options_by(alloc, words)?;
-    match dump_path(opener, alloc, &options, out) {
+    let options = options_of_words(alloc, words)?;
+    match open_and_dump(opener, alloc, &options, out) {
         Ok(()) => Ok(()),
         Err(fault) => Err(Failure::File(options.file, fault)),
     }
 }
 
-/// Opens the file that the options name, writes its dump, and gives the file back to the opener. Errs with `CannotOpen` if the file
-/// can't be opened, or with the fault of its dump.
-fn dump_path<P: Opener, O: Sink>(
+/// Opens the file that the options name, writes its dump to `out`, and gives the file back to the opener, also if the dump failed. Errs
+/// with `CannotOpen` if the file can't be opened, or with the fault of its dump.
+fn open_and_dump<P: Opener, O: Sink>(
     opener: &mut P,
     alloc: Global,
     options: &DumpOptions,

@@ -27,11 +27,11 @@ pub fn select(alloc: Global, header: &Header, options: &DumpOptions) -> Result<V
 {
     let chosen = chosen_names(alloc, header, options)?;
     let dims = dim_names(alloc, header, options)?;
-    Ok(are_in_both(alloc, header.vars.as_slice(), &chosen, &dims)?)
+    Ok(selection_in_both(alloc, header.vars.as_slice(), &chosen, &dims)?)
 }
 
-/// Returns the chosen names as a set, or `None` if no names are chosen. Errs with `NoSuchVariable` and the index of the
-/// first one that no variable has, and with `OutOfMemory` if an allocation failed.
+/// Returns the set of the names that `-v` chooses, which [`checked_names`] makes, or `None` if `-v` isn't given. Errs with `NoSuchVariable`
+/// and the index, counted from 0, of the first chosen name that no variable has, and with `OutOfMemory` if an allocation failed.
 fn chosen_names<'a>(
     alloc: Global,
     header: &Header,
@@ -48,8 +48,8 @@ fn chosen_names<'a>(
     }
 }
 
-/// Returns the names of the dimensions as a set if the values of coordinate variables alone are shown, otherwise `None`. Errs only if
-/// an allocation failed.
+/// Returns the set of the names of the dimensions if `-c` is given: then only the values of coordinate variables are shown, and these are
+/// the variables with the name of a dimension. Otherwise returns `None`. Errs only if an allocation failed.
 fn dim_names<'a>(
     alloc: Global,
     header: &'a Header,
@@ -89,9 +89,9 @@ fn first_unknown(known: &NameSet<'_>, names: &[Sequence<u8>]) -> Option<usize>
         .position(|name| !known.contains(name.as_slice()))
 }
 
-/// Returns a `bool` for each variable: true if both sets have its name. `None` counts as a set that has every name. Errs only if an
-/// allocation failed.
-fn are_in_both(
+/// Returns a `bool` for each variable: true if both sets have its name. `chosen` has the names of `-v`, and `dims` those of the dimensions,
+/// for `-c`. `None` counts as a set that has every name. Errs only if an allocation failed.
+fn selection_in_both(
     alloc: Global,
     vars: &[Var],
     chosen: &Option<NameSet<'_>>,

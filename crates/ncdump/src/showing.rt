@@ -17,9 +17,9 @@ use devices::{Sink, Source, put};
 use nc_base::{Header, RecordLayout, is_record_var, record_layout};
 use nc_walk::{Walk, WalkFault};
 
-/// Writes the dump of the file that the source has: the head for `header`, and after `data:` the values of each variable whose item of
-/// `selection` is true. If the options ask for the header alone, no values are shown. The values are read through `buf`, which has at least
-/// 16 bytes.
+/// Writes the dump of the file that the source has: the head for `header` (the text before `data:`), and after `data:` the values of each
+/// variable whose item of `selection` is true. If the options ask for the header alone, no values are shown. Needs a sound header, such as
+/// `read_header` returns, an item of `selection` for each variable, and a `buf` of at least 16 bytes, through which the values are read.
 ///
 /// Does not allocate. What stands before a variable's values is written before the first of them is read. Reading is at most one
 /// buffer ahead of writing.
@@ -74,8 +74,9 @@ fn data_word(options: &DumpOptions, header: &Header) -> &'static [u8]
     }
 }
 
-/// Writes each variable whose item of `selection` is true, if it has values, in lines of `width` bytes. A variable beyond the end of
-/// `selection` isn't written. Errs as [`show`] does.
+/// Writes the values of each variable whose item of `selection` is true, if it has any. A variable beyond the end of `selection` isn't
+/// written. `layout` has the number of records and the record size. Lines of numbers are broken at `width` bytes. The values are read
+/// through `buf`. Errs as [`show`] does.
 fn show_selected<S: Source, W: Sink>(
     source: &mut S,
     header: &Header,
@@ -106,8 +107,8 @@ fn show_selected<S: Source, W: Sink>(
     Ok(())
 }
 
-/// Returns true if `is_selected`, and the variable at index `v` has a value in a file of `count` records. In a sound header each slab has
-/// a value, so a variable with a slab has one.
+/// Returns true if `is_selected`, and the variable at index `v` has a value in a file of `count` records. It looks for a slab instead: in a
+/// sound header (`IsSound`) only the record dimension has length 0, so a variable with a slab has a value.
 fn is_shown(header: &Header, v: usize, count: u64, is_selected: bool) -> bool
     requires sound { IsSound header.now }
     requires there { v < length header.now.vars }
@@ -116,7 +117,7 @@ fn is_shown(header: &Header, v: usize, count: u64, is_selected: bool) -> bool
     is_selected && has_slabs(header, v, count)
 }
 
-/// Returns true if the variable at index `v` has a slab in a file of `count` records.
+/// Returns true if the variable at index `v` has a slab in a file of `count` records. Only a record variable over 0 records has none.
 fn has_slabs(header: &Header, v: usize, count: u64) -> bool
     requires { v < length header.now.vars }
     ensures { SaysHasSlabs header.now v count result }
@@ -124,8 +125,8 @@ fn has_slabs(header: &Header, v: usize, count: u64) -> bool
     count > 0 || !is_record_var(header.dims.as_slice(), &header.vars.as_slice()[v])
 }
 
-/// Writes the variable at index `v`: what stands before its values, the values as they are read, and what stands after them. Numbers
-/// are gathered in `text`, which may hold anything. Errs as [`show`] does.
+/// Writes the variable at index `v`: what stands before its values, the values as they are read through `buf`, and what stands after them.
+/// Numbers are gathered in `text`, which may hold anything. `layout` and `width` are as in [`show_selected`]. Errs as [`show`] does.
 fn show_variable<S: Source, W: Sink>(
     source: &mut S,
     header: &Header,

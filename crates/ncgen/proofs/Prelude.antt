@@ -10,7 +10,7 @@ pub use Rattle.devices.specs.Sinks.{FailedPartway, IsPrefix, IsPrefixIf, SinkVie
 unfoldable pub use Rattle.devices.specs.Sinks.{IsCut, append, is_transparent}
 pub use Rattle.nc_base.proofs.Fitting.{Fits-from_fits, IsSound-with_begins, begins-below}
 pub use Rattle.nc_base.specs.Bytes.{AreBytes}
-pub use Rattle.nc_base.specs.GeneratedFile.{blocks, fits, is_sole_narrow, known_records, record_of, slab_in, vars_after}
+pub use Rattle.nc_base.specs.GeneratedFile.{blocks, fits, is_sole_narrow, known_records, record_of, slab_in, vars_with_begins}
 unfoldable pub use Rattle.nc_base.specs.GeneratedFile.{data_of, file_of, fill_bytes, header_spelling, padded_slab, with_begins}
 pub use Rattle.nc_base.specs.Headers.{AreArrays, IsGood, IsSound, bare_var}
 pub use Rattle.nc_base.specs.code.OwedValues.{AreListed, whole_array, whole_arrays}

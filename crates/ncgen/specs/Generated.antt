@@ -1,4 +1,4 @@
--- Definition. What is generated from a CDL text: a file, or a fault.
+-- Definition. What is generated from a CDL text: a file, or a fault. Which bytes a sink has taken is known only if it is transparent.
 use Rattle.std.specs.Prelude.{◌≡◌, ◌⊎◌, if◌then◌else◌, Result, Ok, Err}
 use Rattle.nc_base.specs.Bytes.{Bytes}
 use Rattle.nc_base.specs.declared.{dataset.Dataset.Dataset, version.Version.Version}
@@ -14,11 +14,10 @@ abbrev pub file_or_fault : Result Dataset CdlFault → Result Bytes GenFault
 file_or_fault (Ok d) = if fits d.header then Ok (file_of d) else Err OffsetTooLarge
 file_or_fault (Err fault) = Err (Cdl fault)
 
--- the file of the dataset that a text means in a version, or why there is none
 unfoldable pub generated : Bytes → Version → Result Bytes GenFault
 generated text v = file_or_fault (meaning text v)
 
--- The fault is the stated one, or out of memory, which says nothing of the text.
+-- out of memory says nothing of the text
 abbrev pub Refuses : Result Bytes GenFault → GenFault → Type 0
 Refuses stated fault = (stated ≡ Err fault) ⊎ (fault ≡ Cdl out_of_memory)
 
@@ -32,9 +31,11 @@ pub record IsCutShort (stated : Result Bytes GenFault) (old new : SinkView) : Ty
   pub is_stated : stated ≡ Ok file
   pub partway : FailedPartway old new file
 
--- With success the stated file was written. If the sink failed, a prefix of it was written. Otherwise nothing was written, and the fault is
--- the stated one or out of memory. (Which bytes were written is said of a transparent sink alone.)
+-- a call with this result, where `generated` has stated a file or a fault
 abbrev pub Generates : {A : Type 0} → Result Bytes GenFault → SinkView → SinkView → Result A GenFault → Type 0
+-- it has written the stated file
 Generates stated old new (Ok done) = IsWritten stated old new
+-- the sink has failed, and has taken a prefix of the stated file
 Generates stated old new (Err WriteFailed) = IsCutShort stated old new
+-- nothing was written, and the fault is the stated one or out of memory
 Generates stated old new (Err fault) = (new ≡ old) × Refuses stated fault

@@ -39,7 +39,7 @@ pub fn command<'a>(alloc: Global) -> Result<Command<'a>, AllocError>
 /// # Errors
 ///
 /// Those of [`options_of`], and [`OptFault::Usage`] for words that the command doesn't take.
-pub(crate) fn options_by(alloc: Global, words: &[&str]) -> Result<GenOptions, OptFault>
+pub(crate) fn options_of_words(alloc: Global, words: &[&str]) -> Result<GenOptions, OptFault>
     ensures { AnswersBy asked_for (asked_by (texts_of words.now)) result }
 {
     let matches = command(alloc)?.try_get_matches_from(words)?;
@@ -69,19 +69,21 @@ pub fn options_of(alloc: Global, matches: &ArgMatches) -> Result<GenOptions, Opt
     Ok(GenOptions {
         kind,
         out: output_in(alloc, is_binary, output, file)?,
-        file: copy_string(alloc, file)?,
+        file: copy_path(alloc, file)?,
     })
 }
 
-/// Returns true if `-b` is given (`is_binary`), but neither `output`, the value of `-o`, nor `file`, the path of the text.
+/// Returns true if `-b` asks for an output (`is_binary`) but nothing names it: neither `output`, the value of `-o`, nor `file`, the path of
+/// the text, is given.
 fn is_unnamed(is_binary: bool, output: Option<&str>, file: Option<&str>) -> bool
     ensures { result ≡ is_unnamed is_binary (text_of output.entry) (text_of file.entry) }
 {
     is_binary && output.is_none() && file.is_none()
 }
 
-/// Returns the path of the output: `output`, the value of `-o`; otherwise, if `-b` is given (`is_binary`), the name that `file`, the
-/// path of the text, gives the output. Returns `None` if there is no such path. Errs only if an allocation failed.
+/// Returns the path of the output. It is `output`, the value of `-o`, if that is given. Otherwise it is the name that [`output_name`] makes
+/// of `file`, the path of the text, if that and `-b` (`is_binary`) are given. Otherwise returns `None`: no file is written. Errs only if an
+/// allocation failed.
 fn output_in(
     alloc: Global,
     is_binary: bool,
@@ -106,8 +108,9 @@ fn output_name(alloc: Global, path: &str) -> Result<String, AllocError>
     Ok(name)
 }
 
-/// Returns a copy of the text, or `None` if there is none. Errs only if an allocation failed.
-fn copy_string(alloc: Global, text: Option<&str>) -> Result<Option<String>, AllocError>
+/// Returns a copy of `text`, which is the path of the CDL text, or `None` if no path is given: the text is then read from standard input.
+/// Errs only if an allocation failed.
+fn copy_path(alloc: Global, text: Option<&str>) -> Result<Option<String>, AllocError>
     ensures { IfOk result (λ copy. option_map string_bytes copy ≡ text_of text.entry) }
 {
     match text {

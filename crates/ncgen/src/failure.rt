@@ -64,6 +64,7 @@ impl From<GenFault> for InputFault {
     }
 }
 
+/// The line of an output that can't be created says `cannot open`.
 impl From<CreateFailed> for OutputFault {
     ghost from_gives = { λ _ e. e ≡ output.CannotOpen };
 
@@ -80,6 +81,7 @@ impl From<WriteFailed> for OutputFault {
     }
 }
 
+/// If an output can't be closed, not all that was written to it could be handed on. So this counts as a failed write.
 impl From<CloseFailed> for OutputFault {
     ghost from_gives = { λ _ e. e ≡ output.WriteFailed };
 

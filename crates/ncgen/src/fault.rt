@@ -40,6 +40,7 @@ impl From<CdlFault> for GenFault {
     }
 }
 
+/// A failed allocation is a fault of the kind `OutOfMemory`, which belongs to no line of the text: its line is 0.
 impl From<AllocError> for GenFault {
     ghost from_gives = { λ _ e. e ≡ gen.Cdl out_of_memory };
 

@@ -1,4 +1,5 @@
-//! The line of each fault.
+//! The line of each fault. Each function that writes errs only if the sink failed. The sink has then taken some prefix of what the
+//! function writes.
 
 ghost use Rattle.std.specs.Prelude.{◌≡◌, codes};
 ghost use Rattle.devices.specs.code.SinkWrites.{Wrote};
@@ -11,7 +12,7 @@ use cdl_parse::{CdlFault, CdlKind};
 use cli_base::OptFault;
 use devices::{Sink, WriteFailed, put, put_decimal};
 
-/// Writes the line of a failure.
+/// Writes the line that says why a run failed.
 ///
 /// # Errors
 ///
@@ -88,8 +89,8 @@ fn put_line<W: Sink>(sink: &mut W, file: &[u8], text: &[u8]) -> Result<(), Write
     put(sink, b"\n")
 }
 
-/// Writes the fault line of a CDL text that gave no file: `ncgen: FILE: MESSAGE`. For a fault of the CDL text itself, the message begins
-/// with `line N: `.
+/// Writes the fault line of a CDL text that gave no file: `ncgen: FILE: MESSAGE`. FILE is `file`, such as the text's path, and MESSAGE says
+/// what `fault` is. For a fault of the CDL text itself, MESSAGE begins with `line N: `.
 ///
 /// # Errors
 ///
@@ -101,13 +102,14 @@ pub fn fault_line<W: Sink>(sink: &mut W, file: &[u8], fault: &GenFault) -> Resul
     put(sink, program_words())?;
     put(sink, file)?;
     put(sink, b": ")?;
-    put_fault(sink, fault)?;
+    put_message(sink, fault)?;
     put(sink, b"\n")
 }
 
-/// Writes the message of a fault. For a fault of the CDL text itself, the message begins with `line N: `.
+/// Writes the message of a fault: what its line has between `ncgen: FILE: ` and the line feed. For a fault of the CDL text itself, the
+/// message begins with `line N: `.
 #[tactic(auto, unfolding(crate::specs::Faults::fault_text))]
-fn put_fault<W: Sink>(sink: &mut W, fault: &GenFault) -> Result<(), WriteFailed>
+fn put_message<W: Sink>(sink: &mut W, fault: &GenFault) -> Result<(), WriteFailed>
     ensures { Wrote W.view sink.old sink.new (fault_text fault.now) result }
 {
     match fault {
@@ -117,18 +119,19 @@ fn put_fault<W: Sink>(sink: &mut W, fault: &GenFault) -> Result<(), WriteFailed>
     }
 }
 
-/// Writes the message of a fault of a CDL text: `line N: `, and the words for the kind of the fault.
+/// Writes the message of a fault of a CDL text: `line N: `, and the words for the kind of the fault. If the kind is `OutOfMemory`, writes
+/// the words alone.
 #[tactic(auto, using(devices::proofs::Writes::writes), unfolding(crate::specs::Faults::fault_text))]
 fn put_cdl_fault<W: Sink>(sink: &mut W, fault: CdlFault) -> Result<(), WriteFailed>
     ensures { Wrote W.view sink.old sink.new (fault_text (Cdl fault)) result }
 {
-    put_place(sink, fault.kind, fault.line)?;
+    put_line_number(sink, fault.kind, fault.line)?;
     put(sink, kind_words(fault.kind))
 }
 
-/// Writes `line N: ` for a fault in this line, or nothing if the kind is `OutOfMemory`.
+/// Writes `line N: ` for a fault in the line `line`, or nothing if its kind is `OutOfMemory`, which belongs to no line of the text.
 #[tactic(auto, using(devices::proofs::Writes::writes), unfolding(crate::specs::Faults::line_prefix))]
-fn put_place<W: Sink>(sink: &mut W, kind: CdlKind, line: u64) -> Result<(), WriteFailed>
+fn put_line_number<W: Sink>(sink: &mut W, kind: CdlKind, line: u64) -> Result<(), WriteFailed>
     ensures { Wrote W.view sink.old sink.new (line_prefix kind line) result }
 {
     if let CdlKind::OutOfMemory = kind {

@@ -1,12 +1,12 @@
 //! Laws of files and texts, each the contract of a function that does nothing.
 //!
 //! The laws of the file alone are [`one_header_or_one_fault`], [`written_header_reads_back`] and [`file_reads_back`]. The laws of the
-//! text alone are [`token_reads_back`], [`row_reads_back`], [`piece_reads_back`] and [`text_reads_back`]. Below are the two laws that
+//! text alone are [`token_reads_back`], [`array_reads_back`], [`piece_reads_back`] and [`text_reads_back`]. Below are the two laws that
 //! join file and text.
 
 ghost use Rattle.ncgen.specs.Laws.{DumpsGenerateBack, FilesOfTextsAreDumped};
 
-pub use cdl_laws::laws::{piece_reads_back, row_reads_back, text_reads_back, token_reads_back};
+pub use cdl_laws::laws::{array_reads_back, piece_reads_back, text_reads_back, token_reads_back};
 pub use nc_file::laws::{file_reads_back, one_header_or_one_fault, written_header_reads_back};
 
 /// If a file is generated from a CDL text of at most 256 MiB, then it is the file of the dataset that the text declares. Under all

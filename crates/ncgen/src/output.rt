@@ -7,8 +7,9 @@ use crate::failure::OutputFault;
 use crate::prepared::Prepared;
 use devices::Creator;
 
-/// Creates the output at the path, or empties what is there. Writes the file to the output, and closes the output, also if writing
-/// failed. Errs with `CannotOpen` if the output can't be created, and with `WriteFailed` if writing or closing it failed.
+/// Creates an output at the path, or empties what is there. Writes the file `prepared` to the output, and then closes the output, also if
+/// writing failed. Errs with `CannotOpen` if the output can't be created; then nothing was touched. Errs with `WriteFailed` if writing or
+/// closing the output failed; then the path was given a prefix of the file, which may be empty.
 #[tactic(auto, unfolding(devices::specs::Sinks::append, devices::specs::Sinks::is_transparent))]
 pub fn write_output<C: Creator>(
     creator: &mut C,

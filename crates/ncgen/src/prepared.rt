@@ -22,7 +22,8 @@ pub struct Prepared {
 }
 
 impl Prepared {
-    /// Writes the file: the header, and after it the values (the NetCDF Classic Format Specification). It does not allocate.
+    /// Writes the file: the header, and after it the values (the NetCDF Classic Format Specification). It does not allocate. Any `Prepared`
+    /// that [`prepare`](crate::prepare) returns is ready, as the contract needs it.
     ///
     /// # Errors
     ///

@@ -14,7 +14,8 @@ const PART: usize = 65536;
 
 /// Reads all bytes that the reader has left, and returns them if there are at most `max`.
 ///
-/// Reads at most `max + 1` bytes, in at most `max + 1` reads. The memory grows with the text.
+/// Reads at most `max + 1` bytes, in at most `max + 1` reads: one byte above `max` shows that the text is too long. The memory grows with
+/// the text.
 ///
 /// # Errors
 ///
@@ -39,8 +40,9 @@ pub fn read_text<R: Read>(
     Err(TextFault::TooLong)
 }
 
-/// Reads the next bytes of the input through `buf`, and appends them to `text`, which then has at most `max + 1` bytes. Returns false at
-/// the end of the input, otherwise true. Errs with `ReadFailed` if the reader failed, and with `OutOfMemory` if an allocation failed.
+/// Reads the next bytes of the input through `buf`, and appends them to `text`, which then has at most `max + 1` bytes. More than `max`
+/// bytes show that the text is too long. Needs a `buf` that isn't empty, and a `text` of at most `max` bytes. Returns false at the end of
+/// the input, otherwise true. Errs with `ReadFailed` if the reader failed, and with `OutOfMemory` if an allocation failed.
 fn read_part<R: Read>(
     input: &mut CountedRead<R>,
     buf: &mut [u8],

@@ -10,7 +10,7 @@ ghost use Rattle.ncgen.specs.Runs.{Ends};
 ghost use Rattle.ncgen.specs.code.Prepared.{file_of_prepared, IsReady};
 ghost use Rattle.ncgen.specs.code.RunSteps.{GeneratesAsked, PreparesInput, WritesAsked};
 
-use crate::command_line::options_by;
+use crate::command_line::options_of_words;
 use crate::failure::{Failure, InputFault};
 use crate::fault_text::put_failure;
 use crate::generating::prepare;
@@ -49,7 +49,7 @@ pub fn run_with<T: TextOpener, C: Creator, R: Read, E: Sink>(
         })
         result }
 {
-    match generate_asked(texts, creator, alloc, words, input) {
+    match generate_for_words(texts, creator, alloc, words, input) {
         Ok(()) => 0,
         Err(failure) => {
             let _ = put_failure(err, &failure);
@@ -60,7 +60,7 @@ pub fn run_with<T: TextOpener, C: Creator, R: Read, E: Sink>(
 
 /// Reads the text that the words ask for, and writes its file if the words ask for an output. Errs with the first failure: of the
 /// command line, of the text, or of the output.
-fn generate_asked<T: TextOpener, C: Creator, R: Read>(
+fn generate_for_words<T: TextOpener, C: Creator, R: Read>(
     texts: &mut T,
     creator: &mut C,
     alloc: Global,
@@ -76,16 +76,17 @@ fn generate_asked<T: TextOpener, C: Creator, R: Read>(
         (asked_by (texts_of words.now))
         result }
 {
-    let options = options_by(alloc, words)?;
-    match prepare_input(texts, alloc, &options, input) {
-        Ok(prepared) => write_asked(creator, options.out, &prepared),
+    let options = options_of_words(alloc, words)?;
+    match read_and_prepare(texts, alloc, &options, input) {
+        Ok(prepared) => write_if_asked(creator, options.out, &prepared),
         Err(fault) => Err(Failure::Input(options.file, fault)),
     }
 }
 
-/// Reads the text that the options name, and returns its file, ready to be written. Errs with `CannotOpen` or `Text` if the text can't
-/// be read, and with `Generate` if the text gives no file or an allocation fails after the text was read.
-fn prepare_input<T: TextOpener, R: Read>(
+/// Reads the text that the options name, or standard input if they name none, and returns the file of the text, ready to be written. Errs
+/// with `CannotOpen` or `Text` if the text can't be read, and with `Generate` if the text gives no file or an allocation fails after the
+/// text was read.
+fn read_and_prepare<T: TextOpener, R: Read>(
     texts: &mut T,
     alloc: Global,
     options: &GenOptions,
@@ -104,8 +105,9 @@ fn prepare_input<T: TextOpener, R: Read>(
     Ok(prepare(alloc, text.as_slice(), options.kind)?)
 }
 
-/// Writes the file at the path `out`, or nothing if there is no path. Errs with `Output` if the output can't be created or written.
-fn write_asked<C: Creator>(
+/// Writes the file `prepared` to an output at the path `out`, or nothing if there is no path. Errs with `Output` if the output can't be
+/// created or written.
+fn write_if_asked<C: Creator>(
     creator: &mut C,
     out: Option<String>,
     prepared: &Prepared,

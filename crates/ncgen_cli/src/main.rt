@@ -31,7 +31,8 @@ fn main(rt: HostRuntime) -> ExitCode {
 }
 
 /// Runs the program on the words that it was called with, with `stderr` as standard error, and returns its exit status. Errs with
-/// `Usage` if the words can't be read, and with `OutOfMemory` if an allocation failed before the run.
+/// `Usage` if a word isn't UTF-8, and with `OutOfMemory` if an allocation failed before the run. A failure in the run is no error:
+/// [`run_with`] reports it on `stderr`, and the status is 1.
 fn run_words<R: Env + Files<File = File> + Input + AllocGlobal, E: Write + Drop>(
     rt: &R,
     stderr: E,

@@ -1,7 +1,7 @@
 //! What the clauses don't say: that the definitions they cite are those of the format.
 
 use crate::header_rows::{NamedValues, var_of};
-use nc_base::{NcType, Sequence, Version, check_name, fill_of, stem};
+use nc_base::{NcType, Sequence, Version, fill_of, is_valid_name, stem};
 use std::alloc::{AllocError, Global};
 use std::test::Fail;
 
@@ -132,13 +132,13 @@ fn names_keep_the_rule(rt: HostRuntime) {
     const NAMES: &[&str] = &["x", "_a", "2b", "a b", "naïve", "a-b+c@d.e"];
     const OTHERS: &[&str] = &["", "a/b", " a", "a ", "a\u{7f}", "a\tb", "-a", ".a"];
     for name in NAMES {
-        assert!(rt; check_name(name.as_bytes()), "{name:?}");
+        assert!(rt; is_valid_name(name.as_bytes()), "{name:?}");
     }
     for name in OTHERS {
-        assert!(rt; !check_name(name.as_bytes()), "{name:?}");
+        assert!(rt; !is_valid_name(name.as_bytes()), "{name:?}");
     }
     // half of a character
-    assert!(rt; !check_name(b"\xc3"));
+    assert!(rt; !is_valid_name(b"\xc3"));
 }
 
 #[test]

@@ -1,6 +1,6 @@
 -- The datasets of a few texts, and sizes at their limits, by computation.
 use Rattle.std.proofs.Common.{◌≡◌, ℕ, List, [], ◌∷◌, ◌^◌, refl, Bool, true, false, ℤ, pos, codes, map, Some, Ok}
-use Rattle.cdl_laws.proofs.Prelude.{NcType, Byte, Char, Short, Int, Ubyte, Cdf1, Cdf5, Ended, State, Draft, Numbers, text_limit, meaning, is_small_enough}
+use Rattle.cdl_laws.proofs.Prelude.{NcType, Byte, Char, Short, Int, Ubyte, Cdf1, Cdf5, Ended, State, Draft, Numbers, text_limit, meaning, are_within_limits}
 use Rattle.nc_base.proofs.examples.Written.{dim, att, var, dataset}
 use Rattle.cdl_laws.proofs.examples.Written.{texts_computed}
 
@@ -73,23 +73,23 @@ abbrev draft : List ℕ → List ℕ → NcType → List ℤ → Draft
 draft name ids ty values = record { var = var name ids [] ty; listed = Some (Numbers values) }
 
 abbrev fits_limits : List (List Draft) → List Bool
-fits_limits drafts = map (λ ds. is_small_enough Cdf1 (after ds)) drafts
+fits_limits drafts = map (λ ds. are_within_limits Cdf1 (after ds)) drafts
 
 -- 2^48 bytes, and a few more
 greatest_slab : fits_limits ((draft (codes "a") (1 ∷ 1 ∷ 1 ∷ []) Byte [] ∷ []) ∷ (draft (codes "a") (1 ∷ 1 ∷ 3 ∷ []) Byte [] ∷ []) ∷ []) ≡ true ∷ false ∷ []
-unfolding is_small_enough
+unfolding are_within_limits
 greatest_slab = refl
 
 -- a slab of a record is limited where there is no record, too
 slab_without_records : fits_limits ((draft (codes "a") (0 ∷ 1 ∷ 1 ∷ 1 ∷ []) Byte [] ∷ []) ∷ (draft (codes "a") (0 ∷ 1 ∷ 1 ∷ 3 ∷ []) Byte [] ∷ []) ∷ []) ≡ true ∷ false ∷ []
-unfolding is_small_enough
+unfolding are_within_limits
 slab_without_records = refl
 
 -- slabs of 2^47 bytes in two records, and in three
-greatest_array : map (λ values. is_small_enough Cdf1 (after (draft (codes "a") (0 ∷ 1 ∷ 1 ∷ 2 ∷ []) Short [] ∷ draft (codes "b") (0 ∷ []) Byte values ∷ []))) (
+greatest_array : map (λ values. are_within_limits Cdf1 (after (draft (codes "a") (0 ∷ 1 ∷ 1 ∷ 2 ∷ []) Short [] ∷ draft (codes "b") (0 ∷ []) Byte values ∷ []))) (
     (pos 1 ∷ pos 2 ∷ [])
     ∷ (pos 1 ∷ pos 2 ∷ pos 3 ∷ [])
     ∷ [])
     ≡ true ∷ false ∷ []
-unfolding is_small_enough
+unfolding are_within_limits
 greatest_array = refl

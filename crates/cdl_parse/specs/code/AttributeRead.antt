@@ -6,7 +6,7 @@ use Rattle.cdl_statements.specs.code.Cutters.{version_of, words}
 use Rattle.cdl_statements.specs.declared.{cutter.Cutter.Cutter, fault.CdlKind.CdlKind}
 use Rattle.cdl_statements.specs.Lexemes.{Lexeme}
 use Rattle.cdl_statements.specs.Shapes.{Value}
-use Rattle.cdl_meaning.specs.State.{Draft, add_att, at_variable, with_att}
+use Rattle.cdl_meaning.specs.State.{Draft, add_att, change_variable, with_att}
 use Rattle.cdl_values.specs.code.Meant.{name_first}
 
 -- the constants of NAME, `=` and constants
@@ -23,7 +23,7 @@ att_read start atts = att_said (version_of start) (words start) atts
 
 -- the variables with what a statement says of one, VARIABLE, `:` and an attribute
 abbrev pub variable_att_said : Version → List Lexeme → List Draft → Result (List Draft) CdlKind
-variable_att_said version ws drafts = at_variable (name_first ws) (with_att (name_first (drop 2 ws)) (constants_said version (drop 2 ws))) drafts
+variable_att_said version ws drafts = change_variable (name_first ws) (with_att (name_first (drop 2 ws)) (constants_said version (drop 2 ws))) drafts
 
 -- the same of the statement that is next
 abbrev pub variable_att_read : Cutter → List Draft → Result (List Draft) CdlKind

@@ -4,7 +4,7 @@ use Rattle.std.specs.List.{list_all}
 use Rattle.nc_base.specs.declared.{header.Dim.Dim, header.Var.Var}
 use Rattle.nc_base.specs.Sizes.{is_record_var, slab_count, slab_size, slab_limit, array_limit}
 use Rattle.nc_base.specs.Types.{size_of}
-use Rattle.cdl_meaning.specs.Meaning.{is_small, records_in}
+use Rattle.cdl_meaning.specs.Meaning.{is_within_limits, records_in}
 use Rattle.cdl_meaning.specs.State.{Draft}
 use Rattle.cdl_values.specs.code.Listed.{AllList, AreShaped}
 use Rattle.cdl_parse.specs.declared.records.Extent.{Extent}
@@ -33,7 +33,7 @@ records_within e = if nat_le e.records array_limit && nat_le (e.records * e.wide
 
 -- the number of records; None where over that many records a slab or an array passes its limit
 abbrev pub records_kept : List Dim → List Draft → Option ℕ
-records_kept dims drafts = if list_all (is_small dims (records_in dims drafts)) drafts then Some (records_in dims drafts) else None
+records_kept dims drafts = if list_all (is_within_limits dims (records_in dims drafts)) drafts then Some (records_in dims drafts) else None
 
 -- each variable has a value in a slab
 abbrev pub HaveValues : List Dim → List Var → Type 0

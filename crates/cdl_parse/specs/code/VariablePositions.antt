@@ -1,7 +1,7 @@
 -- For contracts. The variable at a position.
 use Rattle.std.specs.Prelude.{ℕ, zero, suc, ◌≡◌, List, [], ◌∷◌, Result, Ok, Err}
 use Rattle.cdl_statements.specs.declared.{fault.CdlKind.CdlKind, fault.CdlKind.TheVariants.UnknownVariable}
-use Rattle.cdl_meaning.specs.State.{Draft, at_variable, ◌>>=◌}
+use Rattle.cdl_meaning.specs.State.{Draft, change_variable, ◌>>=◌}
 use Rattle.cdl_values.specs.code.Answers.{ContinuesRead}
 use Rattle.cdl_values.specs.code.Meant.{names_of}
 use Rattle.cdl_values.specs.declared.read_error.ReadError.{ReadError}
@@ -19,4 +19,4 @@ at_position (suc position) f (d ∷ ds) = do
 -- the name's variable is at this position, whatever it is changed to
 abbrev pub FindsVariable : List ℕ → List (List ℕ) → Result ℕ ReadError → Type 0
 FindsVariable name names result =
-    (drafts : List Draft) → names ≡ names_of drafts → (change : Draft → Result Draft CdlKind) → ContinuesRead (λ position. at_position position change drafts) result (at_variable name change drafts)
+    (drafts : List Draft) → names ≡ names_of drafts → (change : Draft → Result Draft CdlKind) → ContinuesRead (λ position. at_position position change drafts) result (change_variable name change drafts)

@@ -8,16 +8,16 @@ use Rattle.cdl_statements.specs.declared.piece.CutState.TheVariants.{Begins, Ins
 abbrev pub ending : CutState → Step
 ending state = record { ends = true; state = state }
 
-abbrev pub going : CutState → Step
-going state = record { ends = false; state = state }
+abbrev pub going_on : CutState → Step
+going_on state = record { ends = false; state = state }
 
 -- a piece that is no mark of its own goes on, but for End
 abbrev pub unless_end : Role → CutState → Step
 unless_end End state = ending Begins
-unless_end _ state = going state
+unless_end _ state = going_on state
 
 abbrev pub section_step : Role → Step
-section_step Colon = going Marked
+section_step Colon = going_on Marked
 section_step next = unless_end next Inside
 
 -- after each state, by the token's role and the next token's role

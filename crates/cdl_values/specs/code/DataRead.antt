@@ -15,13 +15,13 @@ use Rattle.cdl_values.specs.code.PackedValues.{packed}
 use Rattle.cdl_values.specs.declared.data.Target.{Target}
 
 -- the target, where no statement gave its values
-abbrev pub if_new : Option Target → Result Target CdlKind
-if_new None = Err UnknownVariable
-if_new (Some t) = if t.given then Err DuplicateData else Ok t
+abbrev pub unless_given : Option Target → Result Target CdlKind
+unless_given None = Err UnknownVariable
+unless_given (Some t) = if t.given then Err DuplicateData else Ok t
 
 abbrev pub target_at : List Target → Option ℕ → Result Target CdlKind
 target_at targets None = Err UnknownVariable
-target_at targets (Some k) = if_new (slice_get targets k)
+target_at targets (Some k) = unless_given (slice_get targets k)
 
 -- the target of the variable of this name
 abbrev pub target_of : List (List ℕ) → List Target → List ℕ → Result Target CdlKind

@@ -54,9 +54,9 @@ capacity_minus n Unlimited = Unlimited
 capacity_minus n (AtMost m) = AtMost (m - n)
 
 -- fewer than n more values are taken
-abbrev pub is_past : ℕ → Capacity → Bool
-is_past n Unlimited = false
-is_past n (AtMost m) = nat_lt m n
+abbrev pub is_exceeded_by : ℕ → Capacity → Bool
+is_exceeded_by n Unlimited = false
+is_exceeded_by n (AtMost m) = nat_lt m n
 
 -- the bytes of a value of a variable of numbers
 abbrev pub value_bytes : NcType → ℤ → Bool → Value → Result (List ℕ) CdlKind
@@ -66,7 +66,7 @@ value_bytes ty fill full (Number n) = if full then Err TooManyValues else number
 
 -- of a variable of characters of rank 0 or 1, whose capacity is in bytes
 abbrev pub text_bytes : Capacity → Value → Result (List ℕ) CdlKind
-text_bytes capacity (Characters bytes) = if is_past (length bytes) capacity then Err StringTooLong else Ok (char_bytes bytes)
+text_bytes capacity (Characters bytes) = if is_exceeded_by (length bytes) capacity then Err StringTooLong else Ok (char_bytes bytes)
 text_bytes capacity v = Err WrongKind
 
 -- of a variable of characters of rank 2 and up, whose rows have this length

@@ -20,7 +20,7 @@ pub enum FailWhen {
 impl FailWhen {
     ghost use Rattle.devices.specs.code.Drip.{IsDue};
 
-    /// Returns true if a read at the offset `at` is to fail. `reads` is the number of reads before it.
+    /// Returns true if a failure is due: if the read at the offset `at` is to fail. `reads` is the number of reads before it.
     fn is_due(self, at: u64, reads: u128) -> bool
         ensures { IsTrue result ↔ IsDue self at reads }
     {
@@ -50,6 +50,7 @@ impl<'a> DripSource<'a> {
     ghost use Rattle.devices.specs.code.Drip.{view_of, step_of, fail_of, reads_of};
 
     /// Creates a source of these bytes. None of them has been read. A read gives at most `step` bytes, and fails if `fail` asks for it.
+    /// Needs a `step` of at least 1.
     pub fn new(bytes: &'a [u8], step: usize, fail: FailWhen) -> DripSource<'a>
         requires { 1 ≤ step }
         ensures view { view_of result ≡ unread bytes.now }
@@ -67,7 +68,7 @@ impl<'a> DripSource<'a> {
         }
     }
 
-    /// Returns how many bytes were read from it.
+    /// Returns how many bytes were read from the source in all.
     pub fn handed(&self) -> u128
         ensures { result ≡ (view_of self.now).handed }
     {

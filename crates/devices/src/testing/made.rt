@@ -15,14 +15,14 @@ pub struct MadeFile {
 }
 
 impl MadeFile {
-    /// Returns the path.
+    /// Returns the path at which the output was created or closed.
     pub fn path(&self) -> &str
         ensures { result.now ≡ (output_of self.now).path }
     {
         self.path.as_str()
     }
 
-    /// Returns the bytes that the path was given.
+    /// Returns the bytes that the path was given: none when the output was created, all that were written to it when it was closed.
     pub fn bytes(&self) -> &[u8]
         ensures { (output_of self.now).bytes ≡ Some result.now }
     {
@@ -40,7 +40,7 @@ pub struct MadeFiles {
 }
 
 impl MadeFiles {
-    /// Creates `MadeFiles` without outputs. What it is given takes memory from `alloc`.
+    /// Creates `MadeFiles` without outputs. Their paths and bytes will take memory from `alloc`.
     pub fn new(alloc: Global) -> MadeFiles
         ensures { view_of result ≡ uncreated }
     {
@@ -52,16 +52,17 @@ impl MadeFiles {
         }
     }
 
-    /// Returns what the paths were given, in order. If an output is created, its path is given no bytes. If it is closed, its path is given
-    /// the bytes that were written.
+    /// Returns what was given to paths, in order: an item without bytes for each output that was created, and a second one, with the bytes
+    /// that were written, for each output that was closed.
     pub fn given(&self) -> &[MadeFile]
         ensures { given_of result.now ≡ (view_of self.now).given }
     {
         self.made.as_slice()
     }
 
-    /// Appends the path and these bytes to what paths were given. If an allocation fails, it errs, and nothing is appended.
-    fn give(&mut self, path: &str, bytes: MemSink) -> Result<(), AllocError>
+    /// Appends an item for `path` and `bytes` to what [`given`](MadeFiles::given) returns. If an allocation fails, it errs, and nothing is
+    /// appended.
+    fn add_file(&mut self, path: &str, bytes: MemSink) -> Result<(), AllocError>
         ensures { Gave self.old self.new path.now bytes result }
     {
         let path = String::from_str(self.alloc, path)?;
@@ -77,10 +78,11 @@ impl Creator for MadeFiles {
 
     ghost view = { view_of };
 
+    /// Appends an item without bytes to what [`given`](MadeFiles::given) returns, and returns an empty sink.
     #[tactic(auto, unfolding(crate::specs::Failures::HasFailed))]
     fn create(&mut self, path: &str) -> Result<MemSink, CreateFailed> {
         let is_given = self.creations < u128::MAX
-            && self.give(path, MemSink::new(self.alloc)).is_ok();
+            && self.add_file(path, MemSink::new(self.alloc)).is_ok();
         if !is_given {
             self.failures = self.failures.saturating_add(1);
             return Err(CreateFailed);
@@ -89,10 +91,11 @@ impl Creator for MadeFiles {
         Ok(MemSink::new(self.alloc))
     }
 
+    /// Appends an item with the bytes of `output` to what [`given`](MadeFiles::given) returns. Errs if an allocation fails.
     #[tactic(auto, unfolding(crate::specs::Failures::HasFailed))]
     fn close(&mut self, path: &str, output: MemSink) -> Result<(), CloseFailed> {
         let failures = output.failures();
-        if self.give(path, output).is_err() {
+        if self.add_file(path, output).is_err() {
             self.failures = self.failures.saturating_add(1);
             return Err(CloseFailed);
         }

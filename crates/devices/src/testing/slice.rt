@@ -21,7 +21,7 @@ pub struct SliceSink<'a> {
 impl<'a> SliceSink<'a> {
     ghost use Rattle.devices.specs.code.Slice.{view_of, capacity_left, step_of};
 
-    /// Creates an empty sink over the slice. It takes at most `step` bytes a call.
+    /// Creates an empty sink over the slice. It takes at most `step` bytes a call. Needs a `step` of at least 1.
     pub fn new(into: &'a mut [u8], step: usize) -> SliceSink<'a>
         requires { 1 ≤ step }
         ensures view { view_of result ≡ unfailed (Some []) }
@@ -36,7 +36,7 @@ impl<'a> SliceSink<'a> {
         }
     }
 
-    /// Returns all the bytes that it took.
+    /// Returns all bytes that the sink has taken.
     pub fn taken(&self) -> &[u8]
         ensures { (view_of self.now).taken ≡ Some result.now }
     {

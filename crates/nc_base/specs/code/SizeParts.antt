@@ -28,9 +28,9 @@ checked_record_size h =
     then Some (record_size h) else None
 
 -- the least begin of these variables, where there are any
-abbrev pub first_begin : List Var → Option ℕ
-first_begin [] = None
-first_begin (var ∷ vars) = Some (least_begin var vars)
+abbrev pub least_record_begin : List Var → Option ℕ
+least_record_begin [] = None
+least_record_begin (var ∷ vars) = Some (least_begin var vars)
 
 -- the lesser of two offsets, if there are two
 abbrev pub lesser : Option ℕ → ℕ → ℕ

@@ -11,7 +11,7 @@ use Rattle.nc_base.specs.Bytes.{padding_len}
 use Rattle.nc_base.specs.Types.{size_of}
 use Rattle.nc_base.specs.code.TypeCodes.{type_of_code, version_of_byte}
 use Rattle.nc_base.specs.Versions.{count_width, count_limit, offset_width, offset_limit, streaming_mark, has_type}
-use Rattle.nc_base.specs.Sizes.{is_record_dim, has_records, padded_total, record_vars, slab_limit, record_limit, has_record_dim}
+use Rattle.nc_base.specs.Sizes.{is_record_dim, is_record_shape, padded_total, record_vars, slab_limit, record_limit, has_record_dim}
 use Rattle.nc_base.specs.code.SizeParts.{slab_of}
 use Rattle.nc_file.specs.declared.{sized_var.SizedVar.SizedVar, head_fault.HeadFault.HeadFault}
 use Rattle.nc_base.specs.Names.{is_name}
@@ -233,7 +233,7 @@ offset_at v = do
 
 -- what a variable of this shape and type adds to a record
 abbrev pub record_part : List Dim → List ℕ → NcType → ℕ
-record_part dims ids ty = if has_records dims ids then slab_of dims ids ty + padding_len (slab_of dims ids ty) else 0
+record_part dims ids ty = if is_record_shape dims ids then slab_of dims ids ty + padding_len (slab_of dims ids ty) else 0
 
 -- The padded slabs of the record variables so far, with this variable's: none where a limit is passed.
 unfoldable pub total_with : List Dim → List ℕ → NcType → ℕ → Option ℕ

@@ -14,12 +14,13 @@ use devices::Source;
 use nc_base::{FormatFault, Header, NumRecs, Version};
 use std::alloc::Global;
 
-/// Reads the header at the start of a source, through a caller's buffer of at least 16 bytes. Whatever the source, the returned header is
-/// sound. Its weight (`nc_base::weight`) is at most the number of bytes that it takes in a file ([`header_len`](crate::header_len)).
+/// Reads the header at the start of a source, through a caller's buffer of at least 16 bytes, which may hold anything before and after.
+/// Whatever the source, the returned header is sound (`nc_base::Header::sound`). It takes memory in proportion to its weight
+/// (`nc_base::weight`), which is at most the number of bytes that it takes in a file ([`header_len`](crate::header_len)).
 ///
 /// It reads from the source only when the next field lacks a byte in the buffer, and from that byte on. So it reads at most one buffer more
-/// of a transparent source than the header, or than the bytes up to the end of the first wrong field. No count of the header reserves
-/// memory: a list grows as its elements are read. The padding of names and attributes may be any bytes (NetCDF Classic Format
+/// of a transparent source ([`Source`]) than the header, or than the bytes up to the end of the first wrong field. No count of the header
+/// reserves memory: a list grows as its elements are read. The padding of names and attributes may be any bytes (NetCDF Classic Format
 /// Specification).
 ///
 /// # Errors
@@ -40,15 +41,16 @@ pub fn read_header<S: Source>(
     ensures sound { IfOk result IsSound }
     ensures weight { IfOk result (λ h. weight_of h ≤ length (header_spelling h)) }
 {
-    match header_at_start(alloc, source, buf) {
+    match read_unchecked_header(alloc, source, buf) {
         Ok(header) if !header.sound() => Err(HeadFault::Format(FormatFault::TooLarge)),
         answer => answer,
     }
 }
 
-/// Reads the header at the start of the source, without a check that the header is sound. If the source is transparent, the
-/// header is sound. Otherwise the contract says nothing of the header.
-fn header_at_start<S: Source>(
+/// Reads the header at the start of the source as [`read_header`] does, but doesn't check at the end that the header is sound. If the
+/// source is transparent ([`Source`]), the contract says that the header is sound. Otherwise it says nothing of the header, so
+/// [`read_header`] checks it.
+fn read_unchecked_header<S: Source>(
     alloc: Global,
     source: &mut S,
     buf: &mut [u8],

@@ -8,7 +8,7 @@ use crate::head_fault::HeadFault;
 use crate::tag::{NC_DOUBLE, NC_FLOAT};
 use crate::window::Window;
 use devices::Source;
-use nc_base::{FormatFault, NcType, Sequence, Version, check_name, padding_len};
+use nc_base::{FormatFault, NcType, Sequence, Version, is_valid_name, padding_len};
 use std::alloc::Global;
 
 impl<S: Source> Window<'_, S> {
@@ -23,7 +23,7 @@ impl<S: Source> Window<'_, S> {
     {
         let n = self.count(version)?;
         let name = self.bytes(alloc, n as u128)?;
-        if !check_name(name.as_slice()) {
+        if !is_valid_name(name.as_slice()) {
             return Err(HeadFault::Format(FormatFault::BadName));
         }
         self.skip(padding_len(n as u128))?;
@@ -43,8 +43,9 @@ impl<S: Source> Window<'_, S> {
         Ok(type_of(version, code).ok_or(FormatFault::BadType)?)
     }
 
-    /// Reads the tag of a list and the number of its elements, and returns that number. Errs with `BadTag` if the tag that was read is
-    /// neither `tag` nor 0. Errs with `BadCount` if that tag is 0 and the number isn't, or if the number's top bit is 1.
+    /// Reads the tag of a list and the number of its elements, and returns the number. `tag` is the tag of lists of this kind; 0 may stand
+    /// in its place if there are no elements. Errs with `BadTag` if any other tag was read, and with `BadCount` if the tag is 0 and the
+    /// number isn't, or if the number's top bit is 1.
     #[tactic(auto, using(crate::proofs::Parts::parts), unfolding(crate::specs::code::Reading::list_len_at))]
     pub(crate) fn list_len(&mut self, version: Version, tag: u32) -> Result<u64, HeadFault>
         ensures { Read self.old self.new (list_len_at version tag) result }

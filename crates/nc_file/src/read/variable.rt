@@ -2,7 +2,7 @@
 
 ghost use Rattle.std.specs.Prelude.{IfOk, ◌≡◌, ◌+◌, ◌≤◌, [], true, if◌then◌else◌};
 ghost use Rattle.nc_base.specs.Bytes.{padding_len};
-ghost use Rattle.nc_base.specs.Sizes.{has_records, slab_limit};
+ghost use Rattle.nc_base.specs.Sizes.{is_record_shape, slab_limit};
 ghost use Rattle.nc_base.specs.Versions.{offset_width};
 ghost use Rattle.nc_file.specs.code.Reading.{is_dimid, dimid_at, dimid_after, each_at, number_at, shape_at, offset_at, total_with, var_at, var_after, var_list_at, IsCounted};
 ghost use Rattle.nc_file.specs.code.Window.{Read};
@@ -13,14 +13,14 @@ use crate::tag::NC_VARIABLE;
 use crate::window::Window;
 use devices::Source;
 use nc_base::{
-    Dim, FormatFault, NcType, RECORD_LIMIT, Sequence, Var, Version, has_records, is_record_dim,
+    Dim, FormatFault, NcType, RECORD_LIMIT, Sequence, Var, Version, is_record_dim, is_record_shape,
     padding_len, slab_of,
 };
 use std::alloc::Global;
 
 impl<S: Source> Window<'_, S> {
-    /// Reads a dimension id of a shape. `first` is true if it is the shape's first id. Errs with `BadShape` if it isn't the id of a
-    /// dimension of `dims`, or if it is the id of the record dimension and `first` is false.
+    /// Reads a dimension id of a shape, and returns it. `first` is true if it is the shape's first id. Errs with `BadShape` if no dimension
+    /// of `dims` has this id, or if it is the id of the record dimension and `first` is false.
     #[tactic(auto, using(crate::proofs::Parts::parts), unfolding(crate::specs::code::Reading::dimid_at))]
     fn dimid(&mut self, version: Version, dims: &[Dim], first: bool) -> Result<u64, HeadFault>
         ensures { Read self.old self.new (dimid_at version dims.now first) result }
@@ -67,8 +67,8 @@ impl<S: Source> Window<'_, S> {
         self.dimids(alloc, version, dims, n)
     }
 
-    /// Reads a big-endian number of the width that offsets have in the version, four bytes in CDF-1 and otherwise eight. Any value is
-    /// allowed.
+    /// Reads a big-endian number of the width that offsets have in the version, four bytes in CDF-1 and otherwise eight. Its top bit may be
+    /// 1: [`offset`](Window::offset) calls this, and then checks the bit.
     fn unchecked_offset(&mut self, version: Version) -> Result<u64, HeadFault>
         ensures { Read self.old self.new (number_at (offset_width version)) result }
     {
@@ -90,9 +90,9 @@ impl<S: Source> Window<'_, S> {
         Ok(n)
     }
 
-    /// Reads a variable, and returns it with the bytes of a record so far. These are `total`, the padded slabs of the record variables
-    /// before it, plus its own padded slab if it is a record variable. Errs with `TooLarge` if its slab passes 2^48 bytes, or the sum
-    /// passes 2^62 bytes. Its `vsize` may be any number.
+    /// Reads a variable, and returns it with the number of bytes that a record has up to and including it. This is `total`, the bytes of
+    /// the padded slabs of the record variables before it, plus those of its own padded slab if it is a record variable. Errs with
+    /// `TooLarge` if its slab passes 2^48 bytes, or if the sum passes 2^62 bytes. Its `vsize` may be any number.
     #[tactic(auto, using(crate::proofs::Parts::parts), unfolding(crate::specs::code::Reading::var_at))]
     fn var(
         &mut self,
@@ -123,8 +123,9 @@ impl<S: Source> Window<'_, S> {
         })
     }
 
-    /// Reads `n` variables. Errs with the fault of the first wrong field, or if the source or an allocation fails. The fault is `TooLarge` if
-    /// a slab passes 2^48 bytes, or if the padded slabs of the record variables together pass 2^62 bytes.
+    /// Reads `n` variables, one after the other, and returns them. Errs with the fault of the first wrong field, or if the source or an
+    /// allocation fails. The fault is `TooLarge` if a slab passes 2^48 bytes, or if the padded slabs of the record variables together pass
+    /// 2^62 bytes.
     #[tactic(auto, using(crate::proofs::Loops::each))]
     fn vars(
         &mut self,
@@ -160,16 +161,16 @@ impl<S: Source> Window<'_, S> {
     }
 }
 
-/// Returns true if a dimension of `dims` has this id, and either it isn't the record dimension or `first` is true: the id is the first of
-/// its shape.
+/// Returns true if `id` may stand in a shape. A dimension of `dims` must have this id, and only the shape's first id may be that of the
+/// record dimension. `first` is true if `id` is the shape's first.
 fn is_dimid(dims: &[Dim], first: bool, id: u64) -> bool
     ensures { result ≡ is_dimid dims.now first id }
 {
     id < dims.len() as u64 && (first || !is_record_dim(dims, id))
 }
 
-/// Returns `total`, the bytes of a record so far, plus the padded slab of a variable of this shape and type if it is a record variable.
-/// Returns `None` if the slab passes 2^48 bytes, or the sum passes 2^62 bytes.
+/// Returns `total` plus the bytes of the padded slab of a variable of this shape and type if it is a record variable, otherwise `total`.
+/// `total` is the sum for the record variables before it. Returns `None` if the slab passes 2^48 bytes, or if the sum passes 2^62 bytes.
 #[tactic(auto, unfolding(crate::specs::code::Reading::total_with))]
 fn total_with(dims: &[Dim], dimids: &[u64], ty: NcType, total: u64) -> Option<u64>
     ensures { result ≡ total_with dims.now dimids.now ty total }
@@ -184,12 +185,12 @@ fn total_with(dims: &[Dim], dimids: &[u64], ty: NcType, total: u64) -> Option<u6
 }
 
 /// Returns how many bytes a slab of `slab` bytes adds to a record: its padded size if the first dimension of this shape is the record
-/// dimension, otherwise 0.
+/// dimension, otherwise 0. Needs a slab of at most 2^48 bytes.
 fn record_part(dims: &[Dim], dimids: &[u64], slab: u64) -> u64
     requires { slab ≤ slab_limit }
-    ensures { result ≡ (if has_records dims.now dimids.now then slab + padding_len slab else 0) }
+    ensures { result ≡ (if is_record_shape dims.now dimids.now then slab + padding_len slab else 0) }
 {
-    if has_records(dims, dimids) {
+    if is_record_shape(dims, dimids) {
         slab + padding_len(slab as u128)
     } else {
         0

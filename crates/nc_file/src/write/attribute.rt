@@ -8,7 +8,7 @@ ghost use Rattle.nc_base.specs.Versions.{count_limit};
 ghost use Rattle.devices.specs.code.SinkWrites.{Wrote};
 
 use super::list::{put_list_head, put_name, put_zero_padded};
-use super::number::{put_count, put_word};
+use super::number::{put_count, put_u32};
 use crate::tag::NC_ATTRIBUTE;
 use devices::{Sink, WriteFailed};
 use nc_base::{Att, Version};
@@ -28,7 +28,7 @@ pub(crate) fn put_att_list<W: Sink>(
     put_atts(sink, version, atts)
 }
 
-/// Writes the attributes, one after another. Errs if the sink fails.
+/// Writes the attributes of a list, one after another, without the tag and the number before them. Errs if the sink fails.
 fn put_atts<W: Sink>(sink: &mut W, version: Version, atts: &[Att]) -> Result<(), WriteFailed>
     requires { All (IsSoundAtt version) atts.now }
     ensures { Wrote W.view sink.old sink.new (flat_map (att_spelling version) atts.now) result }
@@ -47,7 +47,7 @@ fn put_att<W: Sink>(sink: &mut W, version: Version, att: &Att) -> Result<(), Wri
     ensures { Wrote W.view sink.old sink.new (att_spelling version att.now) result }
 {
     put_name(sink, version, att.name.as_slice())?;
-    put_word(sink, att.ty.code())?;
+    put_u32(sink, att.ty.code())?;
     put_count(sink, version, att.vals.len() as u64 / att.ty.size())?;
     put_zero_padded(sink, att.vals.as_slice())
 }

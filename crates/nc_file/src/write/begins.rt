@@ -24,9 +24,10 @@ pub(crate) struct NextBegins {
     pub(crate) record_begin: u128,
 }
 
-/// Gives each variable of the header its begin, and returns the header. The slabs of the variables that aren't record variables come after
-/// the header, in header order. After them come the slabs of the record variables in the first record. Each slab before another is padded
-/// to a multiple of four bytes (`begin` of the NetCDF Classic Format Specification). The begins that the given header has don't matter.
+/// Gives each variable of a sound header (`nc_base::Header::sound`) its begin, and returns the header. The slabs of the variables that
+/// aren't record variables come after the header, in header order. After them come the slabs of the record variables in the first record.
+/// Each slab before another is padded to a multiple of four bytes (`begin` of the NetCDF Classic Format Specification). The begins that the
+/// given header has don't matter.
 ///
 /// It does not allocate, and takes time in proportion to the number of dimensions, dimension ids, variables and attributes.
 ///
@@ -48,9 +49,9 @@ pub fn with_begins(header: Header) -> Result<Header, OffsetTooLarge>
     let mut vars = vars.into_vec();
     let first = NextBegins {
         fixed_begin: start,
-        record_begin: start + fixed_total(dims.as_slice(), vars.as_slice()),
+        record_begin: start + fixed_slabs_len(dims.as_slice(), vars.as_slice()),
     };
-    if !place_each(
+    if !assign_begins(
         dims.as_slice(),
         vars.as_mut_slice(),
         first,
@@ -67,8 +68,8 @@ pub fn with_begins(header: Header) -> Result<Header, OffsetTooLarge>
     })
 }
 
-/// Returns the number of bytes of the padded slabs of all variables that aren't record variables.
-fn fixed_total(dims: &[Dim], vars: &[Var]) -> u128
+/// Returns how many bytes the padded slabs of all variables that aren't record variables take together. Needs slabs of at most 2^48 bytes.
+fn fixed_slabs_len(dims: &[Dim], vars: &[Var]) -> u128
     requires { All (λ var. slab_size dims.now var ≤ slab_limit) vars.now }
     ensures size { result ≡ padded_total dims.now (fixed_vars dims.now vars.now) }
     ensures small { result ≤ length vars.now * 2 ^ 49 }
@@ -82,9 +83,10 @@ fn fixed_total(dims: &[Dim], vars: &[Var]) -> u128
     total
 }
 
-/// Gives each variable its begin, in order: `first` has the begins of the first variables. Returns true if all begins are below `limit`.
-/// Otherwise stops at the first begin that isn't, and returns false.
-fn place_each(dims: &[Dim], vars: &mut [Var], first: NextBegins, limit: u64) -> bool
+/// Gives each variable its begin, in order. `first` has the begins of the first record variable and of the first other variable. Returns
+/// true if all begins are below `limit`. Otherwise returns false at the first begin that isn't: the variables before it have their begins,
+/// and the others are as they were. Needs slabs of at most 2^48 bytes, and begins below 2^120 in `first`, so that no sum overflows.
+fn assign_begins(dims: &[Dim], vars: &mut [Var], first: NextBegins, limit: u64) -> bool
     requires small { All (λ var. slab_size dims.now var ≤ slab_limit) vars.old }
     requires fixed_begin { first.fixed_begin < 2 ^ 120 }
     requires record_begin { first.record_begin < 2 ^ 120 }
@@ -104,7 +106,7 @@ fn place_each(dims: &[Dim], vars: &mut [Var], first: NextBegins, limit: u64) -> 
 }
 
 impl NextBegins {
-    /// Returns the begin of `var`, which is the next variable.
+    /// Returns the begin of `var`, the next variable in header order: `record_begin` if it is a record variable, otherwise `fixed_begin`.
     fn begin_of(self, dims: &[Dim], var: &Var) -> u128
         ensures { result ≡ offset_of dims.now self var.now }
     {
@@ -115,7 +117,9 @@ impl NextBegins {
         }
     }
 
-    /// Returns the begins after `var`, which is the next variable: the one of its kind is increased by its padded slab.
+    /// Returns the begins of the variables that come next after `var`. The begin that [`begin_of`](NextBegins::begin_of) returns for `var`
+    /// is increased by the bytes of its padded slab, which are fewer than 2^49. The other begin is kept. Needs a slab of at most 2^48
+    /// bytes, and begins below 2^127, so that no sum overflows.
     fn after(self, dims: &[Dim], var: &Var) -> NextBegins
         requires small { slab_size dims.now var.now ≤ slab_limit }
         requires fixed_begin { self.fixed_begin < 2 ^ 127 }

@@ -29,7 +29,7 @@ pub(crate) fn put_dim_list<W: Sink>(
     put_dims(sink, version, dims)
 }
 
-/// Writes the dimensions, one after another. Errs if the sink fails.
+/// Writes the dimensions of the list, one after another, without the tag and the number before them. Errs if the sink fails.
 fn put_dims<W: Sink>(sink: &mut W, version: Version, dims: &[Dim]) -> Result<(), WriteFailed>
     requires { All (IsSoundDim version) dims.now }
     ensures { Wrote W.view sink.old sink.new (flat_map (dim_spelling version) dims.now) result }

@@ -16,7 +16,7 @@ use nc_base::{Header, NumRecs, Version};
 /// Writes the header of a file, as the format spells it: its `vsize` fields follow from the shapes. It does not allocate, and
 /// hands one field at a time to the sink.
 ///
-/// The begin of each variable is to fit its field, as `with_begins` makes sure.
+/// Needs a sound header (`nc_base::Header::sound`) in which each begin fits its field, as [`with_begins`](crate::with_begins) makes sure.
 ///
 /// # Errors
 ///

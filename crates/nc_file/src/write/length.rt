@@ -59,7 +59,7 @@ fn vars_len(version: Version, vars: &[Var]) -> u64
     total
 }
 
-/// Returns the number of bytes that a dimension takes in a header, or `u64::MAX` if there are more.
+/// Returns the number of bytes that the name and the length of a dimension take in a header, or `u64::MAX` if there are more.
 fn dim_len(version: Version, dim: &Dim) -> u64
     ensures { result ≡ min (dim_len version dim.now) (2 ^ 64 - 1) }
 {
@@ -88,7 +88,8 @@ fn var_len(version: Version, var: &Var) -> u64
         .saturating_add(fields)
 }
 
-/// Returns the number of bytes of a name with its length and its padding, or `u64::MAX` if there are more.
+/// Returns the number of bytes that a name takes in a header, with its length before it and its padding after it, or `u64::MAX` if there
+/// are more.
 fn name_len(version: Version, name: &[u8]) -> u64
     ensures { result ≡ min (name_len version name.now) (2 ^ 64 - 1) }
 {

@@ -5,7 +5,7 @@ ghost use Rattle.nc_base.specs.GeneratedFile.{list_head, name_spelling, zero_pad
 ghost use Rattle.nc_base.specs.Versions.{count_limit};
 ghost use Rattle.devices.specs.code.SinkWrites.{Wrote};
 
-use super::number::{put_count, put_word};
+use super::number::{put_count, put_u32};
 use devices::{Sink, WriteFailed, put};
 use nc_base::{Version, padding_len};
 
@@ -23,7 +23,7 @@ pub(crate) fn put_name<W: Sink>(
     put_zero_padded(sink, name)
 }
 
-/// Writes bytes, and zeros up to the next multiple of four. Errs if the sink fails.
+/// Writes bytes, and then up to three zeros, so that the number of all bytes is a multiple of four. Errs if the sink fails.
 #[tactic(auto, using(devices::proofs::Writes::writes))]
 pub(crate) fn put_zero_padded<W: Sink>(sink: &mut W, bytes: &[u8]) -> Result<(), WriteFailed>
     ensures { Wrote W.view sink.old sink.new (zero_padded bytes.now) result }
@@ -32,7 +32,7 @@ pub(crate) fn put_zero_padded<W: Sink>(sink: &mut W, bytes: &[u8]) -> Result<(),
     put_zeros(sink, padding_len(bytes.len() as u128))
 }
 
-/// Writes `n` zeros, at most three. Errs if the sink fails.
+/// Writes `n` zero bytes, which are padding. Needs an `n` of at most 3. Errs if the sink fails.
 fn put_zeros<W: Sink>(sink: &mut W, n: u64) -> Result<(), WriteFailed>
     requires { n < 4 }
     ensures { Wrote W.view sink.old sink.new (replicate n 0) result }
@@ -52,6 +52,6 @@ pub(crate) fn put_list_head<W: Sink>(
     requires { n < count_limit version }
     ensures { Wrote W.view sink.old sink.new (list_head version tag n) result }
 {
-    put_word(sink, if n == 0 { 0 } else { tag })?;
+    put_u32(sink, if n == 0 { 0 } else { tag })?;
     put_count(sink, version, n)
 }

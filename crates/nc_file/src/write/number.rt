@@ -9,15 +9,16 @@ ghost use Rattle.devices.specs.code.SinkWrites.{Wrote};
 use devices::{Sink, WriteFailed, put};
 use nc_base::Version;
 
-/// Writes a number of 32 bits: a tag, or the code of a type. Errs if the sink fails.
+/// Writes a big-endian number of 32 bits, whatever the version: a tag, or the code of a type. Errs if the sink fails.
 #[tactic(auto, unfolding(nc_base::specs::GeneratedFile::word_spelling))]
-pub(crate) fn put_word<W: Sink>(sink: &mut W, n: u32) -> Result<(), WriteFailed>
+pub(crate) fn put_u32<W: Sink>(sink: &mut W, n: u32) -> Result<(), WriteFailed>
     ensures { Wrote W.view sink.old sink.new (word_spelling n) result }
 {
     put(sink, &n.to_be_bytes())
 }
 
-/// Writes a number that has the width of the version's counts, and may have its top bit set. Errs if the sink fails.
+/// Writes a big-endian number as wide as the version's counts, eight bytes in CDF-5 and otherwise four. Needs a number that fits. Its top
+/// bit may be 1, as in a `vsize`, or in the number of records if that is unknown (`STREAMING`). Errs if the sink fails.
 pub(crate) fn put_number<W: Sink>(sink: &mut W, version: Version, n: u64) -> Result<(), WriteFailed>
     requires { n < count_limit version + count_limit version }
     ensures { Wrote W.view sink.old sink.new (count_spelling version n) result }
@@ -28,7 +29,8 @@ pub(crate) fn put_number<W: Sink>(sink: &mut W, version: Version, n: u64) -> Res
     }
 }
 
-/// Writes a count, a length or a dimension id (`NON_NEG`), whose top bit is 0. Errs if the sink fails.
+/// Writes a count, a length or a dimension id (`NON_NEG`) as [`put_number`] does, but needs a number whose top bit is 0. Errs if the sink
+/// fails.
 pub(crate) fn put_count<W: Sink>(sink: &mut W, version: Version, n: u64) -> Result<(), WriteFailed>
     requires { n < count_limit version }
     ensures { Wrote W.view sink.old sink.new (count_spelling version n) result }
@@ -36,7 +38,7 @@ pub(crate) fn put_count<W: Sink>(sink: &mut W, version: Version, n: u64) -> Resu
     put_number(sink, version, n)
 }
 
-/// Writes an offset (`OFFSET`), whose top bit is 0. Errs if the sink fails.
+/// Writes an offset (`OFFSET`), in four bytes in CDF-1 and otherwise in eight. Needs an offset whose top bit is 0. Errs if the sink fails.
 pub(crate) fn put_offset<W: Sink>(
     sink: &mut W,
     version: Version,

@@ -10,7 +10,7 @@ ghost use Rattle.nc_file.specs.code.WrittenParts.{shape_spelling, var_list, vars
 
 use super::attribute::put_att_list;
 use super::list::{put_list_head, put_name};
-use super::number::{put_count, put_number, put_offset, put_word};
+use super::number::{put_count, put_number, put_offset, put_u32};
 use super::slab::padded_slab_len;
 use crate::tag::NC_VARIABLE;
 use devices::{Sink, WriteFailed};
@@ -34,7 +34,7 @@ pub(crate) fn put_var_list<W: Sink>(
     put_vars(sink, version, dims, vars)
 }
 
-/// Writes the variables, one after another. Errs if the sink fails.
+/// Writes the variables of the list, one after another, without the tag and the number before them. Errs if the sink fails.
 fn put_vars<W: Sink>(
     sink: &mut W,
     version: Version,
@@ -68,12 +68,12 @@ fn put_var<W: Sink>(
     put_name(sink, version, var.name.as_slice())?;
     put_shape(sink, version, dims, var.dimids.as_slice())?;
     put_att_list(sink, version, var.atts.as_slice())?;
-    put_word(sink, var.ty.code())?;
+    put_u32(sink, var.ty.code())?;
     put_vsize(sink, version, dims, var)?;
     put_offset(sink, version, var.begin_at)
 }
 
-/// Writes a shape: its rank and the ids of its dimensions. Errs if the sink fails.
+/// Writes a shape: its rank and `dimids`, the ids of its dimensions. Only the contract needs `dims`. Errs if the sink fails.
 #[tactic(auto, using(devices::proofs::Writes::writes))]
 fn put_shape<W: Sink>(
     sink: &mut W,
@@ -90,7 +90,7 @@ fn put_shape<W: Sink>(
     put_dimids(sink, version, dims, dimids)
 }
 
-/// Writes the ids of dimensions, one after another. Errs if the sink fails.
+/// Writes `dimids`, the ids of dimensions, one after another. Only the contract needs `dims`. Errs if the sink fails.
 fn put_dimids<W: Sink>(
     sink: &mut W,
     version: Version,
@@ -107,7 +107,8 @@ fn put_dimids<W: Sink>(
     Ok(())
 }
 
-/// Writes the `vsize` of a variable. Errs if the sink fails.
+/// Writes the `vsize` of a variable, as wide as a count: the number of bytes of its padded slab, or the greatest number of 32 bits if
+/// that is less and the version is CDF-1 or CDF-2 ([`vsize_of`]). Errs if the sink fails.
 fn put_vsize<W: Sink>(
     sink: &mut W,
     version: Version,

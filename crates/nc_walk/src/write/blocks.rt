@@ -29,8 +29,8 @@ pub(super) fn put_blocks<W: Sink>(
     Ok(())
 }
 
-/// Writes the block of a variable with its padding, or nothing if it is a record variable. `listed` has the variable's listed
-/// values.
+/// Writes the block (all values) of a variable with its padding, or nothing if it is a record variable. `listed` has the variable's listed
+/// values. The values that it lacks at its end are written as the fill value.
 fn put_block<W: Sink>(
     sink: &mut W,
     dims: &[Dim],

@@ -13,8 +13,8 @@ use devices::{Sink, WriteFailed};
 use nc_base::{Header, ListedArray};
 
 /// Writes the data part of a file: the blocks of the variables that aren't record variables, in header order, and after them one
-/// record after the other (`data` of the NetCDF Classic Format Specification). `slabs` are those that
-/// [`record_slabs`](crate::record_slabs) returns for the header.
+/// record after the other (`data` of the NetCDF Classic Format Specification). Needs a sound header (`nc_base::Header::sound`), and as
+/// `slabs` those that [`record_slabs`](crate::record_slabs) returns for it.
 ///
 /// `arrays` has the listed values of each variable, in header order. The values that an array lacks at its end are written as the
 /// fill value of the variable, and so is padding. Does not allocate: listed values are written straight from the arrays, a slab of

@@ -28,7 +28,8 @@ pub(super) fn put_fills<W: Sink>(sink: &mut W, unit: [u8; 8], n: u128) -> Result
     put_many_fills(sink, unit, n)
 }
 
-/// Writes `n` bytes as [`put_fills`] does, at most 256, in one piece. A short slab lacks no more than that.
+/// Writes `n` bytes as [`put_fills`] does, in one piece. Needs `n` to be at most 256: its buffer has only 256 bytes, since each call makes
+/// it anew.
 fn put_few_fills<W: Sink>(sink: &mut W, unit: [u8; 8], n: u128) -> Result<(), WriteFailed>
     requires { n ≤ 256 }
     ensures { Wrote W.view sink.old sink.new (repeated unit n) result }
@@ -72,14 +73,14 @@ pub(super) fn fill_unit(var: &Var) -> [u8; 8]
     }
 }
 
-/// Returns a value of one byte, eight times.
+/// Returns eight bytes: a value of one byte, eight times.
 fn eight_times(value: [u8; 1]) -> [u8; 8]
     ensures { result ≡ eight_times value }
 {
     [value[0]; 8]
 }
 
-/// Returns a value of two bytes, four times.
+/// Returns eight bytes: a value of two bytes, four times.
 fn four_times(value: [u8; 2]) -> [u8; 8]
     ensures { result ≡ four_times value }
 {
@@ -87,7 +88,7 @@ fn four_times(value: [u8; 2]) -> [u8; 8]
     [a, b, a, b, a, b, a, b]
 }
 
-/// Returns a value of four bytes, twice.
+/// Returns eight bytes: a value of four bytes, and the same value once more.
 fn twice(value: [u8; 4]) -> [u8; 8]
     ensures { result ≡ twice value }
 {

@@ -8,8 +8,9 @@ use super::fills::put_fills;
 use devices::{Sink, WriteFailed, put};
 use nc_base::{ListedArray, Run};
 
-/// Writes `len` bytes of a listed array from the offset `start` on, or those up to its end if there are fewer.
-pub(super) fn put_part<W: Sink>(
+/// Writes `len` bytes of a listed array from the offset `start` on, or those up to the array's end if there are fewer. Each row is filled
+/// up: `start` and `len` also count the fill bytes that aren't stored.
+pub(super) fn put_listed_bytes<W: Sink>(
     sink: &mut W,
     listed: &ListedArray,
     start: u128,
@@ -27,7 +28,8 @@ pub(super) fn put_part<W: Sink>(
     Ok(())
 }
 
-/// Writes the first `n` bytes of a run, or all if it has fewer, and returns how many it has written.
+/// Writes the first `n` bytes of a run (its listed bytes, and then copies of its fill byte), or all if it has fewer. Returns how many bytes
+/// were written.
 #[tactic(auto, using(devices::proofs::Writes::writes))]
 fn put_run<W: Sink>(sink: &mut W, run: Run<'_>, n: u128) -> Result<u128, WriteFailed>
     ensures writes { Wrote W.view sink.old sink.new (take n (run_bytes run.entry)) result }

@@ -21,7 +21,7 @@ pub struct RecordSlab {
     fill_unit: [u8; 8],
 }
 
-/// Returns the slabs of a record, one for each record variable, in header order.
+/// Returns the slabs of a record, one for each record variable, in header order. Needs a sound header (`nc_base::Header::sound`).
 ///
 /// With them [`write_data`](crate::write_data) writes a record without a look at the other variables. They take memory in
 /// proportion to the number of record variables.
@@ -45,7 +45,8 @@ pub fn record_slabs(alloc: Global, header: &Header) -> Result<Sequence<RecordSla
 }
 
 impl RecordSlab {
-    /// Returns the slab that the variable with this index has in each record.
+    /// Returns the slab that the record variable `var` has in each record. `var_index` is its index in the header, and `dims` has the
+    /// header's dimensions. Needs a slab of at most 2^48 bytes.
     fn of(var_index: usize, dims: &[Dim], var: &Var) -> RecordSlab
         requires { slab_size dims.now var.now ≤ slab_limit }
         ensures { result ≡ record_slab var_index dims.now var.now }
@@ -58,7 +59,7 @@ impl RecordSlab {
     }
 
     /// Returns a writer of the array of the slab's variable. `arrays` has the listed values of all variables, in header order.
-    pub(super) fn writer_in<'a>(&self, arrays: &'a [ListedArray]) -> SlabWriter<'a>
+    pub(super) fn array_writer<'a>(&self, arrays: &'a [ListedArray]) -> SlabWriter<'a>
         requires { self.now.var_index < length arrays.now }
         ensures { result ≡ array_of arrays.now self.now }
     {

@@ -10,7 +10,8 @@ use super::record_slab::RecordSlab;
 use devices::{Sink, WriteFailed};
 use nc_base::{Header, ListedArray};
 
-/// Writes all records. The array of a sole record variable is written in one go, since its slabs stand without padding.
+/// Writes all records, or none if their number is unknown (`STREAMING`). `slabs` has the slab of each record variable, and `arrays` the
+/// listed values of all variables. The array of a sole record variable is written in one go, since its slabs stand without padding.
 pub(super) fn put_records<W: Sink>(
     sink: &mut W,
     header: &Header,
@@ -25,13 +26,14 @@ pub(super) fn put_records<W: Sink>(
     let records = header.numrecs.known();
     match slabs {
         [] => Ok(()),
-        [slab] => slab.writer_in(arrays).put_records(sink, records),
-        _ => put_each_record(sink, slabs, arrays, records),
+        [slab] => slab.array_writer(arrays).put_records(sink, records),
+        _ => put_padded_records(sink, slabs, arrays, records),
     }
 }
 
-/// Writes `records` records, one after the other.
-fn put_each_record<W: Sink>(
+/// Writes `records` records, one after the other: in each a slab of every record variable, with its padding. It isn't called for a sole
+/// record variable, since the slabs of that stand without padding. `arrays` has the listed values of all variables.
+fn put_padded_records<W: Sink>(
     sink: &mut W,
     slabs: &[RecordSlab],
     arrays: &[ListedArray],
@@ -46,7 +48,7 @@ fn put_each_record<W: Sink>(
     Ok(())
 }
 
-/// Writes record `r`: a slab of each record variable, with its padding.
+/// Writes record `r`, counted from 0: a slab of each record variable, with its padding. `arrays` has the listed values of all variables.
 fn put_record<W: Sink>(
     sink: &mut W,
     slabs: &[RecordSlab],
@@ -57,7 +59,7 @@ fn put_record<W: Sink>(
     ensures { Wrote W.view sink.old sink.new (record_in slabs.now arrays.now r) result }
 {
     for slab in slabs {
-        slab.writer_in(arrays).put_record(sink, r)?;
+        slab.array_writer(arrays).put_record(sink, r)?;
     }
     Ok(())
 }

@@ -6,7 +6,7 @@ ghost use Rattle.nc_base.specs.Sizes.{slab_limit, slab_size};
 ghost use Rattle.nc_walk.specs.code.Filled.{ArrayView, array_view, filled_part, filled_record, filled_slab, filled_slabs};
 
 use super::fills::{fill_unit, put_fills};
-use super::part::put_part;
+use super::part::put_listed_bytes;
 use devices::{Sink, WriteFailed};
 use nc_base::{Dim, ListedArray, Var, padding_len, slab_of};
 use std::marker::Model;
@@ -29,7 +29,8 @@ impl<'a> Model for SlabWriter<'a> {
 }
 
 impl<'a> SlabWriter<'a> {
-    /// Returns a writer for a variable over these dimensions, with its listed bytes.
+    /// Returns the writer of a variable. `dims` has the dimensions of the header, and `listed` the variable's listed values. Needs a slab
+    /// of at most 2^48 bytes.
     pub(super) fn of(dims: &[Dim], var: &Var, listed: &'a ListedArray) -> SlabWriter<'a>
         requires { slab_size dims.now var.now ≤ slab_limit }
         ensures { result ≡ array_view dims.now var.now listed.now }
@@ -41,14 +42,14 @@ impl<'a> SlabWriter<'a> {
         }
     }
 
-    /// Writes the array of a variable that isn't a record variable, and its padding.
+    /// Writes the whole array and its padding. It is for a variable that isn't a record variable, whose only slab this is.
     pub(super) fn put_block<W: Sink>(&self, sink: &mut W) -> Result<(), WriteFailed>
         ensures { Wrote W.view sink.old sink.new (filled_slab self.now self.now.listed) result }
     {
         self.put_slab(sink, 0, self.listed.len())
     }
 
-    /// Writes the slab of record `r`, and its padding.
+    /// Writes the slab of record `r`, and its padding. It is for a record variable.
     pub(super) fn put_record<W: Sink>(&self, sink: &mut W, r: u64) -> Result<(), WriteFailed>
         ensures { Wrote W.view sink.old sink.new (filled_record r self.now) result }
     {
@@ -56,24 +57,25 @@ impl<'a> SlabWriter<'a> {
         self.put_slab(sink, r as u128 * len, len)
     }
 
-    /// Writes this variable's slabs of the first `records` records, one after the other and without padding.
+    /// Writes this variable's slabs of the first `records` records, one after the other and without padding. It is for a file's only record
+    /// variable.
     #[tactic(auto, using(devices::proofs::Writes::writes))]
     pub(super) fn put_records<W: Sink>(&self, sink: &mut W, records: u64) -> Result<(), WriteFailed>
         ensures { Wrote W.view sink.old sink.new (filled_slabs records self.now) result }
     {
         let listed = self.listed.len();
-        put_part(sink, self.listed, 0, listed)?;
+        put_listed_bytes(sink, self.listed, 0, listed)?;
         let all = records as u128 * self.slab as u128;
         put_fills(sink, self.fill_unit, all.saturating_sub(listed))
     }
 
-    /// Writes a slab and its padding: `len` listed bytes from the offset `start` on, or those up to the end of the listed bytes
-    /// if there are fewer, and then fill values.
+    /// Writes a slab and its padding: `len` listed bytes from the offset `start` on, or those up to the end of the listed bytes if there
+    /// are fewer, and then bytes of fill values up to the end of the padding.
     #[tactic(auto, using(devices::proofs::Writes::writes))]
     fn put_slab<W: Sink>(&self, sink: &mut W, start: u128, len: u128) -> Result<(), WriteFailed>
         ensures { Wrote W.view sink.old sink.new (filled_part self.now start len) result }
     {
-        put_part(sink, self.listed, start, len)?;
+        put_listed_bytes(sink, self.listed, start, len)?;
         let listed = self.listed.len().saturating_sub(start).min(len);
         let lacking = (self.slab as u128).saturating_sub(listed);
         let padding = padding_len(self.slab as u128);

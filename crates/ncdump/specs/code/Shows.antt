@@ -7,7 +7,7 @@ use Rattle.nc_base.specs.Types.{size_of}
 use Rattle.nc_base.specs.HeadText.{head_text}
 use Rattle.nc_base.specs.Places.{stored_values, first_missing}
 use Rattle.nc_base.specs.ValueText.{look_of, variable_prefix}
-use Rattle.nc_base.specs.Dump.{Options, Ending, whole, data_truncated, DataText, no_data_text, values_in_file, has_values, with_variable, data_text, data_word, dump_text, shown_data}
+use Rattle.nc_base.specs.Dump.{Options, Ending, whole, data_truncated, DataText, no_data_text, values_in_file, has_values, with_variable, variables_text, data_word, dump_text, shown_data}
 use Rattle.devices.specs.Failures.{HasFailed}
 use Rattle.devices.specs.Sources.{SourceView}
 use Rattle.devices.specs.code.SourceReads.{having_read}
@@ -121,11 +121,11 @@ ShowsAt d v call result = IfSome (slice_get d.header.vars v) (ShowsOne d v call 
 -- the values of the selected variables from index v on
 abbrev pub values_from : Dumped → List Bool → ℕ → DataText
 values_from d selection v =
-    data_text (shown_data d.header (values_in_file d.header d.bytes d.records) d.records d.width) v (drop v d.header.vars) (drop v selection)
+    variables_text (shown_data d.header (values_in_file d.header d.bytes d.records) d.records d.width) v (drop v d.header.vars) (drop v selection)
 
 -- of all of them
 abbrev pub selected_values : Dumped → List Bool → DataText
-selected_values d selection = data_text (shown_data d.header (values_in_file d.header d.bytes d.records) d.records d.width) 0 d.header.vars selection
+selected_values d selection = variables_text (shown_data d.header (values_in_file d.header d.bytes d.records) d.records d.width) 0 d.header.vars selection
 
 -- the bytes of the values before the first missing one, of each of these variables that is selected and has values
 abbrev pub bytes_of : Dumped → List Var → List Bool → ℕ

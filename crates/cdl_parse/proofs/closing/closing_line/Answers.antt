@@ -10,13 +10,13 @@ pub loop-before-smaller : goal.loop-before-smaller
 loop-before-smaller c =
     let t = c.loop-before in
     let more : is_done t.cutter ≡ false = search rules in
-    subst (λ (ps : List (List Token)). length ps < length (pieces_left t.cutter)) (sym c.after_statement-cutter.ensures.pieces) (fewer t.cutter more)
+    subst (λ (ps : List (List Token)). length ps < length (pieces_left t.cutter)) (sym c.pass_statement-cutter.ensures.pieces) (fewer t.cutter more)
 
 pub loop-before-preserved : goal.loop-before-preserved
 loop-before-preserved c =
     let t = c.loop-before in
     let more : is_done t.cutter ≡ false = search rules in
-    ap (closing_from t.last c.line-last.result) c.after_statement-cutter.ensures.pieces ∙ ap (λ n. closing_from t.last n (after t.cutter)) (c.line-last.ensures more) ∙ sym (closing_on t.before t.last t.cutter more) ∙ t.invariant
+    ap (closing_from t.last c.line-last.result) c.pass_statement-cutter.ensures.pieces ∙ ap (λ n. closing_from t.last n (after t.cutter)) (c.line-last.ensures more) ∙ sym (closing_on t.before t.last t.cutter more) ∙ t.invariant
 
 pub returns : goal.returns
 returns c =

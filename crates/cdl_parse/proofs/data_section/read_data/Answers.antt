@@ -25,8 +25,8 @@ statements-preserved c =
       reads = λ vars s at.
           let so = t.invariant.reads vars s at in
           let taken = found.reads vars (record s { drafts = so.0 }) (subst (λ names. IsInDataSection vars names t.listings.targets.items t.listings.arrays.items (record s { drafts = so.0 })) (sym at.named) so.1) (subst (λ text. length text < 2 ^ 63) (sym t.invariant.text) at.short) in
-          values_on start t.cutter t.invariant.text t.invariant.version more vars s t.listings.targets.items c.read_one.new.listings.targets.items t.listings.arrays.items c.read_one.new.listings.arrays.items c.in-Ok.passed.rest found.rest.pieces so
-          (subst (λ b. TakesStatement b vars t.cutter (record s { drafts = so.0 }) c.read_one.new.listings.targets.items c.read_one.new.listings.arrays.items) c.if-passed.false taken);
+          values_on start t.cutter t.invariant.text t.invariant.version more vars s t.listings.targets.items c.read_next_statement.new.listings.targets.items t.listings.arrays.items c.read_next_statement.new.listings.arrays.items c.in-Ok.passed.rest found.rest.pieces so
+          (subst (λ b. TakesStatement b vars t.cutter (record s { drafts = so.0 }) c.read_next_statement.new.listings.targets.items c.read_next_statement.new.listings.arrays.items) c.if-passed.false taken);
     }
 
 pub returns-then-is_done-clause-reads : goal.returns-then-is_done-clause-reads
@@ -43,7 +43,7 @@ returns-then-passed-clause-reads c = λ vars s at.
     let more : is_done t.cutter ≡ false = sym c.is_done.ensures ∙ c.if-is_done.false in
     let so = t.invariant.reads vars s at in
     let taken = found.reads vars (record s { drafts = so.0 }) (subst (λ names. IsInDataSection vars names t.listings.targets.items t.listings.arrays.items (record s { drafts = so.0 })) (sym at.named) so.1) (subst (λ text. length text < 2 ^ 63) (sym t.invariant.text) at.short) in
-    let closed = subst (λ b. TakesStatement b vars t.cutter (record s { drafts = so.0 }) c.read_one.new.listings.targets.items c.read_one.new.listings.arrays.items) c.if-passed.true taken in
+    let closed = subst (λ b. TakesStatement b vars t.cutter (record s { drafts = so.0 }) c.read_next_statement.new.listings.targets.items c.read_next_statement.new.listings.arrays.items) c.if-passed.true taken in
     (so.0, closed.1, so.2 ∙ goes_on start t.cutter t.invariant.text t.invariant.version more (record s { drafts = so.0 }) (record s { section = Section.Closed; drafts = so.0 }) c.in-Ok.passed.rest closed.0 found.rest.pieces)
 
 pub returns-in-Err-clause-reads : goal.returns-in-Err-clause-reads

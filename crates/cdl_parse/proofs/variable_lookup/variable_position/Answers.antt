@@ -1,5 +1,5 @@
 use Rattle.std.proofs.Common.{rules, ◌<◌, ap, sym, ◌∙◌, subst, map}
-use Rattle.cdl_parse.proofs.Prelude.{length-map, word_value, at_variable, names_of, position_of, at_position, stopped}
+use Rattle.cdl_parse.proofs.Prelude.{length-map, word_value, change_variable, names_of, position_of, at_position, stopped}
 use Rattle.cdl_parse.proofs.VariableNames.{changed, no_name, unknown, within}
 use Rattle.cdl_parse.proofs.variable_lookup.variable_position.Goals as goal
 
@@ -7,7 +7,7 @@ pub returns-in_err-name-clause-finds : goal.returns-in_err-name-clause-finds
 returns-in_err-name-clause-finds g c = λ drafts h change.
     let name = word_value c.args.word.now in
     let e = c.in_err-name.field-0.0 in
-    stopped (λ position. at_position position change drafts) c.from_residual.result e (at_variable name change drafts) (search rules)
+    stopped (λ position. at_position position change drafts) c.from_residual.result e (change_variable name change drafts) (search rules)
     (no_name name change drafts e c.in_err-name.ensures.fault)
 
 pub returns-in-Some-clause-finds : goal.returns-in-Some-clause-finds

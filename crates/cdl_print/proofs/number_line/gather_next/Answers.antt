@@ -5,4 +5,4 @@ use Rattle.cdl_print.proofs.number_line.gather_next.Goals as goal
 pub returns-clause-put : goal.returns-clause-put
 returns-clause-put c =
     let back = to_z-of_z {w = w128} (record { sfits = c.number_of.type_inv }) in
-    subst (λ (number : ℤ). PutNumber c.args.layout.now number c.args.line c.args.text.now c.put_next.result c.put_next.new.text) (back ∙ c.number_of.ensures.number) c.put_next.ensures.put
+    subst (λ (number : ℤ). PutNumber c.args.layout.now number c.args.line c.args.text.now c.put_next_number.result c.put_next_number.new.text) (back ∙ c.number_of.ensures.number) c.put_next_number.ensures.put

@@ -24,7 +24,7 @@ returns-clause-after c =
     let count : length c.args.bytes.now / c.size.result ≡ length (numbers ty c.args.bytes.now) = ap (λ s. length c.args.bytes.now / s) c.size.ensures ∙ sym (length-numbers ty c.args.bytes.now) in
     let some : 0 < length (numbers ty c.args.bytes.now) = some_numbers ty c.args.bytes.now c.requires.whole (search rules) in
     let goes_on = c.requires.in_row some in
-    (c.gather_line-line.ensures.more c.args.progress.now c.requires.number refl goes_on.0 (omega (arith, some, goes_on.1)) goes_on.1).1 _ refl
+    (c.gather_at_end-line.ensures.more c.args.progress.now c.requires.number refl goes_on.0 (omega (arith, some, goes_on.1)) goes_on.1).1 _ refl
     (ap (λ n. c.args.progress.now.position + n) count)
     (c.row_index_after.ensures.row_index ∙ ap (λ n. cond (c.args.progress.now.row_index + n == c.args.layout.now.row) 0 (c.args.progress.now.row_index + n)) count)
 
@@ -32,4 +32,4 @@ pub returns-clause-text : goal.returns-clause-text
 returns-clause-text c =
     let some : 0 < length (numbers c.args.layout.now.ty c.args.bytes.now) = some_numbers c.args.layout.now.ty c.args.bytes.now c.requires.whole (search rules) in
     let goes_on = c.requires.in_row some in
-    (c.gather_line-line.ensures.more c.args.progress.now c.requires.number refl goes_on.0 (omega (arith, some, goes_on.1)) goes_on.1).0
+    (c.gather_at_end-line.ensures.more c.args.progress.now c.requires.number refl goes_on.0 (omega (arith, some, goes_on.1)) goes_on.1).0

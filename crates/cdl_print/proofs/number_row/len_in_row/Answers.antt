@@ -11,5 +11,5 @@ returns-clause-whole c =
 pub returns-clause-in_row : goal.returns-clause-in_row
 returns-clause-in_row c some =
     let count = count_taken c.args.layout.now.ty c.size-size.result c.min-count.result c.args.bytes.now c.size-size.ensures (omega (arith, c.min-count.ensures)) in
-    let left : 0 < c.left_in_row-left.result = omega (arith, count, some, c.min-count.ensures) in
-    (c.left_in_row-left.ensures.some left, omega (arith, count, c.min-count.ensures, c.left_in_row-left.ensures.within left))
+    let left : 0 < c.values_left_in_row-left.result = omega (arith, count, some, c.min-count.ensures) in
+    (c.values_left_in_row-left.ensures.some left, omega (arith, count, c.min-count.ensures, c.values_left_in_row-left.ensures.within left))

@@ -1,14 +1,14 @@
 use Rattle.std.proofs.Common.{◌≡◌, ◌-◌, ◌∙◌, List, ℕ, ap, arith, length, cond, sym}
 use Rattle.nc_base.specs.ValueText.{column}
 use Rattle.cdl_print.proofs.Openings.{name_prefix, prefix_none, prefix_more, prefix_whole}
-use Rattle.cdl_print.proofs.opening.columns_left_after_name.Goals.{then-needs_prefix_escape, else-needs_prefix_escape}
+use Rattle.cdl_print.proofs.opening.columns_left_after_name.Goals.{then-needs_leading_backslash, else-needs_leading_backslash}
 use Rattle.cdl_print.proofs.opening.columns_left_after_name.Goals as goal
 
 pub loop-b-init : goal.loop-b-init
 loop-b-init c =
-    let len : c.if-needs_prefix_escape.len ≡ cond c.needs_prefix_escape.result 2 1
-    = elim c.if-needs_prefix_escape.branch [ then-needs_prefix_escape w ↦ w.len-is ∙ sym (ap (λ b. cond b 2 1) w.if-needs_prefix_escape.true) | else-needs_prefix_escape w ↦ w.len-is ∙ sym (ap (λ b. cond b 2 1) w.if-needs_prefix_escape.false) ] in
-    c.saturating_sub-columns_left.ensures ∙ ap (λ n. c.args.width - n) len ∙ prefix_none c.args.name.now c.args.width _ c.needs_prefix_escape.ensures
+    let len : c.if-needs_leading_backslash.len ≡ cond c.needs_leading_backslash.result 2 1
+    = elim c.if-needs_leading_backslash.branch [ then-needs_leading_backslash w ↦ w.len-is ∙ sym (ap (λ b. cond b 2 1) w.if-needs_leading_backslash.true) | else-needs_leading_backslash w ↦ w.len-is ∙ sym (ap (λ b. cond b 2 1) w.if-needs_leading_backslash.false) ] in
+    c.saturating_sub-columns_left.ensures ∙ ap (λ n. c.args.width - n) len ∙ prefix_none c.args.name.now c.args.width _ c.needs_leading_backslash.ensures
 
 pub loop-b-preserved : goal.loop-b-preserved
 loop-b-preserved c =

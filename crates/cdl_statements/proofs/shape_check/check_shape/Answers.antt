@@ -5,9 +5,9 @@ use Rattle.cdl_statements.proofs.StatementsSaid.{said_is}
 use Rattle.cdl_statements.proofs.shape_check.check_shape.Goals as goal
 
 pub returns-clause-shaped : goal.returns-clause-shaped
-returns-clause-shaped c = λ good. c.check_shape_from.ensures.shaped ∙ sym (piece_completes (version_of c.args.start) c.args.section (words c.args.start) (sym c.check_shape_from.ensures.bad ∙ good))
+returns-clause-shaped c = λ good. c.check_shape_by_due.ensures.shaped ∙ sym (piece_completes (version_of c.args.start) c.args.section (words c.args.start) (sym c.check_shape_by_due.ensures.bad ∙ good))
 
 pub returns-clause-says : goal.returns-clause-says
 returns-clause-says c = λ good whole.
-    let fine = sym c.check_shape_from.ensures.bad ∙ good in
-    said_is (version_of c.args.start) c.args.section (words c.args.start) fine (piece_completes (version_of c.args.start) c.args.section (words c.args.start) fine ∙ sym c.check_shape_from.ensures.shaped ∙ whole)
+    let fine = sym c.check_shape_by_due.ensures.bad ∙ good in
+    said_is (version_of c.args.start) c.args.section (words c.args.start) fine (piece_completes (version_of c.args.start) c.args.section (words c.args.start) fine ∙ sym c.check_shape_by_due.ensures.shaped ∙ whole)

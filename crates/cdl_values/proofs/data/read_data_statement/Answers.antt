@@ -9,5 +9,5 @@ returns-clause-means c = λ s at.
     let v = version_of c.args.start in
     let ws = words c.args.start in
     let few : length ws ≤ most = let h = words_len c.args.start in let short = at.short in omega (arith, h, short) in
-    reads_statement (λ (g : Given). g.array) c.read_either.result v s c.args.targets.now ws at.section at.suit at.lists few
-    (subst (λ (names : List (List ℕ)). GivesRead (λ (g : Given). g.array) c.read_either.result (data_read v names c.args.targets.now ws)) at.named c.read_either.ensures.read)
+    reads_statement (λ (g : Given). g.array) c.read_quickly_or_slowly.result v s c.args.targets.now ws at.section at.suit at.lists few
+    (subst (λ (names : List (List ℕ)). GivesRead (λ (g : Given). g.array) c.read_quickly_or_slowly.result (data_read v names c.args.targets.now ws)) at.named c.read_quickly_or_slowly.ensures.read)

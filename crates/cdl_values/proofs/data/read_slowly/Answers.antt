@@ -5,13 +5,13 @@ use Rattle.cdl_values.proofs.DataReads.{bad_read, no_fault, unshaped_read, read_
 use Rattle.cdl_values.proofs.data.read_slowly.Goals as goal
 
 pub returns-in-Some-clause-read : goal.returns-in-Some-clause-read
-returns-in-Some-clause-read c = bad_read (version_of c.args.start) c.args.names.now c.args.targets.now (words c.args.start) c.in-Some.kind (sym c.check_shape_from-found.ensures.bad ∙ c.in-Some.is)
+returns-in-Some-clause-read c = bad_read (version_of c.args.start) c.args.names.now c.args.targets.now (words c.args.start) c.in-Some.kind (sym c.check_shape_by_due-found.ensures.bad ∙ c.in-Some.is)
 
 pub returns-then-not-found-clause-read : goal.returns-then-not-found-clause-read
 returns-then-not-found-clause-read c =
     let names = c.args.names.now in
     let off : completes DataName (words c.args.start) ≡ false = search rules in
-    unshaped_read (version_of c.args.start) names c.args.targets.now (words c.args.start) (sym c.check_shape_from-found.ensures.bad ∙ no_fault c.check_shape_from-found.result.bad c.in_default.not-Some) off
+    unshaped_read (version_of c.args.start) names c.args.targets.now (words c.args.start) (sym c.check_shape_by_due-found.ensures.bad ∙ no_fault c.check_shape_by_due-found.result.bad c.in_default.not-Some) off
 
 pub advanced-requires-2 : goal.advanced-requires-2
 advanced-requires-2 c =
@@ -34,7 +34,7 @@ returns-clause-read c =
     let n = lexeme (text_of c.args.start) (next_token c.args.start) in
     let target = c.in_ok-position.field-0.target in
     read_on version names c.args.targets.now (words c.args.start) (words equals) (words c.advanced-2.result.0) n (lexeme (text_of equals) (next_token equals)) c.advanced.result.1 c.advanced-2.result.1
-    c.advanced.ensures.words c.advanced-2.ensures.words (sym c.check_shape_from-found.ensures.bad ∙ no_fault c.check_shape_from-found.result.bad c.in_default.not-Some) on ∙
+    c.advanced.ensures.words c.advanced-2.ensures.words (sym c.check_shape_by_due-found.ensures.bad ∙ no_fault c.check_shape_by_due-found.result.bad c.in_default.not-Some) on ∙
     filled_ok version (words c.advanced-2.result.0) (target_of names c.args.targets.now (word_value n.bytes)) target (ap (λ (l : Lexeme). target_of names c.args.targets.now (word_value l.bytes)) (sym c.lexeme-name.ensures.lexeme) ∙ c.in_ok-position.ensures.target) ∙
     ap (λ v. packed target.filling target.capacity (values v (words c.advanced-2.result.0))) (sym (c.advanced-2.ensures.same.version ∙ c.advanced.ensures.same.version)) ∙ c.in_ok-array.ensures
 
@@ -48,7 +48,7 @@ returns-in_err-array-clause-read c =
     let target = c.in_ok-position.field-0.target in
     let e = c.in_err-array.field-0.0 in
     let read = read_on version names c.args.targets.now (words c.args.start) (words equals) (words c.advanced-2.result.0) n (lexeme (text_of equals) (next_token equals)) c.advanced.result.1 c.advanced-2.result.1
-    c.advanced.ensures.words c.advanced-2.ensures.words (sym c.check_shape_from-found.ensures.bad ∙ no_fault c.check_shape_from-found.result.bad c.in_default.not-Some) on ∙
+    c.advanced.ensures.words c.advanced-2.ensures.words (sym c.check_shape_by_due-found.ensures.bad ∙ no_fault c.check_shape_by_due-found.result.bad c.in_default.not-Some) on ∙
     filled_ok version (words c.advanced-2.result.0) (target_of names c.args.targets.now (word_value n.bytes)) target (ap (λ (l : Lexeme). target_of names c.args.targets.now (word_value l.bytes)) (sym c.lexeme-name.ensures.lexeme) ∙ c.in_ok-position.ensures.target) ∙
     ap (λ v. packed target.filling target.capacity (values v (words c.advanced-2.result.0))) (sym (c.advanced-2.ensures.same.version ∙ c.advanced.ensures.same.version)) in
     refused (λ (g : Given). g.array) c.from_residual-in_err-array.result e (data_read version names c.args.targets.now (words c.args.start)) (search rules)
@@ -63,7 +63,7 @@ returns-in_err-position-clause-read c =
     let n = lexeme (text_of c.args.start) (next_token c.args.start) in
     let e = c.in_err-position.field-0.0 in
     let read = read_on version names c.args.targets.now (words c.args.start) (words equals) (words c.advanced-2.result.0) n (lexeme (text_of equals) (next_token equals)) c.advanced.result.1 c.advanced-2.result.1
-    c.advanced.ensures.words c.advanced-2.ensures.words (sym c.check_shape_from-found.ensures.bad ∙ no_fault c.check_shape_from-found.result.bad c.in_default.not-Some) on ∙
+    c.advanced.ensures.words c.advanced-2.ensures.words (sym c.check_shape_by_due-found.ensures.bad ∙ no_fault c.check_shape_by_due-found.result.bad c.in_default.not-Some) on ∙
     ap (λ (l : Lexeme). packed_for version (words c.advanced-2.result.0) (target_of names c.args.targets.now (word_value l.bytes))) (sym c.lexeme-name.ensures.lexeme) in
     refused (λ (g : Given). g.array) c.from_residual.result e (data_read version names c.args.targets.now (words c.args.start)) (search rules)
     (subst (λ (r : Result (List ℕ) CdlKind). FailsRead e r) (sym read) (filled_err version (words c.advanced-2.result.0) (target_of names c.args.targets.now (word_value c.lexeme-name.result.bytes.now)) e (c.in_err-position.ensures.target)))

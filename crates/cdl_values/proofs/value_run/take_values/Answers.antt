@@ -18,10 +18,10 @@ values-preserved c =
     let there = place c.if-looks.unread c.if-looks.array in
     let taken : UnreadValues → List ℕ → Type 0 = λ unread bytes. TakesValues a.takes_fill filling start (place unread bytes) in
     let so : TakesValues a.takes_fill filling start there = elim c.if-looks.branch [
-      | then-looks+in_ok-unread w ↦ subst₂ taken (sym w.unread-is) (sym w.array-is) (takes_further a.takes_fill filling start here (place w.in_ok-unread.unread w.take_plain.new.array) l.invariant.so (w.in_ok-unread.ensures a.takes_fill))
+      | then-looks+in_ok-unread w ↦ subst₂ taken (sym w.unread-is) (sym w.array-is) (takes_further a.takes_fill filling start here (place w.in_ok-unread.unread w.take_plain_values.new.array) l.invariant.so (w.in_ok-unread.ensures a.takes_fill))
       | else-looks w ↦ subst₂ taken (sym w.unread-is) (sym w.array-is) l.invariant.so
     ] in
-    let rest = reached c.token_and_comma.new.self c.put_good_value.new.array c.in_ok-unread-2.field-0 in
+    let rest = reached c.token_and_comma.new.self c.put_checked_value.new.array c.in_ok-unread-2.field-0 in
     let version : c.version-version.result ≡ version_of there.cutter = c.version-version.ensures ∙ sym so.on.same.version in
     let good = subst (λ (v : Version). token_fault v token.kind token.bytes ≡ None) version c.in_ok-unread-2.ensures.good in
     let packs : (ls : List Lexeme) → joined (Ok there.bytes) (packed filling there.left (values (version_of there.cutter) (token ∷ ls))) ≡ joined (Ok rest.bytes) (packed filling rest.left (values (version_of there.cutter) ls)) =

@@ -24,8 +24,8 @@ loop-var-preserved c =
           (sums_more_at dims vars i c.loop-var.size c.loop-var.padded _ _ _ c.loop-var.is_first x lt at
           (sym c.is_record_var.ensures ∙ w.if-is_record_var.true)
           (omega (arith, found.0, found.1)) (found.1 ∙ slab)
-          (w.padded-is ∙ ap (λ n. c.loop-var.padded + n) w.padded_bytes.ensures)
-          (w.size-is ∙ w.record_size_of_bytes-size.ensures ∙ ap (λ n. if c.loop-var.is_first && is_narrow x then w.in_ok-slab.slab else n) (sym w.padded-is))
+          (w.padded-is ∙ ap (λ n. c.loop-var.padded + n) w.padded_len.ensures)
+          (w.size-is ∙ w.record_size_up_to-size.ensures ∙ ap (λ n. if c.loop-var.is_first && is_narrow x then w.in_ok-slab.slab else n) (sym w.padded-is))
           c.loop-var.invariant)
       | else-is_record_var w ↦
           rw (w.is_first-is, w.padded-is, w.size-is)

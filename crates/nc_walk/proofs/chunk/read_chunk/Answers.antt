@@ -26,13 +26,13 @@ follows l cursor values capacity len at into had before now n sized first is fit
     subst (λ (k : ℕ). (at ≡ offset l (number_at l cursor)) × Ready l (number_at l cursor) room k l.values_per_slab) (known ∙ ap (λ (s : SourceView). length s.bytes) (sym handed))
     (whole_ready l cursor room len at sized first is fits.1 small (omega (arith, up, left)))
 
-pub read_ready-requires : goal.read_ready-requires
-read_ready-requires g c =
+pub read_values_as_chunk-requires : goal.read_values_as_chunk-requires
+read_values_as_chunk-requires g c =
     let test = c.loop-slabs-test.ensures.0 refl in
     let next = follows c.args.slabs.now c.loop-slabs.chunk.next c.loop-slabs.chunk.values c.args.capacity c.len-len.result c.loop-slabs.at c.loop-slabs.into c.args.into.now (g.S.Source.view c.args.source.now) (g.S.Source.view c.loop-slabs.source) _
     c.requires.sized test.slab (c.loop-slabs.invariant.at test.slab) (c.if-has_whole_slab.ensures.0 refl) c.len-len.type_inv
     c.len-len.ensures.length (c.loop-slabs.invariant.going.slab_read test.slab).handed
-    test.fits c.loop-slabs.invariant.going.collected.fits c.requires.capacity (c.loop-slabs.auto.into ∙ c.read_run.auto.into) in
+    test.fits c.loop-slabs.invariant.going.collected.fits c.requires.capacity (c.loop-slabs.auto.into ∙ c.read_from_slab.auto.into) in
     record { sized = search rules; is_cursor = search rules; more = test.more; at = next.0; some = c.requires.sized.values_per_slab; ready = next.1; len = search rules }
 
 pub loop-slabs-preserved : goal.loop-slabs-preserved
@@ -40,7 +40,7 @@ loop-slabs-preserved g c =
     let test = c.loop-slabs-test.ensures.0 refl in
     record {
       going = goes_on g.S.Source.is_transparent _ _ _ _ _ _ _ _ _ _ _ c.loop-slabs.invariant.going test.slab
-          (omega (arith, rest (c.loop-slabs.chunk.values * c.args.slabs.now.size) c.loop-slabs.into c.loop-slabs.invariant.going.collected.fits, c.loop-slabs.auto.into, c.read_run.auto.into))
+          (omega (arith, rest (c.loop-slabs.chunk.values * c.args.slabs.now.size) c.loop-slabs.into c.loop-slabs.invariant.going.collected.fits, c.loop-slabs.auto.into, c.read_from_slab.auto.into))
           _ c.in-Ok.ensures.collects c.in-Ok.ensures.slab_read;
       at = λ first.
           c.saturating_add-at.ensures
@@ -51,27 +51,27 @@ loop-slabs-preserved g c =
 pub returns-in-Err-ReadFailed : goal.returns-in-Err-ReadFailed
 returns-in-Err-ReadFailed g c =
     let test = c.loop-slabs-test.ensures.0 refl in
-    fails g.S.Source.is_transparent _ _ _ _ _ c.read_ready.new.into _ _ _ _ 0 c.loop-slabs.invariant.going test.slab
-    (omega (arith, rest (c.loop-slabs.chunk.values * c.args.slabs.now.size) c.loop-slabs.into c.loop-slabs.invariant.going.collected.fits, c.loop-slabs.auto.into, c.read_run.auto.into))
+    fails g.S.Source.is_transparent _ _ _ _ _ c.read_values_as_chunk.new.into _ _ _ _ 0 c.loop-slabs.invariant.going test.slab
+    (omega (arith, rest (c.loop-slabs.chunk.values * c.args.slabs.now.size) c.loop-slabs.into c.loop-slabs.invariant.going.collected.fits, c.loop-slabs.auto.into, c.read_from_slab.auto.into))
     _ (rw c.in-Err-ReadFailed.field-0-is at c.in-Err-ReadFailed.ensures.collects).1
 
-pub read_run-requires-2 : goal.read_run-requires-2
-read_run-requires-2 g c = grind (arith, capacity_left)
+pub read_from_slab-requires-2 : goal.read_from_slab-requires-2
+read_from_slab-requires-2 g c = grind (arith, capacity_left)
 
 pub overflow_add-result : goal.overflow_add-result
 overflow_add-result g c =
-    let few : c.loop-slabs.chunk.values + c.in-Ok-read_run.more.values ≤ length c.loop-slabs.into
-    = both_fit c.loop-slabs.chunk.values c.in-Ok-read_run.more.values c.args.slabs.now.size c.loop-slabs.into c.requires.sized.some c.loop-slabs.invariant.going.collected.fits c.in-Ok-read_run.ensures.collects.returns_values.capacity in
+    let few : c.loop-slabs.chunk.values + c.in-Ok-read_from_slab.more.values ≤ length c.loop-slabs.into
+    = both_fit c.loop-slabs.chunk.values c.in-Ok-read_from_slab.more.values c.args.slabs.now.size c.loop-slabs.into c.requires.sized.some c.loop-slabs.invariant.going.collected.fits c.in-Ok-read_from_slab.ensures.collects.returns_values.capacity in
     search rules
 
-pub returns-in-Ok-read_run : goal.returns-in-Ok-read_run
-returns-in-Ok-read_run g c =
+pub returns-in-Ok-read_from_slab : goal.returns-in-Ok-read_from_slab
+returns-in-Ok-read_from_slab g c =
     (goes_on g.S.Source.is_transparent _ _ _ _ _ _ _ _ _ _ _ c.loop-slabs.invariant.going (c.if-not-continues_in_next_slab.ensures.0 refl).slab
-    (omega (arith, rest (c.loop-slabs.chunk.values * c.args.slabs.now.size) c.loop-slabs.into c.loop-slabs.invariant.going.collected.fits, c.loop-slabs.auto.into, c.read_run.auto.into))
-    _ c.in-Ok-read_run.ensures.collects c.in-Ok-read_run.ensures.slab_read).collected
+    (omega (arith, rest (c.loop-slabs.chunk.values * c.args.slabs.now.size) c.loop-slabs.into c.loop-slabs.invariant.going.collected.fits, c.loop-slabs.auto.into, c.read_from_slab.auto.into))
+    _ c.in-Ok-read_from_slab.ensures.collects c.in-Ok-read_from_slab.ensures.slab_read).collected
 
-pub returns-in-Err-ReadFailed-read_run : goal.returns-in-Err-ReadFailed-read_run
-returns-in-Err-ReadFailed-read_run g c =
-    fails g.S.Source.is_transparent _ _ _ _ _ c.read_run-2.new.into _ _ _ _ 0 c.loop-slabs.invariant.going (c.if-not-continues_in_next_slab.ensures.0 refl).slab
-    (omega (arith, rest (c.loop-slabs.chunk.values * c.args.slabs.now.size) c.loop-slabs.into c.loop-slabs.invariant.going.collected.fits, c.loop-slabs.auto.into, c.read_run.auto.into))
-    _ (rw c.in-Err-ReadFailed-read_run.field-0-is at c.in-Err-ReadFailed-read_run.ensures.collects).1
+pub returns-in-Err-ReadFailed-read_from_slab : goal.returns-in-Err-ReadFailed-read_from_slab
+returns-in-Err-ReadFailed-read_from_slab g c =
+    fails g.S.Source.is_transparent _ _ _ _ _ c.read_from_slab-2.new.into _ _ _ _ 0 c.loop-slabs.invariant.going (c.if-not-continues_in_next_slab.ensures.0 refl).slab
+    (omega (arith, rest (c.loop-slabs.chunk.values * c.args.slabs.now.size) c.loop-slabs.into c.loop-slabs.invariant.going.collected.fits, c.loop-slabs.auto.into, c.read_from_slab.auto.into))
+    _ (rw c.in-Err-ReadFailed-read_from_slab.field-0-is at c.in-Err-ReadFailed-read_from_slab.ensures.collects).1

@@ -1,5 +1,5 @@
 use Rattle.std.proofs.Common.{rules, Result, Err, ◌≡◌, ◌<◌, List, drop, true, ap, sym, subst, ◌∙◌, length, set, arith}
-use Rattle.cdl_parse.proofs.Prelude.{FailsRead, ReadError, next_token, text_of, version_of, words, completes, word_value, lexeme, lexeme_of, AttributeName, at_variable, with_att, Leaves, name_first, constants_said, drafts_of, at_position, IsIndex, Variable, variable_names, ⊤}
+use Rattle.cdl_parse.proofs.Prelude.{FailsRead, ReadError, next_token, text_of, version_of, words, completes, word_value, lexeme, lexeme_of, AttributeName, change_variable, with_att, Leaves, name_first, constants_said, drafts_of, at_position, IsIndex, Variable, variable_names, ⊤}
 use Rattle.cdl_parse.proofs.DraftNames.{names_are}
 use Rattle.cdl_parse.proofs.VariableAttributes.{changed_at, name_is, names_kept, past_colon, past_name, unchanged_at, with_atts}
 use Rattle.cdl_parse.proofs.variables.Variables.read_attribute.Goals as goal
@@ -53,11 +53,11 @@ returns-clause-reads c =
     let within : at < length items = subst (λ (variables : List Variable). at < length variables) c.as_slice.ensures.value c.in_ok-position.ensures.within in
     let put = changed_at (name_first (words name)) (constants_said (version_of name) (words name)) items at variable atts c.read_attribute.result within c.index_mut-variable.ensures.value c.read_attribute.ensures.reads in
     let word = word_value c.lexeme.result.bytes.now in
-    let same : at_variable (name_first (words start)) (with_att (name_first (drop 2 (words start))) (constants_said (version_of start) (drop 2 (words start)))) c.args.self.now ≡ at_position at change drafts =
-    ap (at_variable (name_first (words start)) (with_att (name_first (drop 2 (words start))) (constants_said (version_of start) (drop 2 (words start))))) (sym c.self.view_is) ∙
-    ap (λ n. at_variable n (with_att (name_first (drop 2 (words start))) (constants_said (version_of start) (drop 2 (words start)))) drafts) (name_is (lexeme_of c.lexeme.result) (drop 1 (words start)) (words start) (c.lexeme.ensures.first c.requires.more)) ∙
-    ap (λ ws. at_variable word (with_att (name_first ws) (constants_said (version_of start) ws)) drafts) (one.1 ∙ two.1) ∙
-    ap (λ v. at_variable word (with_att (name_first (words name)) (constants_said v (words name))) drafts) (sym (c.advanced-2.ensures.same.version ∙ c.advanced.ensures.same.version)) ∙
+    let same : change_variable (name_first (words start)) (with_att (name_first (drop 2 (words start))) (constants_said (version_of start) (drop 2 (words start)))) c.args.self.now ≡ at_position at change drafts =
+    ap (change_variable (name_first (words start)) (with_att (name_first (drop 2 (words start))) (constants_said (version_of start) (drop 2 (words start))))) (sym c.self.view_is) ∙
+    ap (λ n. change_variable n (with_att (name_first (drop 2 (words start))) (constants_said (version_of start) (drop 2 (words start)))) drafts) (name_is (lexeme_of c.lexeme.result) (drop 1 (words start)) (words start) (c.lexeme.ensures.first c.requires.more)) ∙
+    ap (λ ws. change_variable word (with_att (name_first ws) (constants_said (version_of start) ws)) drafts) (one.1 ∙ two.1) ∙
+    ap (λ v. change_variable word (with_att (name_first (words name)) (constants_said v (words name))) drafts) (sym (c.advanced-2.ensures.same.version ∙ c.advanced.ensures.same.version)) ∙
     c.in_ok-position.ensures.finds drafts (ap variable_names c.as_slice.ensures.value ∙ names_are items) change in
     subst (Leaves (drafts_of (set items at (with_atts atts variable))) c.read_attribute.result) (sym same) put
 
@@ -74,8 +74,8 @@ returns-in_err-position-clause-reads c =
     let items = c.self.inside.list.items in
     let change = with_att (name_first (drop 2 (words start))) (constants_said (version_of start) (drop 2 (words start))) in
     let e = c.in_err-position.field-0.0 in
-    let fails : FailsRead e (at_variable (word_value c.lexeme.result.bytes.now) change (drafts_of items)) = c.in_err-position.ensures.finds (drafts_of items) (ap variable_names c.as_slice.ensures.value ∙ names_are items) change in
+    let fails : FailsRead e (change_variable (word_value c.lexeme.result.bytes.now) change (drafts_of items)) = c.in_err-position.ensures.finds (drafts_of items) (ap variable_names c.as_slice.ensures.value ∙ names_are items) change in
     let first = name_is (lexeme_of c.lexeme.result) (drop 1 (words start)) (words start) (c.lexeme.ensures.first c.requires.more) in
-    let same : at_variable (word_value c.lexeme.result.bytes.now) change (drafts_of items) ≡ at_variable (name_first (words start)) change c.args.self.now = ap (λ n. at_variable n change (drafts_of items)) (sym first) ∙ ap (at_variable (name_first (words start)) change) c.self.view_is in
+    let same : change_variable (word_value c.lexeme.result.bytes.now) change (drafts_of items) ≡ change_variable (name_first (words start)) change c.args.self.now = ap (λ n. change_variable n change (drafts_of items)) (sym first) ∙ ap (change_variable (name_first (words start)) change) c.self.view_is in
     let is : c.from_residual.result ≡ Err e = search rules in
-    subst (λ (r : Result ⊤ ReadError). Leaves c.args.self.now r (at_variable (name_first (words start)) change c.args.self.now)) (sym is) (subst (FailsRead e) same fails)
+    subst (λ (r : Result ⊤ ReadError). Leaves c.args.self.now r (change_variable (name_first (words start)) change c.args.self.now)) (sym is) (subst (FailsRead e) same fails)

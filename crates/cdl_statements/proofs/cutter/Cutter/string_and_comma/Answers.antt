@@ -5,8 +5,8 @@ use Rattle.cdl_tokens.specs.declared.token.TokenKind.TheVariants as kinds
 use Rattle.cdl_statements.proofs.ListedTokens.{comma_role, passes}
 use Rattle.cdl_statements.proofs.cutter.Cutter.string_and_comma.Goals as goal
 
-pub go_to-requires : goal.go_to-requires
-go_to-requires c =
+pub move_to_comma-requires : goal.move_to_comma-requires
+move_to_comma-requires c =
     let e = c.in_ok-listed.ensures in
     comma_role _ _ _ e.text e.comma
 
@@ -15,11 +15,11 @@ returns-clause-passes c =
     let s = c.args.self.now in
     let l = c.in_ok-listed.listed in
     let e = c.in_ok-listed.ensures in
-    let g = c.go_to.ensures in
+    let g = c.move_to_comma.ensures in
     let text = scanners.text_of s.scanner in
     let r = raw text l.token in
-    let passed : Passes s c.go_to.new.self (lexeme_with kinds.Text r) = subst (λ (k : TokenKind). Passes s c.go_to.new.self (lexeme_with k r)) e.plain.string
-    (passes s c.go_to.new.self l.token l.comma c.requires (e.tokens ∙ sym (ap (λ r. l.token ∷ l.comma ∷ scanners.left r) g.scanner)) (ap scanners.text_of g.scanner ∙ e.text) g.version g.comma g.state g.done
+    let passed : Passes s c.move_to_comma.new.self (lexeme_with kinds.Text r) = subst (λ (k : TokenKind). Passes s c.move_to_comma.new.self (lexeme_with k r)) e.plain.string
+    (passes s c.move_to_comma.new.self l.token l.comma c.requires (e.tokens ∙ sym (ap (λ r. l.token ∷ l.comma ∷ scanners.left r) g.scanner)) (ap scanners.text_of g.scanner ∙ e.text) g.version g.comma g.state g.done
     (ap (λ k. role_of k r) e.plain.string) e.comma (subst (λ r. scanners.offset_of s.scanner < scanners.offset_of r) (sym g.scanner) e.moves)) in
     let given : r ≡ c.bytes-bytes.result.now = sym (c.bytes-bytes.ensures ∙ ap (λ (t : List ℕ). raw t l.token) c.text.ensures) in
-    subst (λ (b : List ℕ). PassesString s c.go_to.new.self b) given (record { plain = e.plain.plain; passes = passed })
+    subst (λ (b : List ℕ). PassesString s c.move_to_comma.new.self b) given (record { plain = e.plain.plain; passes = passed })

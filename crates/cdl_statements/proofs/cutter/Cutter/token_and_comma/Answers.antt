@@ -4,8 +4,8 @@ use Rattle.cdl_statements.proofs.Prelude.{Lexeme, lexeme, Passes, role_in}
 use Rattle.cdl_statements.proofs.ListedTokens.{comma_role, passes}
 use Rattle.cdl_statements.proofs.cutter.Cutter.token_and_comma.Goals as goal
 
-pub go_to-requires : goal.go_to-requires
-go_to-requires c =
+pub move_to_comma-requires : goal.move_to_comma-requires
+move_to_comma-requires c =
     let e = c.in_ok-listed.ensures in
     comma_role _ _ _ e.text e.comma
 
@@ -14,10 +14,10 @@ returns-clause-passes c =
     let s = c.args.self.now in
     let l = c.in_ok-listed.listed in
     let e = c.in_ok-listed.ensures in
-    let g = c.go_to.ensures in
+    let g = c.move_to_comma.ensures in
     let text = scanners.text_of s.scanner in
     let other = ap (λ (t : List ℕ). role_in t l.token) (sym c.text-text.ensures) ∙ sym c.of.ensures ∙ c.is_other.ensures c.if-not-is_other.false in
-    let passed = passes s c.go_to.new.self l.token l.comma c.requires (e.tokens ∙ sym (ap (λ r. l.token ∷ l.comma ∷ scanners.left r) g.scanner)) (ap scanners.text_of g.scanner ∙ e.text) g.version g.comma g.state g.done
+    let passed = passes s c.move_to_comma.new.self l.token l.comma c.requires (e.tokens ∙ sym (ap (λ r. l.token ∷ l.comma ∷ scanners.left r) g.scanner)) (ap scanners.text_of g.scanner ∙ e.text) g.version g.comma g.state g.done
     other e.comma (subst (λ r. scanners.offset_of s.scanner < scanners.offset_of r) (sym g.scanner) e.moves) in
     let given : lexeme text l.token ≡ _ = sym (c.of-2.ensures ∙ ap (λ (t : List ℕ). lexeme t l.token) c.text-text.ensures) in
-    subst (λ (t : Lexeme). Passes s c.go_to.new.self t) given passed
+    subst (λ (t : Lexeme). Passes s c.move_to_comma.new.self t) given passed

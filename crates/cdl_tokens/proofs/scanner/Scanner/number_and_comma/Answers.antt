@@ -15,8 +15,8 @@ take-number-requires-clause-flat c =
     let rest = c.split_at.result.1.now in
     ap (λ bs. count_by (λ b. b == 0x0a) (take c.in_ok-plain.plain.len bs)) (sym c.split_at.ensures.back) ∙ ap (λ n. count_by (λ b. b == 0x0a) (take n rest)) p.len ∙ number_flat rest p.begins
 
-pub comma_after-requires : goal.comma_after-requires
-comma_after-requires c = λ here.
+pub take_or_find_comma-requires : goal.take_or_find_comma-requires
+take_or_find_comma-requires c = λ here.
     let s = c.skip_to_number.new.self in
     let t = c.take-number.ensures in
     let len = c.in_ok-plain.plain.len in

@@ -3,14 +3,14 @@ use Rattle.nc_base.proofs.Prelude.{mod-add-div, take_all, length-drop, length-ta
 use Rattle.nc_base.proofs.FilledRows.{row-of, in_row, after_rows, stands-from}
 use Rattle.nc_base.proofs.listed_array.ListedArray.run_of_rows.Goals as goal
 
-pub row_at-row-requires-clause-after : goal.row_at-row-requires-clause-after
-row_at-row-requires-clause-after c = grind (arith, row-of)
+pub listed_row-row-requires-clause-after : goal.listed_row-row-requires-clause-after
+listed_row-row-requires-clause-after c = grind (arith, row-of)
 
-pub row_at-row-requires-clause-inside : goal.row_at-row-requires-clause-inside
-row_at-row-requires-clause-inside c = grind (arith, row-of)
+pub listed_row-row-requires-clause-inside : goal.listed_row-row-requires-clause-inside
+listed_row-row-requires-clause-inside c = grind (arith, row-of)
 
-pub run_in_row-requires-clause-listed : goal.run_in_row-requires-clause-listed
-run_in_row-requires-clause-listed c = grind (arith, row-of, length-take)
+pub rest_of_row-requires-clause-listed : goal.rest_of_row-requires-clause-listed
+rest_of_row-requires-clause-listed c = grind (arith, row-of, length-take)
 
 pub returns-then-at-in_rows : goal.returns-then-at-in_rows
 returns-then-at-in_rows c =
@@ -23,17 +23,17 @@ returns-then-at-in_rows c =
     let row = row-of len l.last_row_end at c.len.result l.row_ends.items c.self.invariant.0 all c.if-at-in_rows.true in
     let start : ℕ = row_start 0 l.row_ends.items r in
     let n : ℕ = get_or l.row_ends.items r 0 - start in
-    let listed : c.row_at-row.result.now ≡ take n (drop start l.bytes.items) =
-    c.row_at-row.ensures
+    let listed : c.listed_row-row.result.now ≡ take n (drop start l.bytes.items) =
+    c.listed_row-row.ensures
     ∙ ap (λ (es : List ℕ). take (get_or es r 0 - row_start 0 es r) (drop (row_start 0 es r) c.as_slice.result.now)) c.as_slice-then-at-in_rows.ensures.value
     ∙ ap (λ (b : List ℕ). take n (drop start b)) c.as_slice.ensures.value in
-    let long : length c.row_at-row.result.now ≡ n =
+    let long : length c.listed_row-row.result.now ≡ n =
     ap length listed ∙ length-take-le n (drop start l.bytes.items) (omega (arith, length-drop start l.bytes.items, row.is.inside, c.self.invariant.1)) in
     let here : r * len + column ≡ at = omega (arith, mod-add-div at len) in
-    let bytes : drop (min column n) (take n (drop start l.bytes.items)) ≡ c.run_in_row.result.bytes.now =
-    ap (λ (b : List ℕ). drop (min column n) b) (sym listed) ∙ ap (λ (k : ℕ). drop (min column k) c.row_at-row.result.now) (sym long) ∙ sym c.run_in_row.ensures.listed in
-    let count : len - max column n ≡ c.run_in_row.result.filling = ap (λ (k : ℕ). len - max column k) (sym long) ∙ sym c.run_in_row.ensures.filling in
-    stands-from _ _ _ _ _ _ _ _ _ _ c.self.view_is here bytes count (sym c.run_in_row.ensures.fill)
+    let bytes : drop (min column n) (take n (drop start l.bytes.items)) ≡ c.rest_of_row.result.bytes.now =
+    ap (λ (b : List ℕ). drop (min column n) b) (sym listed) ∙ ap (λ (k : ℕ). drop (min column k) c.listed_row-row.result.now) (sym long) ∙ sym c.rest_of_row.ensures.listed in
+    let count : len - max column n ≡ c.rest_of_row.result.filling = ap (λ (k : ℕ). len - max column k) (sym long) ∙ sym c.rest_of_row.ensures.filling in
+    stands-from _ _ _ _ _ _ _ _ _ _ c.self.view_is here bytes count (sym c.rest_of_row.ensures.fill)
     (in_row len l.last_row_end l.fill l.row_ends.items l.bytes.items r column 0 c.self.invariant.0 c.self.invariant.1 row.of row.column n refl)
 
 pub returns : goal.returns

@@ -9,13 +9,13 @@ pub returns-in_err-put_record : goal.returns-in_err-put_record
 returns-in_err-put_record g c =
     let p = err_from_is_err_and c.from_residual.result c.from_residual.ensures.1 in
     rw p.1 (up-partway _ _ _ _ _ _ _
-    (slab-left c.args.r c.args.arrays.now c.args.slabs.now c.loop-slab.slab-index _ c.writer_in.result c.loop-slab-test.true c.writer_in.ensures)
+    (slab-left c.args.r c.args.arrays.now c.args.slabs.now c.loop-slab.slab-index _ c.array_writer.result c.loop-slab-test.true c.array_writer.ensures)
     c.loop-slab.invariant c.in_err-put_record.ensures)
 
 pub loop-slab-preserved : goal.loop-slab-preserved
 loop-slab-preserved g c =
     up-next _ _ _ _ _ _ _
-    (slab-left c.args.r c.args.arrays.now c.args.slabs.now c.loop-slab.slab-index _ c.writer_in.result c.loop-slab-test.true c.writer_in.ensures)
+    (slab-left c.args.r c.args.arrays.now c.args.slabs.now c.loop-slab.slab-index _ c.array_writer.result c.loop-slab-test.true c.array_writer.ensures)
     c.loop-slab.invariant c.in_ok-put_record.ensures
 
 pub returns : goal.returns

@@ -1,0 +1,49 @@
+use Rattle.std.proofs.Common.{◌≡◌, false, refl, ap, sym, ◌∙◌}
+use Rattle.cdl_parse.proofs.Prelude.{is_done, next_token, pieces_left, text_of, version_of, words, lexeme, Ended, run}
+use Rattle.cdl_parse.proofs.Defining.{ends}
+use Rattle.cdl_parse.proofs.RunSteps.{fault_stops, fewer, goes_on}
+use Rattle.cdl_parse.proofs.Runs.{run_none}
+use Rattle.cdl_parse.proofs.StatementWords.{begins}
+use Rattle.cdl_parse.proofs.text_end.check_end.Goals as goal
+
+pub statements-init : goal.statements-init
+statements-init c = record {
+  text = refl;
+  version = refl;
+  past = c.requires;
+  runs = λ s here. ap (λ section. run (text_of c.args.start) (version_of c.args.start) (record s { section = section }) (pieces_left c.args.start)) here;
+}
+
+pub statements-smaller : goal.statements-smaller
+statements-smaller c = fewer c.statements.cutter c.in-Ok.rest (sym c.is_done.ensures ∙ c.if-is_done.false) c.in-Ok.ensures.rest.pieces
+
+pub statements-preserved : goal.statements-preserved
+statements-preserved c =
+    let start = c.args.start in
+    let t = c.statements in
+    let more : is_done t.cutter ≡ false = sym c.is_done.ensures ∙ c.if-is_done.false in
+    let begun = begins t.cutter more in
+    record {
+      text = c.in-Ok.ensures.rest.same.text ∙ t.invariant.text;
+      version = c.in-Ok.ensures.rest.same.version ∙ t.invariant.version;
+      past = λ more. refl;
+      runs = λ s here.
+          let at = record s { section = t.here } in
+          t.invariant.runs s here ∙
+          goes_on start t.cutter t.invariant.text t.invariant.version more at (record s { section = Ended }) c.in-Ok.rest
+          (c.in-Ok.ensures.passes at refl ∙ ends (version_of t.cutter) at (lexeme (text_of t.cutter) (next_token t.cutter)) begun.0 (words t.cutter) (t.invariant.past more) begun.1) c.in-Ok.ensures.rest.pieces;
+    }
+
+pub returns-then-is_done : goal.returns-then-is_done
+returns-then-is_done c = λ s here. (
+  c.statements.here,
+  c.statements.invariant.runs s here ∙ run_none (text_of c.args.start) (version_of c.args.start) (record s { section = c.statements.here }) c.statements.cutter (sym c.is_done.ensures ∙ c.if-is_done.true),
+)
+
+pub returns-in-Err : goal.returns-in-Err
+returns-in-Err c = λ s here.
+    let start = c.args.start in
+    let t = c.statements in
+    let more : is_done t.cutter ≡ false = sym c.is_done.ensures ∙ c.if-is_done.false in
+    let at = record s { section = t.here } in
+    t.invariant.runs s here ∙ fault_stops start t.cutter t.invariant.text t.invariant.version more at c.in-Err.kind c.line.result (c.line.ensures more) (c.in-Err.ensures.passes at refl)

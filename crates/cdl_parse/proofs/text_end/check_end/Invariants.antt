@@ -1,0 +1,15 @@
+use Rattle.std.proofs.Common.{◌≡◌, length, true, false}
+use Rattle.cdl_parse.proofs.Prelude.{is_done, pieces_left, text_of, version_of, run, State, is_over}
+use Rattle.cdl_parse.proofs.text_end.check_end.Given as goal
+
+abbrev pub invariant-statements : goal.invariant-statements
+invariant-statements l = record {
+  text : text_of l.cutter ≡ text_of l.fn.start;
+  version : version_of l.cutter ≡ version_of l.fn.start;
+  past : is_done l.cutter ≡ false → is_over l.here ≡ true;
+  runs : (s : State) → s.section ≡ l.fn.section →
+      run (text_of l.fn.start) (version_of l.fn.start) s (pieces_left l.fn.start) ≡ run (text_of l.fn.start) (version_of l.fn.start) (record s { section = l.here }) (pieces_left l.cutter);
+}
+
+abbrev pub decreases-statements : goal.decreases-statements
+decreases-statements l = length (pieces_left l.cutter)

@@ -1,7 +1,0 @@
-use Rattle.std.proofs.Common.{◌≡◌}
-use Rattle.nc_base.specs.code.SizeParts.{first_begin}
-use Rattle.nc_base.proofs.SizeLaws.{seen}
-use Rattle.nc_base.proofs.sizes.first_begin.Given as goal
-
-abbrev pub invariant-loop-var : goal.invariant-loop-var
-invariant-loop-var l = l.least ≡ first_begin (seen l.dims l.vars l.var-index)

@@ -1,6 +1,0 @@
-use Rattle.std.proofs.Common.{rules, refl}
-use Rattle.nc_file.proofs.Answered.{answered}
-use Rattle.nc_file.proofs.read.header.header_at_start.Goals as goal
-
-pub returns-clause-answer : goal.returns-clause-answer
-returns-clause-answer g c = let h = answered _ _ _ refl refl refl c.len-len.ensures.bytes c.header.ensures in search rules

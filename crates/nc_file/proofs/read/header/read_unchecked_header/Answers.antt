@@ -1,0 +1,6 @@
+use Rattle.std.proofs.Common.{rules, refl}
+use Rattle.nc_file.proofs.Answered.{answered}
+use Rattle.nc_file.proofs.read.header.read_unchecked_header.Goals as goal
+
+pub returns-clause-answer : goal.returns-clause-answer
+returns-clause-answer g c = let h = answered _ _ _ refl refl refl c.len-len.ensures.bytes c.header.ensures in search rules
