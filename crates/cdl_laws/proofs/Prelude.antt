@@ -6,7 +6,8 @@ unfoldable pub use Rattle.cdl_laws.specs.Reading.{lexemes_at, pieces_of}
 pub use Rattle.cdl_laws.specs.RoundTrip.{IsFull, TextReadsBack}
 pub use Rattle.cdl_laws.specs.TokenLaws.{AreToken, BlanksAndMarksStop, ConstantsReadBack, NameReadsBack, NamesReadBack, StandsForBytes, StopsNumber, StopsWord, StringsReadBack, StringsStandForBytes, ValuesReadBack, quoted}
 pub use Rattle.cdl_laws.specs.Trims.{FillValueSurvivesTrim, MeaningsAreSayable, MeaningsComeBack, SecondTripIsSame, TrimmedIsSayable, TrimsOnce, has_cut_fill, is_cut}
-pub use Rattle.cdl_meaning.specs.Meaning.{array_of, closing_line, dataset_of, empty, header_of, is_within_limits, starting_line, meaning, records_in, records_of, text_limit, listed_values}
+pub use Rattle.cdl_meaning.specs.Meaning.{array_of, closing_line, dataset_of, empty, header_of, is_within_limits, starting_line, meaning, records_in, records_of, listed_values}
+pub use Rattle.cdl_meaning.specs.Bounds.{text_limit}
 pub use Rattle.cdl_meaning.proofs.Readings.{checked, shaped}
 unfoldable pub use Rattle.cdl_meaning.specs.Meaning.{finished, are_within_limits, piece_read, run}
 pub use Rattle.cdl_meaning.specs.State.{Capacity, Draft, Joined, Listing, Numbers, Rows, State, add_characters, add_constant, add_number, add_row, change_named, int_within, dim_len_of, filled, first_type, in_turn, listed_by, same_type, unless, values_in, when, with_att, with_values, ◌>>=◌}

@@ -1,8 +1,8 @@
 //! Laws of the definitions, each the contract of a function that does nothing.
 //!
-//! "A text can declare a dataset" stands for `IsSayable`, and "a full dump" for a dump of all values under a valid name. A "good"
-//! dataset (`IsGood`) is one that a file can hold, with each begin 0. "Within the limit" is a text of at most 268,435,456 bytes. The NULs
-//! at the end of attributes are those of attributes of characters.
+//! "A text can declare a dataset" stands for `IsSayable`, and "a full dump" for a dump of all values under a valid name. A "good" dataset
+//! (`IsGood`) has begins of 0, and a file can hold it unless a variable would begin at too great an offset. "Within the limit" is a text of
+//! at most 268,435,456 bytes. The NULs at the end of attributes are those of attributes of characters.
 
 ghost use Rattle.nc_base.specs.declared.version.Version.{Version};
 ghost use Rattle.cdl_laws.specs.Goods.{LimitIsNeeded, MeaningsAreGood, MeaningsAreNearlySayable, NearlyIsSayable};
@@ -30,7 +30,7 @@ pub fn token_reads_back()
 {}
 
 /// If a token of a text is a string, each character between its quotes (a byte that stands for itself, or an escape) stands for a byte. So
-/// no caller has to ask if it does: a string with an escape that stands for no byte, such as `\400`, is a bad token instead.
+/// no caller of the scanner has to check that: a string with an escape that stands for no byte, such as `\400`, is a bad token instead.
 pub fn strings_stand_for_bytes()
     ensures { StringsStandForBytes }
 {}
@@ -53,8 +53,7 @@ pub fn piece_reads_back()
 {}
 
 /// If a text can declare a dataset, then in the dump of the dataset, at any width, the text of a variable's values is a statement that
-/// lists values. If a data section gives these values to the variable, one after the other, and the rest is filled up with the fill value,
-/// the result is the variable's array.
+/// lists values. These values, given to the variable one after the other and filled up with the fill value, are the variable's array.
 ///
 /// The clause `rows` is about a variable that has values. A variable without values has no such text, and its array is empty (`empty`).
 pub fn array_reads_back()
@@ -74,8 +73,8 @@ pub fn dumps_tell_datasets_apart()
     ensures { DumpsTellDatasetsApart }
 {}
 
-/// If a text of at most 268,435,456 bytes means a dataset, then this dataset is good (a file can hold it, and each begin is 0), and of the
-/// version that was asked for.
+/// If a text of at most 268,435,456 bytes means a dataset, then this dataset is good (it keeps the format's rules and this project's
+/// limits, and each begin is 0), and of the version that was asked for.
 pub fn meanings_are_good()
     ensures { MeaningsAreGood }
 {}

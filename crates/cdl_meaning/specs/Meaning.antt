@@ -11,13 +11,13 @@ use Rattle.cdl_statements.specs.Lexemes.{Lexeme, lexeme}
 use Rattle.cdl_statements.specs.Shapes.{shape, first_bad}
 use Rattle.cdl_statements.specs.Statements.{statements}
 use Rattle.cdl_statements.specs.declared.{fault.CdlFault.CdlFault, fault.CdlKind.CdlKind, section.Section.TheVariants.Unopened}
-use Rattle.cdl_statements.specs.declared.fault.CdlKind.TheVariants.{Syntax, TooLarge, OutOfMemory}
+use Rattle.cdl_statements.specs.declared.fault.CdlKind.TheVariants.{Syntax, TooLarge}
 use Rattle.cdl_tokens.specs.declared.token.Token.{Token}
 use Rattle.cdl_meaning.specs.State.{State, Draft, act, capacity_of, filled, values_in}
 
 -- ---- statements
 
--- A bad token comes before a fault of syntax, and that before a fault of meaning.
+-- A bad token or number comes before a fault of syntax, and that before a fault of meaning.
 unfoldable pub piece_read : Version → State → List Lexeme → Result State CdlKind
 piece_read v s piece =
     elim (first_bad v piece) [
@@ -74,6 +74,7 @@ dataset_of v s = record { header = header_of v s; arrays = map (array_of s.dims 
 abbrev pub is_within_limits : List Dim → ℕ → Draft → Bool
 is_within_limits dims n d = nat_le (slab_size dims d.var) slab_limit && nat_le (value_count dims d.var n * size_of d.var.ty) array_limit
 
+-- the limits of slabs, of arrays and of the record (the grammar counts the padding of a sole narrow slab too, which is far below the limit)
 unfoldable pub are_within_limits : Version → State → Bool
 are_within_limits v s = list_all (is_within_limits s.dims (records_in s.dims s.drafts)) s.drafts && nat_le (record_size (header_of v s)) record_limit
 
@@ -89,11 +90,3 @@ finished v line (Ok s) = if are_within_limits v s then Ok (dataset_of v s) else 
 
 abbrev pub meaning : Bytes → Version → Result Dataset CdlFault
 meaning text v = finished v (closing_line (statements text)) (run text v empty (statements text))
-
--- the answer if an allocation failed: it has no line, and says nothing of the text
-abbrev pub out_of_memory : CdlFault
-out_of_memory = record { line = 0; kind = OutOfMemory }
-
--- `ncgen` takes no longer text than this, and the laws are about no longer one (whose dataset could have counts that no field holds)
-abbrev pub text_limit : ℕ
-text_limit = 268435456

@@ -175,8 +175,9 @@ pub record Capacity : Type 0 where
   pub count : ℕ
   -- the rank is 2 or more
   pub in_rows : Bool
-  -- if in_rows: how many rows there are (0 for a record variable, which is open), and how many values a row has
+  -- if in_rows: how many rows there are (0 for a record variable, which is open)
   pub rows : ℕ
+  -- if in_rows: how many values a row has
   pub row : ℕ
 
 unfoldable pub capacity_of : List Dim → Var → Capacity
@@ -187,7 +188,7 @@ capacity_of dims var = record {
   count = slab_count dims var;
   in_rows = not (nat_lt (length var.dimids) 2);
   rows = product (map (dim_len dims) (take (length var.dimids - 1) var.dimids));
-  -- (the 0 is for rank 0 and 1)
+  -- (at rank 0 and 1 that is 0)
   row = row_len dims var.dimids 0;
 }
 

@@ -54,7 +54,7 @@ fn few_digit_count(n: u64) -> usize
 }
 
 /// Writes `number` in decimal, with a minus if it is negative, at the offset `at` of `text`. Needs an absolute value below 2^64, the number
-/// of these bytes as `len` ([`decimal_len`]), and room for them. The contract says nothing of the bytes after them.
+/// of bytes to write as `len` ([`decimal_len`]), and room for them. The bytes after them may change.
 #[inline(always)]
 pub fn put_decimal(text: &mut [u8], at: usize, len: usize, number: i128)
     requires short { unsigned_abs number < 2 ^ 64 }
@@ -83,8 +83,7 @@ pub fn text_len(is_fill: bool, number: i128) -> usize
 }
 
 /// Writes a variable's number, as a dump prints it, at the offset `at` of `text`: `_` if `is_fill`, otherwise `number` in decimal. Needs an
-/// absolute value below 2^64, the number of these bytes as `len` ([`text_len`]), and room for them. The contract says nothing of the bytes
-/// after them.
+/// absolute value below 2^64, the number of bytes to write as `len` ([`text_len`]), and room for them. The bytes after them may change.
 #[inline(always)]
 pub fn put_text(text: &mut [u8], at: usize, len: usize, is_fill: bool, number: i128)
     requires short { unsigned_abs number < 2 ^ 64 }

@@ -47,9 +47,8 @@ struct DataStatement<'a> {
 /// brace. If no statement is left in `start`, reads nothing, and `is_closed` of the result is false.
 ///
 /// Each statement lists the values of the variable that it names, and no two of them may name the same variable (the CDL chapter of the
-/// NetCDF User's Guide, and ncgen(1)). `names` are the names of the variables, and `targets` what each may take, in the same order.
-/// The end of the text counts as a statement that this section doesn't allow. So a text that ends before the closing brace has a
-/// fault at its end.
+/// NetCDF User's Guide, and ncgen(1)). `names` are the names of the variables, and `targets` what each may take, in the same order. The end
+/// of the text counts as a statement that this section doesn't allow. So a text that ends before the closing brace has a fault at its end.
 ///
 /// # Errors
 ///
@@ -152,8 +151,7 @@ fn replace_array(arrays: &mut Vec<ListedArray>, position: u64, array: ListedArra
     }
 }
 
-/// Sets `given` of the target at `position`, since a statement has given the values of its variable. Changes nothing if there is no target
-/// at that position.
+/// Sets `given` of the target at `position`: a statement has given its variable's values. Changes nothing if there is no such target.
 fn mark_given(targets: &mut Vec<Target>, position: u64)
     ensures { targets.new.items ≡ given_at position targets.old.items }
 {

@@ -116,9 +116,8 @@ fn read_variables(
     }
 }
 
-/// Returns a variable of type `ty` without dimensions, with the name that `token` stands for. Needs a token that isn't a mark. Errs with
-/// `BadName` if the format doesn't allow the name, or if an allocation failed. A name that another variable has is no error here:
-/// [`add_variable`] refuses it later.
+/// Returns a variable of type `ty` without dimensions, with the name that `token` stands for. Needs a token that isn't a mark. Errs if the
+/// format doesn't allow the name (`BadName`), or if an allocation failed. A name that another variable has is refused later.
 fn new_variable(alloc: Global, ty: NcType, token: Lexeme<'_>) -> Result<PartialVariable, ReadError>
     requires { is_mark_kind token.kind ≡ false }
     ensures { BeginsVariable ty (lexeme_of token.entry) result }
@@ -133,8 +132,8 @@ fn new_variable(alloc: Global, ty: NcType, token: Lexeme<'_>) -> Result<PartialV
 }
 
 /// Reads on in a declaration by one token, `token`, which comes after the name of the variable `begun`. If it is a mark, returns `begun` as
-/// [`after_mark`] does. If it is a name inside of parentheses, returns `begun` with the dimension of this name added at the end. Otherwise
-/// it is the name of the next variable: adds `begun` to `variables`, and returns the next variable, without dimensions. Errs as
+/// [`after_mark`] does. If it is a name between parentheses, returns `begun` with the dimension of this name added at the end. Otherwise it
+/// is the name of the next variable: adds `begun` to `variables`, and returns the next variable, without dimensions. Errs as
 /// [`with_dimension`], [`add_variable`] and [`new_variable`] do.
 fn read_on(
     alloc: Global,
@@ -156,8 +155,7 @@ fn read_on(
     }
 }
 
-/// Returns the variable `begun` as it is after the token `mark`: its `is_open` is true after `(`, false after `)`, and the same as before
-/// after any other mark. Nothing else changes.
+/// Returns the variable `begun` as it is after `mark`: `is_open` becomes true at `(` and false at `)`. Nothing else changes.
 fn after_mark(begun: PartialVariable, mark: Lexeme<'_>) -> PartialVariable
     requires { is_mark_kind mark.kind ≡ true }
     ensures { PassesMark begun (lexeme_of mark.entry) result }
@@ -187,9 +185,8 @@ fn is_open_after(is_open: bool, mark: Lexeme<'_>) -> bool
 ///
 /// # Errors
 ///
-/// The fault of the dimension that [`dimid_of_word`] finds. But if one of `variables` has the name of `begun`, the error is `DuplicateName`
-/// instead, since that name comes first in the text. Or an allocation failed. If the dimension has no fault, the name of `begun` isn't
-/// looked up here.
+/// The fault that [`dimid_of_word`] finds, or `DuplicateName` instead if one of `variables` has the name of `begun`, since that name comes
+/// first in the text. Or an allocation failed. If the dimension has no fault, the name of `begun` isn't looked up here.
 fn with_dimension(
     alloc: Global,
     dims: &Dimensions,
@@ -212,9 +209,8 @@ fn with_dimension(
     }
 }
 
-/// Returns the position of the dimension that `word` names. `word` may have escapes: they are replaced, and [`next_dimid`] looks up the
-/// name that this gives. `before` has the positions of the dimensions that the variable has before this one. Errs with a fault of
-/// [`next_dimid`], or if an allocation failed.
+/// Returns the position of the dimension that `word` names: replaces the escapes of `word`, and calls [`next_dimid`] with the name.
+/// `before` has the positions of the variable's dimensions before this one. Errs as [`next_dimid`] does, or if an allocation failed.
 fn dimid_of_word(
     alloc: Global,
     dims: &Dimensions,

@@ -47,9 +47,8 @@ impl Declared {
     }
 }
 
-/// Returns for each variable an array of all its values over `records` records, which [`whole_array`] makes. `listed` has the listed values
-/// of each variable, in the order of `vars`. If it has fewer items than `vars`, the variables beyond them get no array. Errs as
-/// [`whole_array`] does.
+/// Returns for each variable an array of all its values over `records` records, made by [`whole_array`]. `listed` has the listed values of
+/// each variable, in the order of `vars`. A variable beyond the end of `listed` gets no array. Errs as [`whole_array`] does.
 fn whole_arrays(
     alloc: Global,
     dims: &[Dim],
@@ -112,8 +111,7 @@ fn owed_count(dims: &[Dim], var: &Var, records: u64, len: u128) -> Option<u64>
     u64::try_from(owed).ok()
 }
 
-/// Returns how many values a variable has: those of a slab, times `records` for a record variable. Returns `None` if its slab has more than
-/// 2^48 bytes.
+/// Returns how many values a variable has: those of a slab, times `records` for a record variable; or `None` if a slab passes 2^48 bytes.
 fn value_count(dims: &[Dim], var: &Var, records: u64) -> Option<u128>
     ensures { SomeIff result (HasSmallSlab dims.now var.now) (value_count dims.now var.now records) }
 {

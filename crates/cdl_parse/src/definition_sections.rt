@@ -20,9 +20,8 @@ pub struct Defined<'a> {
     pub rest: Cutter<'a>,
 }
 
-/// Reads the statements of a text up to and including `data:` or the closing brace. Returns what they declare, and the statements after
-/// them. If no statement is left in `start`, reads nothing. The end of the text counts as a statement that these sections don't allow, so
-/// a text that ends too early has a fault.
+/// Reads the statements of a text up to and including `data:` or the closing brace, and returns what they declare, and the statements after
+/// them. If `start` has no statement, reads nothing. If the text ends too early, its end counts as a bad statement.
 ///
 /// # Errors
 ///

@@ -126,8 +126,7 @@ impl Definitions {
     }
 
     /// Does what the next statement of the section of dimensions says: moves on to a later section, or adds dimensions. Needs a statement
-    /// that begins with neither `}` nor `:`. Errs with a fault of [`read_dimensions`], or if an allocation failed. Then the dimensions
-    /// before the failing one have been added.
+    /// that begins with neither `}` nor `:`. Errs as [`read_dimensions`] does; then the dimensions before the failing one have been added.
     fn apply_in_dimensions(&mut self, alloc: Global, start: Cutter<'_>) -> Result<(), ReadError>
         requires more { is_done start ≡ false }
         requires section { self.old.section ≡ Section.Dimensions }

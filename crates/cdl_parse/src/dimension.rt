@@ -9,14 +9,12 @@ use cdl_statements::CdlKind;
 use cdl_tokens::Numeral;
 use nc_base::Version;
 
-/// Returns the length that a new dimension gets (`dim_len` of `nc_base` returns the length of one that is there already). `n` is the number
-/// that the text gives as its length. If `n` is `None`, the dimension is the record dimension, and its length is 0. `has_record` is true if
-/// there is a record dimension already.
+/// Returns the length that a new dimension gets (`dim_len` of `nc_base` returns that of an old one). `n` is the length in the text, or
+/// `None` for the record dimension, which gets length 0. `has_record` is true if there is a record dimension already.
 ///
 /// # Errors
 ///
-/// A length of 0 (`ZeroDimension`); a length that is negative or too great for the version (`NumberRange`); a second record dimension
-/// (`TwoRecordDims`).
+/// A length of 0 (`ZeroDimension`), one below 0 or too great for the version (`NumberRange`); a second record dimension (`TwoRecordDims`).
 #[tactic(auto, using(crate::proofs::Lengths::lens))]
 pub fn dim_len(version: Version, has_record: bool, n: Option<Numeral>) -> Result<u64, CdlKind>
     ensures unlimited { n ≡ None → IsLength version has_record None result }

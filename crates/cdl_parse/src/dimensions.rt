@@ -64,8 +64,7 @@ impl Dimensions {
         self.has_record
     }
 
-    /// Returns the position, counted from 0, of the first dimension that has the name, or `None` if none has it. In the shape of a variable
-    /// this position is the dimension's id.
+    /// Returns the position, from 0 on, of the first dimension with the name: its id in a variable's shape. Returns `None` if none has it.
     pub fn position(&self, name: &[u8]) -> Option<u64>
         ensures { result ≡ position (λ (d : header.Dim). bytes_eq d.name name.now) self.now }
     {

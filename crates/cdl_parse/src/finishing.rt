@@ -7,9 +7,8 @@ use crate::declared_values::Declared;
 use crate::records::records_of;
 use nc_base::{Att, Dim, Header, ListedArray, NumRecs, Sequence, Var, Version, rec_size};
 
-/// Finishes the reading of a text: makes a header of the parts that the text declares, and returns it with the listed values. `gatts` are
-/// the attributes of the dataset, and `listed` has the listed values of each variable, in the order of `vars`. [`records_of`] gives the
-/// number of records.
+/// Finishes the reading of a text: makes a header of what it declares, with the number of records that [`records_of`] returns, and returns
+/// it with `listed`, the listed values of each variable in the order of `vars`. `gatts` are the attributes of the dataset.
 ///
 /// Returns `None` if the dataset is too large: a slab or an array of more than 2^48 bytes, or a record of more than 2^62 bytes.
 /// Does not allocate.

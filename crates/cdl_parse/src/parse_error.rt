@@ -19,8 +19,7 @@ pub enum ParseError {
 impl ParseError {
     ghost use Rattle.cdl_parse.specs.code.Runs.{at_line};
 
-    /// Turns `error`, the error of a statement that begins on this line, into a `ParseError`. A fault gets the line, and `OutOfMemory` gets
-    /// none.
+    /// Turns the error of a statement that begins on this line into a `ParseError`: a fault gets the line, and `OutOfMemory` gets none.
     pub fn at_line(line: u64, error: ReadError) -> ParseError
         ensures { result ≡ at_line line error }
     {

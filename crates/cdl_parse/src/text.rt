@@ -23,17 +23,15 @@ use std::alloc::Global;
 
 /// Returns the dataset that a CDL text means (the CDL chapter of the NetCDF User's Guide, and ncgen(1)).
 ///
-/// `version` is the version of the format. It decides which types variables may have, which suffixes numbers may have, and how long a
-/// dimension may be.
+/// `version` is that of the format. It decides which types variables and which suffixes numbers may have, and how long a dimension may be.
 ///
 /// For callers of the library: `ncgen` itself calls [`declared`].
 ///
 /// # Errors
 ///
 /// The fault of the first bad statement, with the line of its first token. [`TooLarge`](CdlKind::TooLarge), with the line of the closing
-/// brace, if no statement is bad, but a slab or an array has more than 2^48 bytes, or a record more than 2^62. Or
-/// [`OutOfMemory`](CdlKind::OutOfMemory), with line 0, as soon as an allocation failed, or if a variable has more values than memory can
-/// hold.
+/// brace, if no statement is bad, but a slab or an array has more than 2^48 bytes, or a record more than 2^62.
+/// [`OutOfMemory`](CdlKind::OutOfMemory), with line 0, as soon as an allocation failed, or if memory can't hold a variable's values.
 pub fn parse(alloc: Global, text: &[u8], version: Version) -> Result<Dataset, CdlFault>
     ensures { MeansOrOutOfMemory result (meaning text.now version) }
 {
@@ -61,8 +59,7 @@ pub fn declared(alloc: Global, text: &[u8], version: Version) -> Result<Declared
 }
 
 impl ParseError {
-    /// Returns this error as a [`CdlFault`]: the fault that it has, with its line. For `OutOfMemory`, returns a fault of that kind with
-    /// line 0.
+    /// Returns this error as a [`CdlFault`]: its fault with its line, or a fault of the kind `OutOfMemory` with line 0.
     fn fault(self) -> CdlFault
         ensures { result ≡ fault_of self }
     {
@@ -76,9 +73,8 @@ impl ParseError {
     }
 }
 
-/// Reads a text, and returns what it declares. [`declared`] calls this, and only turns the error into a [`CdlFault`]. Errs with the fault
-/// of the first bad statement, or if an allocation failed. Errs with `TooLarge`, on the line of the closing brace, if a slab, an array or
-/// the record is above its limit.
+/// Reads a text, and returns what it declares. [`declared`] only turns the error into a [`CdlFault`]. Errs with the fault of the first bad
+/// statement; with `TooLarge`, on the closing brace's line, if a slab, an array or the record is too large; or if an allocation failed.
 fn read_declared(alloc: Global, text: &[u8], version: Version) -> Result<Declared, ParseError>
     ensures reads { ReadsOn (λ d. Ok (dataset_of_declared d)) result (meaning text.now version) }
     ensures one_each { IfOk result (λ d. length d.listed ≡ length d.header.vars) }
@@ -151,10 +147,9 @@ struct Values<'a> {
     rest: Cutter<'a>,
 }
 
-/// Reads the data section if `section`, the section of the next statement of `start`, is `Values`. Returns what the section lists, and what
-/// comes after it. If `section` is another one, the text has no data section: reads nothing, and returns an array without values for each
-/// variable, and `section` and `start` unchanged. `names` are the names of the variables. Errs with the fault of the first bad statement of
-/// the data section, or if an allocation failed.
+/// Reads the data section by [`read_data_section`] if `section`, the section of the next statement of `start`, is `Values`. Otherwise the
+/// text has no data section: reads nothing, and returns an array without values for each variable, and `section` and `start` unchanged.
+/// `names` are the names of the variables. Errs as [`read_data_section`] does, or if an allocation failed.
 fn read_values<'a>(
     alloc: Global,
     dims: &[Dim],
@@ -178,10 +173,9 @@ fn read_values<'a>(
     }
 }
 
-/// Reads the data section, whose first statement is the next one of `start`. First finds out how many values each variable may take
-/// ([`targets_of`]), and then reads the statements by [`read_data`]. Returns what the section lists, and what comes after it. `names` are
-/// the names of the variables. Errs with the fault of the first bad statement of the section, or if an allocation failed. If the text ends
-/// before the closing brace, its end is a bad statement.
+/// Reads the data section, whose statements begin at `start`: finds out how many values each variable may take ([`targets_of`]), and reads
+/// the statements by [`read_data`]. Returns what the section lists, and what comes after it. `names` are the names of the variables. Errs
+/// with the fault of the first bad statement, or if an allocation failed. A text that ends before the closing brace has a fault at its end.
 fn read_data_section<'a>(
     alloc: Global,
     dims: &[Dim],

@@ -10,8 +10,7 @@ use cdl_values::{NameIndex, ReadError, read_name};
 use nc_base::Named;
 use std::alloc::Global;
 
-/// Returns the position in `variables` of the variable that `word` names. `word` may have escapes, and `names` has to be the index of
-/// `variables`.
+/// Returns the position in `variables` of the one that `word`, which may have escapes, names. `names` has to be the index of `variables`.
 ///
 /// # Errors
 ///

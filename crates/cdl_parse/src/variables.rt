@@ -118,9 +118,8 @@ impl Variables {
     ///
     /// # Errors
     ///
-    /// The first of these faults: a variable's name that the format doesn't allow (`BadName`), or that no variable has
-    /// (`UnknownVariable`); a fault of [`read_attribute`](crate::attribute::read_attribute). Or an allocation failed. In each case the
-    /// variables are what they were.
+    /// The first of these faults: a variable's name that the format doesn't allow (`BadName`) or no variable has (`UnknownVariable`); a
+    /// fault of [`read_attribute`](crate::attribute::read_attribute). Or an allocation failed. In each case nothing changes.
     pub fn read_attribute(&mut self, alloc: Global, start: Cutter<'_>) -> Result<(), ReadError>
         requires more { is_done start ≡ false }
         requires shaped { completes AttributeName (drop 2 (words start)) ≡ true }

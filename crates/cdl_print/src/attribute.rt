@@ -36,8 +36,8 @@ fn put_att_line<W: Sink>(sink: &mut W, owner: &[u8], att: &Att) -> Result<(), Wr
     put(sink, b" ;\n")
 }
 
-/// Writes two tabs, `owner`, `:` and `name`, the name of the attribute. `owner` is the name of its variable, or empty for an attribute of
-/// the dataset.
+/// Writes two tabs, `owner`, `:` and `name`, the name of the attribute, both names with their escapes. `owner` is the name of its variable,
+/// or empty for an attribute of the dataset.
 #[tactic(auto, using(devices::proofs::Writes::writes))]
 fn put_owner_and_name<W: Sink>(sink: &mut W, owner: &[u8], name: &[u8]) -> Result<(), WriteFailed>
     ensures { Wrote W.view sink.old sink.new (att_prefix owner.now name.now) result }

@@ -51,9 +51,8 @@ fn run_len_in_row(row: u128, row_index: u128, bytes: &[u8]) -> usize
     run_len(Quoting::InString, &bytes[..in_row])
 }
 
-/// Writes what opens the row if the next run begins one, the NULs that were held back, and then the run, as [`put_run_with_lead`] does, and
-/// moves `progress` past the run. It only makes that call, and is there for its contract: what is written is the text of these values,
-/// whichever values were printed before. Errs only if the sink failed.
+/// Writes the next run, with what stands before it, and moves `progress` past it, by one call of [`put_run_with_lead`]. It is there for its
+/// contract: what is written is the text of these values, whichever values were printed before. Errs only if the sink failed.
 fn put_next_run<W: Sink>(
     sink: &mut W,
     layout: &Layout<'_>,
@@ -101,10 +100,9 @@ fn put_run_with_lead<W: Sink>(
     Ok(())
 }
 
-/// Returns how many NULs are held back after a run. `held_nuls` is how many were held back before the run, and `is_held_back` is true
-/// if the run is one more such NUL. If `is_held_back` is false, the NULs were written with the run, and the result is 0. `row_index` is the
-/// index, in its row, of the character after the run. If `row_index` is 0, the row has ended, so its last NULs are dropped, and the result
-/// is 0.
+/// Returns how many NULs are held back after a run. `held_nuls` is how many were held back before the run, and `is_held_back` is true if
+/// the run is one more such NUL. If it is false, the NULs were written with the run, and the result is 0. `row_index` is the index, in its
+/// row, of the character after the run. If it is 0, the row has ended, its last NULs are dropped, and the result is 0.
 fn held_nuls_after(held_nuls: u128, row_index: u128, is_held_back: bool) -> u128
     requires { held_nuls + 1 < 2 ^ 128 }
     ensures held_nuls { result ≡ (if (row_index == 0) || not is_held_back then 0 else held_nuls + 1) }

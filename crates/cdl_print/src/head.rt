@@ -70,8 +70,8 @@ fn put_dim_lines<W: Sink>(sink: &mut W, dims: &[Dim], records: u64) -> Result<()
     Ok(())
 }
 
-/// Writes the line of a dimension: a tab, its name with its escapes, ` = `, and its length, with which the line ends. `records` is the
-/// number of records, which the line of the record dimension shows.
+/// Writes the line of a dimension: a tab, its name with its escapes, ` = `, and what [`put_dim_length`] writes. `records` is the number of
+/// records, which the line of the record dimension shows.
 #[tactic(auto, using(devices::proofs::Writes::writes), unfolding(nc_base::specs::HeadText::dim_line))]
 fn put_dim_line<W: Sink>(sink: &mut W, dim: &Dim, records: u64) -> Result<(), WriteFailed>
     ensures { Wrote W.view sink.old sink.new (dim_line records dim.now) result }

@@ -71,8 +71,7 @@ fn gather_typed(
 }
 
 /// Puts the number of the type `ty` that has the big-endian bytes `value` into `text` at the end of `line`, as [`put_next_number`] does,
-/// and returns the last line after it. Needs a `fill` made of `layout`, and room for 47 bytes in `text`: at most 40 of the number, and 7 of
-/// what stands before it.
+/// and returns the last line after it. Needs a `fill` made of `layout`, and room for 47 bytes in `text`.
 #[inline(always)]
 fn gather_next(
     ty: NcType,
@@ -92,9 +91,8 @@ fn gather_next(
 }
 
 /// Puts a number that isn't its row's first into `text` at the end of `line`, with what stands before it, and returns the last line after
-/// it. Needs a `fill` made of `layout`, a number below 2^64 without its sign, and room for 47 bytes in `text`. A number from 0 to 99 that
-/// doesn't print as `_` takes fewer steps if the line has at least six columns left: for `, `, two digits, and two bytes for what follows
-/// them. Then no line begins before it.
+/// it. Needs a `fill` made of `layout`, an absolute value below 2^64, and room for 47 bytes in `text`. A number from 0 to 99 that doesn't
+/// print as `_` takes fewer steps if at least six columns are left (`, `, two digits and two bytes more): no line begins before it then.
 #[inline(always)]
 fn put_next_number(
     text: &mut [u8],
@@ -160,8 +158,7 @@ fn put_fill(text: &mut [u8], line: LastLine, width: usize) -> LastLine
 }
 
 /// Puts a number in decimal at the end of the line, with what stands before it, and returns the last line after it. `width` is how many
-/// bytes a line may have. Needs a number below 2^64 without its sign, and room for 28 bytes in `text`: 21 of the number, and 7 of what
-/// stands before it.
+/// bytes a line may have. Needs an absolute value below 2^64, and room for 28 bytes in `text`: 21 of the number, and 7 before it.
 #[inline(always)]
 fn put_number(text: &mut [u8], line: LastLine, width: usize, number: i128) -> LastLine
     requires magnitude { unsigned_abs number < 2 ^ 64 }

@@ -108,8 +108,7 @@ fn len_in_row(layout: &Layout<'_>, progress: &Progress, bytes: &[u8]) -> usize
 }
 
 /// Puts the next number, which may be its row's first, at the offset `at` of `text`, with what stands before it. Moves `progress` past it,
-/// and returns the offset at which it ends. `value` has its big-endian bytes. Needs room for 47 bytes in `text`: 40 of the number, and 7 of
-/// what stands before it.
+/// and returns the offset at which it ends. `value` has its big-endian bytes. Needs room for 47 bytes in `text` ([`AT_ONCE`]).
 fn gather_number(
     text: &mut [u8],
     at: usize,

@@ -35,8 +35,8 @@ impl PrintedFill {
         number >= 0 && number < 100 && number as u64 != self.below_100
     }
 
-    /// Returns true if a number prints as `_`, as [`Layout::prints_as_fill`] does, but compares 64 bits if an `i64` can hold the number.
-    /// `self` must have been made of `layout` by [`PrintedFill::of`].
+    /// Returns true if a number prints as `_`, as [`Layout::prints_as_fill`] does. It is faster, since it compares 64 bits if an `i64` can
+    /// hold the number. Needs a `self` that [`PrintedFill::of`] made of `layout`.
     #[inline(always)]
     pub fn prints(self, layout: &Layout<'_>, number: i128) -> bool
         requires { IsFillOf (look_at layout.now) self }

@@ -17,8 +17,8 @@ pub struct Progress {
     ghost waiting: { held_nuls ≤ position },
 }
 
-/// Returns the index in its row of the value that comes `count` values after the one at `row_index`. This is `row_index + count`, or 0 if
-/// that is `row`, which is how many values a row has: then the next row begins.
+/// Returns the index in its row of the value that comes after `count` values of one row, the first of them at `row_index`. This is
+/// `row_index + count`, or 0 if that is `row`, the number of values of a row: then the next row begins.
 pub fn row_index_after(row: u128, row_index: u128, count: u128) -> u128
     requires { row_index + count < 2 ^ 128 }
     ensures row_index { result ≡ (if row_index + count == row then 0 else row_index + count) }

@@ -31,12 +31,12 @@ statement_len lexeme_of (t ∷ ts) =
     else if is_mark (byte ";") (lexeme_of t) then 1
     else suc (statement_len lexeme_of ts)
 
--- the number of tokens of the piece that begins with t; true: the piece before it began with `}`, and so all tokens up to End are one piece
+-- how many tokens the piece has that begins with t; `true`: the piece before it began with `}`, so that all tokens up to End are one piece
 abbrev pub piece_len : {X : Type 0} → (X → Lexeme) → Bool → X → List X → ℕ
 piece_len lexeme_of true t ts = if is_end_kind (lexeme_of t).kind then 1 else len_before_end lexeme_of (t ∷ ts)
 piece_len lexeme_of false t ts = if is_alone (lexeme_of t) then 1 else if is_section_mark lexeme_of t ts then 2 else statement_len lexeme_of (t ∷ ts)
 
--- the pieces of these tokens; the first `more` belong to the piece before, and closed: that piece began with `}`
+-- the pieces of these tokens. more: how many of them belong to the piece before. closed: that piece began with `}`.
 unfoldable pub pieces_at : {X : Type 0} → (X → Lexeme) → Bool → ℕ → List X → List (List X)
 pieces_at lexeme_of closed more [] = []
 pieces_at lexeme_of closed (suc more) (t ∷ ts) = pieces_at lexeme_of closed more ts

@@ -147,9 +147,9 @@ impl<'a> Cutter<'a> {
         !self.done && is_inside(self.state) && self.lexeme().is_mark(b',')
     }
 
-    /// Looks, after the comma that the cutter is at, for a plain number (an optional sign and at most 19 decimal digits) and then a second
-    /// comma, with only white space between the three. If they are there, moves to the second comma, and returns the number. Otherwise
-    /// returns `None`, and the cutter stays where it is. Does not allocate.
+    /// Looks, after the comma that the cutter is at, for a plain number (decimal, at most 19 digits, no suffix) and then a second comma,
+    /// with only white space between the three. If they are there, moves to the second comma, and returns the number. Otherwise returns
+    /// `None`, and the cutter stays where it is. Does not allocate.
     #[inline(always)]
     pub fn number_and_comma(&mut self) -> Option<Numeral>
         requires { IsAtComma self.old }

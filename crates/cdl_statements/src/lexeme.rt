@@ -60,8 +60,7 @@ impl<'a> Lexeme<'a> {
         is_word_kind(self.kind) && !is_reserved(self.bytes)
     }
 
-    /// Returns true if the token is a constant: a number, a string or an unescaped `_`, which stands for the fill value. `_` counts only if
-    /// `takes_fill` is true.
+    /// Returns true if the token is a constant: a number, a string or, if `takes_fill`, an unescaped `_`, which stands for the fill value.
     pub fn is_value(self, takes_fill: bool) -> bool
         ensures { result ≡ is_value_of takes_fill (lexeme_of self.entry) self.entry.kind }
     {

@@ -33,8 +33,8 @@ impl<'a> NumberList<'a> {
         }
     }
 
-    /// If a plain number (an optional sign and at most 19 decimal digits) and a comma come next, with only white space before each, passes
-    /// both and returns the number. Otherwise returns `None`, and the list stays where it is. Does not allocate.
+    /// If a plain number (decimal, at most 19 digits, no suffix) and a comma come next, with only white space before each, passes both and
+    /// returns the number. Otherwise returns `None`, and the list stays where it is. Does not allocate.
     #[inline(always)]
     pub fn number_and_comma(&mut self) -> Option<Numeral>
         requires { IsAtComma (reached self.old) }

@@ -15,9 +15,9 @@ word_value (b ∷ c ∷ rest) = if is_escape b c then c ∷ word_value rest else
 abbrev pub up_to_255 : ℕ → Option ℕ
 up_to_255 n = if nat_lt 255 n then None else Some n
 
--- an escape of `mark` bytes (a backslash, or that and an x) and these digits; without digits, or above 255, it is no byte
+-- an escape of `intro` bytes (a backslash, or a backslash and an x) and these digits; without digits, or above 255, it is no byte
 abbrev pub number_escape : ℕ → ℕ → Bytes → Character
-number_escape mark base digits = record { value = if length digits == 0 then None else up_to_255 (number_in base 0 digits); len = mark + length digits }
+number_escape intro base digits = record { value = if length digits == 0 then None else up_to_255 (number_in base 0 digits); len = intro + length digits }
 
 -- the byte that a backslash and b stand for
 abbrev pub plain_escape : ℕ → ℕ

@@ -15,7 +15,7 @@ pub record Numeral : Type 0 where
   pub value : ℤ
   pub ty : NcType
 
--- these bytes, which are in lower case, spell a suffix of the type: that of a dump, and of int `l` too
+-- these bytes, in lower case, are a suffix of the type: the one that a dump writes, and for int also `l`
 abbrev pub has_suffix : Bytes → NcType → Bool
 has_suffix bs Char = false
 has_suffix bs Int = bytes_eq bs [] || bytes_eq bs (codes "l")

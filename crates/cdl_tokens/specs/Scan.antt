@@ -45,13 +45,15 @@ gap n = record { kind = None; len = n }
 abbrev pub token : TokenKind → ℕ → Scanned
 token kind n = record { kind = Some kind; len = n }
 
--- `netcdf` and then these bytes, n of them before the `{`
+-- `netcdf` and then these bytes, n of them before the `{`, if there is one
 abbrev pub scan_opening : Bytes → ℕ → Scanned
 scan_opening bs n = if nat_lt n (length bs) then token Opening (6 + n + 1) else token Bad (6 + length bs)
 
--- a quote and then these bytes, n of them before the closing quote
+-- a quote and then these bytes, n of them before the closing quote, if there is one
 abbrev pub scan_text : Bytes → ℕ → Scanned
-scan_text bs n = if nat_lt n (length bs) then token (if list_all is_some (unescape (take n bs)) then Text else Bad) (n + 2) else token Bad (1 + length bs)
+scan_text bs n =
+    if nat_lt n (length bs) then token (if list_all is_some (unescape (take n bs)) then Text else Bad) (n + 2)
+    else token Bad (1 + length bs)
 
 -- is_first: no token comes before
 unfoldable pub scan : Bool → Bytes → Scanned

@@ -95,8 +95,7 @@ pub fn goes_on_number(b: u8) -> bool
     is_letter(b) || is_digit(b) || b == b'_' || b == b'.'
 }
 
-/// Returns true if `b` and then `c` are an escape of a word: a backslash, and a byte from 0x20 to 0x7e or from 0x80. Strings have other
-/// escapes.
+/// Returns true if `b` and `c` are an escape of a word (strings have others): a backslash, and a byte from 0x20 to 0x7e or from 0x80.
 pub fn is_escape(b: u8, c: u8) -> bool
     ensures { result ≡ is_escape b c }
 {

@@ -63,9 +63,9 @@ fn plain_escape(b: u8) -> u8
     }
 }
 
-/// Reads the escape that a backslash begins; `bytes` are those after the backslash. It takes up to three octal digits, or `x` and up to two
-/// hexadecimal digits, or one other byte. The length counts the backslash. The value is `None` if `x` has no digit, or if octal digits say
-/// more than 255. If `bytes` is empty, the value is 0 and the length is 2, as if a 0 byte came next.
+/// Returns the escape that a backslash begins; `bytes` are those after the backslash. It takes up to three octal digits, or `x` and up to
+/// two hexadecimal digits, or one other byte. The length counts the backslash. The value is `None` if `x` has no digit, or if octal digits
+/// say more than 255. If `bytes` is empty, the value is 0 and the length is 2, as if a 0 byte came next.
 fn escape(bytes: &[u8]) -> Character
     ensures escape { result ≡ escaped_character bytes.now }
     ensures some { 0 < result.len }

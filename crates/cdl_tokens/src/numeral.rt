@@ -114,9 +114,8 @@ fn octal_or_hex(version: Version, minus: bool, bytes: &[u8]) -> Option<Numeral>
     }
 }
 
-/// Returns what a number says. `bytes` is the number without its sign and without `0x`: `n` digits of the base `base`, and then an optional
-/// suffix. `minus` is true if the sign is a minus. Returns `None` if `n` is 0, or if the version doesn't have the suffix. A magnitude above
-/// 64 bits is `None`.
+/// Returns what a number says. `bytes` is the number without its sign and `0x`: `n` digits of the base `base` and an optional suffix.
+/// `minus` is true if the sign is a minus. Returns `None` if `n` is 0 or the version lacks the suffix. A magnitude above 64 bits is `None`.
 fn in_base(version: Version, minus: bool, base: u64, n: usize, bytes: &[u8]) -> Option<Numeral>
     requires some { 1 ≤ base }
     requires small { base ≤ 16 }

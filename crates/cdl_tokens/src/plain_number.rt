@@ -83,8 +83,7 @@ fn is_before_comma(bytes: &[u8], n: usize) -> bool
     byte_at(rest, 0) == b','
 }
 
-/// Returns true if the byte is a comma or white space: no number token goes on with it. Other bytes that end a number, such as `;`, give
-/// false.
+/// Returns true for a comma and for white space, which end a number token. Other bytes that end one, such as `;`, give false.
 fn ends_number(b: u8) -> bool
     ensures { result ≡ true → goes_on_number b ≡ false }
 {

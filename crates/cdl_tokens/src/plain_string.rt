@@ -6,8 +6,7 @@ ghost use Rattle.cdl_tokens.specs.code.PlainTokens.{BeginsString};
 use crate::bytes::byte_at;
 use crate::search::len_before_any;
 
-/// If the bytes begin with a plain string (one without an escape or a line feed), returns its length with both quotes. Otherwise returns
-/// `None`.
+/// Returns the length, with quotes, of the plain string (no escape, no line feed) that the bytes begin with, or `None` if there is none.
 #[inline(always)]
 #[tactic(auto, using(crate::proofs::PlainStrings::begins_string))]
 pub fn plain_string_len(bytes: &[u8]) -> Option<usize>

@@ -37,7 +37,7 @@ pub struct Character {
 
 /// Returns what the bytes begin with: the longest token, which may be of the kind `Bad`, or a gap, which is one byte of white space or a
 /// comment without its line feed. `at_start` is true if no token comes before the bytes: only the first token of a text can be an opening,
-/// which is `netcdf` and what follows up to the first unescaped `{`.
+/// which begins with `netcdf` and ends with the first unescaped `{`.
 #[tactic(auto, unfolding(crate::specs::Scan::scan))]
 pub fn scan(at_start: bool, bytes: &[u8]) -> Scanned
     requires { 0 < length bytes.now }

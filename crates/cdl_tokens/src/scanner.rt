@@ -66,8 +66,7 @@ impl<'a> Scanner<'a> {
         self.text
     }
 
-    /// Reads the next token, and skips the white space and comments before it. At the end of the text it returns a token of the kind `End`,
-    /// each time.
+    /// Skips white space and comments, and reads the next token. At the end of the text it returns a token of the kind `End`, each time.
     ///
     /// White space, marks and numbers, which long lists consist of, are read here; [`scan`] reads every other token.
     #[inline(always)]
@@ -91,8 +90,8 @@ impl<'a> Scanner<'a> {
         }
     }
 
-    /// Reads a plain number (an optional sign and at most 19 decimal digits, without a suffix) and the comma after it, if they come next
-    /// with only white space before each. Otherwise, also if the number is octal, returns `None`, and the scanner stays where it is.
+    /// Reads a plain number (decimal, at most 19 digits after an optional sign, no suffix) and the comma after it, if they come next with
+    /// only white space before each. Otherwise returns `None`, and the scanner stays where it is.
     #[inline(always)]
     pub fn number_and_comma(&mut self) -> Option<ListedNumber>
         ensures tokens { IfSome result (λ l. left self.old ≡ l.number ∷ l.comma ∷ left self.new) }
@@ -383,8 +382,7 @@ impl<'a> Scanner<'a> {
         }
     }
 
-    /// Returns the scanner `len` bytes further on. Each line feed among the passed bytes adds one to its line. `at_start` is true if still
-    /// no token has been read.
+    /// Returns the scanner `len` bytes further on. Each line feed passed adds one to its line. `at_start` is true if no token is read yet.
     fn after(self, len: usize, at_start: bool) -> Scanner<'a>
         requires { self.at + len ≤ length self.text.now }
         ensures text { result.text.now ≡ self.entry.text.now }

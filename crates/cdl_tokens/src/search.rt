@@ -86,8 +86,7 @@ pub fn count_of(bytes: &[u8], byte: u8) -> usize
 /// The number of bytes that [`count_of`] counts at once. It is at most 255, the most that a `u8` can count.
 const COUNTED: usize = 240;
 
-/// Returns how many of `bytes` equal `byte`, for [`count_of`], which calls it block by block. Needs at most 255 bytes, so that the count
-/// fits in a `u8`.
+/// Returns how many of `bytes`, a block of [`count_of`], equal `byte`. Needs at most 255 bytes, so that the count fits in a `u8`.
 fn count_in_block(bytes: &[u8], byte: u8) -> u8
     requires { length bytes.now ≤ 255 }
     ensures count { result ≡ count_by (λ b. b == byte) bytes.now }

@@ -48,8 +48,7 @@ pub struct Token {
 }
 
 impl Token {
-    /// Returns the token's bytes. Give it the text that the token was read from: if `text` is shorter, it returns only the bytes that lie
-    /// in `text`.
+    /// Returns the token's bytes, as far as they lie in `text`: all of them if it is the text that the token was read from.
     #[inline(always)]
     pub fn bytes(self, text: &[u8]) -> &[u8]
         ensures { result.now ≡ raw text.now self }

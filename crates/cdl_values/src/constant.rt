@@ -71,9 +71,8 @@ fn put_token(
     }
 }
 
-/// Appends to `vals` the bytes of a constant. Errs with `MixedConstants` if the token is neither a number nor a string or if its type isn't
-/// `ty`, with `NumberRange` if the number is out of the range of `ty` (nothing is appended in either case), and with `OutOfMemory` if an
-/// allocation failed.
+/// Appends to `vals` the bytes of a constant. Errs with `MixedConstants` if the token is no number or string of the type `ty`, with
+/// `NumberRange` if a number is out of the range of `ty` (nothing is appended either way), and with `OutOfMemory` if an allocation failed.
 #[tactic(auto, unfolding(cdl_statements::specs::code::Contents::value_of))]
 fn put_constant(
     vals: &mut ListedArray,

@@ -16,7 +16,7 @@ use nc_base::{ListedArray, NcType, Version};
 use std::alloc::AllocError;
 
 /// Returns the number that a number token says. Its magnitude is `None` if that takes more than 64 bits. Returns 0, of the type int, if the
-/// bytes are no number or the version lacks their suffix: such a token is a fault of its own, which is found where tokens are checked.
+/// bytes are no number or the version lacks their suffix: such a token has a fault of its own, which is found where tokens are checked.
 pub fn number_or_zero(version: Version, bytes: &[u8]) -> Numeral
     ensures { result ≡ held (parts_or_zero (parts version bytes.now)) }
 {
@@ -56,8 +56,8 @@ pub fn put_numeral_inline(array: &mut ListedArray, ty: NcType, n: Numeral) -> Re
     }
 }
 
-/// Appends to `array` a number that is in the range of `ty`, big-endian, in the width of `ty`. Unlike [`put_numeral`], it doesn't check the
-/// range. Errs only if an allocation failed.
+/// Appends to `array` the number, big-endian, in the width of `ty`. Needs a number in the range of `ty`: unlike [`put_numeral`], it doesn't
+/// check the range. Errs only if an allocation failed.
 #[inline(never)]
 pub fn put_number(array: &mut ListedArray, ty: NcType, number: i128) -> Result<(), AllocError>
     requires { IsInRange ty number }

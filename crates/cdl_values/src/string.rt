@@ -120,8 +120,7 @@ fn put_unescaped(array: &mut ListedArray, bytes: &[u8]) -> Result<usize, AllocEr
     Ok(n)
 }
 
-/// Returns the bytes that a string has between its quotes. `bytes` is the string with its quotes. If it has fewer than two bytes, returns
-/// an empty slice.
+/// Returns the bytes between the quotes of the string `bytes`, or an empty slice if `bytes` is too short to have two quotes.
 fn inner(bytes: &[u8]) -> &[u8]
     ensures { result.now ≡ inner bytes.now }
 {

@@ -65,10 +65,9 @@ pub fn put_token(
     }
 }
 
-/// Appends to `array` the token's value as [`put_token`] does, but checks the token, too. `due` says which token has to stand here. Returns
-/// what capacity is left, and which token has to come after `token`, or `Never` if `token` isn't the one that `due` asks for. Errs with
-/// `Unnamed` if the token or its value has a fault (bytes of the value may be appended then), and with `OutOfMemory` if an allocation
-/// failed.
+/// Appends to `array` the token's value as [`put_token`] does, but checks the token, too: `due` says which one has to stand here. Returns
+/// what capacity is left, and which token has to come next, or `Never` if `token` isn't what `due` asks for. Errs with `Unnamed` if the
+/// token or its value has a fault (bytes of the value may be appended then), and with `OutOfMemory` if an allocation failed.
 #[inline]
 pub fn put_checked_token(
     array: &mut ListedArray,
@@ -92,8 +91,8 @@ pub fn put_checked_token(
     }
 }
 
-/// Appends to `array` the value of a token that is no mark, and returns what capacity is left. Errs with `Unnamed` if the token or its
-/// value has a fault (bytes of the value may be appended then), and with `OutOfMemory` if an allocation failed.
+/// Appends to `array` the value of a token, and returns what capacity is left. Needs a token that is no mark. Errs with `Unnamed` if the
+/// token or its value has a fault (bytes of the value may be appended then), and with `OutOfMemory` if an allocation failed.
 pub fn put_checked_value(
     array: &mut ListedArray,
     version: Version,
@@ -120,8 +119,8 @@ pub fn put_checked_value(
     }
 }
 
-/// Appends to `array` the value of a token that is no number: a string, or `_` for the fill value. Errs with `Unnamed` if the token is bad
-/// or its value has a fault (bytes of it may stay appended), and with `OutOfMemory` if an allocation failed.
+/// Appends to `array` the value of a token that is no number or mark: a string, or the fill value for `_` or any other token. Errs with
+/// `Unnamed` if the token is bad or its value has a fault (bytes of it may stay appended), and with `OutOfMemory` if an allocation failed.
 #[inline(never)]
 fn put_non_number(
     array: &mut ListedArray,

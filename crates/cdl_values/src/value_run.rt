@@ -81,10 +81,9 @@ fn take_values<'a>(
     }
 }
 
-/// Appends to `array` the plain numbers (an optional sign and at most 19 decimal digits) or the plain strings (no escape, no line feed)
-/// that come next, and returns what is unread after them. Returns `start` if the filling is `Joined`, which has no loop for plain strings.
-/// Needs a cutter at a comma. Errs with `Unnamed` if a value has a fault, and with `OutOfMemory` if an allocation failed; the values before
-/// stay appended.
+/// Appends to `array` the plain numbers (decimal, at most 19 digits, no suffix) or plain strings (no escape, no line feed) that come next,
+/// and returns what is unread after them. Returns `start` if the filling is `Joined`, which has no loop for plain strings. Needs a cutter
+/// at a comma. Errs with `Unnamed` if a value has a fault, and with `OutOfMemory` if an allocation failed; the values before stay appended.
 fn take_plain_values<'a>(
     array: &mut ListedArray,
     start: UnreadValues<'a>,
@@ -100,9 +99,8 @@ fn take_plain_values<'a>(
     }
 }
 
-/// Guesses if plain values come after `token`, so that [`take_values`] calls [`take_plain_values`] for them. Returns true if `token` is a
-/// string, a number of one byte, or a longer number that doesn't begin with `0` and ends with a digit. A wrong guess costs time, but
-/// changes no result.
+/// Guesses if plain values come after `token`, so that [`take_values`] looks for them. Returns true if `token` is a string, a number of one
+/// byte, or a longer number that doesn't begin with `0` and ends with a digit. A wrong guess costs time, but changes no result.
 fn plain_may_follow(token: Lexeme<'_>) -> bool {
     match (token.kind, token.bytes) {
         (TokenKind::Text, _) => true,
@@ -112,10 +110,10 @@ fn plain_may_follow(token: Lexeme<'_>) -> bool {
     }
 }
 
-/// Appends to `array` the plain numbers (an optional sign and at most 19 decimal digits) that come next, the first by the cutter and the
-/// others by [`take_more_numbers`]. Returns what is unread after them, or `start` if the capacity is 0, or if no plain number with a comma
-/// after it comes next. Needs a cutter at a comma. Errs with `Unnamed` if a number is out of the type's range, and with `OutOfMemory` if an
-/// allocation failed; the numbers before stay appended.
+/// Appends to `array` the plain numbers (decimal, at most 19 digits, no suffix) that come next, the first by the cutter and the others by
+/// [`take_more_numbers`]. Returns what is unread after them, or `start` if the capacity is 0 or no plain number with a comma after it comes
+/// next. Needs a cutter at a comma. Errs with `Unnamed` if a number is out of the type's range, and with `OutOfMemory` if an allocation
+/// failed; the numbers before stay appended.
 #[inline(never)]
 fn take_numbers<'a>(
     array: &mut ListedArray,
@@ -165,8 +163,8 @@ fn take_more_numbers<'a>(
     }
 }
 
-/// Appends plain numbers as [`take_more_numbers`] does, which calls it. Needs the type of `fill` as `ty`, too: each call gives it as a
-/// constant, so that the loop doesn't ask for the type.
+/// Appends to `array` the plain numbers that come next, and returns what is unread after them, or errs, as [`take_more_numbers`] does. That
+/// only chooses `ty`, the type of `fill`. Each call gives it as a constant, so that the loop doesn't ask for it.
 #[inline(always)]
 fn take_numbers_of_type<'a>(
     array: &mut ListedArray,
@@ -195,9 +193,9 @@ fn take_numbers_of_type<'a>(
 }
 
 /// Appends to `array` the plain strings (no escape, no line feed) that come next, each as a row of `len` bytes filled up with `fill`, and
-/// returns what is unread after them. It stops before the first value that isn't a plain string with a comma after it, and when the
-/// capacity is used up. Errs with `Unnamed` if a string has more than `len` bytes, and with `OutOfMemory` if an allocation failed; the rows
-/// before stay appended.
+/// returns what is unread after them. Stops before the first value that isn't a plain string with a comma after it, and when the capacity
+/// is used up. Needs a cutter at a comma. Errs with `Unnamed` if a string has more than `len` bytes, and with `OutOfMemory` if an
+/// allocation failed; the rows before stay appended.
 #[inline(never)]
 fn take_rows<'a>(
     array: &mut ListedArray,

@@ -14,7 +14,8 @@ const LEAST_AHEAD: usize = 4096;
 /// A source of the bytes of another source. It asks that source for stretches of 4 to 64 KiB, and keeps the last one. A read is answered
 /// from this stretch if the stretch has the byte at its offset. So reads that lie near each other take few reads of the other source.
 ///
-/// Stretches grow as long as each begins near the end of the one before. A read that fails is not tried again.
+/// Stretches grow as long as each begins near the end of the one before. If the stretch doesn't have the byte, a read with room for 64 KiB
+/// or more goes straight to the other source. A read that fails is not tried again.
 #[derive(Drop)]
 pub struct ReadAhead<S: Source> {
     source: S,
@@ -35,8 +36,7 @@ pub struct ReadAhead<S: Source> {
 impl<S: Source> ReadAhead<S> {
     ghost use Rattle.devices.specs.code.Ahead.{Answers, ReadsAhead, SameCounts, SourceFails, bytes_of, taken, view_of};
 
-    /// Creates a source of the bytes of `source`, without a stretch. Its counts of bytes and of failures start at 0, whatever `source` has
-    /// counted.
+    /// Creates a source of the bytes of `source`, without a stretch. Its own counts, of bytes and of failures, start at 0.
     pub fn new(source: S) -> ReadAhead<S>
         ensures { view_of result ≡ unread (S.view source).bytes }
     {
@@ -181,8 +181,8 @@ fn copy_four(into: &mut [u8], from: &[u8])
     into[3] = d;
 }
 
-/// Copies the bytes of `from` over those of `into`, by one call of `copy_from_slice`, as [`copy_bytes`] does unless there are four. Needs
-/// slices of the same length.
+/// Copies the bytes of `from` over those of `into`, by one call of `copy_from_slice`. [`copy_bytes`] calls this function unless there are
+/// four bytes. Needs slices of the same length.
 // It isn't inlined: in a caller's loop, the test for slices that overlap would be prepared anew for each read.
 #[inline(never)]
 fn copy_many(into: &mut [u8], from: &[u8])
@@ -219,7 +219,7 @@ impl<S: Source> Source for ReadAhead<S> {
         self.source.len()
     }
 
-    /// Copies the bytes out of the stretch if it has the one at the offset `at`. Otherwise it reads them as `read_and_count` does.
+    /// Copies bytes out of the stretch if the stretch has the byte at the offset `at`, otherwise reads them as `read_and_count` does.
     #[tactic(auto, unfolding(crate::specs::Failures::HasFailed))]
     fn read_at(&mut self, at: u64, into: &mut [u8]) -> Result<usize, SourceFailed>
         requires room { 0 < length into.old }

@@ -84,7 +84,7 @@ abbrev pub with_variable : Look → List ℤ → Option ℕ → ℕ → DataText
 with_variable look values None v others = record { text = variable_text look values ++ others.text; ending = others.ending }
 with_variable look values (Some k) v others = record { text = variable_prefix look (take k values); ending = data_truncated v k }
 
--- what is shown: `values_of v var` are the values of var in place v (a file is asked by the variable, and a dataset, in `Datasets`, by the place)
+-- what is shown: `values_of v var` gives the values of the variable var, whose place is v
 pub record ShownData : Type 0 where
   pub header : Header
   pub values_of : ℕ → Var → VariableValues

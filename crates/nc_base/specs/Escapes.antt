@@ -30,7 +30,8 @@ begins_with_digit_or_mark (b ∷ bs) = is_ascii_digit b || is_name_mark b
 abbrev pub escaped_in_name : ℕ → Bytes
 escaped_in_name b = if is_plain b then b ∷ [] else byte "\\" ∷ b ∷ []
 
--- a backslash before each byte that isn't plain, and one before a name that could be read as something else (its first byte is plain)
+-- a backslash before each byte that isn't plain, and one before a name that could be read as something else (its first byte is plain, so it
+-- never gets two)
 unfoldable pub escaped_name : Bytes → Bytes
 escaped_name name = (if begins_with_digit_or_mark name || is_reserved name then byte "\\" ∷ [] else []) ++ flat_map escaped_in_name name
 

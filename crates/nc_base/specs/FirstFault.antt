@@ -18,10 +18,10 @@ abbrev pub Stops : Type 1
 Stops = Bytes → FormatFault → Bytes → Type 0
 
 -- reading doesn't stop here: the part has no more fields
-abbrev pub Never : Stops
-Never bytes fault rest = ⊥
+abbrev pub NoMoreFields : Stops
+NoMoreFields bytes fault rest = ⊥
 
--- n bytes: reading stops with this fault if the file has fewer
+-- n bytes: reading stops with this fault if fewer are left
 abbrev pub EndsWithin : FormatFault → ℕ → Stops
 EndsWithin cut n bytes fault rest = (length bytes < n) × (fault ≡ cut) × (rest ≡ [])
 
@@ -31,10 +31,10 @@ abbrev pub Then : {A : Type 0} → (Bytes → A → Bytes → Type 0) → Stops 
 Then {A = A} Spells InPart InNext bytes fault rest =
     InPart bytes fault rest ⊎ ((x : A) × (middle : Bytes) × Spells bytes x middle × InNext x middle fault rest)
 
--- a rule on the field before: it is broken, and these bytes, which come after the field, are the rest; or it holds, and reading stops in
--- what follows
+-- a rule on the field just read: if it is broken, reading has stopped at that field, and all that comes after it is the rest; if it holds,
+-- reading stops in what follows
 abbrev pub Requires : Type 0 → FormatFault → Stops → Stops
-Requires Holds wrong InNext bytes fault rest = ((¬ Holds) × (fault ≡ wrong) × (rest ≡ bytes)) ⊎ (Holds × InNext bytes fault rest)
+Requires Holds wrong InNext after fault rest = ((¬ Holds) × (fault ≡ wrong) × (rest ≡ after)) ⊎ (Holds × InNext after fault rest)
 
 -- ---- numbers, names and types
 
@@ -45,7 +45,7 @@ abbrev pub CountThen : Version → (ℕ → Stops) → Stops
 CountThen v InNext = NumberThen (count_width v) (λ n. Requires (n < count_limit v) BadCount (InNext n))
 
 abbrev pub InOffset : Version → Stops
-InOffset v = NumberThen (offset_width v) (λ n. Requires (n < offset_limit v) BadOffset Never)
+InOffset v = NumberThen (offset_width v) (λ n. Requires (n < offset_limit v) BadOffset NoMoreFields)
 
 pub record SpellsBytes (n : ℕ) (bytes content rest : Bytes) : Type 0 where
   pub count : length content ≡ n
@@ -67,7 +67,7 @@ NameThen v InNext = Then (SpellsName v) (InName v) InNext
 abbrev pub InType : Version → Stops
 InType v = NumberThen w32 (λ code.
     Requires ((code ≢ 5) × (code ≢ 6)) FloatingType (
-    Requires ((ty : NcType) × (code ≡ code_of ty) × (has_type v ty ≡ true)) BadType Never))
+    Requires ((ty : NcType) × (code ≡ code_of ty) × (has_type v ty ≡ true)) BadType NoMoreFields))
 
 abbrev pub TypeThen : Version → (NcType → Stops) → Stops
 TypeThen v InNext = Then (SpellsType v) (InType v) InNext
@@ -80,7 +80,7 @@ ElementStops A = List A → Stops
 
 -- reading stops in one of the next n elements, which come after the elements `before`
 abbrev pub InEach : {A : Type 0} → ElementSpelling A → ElementStops A → ℕ → List A → Stops
-InEach Element InElement zero before = Never
+InEach Element InElement zero before = NoMoreFields
 InEach Element InElement (suc n) before = Then (Element before) (InElement before) (λ x. InEach Element InElement n (before ++ x ∷ []))
 
 abbrev pub InCounted : {A : Type 0} → Version → ElementSpelling A → ElementStops A → Stops
@@ -96,7 +96,7 @@ InList v tag Element InElement = NumberThen w32 (λ found_tag.
 
 abbrev pub InDim : Version → ElementStops Dim
 InDim v before =
-    NameThen v (λ name. CountThen v (λ len. Requires (len ≡ 0 → has_record_dim before ≡ false) TwoRecordDims Never))
+    NameThen v (λ name. CountThen v (λ len. Requires (len ≡ 0 → has_record_dim before ≡ false) TwoRecordDims NoMoreFields))
 
 abbrev pub InAtt : Version → ElementStops Att
 InAtt v before =
@@ -109,12 +109,12 @@ abbrev pub AttsThen : Version → (List Att → Stops) → Stops
 AttsThen v InNext = Then (SpellsAtts v) (InAtts v) InNext
 
 abbrev pub InDimid : Version → List Dim → ElementStops ℕ
-InDimid v dims before = NumberThen (count_width v) (λ id. Requires (IsDimid dims before id) BadShape Never)
+InDimid v dims before = NumberThen (count_width v) (λ id. Requires (IsDimid dims before id) BadShape NoMoreFields)
 
 abbrev pub ShapeThen : Version → List Dim → (List ℕ → Stops) → Stops
 ShapeThen v dims InNext = Then (SpellsShape v dims) (InCounted v (SpellsDimid v dims) (InDimid v dims)) InNext
 
--- If a variable is too large, its type is the wrong field. (No limit depends on its begin.)
+-- If a variable is too large, its type is the wrong field. (Its begin isn't read yet, and no limit depends on it.)
 abbrev pub InVar : Version → List Dim → ElementStops Var
 InVar v dims before =
     NameThen v (λ name.
@@ -135,11 +135,11 @@ InMagic =
     Then (SpellsBytes 3) (EndsWithin NotNetcdf 3) (λ word.
     Requires (word ≡ codes "CDF") NotNetcdf (
     Then SpellsByte (EndsWithin HeaderTruncated 1) (λ n.
-    Requires ((v : Version) × (n ≡ version_byte v)) (UnknownVersion n) Never)))
+    Requires ((v : Version) × (n ≡ version_byte v)) (UnknownVersion n) NoMoreFields)))
 
 -- NON_NEG or STREAMING
 abbrev pub InNumRecs : Version → Stops
-InNumRecs v = NumberThen (count_width v) (λ n. Requires ((n < count_limit v) ⊎ (n ≡ streaming_mark v)) BadCount Never)
+InNumRecs v = NumberThen (count_width v) (λ n. Requires ((n < count_limit v) ⊎ (n ≡ streaming_mark v)) BadCount NoMoreFields)
 
 abbrev pub NumRecsThen : Version → (NumRecs → Stops) → Stops
 NumRecsThen v InNext = Then (SpellsNumRecs v) (InNumRecs v) InNext

@@ -113,11 +113,13 @@ data_of h arrays =
 
 -- ---- the file
 
+-- the variables that aren't record variables
 abbrev pub fixed_vars : List Dim → List Var → List Var
 fixed_vars dims vars = filter (λ (var : Var). not (is_record_var dims var)) vars
 
--- A variable begins after the header (no begin changes its length). One that isn't a record variable comes after the padded slabs of those
--- of its kind before it in the header; a record variable after those of all of these, and of the record variables before it.
+-- The begin of a variable; `before` are the variables before it in the header. After the header (no begin changes its length) come the
+-- padded slabs of all fixed variables, then record 0. So a fixed variable begins after the fixed ones of `before`, and a record variable
+-- after all fixed ones and the record variables of `before`.
 abbrev pub begin_after : Header → List Var → Var → ℕ
 begin_after h before var =
     length (header_spelling h)
@@ -131,7 +133,7 @@ vars_with_begins h before (var ∷ vars) = record var { begin_at = begin_after h
 unfoldable pub with_begins : Header → Header
 with_begins h = record h { vars = vars_with_begins h [] h.vars }
 
--- each begin that `with_begins` sets fits its field (in CDF-2 slabs may be larger than the User's Guide allows)
+-- each begin that `with_begins` sets fits its field
 abbrev pub fits : Header → Bool
 fits h = list_all (λ (var : Var). nat_lt var.begin_at (offset_limit h.version)) (with_begins h).vars
 

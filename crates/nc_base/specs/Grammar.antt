@@ -59,8 +59,8 @@ pub record SpellsType (v : Version) (bytes : Bytes) (ty : NcType) (rest : Bytes)
 
 -- ---- lists
 
--- A relation such as `SpellsDim v` below. `Element before bytes x rest`: the bytes begin with the element x and go on with the rest;
--- `before` are the elements of the list before it, by which a dimension, an id or a variable is judged.
+-- how an element of a list is spelled, such as `SpellsDim v`. `Element before bytes x rest`: the bytes begin with x and go on with the rest;
+-- `before` are the elements before x in its list, which some rules on x need
 abbrev pub ElementSpelling : Type 0 → Type 1
 ElementSpelling A = List A → Bytes → A → Bytes → Type 0
 
@@ -111,7 +111,7 @@ SpellsAtts v bytes atts rest = SpellsList v attribute_tag (SpellsAtt v) bytes at
 
 -- ---- variables
 
--- The id may follow these ids in a shape: the record dimension comes first, if at all.
+-- the id is that of a dimension, and may follow these ids in a shape: the record dimension comes first, if at all
 pub record IsDimid (dims : List Dim) (before : List ℕ) (id : ℕ) : Type 0 where
   pub known : id < length dims
   pub record_first : IsTrue (is_record_dim dims id) → before ≡ []

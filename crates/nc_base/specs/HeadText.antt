@@ -71,7 +71,7 @@ att_line escaped_owner att = concat_parts (codes "\t\t" ∷ escaped_owner ∷ co
 unfoldable pub att_lines : Bytes → List Att → Bytes
 att_lines escaped_owner atts = concat_parts (map (att_line escaped_owner) atts)
 
--- the length of a dimension, and the end of its line; that of the record dimension ends with the number of records in a comment
+-- what comes after `NAME = `: `3 ;`, or for the record dimension `UNLIMITED ; // (2 currently)`, with a line feed
 unfoldable pub dim_len_text : ℕ → ℕ → Bytes
 dim_len_text records len =
     if len == 0 then concat_parts (unlimited_word ∷ decimal records ∷ currently_word ∷ [])

@@ -88,7 +88,7 @@ pub record HasValidValues (h : Header) : Type 0 where
   pub gatts : All (λ (att : Att). AreBytes att.vals) h.gatts
   pub vars : All (λ (var : Var). All (λ (att : Att). AreBytes att.vals) var.atts) h.vars
 
--- A dataset that a file can hold. `is_bare` says that the header has this number of records, and that each begin is 0.
+-- a dataset that a file can hold if its begins fit their fields; `is_bare`: the header has this number of records, and each begin is 0
 pub record IsGood (d : Dataset) : Type 0 where
   pub records : ℕ
   pub is_bare : d.header ≡ bare d.header records

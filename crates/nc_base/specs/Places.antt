@@ -16,7 +16,7 @@ lens_over dims var n = if is_record_var dims var then n ∷ slab_lens dims var.d
 -- all vectors of indices below these lengths (one empty vector, if there are none), in row-major order: the last index varies fastest
 abbrev pub vectors_below : List ℕ → List (List ℕ)
 vectors_below [] = [] ∷ []
-vectors_below (n ∷ ns) = flat_map (λ i. map (λ index. i ∷ index) (vectors_below ns)) (range_with_len 0 n)
+vectors_below (n ∷ ns) = flat_map (λ i. map (λ indices. i ∷ indices) (vectors_below ns)) (range_with_len 0 n)
 
 abbrev pub index_vectors : List Dim → Var → ℕ → List (List ℕ)
 index_vectors dims var n = vectors_below (lens_over dims var n)
@@ -34,14 +34,14 @@ strides h var =
     let of_slab = slab_strides (size_of var.ty) (slab_lens h.dims var.dimids) in
     if is_record_var h.dims var then record_size h ∷ of_slab else of_slab
 
--- how far these indices lead along these strides
+-- how far these indices lead along these strides, of which there are as many
 abbrev pub distance : List ℕ → List ℕ → ℕ
 distance [] strides = 0
-distance (i ∷ index) [] = 0
-distance (i ∷ index) (stride ∷ strides) = i * stride + distance index strides
+distance (i ∷ indices) [] = 0
+distance (i ∷ indices) (stride ∷ strides) = i * stride + distance indices strides
 
 abbrev pub value_offset : Header → Var → List ℕ → ℕ
-value_offset h var index = var.begin_at + distance index (strides h var)
+value_offset h var indices = var.begin_at + distance indices (strides h var)
 
 -- in row-major order
 unfoldable pub value_offsets : Header → Var → ℕ → List ℕ

@@ -67,13 +67,15 @@ record_size_of dims vars = padded_total dims vars
 abbrev pub record_size : Header → ℕ
 record_size h = record_size_of h.dims (record_vars h.dims h.vars)
 
--- this project's limits, in bytes: of a slab, of all values of a variable of a dataset, and of a record
+-- this project's limits, in bytes: of a slab
 abbrev pub slab_limit : ℕ
 slab_limit = 2 ^ 48
 
+-- of the array of a variable of a dataset
 abbrev pub array_limit : ℕ
 array_limit = 2 ^ 48
 
+-- of a record
 abbrev pub record_limit : ℕ
 record_limit = 2 ^ 62
 
@@ -81,7 +83,7 @@ abbrev pub least_begin : Var → List Var → ℕ
 least_begin var [] = var.begin_at
 least_begin var (next ∷ others) = min var.begin_at (least_begin next others)
 
--- the whole records of this size, which isn't 0, from the least begin of these variables to the end of the file
+-- the whole records of this size (only the record dimension has length 0, so the size isn't 0) from the least begin of these variables to the end of the file
 abbrev pub records_between : ℕ → List Var → ℕ → ℕ
 records_between size [] file_len = 0
 records_between size (var ∷ vars) file_len = (file_len - least_begin var vars) / size

@@ -69,14 +69,14 @@ column before = suffix_len (λ b. not (b == byte "\n")) before
 abbrev pub number_text : Look → ℤ → Bytes
 number_text look value = if look.prints_fill && int_eq value look.fill then codes "_" else signed_decimal value
 
--- what comes before value i
+-- what comes before value i, apart from a line break
 abbrev pub number_lead : Look → ℕ → Bytes
 number_lead look i =
     if begins_row look i then (if look.in_rows then (if i == 0 then codes "\n  " else codes ",\n  ") else codes " ")
     else codes ", "
 
--- The break between the text so far, with the lead of value i, and the len bytes of value i: there is one if these and two bytes more
--- (`, ` or ` ;`) would pass the width, but never before a row's first number.
+-- The break before value i, whose text has len bytes; `with_lead` is the text so far with the lead of value i. There is one if the last
+-- line of `with_lead`, the value and two bytes more (`, ` or ` ;`) would pass the width, but never before a row's first number.
 abbrev pub line_break : Look → Bytes → ℕ → ℕ → Bytes
 line_break look with_lead i len =
     if not (begins_row look i) && nat_lt look.width (column with_lead + len + 2) then codes "\n    " else []
@@ -100,7 +100,7 @@ char_lead look i = if look.in_rows then (if i == 0 then codes "\n  \"" else code
 abbrev pub is_nul : ℤ → Bool
 is_nul value = unsigned_abs value == 0
 
--- those of the values so far that are in the row of the next one
+-- of the values so far, those in the row of the next one
 abbrev pub row_so_far : Look → List ℤ → List ℤ
 row_so_far look values = drop (length values - length values % look.row) values
 
@@ -108,7 +108,7 @@ row_so_far look values = drop (length values - length values % look.row) values
 abbrev pub held : Look → List ℤ → ℕ
 held look values = if look.trimmed then suffix_len is_nul (row_so_far look values) else 0
 
--- a character, with the NULs held before it
+-- a character, with the NULs held before it; nothing for a NUL that is held itself
 abbrev pub char_text : Look → ℕ → ℤ → Bytes
 char_text look nuls value =
     if look.trimmed && is_nul value then [] else escaped_text (replicate nuls 0 ++ unsigned_abs value ∷ [])

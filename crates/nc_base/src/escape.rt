@@ -105,8 +105,8 @@ fn escape_in_string(b: u8) -> Escape
     }
 }
 
-/// Returns true if the byte stands for itself in a name, at least after the name's first byte: if it is a letter, a digit, `_`, `.`, `@`,
-/// `+`, `-`, or part of a character beyond ASCII.
+/// Returns true if the byte stands for itself in a name, after the first byte: if it is a letter, a digit, `_`, `.`, `@`, `+`, `-` or a
+/// byte from 0x80.
 fn is_plain_in_name(b: u8) -> bool
     ensures { result ≡ is_plain b }
 {

@@ -25,6 +25,6 @@ pub enum FormatFault {
     TwoRecordDims,
     /// A variable's begin has its top bit set.
     BadOffset,
-    /// A variable's slab passes 2^48 bytes, or the record size passes 2^62 bytes.
+    /// A variable's slab passes 2^48 bytes, or the padded slabs of the record variables up to it pass 2^62 bytes together.
     TooLarge,
 }

@@ -44,7 +44,7 @@ impl Model for ListedArray {
 }
 
 impl ListedArray {
-    /// Creates an array without bytes. It takes no memory from `alloc` before bytes are appended.
+    /// Creates an array without bytes, which takes no memory from `alloc` yet.
     #[tactic(auto, unfolding(crate::specs::code::ListedRows::filled_rows))]
     pub fn new(alloc: Global) -> ListedArray
         ensures { result ≡ [] }
@@ -168,8 +168,8 @@ impl ListedArray {
         }
     }
 
-    /// Returns the bytes with each row filled up, with capacity for `more` bytes after them. If there are rows to fill up, the bytes are
-    /// copied to a new `Vec`, which takes its memory from `alloc`.
+    /// Returns the bytes with each row filled up, with capacity for `more` bytes after them. If rows were kept short
+    /// ([`end_row`](ListedArray::end_row)), the bytes are copied to a new `Vec`, which takes its memory from `alloc`.
     ///
     /// # Errors
     ///
@@ -186,7 +186,7 @@ impl ListedArray {
     }
 
     /// Copies the bytes to a new `Vec` of memory from `alloc`, with each row filled up, and with capacity for `more` bytes after them.
-    /// [`into_bytes`](ListedArray::into_bytes) calls it if there are rows to fill up. Errs if an allocation fails.
+    /// [`into_bytes`](ListedArray::into_bytes) calls it if rows were kept short. Errs if an allocation fails.
     fn to_bytes(&self, alloc: Global, more: usize) -> Result<Vec<u8>, AllocError>
         ensures { IfOk result (λ bytes. bytes.items ≡ self.now) }
     {

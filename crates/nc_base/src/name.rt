@@ -15,7 +15,7 @@ pub fn is_valid_name(name: &[u8]) -> bool
 }
 
 /// Returns true if `name` isn't empty, its first byte may begin a name, and each other byte may follow in one. This is the part of
-/// [`is_valid_name`] that looks at single bytes.
+/// [`is_valid_name`] that looks at each byte by itself.
 fn has_name_bytes(name: &[u8]) -> bool
     ensures { result ≡ has_name_bytes name.now }
 {

@@ -135,9 +135,8 @@ pub fn extent_end(header: &Header, v: usize, records: u64) -> u128
     extent_sum(header, v, records)
 }
 
-/// Returns the offset that [`extent_end`] returns. It is the sum of the variable's begin, the bytes of its slab, and for a record variable
-/// one record size for each record after the first. For a record variable over 0 records it is the begin alone. Needs a sound header
-/// ([`Header::sound`]).
+/// Returns the offset that [`extent_end`] returns: the begin for a record variable over 0 records, otherwise the sum of the begin, the
+/// bytes of the slab, and for a record variable one record size for each record after the first. Needs a sound header ([`Header::sound`]).
 fn extent_sum(header: &Header, v: usize, records: u64) -> u128
     requires sound { IsSound header.now }
     requires there { v < length header.now.vars }
@@ -286,7 +285,7 @@ fn capped_slab_size(dims: &[Dim], dimids: &[u64], ty: NcType) -> u64
     bytes
 }
 
-/// Returns the product of `bytes` and `len`. If it passes 2^48, the limit of a slab, returns 2^48 + 1 instead.
+/// Returns the product of `bytes` and `len`, or 2^48 + 1 if the product passes 2^48, the limit of a slab.
 fn capped_product(bytes: u64, len: u64) -> u64
     ensures { result ≡ min (bytes * len) (slab_limit + 1) }
 {

@@ -124,9 +124,8 @@ fn are_sound_vars(version: Version, dims: &[Dim], vars: &[Var]) -> bool
     is_countable(version, vars.len()) && vars.iter().all(|var| is_sound_var(version, dims, var))
 }
 
-/// Returns true if the version can count the name's bytes and the dimension ids, the variable's type is one of the version's, its
-/// attributes are sound ([`are_sound_atts`]), its dimension ids are a sound shape ([`are_sound_dimids`]), and its slab has at most 2^48
-/// bytes.
+/// Returns true if the version can count the name's bytes and the dimension ids, the type is one of the version's, the attributes are sound
+/// ([`are_sound_atts`]), and the dimension ids are a sound shape with a slab of at most 2^48 bytes ([`has_sound_slab`]).
 fn is_sound_var(version: Version, dims: &[Dim], var: &Var) -> bool
     ensures { IsTrue result ↔ IsSoundVar version dims.now var.now }
 {

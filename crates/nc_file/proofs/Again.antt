@@ -1,6 +1,6 @@
 -- The other direction: bytes, numbers, names and types that are spelled are read, and reading stops with the first wrong field.
 use Rattle.std.proofs.Common.{◌≡◌, ◌≢◌, ℕ, zero, suc, ◌<◌, ◌≤◌, Bool, true, false, cond, leb, List, [], ◌∷◌, ◌++◌, length, Option, Some, None, Ok, Err, refl, sym, ap, ◌∙◌, append_assoc, arith, ◌==◌, ◌||◌, rules, inl, inr}
-use Rattle.nc_file.proofs.Prelude.{append-nil, Width, w32, byte_len, to_be_bytes, FormatFault, HeaderTruncated, BadType, NcType, Version, padding_len, code_of, type_of_code, count_width, offset_width, has_type, SpellsBytes, SpellsNumber, SpellsCount, SpellsOffset, SpellsName, SpellsType, EndsWithin, Stops, Never, Then, Requires, CountThen, InOffset, InName, InType, HeadFault, Format, Outcome, Part, next, done, stop, wrong, byte_or, number_at, count_at, offset_at, bytes_at, skip_at, name_at, type_at, known_type, type_in, type_or_wrong}
+use Rattle.nc_file.proofs.Prelude.{append-nil, Width, w32, byte_len, to_be_bytes, FormatFault, HeaderTruncated, BadType, NcType, Version, padding_len, code_of, type_of_code, count_width, offset_width, has_type, SpellsBytes, SpellsNumber, SpellsCount, SpellsOffset, SpellsName, SpellsType, EndsWithin, Stops, NoMoreFields, Then, Requires, CountThen, InOffset, InName, InType, HeadFault, Format, Outcome, Part, next, done, stop, wrong, byte_or, number_at, count_at, offset_at, bytes_at, skip_at, name_at, type_at, known_type, type_in, type_or_wrong}
 use Rattle.nc_file.specs.code.Reading.{◌>>=◌}
 use Rattle.nc_base.specs.Names.{is_name}
 use Rattle.nc_file.proofs.FieldLaws.{IsWide, wide-32, count-wide, offset-wide, code-known, type_of_code-code_of}
@@ -79,7 +79,7 @@ unfolding stop
 kept-stops b part refuted kept after bytes fault rest (inl (not_so, is, left)) = rw (is, left) (if-not _ _ (refuted not_so) refl)
 kept-stops b part refuted kept after bytes fault rest (inr (so, s)) = if-so _ _ (kept so) (after bytes fault rest s)
 
-pub never-stops : {A : Type 0} (part : Part A) → StopsAgain Never part
+pub never-stops : {A : Type 0} (part : Part A) → StopsAgain NoMoreFields part
 never-stops part bytes fault rest s = absurd s
 
 -- ---- bytes
@@ -135,13 +135,13 @@ unfolding count_at ◌>>=◌ done
 count-again v bytes n rest s =
     then-ok _ (number-again (count_width v) (count-wide v) bytes n rest s.number) (if-not _ _ (below-test _ _ s.non_negative) refl)
 
-count-stop : (v : Version) → StopsAgain (CountThen v (λ n. Never)) (count_at v)
+count-stop : (v : Version) → StopsAgain (CountThen v (λ n. NoMoreFields)) (count_at v)
 unfolding count_at
 count-stop v =
     then-stops _ _ (number-again (count_width v) (count-wide v)) (number-stop (count_width v)) (λ n. rule-stops _ _ (reached-test _ _) (below-test _ _) (never-stops (done n)))
 
 then-of-count : (InNext : ℕ → Stops) (v : Version) (bytes : List ℕ) (fault : FormatFault) (rest : List ℕ)
-    → CountThen v InNext bytes fault rest → Then (SpellsCount v) (CountThen v (λ n. Never)) InNext bytes fault rest
+    → CountThen v InNext bytes fault rest → Then (SpellsCount v) (CountThen v (λ n. NoMoreFields)) InNext bytes fault rest
 then-of-count InNext v bytes fault rest (inl cut) = inl (inl cut)
 then-of-count InNext v bytes fault rest (inr (n, middle, number, inl high)) = inl (inr (n, middle, number, inl high))
 then-of-count InNext v bytes fault rest (inr (n, middle, number, inr (low, more))) = inr (n, middle, record { number = number; non_negative = low }, more)
@@ -195,7 +195,7 @@ no-type v code None is none = refl
 no-type v code (Some ty) is none = none-unless (has_type v ty) ty (λ has. none (ty, code-known code ty (sym is), has))
 
 -- reading stops after a code of no type
-type-none : (v : Version) (code : ℕ) → StopsAgain (Requires (IsType v code) BadType Never) (type_or_wrong (type_in v code))
+type-none : (v : Version) (code : ℕ) → StopsAgain (Requires (IsType v code) BadType NoMoreFields) (type_or_wrong (type_in v code))
 unfolding type_in stop
 type-none v code bytes fault rest (inl (none, is, left)) =
     rw (is, left) (ap (λ (known : Option NcType). (type_or_wrong known).run bytes) (no-type v code (type_of_code code) refl none))

@@ -1,6 +1,6 @@
 -- Bytes, numbers, names and types are read as the grammar says.
 use Rattle.std.proofs.Common.{◌≡◌, ◌≢◌, ℕ, zero, suc, ◌<◌, Bool, true, false, cond, leb, List, [], ◌∷◌, ◌++◌, length, Option, Some, None, refl, sym, ap, subst, ◌∙◌, append_assoc, arith, take, ◌^◌, ◌==◌, ◌||◌, find, ◌⊎◌, if◌then◌else◌, rules, inl, inr}
-use Rattle.nc_file.proofs.Prelude.{leb-false, leb-true, eqb-true, eqb-false, append-nil, get_or-take, get_or_past, length-take, Width, w32, w64, byte_len, to_be_bytes, from_be_bytes, AllByRecursion, FormatFault, HeaderTruncated, BadType, NcType, Version, AreBytes, padding_len, code_of, type_of_code, all_types, count_width, count_limit, offset_width, offset_limit, has_type, SpellsBytes, SpellsNumber, SpellsCount, SpellsOffset, SpellsPadded, SpellsName, SpellsType, EndsWithin, Stops, Then, Requires, Never, CountThen, InOffset, InName, InType, done, stop, byte_or, Part, number_at, count_at, offset_at, bytes_at, skip_at, name_at, type_at, known_type, type_in, type_or_wrong}
+use Rattle.nc_file.proofs.Prelude.{leb-false, leb-true, eqb-true, eqb-false, append-nil, get_or-take, get_or_past, length-take, Width, w32, w64, byte_len, to_be_bytes, from_be_bytes, AllByRecursion, FormatFault, HeaderTruncated, BadType, NcType, Version, AreBytes, padding_len, code_of, type_of_code, all_types, count_width, count_limit, offset_width, offset_limit, has_type, SpellsBytes, SpellsNumber, SpellsCount, SpellsOffset, SpellsPadded, SpellsName, SpellsType, EndsWithin, Stops, Then, Requires, NoMoreFields, CountThen, InOffset, InName, InType, done, stop, byte_or, Part, number_at, count_at, offset_at, bytes_at, skip_at, name_at, type_at, known_type, type_in, type_or_wrong}
 use Rattle.std.proofs.Math.Seq.{take-append_seam}
 use Rattle.std.proofs.lemmas.Nat.{be_bytes_4, be_bytes_8, from_be_bytes-to_be_bytes_4, from_be_bytes-to_be_bytes_8}
 use Rattle.nc_base.specs.Names.{is_name, IsName}
@@ -86,7 +86,7 @@ means-number w wide bytes fits =
 reaches : (limit n : ℕ) → leb limit n ≡ true → ¬ (n < limit)
 reaches limit n test low = let high = leb-true _ _ test in absurd (omega (arith, high, low))
 
-means-count : (v : Version) → ReadsAs (SpellsCount v) (CountThen v (λ n. Never)) (count_at v)
+means-count : (v : Version) → ReadsAs (SpellsCount v) (CountThen v (λ n. NoMoreFields)) (count_at v)
 unfolding count_at ◌>>=◌ done
 means-count v bytes fits =
     means-then _ (means-number (count_width v) (count-wide v) bytes fits)
@@ -94,7 +94,7 @@ means-count v bytes fits =
     (λ low. spells n rest (record { number = number; non_negative = low }) more))
 
 count-of-then : (InNext : ℕ → Stops) (v : Version) (bytes : List ℕ) (fault : FormatFault) (rest : List ℕ)
-    → Then (SpellsCount v) (CountThen v (λ n. Never)) InNext bytes fault rest → CountThen v InNext bytes fault rest
+    → Then (SpellsCount v) (CountThen v (λ n. NoMoreFields)) InNext bytes fault rest → CountThen v InNext bytes fault rest
 count-of-then InNext v bytes fault rest (inl (inl cut)) = inl cut
 count-of-then InNext v bytes fault rest (inl (inr (n, middle, number, inl high))) = inr (n, middle, number, inl high)
 count-of-then InNext v bytes fault rest (inl (inr (n, middle, number, inr (low, never)))) = absurd never
@@ -174,7 +174,7 @@ no-type v code none ty = code-unknown code none ty.0 (sym ty.1)
 -- the version's type with this code, or none
 type-means : (v : Version) (code : ℕ) (bytes rest : List ℕ) (known : Option NcType) → known ≡ type_of_code code
     → SpellsNumber w32 bytes code rest → AreBytes rest
-    → Means (SpellsType v bytes) (Requires ((ty : NcType) × (code ≡ code_of ty) × (has_type v ty ≡ true)) BadType Never) rest ((type_or_wrong (known_type v known)).run rest)
+    → Means (SpellsType v bytes) (Requires ((ty : NcType) × (code ≡ code_of ty) × (has_type v ty ≡ true)) BadType NoMoreFields) rest ((type_or_wrong (known_type v known)).run rest)
 unfolding done stop
 type-means v code bytes rest None is number fits = stops _ _ (inl (no-type v code (sym is), refl, refl))
 type-means v code bytes rest (Some ty) is number fits = at (has_type v ty) refl
@@ -183,7 +183,7 @@ type-means v code bytes rest (Some ty) is number fits = at (has_type v ty) refl
     same = code-known code ty (sym is)
 
     at : (b : Bool) → has_type v ty ≡ b
-        → Means (SpellsType v bytes) (Requires ((ty : NcType) × (code ≡ code_of ty) × (has_type v ty ≡ true)) BadType Never) rest ((type_or_wrong (if b then Some ty else None)).run rest)
+        → Means (SpellsType v bytes) (Requires ((ty : NcType) × (code ≡ code_of ty) × (has_type v ty ≡ true)) BadType NoMoreFields) rest ((type_or_wrong (if b then Some ty else None)).run rest)
     at true has = spells ty rest (record { number = subst (λ (c : ℕ). SpellsNumber w32 bytes c rest) same number; has = has }) fits
     at false lacks = stops _ _ (inl (no-other v code ty is lacks, refl, refl))
 

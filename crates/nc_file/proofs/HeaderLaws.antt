@@ -1,6 +1,6 @@
 -- A header is read as the grammar says.
 use Rattle.std.proofs.Common.{◌≡◌, ℕ, suc, ◌<◌, Bool, true, false, cond, leb, List, [], ◌∷◌, ◌++◌, Option, Some, None, inl, inr, refl, ap, subst, arith, ◌==◌, ◌&&◌, ◌⊎◌, rules}
-use Rattle.nc_file.proofs.Prelude.{eqb-true, eqb-false, leb-true, leb-false, HeaderTruncated, Known, Streaming, Version, AreBytes, version_byte, version_of_byte, count_width, count_limit, streaming_mark, SpellsByte, SpellsNumber, SpellsMagic, SpellsNumRecs, SpellsHeader, EndsWithin, InMagic, InNumRecs, Never, Requires, Stops, StopsWith, Then, UnknownVersion, BadCount, done, stop, wrong, byte_or, version_or, version_at, magic_at, numrecs_at, header_at, and_parts}
+use Rattle.nc_file.proofs.Prelude.{eqb-true, eqb-false, leb-true, leb-false, HeaderTruncated, Known, Streaming, Version, AreBytes, version_byte, version_of_byte, count_width, count_limit, streaming_mark, SpellsByte, SpellsNumber, SpellsMagic, SpellsNumRecs, SpellsHeader, EndsWithin, InMagic, InNumRecs, NoMoreFields, Requires, Stops, StopsWith, Then, UnknownVersion, BadCount, done, stop, wrong, byte_or, version_or, version_at, magic_at, numrecs_at, header_at, and_parts}
 use Rattle.nc_file.specs.code.Reading.{◌>>=◌}
 use Rattle.nc_file.proofs.Means.{Means, spells, stops, ReadsAs, means-map, means-value, means-then, means-kept, AreBytes-tail}
 use Rattle.nc_file.proofs.FieldLaws.{count-wide, means-number, found}
@@ -25,14 +25,14 @@ no-version : (n : ℕ) → None ≡ version_of_byte n → ¬ ((v : Version) × (
 no-version n is v = grind arith
 
 version-means : (bytes : List ℕ) (n : ℕ) (rest : List ℕ) (known : Option Version) → known ≡ version_of_byte n → bytes ≡ 67 ∷ 68 ∷ 70 ∷ n ∷ rest → AreBytes rest
-    → Means (λ v more. SpellsMagic bytes v more) (Requires ((v : Version) × (n ≡ version_byte v)) (UnknownVersion n) Never) rest ((version_or n known).run rest)
+    → Means (λ v more. SpellsMagic bytes v more) (Requires ((v : Version) × (n ≡ version_byte v)) (UnknownVersion n) NoMoreFields) rest ((version_or n known).run rest)
 unfolding done stop
 version-means bytes n rest None is e fits = stops _ _ (inl (no-version n is, refl, refl))
 version-means bytes n rest (Some v) is e fits = search (rules, eqb-true, found, spells)
 
 -- the version byte, and the rest after it
 abbrev pub InVersion : Stops
-InVersion = Then SpellsByte (EndsWithin HeaderTruncated 1) (λ n. Requires ((v : Version) × (n ≡ version_byte v)) (UnknownVersion n) Never)
+InVersion = Then SpellsByte (EndsWithin HeaderTruncated 1) (λ n. Requires ((v : Version) × (n ≡ version_byte v)) (UnknownVersion n) NoMoreFields)
 
 means-version : (bytes rest : List ℕ) → bytes ≡ 67 ∷ 68 ∷ 70 ∷ rest → AreBytes rest → Means (λ v more. SpellsMagic bytes v more) InVersion rest (version_at.run rest)
 unfolding version_at ◌>>=◌ byte_or
@@ -61,7 +61,7 @@ means-numrecs v bytes fits =
     (λ n rest number more. by-tests n rest number more _ _ refl refl)
   where
     by-tests : (n : ℕ) (rest : List ℕ) → SpellsNumber (count_width v) bytes n rest → AreBytes rest → (is_mark is_high : Bool) → (n == streaming_mark v) ≡ is_mark → leb (count_limit v) n ≡ is_high
-        → Means (SpellsNumRecs v bytes) (Requires ((n < count_limit v) ⊎ (n ≡ streaming_mark v)) BadCount Never) rest ((cond is_mark (done Streaming) (cond is_high (wrong BadCount) (done (Known n)))).run rest)
+        → Means (SpellsNumRecs v bytes) (Requires ((n < count_limit v) ⊎ (n ≡ streaming_mark v)) BadCount NoMoreFields) rest ((cond is_mark (done Streaming) (cond is_high (wrong BadCount) (done (Known n)))).run rest)
     by-tests n rest number more true is_high mark high = spells Streaming rest (subst (λ (k : ℕ). SpellsNumber (count_width v) bytes k rest) (eqb-true _ _ mark) number) more
     by-tests n rest number more false true mark high = stops _ _ (inl (neither n v mark high, refl, refl))
     by-tests n rest number more false false mark high = spells (Known n) rest (record { number = number; non_negative = leb-false _ _ high }) more

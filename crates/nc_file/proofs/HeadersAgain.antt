@@ -1,7 +1,7 @@
 -- The other direction: a header that is spelled is read, and reading stops with the first wrong field. So each list of bytes
 -- has one header or one first wrong field.
 use Rattle.std.proofs.Common.{◌≡◌, ◌≢◌, ℕ, ◌<◌, true, cond, leb, List, [], ◌∷◌, length, Option, Some, None, inl, inr, Ok, Err, refl, ap, ◌∙◌, arith, ◌==◌, ◌&&◌, ◌⊎◌, rules}
-use Rattle.nc_file.proofs.Prelude.{eq-eqb, NotNetcdf, UnknownVersion, BadCount, Known, Streaming, Version, Cdf1, version_byte, version_of_byte, count_width, count_limit, streaming_mark, SpellsMagic, SpellsNumRecs, SpellsHeader, InMagic, InNumRecs, Never, Requires, StopsWith, Format, done, stop, wrong, byte_or, version_or, version_at, magic_at, numrecs_at, header_at}
+use Rattle.nc_file.proofs.Prelude.{eq-eqb, NotNetcdf, UnknownVersion, BadCount, Known, Streaming, Version, Cdf1, version_byte, version_of_byte, count_width, count_limit, streaming_mark, SpellsMagic, SpellsNumRecs, SpellsHeader, InMagic, InNumRecs, NoMoreFields, Requires, StopsWith, Format, done, stop, wrong, byte_or, version_or, version_at, magic_at, numrecs_at, header_at}
 use Rattle.nc_file.specs.code.Reading.{◌>>=◌}
 use Rattle.nc_file.proofs.FieldLaws.{count-wide}
 use Rattle.nc_file.proofs.HeaderLaws.{InVersion, is-word, version-is}
@@ -28,7 +28,7 @@ no-version : (n : ℕ) (known : Option Version) → known ≡ version_of_byte n 
 no-version n None is none = refl
 no-version n (Some v) is none = absurd (none (v, version-is n v is))
 
-bad-byte : (n : ℕ) → StopsAgain (Requires ((v : Version) × (n ≡ version_byte v)) (UnknownVersion n) Never) (version_or n (version_of_byte n))
+bad-byte : (n : ℕ) → StopsAgain (Requires ((v : Version) × (n ≡ version_byte v)) (UnknownVersion n) NoMoreFields) (version_or n (version_of_byte n))
 unfolding stop
 bad-byte n bytes fault rest (inl (none, is, left)) =
     rw (is, left) (ap (λ (known : Option Version). (version_or n known).run bytes) (no-version n (version_of_byte n) refl none))
@@ -64,7 +64,7 @@ numrecs-again : (v : Version) → ReadAgain (SpellsNumRecs v) (numrecs_at v)
 unfolding numrecs_at ◌>>=◌ done
 numrecs-again v bytes numrecs rest h = grind (arith, then-ok, number-again, count-wide, if-not, other-test, no-mark, below-test, if-so, eq-eqb)
 
-high-stop : (v : Version) (n : ℕ) → StopsAgain (Requires ((n < count_limit v) ⊎ (n ≡ streaming_mark v)) BadCount Never)
+high-stop : (v : Version) (n : ℕ) → StopsAgain (Requires ((n < count_limit v) ⊎ (n ≡ streaming_mark v)) BadCount NoMoreFields)
     (cond (n == streaming_mark v) (done Streaming) (cond (leb (count_limit v) n) (wrong BadCount) (done (Known n))))
 unfolding stop
 high-stop v n bytes fault rest (inl (high, is, left)) =

@@ -3,7 +3,7 @@ pub use Rattle.devices.proofs.UpTo.{UpTo, each-left, up-next, up-partway, up-sta
 pub use Rattle.devices.specs.declared.source.Source.{Ghosts}
 pub use Rattle.nc_base.proofs.HeaderSpelled.{total-append}
 pub use Rattle.nc_base.specs.Bytes.{AreBytes, padding_len}
-pub use Rattle.nc_base.specs.FirstFault.{ElementStops, InAtt, InAtts, BytesThen, CountThen, InCounted, InDim, InDimid, InEach, InList, InMagic, InName, InNumRecs, NumberThen, InOffset, InPadding, InType, InVar, EndsWithin, Never, Requires, Stops, StopsAt, Then, SpellsByte, SpellsBytes}
+pub use Rattle.nc_base.specs.FirstFault.{ElementStops, InAtt, InAtts, BytesThen, CountThen, InCounted, InDim, InDimid, InEach, InList, InMagic, InName, InNumRecs, NumberThen, InOffset, InPadding, InType, InVar, EndsWithin, NoMoreFields, Requires, Stops, StopsAt, Then, SpellsByte, SpellsBytes}
 unfoldable pub use Rattle.nc_base.specs.FirstFault.{StopsWith}
 pub use Rattle.nc_base.specs.GeneratedFile.{atts_spelling, begin_after, count_spelling, fits, fixed_vars, list_head, list_spelling, name_spelling, numrecs_spelling, vars_with_begins, vsize_of, zero_padded}
 unfoldable pub use Rattle.nc_base.specs.GeneratedFile.{att_spelling, dim_spelling, file_of, header_spelling, magic_spelling, var_spelling, with_begins, word_spelling}

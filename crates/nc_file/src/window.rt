@@ -15,9 +15,9 @@ use std::alloc::Global;
 /// been used, which means read or passed over. The source has `len` bytes. The window reads on from the source only when all `filled` bytes
 /// have been used.
 ///
-/// Each function that reads through the window errs with `HeaderTruncated` if the source ends too early, with `ReadFailed` if the source
-/// fails, and with `OutOfMemory` if an allocation fails. Its other errors are those that its own comment names, and those of the functions
-/// that it calls. After an error nothing more is read through the window.
+/// Unless its own comment says otherwise, a function that reads through the window errs with `HeaderTruncated` if the source ends too
+/// early, with `ReadFailed` if the source fails, and with `OutOfMemory` if an allocation fails. Its other errors are those that its own
+/// comment names, and those of the functions that it calls. After an error nothing more is read through the window.
 #[derive(Drop)]
 pub(crate) struct Window<'a, S: Source> {
     pub(crate) source: &'a mut S,
@@ -188,10 +188,9 @@ impl<S: Source> Window<'_, S> {
         &self.buf[self.pos..self.pos + k]
     }
 
-    /// Reads the next bytes, at least one and at most `most`, appends them to `out`, and returns how many. It takes the unused bytes that
-    /// the window holds; if there are none, it first reads from the source, once. Needs a `most` above 0. Errs with `HeaderTruncated` if no
-    /// byte is left, with `ReadFailed` if the source fails, and with `OutOfMemory` if an allocation fails. After an error `out` is as it
-    /// was before.
+    /// Reads the next bytes that the window holds, at least one and at most `most`, appends them to `out`, and returns how many. If it
+    /// holds no unused byte, it first reads from the source, once. Needs a `most` above 0. Errs with `HeaderTruncated` if no byte is left,
+    /// with `ReadFailed` if the source fails, and with `OutOfMemory` if an allocation fails. After an error `out` is as before.
     #[tactic(auto, using(crate::proofs::Chunks::drop_more))]
     fn read_some(&mut self, out: &mut Sequence<u8>, most: u128) -> Result<usize, HeadFault>
         requires most { 0 < most }

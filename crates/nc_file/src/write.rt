@@ -1,5 +1,5 @@
 //! Writing a header: a file for each of its parts, its length, and the begins of its variables. Each function that writes errs only if the
-//! sink fails, which has then taken some prefix of what the function writes.
+//! sink fails. The sink has then taken some prefix of what the function writes.
 
 mod attribute;
 mod begins;

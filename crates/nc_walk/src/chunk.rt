@@ -31,9 +31,8 @@ impl Chunk {
     }
 }
 
-/// Reads `ready` values of one slab into the start of `into`, as [`read_values`] does and under its conditions. The first one is at
-/// `cursor`, and `at` is its offset in the file. Returns a [`Chunk`]: how many values were read, which are fewer than `ready` if the source
-/// has ended before its length, and the cursor after them.
+/// Reads `ready` values of one slab into the start of `into`, as [`read_values`] does and under its conditions. Returns a [`Chunk`]: how
+/// many values were read (fewer than `ready` if the source has ended before its length), and the cursor after them.
 ///
 /// # Errors
 ///

@@ -30,8 +30,8 @@ impl Cursor {
         self.slab == slabs.total_slabs
     }
 
-    /// Returns the cursor `n` values further on. Needs a slab that has at least `n` values from this cursor on. If it has no more than `n`,
-    /// the result is at the start of the next slab, or after the last slab the cursor after the last value.
+    /// Returns the cursor `n` values further on. Needs at least `n` values from this cursor to the end of its slab. If there are no more,
+    /// the result is the start of the next slab, or the cursor after the last value if there is no next slab.
     pub(crate) fn cursor_after(self, slabs: Slabs, n: u64) -> Cursor
         requires cursor { IsCursor slabs self }
         requires in_slab { self.within + n ≤ slabs.values_per_slab }

@@ -1,6 +1,6 @@
 //! Writing the data part of a file: a module for each of its parts.
 //!
-//! Each function that writes errs only if the sink failed, which has then taken some prefix of what the function writes.
+//! Each function that writes errs only if the sink failed. The sink has then taken some prefix of what the function writes.
 
 mod blocks;
 mod data;

@@ -101,8 +101,7 @@ fn width_in(word: Option<&str>) -> Option<usize>
     }
 }
 
-/// Returns the width that `word`, the value of `-l`, says. Returns `None` if the word isn't of decimal digits alone, or if its number isn't
-/// from 20 to 1000.
+/// Returns the width that `word`, the value of `-l`, says, or `None` if it isn't of decimal digits alone or isn't from 20 to 1000.
 fn width_of(word: &str) -> Option<usize>
     ensures { result ≡ width_said word.now }
 {
@@ -135,8 +134,7 @@ fn dataset_name(alloc: Global, word: Option<&str>, path: &str) -> Result<Sequenc
     copy_bytes(alloc, word.unwrap_or(stem(path)))
 }
 
-/// Returns the chosen names, those in `word`, the value of `-v`. If there is no word, returns `None`, which allows every name. Errs only if
-/// an allocation failed.
+/// Returns the names in `word`, the value of `-v`, or `None`, which allows all, if there is no word. Errs only if an allocation failed.
 fn names_if_given(
     alloc: Global,
     word: Option<&str>,

@@ -1,5 +1,4 @@
-//! The line of each fault. Each function that writes errs only if the sink failed. The sink has then taken some prefix of what the
-//! function writes.
+//! The line of each fault. A function that writes errs only if the sink failed, which has then taken some prefix of what is written.
 
 ghost use Rattle.std.specs.Prelude.{◌≡◌};
 ghost use Rattle.devices.specs.code.SinkWrites.{Wrote};
@@ -130,8 +129,7 @@ fn put_unknown_name<W: Sink>(sink: &mut W, index: usize) -> Result<(), WriteFail
     put(sink, b" of -v")
 }
 
-/// Writes the message for data that isn't all in the file: the first missing value has the number `value`, and its variable has the index
-/// `var`, both counted from 0.
+/// Writes the message for data that isn't all in the file: the first missing value is number `value` of variable `var`, both from 0 on.
 #[tactic(auto, using(devices::proofs::Writes::writes), unfolding(crate::specs::Faults::fault_text))]
 fn put_missing_value<W: Sink>(sink: &mut W, var: usize, value: u128) -> Result<(), WriteFailed>
     ensures { Wrote W.view sink.old sink.new (fault_text (DataTruncated var value)) result }
@@ -188,8 +186,7 @@ fn item_words() -> &'static [u8]
     b"no such variable: item "
 }
 
-/// Returns the words that stand between the two numbers in the message for missing data: the index of the variable, and the number of its
-/// first missing value.
+/// Returns the words between the index of the variable and the number of its first missing value, in the message for missing data.
 #[tactic(auto, unfolding(crate::specs::Faults::truncated_words))]
 fn truncated_words() -> &'static [u8]
     ensures { result.now ≡ truncated_words }

@@ -74,9 +74,8 @@ fn data_word(options: &DumpOptions, header: &Header) -> &'static [u8]
     }
 }
 
-/// Writes the values of each variable whose item of `selection` is true, if it has any. A variable beyond the end of `selection` isn't
-/// written. `layout` has the number of records and the record size. Lines of numbers are broken at `width` bytes. The values are read
-/// through `buf`. Errs as [`show`] does.
+/// Writes the values, if any, of each variable whose item of `selection` is true; a variable without an item isn't written. Reads them
+/// through `buf`. `layout` has the number of records and the record size. Breaks lines of numbers at `width` bytes. Errs as [`show`] does.
 fn show_selected<S: Source, W: Sink>(
     source: &mut S,
     header: &Header,
@@ -108,7 +107,7 @@ fn show_selected<S: Source, W: Sink>(
 }
 
 /// Returns true if `is_selected`, and the variable at index `v` has a value in a file of `count` records. It looks for a slab instead: in a
-/// sound header (`IsSound`) only the record dimension has length 0, so a variable with a slab has a value.
+/// sound header (`IsSound`) a slab has a value, since only the first dimension of a shape may have length 0.
 fn is_shown(header: &Header, v: usize, count: u64, is_selected: bool) -> bool
     requires sound { IsSound header.now }
     requires there { v < length header.now.vars }

@@ -1,6 +1,7 @@
 -- The names that proofs of this crate cite from elsewhere, passed on from one place.
 pub use Rattle.cdl_laws.proofs.MeaningsAreGood.{meanings_are_good}
-pub use Rattle.cdl_meaning.specs.Meaning.{meaning, text_limit}
+pub use Rattle.cdl_meaning.specs.Meaning.{meaning}
+pub use Rattle.cdl_meaning.specs.Bounds.{text_limit}
 pub use Rattle.cdl_statements.specs.declared.fault.CdlFault.{CdlFault}
 pub use Rattle.clap.specs.Words.{App, HasKind, Row, app_of, fault_of, found_of, is_simple, is_simple_and_free, kind_of, matches_of, new_app, new_rule, rows_of, rule_of, with_rule}
 pub use Rattle.cli_base.specs.Arguments.{flag, option, quiet, texts_of}
@@ -20,7 +21,8 @@ pub use Rattle.cli_base.specs.code.Answers.{AnswersBy}
 pub use Rattle.ncgen.specs.CommandLine.{Asked}
 pub use Rattle.ncgen.specs.code.Options.{asked_for}
 unfoldable pub use Rattle.ncgen.specs.CommandLine.{asked_by, asked_in, ncgen}
-pub use Rattle.ncgen.specs.Generated.{Generates, Refuses, file_or_fault}
+pub use Rattle.ncgen.specs.Generated.{file_or_fault}
+pub use Rattle.ncgen.specs.Generates.{Generates, Refuses}
 unfoldable pub use Rattle.ncgen.specs.Generated.{generated}
 pub use Rattle.ncgen.specs.code.Prepared.{IsReady, Prepares, listed_data}
 unfoldable pub use Rattle.ncgen.specs.code.Prepared.{file_of_prepared}

@@ -7,7 +7,7 @@ use Rattle.nc_file.specs.declared.write.begins.OffsetTooLarge.{OffsetTooLarge as
 use Rattle.nc_base.proofs.ListedArrays.{are-listed}
 use Rattle.cdl_parse.specs.code.DeclaredDatasets.{dataset_of_declared}
 use Rattle.cdl_parse.specs.declared.declared_values.Declared.{Declared}
-use Rattle.cdl_meaning.specs.Meaning.{out_of_memory}
+use Rattle.cdl_meaning.specs.Bounds.{out_of_memory}
 use Rattle.cdl_parse.specs.code.Parsing.{MeansOrOutOfMemory, as_dataset}
 use Rattle.ncgen.specs.declared.prepared.Prepared.{Prepared}
 use Rattle.ncgen.proofs.Placing.{data-after, listed-after}

@@ -1,14 +1,12 @@
--- Definition. What is generated from a CDL text: a file, or a fault. Which bytes a sink has taken is known only if it is transparent.
-use Rattle.std.specs.Prelude.{◌≡◌, ◌⊎◌, if◌then◌else◌, Result, Ok, Err}
+-- Definition. What is generated from a CDL text: a file, or a fault.
+use Rattle.std.specs.Prelude.{if◌then◌else◌, Result, Ok, Err}
 use Rattle.nc_base.specs.Bytes.{Bytes}
 use Rattle.nc_base.specs.declared.{dataset.Dataset.Dataset, version.Version.Version}
 use Rattle.nc_base.specs.GeneratedFile.{file_of, fits}
-use Rattle.devices.specs.Sinks.{SinkView, Appended, FailedPartway}
 use Rattle.cdl_statements.specs.declared.fault.CdlFault.{CdlFault}
 use Rattle.cdl_meaning.specs.Meaning.{meaning}
-use Rattle.cdl_meaning.specs.Meaning.{out_of_memory}
 use Rattle.ncgen.specs.declared.fault.GenFault.{GenFault}
-use Rattle.ncgen.specs.declared.fault.GenFault.TheVariants.{Cdl, OffsetTooLarge, WriteFailed}
+use Rattle.ncgen.specs.declared.fault.GenFault.TheVariants.{Cdl, OffsetTooLarge}
 
 abbrev pub file_or_fault : Result Dataset CdlFault → Result Bytes GenFault
 file_or_fault (Ok d) = if fits d.header then Ok (file_of d) else Err OffsetTooLarge
@@ -16,26 +14,3 @@ file_or_fault (Err fault) = Err (Cdl fault)
 
 unfoldable pub generated : Bytes → Version → Result Bytes GenFault
 generated text v = file_or_fault (meaning text v)
-
--- out of memory says nothing of the text
-abbrev pub Refuses : Result Bytes GenFault → GenFault → Type 0
-Refuses stated fault = (stated ≡ Err fault) ⊎ (fault ≡ Cdl out_of_memory)
-
-pub record IsWritten (stated : Result Bytes GenFault) (old new : SinkView) : Type 0 where
-  pub file : Bytes
-  pub is_stated : stated ≡ Ok file
-  pub appended : Appended old new file
-
-pub record IsCutShort (stated : Result Bytes GenFault) (old new : SinkView) : Type 0 where
-  pub file : Bytes
-  pub is_stated : stated ≡ Ok file
-  pub partway : FailedPartway old new file
-
--- a call with this result, where `generated` has stated a file or a fault
-abbrev pub Generates : {A : Type 0} → Result Bytes GenFault → SinkView → SinkView → Result A GenFault → Type 0
--- it has written the stated file
-Generates stated old new (Ok done) = IsWritten stated old new
--- the sink has failed, and has taken a prefix of the stated file
-Generates stated old new (Err WriteFailed) = IsCutShort stated old new
--- nothing was written, and the fault is the stated one or out of memory
-Generates stated old new (Err fault) = (new ≡ old) × Refuses stated fault

@@ -8,8 +8,9 @@ use Rattle.devices.specs.Failures.{HasFailed, one_more}
 use Rattle.devices.specs.Openers.{OpenerView, OpenerUse}
 use Rattle.devices.specs.Readers.{ReaderView}
 use Rattle.devices.specs.Uses.{Use}
-use Rattle.cdl_meaning.specs.Meaning.{text_limit}
-use Rattle.ncgen.specs.Generated.{generated, Refuses}
+use Rattle.cdl_meaning.specs.Bounds.{text_limit}
+use Rattle.ncgen.specs.Generated.{generated}
+use Rattle.ncgen.specs.Generates.{Refuses}
 use Rattle.ncgen.specs.code.TextReads.{ReadsText}
 use Rattle.ncgen.specs.declared.{fault.GenFault.GenFault, failure.InputFault.InputFault}
 use Rattle.ncgen.specs.declared.fault.TextFault.TheVariants.{ReadFailed, TooLong}

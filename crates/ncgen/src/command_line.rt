@@ -81,9 +81,8 @@ fn is_unnamed(is_binary: bool, output: Option<&str>, file: Option<&str>) -> bool
     is_binary && output.is_none() && file.is_none()
 }
 
-/// Returns the path of the output. It is `output`, the value of `-o`, if that is given. Otherwise it is the name that [`output_name`] makes
-/// of `file`, the path of the text, if that and `-b` (`is_binary`) are given. Otherwise returns `None`: no file is written. Errs only if an
-/// allocation failed.
+/// Returns the path of the output: `output`, the value of `-o`, if that is given; otherwise, if `-b` is given (`is_binary`), the name that
+/// [`output_name`] makes of `file`, the text's path. Returns `None` if there is no such path. Errs only if an allocation failed.
 fn output_in(
     alloc: Global,
     is_binary: bool,

@@ -1,5 +1,4 @@
-//! The line of each fault. Each function that writes errs only if the sink failed. The sink has then taken some prefix of what the
-//! function writes.
+//! The line of each fault. A function that writes errs only if the sink failed, which has then taken some prefix of what is written.
 
 ghost use Rattle.std.specs.Prelude.{◌≡◌, codes};
 ghost use Rattle.devices.specs.code.SinkWrites.{Wrote};
@@ -119,8 +118,7 @@ fn put_message<W: Sink>(sink: &mut W, fault: &GenFault) -> Result<(), WriteFaile
     }
 }
 
-/// Writes the message of a fault of a CDL text: `line N: `, and the words for the kind of the fault. If the kind is `OutOfMemory`, writes
-/// the words alone.
+/// Writes the message of a fault of a CDL text: `line N: `, unless its kind is `OutOfMemory`, and then the words for its kind.
 #[tactic(auto, using(devices::proofs::Writes::writes), unfolding(crate::specs::Faults::fault_text))]
 fn put_cdl_fault<W: Sink>(sink: &mut W, fault: CdlFault) -> Result<(), WriteFailed>
     ensures { Wrote W.view sink.old sink.new (fault_text (Cdl fault)) result }

@@ -1,8 +1,9 @@
 //! The file of a text.
 
 ghost use Rattle.std.specs.Prelude.{◌≤◌, length};
-ghost use Rattle.cdl_meaning.specs.Meaning.{text_limit};
-ghost use Rattle.ncgen.specs.Generated.{Generates, generated};
+ghost use Rattle.cdl_meaning.specs.Bounds.{text_limit};
+ghost use Rattle.ncgen.specs.Generated.{generated};
+ghost use Rattle.ncgen.specs.Generates.{Generates};
 ghost use Rattle.ncgen.specs.code.Prepared.{Prepares};
 
 use crate::fault::GenFault;
@@ -17,8 +18,7 @@ use std::alloc::Global;
 /// Reads a CDL text, and returns the netCDF classic file of the dataset that the text declares in this version, ready to be written
 /// (ncgen(1)).
 ///
-/// Needs a text of at most 268,435,456 bytes (256 MiB). Allocates for what the text declares and for the values that it lists, and not for
-/// the file.
+/// Needs a text of at most 268,435,456 bytes (256 MiB). Allocates for what it declares and for the values that it lists, not for the file.
 ///
 /// # Errors
 ///

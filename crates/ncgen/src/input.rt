@@ -16,9 +16,8 @@ use std::io::Read;
 /// How many bytes a text may have: 256 MiB.
 const TEXT_LIMIT: usize = 1 << 28;
 
-/// Returns the bytes of the text at the path `file`, which `texts` opens. If there is no path, returns all bytes that `input`, standard
-/// input, has left. Errs with `CannotOpen` if the path can't be opened. Errs with `Text` if the text is longer than 256 MiB, or if a read
-/// or an allocation fails.
+/// Returns the bytes of the text at the path `file`, which `texts` opens, or, if there is no path, what `input` (standard input) has left.
+/// Errs with `CannotOpen` if the path can't be opened, and with `Text` if the text is longer than 256 MiB or a read or an allocation fails.
 pub fn read_input<T: TextOpener, R: Read>(
     texts: &mut T,
     alloc: Global,

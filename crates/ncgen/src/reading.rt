@@ -14,8 +14,7 @@ const PART: usize = 65536;
 
 /// Reads all bytes that the reader has left, and returns them if there are at most `max`.
 ///
-/// Reads at most `max + 1` bytes, in at most `max + 1` reads: one byte above `max` shows that the text is too long. The memory grows with
-/// the text.
+/// Reads at most `max + 1` bytes, in at most as many reads: a byte above `max` shows that the text is too long. Memory grows with the text.
 ///
 /// # Errors
 ///

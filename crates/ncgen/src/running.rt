@@ -83,9 +83,8 @@ fn generate_for_words<T: TextOpener, C: Creator, R: Read>(
     }
 }
 
-/// Reads the text that the options name, or standard input if they name none, and returns the file of the text, ready to be written. Errs
-/// with `CannotOpen` or `Text` if the text can't be read, and with `Generate` if the text gives no file or an allocation fails after the
-/// text was read.
+/// Reads the text that the options name, or standard input if they name none, and returns its file, ready to be written. Errs with
+/// `CannotOpen` or `Text` if the text can't be read, and with `Generate` if it gives no file or an allocation fails after it was read.
 fn read_and_prepare<T: TextOpener, R: Read>(
     texts: &mut T,
     alloc: Global,
@@ -105,8 +104,7 @@ fn read_and_prepare<T: TextOpener, R: Read>(
     Ok(prepare(alloc, text.as_slice(), options.kind)?)
 }
 
-/// Writes the file `prepared` to an output at the path `out`, or nothing if there is no path. Errs with `Output` if the output can't be
-/// created or written.
+/// Writes `prepared` to the path `out`, or nothing if there is no path. Errs with `Output` if the output can't be created or written.
 fn write_if_asked<C: Creator>(
     creator: &mut C,
     out: Option<String>,

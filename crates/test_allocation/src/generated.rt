@@ -1,7 +1,7 @@
 //! Texts that are read whole, files that are prepared, and files that are written.
 
 ghost use Rattle.std.specs.Prelude.{◌≤◌, length};
-ghost use Rattle.cdl_meaning.specs.Meaning.{text_limit};
+ghost use Rattle.cdl_meaning.specs.Bounds.{text_limit};
 
 use crate::rows::{self, Made};
 use crate::texts;

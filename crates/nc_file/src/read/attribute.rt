@@ -12,8 +12,7 @@ use nc_base::{Att, Sequence, Version};
 use std::alloc::Global;
 
 impl<S: Source> Window<'_, S> {
-    /// Reads an attribute: its name, its type, the number of its values, and its values. Passes over the padding after them, which the
-    /// attribute doesn't keep. Errs as [`Window`] says.
+    /// Reads an attribute: its name, its type, the number of its values, and its values. Passes over the padding after them.
     #[tactic(auto, using(crate::proofs::Parts::parts), unfolding(crate::specs::code::Reading::att_at))]
     fn att(&mut self, alloc: Global, version: Version) -> Result<Att, HeadFault>
         ensures { Read self.old self.new (att_at version) result }
@@ -25,8 +24,7 @@ impl<S: Source> Window<'_, S> {
         Ok(Att { name, ty, vals })
     }
 
-    /// Reads `n` attributes, one after the other, and returns them. [`att_list`](Window::att_list) calls it, after it has read the list's
-    /// tag and `n`.
+    /// Reads `n` attributes, one after the other, and returns them. [`att_list`](Window::att_list) has read the list's tag and `n` before.
     #[tactic(auto, using(crate::proofs::Loops::each))]
     fn atts(&mut self, alloc: Global, version: Version, n: u64) -> Result<Sequence<Att>, HeadFault>
         ensures { Read self.old self.new (each_at (att_after version) n []) result }

@@ -27,7 +27,7 @@ impl<S: Source> Window<'_, S> {
     }
 
     /// Reads `n` dimensions, one after the other, and returns them. Errs with `TwoRecordDims` at the second one of length 0.
-    /// [`dim_list`](Window::dim_list) calls it, after it has read the list's tag and `n`.
+    /// [`dim_list`](Window::dim_list) has read the list's tag and `n` before.
     #[tactic(auto, using(crate::proofs::Loops::each))]
     fn dims(&mut self, alloc: Global, version: Version, n: u64) -> Result<Sequence<Dim>, HeadFault>
         ensures { Read self.old self.new (each_at (dim_after version) n []) result }

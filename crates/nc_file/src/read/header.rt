@@ -47,9 +47,8 @@ pub fn read_header<S: Source>(
     }
 }
 
-/// Reads the header at the start of the source as [`read_header`] does, but doesn't check at the end that the header is sound. If the
-/// source is transparent ([`Source`]), the contract says that the header is sound. Otherwise it says nothing of the header, so
-/// [`read_header`] checks it.
+/// Reads the header as [`read_header`] does, but doesn't check at the end that it is sound. If the source is transparent ([`Source`]), the
+/// contract says that it is. Otherwise the contract says nothing of the header, so [`read_header`] checks it.
 fn read_unchecked_header<S: Source>(
     alloc: Global,
     source: &mut S,

@@ -123,9 +123,8 @@ impl<S: Source> Window<'_, S> {
         })
     }
 
-    /// Reads `n` variables, one after the other, and returns them. Errs with the fault of the first wrong field, or if the source or an
-    /// allocation fails. The fault is `TooLarge` if a slab passes 2^48 bytes, or if the padded slabs of the record variables together pass
-    /// 2^62 bytes.
+    /// Reads `n` variables, one after the other, and returns them. Errs with `TooLarge` if a slab passes 2^48 bytes, or if the padded slabs
+    /// of the record variables together pass 2^62 bytes.
     #[tactic(auto, using(crate::proofs::Loops::each))]
     fn vars(
         &mut self,

@@ -88,8 +88,7 @@ fn var_len(version: Version, var: &Var) -> u64
         .saturating_add(fields)
 }
 
-/// Returns the number of bytes that a name takes in a header, with its length before it and its padding after it, or `u64::MAX` if there
-/// are more.
+/// Returns the number of bytes that a name takes in a header, with its length and its padding, or `u64::MAX` if there are more.
 fn name_len(version: Version, name: &[u8]) -> u64
     ensures { result ≡ min (name_len version name.now) (2 ^ 64 - 1) }
 {

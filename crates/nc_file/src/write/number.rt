@@ -29,8 +29,7 @@ pub(crate) fn put_number<W: Sink>(sink: &mut W, version: Version, n: u64) -> Res
     }
 }
 
-/// Writes a count, a length or a dimension id (`NON_NEG`) as [`put_number`] does, but needs a number whose top bit is 0. Errs if the sink
-/// fails.
+/// Writes a count, a length or a dimension id (`NON_NEG`), whose top bit must be 0, as [`put_number`] does. Errs if the sink fails.
 pub(crate) fn put_count<W: Sink>(sink: &mut W, version: Version, n: u64) -> Result<(), WriteFailed>
     requires { n < count_limit version }
     ensures { Wrote W.view sink.old sink.new (count_spelling version n) result }

@@ -28,8 +28,7 @@ pub(super) fn put_fills<W: Sink>(sink: &mut W, unit: [u8; 8], n: u128) -> Result
     put_many_fills(sink, unit, n)
 }
 
-/// Writes `n` bytes as [`put_fills`] does, in one piece. Needs `n` to be at most 256: its buffer has only 256 bytes, since each call makes
-/// it anew.
+/// Writes `n` bytes as [`put_fills`] does, in one piece. Needs an `n` of at most 256, the bytes of a buffer that each call makes anew.
 fn put_few_fills<W: Sink>(sink: &mut W, unit: [u8; 8], n: u128) -> Result<(), WriteFailed>
     requires { n ≤ 256 }
     ensures { Wrote W.view sink.old sink.new (repeated unit n) result }
@@ -88,7 +87,7 @@ fn four_times(value: [u8; 2]) -> [u8; 8]
     [a, b, a, b, a, b, a, b]
 }
 
-/// Returns eight bytes: a value of four bytes, and the same value once more.
+/// Returns eight bytes: a value of four bytes, twice.
 fn twice(value: [u8; 4]) -> [u8; 8]
     ensures { result ≡ twice value }
 {

@@ -28,8 +28,7 @@ pub(super) fn put_listed_bytes<W: Sink>(
     Ok(())
 }
 
-/// Writes the first `n` bytes of a run (its listed bytes, and then copies of its fill byte), or all if it has fewer. Returns how many bytes
-/// were written.
+/// Writes the first `n` bytes of a run (listed bytes, and then fill bytes), or all if it has fewer, and returns how many it has written.
 #[tactic(auto, using(devices::proofs::Writes::writes))]
 fn put_run<W: Sink>(sink: &mut W, run: Run<'_>, n: u128) -> Result<u128, WriteFailed>
     ensures writes { Wrote W.view sink.old sink.new (take n (run_bytes run.entry)) result }

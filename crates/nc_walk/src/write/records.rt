@@ -32,7 +32,7 @@ pub(super) fn put_records<W: Sink>(
 }
 
 /// Writes `records` records, one after the other: in each a slab of every record variable, with its padding. It isn't called for a sole
-/// record variable, since the slabs of that stand without padding. `arrays` has the listed values of all variables.
+/// record variable, whose slabs stand without padding. `arrays` has the listed values of all variables.
 fn put_padded_records<W: Sink>(
     sink: &mut W,
     slabs: &[RecordSlab],

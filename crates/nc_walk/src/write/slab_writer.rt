@@ -42,7 +42,7 @@ impl<'a> SlabWriter<'a> {
         }
     }
 
-    /// Writes the whole array and its padding. It is for a variable that isn't a record variable, whose only slab this is.
+    /// Writes the whole array, which is one slab, and its padding. It is for a variable that isn't a record variable.
     pub(super) fn put_block<W: Sink>(&self, sink: &mut W) -> Result<(), WriteFailed>
         ensures { Wrote W.view sink.old sink.new (filled_slab self.now self.now.listed) result }
     {

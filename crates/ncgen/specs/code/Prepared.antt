@@ -6,7 +6,7 @@ use Rattle.nc_base.specs.Headers.{IsSound}
 use Rattle.nc_base.specs.code.OwedValues.{AreListed, whole_arrays}
 use Rattle.nc_base.specs.Versions.{offset_limit}
 use Rattle.nc_walk.specs.code.RecordSlabs.{record_slabs}
-use Rattle.ncgen.specs.Generated.{Refuses}
+use Rattle.ncgen.specs.Generates.{Refuses}
 use Rattle.ncgen.specs.declared.{fault.GenFault.GenFault, prepared.Prepared.Prepared}
 
 -- the data part of a file: the listed values of the header's variables, filled up
