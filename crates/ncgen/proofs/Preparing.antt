@@ -1,13 +1,12 @@
 -- A text's file stands ready to be written.
 use Rattle.std.proofs.Common.{◌≡◌, ◌≤◌, inl, inr, ◌∙◌, ℕ, List, [], ◌++◌, length, Bool, true, false, if◌then◌else◌, Result, Ok, Err, refl, sym, ap, subst}
-use Rattle.ncgen.proofs.Prelude.{AreBytes, Dataset, Header, Version, file_of, fits, header_spelling, known_records, with_begins, AreArrays, IsGood, IsSound, whole_arrays, SinkView, record_slabs, IsSound-with_begins, begins-below, CdlFault, meaning, text_limit, meanings_are_good, Generates, Refuses, file_or_fault, generated, IsReady, Prepares, file_of_prepared, GenFault, Cdl, OffsetTooLarge, WriteFailed}
+use Rattle.ncgen.proofs.Prelude.{AreBytes, Dataset, Header, Version, file_of, fits, header_spelling, known_records, with_begins, AreArrays, IsGood, IsSound, whole_arrays, SinkView, record_slabs, IsSound-with_begins, begins-below, CdlFault, meaning, out_of_memory, text_limit, meanings_are_good, Generates, Refuses, file_or_fault, generated, IsReady, Prepares, file_of_prepared, GenFault, Cdl, OffsetTooLarge, WriteFailed}
 use Rattle.nc_file.specs.code.Begins.{offset_too_large}
 use Rattle.nc_walk.specs.declared.write.record_slab.RecordSlab.{RecordSlab}
 use Rattle.nc_file.specs.declared.write.begins.OffsetTooLarge.{OffsetTooLarge as NoRoom}
 use Rattle.nc_base.proofs.ListedArrays.{are-listed}
 use Rattle.cdl_parse.specs.code.DeclaredDatasets.{dataset_of_declared}
 use Rattle.cdl_parse.specs.declared.declared_values.Declared.{Declared}
-use Rattle.cdl_meaning.specs.Bounds.{out_of_memory}
 use Rattle.cdl_parse.specs.code.Parsing.{MeansOrOutOfMemory, as_dataset}
 use Rattle.ncgen.specs.declared.prepared.Prepared.{Prepared}
 use Rattle.ncgen.proofs.Placing.{data-after, listed-after}

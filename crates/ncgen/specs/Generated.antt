@@ -5,8 +5,7 @@ use Rattle.nc_base.specs.declared.{dataset.Dataset.Dataset, version.Version.Vers
 use Rattle.nc_base.specs.GeneratedFile.{file_of, fits}
 use Rattle.cdl_statements.specs.declared.fault.CdlFault.{CdlFault}
 use Rattle.cdl_meaning.specs.Meaning.{meaning}
-use Rattle.ncgen.specs.declared.fault.GenFault.{GenFault}
-use Rattle.ncgen.specs.declared.fault.GenFault.TheVariants.{Cdl, OffsetTooLarge}
+use Rattle.ncgen.specs.declared.fault.GenFault.{GenFault, TheVariants.Cdl, TheVariants.OffsetTooLarge}
 
 abbrev pub file_or_fault : Result Dataset CdlFault → Result Bytes GenFault
 file_or_fault (Ok d) = if fits d.header then Ok (file_of d) else Err OffsetTooLarge

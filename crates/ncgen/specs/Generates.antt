@@ -3,8 +3,7 @@ use Rattle.std.specs.Prelude.{◌≡◌, ◌⊎◌, Result, Ok, Err}
 use Rattle.nc_base.specs.Bytes.{Bytes}
 use Rattle.devices.specs.Sinks.{SinkView, Appended, FailedPartway}
 use Rattle.cdl_meaning.specs.Bounds.{out_of_memory}
-use Rattle.ncgen.specs.declared.fault.GenFault.{GenFault}
-use Rattle.ncgen.specs.declared.fault.GenFault.TheVariants.{Cdl, WriteFailed}
+use Rattle.ncgen.specs.declared.fault.GenFault.{GenFault, TheVariants.Cdl, TheVariants.WriteFailed}
 
 -- out of memory says nothing of the text
 abbrev pub Refuses : Result Bytes GenFault → GenFault → Type 0
