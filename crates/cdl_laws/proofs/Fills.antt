@@ -1,8 +1,7 @@
 -- The fill values of characters, with and without the NULs at the end of attributes.
 use Rattle.std.proofs.Common.{◌≡◌, ℕ, ◌<◌, Bool, true, false, List, [], ◌∷◌, length, map, sym, ◌∙◌, refl, arith, ◌↔◌, ℤ, pos, if◌then◌else◌, ◌==◌, ◌&&◌, nat_lt, find, Option, None, Some, rules}
-use Rattle.cdl_laws.proofs.Prelude.{false≢true, eqb-true, suffix_len, option_map, Att, NcType, Char, fill_value, is_fill_att, fill_of_att, without_trailing_nuls, number_of, code_of, size_of, is_cut, FillValueSurvivesTrim, MeaningsAreSayable, MeaningsComeBack, trimmed_att, and_left, and_right}
+use Rattle.cdl_laws.proofs.Prelude.{default_fill_of, false≢true, eqb-true, suffix_len, option_map, Att, NcType, Char, fill_value, is_fill_att, fill_of_att, without_trailing_nuls, number_of, code_of, size_of, is_cut, FillValueSurvivesTrim, MeaningsAreSayable, MeaningsComeBack, trimmed_att, and_left, and_right}
 use Rattle.std.specs.Prelude.{unwrap_or}
-use Rattle.nc_base.specs.Types.{default_fill_of}
 use Rattle.cdl_laws.proofs.MeaningsAreGood.{meanings_are_good, meanings_are_nearly_sayable, nearly_is_sayable}
 use Rattle.cdl_laws.proofs.Trimmed.{none_left, second_trip_is_same}
 

@@ -1,12 +1,12 @@
 -- The statements of a dump, and what they say.
 use Rattle.std.proofs.Common.{◌≡◌, ℕ, ◌^◌, ◌<◌, ◌≤◌, Bool, true, false, List, [], ◌∷◌, ◌++◌, length, map, ◌∙◌, ap, refl, subst, arith, append_assoc, ℤ, unsigned_abs, ◌==◌, not, None, Some, codes, rules}
-use Rattle.cdl_laws.proofs.Prelude.{list_all, prefix_len, NcType, Byte, Char, Short, Int, Ubyte, Ushort, Uint, Int64, Uint64, Version, escaped_name, is_plain, is_reserved, joined, IsName, type_word, Look, is_char, variable_text, Values, may_begin_word, scan, word_len, Lexeme, role, is_section, section_of, lexemes_at, Value, Characters, Listed, both, constants, body, and_left, and_right, and_both, word_at_start, Each}
+use Rattle.cdl_laws.proofs.Prelude.{printed, list_all, prefix_len, NcType, Byte, Char, Short, Int, Ubyte, Ushort, Uint, Int64, Uint64, Version, escaped_name, is_plain, is_reserved, joined, IsName, type_word, Look, is_char, variable_text, Values, may_begin_word, scan, word_len, Lexeme, role, is_section, section_of, lexemes_at, Value, Characters, Listed, both, constants, body, and_left, and_right, and_both, word_at_start, Each}
 use Rattle.cdl_laws.proofs.NameTexts.{no_escape}
 use Rattle.cdl_laws.proofs.Texts.{Closed, Reads, stops, then_reads, reads_both, mark, word, number, name_word, word_reads, stop_word, prefix_again}
 use Rattle.cdl_laws.proofs.Numerals.{value_again}
 use Rattle.cdl_laws.proofs.Strings.{string}
 use Rattle.cdl_laws.proofs.ValueTexts.{comma, commas, AreSmall, value_lexeme, value_said, numbers_closed, values_said}
-use Rattle.cdl_laws.proofs.Characters.{shown, flat, table_closed, line_closed}
+use Rattle.cdl_laws.proofs.Characters.{flat, table_closed, line_closed}
 use Rattle.cdl_laws.proofs.Filled.{strings_said}
 use Rattle.cdl_laws.proofs.Takes.{Says, statement_says, semicolon, is_fine, word_fine, is_starter}
 
@@ -133,25 +133,25 @@ pub strings_fine : (v : Version) (all : List (List ℕ)) → list_all (is_fine v
 strings_fine v [] = refl
 strings_fine v (bytes ∷ all) = strings_fine v all
 
-map_map : (t : Bool) (rows : List (List ℤ)) → map (λ (r : List ℤ). string (shown t 0 r)) rows ≡ map string (map (shown t 0) rows)
+map_map : (t : Bool) (rows : List (List ℤ)) → map (λ (r : List ℤ). string (printed t 0 r)) rows ≡ map string (map (printed t 0) rows)
 map_map t [] = refl
-map_map t (r ∷ rows) = ap (λ ls. string (shown t 0 r) ∷ ls) (map_map t rows)
+map_map t (r ∷ rows) = ap (λ ls. string (printed t 0 r) ∷ ls) (map_map t rows)
 
 pub table_says : (v : Version) (look : Look) (r : List ℤ) (rows : List (List ℤ)) → IsName look.name → is_char look.ty ≡ true → look.in_rows ≡ true → 0 < look.row → Each (λ (s : List ℤ). length s ≡ look.row) (r ∷ rows) →
-    Says v Values (variable_text look (flat (r ∷ rows))) (Listed look.name (map Characters (map (shown look.trimmed 0) (r ∷ rows))))
+    Says v Values (variable_text look (flat (r ∷ rows))) (Listed look.name (map Characters (map (printed look.trimmed 0) (r ∷ rows))))
 table_says v look r rows name ty h wide all =
-    let shows = map (shown look.trimmed 0) rows in
-    let ls = string (shown look.trimmed 0 r) ∷ commas (map string shows) in
-    statement_says v Values (variable_text look (flat (r ∷ rows))) (word (escaped_name look.name)) (mark 61) ls (Listed look.name (map Characters (shown look.trimmed 0 r ∷ shows))) refl
-    (subst (λ l. Closed (variable_text look (flat (r ∷ rows))) (word (escaped_name look.name) ∷ mark 61 ∷ (string (shown look.trimmed 0 r) ∷ commas l ++ semicolon ∷ []))) (map_map look.trimmed rows) (table_closed look r rows name ty h wide all))
+    let shows = map (printed look.trimmed 0) rows in
+    let ls = string (printed look.trimmed 0 r) ∷ commas (map string shows) in
+    statement_says v Values (variable_text look (flat (r ∷ rows))) (word (escaped_name look.name)) (mark 61) ls (Listed look.name (map Characters (printed look.trimmed 0 r ∷ shows))) refl
+    (subst (λ l. Closed (variable_text look (flat (r ∷ rows))) (word (escaped_name look.name) ∷ mark 61 ∷ (string (printed look.trimmed 0 r) ∷ commas l ++ semicolon ∷ []))) (map_map look.trimmed rows) (table_closed look r rows name ty h wide all))
     (name_starts look.name name)
-    (listed_fine v (escaped_name look.name) (string (shown look.trimmed 0 r)) (map string shows) (strings_fine v shows))
-    (listed_is v look.name ls (map Characters (shown look.trimmed 0 r ∷ shows)) name (strings_said v true (shown look.trimmed 0 r) shows))
+    (listed_fine v (escaped_name look.name) (string (printed look.trimmed 0 r)) (map string shows) (strings_fine v shows))
+    (listed_is v look.name ls (map Characters (printed look.trimmed 0 r ∷ shows)) name (strings_said v true (printed look.trimmed 0 r) shows))
 
 pub line_says : (v : Version) (look : Look) (x : ℤ) (xs : List ℤ) → IsName look.name → is_char look.ty ≡ true → look.in_rows ≡ false → length (x ∷ xs) ≤ look.row →
-    Says v Values (variable_text look (x ∷ xs)) (Listed look.name (Characters (shown look.trimmed 0 (x ∷ xs)) ∷ []))
+    Says v Values (variable_text look (x ∷ xs)) (Listed look.name (Characters (printed look.trimmed 0 (x ∷ xs)) ∷ []))
 line_says v look x xs name ty h small =
-    let r = shown look.trimmed 0 (x ∷ xs) in
+    let r = printed look.trimmed 0 (x ∷ xs) in
     statement_says v Values (variable_text look (x ∷ xs)) (word (escaped_name look.name)) (mark 61) (string r ∷ []) (Listed look.name (Characters r ∷ [])) refl
     (line_closed look x xs name ty h small) (name_starts look.name name)
     (listed_fine v (escaped_name look.name) (string r) [] refl)

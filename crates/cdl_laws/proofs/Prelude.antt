@@ -29,7 +29,7 @@ pub use Rattle.cdl_statements.specs.declared.{fault.CdlFault.CdlFault, fault.Cdl
 pub use Rattle.cdl_statements.specs.declared.fault.CdlKind.TheVariants.{BadName, BadNumber, BadShape, BadToken, DuplicateData, DuplicateName, FloatingType, MixedConstants, NumberRange, StringTooLong, Syntax, TooLarge, TooManyValues, TwoRecordDims, UnknownDimension, UnknownType, UnknownVariable, WrongKind, ZeroDimension}
 pub use Rattle.cdl_statements.specs.declared.section.Section.TheVariants.{Closed, Dimensions, Ended, Globals, Unopened, Values, Variables}
 pub use Rattle.cdl_tokens.proofs.Strings.{or_zero, stands_for, plain_small}
-pub use Rattle.cdl_tokens.specs.Bytes.{may_begin_word, digit_value, goes_on_number, goes_on_word, is_blank, is_digit, is_escapable, is_escape, is_hex, is_octal, is_sign, number_in}
+pub use Rattle.cdl_tokens.specs.Bytes.{is_mark_byte, may_begin_word, digit_value, goes_on_number, goes_on_word, is_blank, is_digit, is_escapable, is_escape, is_hex, is_octal, is_sign, number_in}
 pub use Rattle.cdl_tokens.specs.Escapes.{up_to_255, escaped_character, inner, number_escape, plain_escape, string_value, unescape}
 unfoldable pub use Rattle.cdl_tokens.specs.Escapes.{character, unescape_at, word_value}
 pub use Rattle.cdl_tokens.specs.Numerals.{Numeral, Parts, has_suffix, in_base, number, with_sign}
@@ -42,7 +42,7 @@ pub use Rattle.cdl_tokens.specs.declared.{scan.Scanned.Scanned, token.Token.Toke
 pub use Rattle.cdl_tokens.specs.declared.token.TokenKind.TheVariants.{Bad, Text, Word}
 pub use Rattle.nc_base.specs.Bytes.{AreBytes}
 unfoldable pub use Rattle.nc_base.specs.Bytes.{concat_parts}
-pub use Rattle.nc_base.specs.Dump.{VariableValues, Ending, Options, shown_data, dump_text, has_dimension, has_name, has_values, is_chosen, is_selected, selection_of, shown, shown_data_text, unknown, with_variable, whole}
+pub use Rattle.nc_base.specs.Dump.{DataText, variables_text, VariableValues, Ending, Options, shown_data, dump_text, has_dimension, has_name, has_values, is_chosen, is_selected, selection_of, shown, shown_data_text, unknown, with_variable, whole}
 pub use Rattle.nc_base.specs.Datasets.{IsText, values_in_dataset}
 unfoldable pub use Rattle.nc_base.specs.Dump.{closing_word, data_word}
 pub use Rattle.nc_base.specs.Escapes.{begins_with_digit_or_mark, escaped_in_name, escaped_in_string, is_name_mark, is_plain, octal_escape, reserved_words}
@@ -60,9 +60,11 @@ pub use Rattle.nc_base.specs.NumberLaws.{IsInRange}
 pub use Rattle.nc_base.specs.Numbers.{bytes_of_number, number_of, numbers_from}
 unfoldable pub use Rattle.nc_base.specs.Numbers.{numbers}
 pub use Rattle.nc_base.specs.Sayable.{AreDistinct, AreSayableAtts, HasSomeNumber, IsSayable, IsSayableVar, trimmed, trimmed_att, trimmed_header, trimmed_var}
-pub use Rattle.nc_base.specs.Types.{all_types, code_of, number_suffix, size_of, type_word}
-pub use Rattle.nc_base.specs.ValueText.{Look, begins_row, char_lead, char_text, column, held, is_char, is_nul, line_break, number_lead, number_text, row_len, row_so_far}
-unfoldable pub use Rattle.nc_base.specs.ValueText.{char_piece, variable_closing, look_of, number_piece, variable_opening, piece, pieces, variable_prefix, variable_text}
+pub use Rattle.nc_base.specs.Types.{default_fill_of, all_types, code_of, number_suffix, size_of, type_word}
+pub use Rattle.nc_base.specs.ValueText.{Look, begins_row, char_lead, column, is_char, line_break, number_lead, number_text, row_len}
+unfoldable pub use Rattle.nc_base.specs.ValueText.{variable_closing, look_of, number_piece, variable_opening, variable_prefix, variable_text}
+pub use Rattle.nc_base.specs.code.LaterPieces.{is_nul}
+unfoldable pub use Rattle.nc_base.specs.code.LaterPieces.{piece, pieces}
 pub use Rattle.nc_base.specs.Versions.{count_limit, has_type, offset_limit}
 pub use Rattle.nc_base.specs.declared.{dataset.Dataset.Dataset, header.Att.Att, header.Dim.Dim, header.Header.Header, header.Var.Var, nc_type.NcType.NcType, version.Version.Version}
 pub use Rattle.nc_base.specs.declared.header.NumRecs.TheVariants.{Known, Streaming}
@@ -94,7 +96,9 @@ pub use Rattle.nc_base.proofs.SoundLaws.{some_product, some_size, some_count}
 pub use Rattle.nc_base.proofs.HeaderSpelled.{some-limit}
 pub use Rattle.nc_base.proofs.Found.{all-at}
 pub use Rattle.cdl_tokens.proofs.PlainStrings.{inner_of}
-pub use Rattle.nc_base.proofs.ValueLaws.{escaped-append, look-type, length-numbers_from}
+pub use Rattle.nc_base.proofs.ValueLaws.{look-type, length-numbers_from}
+pub use Rattle.nc_base.proofs.CharacterRows.{IsWide, prefix_is, pieces_are, a_row, printed_more}
+unfoldable pub use Rattle.nc_base.proofs.CharacterRows.{char_pieces, printed}
 pub use Rattle.nc_base.proofs.FilePlaces.{length-numbers}
 pub use Rattle.cdl_meaning.proofs.InRange.{is_had}
 pub use Rattle.cdl_laws.proofs.Lists.{Each, all_of, each_map, each_of}

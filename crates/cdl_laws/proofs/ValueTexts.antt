@@ -1,6 +1,6 @@
 -- The listed numbers of a variable are read back, wherever the breaks are.
-use Rattle.std.proofs.Common.{◌≡◌, ℕ, ◌+◌, ◌^◌, ◌<◌, ◌≤◌, Bool, true, false, List, [], ◌∷◌, ◌++◌, length, map, sym, ◌∙◌, ap, refl, arith, append_assoc, append-nil, length-append, ℤ, unsigned_abs, ◌&&◌, ◌||◌, not, if◌then◌else◌, nat_lt, Some, Result, Ok, codes}
-use Rattle.cdl_laws.proofs.Prelude.{signed_decimal, flat_map, list_all, int_eq, mod-eq_of_lt, zero-mod, false≢true, concat_parts, escaped_name, Int, Version, IsName, Look, is_char, number_text, number_lead, line_break, begins_row, column, number_piece, piece, pieces, variable_opening, variable_closing, variable_prefix, variable_text, CdlKind, Lexeme, is_mark, lexemes_at, scan, Value, Number, Underscore, members, each, both, constant, constants, constants_are, constants_by, Capacity, Numbers, add_number, has_number, in_turn, listing_of, and_left, and_right, is_off, word_at_start, lt-ltb, Each, ◌>>=◌}
+use Rattle.std.proofs.Common.{◌≡◌, ℕ, ◌+◌, ◌^◌, ◌<◌, ◌≤◌, Bool, true, false, List, [], ◌∷◌, ◌++◌, length, map, sym, ◌∙◌, ap, refl, subst, arith, append_assoc, append-nil, length-append, ℤ, unsigned_abs, ◌&&◌, ◌||◌, not, if◌then◌else◌, nat_lt, Some, Result, Ok, codes}
+use Rattle.cdl_laws.proofs.Prelude.{signed_decimal, flat_map, list_all, int_eq, mod-eq_of_lt, zero-mod, false≢true, concat_parts, escaped_name, Int, Version, IsName, Look, is_char, number_text, number_lead, line_break, begins_row, column, number_piece, piece, pieces, variable_opening, variable_closing, variable_text, prefix_is, CdlKind, Lexeme, is_mark, lexemes_at, scan, Value, Number, Underscore, members, each, both, constant, constants, constants_are, constants_by, Capacity, Numbers, add_number, has_number, in_turn, listing_of, and_left, and_right, is_off, word_at_start, lt-ltb, Each, ◌>>=◌}
 use Rattle.cdl_laws.proofs.Texts.{Closed, Reads, Stops, closed_both, then_reads, closed_by, reads_both, mark, word, number, name_word, word_reads, stop_word}
 use Rattle.cdl_laws.proofs.Numerals.{number_reads, value_again}
 
@@ -184,13 +184,14 @@ listed look x xs = word (escaped_name look.name) ∷ mark 61 ∷ value_lexeme lo
 
 pub numbers_closed : (look : Look) (x : ℤ) (xs : List ℤ) → IsName look.name → is_char look.ty ≡ false → (look.in_rows ≡ false → length (x ∷ xs) ≤ look.row) → AreSmall (x ∷ xs) →
     Closed (variable_text look (x ∷ xs)) (listed look x xs ++ mark 59 ∷ [])
-unfolding variable_text variable_prefix
+unfolding variable_text
 numbers_closed look x xs name h small fit =
+    subst (λ (t : List ℕ). Closed (t ++ variable_closing look) (listed look x xs ++ mark 59 ∷ [])) (sym (prefix_is look (x ∷ xs) (λ char some. absurd (false≢true (sym h ∙ char))))) (
     closed_by (variable_opening look ++ pieces look (variable_opening look) [] (x ∷ xs)) (variable_closing look) (listed look x xs) (mark 59 ∷ [])
     (then_reads (variable_opening look) (pieces look (variable_opening look) [] (x ∷ xs)) (word (escaped_name look.name) ∷ mark 61 ∷ []) (value_lexeme look x ∷ commas (map (value_lexeme look) xs))
     (opening_closed look name) (all_read look (variable_opening look) x xs h small fit))
     (rw (number_closing look h) (λ rest. refl))
-    (rw (number_closing look h) semicolon_closed)
+    (rw (number_closing look h) semicolon_closed))
 
 -- ---- what they say
 

@@ -48,7 +48,7 @@ columns_left_next look xs p q x is following next =
     let text = number_text look x in
     let gap = next_gap look p (length text) in
     let whole : variable_prefix look (xs ++ x ∷ []) ≡ (prefix ++ gap_bytes gap) ++ text
-    = prefix-append look xs (x ∷ []) ∙ ap (λ (t : List ℕ). prefix ++ t) (sym (bytes_are look xs p x is following)) ∙ sym (append_assoc prefix (gap_bytes gap) text) in
+    = prefix-append look xs (x ∷ []) (λ char some. absurd (false≢true (sym is ∙ char))) ∙ ap (λ (t : List ℕ). prefix ++ t) (sym (bytes_are look xs p x is following)) ∙ sym (append_assoc prefix (gap_bytes gap) text) in
     let col = ap column whole ∙ column-flat (prefix ++ gap_bytes gap) text (number_flat look x) in
     let columns_left = columns_left_is gap prefix p.columns_left look.width (following.columns_left is) in
     omega (arith, col, columns_left, next.columns_left)

@@ -11,7 +11,8 @@ pub use Rattle.devices.proofs.Writes.{IsWritten, append-none, appended_partway, 
 pub use Rattle.devices.specs.Sinks.{Appended, FailedPartway, SinkView}
 pub use Rattle.devices.specs.code.SinkWrites.{Written}
 unfoldable pub use Rattle.devices.specs.Sinks.{append, is_transparent}
-pub use Rattle.nc_base.proofs.ValueLaws.{column-broken, column-flat, held_first, held_nul, held_other, held_untrimmed, later-append, later_none, later_one, number_flat, place-add, prefix-append, prefix_nil, escaped-append, length-numbers_from}
+pub use Rattle.nc_base.proofs.ValueLaws.{column-broken, column-flat, held_first, held_nul, held_other, held_untrimmed, later-append, later_none, later_one, number_flat, place-add, prefix-append, prefix_nil, length-numbers_from}
+pub use Rattle.nc_base.proofs.CharacterRows.{escaped-append}
 unfoldable pub use Rattle.nc_base.specs.Bytes.{concat_parts}
 pub use Rattle.nc_base.specs.Escapes.{begins_with_digit_or_mark, escaped_in_name, escaped_in_string}
 pub use Rattle.nc_base.specs.code.Quoted.{is_literal, escaped_in, stands_for_itself}
@@ -21,9 +22,10 @@ unfoldable pub use Rattle.nc_base.specs.HeadText.{att_line, att_lines, dim_line,
 pub use Rattle.nc_base.specs.Numbers.{number_of, numbers_from}
 unfoldable pub use Rattle.nc_base.specs.Numbers.{numbers}
 pub use Rattle.nc_base.specs.Types.{number_suffix, size_of}
-pub use Rattle.nc_base.specs.ValueText.{Look, begins_row, char_lead, char_text, column, held, is_char, line_break, number_lead, number_text}
-pub use Rattle.nc_base.specs.code.LaterPieces.{later_pieces}
-unfoldable pub use Rattle.nc_base.specs.ValueText.{char_piece, look_of, number_piece, variable_opening, piece, pieces, variable_prefix}
+pub use Rattle.nc_base.specs.ValueText.{Look, begins_row, char_lead, column, is_char, line_break, number_lead, number_text}
+unfoldable pub use Rattle.nc_base.specs.ValueText.{look_of, number_piece, variable_opening, variable_prefix}
+pub use Rattle.nc_base.specs.code.LaterPieces.{char_text, held, later_pieces}
+unfoldable pub use Rattle.nc_base.specs.code.LaterPieces.{char_piece, piece, pieces}
 pub use Rattle.nc_base.specs.declared.nc_type.NcType.{NcType}
 pub use Rattle.nc_base.specs.declared.nc_type.NcType.TheVariants.{Byte, Char, Int, Int64, Short, Ubyte, Uint, Uint64, Ushort}
 pub use Rattle.std.proofs.Math.Nat.{div-eq-sub-div, div-eq_of_lt, div-mul-le_self, le_of_mul-le-mul_right, mul-div_cancel, mul-le-mul_right, zero-mod}

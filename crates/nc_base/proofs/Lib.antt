@@ -8,6 +8,7 @@ pub mod SoundLaws
 pub mod Found
 pub mod Extents
 pub mod SoundSpelling
+pub mod CharacterRows
 pub mod ValueLaws
 pub mod WholeValues
 pub mod SlabBytes

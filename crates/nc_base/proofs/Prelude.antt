@@ -10,7 +10,7 @@ pub use Rattle.nc_base.specs.GeneratedFile.{atts_spelling, begin_after, blocks, 
 unfoldable pub use Rattle.nc_base.specs.GeneratedFile.{att_spelling, data_of, dim_spelling, file_of, fill_bytes, header_spelling, magic_spelling, padded_slab, var_spelling, with_begins, word_spelling}
 pub use Rattle.nc_base.specs.Grammar.{ElementSpelling, IsWithinLimits, SpellsAtt, SpellsAtts, SpellsCount, SpellsCounted, SpellsDim, SpellsDimid, SpellsEach, SpellsHeader, SpellsList, SpellsName, SpellsNumRecs, SpellsNumber, SpellsPadded, SpellsType, SpellsVar, absent, attribute_tag, dimension_tag, present, variable_tag, IsDimid}
 pub use Rattle.nc_base.specs.Headers.{AreArrays, AreDimids, HasValidNames, HasWholeValues, IsArray, IsGood, IsSound, IsSoundAtt, IsSoundDim, IsSoundNumRecs, IsSoundVar, bare, bare_var}
-pub use Rattle.nc_base.specs.Sizes.{has_record_dim, value_count, dim_len, is_narrow, is_record_dim, is_record_var, least_begin, padded_size, padded_total, product, record_count, record_limit, record_size, record_size_of, record_vars, records_between, slab_count, slab_lens, slab_limit, slab_size}
+pub use Rattle.nc_base.specs.Sizes.{has_record_dim, value_count, dim_len, is_narrow, is_record_dim, is_record_var, is_record_shape, least_begin, padded_size, padded_total, product, record_count, record_limit, record_size, record_size_of, record_vars, records_between, slab_count, slab_lens, slab_limit, slab_size}
 pub use Rattle.nc_base.specs.Names.{IsName}
 pub use Rattle.nc_base.specs.Numbers.{bytes_of_number, number_of, numbers_from}
 unfoldable pub use Rattle.nc_base.specs.Numbers.{numbers}
@@ -19,9 +19,11 @@ pub use Rattle.nc_base.specs.code.Extents.{extent_end, end_after}
 unfoldable pub use Rattle.nc_base.specs.Places.{value_offsets}
 pub use Rattle.nc_base.specs.code.SizeParts.{slab_of, checked_record_size, extent_sum, least_record_begin, has_small_slab, is_fixed_dim, lesser, slab_at}
 pub use Rattle.nc_base.specs.Types.{code_of, size_of}
-pub use Rattle.nc_base.specs.ValueText.{Look, column, held, is_nul, number_text, row_so_far}
-pub use Rattle.nc_base.specs.code.LaterPieces.{later_pieces}
-unfoldable pub use Rattle.nc_base.specs.ValueText.{char_piece, variable_closing, look_of, number_piece, variable_opening, piece, pieces, variable_prefix, variable_text}
+pub use Rattle.nc_base.specs.HeadText.{without_trailing_nuls}
+pub use Rattle.nc_base.specs.ValueText.{Look, begins_row, char_lead, column, is_char, number_text, printed_bytes, row_len, row_text}
+unfoldable pub use Rattle.nc_base.specs.ValueText.{characters_text, variable_closing, look_of, number_piece, number_pieces, variable_opening, variable_prefix, variable_text}
+pub use Rattle.nc_base.specs.code.LaterPieces.{char_text, held, is_nul, later_pieces, row_so_far}
+unfoldable pub use Rattle.nc_base.specs.code.LaterPieces.{char_piece, piece, pieces}
 pub use Rattle.nc_base.specs.Versions.{count_limit, count_width, has_type, offset_limit, offset_width, streaming_mark, version_byte}
 pub use Rattle.nc_base.specs.code.ListedRows.{AreRowEnds, StandAt}
 unfoldable pub use Rattle.nc_base.specs.code.ListedRows.{filled_rows, row_start}
@@ -32,13 +34,13 @@ pub use Rattle.nc_base.specs.declared.nc_type.NcType.TheVariants.{Byte, Char, In
 pub use Rattle.nc_base.specs.declared.version.Version.TheVariants.{Cdf1, Cdf2, Cdf5}
 pub use Rattle.std.proofs.Math.Nat.{div-lt_iff_lt-mul, div-mul-le_self, mod-add-div, mod-add-mod, mod-eq-sub-div-mul, mod-lt, mod-zero, mod_self, mul-div_cancel, mul-le-mul_left, mul-le-mul_right}
 pub use Rattle.std.proofs.Math.Seq.{take-add, take-append_seam}
-pub use Rattle.std.proofs.lemmas.Bool.{cases_lt, cond-false, cond-true, eq-eqb, eqb-false, eqb-true, false_from_ne_true, le-leb, le-ltb, leb-true, lt-ltb, ltb-false, ltb-true}
+pub use Rattle.std.proofs.lemmas.Bool.{false≢true, cases_lt, cond-false, cond-true, eq-eqb, eqb-false, eqb-true, false_from_ne_true, le-leb, le-ltb, leb-true, lt-ltb, ltb-false, ltb-true}
 pub use Rattle.std.proofs.lemmas.Bool.Decides.{leb_tells, nat_tests}
 pub use Rattle.std.proofs.lemmas.Grind.{common_steps, flat_map-append}
-pub use Rattle.std.proofs.lemmas.List.{append-nil, drop-append-le, drop-drop, drop-replicate, drop_all, drop_at, drop_min, drop_more, length-append, length-drop, length-map, length-replicate, length-reverse, length-take, length-take-le, map-append, nil_from_length, reverse-append, take-append-drop, take-append-le, take_all, take_at}
+pub use Rattle.std.proofs.lemmas.List.{append-nil, get_or-replicate, drop-append-le, drop-drop, drop-replicate, drop_all, drop_at, drop_min, drop_more, length-append, length-drop, length-map, length-replicate, length-reverse, length-take, length-take-le, map-append, nil_from_length, reverse-append, take-append-drop, take-append-le, take_all, take_at}
 pub use Rattle.std.proofs.lemmas.List.Elements.{All-append, All-cons, All-filter, All-from_get_or, All-from_recursion, All-get_or, All-head, All-map, All-nil, All-tail, All-weaker, filter-append, filter_more}
 pub use Rattle.std.proofs.lemmas.List.Folds.{concat-append, list_all-append, list_any_at, prefix_len-append}
-pub use Rattle.std.proofs.lemmas.List.Sums.{fails_before_first, length-filter, position_or_len_is, prefix_len-le-length, suffix_len_is, sum-map, sum_by-append, sum_by-cons, sum_by_push}
+pub use Rattle.std.proofs.lemmas.List.Sums.{fails_before_first, length-filter, position_or_len_is, prefix_len-le-length, suffix_len-le-length, suffix_len_is, sum-map, sum_by-append, sum_by-cons, sum_by_push}
 pub use Rattle.std.proofs.lemmas.Nat.{be_bytes_2, be_bytes_4, be_bytes_8, div-mul-add, from_be_bytes-to_be_bytes_2, from_be_bytes-to_be_bytes_4, from_be_bytes-to_be_bytes_8, mod-mul-add}
 pub use Rattle.std.specs.Fmt.{decimal, digit_glyph, digits_onto, signed_decimal}
 unfoldable pub use Rattle.std.specs.Fmt.{digits}

@@ -1,6 +1,7 @@
 -- The text of a variable's values, cut in pieces.
 use Rattle.std.proofs.Common.{◌≡◌, ℕ, zero, suc, ℤ, pos, ◌+◌, ◌*◌, ◌/◌, ◌%◌, ◌<◌, ◌≤◌, Bool, true, false, cond, eqb, not, List, [], ◌∷◌, ◌++◌, length, drop, reverse, sym, ◌∙◌, ap, refl, arith, append_assoc, length-append, append-nil, ⊎_elim, codes, ◌==◌}
-use Rattle.nc_base.proofs.Prelude.{decimal, signed_decimal, digit_glyph, digits_onto, digits, suffix_len, prefix_len, mod-add-mod, mod_self, mod-lt, mod-zero, cases_lt, eq-eqb, eqb-true, eqb-false, cond-true, cond-false, reverse-append, length-reverse, drop-append-le, drop_all, prefix_len-append, mod-mul-add, Look, column, number_text, is_nul, held, piece, pieces, variable_opening, variable_prefix, later_pieces, flat_map-append, escaped_text, escaped_in_string, look_of, NcType, Header, Var, numbers_from, size_of}
+use Rattle.nc_base.proofs.Prelude.{false≢true, decimal, signed_decimal, digit_glyph, digits_onto, digits, suffix_len, prefix_len, mod-add-mod, mod_self, mod-lt, mod-zero, cases_lt, eq-eqb, eqb-true, eqb-false, cond-true, cond-false, reverse-append, length-reverse, drop-append-le, drop_all, prefix_len-append, mod-mul-add, Look, is_char, column, number_text, is_nul, held, piece, pieces, variable_opening, variable_prefix, later_pieces, look_of, NcType, Header, Var, numbers_from, size_of}
+use Rattle.nc_base.proofs.CharacterRows.{IsWide, pieces_are, prefix_is}
 
 -- ---- cutting the values
 
@@ -12,12 +13,23 @@ pieces-append look before values (x ∷ xs) ys =
     let p = piece look before values x in
     ap (λ (r : List ℕ). p ++ r) (pieces-append look (before ++ p) (values ++ x ∷ []) xs ys) ∙ simp append_assoc
 
-pub prefix-append : (look : Look) (xs ys : List ℤ) → variable_prefix look (xs ++ ys) ≡ variable_prefix look xs ++ later_pieces look xs ys
-unfolding variable_prefix
-prefix-append look xs ys = grind (arith, variable_opening, pieces-append, append_assoc, pieces)
+pub prefix-append : (look : Look) (xs ys : List ℤ) → IsWide look (length (xs ++ ys)) → variable_prefix look (xs ++ ys) ≡ variable_prefix look xs ++ later_pieces look xs ys
+prefix-append look xs ys wide =
+    let o = variable_opening look in
+    let first : variable_prefix look xs ≡ o ++ pieces look o [] xs = prefix_is look xs (λ e some. wide e (omega (arith, some, length-append xs ys))) in
+    prefix_is look (xs ++ ys) wide
+    ∙ ap (λ (t : List ℕ). o ++ t) (pieces-append look o [] xs ys)
+    ∙ sym (append_assoc o (pieces look o [] xs) (pieces look (o ++ pieces look o [] xs) xs ys))
+    ∙ ap (λ (t : List ℕ). t ++ pieces look t xs ys) (sym first)
 
+-- the pieces of characters don't depend on the text before them
 pub later-append : (look : Look) (xs ys zs : List ℤ) → later_pieces look xs (ys ++ zs) ≡ later_pieces look xs ys ++ later_pieces look (xs ++ ys) zs
-later-append look xs ys zs = grind (arith, pieces-append, pieces, prefix-append)
+later-append look xs ys zs =
+    pieces-append look (variable_prefix look xs) xs ys zs ∙ ap (λ (t : List ℕ). later_pieces look xs ys ++ t) (by (is_char look.ty) refl)
+  where
+    by : (b : Bool) → is_char look.ty ≡ b → pieces look (variable_prefix look xs ++ later_pieces look xs ys) (xs ++ ys) zs ≡ later_pieces look (xs ++ ys) zs
+    by true e = pieces_are look (variable_prefix look xs ++ later_pieces look xs ys) (xs ++ ys) zs e ∙ sym (pieces_are look (variable_prefix look (xs ++ ys)) (xs ++ ys) zs e)
+    by false e = ap (λ (t : List ℕ). pieces look t (xs ++ ys) zs) (sym (prefix-append look xs ys (λ is some. absurd (false≢true (sym e ∙ is)))))
 
 -- one value alone
 pub later_one : (look : Look) (xs : List ℤ) (x : ℤ) → later_pieces look xs (x ∷ []) ≡ piece look (variable_prefix look xs) xs x
@@ -30,8 +42,8 @@ unfolding pieces
 later_none look xs = refl
 
 pub prefix_nil : (look : Look) → variable_prefix look [] ≡ variable_opening look
-unfolding pieces variable_prefix
-prefix_nil look = append-nil (variable_opening look)
+unfolding pieces
+prefix_nil look = prefix_is look [] (λ e some. absurd (omega (arith, some))) ∙ append-nil (variable_opening look)
 
 -- ---- columns
 
@@ -110,10 +122,6 @@ held_first look xs first = grind (arith, drop_all)
 -- in a variable that isn't trimmed none is held
 pub held_untrimmed : (look : Look) (xs : List ℤ) → look.trimmed ≡ false → held look xs ≡ 0
 held_untrimmed look xs untrimmed = cond-false look.trimmed _ 0 untrimmed
-
-pub escaped-append : (a b : List ℕ) → escaped_text (a ++ b) ≡ escaped_text a ++ escaped_text b
-unfolding escaped_text
-escaped-append a b = flat_map-append escaped_in_string a b
 
 pub look-type : (h : Header) (var : Var) (n width : ℕ) → (look_of h var n width).ty ≡ var.ty
 unfolding look_of

@@ -1,7 +1,12 @@
 -- Values that stand one after the other, and the first of them that is missing.
-use Rattle.std.proofs.Common.{◌≡◌, ℕ, ◌+◌, ◌*◌, ◌/◌, ◌≤◌, Bool, cond, List, [], ◌∷◌, length, drop, map, refl, ◌∙◌, ap, arith, length-append, length-take, length-drop, None, Some, All, ◌++◌}
-use Rattle.nc_base.proofs.Prelude.{concat, position, position_or_len, mul-div_cancel, le-ltb, take_at, drop_at, All-head, All-tail, NcType, size_of, number_of, numbers_from, numbers, bytes_at}
+use Rattle.std.proofs.Common.{◌≡◌, ℕ, ◌+◌, ◌*◌, ◌/◌, ◌≤◌, Bool, cond, List, [], ◌∷◌, length, drop, map, refl, ◌∙◌, ap, arith, length-append, length-take, length-drop, None, Some, All, ◌++◌, zero, suc}
+use Rattle.nc_base.proofs.Prelude.{range_with_len, concat, position, position_or_len, mul-div_cancel, le-ltb, take_at, drop_at, All-head, All-tail, NcType, size_of, number_of, numbers_from, numbers, bytes_at}
 use Rattle.nc_base.proofs.SoundLaws.{some_size}
+
+pub range-add : (i m n : ℕ) → range_with_len i (m + n) ≡ range_with_len i m ++ range_with_len (i + m) n
+range-add i zero n = ap (range_with_len i) (let none : 0 + n ≡ n = omega arith in none) ∙ ap (λ k. range_with_len k n) (let same : i ≡ i + 0 = omega arith in same)
+range-add i (suc m) n =
+    ap (range_with_len i) (let more : suc m + n ≡ suc (m + n) = omega arith in more) ∙ ap (λ (r : List ℕ). i ∷ r) (range-add (i + 1) m n ∙ ap (λ k. range_with_len (i + 1) m ++ range_with_len k n) (let same : i + 1 + m ≡ i + suc m = omega arith in same))
 
 pub map-map : {A B C : Type 0} (g : B → C) (f : A → B) (xs : List A) → map g (map f xs) ≡ map (λ x. g (f x)) xs
 map-map g f [] = refl

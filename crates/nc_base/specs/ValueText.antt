@@ -1,13 +1,14 @@
 -- Definition. The text of a variable's values, as the data section of a dump shows them.
-use Rattle.std.specs.Prelude.{ℕ, ◌+◌, ◌-◌, ◌%◌, ◌==◌, ◌&&◌, ℤ, pos, unsigned_abs, Bool, true, false, not, nat_lt, if◌then◌else◌, List, [], ◌∷◌, ◌++◌, length, drop, replicate, slice_index, is_some, codes}
+use Rattle.std.specs.Prelude.{ℕ, ◌+◌, ◌-◌, ◌%◌, ◌==◌, ◌&&◌, ℤ, pos, unsigned_abs, Bool, true, false, not, nat_lt, if◌then◌else◌, List, [], ◌∷◌, ◌++◌, length, map, filter, take, drop, slice_index, is_some, codes}
 use Rattle.std.specs.Str.{byte}
 use Rattle.std.specs.Fmt.{signed_decimal}
-use Rattle.std.specs.List.{suffix_len}
+use Rattle.std.specs.List.{flat_map, range_with_len, suffix_len}
 use Rattle.std.specs.Ordering.{int_eq}
 use Rattle.nc_base.specs.declared.{header.Dim.Dim, header.Header.Header, header.Var.Var, nc_type.NcType.NcType, nc_type.NcType.TheVariants.Char}
 use Rattle.nc_base.specs.Bytes.{Bytes, concat_parts}
 use Rattle.nc_base.specs.Escapes.{escaped_name, escaped_text}
 use Rattle.nc_base.specs.Fill.{fill_value, own_fill, prints_fill}
+use Rattle.nc_base.specs.HeadText.{without_trailing_nuls}
 use Rattle.nc_base.specs.Sizes.{value_count, dim_len, is_record_var}
 
 -- ---- what the text depends on
@@ -56,7 +57,7 @@ look_of h var records width = record {
   width = width;
 }
 
--- value i, from 0, is its row's first
+-- value i, from 0, is its row's first (a row has no values only if the variable has none)
 abbrev pub begins_row : Look → ℕ → Bool
 begins_row look i = i % look.row == 0
 
@@ -76,7 +77,7 @@ number_lead look i =
     else codes ", "
 
 -- The break before value i, whose text has len bytes; `with_lead` is the text so far with the lead of value i. There is one if the last
--- line of `with_lead`, the value and two bytes more (`, ` or ` ;`) would pass the width, but never before a row's first number.
+-- line of `with_lead`, the value and two bytes more, for what comes after it, would pass the width, but never before a row's first number.
 abbrev pub line_break : Look → Bytes → ℕ → ℕ → Bytes
 line_break look with_lead i len =
     if not (begins_row look i) && nat_lt look.width (column with_lead + len + 2) then codes "\n    " else []
@@ -88,49 +89,34 @@ number_piece look before i value =
     let text = number_text look value in
     (lead ++ line_break look (before ++ lead) i (length text)) ++ text
 
+-- these numbers, beginning with value i, after this text
+unfoldable pub number_pieces : Look → Bytes → ℕ → List ℤ → Bytes
+number_pieces look before i [] = []
+number_pieces look before i (value ∷ others) =
+    let next = number_piece look before i value in
+    next ++ number_pieces look (before ++ next) (i + 1) others
+
 -- ---- characters
 
--- In a trimmed row a NUL is held back. The next other character of the row has the text of the held NULs and its own: of a, NUL, NUL, b, NUL
--- the pieces are `a`, nothing, nothing, `\000\000b` and nothing. (No character's value is negative.)
-
--- what comes before value i, its row's first
+-- what comes before a row that begins with value i
 abbrev pub char_lead : Look → ℕ → Bytes
 char_lead look i = if look.in_rows then (if i == 0 then codes "\n  \"" else codes "\",\n  \"") else codes " \""
 
-abbrev pub is_nul : ℤ → Bool
-is_nul value = unsigned_abs value == 0
+-- the bytes of a row that are printed (no character's value is negative)
+abbrev pub printed_bytes : Look → List ℤ → Bytes
+printed_bytes look row =
+    let bytes = map unsigned_abs row in
+    if look.trimmed then without_trailing_nuls bytes else bytes
 
--- of the values so far, those in the row of the next one
-abbrev pub row_so_far : Look → List ℤ → List ℤ
-row_so_far look values = drop (length values - length values % look.row) values
+-- the row that begins with value i, as far as these values go, with what comes before it
+abbrev pub row_text : Look → List ℤ → ℕ → Bytes
+row_text look values i = char_lead look i ++ escaped_text (printed_bytes look (take look.row (drop i values)))
 
--- how many NULs are held back before the next value
-abbrev pub held : Look → List ℤ → ℕ
-held look values = if look.trimmed then suffix_len is_nul (row_so_far look values) else 0
-
--- a character, with the NULs held before it; nothing for a NUL that is held itself
-abbrev pub char_text : Look → ℕ → ℤ → Bytes
-char_text look nuls value =
-    if look.trimmed && is_nul value then [] else escaped_text (replicate nuls 0 ++ unsigned_abs value ∷ [])
-
-unfoldable pub char_piece : Look → List ℤ → ℤ → Bytes
-char_piece look values value =
-    (if begins_row look (length values) then char_lead look (length values) else [])
-    ++ char_text look (held look values) value
+-- the rows, one after the other: one for each value that begins a row
+unfoldable pub characters_text : Look → List ℤ → Bytes
+characters_text look values = flat_map (row_text look values) (filter (begins_row look) (range_with_len 0 (length values)))
 
 -- ---- values
-
--- a value, with what comes before it: a number after the text so far (`before`), a character after the values so far
-unfoldable pub piece : Look → Bytes → List ℤ → ℤ → Bytes
-piece look before values value =
-    if is_char look.ty then char_piece look values value else number_piece look before (length values) value
-
--- values, after this text and the values before
-unfoldable pub pieces : Look → Bytes → List ℤ → List ℤ → Bytes
-pieces look before values [] = []
-pieces look before values (value ∷ others) =
-    let next = piece look before values value in
-    next ++ pieces look (before ++ next) (values ++ value ∷ []) others
 
 unfoldable pub variable_opening : Look → Bytes
 variable_opening look = concat_parts (codes "\n " ∷ escaped_name look.name ∷ codes " =" ∷ [])
@@ -138,9 +124,11 @@ variable_opening look = concat_parts (codes "\n " ∷ escaped_name look.name ∷
 unfoldable pub variable_closing : Look → Bytes
 variable_closing look = if is_char look.ty then codes "\" ;\n" else codes " ;\n"
 
--- the opening and the first values
+-- the opening and these values: all of the variable, or those before a missing one
 unfoldable pub variable_prefix : Look → List ℤ → Bytes
-variable_prefix look values = variable_opening look ++ pieces look (variable_opening look) [] values
+variable_prefix look values =
+    let opening = variable_opening look in
+    opening ++ (if is_char look.ty then characters_text look values else number_pieces look opening 0 values)
 
 unfoldable pub variable_text : Look → List ℤ → Bytes
 variable_text look values = variable_prefix look values ++ variable_closing look

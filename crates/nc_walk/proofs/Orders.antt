@@ -1,6 +1,6 @@
 -- The offsets of a variable's values by their index vectors are those by their numbers, in the same order.
 use Rattle.std.proofs.Common.{◌≡◌, ℕ, zero, suc, ◌+◌, ◌*◌, ◌/◌, ◌%◌, ◌<◌, Bool, List, [], ◌∷◌, ◌++◌, length, map, sym, ◌∙◌, ap, refl, arith, if◌then◌else◌}
-use Rattle.nc_walk.proofs.Prelude.{flat_map, range_with_len, map-append, length-map-range_with_len, div-mul-add, mod-mul-add, mod_below, div-add-mod', Var, Header, size_of, product, is_record_var, slab_lens, record_size, value_count, vectors_below, slab_strides, distance, value_offset, value_offsets, lens_over, Slabs, total, offset, offsets_from, slabs_of, AreSlabsOf, Starts, standing, map-map, some_right}
+use Rattle.nc_walk.proofs.Prelude.{range-add, flat_map, range_with_len, map-append, length-map-range_with_len, div-mul-add, mod-mul-add, mod_below, div-add-mod', Var, Header, size_of, product, is_record_var, slab_lens, record_size, value_count, vectors_below, slab_strides, distance, value_offset, value_offsets, lens_over, Slabs, total, offset, offsets_from, slabs_of, AreSlabsOf, Starts, standing, map-map, some_right}
 use Rattle.nc_walk.proofs.Runs.{offset_at}
 
 -- the i-th index vector in row-major order
@@ -48,13 +48,6 @@ shifted f g a k (suc n) same =
     let next : a + k + 1 ≡ a + (k + 1) = omega arith in
     ap (λ x. x ∷ map f (range_with_len (k + 1) n)) (same k (omega arith))
     ∙ ap (λ xs. g (a + k) ∷ xs) (shifted f g a (k + 1) n (λ q lt. same q (omega arith)) ∙ ap (λ (j : ℕ). map g (range_with_len j n)) (sym next))
-
-range-add : (k m n : ℕ) → range_with_len k (m + n) ≡ range_with_len k m ++ range_with_len (k + m) n
-range-add k zero n = let e : 0 + n ≡ n = omega arith in let f : k ≡ k + 0 = omega arith in ap (range_with_len k) e ∙ ap (λ (j : ℕ). range_with_len j n) f
-range-add k (suc m) n =
-    let e : suc m + n ≡ suc (m + n) = omega arith in
-    let f : k + 1 + m ≡ k + suc m = omega arith in
-    ap (range_with_len k) e ∙ ap (λ (xs : List ℕ). k ∷ xs) (range-add (k + 1) m n ∙ ap (λ (j : ℕ). range_with_len (k + 1) m ++ range_with_len j n) f)
 
 rows : (ns : List ℕ) (a n : ℕ) → flat_map (λ i. map (λ (index : List ℕ). i ∷ index) (map (vector_at ns) (range_with_len 0 (product ns)))) (range_with_len a n)
     ≡ map (λ (j : ℕ). j / product ns ∷ vector_at ns (j % product ns)) (range_with_len (a * product ns) (n * product ns))

@@ -7,7 +7,7 @@ pub use Rattle.devices.specs.Sources.{SourceView}
 pub use Rattle.devices.specs.code.SourceReads.{having_read, NoneRead, BytesRead}
 pub use Rattle.nc_base.proofs.FilePlaces.{flat_map-below, length-number, whole-padding, length-replicated}
 pub use Rattle.nc_base.proofs.SoundLaws.{some_count, some_size}
-pub use Rattle.nc_base.proofs.WholeValues.{length-whole, map-map, none-found, numbers-concat}
+pub use Rattle.nc_base.proofs.WholeValues.{length-whole, map-map, none-found, numbers-concat, range-add}
 pub use Rattle.nc_base.specs.Bytes.{padding_len}
 unfoldable pub use Rattle.nc_base.specs.Fill.{fill_value}
 pub use Rattle.nc_base.specs.GeneratedFile.{blocks, is_sole_narrow, known_records, record_of, slab_in}

@@ -1,6 +1,6 @@
 -- Showing one variable: a walk and a printer that go on together.
 use Rattle.std.proofs.Common.{◌≡◌, ℕ, ◌+◌, ◌*◌, ◌≤◌, inl, inr, Bool, List, [], ◌++◌, length, take, refl, sym, ap, ◌∙◌, append_assoc, subst, arith, Option, Some, None, Ok, Err, ℤ, slice_get, unwrap_or, IfSome, rules}
-use Rattle.ncdump.proofs.Prelude.{OnTrue, take-add, append-nil, take_all, length-append, Header, Var, size_of, numbers, value_count, stored_values, first_missing, Look, look_of, variable_opening, variable_closing, variable_prefix, variable_text, later_pieces, no_data_text, whole, data_truncated, with_variable, prefix-append, prefix_nil, SourceView, having_read, SinkView, Appended, FailedPartway, appended_then, appended_partway, Pass, Walked, HasRead, IsChunk, GivesChunk, GivesEnd, GivesCut, GivesFailure, transparent_any, transparent_map, transparent_both, look_in, HasPrinted, Printed, Stopped, Takes, Dumped, dumped, whole_values, whole_bytes, Holds, IsShown, IsUnread, IsUnwritten, look-type}
+use Rattle.ncdump.proofs.Prelude.{IsWide, wide_look, OnTrue, take-add, append-nil, take_all, length-append, Header, Var, size_of, numbers, value_count, stored_values, first_missing, Look, look_of, variable_opening, variable_closing, variable_prefix, variable_text, later_pieces, no_data_text, whole, data_truncated, with_variable, prefix-append, prefix_nil, SourceView, having_read, SinkView, Appended, FailedPartway, appended_then, appended_partway, Pass, Walked, HasRead, IsChunk, GivesChunk, GivesEnd, GivesCut, GivesFailure, transparent_any, transparent_map, transparent_both, look_in, HasPrinted, Printed, Stopped, Takes, Dumped, dumped, whole_values, whole_bytes, Holds, IsShown, IsUnread, IsUnwritten, look-type}
 use Rattle.std.proofs.Math.Nat.{mul-le-mul_right}
 use Rattle.nc_walk.specs.code.Walks.{WalkView, Starts, Steps, Advanced, count}
 use Rattle.nc_walk.specs.declared.fault.WalkFault.TheVariants as walk
@@ -91,6 +91,10 @@ module _ (is_transparent : Bool) (h : Header) (v n width buffer_len : ℕ) (w : 
     counted : length s.xs + j ≡ length (s.xs ++ ys)
     counted = omega (arith, length-append s.xs ys, ys-count)
 
+    -- a row of the variable has values
+    wide : IsWide look (length (s.xs ++ ys))
+    wide = λ is some. wide_look h s.var n width (omega (arith, some, counted, given.within))
+
     -- both have gone on
     pub showing-on : (u : WalkView) (q : ValuePrinter) (newer : SinkView) → Advanced w u (Ok (Some chunk)) → Printed ys p q new newer
         → Showing is_transparent h v n width buffer_len u q a c old newer
@@ -103,7 +107,7 @@ module _ (is_transparent : Bool) (h : Header) (v n width buffer_len : ℕ) (w : 
       values = transparent_both is_transparent (λ e g.
           ap (λ (zs : List ℤ). zs ++ ys) e ∙ ap (λ (zs : List ℤ). take (length s.xs) stored ++ zs) (ys-are ∙ g.numbers_are)
           ∙ sym (take-add (length s.xs) j stored) ∙ ap (λ (i : ℕ). take i stored) counted) s.values given.chunk_is;
-      appended = subst (Appended old newer) (sym (prefix-append look s.xs ys)) (appended_then old new newer (variable_prefix look s.xs) (later_pieces look s.xs ys) s.appended (printed.appended look s.xs s.has_printed));
+      appended = subst (Appended old newer) (sym (prefix-append look s.xs ys wide)) (appended_then old new newer (variable_prefix look s.xs) (later_pieces look s.xs ys) s.appended (printed.appended look s.xs s.has_printed));
     }
 
     -- the printer stopped inside of the chunk
@@ -118,7 +122,7 @@ module _ (is_transparent : Bool) (h : Header) (v n width buffer_len : ℕ) (w : 
         let values : s.xs ++ ys ≡ take (k + j) stored =
         ap (λ (zs : List ℤ). zs ++ ys) e ∙ ap (λ (zs : List ℤ). take k stored ++ zs) (ys-are ∙ pg.0.numbers_are) ∙ sym (take-add k j stored) in
         let text = prefix-in-text d v s.var (k + j) few in
-        let prefix : variable_prefix look (take (k + j) stored) ≡ variable_prefix look s.xs ++ later_pieces look s.xs ys = ap (variable_prefix look) (sym values) ∙ prefix-append look s.xs ys in
+        let prefix : variable_prefix look (take (k + j) stored) ≡ variable_prefix look s.xs ++ later_pieces look s.xs ys = ap (variable_prefix look) (sym values) ∙ prefix-append look s.xs ys wide in
         record {
           bytes = ap (λ (x : SourceView). x.bytes) g.handed;
           most = omega (arith, handed, most);

@@ -9,6 +9,7 @@ unfoldable pub use Rattle.devices.specs.Sinks.{IsCut, append, taken_len, is_tran
 pub use Rattle.devices.specs.Sources.{SourceView}
 pub use Rattle.devices.specs.code.SourceReads.{having_read}
 pub use Rattle.nc_base.proofs.ValueLaws.{prefix-append, prefix_nil, look-type}
+pub use Rattle.nc_base.proofs.CharacterRows.{IsWide, wide_look}
 pub use Rattle.nc_base.specs.Dump.{Ending, IsDump, first_unknown, Options, DataText, values_in_file, shown_data, data_truncated, dump_text, has_values, has_variable, no_data_text, no_such_variable, selection_of, shown, shown_data_text, stopped, unknown, with_variable, variables_text, whole, wrong_field}
 unfoldable pub use Rattle.nc_base.specs.Dump.{closing_word, data_word}
 pub use Rattle.nc_base.specs.Grammar.{SpellsHeader}
@@ -39,7 +40,7 @@ pub use Rattle.ncdump.specs.declared.fault.DumpFault.TheVariants.{DataTruncated,
 pub use Rattle.std.proofs.Math.Seq.{drop-cons, take-add}
 pub use Rattle.std.proofs.lemmas.Bool.{OnTrue_at, OnTrue_from, false≢true, lt-ltb}
 pub use Rattle.std.proofs.lemmas.Iterator.Consumers.{YieldsList-at}
-pub use Rattle.std.proofs.lemmas.List.{append-nil, drop_all, length-append, length-map, take_all}
+pub use Rattle.std.proofs.lemmas.List.{length-take, append-nil, drop_all, length-append, length-map, take_all}
 pub use Rattle.std.proofs.lemmas.Option.{get_or_from_slice_get, slice_get-get_or, slice_get_within}
 pub use Rattle.std.proofs.lemmas.Result.{IfOk-weaker, err_from_is_err_and}
 pub use Rattle.std.specs.Bool.{OnTrue, then_some}

@@ -2,8 +2,8 @@
 use Rattle.std.specs.Prelude.{ℕ, ◌≡◌, ◌+◌, ◌-◌, ◌%◌, ◌<◌, ◌≤◌, ◌==◌, ◌&&◌, ◌||◌, ℤ, Bool, true, false, not, if◌then◌else◌, List, [], ◌∷◌, ◌++◌, length, take, replicate, Some, Result, Ok, Err}
 use Rattle.nc_base.specs.Escapes.{escaped_text}
 use Rattle.nc_base.specs.Numbers.{number_of}
-use Rattle.nc_base.specs.ValueText.{Look, is_char, column, held, number_text, variable_prefix}
-use Rattle.nc_base.specs.code.LaterPieces.{later_pieces}
+use Rattle.nc_base.specs.ValueText.{Look, is_char, column, number_text, variable_prefix}
+use Rattle.nc_base.specs.code.LaterPieces.{held, later_pieces}
 use Rattle.devices.specs.Failures.{HasFailed}
 use Rattle.devices.specs.Sinks.{SinkView, Appended, FailedPartway}
 use Rattle.cdl_print.specs.code.Leads.{look_at, values, gap_bytes, gap_in_row, next_gap, next_char_lead, columns_left_after}

@@ -2,7 +2,7 @@
 use Prim.Native.String.{String}
 use Rattle.std.proofs.Common.{ℕ, ◌+◌, ◌*◌, ◌-◌, List, [], ◌∷◌, codes, filter, not, nat_lt, if◌then◌else◌, ◌==◌}
 use Rattle.std.specs.Prelude.{⊤}
-use Rattle.nc_base.proofs.Prelude.{digits, flat_map, Dataset, Att, Dim, Known, Var, NcType, Version, concat_parts, is_reserved, escaped_name, escaped_text, fill_value, word_spelling, magic_spelling, dim_spelling, att_spelling, var_spelling, header_spelling, fill_bytes, padded_slab, data_of, with_begins, file_of, number_piece, char_piece, piece, pieces, variable_opening, variable_closing, variable_prefix, variable_text}
+use Rattle.nc_base.proofs.Prelude.{digits, flat_map, Dataset, Att, Dim, Known, Var, NcType, Version, concat_parts, is_reserved, escaped_name, escaped_text, fill_value, word_spelling, magic_spelling, dim_spelling, att_spelling, var_spelling, header_spelling, fill_bytes, padded_slab, data_of, with_begins, file_of, number_piece, number_pieces, characters_text, variable_opening, variable_closing, variable_prefix, variable_text}
 
 -- ---- bytes
 
@@ -41,5 +41,5 @@ files_computed = tt
 
 -- the text of names and values
 unfoldable pub values_computed : ⊤
-unfolding concat_parts escaped_name escaped_text is_reserved digits number_piece char_piece piece pieces variable_opening variable_closing variable_prefix variable_text
+unfolding concat_parts escaped_name escaped_text is_reserved digits number_piece number_pieces characters_text variable_opening variable_closing variable_prefix variable_text
 values_computed = tt
