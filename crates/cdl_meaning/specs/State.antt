@@ -94,7 +94,8 @@ add_dim v dims d = do
 unfoldable pub type_of : Version → Lexeme → Result NcType CdlKind
 type_of v word =
     if is_word (codes "float") word || is_word (codes "real") word || is_word (codes "double") word then Err FloatingType
-    else if is_word (codes "long") word then Ok Int else ok_or (find (λ ty. has_type v ty && is_word (type_word ty) word) all_types) UnknownType
+    else if is_word (codes "long") word then Ok Int
+    else ok_or (find (λ ty. has_type v ty && is_word (type_word ty) word) all_types) UnknownType
 
 -- appends the id of a dimension; only the first may be the record dimension
 unfoldable pub add_dimid : List Dim → List ℕ → Bytes → Result (List ℕ) CdlKind
@@ -188,7 +189,7 @@ capacity_of dims var = record {
   count = slab_count dims var;
   in_rows = not (nat_lt (length var.dimids) 2);
   rows = product (map (dim_len dims) (take (length var.dimids - 1) var.dimids));
-  -- (at rank 0 and 1 that is 0)
+  -- (at rank 0 and 1, where it isn't used, this is 0)
   row = row_len dims var.dimids 0;
 }
 

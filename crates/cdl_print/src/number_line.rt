@@ -70,8 +70,9 @@ fn gather_typed(
     now
 }
 
-/// Puts the number of the type `ty` that has the big-endian bytes `value` into `text` at the end of `line`, as [`put_next_number`] does,
-/// and returns the last line after it. Needs a `fill` made of `layout`, and room for 47 bytes in `text`.
+/// Puts a number that isn't its row's first into `text` at the end of `line`, with what stands before it, and returns the last line after
+/// it. `value` has the number's bytes, big-endian, as a value of the type `ty`. Needs a `fill` made of `layout`, and room for 47 bytes in
+/// `text`.
 #[inline(always)]
 fn gather_next(
     ty: NcType,
@@ -175,9 +176,9 @@ fn put_number(text: &mut [u8], line: LastLine, width: usize, number: i128) -> La
     }
 }
 
-/// Puts what stands before a number of `len` bytes, but not the number, at the end of the line in `text`. Returns a line whose `end` is
-/// where the number begins, and whose `columns_left` already counts the number. `width` is how many bytes a line may have. Needs a `len` of
-/// at most 40, and room for 7 bytes in `text`.
+/// Puts `, ` at the end of the line in `text`, and a new line after it if a number of `len` bytes and two bytes more don't fit on this one.
+/// Doesn't put the number. Returns a line whose `end` is where the number begins, and whose `columns_left` already counts the number.
+/// `width` is how many bytes a line may have. Needs a `len` of at most 40, and room for 7 bytes in `text`: `, `, LF and four spaces.
 #[inline(always)]
 fn put_gap_in_row(text: &mut [u8], line: LastLine, width: usize, len: usize) -> LastLine
     requires short { len ≤ 40 }

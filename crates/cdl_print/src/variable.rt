@@ -87,7 +87,7 @@ fn put_dim_list<W: Sink>(sink: &mut W, dims: &[Dim], dimids: &[u64]) -> Result<(
     put(sink, b")")
 }
 
-/// Writes the names of the dimensions with the ids `dimids`, joined by commas and without parentheses.
+/// Writes the names of the dimensions with the ids `dimids`, joined by `, ` and without parentheses.
 fn put_dim_names<W: Sink>(sink: &mut W, dims: &[Dim], dimids: &[u64]) -> Result<(), WriteFailed>
     ensures { Wrote W.view sink.old sink.new (joined (map (dim_name dims.now) dimids.now)) result }
 {

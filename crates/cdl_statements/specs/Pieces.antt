@@ -7,7 +7,10 @@ use Rattle.cdl_statements.specs.declared.section.Section.TheVariants.{Dimensions
 
 -- the section that a word begins
 abbrev pub section_of : Lexeme → Option Section
-section_of l = if is_word (codes "dimensions") l then Some Dimensions else if is_word (codes "variables") l then Some Variables else if is_word (codes "data") l then Some Values else None
+section_of l =
+    if is_word (codes "dimensions") l then Some Dimensions
+    else if is_word (codes "variables") l then Some Variables
+    else if is_word (codes "data") l then Some Values else None
 
 -- such a word and a colon
 abbrev pub is_section_mark : {X : Type 0} → (X → Lexeme) → X → List X → Bool
@@ -34,12 +37,15 @@ statement_len lexeme_of (t ∷ ts) =
 -- how many tokens the piece has that begins with t; `true`: the piece before it began with `}`, so that all tokens up to End are one piece
 abbrev pub piece_len : {X : Type 0} → (X → Lexeme) → Bool → X → List X → ℕ
 piece_len lexeme_of true t ts = if is_end_kind (lexeme_of t).kind then 1 else len_before_end lexeme_of (t ∷ ts)
-piece_len lexeme_of false t ts = if is_alone (lexeme_of t) then 1 else if is_section_mark lexeme_of t ts then 2 else statement_len lexeme_of (t ∷ ts)
+piece_len lexeme_of false t ts =
+    if is_alone (lexeme_of t) then 1
+    else if is_section_mark lexeme_of t ts then 2 else statement_len lexeme_of (t ∷ ts)
 
--- the pieces of these tokens. more: how many of them belong to the piece before. closed: that piece began with `}`.
+-- The pieces of these tokens. more: how many of them belong to the piece before. after_brace: that piece began with `}`. (After what follows
+-- a `}` comes End, which is a piece in any case.)
 unfoldable pub pieces_at : {X : Type 0} → (X → Lexeme) → Bool → ℕ → List X → List (List X)
-pieces_at lexeme_of closed more [] = []
-pieces_at lexeme_of closed (suc more) (t ∷ ts) = pieces_at lexeme_of closed more ts
-pieces_at lexeme_of closed zero (t ∷ ts) =
-    let len = piece_len lexeme_of closed t ts in
+pieces_at lexeme_of after_brace more [] = []
+pieces_at lexeme_of after_brace (suc more) (t ∷ ts) = pieces_at lexeme_of after_brace more ts
+pieces_at lexeme_of after_brace zero (t ∷ ts) =
+    let len = piece_len lexeme_of after_brace t ts in
     take len (t ∷ ts) ∷ pieces_at lexeme_of (is_mark (byte "}") (lexeme_of t)) (len - 1) ts

@@ -88,17 +88,18 @@ abbrev pub if_so : {A : Type 0} → Bool → Option A → Option A
 if_so true a = a
 if_so false a = None
 
--- LENGTH, a token of this kind; Some None: the record dimension
+-- LENGTH: l, with its kind beside it; Some None: the record dimension
 abbrev pub length_of : Version → Lexeme → TokenKind → Option (Option ℤ)
 length_of v l kinds.Number = option_map (λ (n : Numeral). Some n.value) (numeral v l.bytes)
 length_of v l _ = if_so (is_word (codes "unlimited") l || is_word (codes "UNLIMITED") l) (Some None)
 
 -- NAME = LENGTH
 abbrev pub dimension : Version → List Lexeme → Option Dimension
-dimension v (n ∷ e ∷ l ∷ []) = if_so (is_mark (byte "=") e) (both (λ name len. record { name = name; len = len }) (name_of n) (length_of v l l.kind))
+dimension v (n ∷ e ∷ l ∷ []) =
+    if_so (is_mark (byte "=") e) (both (λ name len. record { name = name; len = len }) (name_of n) (length_of v l l.kind))
 dimension v _ = None
 
--- VALUE if `_` is taken, otherwise CONST: a token of this kind
+-- VALUE if `_` is taken, otherwise CONST: l, with its kind beside it
 abbrev pub constant_of : Version → Bool → Lexeme → TokenKind → Option Value
 constant_of v takes_fill l kinds.Number = option_map Number (numeral v l.bytes)
 constant_of v takes_fill l kinds.Text = Some (Characters (string_value (inner l.bytes)))
@@ -139,7 +140,8 @@ typed _ = None
 
 -- NAME : NAME = CONST, ..
 abbrev pub attribute : Version → List Lexeme → Option Statement
-attribute v (n ∷ c ∷ ls) = if_so (is_mark (byte ":") c) (option_and_then (λ name. assigned v false (Attribute (Some name)) ls) (name_of n))
+attribute v (n ∷ c ∷ ls) =
+    if_so (is_mark (byte ":") c) (option_and_then (λ name. assigned v false (Attribute (Some name)) ls) (name_of n))
 attribute v _ = None
 
 -- ---- statements
@@ -167,7 +169,8 @@ is_later before s = nat_lt (section_number before) (section_number s)
 
 -- the mark of a section that comes after this one
 abbrev pub section_mark : Section → List Lexeme → Option Statement
-section_mark before (l ∷ c ∷ []) = if_so (is_mark (byte ":") c) (option_and_then (λ s. if_so (is_later before s) (Some (Enter s))) (section_of l))
+section_mark before (l ∷ c ∷ []) =
+    if_so (is_mark (byte ":") c) (option_and_then (λ s. if_so (is_later before s) (Some (Enter s))) (section_of l))
 section_mark before _ = None
 
 -- What a piece says, if it has a shape of its section. In the other four sections it is `}`, the mark of a later section, or a statement

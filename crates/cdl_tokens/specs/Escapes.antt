@@ -17,7 +17,8 @@ up_to_255 n = if nat_lt 255 n then None else Some n
 
 -- an escape of `intro` bytes (a backslash, or a backslash and an x) and these digits; without digits, or above 255, it is no byte
 abbrev pub number_escape : ℕ → ℕ → Bytes → Character
-number_escape intro base digits = record { value = if length digits == 0 then None else up_to_255 (number_in base 0 digits); len = intro + length digits }
+number_escape intro base digits =
+    record { value = if length digits == 0 then None else up_to_255 (number_in base 0 digits); len = intro + length digits }
 
 -- the byte that a backslash and b stand for
 abbrev pub plain_escape : ℕ → ℕ

@@ -33,7 +33,8 @@ pub record Parts : Type 0 where
 -- n digits of this base, one at least, and a suffix that the version has
 abbrev pub in_base : Version → Bool → ℕ → ℕ → Bytes → Option Parts
 in_base v minus base n bs =
-    if n == 0 then None else option_map (λ ty. record { minus = minus; magnitude = number_in base 0 (take n bs); ty = ty }) (type_of_suffix v (drop n bs))
+    if n == 0 then None
+    else option_map (λ ty. record { minus = minus; magnitude = number_in base 0 (take n bs); ty = ty }) (type_of_suffix v (drop n bs))
 
 -- what comes after the sign: hexadecimal digits after `0x`, octal digits that begin with `0`, or decimal digits
 abbrev pub with_sign : Version → Bool → Bytes → Option Parts

@@ -6,7 +6,8 @@ ghost use Rattle.cdl_tokens.specs.code.PlainTokens.{BeginsString};
 use crate::bytes::byte_at;
 use crate::search::len_before_any;
 
-/// Returns the length, with quotes, of the plain string (no escape, no line feed) that the bytes begin with, or `None` if there is none.
+/// Returns the length, with both quotes, of the plain string that the bytes begin with, or `None` if they begin with none. A plain string
+/// has no escape and no line feed. The quick pass over a list takes such strings by it; all others are left to [`scan`](crate::scan::scan).
 #[inline(always)]
 #[tactic(auto, using(crate::proofs::PlainStrings::begins_string))]
 pub fn plain_string_len(bytes: &[u8]) -> Option<usize>

@@ -65,8 +65,8 @@ pub fn put_token(
     }
 }
 
-/// Appends to `array` the token's value as [`put_token`] does, but checks the token, too: `due` says which one has to stand here. Returns
-/// what capacity is left, and which token has to come next, or `Never` if `token` isn't what `due` asks for. Errs with `Unnamed` if the
+/// Appends the token's value to `array` as [`put_token`] does, and checks the token, too. Returns what capacity is left, and which token
+/// has to come next. If `due` doesn't allow this token, that is `Never`, and the value is appended all the same. Errs with `Unnamed` if the
 /// token or its value has a fault (bytes of the value may be appended then), and with `OutOfMemory` if an allocation failed.
 #[inline]
 pub fn put_checked_token(

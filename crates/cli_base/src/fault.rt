@@ -23,6 +23,7 @@ pub enum OptFault {
 impl From<AllocError> for OptFault {
     ghost from_gives = { λ _ e. e ≡ opt.OutOfMemory };
 
+    /// Turns a failed allocation into [`OptFault::OutOfMemory`], for the `?` after a call that allocates.
     fn from(_refusal: AllocError) -> OptFault {
         OptFault::OutOfMemory
     }

@@ -8,8 +8,8 @@
 //! [`SystemFiles`] opens the files of the system in both ways. A [`Creator`] creates outputs at paths: [`SystemOutputs`] in the
 //! files of the system.
 //!
-//! The module `testing` has devices for tests. [`DripSource`] gives few bytes a read and fails on request, and [`SliceSink`] fills a
-//! slice, a few bytes a call. [`MemFiles`] opens files of a list in memory, and [`MadeFiles`] creates outputs in memory.
+//! For tests, [`DripSource`] gives few bytes a read and fails on request, and [`SliceSink`] fills a slice, a few bytes a call.
+//! [`MemFiles`] opens files of a list in memory, and [`MadeFiles`] creates outputs in memory.
 //!
 //! ```
 //! let source = FileSource::open(&rt, "a.nc")?;

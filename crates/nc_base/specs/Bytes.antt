@@ -1,7 +1,7 @@
 -- Definition. Lists of bytes.
 use Rattle.std.specs.Prelude.{ℕ, ◌<◌, ◌-◌, ◌%◌, List, [], ◌∷◌, ◌++◌, slice_index}
 
--- bytes as numbers, such as a text in UTF-8
+-- the bytes of a file or of a text, as numbers
 abbrev pub Bytes : Type 0
 Bytes = List ℕ
 

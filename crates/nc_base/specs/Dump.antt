@@ -75,7 +75,7 @@ pub record VariableValues : Type 0 where
   pub values : List ℤ
   pub missing : Option ℕ
 
--- what a file with these bytes has of a variable over n records, whatever its place
+-- what a file with these bytes has of a variable over n records (its place doesn't matter; of a dataset it tells the array)
 abbrev pub values_in_file : Header → Bytes → ℕ → ℕ → Var → VariableValues
 values_in_file h bytes n _ var = record { values = stored_values h bytes var n; missing = first_missing h bytes var n }
 
@@ -104,9 +104,9 @@ variables_text d v (var ∷ vars) (mark ∷ marks) =
     else others
 variables_text d v _ _ = no_data_text
 
--- the marked ones of all variables, or none if the header alone is shown
+-- those that the selection marks of all variables, or none if the header alone is shown
 abbrev pub shown_data_text : Header → Options → (ℕ → Var → VariableValues) → ℕ → List Bool → DataText
-shown_data_text h o values_of n marks = variables_text (shown_data h values_of n o.width) 0 h.vars (if o.head_only then [] else marks)
+shown_data_text h o values_of n selection = variables_text (shown_data h values_of n o.width) 0 h.vars (if o.head_only then [] else selection)
 
 -- before the values: nothing if the header alone is shown, or has no variables
 unfoldable pub data_word : Header → Options → Bytes

@@ -13,7 +13,7 @@ use Rattle.nc_base.specs.Sizes.{has_record_dim}
 
 -- ---- fields one after the other
 
--- reading these bytes stops with this fault, and leaves this rest
+-- `InX bytes fault rest`: reading X, at the start of these bytes, stops with this fault, and leaves this rest
 abbrev pub Stops : Type 1
 Stops = Bytes → FormatFault → Bytes → Type 0
 
@@ -25,11 +25,12 @@ NoMoreFields bytes fault rest = ⊥
 abbrev pub EndsWithin : FormatFault → ℕ → Stops
 EndsWithin cut n bytes fault rest = (length bytes < n) × (fault ≡ cut) × (rest ≡ [])
 
--- a part and what follows it: reading stops in the part (`InPart`), or the part is spelled (`Spells`) with a value x, and reading stops
--- after it, in `InNext x`
+-- A part and what follows it: reading stops in the part, or the part is spelled with a value x, and reading stops after it, in `InNext x`.
+-- (The last three arguments are those of `Stops`.)
 abbrev pub Then : {A : Type 0} → (Bytes → A → Bytes → Type 0) → Stops → (A → Stops) → Stops
 Then {A = A} Spells InPart InNext bytes fault rest =
-    InPart bytes fault rest ⊎ ((x : A) × (middle : Bytes) × Spells bytes x middle × InNext x middle fault rest)
+    InPart bytes fault rest
+    ⊎ ((x : A) × (middle : Bytes) × Spells bytes x middle × InNext x middle fault rest)
 
 -- a rule on the field just read: if it is broken, reading has stopped at that field, and all that comes after it is the rest; if it holds,
 -- reading stops in what follows

@@ -117,7 +117,7 @@ data_of h arrays =
 abbrev pub fixed_vars : List Dim → List Var → List Var
 fixed_vars dims vars = filter (λ (var : Var). not (is_record_var dims var)) vars
 
--- The begin of a variable; `before` are the variables before it in the header. After the header (no begin changes its length) come the
+-- The begin of a variable; `before` are the variables before it in the header. After the header (a begin takes the same bytes, whatever it is) come the
 -- padded slabs of all fixed variables, then record 0. So a fixed variable begins after the fixed ones of `before`, and a record variable
 -- after all fixed ones and the record variables of `before`.
 abbrev pub begin_after : Header → List Var → Var → ℕ

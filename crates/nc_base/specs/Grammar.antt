@@ -60,7 +60,7 @@ pub record SpellsType (v : Version) (bytes : Bytes) (ty : NcType) (rest : Bytes)
 -- ---- lists
 
 -- how an element of a list is spelled, such as `SpellsDim v`. `Element before bytes x rest`: the bytes begin with x and go on with the rest;
--- `before` are the elements before x in its list, which some rules on x need
+-- `before` are the elements before x in its list, which rules such as "one record dimension" need
 abbrev pub ElementSpelling : Type 0 → Type 1
 ElementSpelling A = List A → Bytes → A → Bytes → Type 0
 

@@ -66,7 +66,8 @@ att_text ty vals = numbers_text ty vals
 
 -- escaped_owner: the escaped name of the variable, or nothing for the whole dataset
 unfoldable pub att_line : Bytes → Att → Bytes
-att_line escaped_owner att = concat_parts (codes "\t\t" ∷ escaped_owner ∷ codes ":" ∷ escaped_name att.name ∷ codes " = " ∷ att_text att.ty att.vals ∷ codes " ;\n" ∷ [])
+att_line escaped_owner att =
+    concat_parts (codes "\t\t" ∷ escaped_owner ∷ codes ":" ∷ escaped_name att.name ∷ codes " = " ∷ att_text att.ty att.vals ∷ codes " ;\n" ∷ [])
 
 unfoldable pub att_lines : Bytes → List Att → Bytes
 att_lines escaped_owner atts = concat_parts (map (att_line escaped_owner) atts)

@@ -34,7 +34,7 @@ strides h var =
     let of_slab = slab_strides (size_of var.ty) (slab_lens h.dims var.dimids) in
     if is_record_var h.dims var then record_size h ∷ of_slab else of_slab
 
--- how far these indices lead along these strides, of which there are as many
+-- how far these indices lead along as many strides
 abbrev pub distance : List ℕ → List ℕ → ℕ
 distance [] strides = 0
 distance (i ∷ indices) [] = 0

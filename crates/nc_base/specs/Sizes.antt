@@ -10,7 +10,7 @@ use Rattle.nc_base.specs.Types.{size_of}
 abbrev pub dim_len : List Dim → ℕ → ℕ
 dim_len dims id = slice_index (map (λ (d : Dim). d.len) dims) id
 
--- the record dimension is the one of length 0
+-- the record dimension is the one of length 0 (past the end of the list `dim_len` is 0, too)
 abbrev pub is_record_dim : List Dim → ℕ → Bool
 is_record_dim dims id = nat_lt id (length dims) && (dim_len dims id == 0)
 
@@ -83,7 +83,8 @@ abbrev pub least_begin : Var → List Var → ℕ
 least_begin var [] = var.begin_at
 least_begin var (next ∷ others) = min var.begin_at (least_begin next others)
 
--- the whole records of this size (only the record dimension has length 0, so the size isn't 0) from the least begin of these variables to the end of the file
+-- how many whole records of this size lie between the least begin of these variables and the end of the file (the size isn't 0: only the
+-- record dimension has length 0)
 abbrev pub records_between : ℕ → List Var → ℕ → ℕ
 records_between size [] file_len = 0
 records_between size (var ∷ vars) file_len = (file_len - least_begin var vars) / size

@@ -44,7 +44,7 @@ impl Model for ListedArray {
 }
 
 impl ListedArray {
-    /// Creates an array without bytes, which takes no memory from `alloc` yet.
+    /// Creates an array without bytes. It does not allocate.
     #[tactic(auto, unfolding(crate::specs::code::ListedRows::filled_rows))]
     pub fn new(alloc: Global) -> ListedArray
         ensures { result ≡ [] }

@@ -57,6 +57,7 @@ pub enum Failure {
 impl From<HeadFault> for DumpFault {
     ghost from_gives = { λ fault e. e ≡ fault_of_head fault };
 
+    /// Turns a fault of the header into the same fault of the dump, for the `?` after `read_header`.
     fn from(fault: HeadFault) -> DumpFault {
         match fault {
             HeadFault::OutOfMemory => DumpFault::OutOfMemory,
@@ -69,6 +70,7 @@ impl From<HeadFault> for DumpFault {
 impl From<AllocError> for DumpFault {
     ghost from_gives = { λ _ e. e ≡ out_of_memory };
 
+    /// Turns a failed allocation into [`DumpFault::OutOfMemory`], for the `?` after a call that allocates.
     fn from(_refusal: AllocError) -> DumpFault {
         DumpFault::OutOfMemory
     }
@@ -77,6 +79,7 @@ impl From<AllocError> for DumpFault {
 impl From<WriteFailed> for DumpFault {
     ghost from_gives = { λ _ e. e ≡ write_failed };
 
+    /// Turns a failed write into [`DumpFault::WriteFailed`], for the `?` after the write.
     fn from(_failure: WriteFailed) -> DumpFault {
         DumpFault::WriteFailed
     }
@@ -85,6 +88,7 @@ impl From<WriteFailed> for DumpFault {
 impl From<OpenFailed> for FileFault {
     ghost from_gives = { λ _ e. e ≡ CannotOpen };
 
+    /// Turns a file that can't be opened into [`FileFault::CannotOpen`], for the `?` after the opening.
     fn from(_failure: OpenFailed) -> FileFault {
         FileFault::CannotOpen
     }
@@ -93,6 +97,7 @@ impl From<OpenFailed> for FileFault {
 impl From<DumpFault> for FileFault {
     ghost from_gives = { λ fault e. e ≡ Dump fault };
 
+    /// Turns a failed dump into [`FileFault::Dump`] with its fault, for the `?` after the dump.
     fn from(fault: DumpFault) -> FileFault {
         FileFault::Dump(fault)
     }
@@ -101,6 +106,7 @@ impl From<DumpFault> for FileFault {
 impl From<OptFault> for Failure {
     ghost from_gives = { λ fault e. e ≡ command_line fault };
 
+    /// Turns a fault of the command line into [`Failure::CommandLine`] with this fault, for the `?` after the words are read.
     fn from(fault: OptFault) -> Failure {
         Failure::CommandLine(fault)
     }
@@ -110,6 +116,7 @@ impl From<OptFault> for Failure {
 impl From<SinkFailed> for Failure {
     ghost from_gives = { λ _ e. e ≡ flush };
 
+    /// Turns a failed flush into [`Failure::Flush`], for the `?` after the flush.
     fn from(_failure: SinkFailed) -> Failure {
         Failure::Flush
     }

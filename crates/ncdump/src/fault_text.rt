@@ -194,7 +194,7 @@ fn truncated_words() -> &'static [u8]
     b": data truncated at value "
 }
 
-/// Returns what each line begins with, except for the usage line.
+/// Returns the words that each line on standard error begins with, except for the usage line.
 #[tactic(auto, unfolding(crate::specs::Faults::program_words))]
 fn program_words() -> &'static [u8]
     ensures { result.now ≡ program_words }

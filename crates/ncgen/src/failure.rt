@@ -43,6 +43,7 @@ pub enum Failure {
 impl From<OpenFailed> for InputFault {
     ghost from_gives = { λ _ e. e ≡ input.CannotOpen };
 
+    /// Turns an input that can't be opened into [`InputFault::CannotOpen`], for the `?` after the opening.
     fn from(_failure: OpenFailed) -> InputFault {
         InputFault::CannotOpen
     }
@@ -51,6 +52,7 @@ impl From<OpenFailed> for InputFault {
 impl From<TextFault> for InputFault {
     ghost from_gives = { λ fault e. e ≡ input.Text fault };
 
+    /// Turns a text that can't be read into [`InputFault::Text`] with the reason, for the `?` after `read_text`.
     fn from(fault: TextFault) -> InputFault {
         InputFault::Text(fault)
     }
@@ -59,6 +61,7 @@ impl From<TextFault> for InputFault {
 impl From<GenFault> for InputFault {
     ghost from_gives = { λ fault e. e ≡ input.Generate fault };
 
+    /// Turns the reason why no file was generated into [`InputFault::Generate`] with it, for the `?` after the call.
     fn from(fault: GenFault) -> InputFault {
         InputFault::Generate(fault)
     }
@@ -68,6 +71,7 @@ impl From<GenFault> for InputFault {
 impl From<CreateFailed> for OutputFault {
     ghost from_gives = { λ _ e. e ≡ output.CannotOpen };
 
+    /// Returns [`OutputFault::CannotOpen`], for the `?` after the creation.
     fn from(_failure: CreateFailed) -> OutputFault {
         OutputFault::CannotOpen
     }
@@ -76,6 +80,7 @@ impl From<CreateFailed> for OutputFault {
 impl From<WriteFailed> for OutputFault {
     ghost from_gives = { λ _ e. e ≡ output.WriteFailed };
 
+    /// Turns a failed write into [`OutputFault::WriteFailed`], for the `?` after the write.
     fn from(_failure: WriteFailed) -> OutputFault {
         OutputFault::WriteFailed
     }
@@ -85,6 +90,7 @@ impl From<WriteFailed> for OutputFault {
 impl From<CloseFailed> for OutputFault {
     ghost from_gives = { λ _ e. e ≡ output.WriteFailed };
 
+    /// Returns [`OutputFault::WriteFailed`], for the `?` after the closing.
     fn from(_failure: CloseFailed) -> OutputFault {
         OutputFault::WriteFailed
     }
@@ -93,6 +99,7 @@ impl From<CloseFailed> for OutputFault {
 impl From<OptFault> for Failure {
     ghost from_gives = { λ fault e. e ≡ command_line fault };
 
+    /// Turns a fault of the command line into [`Failure::CommandLine`] with this fault, for the `?` after the words are read.
     fn from(fault: OptFault) -> Failure {
         Failure::CommandLine(fault)
     }

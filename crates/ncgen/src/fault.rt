@@ -35,6 +35,7 @@ pub enum TextFault {
 impl From<CdlFault> for GenFault {
     ghost from_gives = { λ fault e. e ≡ gen.Cdl fault };
 
+    /// Turns a fault of the text into [`GenFault::Cdl`] with this fault, for the `?` after a call that reads the text.
     fn from(fault: CdlFault) -> GenFault {
         GenFault::Cdl(fault)
     }
@@ -44,6 +45,7 @@ impl From<CdlFault> for GenFault {
 impl From<AllocError> for GenFault {
     ghost from_gives = { λ _ e. e ≡ gen.Cdl out_of_memory };
 
+    /// Turns a failed allocation into such a fault, for the `?` after a call that allocates.
     fn from(_e: AllocError) -> GenFault {
         GenFault::Cdl(CdlFault {
             line: 0,
@@ -55,6 +57,7 @@ impl From<AllocError> for GenFault {
 impl From<OffsetTooLarge> for GenFault {
     ghost from_gives = { λ _ e. e ≡ gen.OffsetTooLarge };
 
+    /// Turns a begin that doesn't fit its field into [`GenFault::OffsetTooLarge`], for the `?` after `with_begins`.
     fn from(_e: OffsetTooLarge) -> GenFault {
         GenFault::OffsetTooLarge
     }
@@ -63,6 +66,7 @@ impl From<OffsetTooLarge> for GenFault {
 impl From<WriteFailed> for GenFault {
     ghost from_gives = { λ _ e. e ≡ gen.WriteFailed };
 
+    /// Turns a failed write into [`GenFault::WriteFailed`], for the `?` after the write.
     fn from(_e: WriteFailed) -> GenFault {
         GenFault::WriteFailed
     }
@@ -71,6 +75,7 @@ impl From<WriteFailed> for GenFault {
 impl From<SourceFailed> for TextFault {
     ghost from_gives = { λ _ e. e ≡ text.ReadFailed };
 
+    /// Turns a failed read into [`TextFault::ReadFailed`], for the `?` after the read.
     fn from(_failure: SourceFailed) -> TextFault {
         TextFault::ReadFailed
     }
@@ -79,6 +84,7 @@ impl From<SourceFailed> for TextFault {
 impl From<AllocError> for TextFault {
     ghost from_gives = { λ _ e. e ≡ text.OutOfMemory };
 
+    /// Turns a failed allocation into [`TextFault::OutOfMemory`], for the `?` after a call that allocates.
     fn from(_refusal: AllocError) -> TextFault {
         TextFault::OutOfMemory
     }

@@ -192,7 +192,7 @@ fn output_words(fault: OutputFault) -> &'static [u8]
     }
 }
 
-/// Returns what each line begins with, except for the usage line.
+/// Returns the words that each line on standard error begins with, except for the usage line.
 fn program_words() -> &'static [u8]
     ensures { result.now ≡ codes "ncgen: " }
 {

@@ -145,7 +145,8 @@ impl<S: Source> Window<'_, S> {
         Ok(vars)
     }
 
-    /// Reads the list of variables: its tag, their number and the variables. Returns the variables.
+    /// Reads the list of variables: its tag, their number and the variables, whose shapes it checks against `dims`. Returns the variables.
+    /// Errs with the fault of the first wrong field, or as [`Window`] says.
     #[tactic(auto, using(crate::proofs::Parts::parts), unfolding(crate::specs::code::Reading::list_at))]
     pub(crate) fn var_list(
         &mut self,
