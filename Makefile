@@ -16,15 +16,19 @@ all: bin/ncdump bin/ncgen
 	bin/ncdump bin/stations.nc
 
 # Proves and builds both programs, if anything has changed.
-bin/ncdump bin/ncgen &: $(wildcard build.sh HANDLES crates.txt) $(shell find crates -name out -prune -o -type f -print 2>/dev/null)
+# (tests, examples and edits are no part of them)
+bin/ncdump bin/ncgen &: $(wildcard build.sh HANDLES crates.txt) $(shell find crates \( -name out -o -name must-fail -o -name wrong-bodies \
+		-o -name 'test_*' -o -name 'example_*' \) -prune -o -type f -print 2>/dev/null)
 	./build.sh
 
 # The merge gate, in parts that run side by side where none waits for another.
 test: test-proofs test-definitions test-bodies test-programs
 test-bodies test-programs: test-proofs
+ifeq ($(MAKECMDGOALS),test)
 MAKEFLAGS += --jobs=3
+endif
 
-# Every proof from nothing, the tests and the programs' stored runs.
+# Each proof that no earlier run on this machine made from the same files, the tests and the programs' stored runs.
 test-proofs:
 	rt ci
 	$(call keep,ncdump)
@@ -67,8 +71,8 @@ install:
 	install -m 644 man/ncdump.1 man/ncgen.1 $(pages)/man1
 	install -m 644 man/cdl.5 $(pages)/man5
 
-# Packs the programs, the manual pages, the documents and the samples into dist/RELEASE.tar.gz, the same bytes each time. In the unpacked
-# folder `make install` installs them without the kit.
+# Packs the programs, the manual pages, the documents with the definitions that they lead to, and the samples into dist/RELEASE.tar.gz, the
+# same bytes each time. In the unpacked folder `make install` installs them without the kit.
 dist:
 	test -x bin/ncdump || $(MAKE) bin/ncdump
 	test -x bin/ncgen || $(MAKE) bin/ncgen
@@ -77,6 +81,7 @@ dist:
 	install -s -m 755 bin/ncdump bin/ncgen dist/$(release)/bin
 	install -m 644 man/* dist/$(release)/man
 	install -m 644 docs/* dist/$(release)/docs
+	find crates -name out -prune -o -path '*/specs/*.antt' -exec install -D -m 644 {} dist/$(release)/{} \;
 	install -m 644 samples/*.cdl samples/*.nc dist/$(release)/samples
 	install -m 644 Makefile VERSION README.md CHANGELOG.md CONTRIBUTING.md dist/$(release)
 	cd dist/$(release) && find * -type f | LC_ALL=C sort | xargs sha256sum >../SHA256SUMS && mv ../SHA256SUMS .

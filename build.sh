@@ -4,6 +4,10 @@
 # same time. So it runs for the longest chain of crates alone, and beside that, a little less urgently, for the others.
 set -euo pipefail
 cd "$(dirname "$0")"
+if ! command -v rt >/dev/null; then
+    echo 'build.sh: no command rt: README.md says what is needed' >&2
+    exit 1
+fi
 
 copy=$(mktemp -d)
 trap 'rm -rf "$copy"' EXIT
@@ -11,6 +15,7 @@ grep -v '^test_\|^example_' crates.txt >"$copy/crates.txt"
 tar -c --exclude=out --exclude=must-fail --exclude=crates/test_\* --exclude=crates/example_\* HANDLES crates | tar -x -C "$copy"
 
 prove() {
+    trap 'kill $(jobs -p) 2>/dev/null || true' EXIT
     cd "$copy"
     rt ci nc_base || return
     nice -n 5 rt ci ncdump_cli &
@@ -23,7 +28,7 @@ prove() {
 }
 
 mkdir -p bin
-if ! (prove) | tee bin/build.log | grep '^rt: '; then
+if ! (prove) 2>&1 | tee bin/build.log | grep '^rt: '; then
     grep -m 20 'error\|not proved' bin/build.log || true
     echo "The programs are not built. bin/build.log has all that was said."
     exit 1

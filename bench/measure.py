@@ -1,5 +1,6 @@
 """What the scripts of this folder measure of a program: time, memory, and instructions."""
 
+import os
 import re
 import subprocess
 import tempfile
@@ -14,7 +15,7 @@ THEIR_DUMP, THEIR_GENERATE = Path("/usr/bin/ncdump"), Path("/usr/bin/ncgen")
 
 def built(name):
     """The program of this folder's name.c, compiled into the working folder."""
-    subprocess.run(["cc", "-O2", "-o", name, TOP / "bench" / f"{name}.c"], check=True)
+    subprocess.run([os.environ.get("CC") or "cc", "-O2", "-o", name, TOP / "bench" / f"{name}.c"], check=True)
     return Path(name).resolve()
 
 

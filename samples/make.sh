@@ -29,6 +29,6 @@ zeros() {
     zeros 8 # no variables
 } >note.nc
 
-# CDF-2 and CDF-5: each beside its text.
-ncgen -k nc6 -o stations.nc stations.cdl
-ncgen -k nc5 -o counters.nc counters.cdl
+# CDF-2 and CDF-5: each beside its text, by Unidata's ncgen of Debian's netcdf-bin.
+/usr/bin/ncgen -k nc6 -o stations.nc stations.cdl
+/usr/bin/ncgen -k nc5 -o counters.nc counters.cdl

@@ -20,7 +20,8 @@ import tempfile
 from pathlib import Path
 
 OURS = Path(__file__).resolve().parent.parent / "bin" / "ncdump"
-THEIRS = "ncdump"
+# those of Debian's netcdf-bin
+THEIRS, THEIR_GENERATOR = "/usr/bin/ncdump", "/usr/bin/ncgen"
 
 # the least and the greatest value of each type, and the suffix that CDL gives its values
 NUMBERS = {
@@ -184,7 +185,7 @@ def main(count=200, seed=1):
             cdl, names = files.file(FORMATS[kind])
             text.write_text(cdl)
             # ncgen 4.9.0 ends with a fault of memory now and then: then there is nothing to compare
-            if subprocess.run(["ncgen", "-k", kind, "-o", path, text], capture_output=True).returncode:
+            if subprocess.run([THEIR_GENERATOR, "-k", kind, "-o", path, text], capture_output=True).returncode:
                 continue
             made += 1
             for options in files.options(names):

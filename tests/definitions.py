@@ -20,6 +20,7 @@ from concurrent.futures import ThreadPoolExecutor
 from pathlib import Path
 
 import prover
+from edits import BadEdit, read_edit
 
 EDITS = prover.TOP / "tests" / "definitions"
 # the crate of the laws that have to refuse an edit which names none
@@ -44,18 +45,11 @@ def copy_crate(crate, to):
 
 def apply(edit, top):
     """Applies an edit to the copy."""
-    path, old = None, None
-    for line in edit.read_text().splitlines():
-        word, _, rest = line.partition(": ")
-        if word == "file":
-            path = top / rest
-        elif word == "old":
-            old = rest
-        elif word == "new":
-            text = path.read_text()
-            if text.count(old) != 1:
-                raise ValueError(f"'old' stands in {path.name} {text.count(old)} times, and not once")
-            path.write_text(text.replace(old, rest))
+    for file, old, new in read_edit(edit)[0]:
+        text = (top / file).read_text()
+        if text.count(old) != 1:
+            raise BadEdit(f"'old' stands in {file} {text.count(old)} times, and not once")
+        (top / file).write_text(text.replace(old, new))
 
 
 def law_of(edit):
@@ -91,7 +85,7 @@ def verdict(edit, proved):
     try:
         with prover.copied(proved / crate) as kept:
             said = laws_with(crate, edit, kept, law)
-    except ValueError as why:
+    except BadEdit as why:
         return False, f"{edit.stem}: BAD EDIT: {why}"
     refused = re.findall(r"^fn \w+::laws::(\w+): (?!proved)", said, re.M)
     errors = [line for line in said.splitlines() if ": error" in line]
@@ -114,6 +108,8 @@ def main():
     edits = sorted(EDITS.glob("*.edit"))
     if sys.argv[1:]:
         edits = [edit for edit in edits if edit.stem in sys.argv[1:]]
+        if unknown := {*sys.argv[1:]} - {edit.stem for edit in edits}:
+            sys.exit(f"no such edit: {' '.join(sorted(unknown))}")
     crates, results = sorted({law_of(edit)[0] for edit in edits}), []
     with tempfile.TemporaryDirectory() as folder, ThreadPoolExecutor(prover.at_once()) as pool:
         proved = Path(folder)

@@ -240,7 +240,7 @@ def main(cases=20_000, seed=1):
                     failed += 1
                     print(why)
     print(f"{len(seeds) - failed} passed, {failed} failed")
-    return 1 if failed else 0
+    return 1 if failed or not seeds else 0
 
 
 if __name__ == "__main__":

@@ -18,6 +18,11 @@ cd "$release" || exit 1
 run sha256sum -c --quiet SHA256SUMS
 verdict sums 0
 
+links() { grep -oh '](\.\./crates/[^)#]*' docs/*.md | sed 's/^](\.\.\///' | sort -u; }
+run bash -c "$(declare -f links); links | xargs ls"
+stdout "$(links)\n"
+verdict documents_lead_to_definitions 0
+
 # a path that has make and the tools of a system, and neither rt nor a compiler
 mkdir "$work/path"
 for tool in make sh bash install cat sed head test; do

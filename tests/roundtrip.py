@@ -55,9 +55,9 @@ class Trips:
         return True
 
     def unidata(self, kind):
-        """Generates the text in the current folder by Unidata's program."""
+        """Generates the text in the current folder by Unidata's program, that of Debian's netcdf-bin."""
         Path("theirs.nc").unlink(missing_ok=True)
-        if run("ncgen", "-k", kind, "-o", "theirs.nc", "text.cdl").returncode == 0:
+        if run("/usr/bin/ncgen", "-k", kind, "-o", "theirs.nc", "text.cdl").returncode == 0:
             self.theirs += 1
             self.same += Path("theirs.nc").read_bytes() == Path("second.nc").read_bytes()
 

@@ -1,4 +1,4 @@
-# What tests/ncdump.sh, tests/ncgen.sh and tests/allocation_failures.sh begin with: a folder to work in, and words for what is wanted of a run.
+# What the other scripts of the shell in this folder begin with: a folder to work in, and words for what is wanted of a run.
 top=$(cd "$(dirname "$0")/.." && pwd)
 ncdump=$top/bin/ncdump
 ncgen=$top/bin/ncgen

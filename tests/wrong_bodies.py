@@ -248,7 +248,9 @@ def main():
     if words[:1] == ["--tests"]:
         results = try_tests(int(words[1]) if words[1:] else None)
     else:
-        results = try_crates([it for it in crates_with_edits() if it in words] if words else crates_with_edits())
+        if unknown := {*words} - {*crates_with_edits()}:
+            sys.exit(f"no wrong bodies in {' '.join(sorted(unknown))}")
+        results = try_crates(words or crates_with_edits())
     for is_well, line in results:
         if not is_well:
             print(line)
