@@ -1,8 +1,8 @@
 //! Laws of the definitions, each the contract of a function that does nothing.
 //!
 //! "A text can declare a dataset" stands for `IsSayable`, and "a full dump" for a dump of all values under a valid name. A "good" dataset
-//! (`IsGood`) has begins of 0, and a file can hold it unless a variable would begin at too great an offset. "Within the limit" is a text of
-//! at most 268,435,456 bytes. The NULs at the end of attributes are those of attributes of characters.
+//! (`IsGood`) has begins of 0, and a file can hold it unless a variable would begin at too great an offset. The NULs at the end of
+//! attributes are those of attributes of characters.
 
 ghost use Rattle.nc_base.specs.declared.version.Version.{Version};
 ghost use Rattle.cdl_laws.specs.Goods.{LimitIsNeeded, MeaningsAreGood, MeaningsAreNearlySayable, NearlyIsSayable};
@@ -67,8 +67,8 @@ pub fn text_reads_back()
     ensures { TextReadsBack }
 {}
 
-/// If a text can declare each of two datasets of one version, and their full dumps are the same text, then the two are the same without the
-/// NULs at the end of their attributes. The two dumps may have different names and widths.
+/// If a text can declare each of two datasets of one version, and their full dumps (of all values, under a valid name) are the same text,
+/// then the two are the same without the NULs at the end of their attributes of characters. The two dumps may have different widths.
 pub fn dumps_tell_datasets_apart()
     ensures { DumpsTellDatasetsApart }
 {}
@@ -85,8 +85,8 @@ pub fn limit_is_needed()
     ensures { LimitIsNeeded }
 {}
 
-/// If a text of bytes within the limit means a dataset, then this dataset is good. No two of its dimensions, of its variables, of its own
-/// attributes, or of the attributes of one variable have the same name. Each attribute of numbers has a value. If there is no record
+/// If a text of at most 268,435,456 bytes means a dataset, then this dataset is good. No two of its dimensions, of its variables, of its
+/// own attributes, or of the attributes of one variable have the same name. Each attribute of numbers has a value. If there is no record
 /// variable, the number of records is 0.
 ///
 /// Such a dataset is nearly sayable. A sayable dataset (`IsSayable`), which a text can declare, is all this, and the fill value of each
@@ -108,31 +108,32 @@ pub fn fill_value_survives_trim()
     ensures { FillValueSurvivesTrim }
 {}
 
-/// If a text of bytes within the limit means a dataset, then a text can declare this dataset (in the sense of `IsSayable`) if and only if
-/// none of its variables of characters is in the one case that [`fill_value_survives_trim`] excepts.
+/// If a text of at most 268,435,456 bytes means a dataset, then a text can declare this dataset (in the sense of `IsSayable`) if and only
+/// if none of its variables of characters is in the one case that [`fill_value_survives_trim`] excepts.
 pub fn meanings_are_sayable()
     ensures { MeaningsAreSayable }
 {}
 
-/// If the NULs at the end of attributes are taken away, then taking them away once more changes nothing.
+/// If the NULs at the end of attributes of characters are taken away, then taking them away once more changes nothing.
 pub fn trims_once()
     ensures { TrimsOnce }
 {}
 
-/// If a text can declare a dataset, then a text can also declare it without the NULs at the end of its attributes.
+/// If a text can declare a dataset, then a text can also declare it without the NULs at the end of its attributes of characters.
 pub fn trimmed_is_sayable()
     ensures { TrimmedIsSayable }
 {}
 
-/// If a text can declare a dataset, then its full dump means a second dataset, which is the first without the NULs at the end of its
-/// attributes. The full dump of the second dataset means the second dataset again: a second trip, from dataset to text and back, changes
-/// nothing. The two dumps may have different names and widths.
+/// If a text can declare a dataset, then its full dump (of all values, under a valid name) means a second dataset, which is the first
+/// without the NULs at the end of its attributes of characters. The full dump of the second dataset means the second dataset again: a
+/// second trip, from dataset to text and back, changes nothing. The two dumps may have different names and widths.
 pub fn second_trip_is_same()
     ensures { SecondTripIsSame }
 {}
 
-/// If a text of bytes within the limit means a dataset that a text can declare, then the full dump of this dataset means a second dataset.
-/// The full dump of the second dataset means the second dataset again. This is [`second_trip_is_same`] for a dataset that a text means.
+/// If a text of at most 268,435,456 bytes means a dataset that a text can declare, then the full dump of this dataset (of all values, under
+/// a valid name) means a second dataset. The full dump of the second dataset means the second dataset again. This is
+/// [`second_trip_is_same`] for a dataset that a text means.
 pub fn meanings_come_back()
     ensures { MeaningsComeBack }
 {}

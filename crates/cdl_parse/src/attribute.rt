@@ -15,8 +15,9 @@ use cdl_values::{ReadError, read_constants, read_name, type_said};
 use nc_base::{Att, ListedArray, NcType, Sequence};
 use std::alloc::Global;
 
-/// Reads an attribute and adds it to `attributes`, the attributes of its variable or of the dataset. `start` is at the attribute's
-/// name: the colon before it, and the name of a variable before the colon, have been passed.
+/// Reads an attribute and adds it to `attributes`, the attributes of its variable or of the dataset. `start` is at the attribute's name:
+/// the colon before it, and the name of a variable before the colon, have been passed. Needs a statement that has its shape, which isn't
+/// checked here.
 ///
 /// After the name come `=` and the constants, joined by commas. All have one type, that of the first; strings are put one after the
 /// other (the CDL chapter of the NetCDF User's Guide, and ncgen(1)).

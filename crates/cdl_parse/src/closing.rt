@@ -11,7 +11,7 @@ use nc_base::Version;
 /// Returns the line for the fault `TooLarge`: the line on which the last statement but one of the text begins, or 0 if the text has fewer
 /// than two statements. The last statement is the end of the text. If each statement has its shape, the one before it is the closing brace.
 ///
-/// Reads the whole text. Does not allocate.
+/// Reads the whole text. Does not allocate. `version` doesn't change the line, but a [`Cutter`] has to have a version.
 pub fn closing_line(text: &[u8], version: Version) -> u64
     ensures { result ≡ closing_line (statements text.now) }
 {

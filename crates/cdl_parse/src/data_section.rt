@@ -90,7 +90,7 @@ pub fn read_data<'a>(
     }
 }
 
-/// Returns `count` arrays without values. Errs only if an allocation failed.
+/// Returns `count` arrays without values: one for each variable, before a statement lists any. Errs only if an allocation failed.
 pub fn empty_arrays(alloc: Global, count: usize) -> Result<Vec<ListedArray>, AllocError>
     ensures { IfOk result (λ arrays. arrays.items ≡ replicate count []) }
 {

@@ -33,6 +33,7 @@ struct PartialVariable {
 }
 
 /// Reads a declaration, and adds its variables to `variables`. `start` is at its type word, and `dims` are the dimensions of the dataset.
+/// Needs a statement that has its shape, which isn't checked here.
 ///
 /// A declaration is a type word and variables joined by commas. A variable is a name alone, or a name and then, in parentheses, the
 /// names of the variable's dimensions, joined by commas (the CDL chapter of the NetCDF User's Guide, and ncgen(1)).
@@ -91,8 +92,9 @@ fn first_with_word(types: &[NcType], version: Version, word: Lexeme<'_>) -> Opti
 }
 
 /// Reads the variables of a declaration, all of type `ty`, and adds them to `variables`. `start` is at the name of the first one, and
-/// `dims` are the dimensions of the dataset. Errs as [`read_declaration`] does after the type word; then the variables before the
-/// failing one have been added.
+/// `dims` are the dimensions of the dataset. Needs a statement that has its shape, which isn't checked here. Errs with the first fault of a
+/// variable's name (`BadName`, `DuplicateName`) or of a dimension (`BadName`, `UnknownDimension`, `BadShape`), or if an allocation failed;
+/// then the variables before the failing one have been added.
 fn read_variables(
     alloc: Global,
     dims: &Dimensions,
@@ -131,10 +133,10 @@ fn new_variable(alloc: Global, ty: NcType, token: Lexeme<'_>) -> Result<PartialV
     })
 }
 
-/// Reads on in a declaration by one token, `token`, which comes after the name of the variable `begun`. If it is a mark, returns `begun` as
-/// [`after_mark`] does. If it is a name between parentheses, returns `begun` with the dimension of this name added at the end. Otherwise it
-/// is the name of the next variable: adds `begun` to `variables`, and returns the next variable, without dimensions. Errs as
-/// [`with_dimension`], [`add_variable`] and [`new_variable`] do.
+/// Reads on in a declaration by one token, which comes after the name of the variable `begun`. If it is a mark, returns `begun` as
+/// [`after_mark`] does. If it is a name between parentheses, returns `begun` with this dimension added at the end. Otherwise it is the name
+/// of the next variable: adds `begun` to `variables`, and returns the next variable. Errs with the fault of the dimension or of a
+/// variable's name, or if an allocation failed; then `begun` may have been added.
 fn read_on(
     alloc: Global,
     dims: &Dimensions,
@@ -210,7 +212,9 @@ fn with_dimension(
 }
 
 /// Returns the position of the dimension that `word` names: replaces the escapes of `word`, and calls [`next_dimid`] with the name.
-/// `before` has the positions of the variable's dimensions before this one. Errs as [`next_dimid`] does, or if an allocation failed.
+/// `before` has the positions of the variable's dimensions before this one. Errs with `BadName` if the format doesn't allow the name, with
+/// `UnknownDimension` if no dimension has it, with `BadShape` if it is that of the record dimension and `before` isn't empty, or if an
+/// allocation failed.
 fn dimid_of_word(
     alloc: Global,
     dims: &Dimensions,

@@ -48,7 +48,8 @@ impl Declared {
 }
 
 /// Returns for each variable an array of all its values over `records` records, made by [`whole_array`]. `listed` has the listed values of
-/// each variable, in the order of `vars`. A variable beyond the end of `listed` gets no array. Errs as [`whole_array`] does.
+/// each variable, in the order of `vars`. Errs if a slab has more than 2^48 bytes, if a variable lacks 2^64 values or more, or if an
+/// allocation failed. A variable beyond the end of `listed` isn't looked at, and gets no array.
 fn whole_arrays(
     alloc: Global,
     dims: &[Dim],
@@ -69,8 +70,8 @@ fn whole_arrays(
     Ok(arrays)
 }
 
-/// Returns all values of a variable over `records` records: the listed ones, followed by its fill value once for each value that it
-/// lacks. Errs if [`owed_count`] returns `None`, or if an allocation failed.
+/// Returns all values of a variable over `records` records: the listed ones, followed by its fill value once for each value that it lacks.
+/// Errs if its slab has more than 2^48 bytes, if it lacks 2^64 values or more, or if an allocation failed.
 fn whole_array(
     alloc: Global,
     dims: &[Dim],

@@ -88,7 +88,8 @@ impl Definitions {
 
     /// Does what the next statement says, for any statement after the opening. A closing brace moves on to `Closed`, and a statement that
     /// begins with `:` adds an attribute of the dataset. What any other statement does depends on the section, which has to be `Globals`,
-    /// `Dimensions` or `Variables`. Errs as `apply_statement` does.
+    /// `Dimensions` or `Variables`. Needs a statement that has its shape. Errs with the first fault of what the statement says, or if an
+    /// allocation failed; a part of that may have been added then.
     fn apply_after_opening(&mut self, alloc: Global, start: Cutter<'_>) -> Result<(), ReadError>
         requires more { is_done start ≡ false }
         requires defining { is_defining self.old.section ≡ true }
@@ -126,7 +127,8 @@ impl Definitions {
     }
 
     /// Does what the next statement of the section of dimensions says: moves on to a later section, or adds dimensions. Needs a statement
-    /// that begins with neither `}` nor `:`. Errs as [`read_dimensions`] does; then the dimensions before the failing one have been added.
+    /// that has its shape, and begins with neither `}` nor `:`. Errs with the first fault of a dimension's name or length, or if an
+    /// allocation failed; then the dimensions before the failing one have been added.
     fn apply_in_dimensions(&mut self, alloc: Global, start: Cutter<'_>) -> Result<(), ReadError>
         requires more { is_done start ≡ false }
         requires section { self.old.section ≡ Section.Dimensions }
@@ -144,8 +146,8 @@ impl Definitions {
     }
 
     /// Does what the next statement of the section of variables says: adds an attribute of a variable, moves on to a later section, or adds
-    /// variables. Needs a statement that begins with neither `}` nor `:`. Errs with a fault of [`Variables::read_attribute`] or
-    /// [`read_declaration`], or if an allocation failed. Then some of the variables may have been added.
+    /// variables. Needs a statement that has its shape, and begins with neither `}` nor `:`. Errs with the first fault of what the
+    /// statement says, or if an allocation failed. Then some of the variables may have been added.
     fn apply_in_variables(&mut self, alloc: Global, start: Cutter<'_>) -> Result<(), ReadError>
         requires more { is_done start ≡ false }
         requires section { self.old.section ≡ Section.Variables }

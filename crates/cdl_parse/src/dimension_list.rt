@@ -29,8 +29,8 @@ struct NextDimension<'a> {
     ends: bool,
 }
 
-/// Reads the dimensions of a statement, which are joined by commas, and adds them to `dims`. `start` is at the name of the first
-/// one.
+/// Reads the dimensions of a statement, which are joined by commas, and adds them to `dims`. `start` is at the name of the first one. Needs
+/// a statement that has its shape, which isn't checked here.
 ///
 /// A dimension is a name, `=` and a length, which is `unlimited` for the record dimension (the CDL chapter of the NetCDF User's
 /// Guide, "CDL Syntax", and ncgen(1)).
@@ -61,7 +61,8 @@ pub fn read_dimensions(
     }
 }
 
-/// Returns the next dimension of a statement, and what comes after its comma or semicolon. `start` is at the dimension's name.
+/// Returns the next dimension of a statement, and what comes after its comma or semicolon. `start` is at the dimension's name. Needs a
+/// statement that has its shape, which isn't checked here.
 fn next_dimension(start: Cutter<'_>) -> NextDimension<'_>
     requires more { is_done start ≡ false }
     requires shaped { completes DimensionName (words start) ≡ true }
@@ -83,8 +84,9 @@ fn next_dimension(start: Cutter<'_>) -> NextDimension<'_>
     }
 }
 
-/// Adds a dimension to `dims`. `name` and `length` are the tokens of its name and its length. Errs with a fault of
-/// [`read_dimensions`], or if an allocation failed. Then `dims` is what it was.
+/// Adds a dimension to `dims`. `name` and `length` are the tokens of its name and its length. Errs with a fault of the name (`BadName`,
+/// `DuplicateName`), otherwise with a fault of the length (`ZeroDimension`, `NumberRange`, `TwoRecordDims`), or if an allocation failed.
+/// Then `dims` is what it was.
 fn add_dimension(
     alloc: Global,
     dims: &mut Dimensions,
@@ -104,8 +106,9 @@ fn add_dimension(
     }
 }
 
-/// Returns the length that the token `length` says, or 0 for `unlimited`. `has_record` is true if there is a record dimension
-/// already. Errs as [`dim_len`] does.
+/// Returns the length that the token `length` says, or 0 for `unlimited`. `has_record` is true if there is a record dimension already. Errs
+/// with `ZeroDimension` if a number is 0, with `NumberRange` if it is negative or too great for the version, and with `TwoRecordDims` for
+/// `unlimited` if `has_record`.
 fn len_said(version: Version, has_record: bool, length: Lexeme<'_>) -> Result<u64, CdlKind>
     ensures { IsLength version has_record (length_said version (lexeme_of length.entry)) result }
 {

@@ -42,8 +42,8 @@ pub fn parse(alloc: Global, text: &[u8], version: Version) -> Result<Dataset, Cd
     }
 }
 
-/// Returns what a CDL text declares: the dataset that [`parse`] returns, but with no more of each variable's values than the text
-/// lists.
+/// Returns what a CDL text declares: the dataset that [`parse`] returns, but with no more of each variable's values than the text lists.
+/// `version` is that of the format. `ncgen` calls it, so that memory needn't hold the values that the text doesn't list.
 ///
 /// # Errors
 ///
@@ -149,7 +149,7 @@ struct Values<'a> {
 
 /// Reads the data section by [`read_data_section`] if `section`, the section of the next statement of `start`, is `Values`. Otherwise the
 /// text has no data section: reads nothing, and returns an array without values for each variable, and `section` and `start` unchanged.
-/// `names` are the names of the variables. Errs as [`read_data_section`] does, or if an allocation failed.
+/// `names` are the names of the variables. Errs with the fault of the first bad statement, or if an allocation failed.
 fn read_values<'a>(
     alloc: Global,
     dims: &[Dim],

@@ -32,6 +32,7 @@ struct Variable {
 impl Named for Variable {
     ghost name_of = { λ v. v.name };
 
+    /// Returns the bytes of the variable's name, by which a [`NameIndex`] finds it.
     fn name(&self) -> &[u8] {
         self.name.as_slice()
     }
@@ -111,7 +112,8 @@ impl Variables {
         Ok(added)
     }
 
-    /// Reads an attribute of a variable, and adds it to the attributes of that variable. `start` is at the variable's name.
+    /// Reads an attribute of a variable, and adds it to the attributes of that variable. `start` is at the variable's name. Needs a
+    /// statement that has its shape, which isn't checked here.
     ///
     /// After the name come `:`, the attribute's name, `=` and the constants, joined by commas (the CDL chapter of the NetCDF
     /// User's Guide, and ncgen(1)).

@@ -48,7 +48,7 @@ fn put_owner_and_name<W: Sink>(sink: &mut W, owner: &[u8], name: &[u8]) -> Resul
     put_name(sink, name)
 }
 
-/// Writes the values of an attribute: characters as strings, others as numbers joined by commas.
+/// Writes the values of an attribute: characters as strings, others as numbers with the suffix of their type, joined by `, `.
 fn put_values<W: Sink>(sink: &mut W, att: &Att) -> Result<(), WriteFailed>
     ensures { Wrote W.view sink.old sink.new (att_text att.now.ty att.now.vals) result }
 {

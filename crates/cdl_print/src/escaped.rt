@@ -22,7 +22,8 @@ pub fn put_escaped<W: Sink>(sink: &mut W, quoting: Quoting, bytes: &[u8]) -> Res
     Ok(())
 }
 
-/// Writes a run: either one byte, with its escape if it needs one, or bytes that all stand for themselves.
+/// Writes a run of a name or of a string (`quoting`): either one byte, with its escape if it needs one, or bytes that all stand for
+/// themselves.
 pub fn put_run<W: Sink>(sink: &mut W, quoting: Quoting, run: &[u8]) -> Result<(), WriteFailed>
     requires { IsRun (stands_for_itself quoting) run.now }
     ensures { Wrote W.view sink.old sink.new (flat_map (escaped_in quoting) run.now) result }
@@ -33,7 +34,7 @@ pub fn put_run<W: Sink>(sink: &mut W, quoting: Quoting, run: &[u8]) -> Result<()
     }
 }
 
-/// Writes one byte, with its escape if it needs one.
+/// Writes one byte of a name or of a string (`quoting`), with its escape if it needs one.
 fn put_escaped_byte<W: Sink>(sink: &mut W, quoting: Quoting, b: u8) -> Result<(), WriteFailed>
     ensures { Wrote W.view sink.old sink.new (escaped_in quoting b) result }
 {
@@ -47,15 +48,15 @@ fn put_escaped_byte<W: Sink>(sink: &mut W, quoting: Quoting, b: u8) -> Result<()
     }
 }
 
-/// Returns the length of the next run: how many bytes stand for themselves up to the first one that needs an escape, but at least
-/// 1.
+/// Returns the length of the next run in a name or in a string (`quoting`): how many bytes stand for themselves up to the first one that
+/// needs an escape, but at least 1, even if `bytes` is empty.
 pub fn run_len(quoting: Quoting, bytes: &[u8]) -> usize
     ensures { result ≡ max 1 (prefix_len (stands_for_itself quoting) bytes.now) }
 {
     plain_len(quoting, bytes).max(1)
 }
 
-/// Returns how many bytes at the start stand for themselves, up to the first one that needs an escape.
+/// Returns how many bytes at the start stand for themselves in a name or in a string (`quoting`), up to the first one that needs an escape.
 fn plain_len(quoting: Quoting, bytes: &[u8]) -> usize
     ensures { result ≡ prefix_len (stands_for_itself quoting) bytes.now }
 {

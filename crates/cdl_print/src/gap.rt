@@ -36,8 +36,8 @@ impl Gap {
     }
 }
 
-/// Returns what stands before a number of `len` bytes that isn't its row's first. `columns_left` is how many bytes more the line may have.
-/// A line begins before the number if `, `, the number, and two bytes for what follows it would be more. Needs a `len` of at most 40.
+/// Returns the gap before a number of `len` bytes that isn't its row's first: `, `, with a new line after it if `, `, the number, and two
+/// bytes for what follows it take more than `columns_left`, the number of bytes that the line may still have. Needs a `len` of at most 40.
 #[inline(always)]
 pub fn gap_in_row(columns_left: usize, len: usize) -> Gap
     requires { len ≤ 40 }

@@ -123,8 +123,9 @@ impl Layout<'_> {
         }
     }
 
-    /// Returns what stands before the next number, whose text has `len` bytes. `progress` is how far the numbers before it are printed.
-    /// Needs a `len` of at most 40, which is enough for any `i128`.
+    /// Returns the gap before the next number, whose text has `len` bytes: what [`row_gap`](Layout::row_gap) returns if the number is its
+    /// row's first, otherwise `, `, with a new line after it if the number doesn't fit. `progress` is how far the numbers before it are
+    /// printed. Needs a `len` of at most 40, which is enough for any `i128`.
     pub fn number_gap(&self, progress: &Progress, len: usize) -> Gap
         requires { len ≤ 40 }
         ensures { result ≡ next_gap (look_at self.now) progress.now len }
@@ -136,7 +137,8 @@ impl Layout<'_> {
         }
     }
 
-    /// Returns what stands before a number that is its row's first. `position` is how many values the variable has before it.
+    /// Returns the gap before a number that is its row's first: a space if the values don't stand in rows, otherwise a new line, with a
+    /// comma before it unless `position` is 0. `position` is how many values the variable has before the number.
     fn row_gap(&self, position: u128) -> Gap
         ensures { result ≡ row_gap (look_at self.now) position }
     {

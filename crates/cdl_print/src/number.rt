@@ -12,8 +12,8 @@ use crate::decimal::put_integer;
 use devices::{Sink, WriteFailed, put};
 use nc_base::{NcType, number_of};
 
-/// Writes the numbers of an attribute, each with the suffix of its type, joined by commas. Bytes at the end that are no whole
-/// number are left out.
+/// Writes the numbers of an attribute of the type `ty`, each with the suffix of the type, joined by `, `. `vals` has the numbers,
+/// big-endian. Bytes at the end that are no whole number are left out.
 pub fn put_numbers<W: Sink>(sink: &mut W, ty: NcType, vals: &[u8]) -> Result<(), WriteFailed>
     ensures { Wrote W.view sink.old sink.new (numbers_text ty vals.now) result }
 {

@@ -23,9 +23,9 @@ pub struct LastLine {
     pub columns_left: usize,
 }
 
-/// Puts numbers of one row, none of them the row's first, into `text` at the end of `line`, each with what stands before it, by the loop of
-/// their type. Returns the last line after them. `bytes` has the numbers, big-endian. Needs room for 47 bytes a number in `text`: 40 of its
-/// own, and 7 of what stands before it.
+/// Puts numbers of one row, none of them the row's first, into `text` at the end of `line`, by the loop of their type. Each comes after
+/// `, `, and on a new line if it doesn't fit ([`gap_in_row`]). Returns the last line after them. `bytes` has the numbers, big-endian. Needs
+/// room for 47 bytes a number in `text`: 40 of its own, and 7 before it.
 pub fn gather_at_end(text: &mut [u8], line: LastLine, layout: &Layout<'_>, bytes: &[u8]) -> LastLine
     requires fits { line.end + 47 * length (values layout.now bytes.now) ≤ length text.old }
     ensures more { PutLine layout.now (values layout.now bytes.now) line text.old result text.new }
@@ -44,8 +44,9 @@ pub fn gather_at_end(text: &mut [u8], line: LastLine, layout: &Layout<'_>, bytes
     }
 }
 
-/// Puts numbers of the type `ty` into `text` at the end of `line`, as [`gather_at_end`] does, and returns the last line after them. It is
-/// inlined once for each type, so each type has a loop of its own.
+/// Puts numbers of the type `ty`, none of them their row's first, into `text` at the end of `line`, each after `, `, and on a new line if
+/// it doesn't fit. Returns the last line after them. `bytes` has the numbers, big-endian. It is inlined in [`gather_at_end`] once for each
+/// type, so each type has a loop of its own. Needs room for 47 bytes a number in `text`.
 #[inline(always)]
 fn gather_typed(
     ty: NcType,
@@ -70,9 +71,9 @@ fn gather_typed(
     now
 }
 
-/// Puts a number that isn't its row's first into `text` at the end of `line`, with what stands before it, and returns the last line after
-/// it. `value` has the number's bytes, big-endian, as a value of the type `ty`. Needs a `fill` made of `layout`, and room for 47 bytes in
-/// `text`.
+/// Puts a number that isn't its row's first into `text` at the end of `line`, after `, `, and on a new line if it doesn't fit. Returns the
+/// last line after it. `value` has the number's bytes, big-endian, as a value of the type `ty`. Needs a `fill` made of `layout`, and room
+/// for 47 bytes in `text`.
 #[inline(always)]
 fn gather_next(
     ty: NcType,
@@ -91,9 +92,10 @@ fn gather_next(
     put_next_number(text, line, layout, fill, number_of(ty, value))
 }
 
-/// Puts a number that isn't its row's first into `text` at the end of `line`, with what stands before it, and returns the last line after
-/// it. Needs a `fill` made of `layout`, an absolute value below 2^64, and room for 47 bytes in `text`. A number from 0 to 99 that doesn't
-/// print as `_` takes fewer steps if at least six columns are left (`, `, two digits and two bytes more): no line begins before it then.
+/// Puts a number that isn't its row's first, as `_` or in decimal, into `text` at the end of `line`, after `, `, and on a new line if it
+/// doesn't fit. Returns the last line after it. Needs a `fill` made of `layout`, an absolute value below 2^64, and room for 47 bytes in
+/// `text`. A number from 0 to 99 that doesn't print as `_` takes fewer steps if at least six columns are left (`, `, two digits and two
+/// bytes more): no line begins before it then.
 #[inline(always)]
 fn put_next_number(
     text: &mut [u8],
@@ -143,8 +145,9 @@ fn put_below_100(text: &mut [u8], line: LastLine, n: u64) -> LastLine
     }
 }
 
-/// Puts `_`, the text of a number that equals the fill value, at the end of the line, with what stands before it. Returns the last line
-/// after it. `width` is how many bytes a line may have. Needs room for 8 bytes in `text`: one of `_`, and 7 of what stands before it.
+/// Puts `_`, the text of a number that equals the fill value, at the end of the line, after `, `, and on a new line if it doesn't fit.
+/// Returns the last line after it. `width` is how many bytes a line may have. Needs room for 8 bytes in `text`: one of `_`, and 7 before
+/// it.
 #[inline(always)]
 fn put_fill(text: &mut [u8], line: LastLine, width: usize) -> LastLine
     requires fits { line.end + 8 ≤ length text.old }
@@ -158,8 +161,9 @@ fn put_fill(text: &mut [u8], line: LastLine, width: usize) -> LastLine
     }
 }
 
-/// Puts a number in decimal at the end of the line, with what stands before it, and returns the last line after it. `width` is how many
-/// bytes a line may have. Needs an absolute value below 2^64, and room for 28 bytes in `text`: 21 of the number, and 7 before it.
+/// Puts a number in decimal at the end of the line, after `, `, and on a new line if it doesn't fit. Returns the last line after it.
+/// `width` is how many bytes a line may have. Needs an absolute value below 2^64, and room for 28 bytes in `text`: 21 of the number, and 7
+/// before it.
 #[inline(always)]
 fn put_number(text: &mut [u8], line: LastLine, width: usize, number: i128) -> LastLine
     requires magnitude { unsigned_abs number < 2 ^ 64 }

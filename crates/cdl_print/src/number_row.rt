@@ -20,9 +20,9 @@ const AT_ONCE: usize = 80;
 /// A buffer for the text of numbers that are written at once.
 pub type Gathered = [u8; 4096];
 
-/// Writes the next numbers of a variable, each with what stands before it, and moves `progress` past them. `bytes` has the numbers,
-/// big-endian. `text` is a buffer in which at most 80 of them at a time are gathered, and may hold anything. If the sink fails, `progress`
-/// may be past numbers that weren't written.
+/// Writes the next numbers of a variable, each after its gap ([`Layout::number_gap`]), and moves `progress` past them. `bytes` has the
+/// numbers, big-endian. `text` is a buffer in which at most 80 of them at a time are gathered, and may hold anything. If the sink fails,
+/// `progress` may be past numbers that weren't written.
 pub fn put_number_values<W: Sink>(
     sink: &mut W,
     layout: &Layout<'_>,
@@ -45,8 +45,9 @@ pub fn put_number_values<W: Sink>(
     Ok(())
 }
 
-/// Writes numbers in one piece, each with what stands before it, and moves `progress` past them, even if the sink fails. `bytes` has the
-/// numbers, big-endian, and `text` is a buffer for their text. Needs at most 80 numbers ([`AT_ONCE`]), so that their text fits.
+/// Writes numbers in one piece, each after its gap ([`Layout::number_gap`]), and moves `progress` past them, even if the sink fails.
+/// `bytes` has the numbers, big-endian, and `text` is a buffer for their text. Needs at most 80 numbers ([`AT_ONCE`]), so that their text
+/// fits.
 fn put_few_numbers<W: Sink>(
     sink: &mut W,
     layout: &Layout<'_>,
@@ -64,8 +65,8 @@ fn put_few_numbers<W: Sink>(
     put(sink, &text[..end])
 }
 
-/// Puts numbers at the start of `text`, each with what stands before it, moves `progress` past them, and returns the offset at which they
-/// end. `bytes` has the numbers, big-endian. Needs room for 47 bytes a number in `text`: 40 of its own, and 7 of what stands before it.
+/// Puts numbers at the start of `text`, each after its gap ([`Layout::number_gap`]), moves `progress` past them, and returns the offset at
+/// which they end. `bytes` has the numbers, big-endian. Needs room for 47 bytes a number in `text`: 40 of its own, and 7 of its gap.
 fn gather_numbers(
     text: &mut [u8],
     layout: &Layout<'_>,
@@ -107,8 +108,9 @@ fn len_in_row(layout: &Layout<'_>, progress: &Progress, bytes: &[u8]) -> usize
     count * size
 }
 
-/// Puts the next number, which may be its row's first, at the offset `at` of `text`, with what stands before it. Moves `progress` past it,
-/// and returns the offset at which it ends. `value` has its big-endian bytes. Needs room for 47 bytes in `text` ([`AT_ONCE`]).
+/// Puts the gap before the next number ([`Layout::number_gap`]) and the number, which may be its row's first, at the offset `at` of `text`.
+/// Moves `progress` past the number, and returns the offset at which it ends. `value` has its big-endian bytes. Needs room for 47 bytes in
+/// `text` ([`AT_ONCE`]).
 fn gather_number(
     text: &mut [u8],
     at: usize,
@@ -139,9 +141,9 @@ fn gather_number(
     start + len
 }
 
-/// Puts numbers of one row, none of them the row's first, at the offset `at` of `text`, each with what stands before it. Moves `progress`
-/// past them, and returns the offset at which they end. `bytes` must have whole numbers, big-endian, and no more than the row still has.
-/// Needs room for 47 bytes a number in `text`: 40 of its own, and 7 of what stands before it.
+/// Puts numbers of one row, none of them the row's first, at the offset `at` of `text`, one after the other, each after its gap
+/// ([`Layout::number_gap`]). Moves `progress` past them, and returns the offset at which they end. `bytes` must have whole numbers,
+/// big-endian, and no more than the row still has. Needs room for 47 bytes a number in `text`: 40 of its own, and 7 of its gap.
 fn gather_in_row(
     text: &mut [u8],
     at: usize,

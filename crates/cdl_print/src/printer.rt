@@ -144,8 +144,9 @@ impl<'a> ValuePrinter<'a> {
     }
 }
 
-/// Writes the next values of a variable, each with what stands before it, and moves `progress` past them. `bytes` has them, big-endian;
-/// they must be no more than the variable has left. `text` is a buffer for numbers. After an error `progress` may be anything.
+/// Writes the next values of a variable, by [`put_char_values`] or [`put_number_values`], and moves `progress` past them. `bytes` has them,
+/// big-endian; they must be no more than the variable has left. `text` is a buffer for numbers, and may hold anything. After an error
+/// `progress` may be anything.
 fn put_next_values<W: Sink>(
     sink: &mut W,
     layout: &Layout<'_>,

@@ -23,7 +23,8 @@ pub fn put_vars<W: Sink>(sink: &mut W, dims: &[Dim], vars: &[Var]) -> Result<(),
     put_vars_section(sink, dims, vars)
 }
 
-/// Writes the heading `variables:` and the lines of all variables. It is called only if there are some.
+/// Writes the heading `variables:` and the lines of all variables. It is called only if there are some. `dims` has the header's dimensions,
+/// whose names the declarations show.
 #[tactic(auto, using(devices::proofs::Writes::writes))]
 fn put_vars_section<W: Sink>(sink: &mut W, dims: &[Dim], vars: &[Var]) -> Result<(), WriteFailed>
     ensures { Wrote W.view sink.old sink.new (vars_part dims.now vars.now) result }
@@ -32,7 +33,8 @@ fn put_vars_section<W: Sink>(sink: &mut W, dims: &[Dim], vars: &[Var]) -> Result
     put_each_var(sink, dims, vars)
 }
 
-/// Writes the lines of each variable, one variable after the other.
+/// Writes the lines of each variable, one variable after the other, without a heading. `dims` has the header's dimensions, whose names the
+/// declarations show.
 #[tactic(auto, using(devices::proofs::Writes::writes), unfolding(crate::specs::code::Pieces::var_rows))]
 fn put_each_var<W: Sink>(sink: &mut W, dims: &[Dim], vars: &[Var]) -> Result<(), WriteFailed>
     ensures { Wrote W.view sink.old sink.new (var_rows dims.now vars.now) result }
@@ -43,7 +45,8 @@ fn put_each_var<W: Sink>(sink: &mut W, dims: &[Dim], vars: &[Var]) -> Result<(),
     Ok(())
 }
 
-/// Writes the lines of a variable: its declaration and its attributes.
+/// Writes the lines of a variable: its declaration and its attributes. `dims` has the header's dimensions, whose names the declaration
+/// shows.
 #[tactic(auto, using(devices::proofs::Writes::writes), unfolding(nc_base::specs::HeadText::var_lines))]
 fn put_var_lines<W: Sink>(sink: &mut W, dims: &[Dim], var: &Var) -> Result<(), WriteFailed>
     ensures { Wrote W.view sink.old sink.new (var_lines dims.now var.now) result }
@@ -65,7 +68,7 @@ fn put_type_and_name<W: Sink>(sink: &mut W, ty: NcType, name: &[u8]) -> Result<(
     put_name(sink, name)
 }
 
-/// Writes the names of a variable's dimensions in parentheses and joined by commas, or nothing if it has no dimension. `dimids` has the ids
+/// Writes the names of a variable's dimensions in parentheses and joined by `, `, or nothing if it has no dimension. `dimids` has the ids
 /// of these dimensions, which are indexes into `dims`, the header's dimensions.
 #[tactic(auto, using(devices::proofs::Writes::writes), unfolding(nc_base::specs::HeadText::shape_text))]
 fn put_shape<W: Sink>(sink: &mut W, dims: &[Dim], dimids: &[u64]) -> Result<(), WriteFailed>
@@ -77,7 +80,8 @@ fn put_shape<W: Sink>(sink: &mut W, dims: &[Dim], dimids: &[u64]) -> Result<(), 
     put_dim_list(sink, dims, dimids)
 }
 
-/// Writes the names of the dimensions with the ids `dimids` in parentheses and joined by commas. It is called only if there are some.
+/// Writes the names of the dimensions with the ids `dimids`, their indexes in `dims`, in parentheses and joined by `, `. It is called only
+/// if there are some.
 #[tactic(auto, using(devices::proofs::Writes::writes))]
 fn put_dim_list<W: Sink>(sink: &mut W, dims: &[Dim], dimids: &[u64]) -> Result<(), WriteFailed>
     ensures { Wrote W.view sink.old sink.new (dim_list dims.now dimids.now) result }

@@ -149,7 +149,8 @@ impl<'a> Cutter<'a> {
 
     /// Looks, after the comma that the cutter is at, for a plain number (decimal, at most 19 digits, no suffix) and then a second comma,
     /// with only white space between the three. If they are there, moves to the second comma, and returns the number. Otherwise returns
-    /// `None`, and the cutter stays where it is. Does not allocate.
+    /// `None`, and the cutter stays where it is. Does not allocate. The quick pass over a list calls it for one plain number, and then
+    /// reads those that follow by a [`NumberList`](crate::NumberList).
     #[inline(always)]
     pub fn number_and_comma(&mut self) -> Option<Numeral>
         requires { IsAtComma self.old }
@@ -165,7 +166,7 @@ impl<'a> Cutter<'a> {
 
     /// Looks, after the comma that the cutter is at, for a string without an escape or a line feed and then a second comma, with only white
     /// space between the three. If they are there, moves to the second comma, and returns the string's bytes with the quotes. Otherwise
-    /// returns `None`, and the cutter stays where it is. Does not allocate.
+    /// returns `None`, and the cutter stays where it is. Does not allocate. The quick pass over rows of characters calls it.
     #[inline(always)]
     pub fn string_and_comma(&mut self) -> Option<&'a [u8]>
         requires { IsAtComma self.old }
@@ -181,7 +182,8 @@ impl<'a> Cutter<'a> {
 
     /// Looks, after the comma that the cutter is at, for a token of the role `Other` (no opening, no word of a section, none of `: ; }`)
     /// and then a second comma, with only white space before it. If they are there, moves to the second comma, and returns the token.
-    /// Otherwise returns `None`, and the cutter stays where it is. Does not allocate.
+    /// Otherwise returns `None`, and the cutter stays where it is. Does not allocate. The quick pass over a list calls it for each token
+    /// between two commas that it takes neither as a plain number nor as a plain string.
     #[inline(always)]
     pub fn token_and_comma(&mut self) -> Option<Lexeme<'a>>
         requires { IsAtComma self.old }
@@ -198,7 +200,7 @@ impl<'a> Cutter<'a> {
         Some(Lexeme::of(listed.token, text))
     }
 
-    /// Returns the scanner, which stands after the next token.
+    /// Returns a copy of the scanner, which stands after the next token. A [`NumberList`](crate::NumberList) reads on with it.
     #[inline(always)]
     pub(crate) fn scanner(&self) -> Scanner<'a>
         ensures { result ≡ self.now.scanner }

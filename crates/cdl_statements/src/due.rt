@@ -71,8 +71,9 @@ impl Due {
         }
     }
 
-    /// Returns which token is due after `token`, by a table of all tokens that may be due. [`after`](Due::after) calls it unless
-    /// a constant or the separator after one was due.
+    /// Returns which token is due after `token`, in whose place `self` was due, by a table of all tokens that may be due: `Nothing` if the
+    /// statement is whole with `token`, and `Never` if `token` isn't what was due. [`after`](Due::after) calls it unless a constant or the
+    /// separator after one was due.
     #[inline(never)]
     #[tactic(auto, unfolding(crate::specs::code::DueTokens::next))]
     fn after_in_table(self, token: Lexeme<'_>) -> Due

@@ -34,7 +34,8 @@ impl<'a> NumberList<'a> {
     }
 
     /// If a plain number (decimal, at most 19 digits, no suffix) and a comma come next, with only white space before each, passes both and
-    /// returns the number. Otherwise returns `None`, and the list stays where it is. Does not allocate.
+    /// returns the number. Otherwise returns `None`, and the list stays where it is. Needs a list that began at a comma inside of a
+    /// statement. Does not allocate. Unlike [`Cutter::number_and_comma`], it moves only the scanner.
     #[inline(always)]
     pub fn number_and_comma(&mut self) -> Option<Numeral>
         requires { IsAtComma (reached self.old) }
@@ -45,7 +46,8 @@ impl<'a> NumberList<'a> {
         Some(listed.numeral)
     }
 
-    /// Returns the cutter at the comma that was read last, or at the first comma if no number was read.
+    /// Returns the cutter at the comma that was read last, or at the first comma if no number was read. Needs a list that began at a comma
+    /// inside of a statement.
     #[inline(always)]
     pub fn cutter(self) -> Cutter<'a>
         requires { IsAtComma (reached self) }

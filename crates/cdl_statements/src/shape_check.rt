@@ -38,9 +38,10 @@ pub fn check_shape(start: Cutter<'_>, section: Section) -> ShapeCheck<'_>
     check_shape_by_due(start, Due::First(section))
 }
 
-/// Checks the next statement of `start` as [`check_shape`] does, but not for a section: `first` says which token has to come first, and
-/// [`Due::after`] says which one has to come after each token. If `first` is `DataName`, for example, the statement has to list the values
-/// of a variable. Does not allocate.
+/// Checks the next statement of `start`. Returns the fault of its first bad token or bad number, whether it has the shape that is asked
+/// for, and the cutter after it. Unlike [`check_shape`], it isn't given a section: `first` says which token has to come first, and
+/// [`Due::after`] which one after each token. If `first` is `DataName`, for example, the statement has to list the values of a variable.
+/// Does not allocate.
 pub fn check_shape_by_due(start: Cutter<'_>, first: Due) -> ShapeCheck<'_>
     requires { is_done start ≡ false }
     ensures bad { result.bad ≡ first_bad (version_of start.entry) (words start.entry) }

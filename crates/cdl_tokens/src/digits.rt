@@ -45,7 +45,8 @@ pub fn hex_len(bytes: &[u8]) -> usize
     bytes.iter().take_while(|b| is_hex(**b)).count()
 }
 
-/// Returns the value of `digits` in the base `base`, or `None` if the value takes more than 64 bits.
+/// Returns the value of `digits` in the base `base`, or `None` if the value takes more than 64 bits. The value of no digits is 0. If a byte
+/// is no digit of the base, the result means nothing.
 pub fn number_in(base: u64, digits: &[u8]) -> Option<u64>
     requires some { 1 ≤ base }
     requires small { base ≤ 16 }

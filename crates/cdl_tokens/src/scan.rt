@@ -201,7 +201,8 @@ fn word_len(bytes: &[u8]) -> usize
     at
 }
 
-/// Returns true if a backslash stands at the offset `at`, and a byte comes after it.
+/// Returns true if a backslash stands at the offset `at`, and a byte comes after it. It is for strings and for the opening, in which a
+/// backslash escapes any byte; [`is_escape`] is for words.
 fn is_escaping(bytes: &[u8], at: usize) -> bool
     requires { at < length bytes.now }
     ensures { result ≡ (slice_index bytes.now at == 0x5c && nat_lt (at + 1) (length bytes.now)) }

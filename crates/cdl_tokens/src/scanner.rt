@@ -91,7 +91,7 @@ impl<'a> Scanner<'a> {
     }
 
     /// Reads a plain number (decimal, at most 19 digits after an optional sign, no suffix) and the comma after it, if they come next with
-    /// only white space before each. Otherwise returns `None`, and the scanner stays where it is.
+    /// only white space before each. Otherwise returns `None`, and the scanner stays where it is. It is for the quick pass over a list.
     #[inline(always)]
     pub fn number_and_comma(&mut self) -> Option<ListedNumber>
         ensures tokens { IfSome result (λ l. left self.old ≡ l.number ∷ l.comma ∷ left self.new) }
@@ -115,8 +115,8 @@ impl<'a> Scanner<'a> {
         })
     }
 
-    /// Reads a string without an escape or a line feed and the comma after it, if they come next with only white space before
-    /// each. Otherwise returns `None`, and the scanner stays where it is.
+    /// Reads a string without an escape or a line feed and the comma after it, if they come next with only white space before each.
+    /// Otherwise returns `None`, and the scanner stays where it is. It is for the quick pass over rows of characters.
     #[inline(always)]
     pub fn string_and_comma(&mut self) -> Option<ListedToken>
         ensures tokens { IfSome result (λ l. left self.old ≡ l.token ∷ l.comma ∷ left self.new) }
@@ -136,8 +136,9 @@ impl<'a> Scanner<'a> {
         Some(ListedToken { token, comma })
     }
 
-    /// Reads the next token and the comma after it, if only white space stands between them. Otherwise, and at the end of the
-    /// text, returns `None`, and the scanner stays where it is.
+    /// Reads the next token and the comma after it, if only white space stands between them. Otherwise, and at the end of the text, returns
+    /// `None`, and the scanner stays where it is. The quick pass over a list calls it for each token between two commas that it takes
+    /// neither as a plain number nor as a plain string.
     #[inline(always)]
     pub fn token_and_comma(&mut self) -> Option<ListedToken>
         ensures tokens { IfSome result (λ l. left self.old ≡ l.token ∷ l.comma ∷ left self.new) }
@@ -187,8 +188,9 @@ impl<'a> Scanner<'a> {
         }
     }
 
-    /// Reads a comma as [`comma`](Scanner::comma) does, but doesn't look for it if `at_comma` is true. Needs an `at_comma` that is true
-    /// only if the next byte is a comma.
+    /// Passes the comma that comes next, and returns its token. If `at_comma` is true, the comma is the next byte, and isn't looked for.
+    /// Otherwise skips the white space before it by [`comma`](Scanner::comma); if no comma comes then, returns `None`, and the white space
+    /// stays skipped. Needs an `at_comma` that is true only if the next byte is a comma.
     #[inline(always)]
     fn take_or_find_comma(&mut self, at_comma: bool) -> Option<Token>
         requires { at_comma ≡ true → slice_index (text_of self.old) (offset_of self.old) ≡ 0x2c }

@@ -25,8 +25,8 @@ pub fn len_before_any(bytes: &[u8], a: u8, b: u8, c: u8) -> usize
     }
 }
 
-/// Returns how many bytes come before the first one that equals `a`, `b` or `c`, as [`len_before_any`] does. It tests [`BLOCK`] bytes at
-/// once, which suits a match that is far away.
+/// Returns how many bytes come before the first one that equals `a`, `b` or `c`, or the number of all bytes if there is none. It tests
+/// [`BLOCK`] bytes at once, which suits a match that is far away: [`len_before_any`] calls it for the bytes after the first [`NEAR`].
 #[inline(never)]
 fn far_len(bytes: &[u8], a: u8, b: u8, c: u8) -> usize
     ensures len { result ≡ prefix_len (is_none_of a b c) bytes.now }
@@ -45,8 +45,9 @@ fn far_len(bytes: &[u8], a: u8, b: u8, c: u8) -> usize
     at + near_len(rest, a, b, c)
 }
 
-/// Returns how many bytes come before the first one that equals `a`, `b` or `c`, as [`len_before_any`] does. It tests one byte after the
-/// other, which suits a match that is near.
+/// Returns how many bytes come before the first one that equals `a`, `b` or `c`, or the number of all bytes if there is none. It tests one
+/// byte after the other, which suits a match that is near: [`len_before_any`] calls it for the first [`NEAR`] bytes, and [`far_len`] if a
+/// match or the end is less than [`BLOCK`] bytes away.
 fn near_len(bytes: &[u8], a: u8, b: u8, c: u8) -> usize
     ensures len { result ≡ prefix_len (is_none_of a b c) bytes.now }
     ensures within { result ≤ length bytes.now }
@@ -57,7 +58,8 @@ fn near_len(bytes: &[u8], a: u8, b: u8, c: u8) -> usize
         .count()
 }
 
-/// Returns true if one of the bytes equals the argument `a`, `b` or `c`. It tests all bytes, even after it has found one.
+/// Returns true if one of `bytes`, a block of [`far_len`], equals the argument `a`, `b` or `c`. It tests all bytes, even after it has found
+/// one, so that the compiler can use vector instructions.
 fn has_any(bytes: &[u8], a: u8, b: u8, c: u8) -> bool
     ensures { result ≡ list_any (λ x. not (is_none_of a b c x)) bytes.now }
 {

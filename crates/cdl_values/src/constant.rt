@@ -55,8 +55,9 @@ pub fn read_constants(
     }
 }
 
-/// Appends to `vals` the bytes of the token's constant, or nothing if the token is a mark. Takes any other token for a constant. Errs as
-/// [`put_constant`] does.
+/// Appends to `vals` the bytes of the token's constant, or nothing if the token is a mark. Errs with `MixedConstants` if any other token is
+/// no number or string of the type `ty`, with `NumberRange` if a number is out of the range of `ty` (nothing is appended either way), and
+/// with `OutOfMemory` if an allocation failed (bytes of a string may be appended then).
 fn put_token(
     vals: &mut ListedArray,
     version: Version,
@@ -72,7 +73,8 @@ fn put_token(
 }
 
 /// Appends to `vals` the bytes of a constant. Errs with `MixedConstants` if the token is no number or string of the type `ty`, with
-/// `NumberRange` if a number is out of the range of `ty` (nothing is appended either way), and with `OutOfMemory` if an allocation failed.
+/// `NumberRange` if a number is out of the range of `ty` (nothing is appended either way), and with `OutOfMemory` if an allocation failed
+/// (bytes of a string may be appended then).
 #[tactic(auto, unfolding(cdl_statements::specs::code::Contents::value_of))]
 fn put_constant(
     vals: &mut ListedArray,
@@ -90,8 +92,8 @@ fn put_constant(
 }
 
 /// Appends to `vals` the bytes of a number, big-endian. Unlike [`put_numeral`], it checks the type, which comes from the number's suffix.
-/// Errs with `MixedConstants` if this type isn't `ty`, with `NumberRange` if the number is out of the range of `ty` (nothing is appended in
-/// either case), and with `OutOfMemory` if an allocation failed.
+/// Errs with `MixedConstants` if this type isn't `ty`, with `NumberRange` if the number is out of the range of `ty`, and with `OutOfMemory`
+/// if an allocation failed. Nothing is appended in any of these cases.
 fn put_number_constant(vals: &mut ListedArray, ty: NcType, n: Numeral) -> Result<(), ReadError>
     ensures { AddsNumber ty n vals.old vals.new result }
 {

@@ -135,8 +135,9 @@ fn read_quickly<'a>(
     })
 }
 
-/// Reads a statement as [`read_quickly`] does, but in two passes, so that it can name the first fault: the first pass finds a bad token, a
-/// bad number or a wrong shape, and the second reads the values. Errs with the statement's first fault, or if an allocation failed.
+/// Reads the next statement of `start` in two passes, so that it can name the first fault, which [`read_quickly`] doesn't: the first pass
+/// finds a bad token, a bad number or a wrong shape, and the second reads the values. Errs with the statement's first fault, or if an
+/// allocation failed.
 fn read_slowly<'a>(
     alloc: Global,
     names: &VariableNames<'_>,

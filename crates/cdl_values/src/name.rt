@@ -30,7 +30,8 @@ pub fn read_name(alloc: Global, word: &[u8]) -> Result<Vec<u8>, ReadError>
     Ok(name)
 }
 
-/// Returns the name that a word stands for: its bytes, with each escape replaced by the byte that it escapes.
+/// Returns the name that a word stands for: its bytes, with each escape replaced by the byte that it escapes. Unlike [`read_name`], it
+/// doesn't check if the format allows the name.
 ///
 /// # Errors
 ///

@@ -28,7 +28,8 @@ pub fn number_or_zero(version: Version, bytes: &[u8]) -> Numeral
 }
 
 /// Appends to `array` the bytes of a number, big-endian, in the width of `ty`. The type of the number's suffix is ignored. Errs with
-/// `NumberRange` if the number is out of the range of `ty` (nothing is appended then), and with `OutOfMemory` if an allocation failed.
+/// `NumberRange` if the number is out of the range of `ty`, and with `OutOfMemory` if an allocation failed. Nothing is appended in either
+/// case.
 #[inline(always)]
 pub fn put_numeral(array: &mut ListedArray, ty: NcType, n: Numeral) -> Result<(), ReadError>
     ensures adds { Adds array.old array.new result (held_bytes ty n.minus n.magnitude) }
@@ -42,7 +43,9 @@ pub fn put_numeral(array: &mut ListedArray, ty: NcType, n: Numeral) -> Result<()
     }
 }
 
-/// Appends the bytes of a number as [`put_numeral`] does, but inlines [`put_number_inline`], for a loop over numbers of one type.
+/// Appends to `array` the bytes of a number, big-endian, in the width of `ty`. Errs with `NumberRange` if the number is out of the range of
+/// `ty`, and with `OutOfMemory` if an allocation failed. Nothing is appended in either case. It is [`put_numeral`] for a loop over numbers
+/// of one type: [`put_number_inline`] is inlined into it.
 #[inline(always)]
 pub fn put_numeral_inline(array: &mut ListedArray, ty: NcType, n: Numeral) -> Result<(), ReadError>
     ensures adds { Adds array.old array.new result (held_bytes ty n.minus n.magnitude) }
@@ -57,7 +60,7 @@ pub fn put_numeral_inline(array: &mut ListedArray, ty: NcType, n: Numeral) -> Re
 }
 
 /// Appends to `array` the number, big-endian, in the width of `ty`. Needs a number in the range of `ty`: unlike [`put_numeral`], it doesn't
-/// check the range. Errs only if an allocation failed.
+/// check the range. Errs only if an allocation failed; nothing is appended then.
 #[inline(never)]
 pub fn put_number(array: &mut ListedArray, ty: NcType, number: i128) -> Result<(), AllocError>
     requires { IsInRange ty number }
@@ -66,7 +69,8 @@ pub fn put_number(array: &mut ListedArray, ty: NcType, number: i128) -> Result<(
     put_number_inline(array, ty, number)
 }
 
-/// Appends to `array` the number as [`put_number`] does, but is inlined into its caller.
+/// Appends to `array` the number, big-endian, in the width of `ty`. Unlike [`put_number`], it is inlined into its caller. Needs a number in
+/// the range of `ty`. Errs only if an allocation failed; nothing is appended then.
 #[inline(always)]
 fn put_number_inline(array: &mut ListedArray, ty: NcType, number: i128) -> Result<(), AllocError>
     requires { IsInRange ty number }

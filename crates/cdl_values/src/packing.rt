@@ -56,8 +56,10 @@ pub fn pack(
     }
 }
 
-/// Packs the values from the next token to the end of the statement as [`pack`] does, and checks the tokens and their shape in the same
-/// pass. Returns the bytes, and the cutter after the statement.
+/// Packs the values from the next token of `start` to the end of the statement, and checks the tokens and their shape in the same pass.
+/// Unlike [`pack`], it doesn't say which fault it finds: it belongs to the quick pass. Returns the bytes of the values, big-endian and one
+/// after the other, and the cutter after the statement. `filling` is the form in which the variable takes values, and `capacity` is how
+/// many it takes.
 ///
 /// # Errors
 ///

@@ -44,8 +44,10 @@ impl From<ReadError> for FastPathFault {
     }
 }
 
-/// Appends to `array` the bytes of the token's value, or nothing if the token is a mark, and returns the capacity that is left. Errs as
-/// [`put_token_value`] does.
+/// Appends to `array` the bytes of the token's value, or nothing if the token is a mark, and returns the capacity that is left. Unlike
+/// [`put_checked_token`], it doesn't check the token. Errs with `WrongKind`, `TooManyValues`, `NumberRange` or `StringTooLong` if the value
+/// has that fault, and with `OutOfMemory` if an allocation failed. After `StringTooLong` or `OutOfMemory`, bytes of a string may be
+/// appended.
 pub fn put_token(
     array: &mut ListedArray,
     version: Version,
@@ -65,9 +67,10 @@ pub fn put_token(
     }
 }
 
-/// Appends the token's value to `array` as [`put_token`] does, and checks the token, too. Returns what capacity is left, and which token
-/// has to come next. If `due` doesn't allow this token, that is `Never`, and the value is appended all the same. Errs with `Unnamed` if the
-/// token or its value has a fault (bytes of the value may be appended then), and with `OutOfMemory` if an allocation failed.
+/// Appends to `array` the bytes of the token's value, or nothing if the token is a mark, and checks the token, unlike [`put_token`].
+/// Returns what capacity is left, and which token has to come next. If `due` doesn't allow this token, that is `Never`, and the value is
+/// appended all the same. Errs with `Unnamed` if the token or its value has a fault, and with `OutOfMemory` if an allocation failed; either
+/// way, bytes of the value may be appended.
 #[inline]
 pub fn put_checked_token(
     array: &mut ListedArray,
@@ -92,7 +95,7 @@ pub fn put_checked_token(
 }
 
 /// Appends to `array` the value of a token, and returns what capacity is left. Needs a token that is no mark. Errs with `Unnamed` if the
-/// token or its value has a fault (bytes of the value may be appended then), and with `OutOfMemory` if an allocation failed.
+/// token or its value has a fault, and with `OutOfMemory` if an allocation failed; either way, bytes of the value may be appended.
 pub fn put_checked_value(
     array: &mut ListedArray,
     version: Version,
@@ -120,7 +123,8 @@ pub fn put_checked_value(
 }
 
 /// Appends to `array` the value of a token that is no number or mark: a string, or the fill value for `_` or any other token. Errs with
-/// `Unnamed` if the token is bad or its value has a fault (bytes of it may stay appended), and with `OutOfMemory` if an allocation failed.
+/// `Unnamed` if the token is bad or its value has a fault, and with `OutOfMemory` if an allocation failed; either way, bytes of the value
+/// may be appended.
 #[inline(never)]
 fn put_non_number(
     array: &mut ListedArray,
@@ -139,9 +143,9 @@ fn put_non_number(
     }
 }
 
-/// Appends to `array` the bytes of a number. `bytes` is its token. Errs with `Unnamed`, and appends nothing, if the filling isn't
-/// `Numbers`, if the capacity is 0, if the token is no number of the version, or if the number is out of the type's range. Errs with
-/// `OutOfMemory` if an allocation failed.
+/// Appends to `array` the bytes of a number. `bytes` is its token. Errs with `Unnamed` if the filling isn't `Numbers`, if the capacity is
+/// 0, if the token is no number of the version, or if the number is out of the type's range. Errs with `OutOfMemory` if an allocation
+/// failed. Nothing is appended in any of these cases.
 #[tactic(auto, unfolding(cdl_statements::specs::code::Contents::value_of), using(crate::proofs::Ranges::number_added, crate::proofs::Ranges::good_number))]
 fn put_checked_number(
     array: &mut ListedArray,
@@ -194,8 +198,8 @@ fn put_token_value(
 
 /// Appends to `array` the bytes of the number that `token` says, or those of the fill value if the token is neither a string nor a number.
 /// `version` decides which suffixes a number may have. `full` is true if the capacity is 0. Errs with `WrongKind` if the token is a string,
-/// with `TooManyValues` if `full`, with `NumberRange` if the number is out of the type's range (nothing is appended in these three cases),
-/// and with `OutOfMemory` if an allocation failed.
+/// with `TooManyValues` if `full`, with `NumberRange` if the number is out of the type's range, and with `OutOfMemory` if an allocation
+/// failed; in each case nothing is appended.
 #[tactic(auto, unfolding(cdl_statements::specs::code::Contents::value_of), using(crate::proofs::Ranges::held_is, cdl_meaning::proofs::InRange::has_it))]
 fn put_number_or_fill(
     array: &mut ListedArray,

@@ -163,8 +163,10 @@ fn take_more_numbers<'a>(
     }
 }
 
-/// Appends to `array` the plain numbers that come next, and returns what is unread after them, or errs, as [`take_more_numbers`] does. That
-/// only chooses `ty`, the type of `fill`. Each call gives it as a constant, so that the loop doesn't ask for it.
+/// Appends to `array` the plain numbers that come next, and returns what is unread after them. Stops before the first value that isn't a
+/// plain number with a comma after it, and when the capacity is used up. [`take_more_numbers`] gives `ty`, the type of `fill`, as a
+/// constant, so that the loop doesn't ask for it. Needs a cutter at a comma, with its scanner just after this comma. Errs with `Unnamed` if
+/// a number is out of the type's range, and with `OutOfMemory` if an allocation failed; the numbers before stay appended.
 #[inline(always)]
 fn take_numbers_of_type<'a>(
     array: &mut ListedArray,

@@ -33,6 +33,8 @@ impl From<AllocError> for OptFault {
 impl From<io::Error> for OptFault {
     ghost from_gives = { λ error e. (error_kind error ≡ io_kind.OutOfMemory → e ≡ opt.OutOfMemory) × (error_kind error ≢ io_kind.OutOfMemory → e ≡ opt.Usage) };
 
+    /// Turns an error of reading the words or of making a buffer into [`OptFault::OutOfMemory`] if its kind says so, otherwise into
+    /// [`OptFault::Usage`], for the `?` after `env::args` and `BufWriter::with_capacity`.
     fn from(error: io::Error) -> OptFault {
         match error.kind() {
             io::ErrorKind::OutOfMemory => OptFault::OutOfMemory,
@@ -45,6 +47,8 @@ impl From<io::Error> for OptFault {
 impl From<clap::Error> for OptFault {
     ghost from_gives = { λ error e. (kind_of error ≡ kind.OutOfMemory → e ≡ opt.OutOfMemory) × (kind_of error ≢ kind.OutOfMemory → e ≡ opt.Usage) };
 
+    /// Turns an error of matching the words into [`OptFault::OutOfMemory`] if its kind says so, otherwise into [`OptFault::Usage`], for the
+    /// `?` after `try_get_matches_from`.
     fn from(error: clap::Error) -> OptFault {
         match error.kind() {
             ErrorKind::OutOfMemory => OptFault::OutOfMemory,

@@ -215,11 +215,14 @@ impl<S: Source> Source for ReadAhead<S> {
 
     ghost view = { view_of };
 
+    /// Returns the number of the other source's bytes.
     fn len(&self) -> u64 {
         self.source.len()
     }
 
-    /// Copies bytes out of the stretch if the stretch has the byte at the offset `at`, otherwise reads them as `read_and_count` does.
+    /// Reads bytes from the offset `at` on to the start of `into`, out of the stretch if it has the byte at `at`, otherwise from the other
+    /// source, and returns how many. Errs, and counts one failure, if the other source fails, or if the number of bytes handed over could
+    /// reach 2^128. After an error no byte is handed over, and `into` may hold anything.
     #[tactic(auto, unfolding(crate::specs::Failures::HasFailed))]
     fn read_at(&mut self, at: u64, into: &mut [u8]) -> Result<usize, SourceFailed>
         requires room { 0 < length into.old }

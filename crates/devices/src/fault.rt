@@ -26,6 +26,7 @@ pub struct CloseFailed;
 
 /// Lets a function that writes a text pass on a failure of its sink with `?`.
 impl From<SinkFailed> for WriteFailed {
+    /// Turns a failure of the sink into [`WriteFailed`], for the `?` after a call of `write_some`.
     fn from(_failure: SinkFailed) -> WriteFailed {
         WriteFailed
     }

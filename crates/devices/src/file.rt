@@ -60,10 +60,14 @@ impl Source for OpenFile {
 
     ghost view = { λ s. record { bytes = replicate s.len 0; failures = s.failures; handed = s.handed } };
 
+    /// Returns the length that the file had when it was opened.
     fn len(&self) -> u64 {
         self.len
     }
 
+    /// Reads bytes from the offset `at` on to the start of `into`, by one call of the system, and returns how many it got: 0 if the file
+    /// has no byte at `at`, as when it has become shorter. Errs, and counts one failure, if the call fails, or without a call if the number
+    /// of bytes read could reach 2^128.
     #[tactic(auto, unfolding(crate::specs::Failures::HasFailed))]
     fn read_at(&mut self, at: u64, into: &mut [u8]) -> Result<usize, SourceFailed> {
         if u128::MAX - self.handed < into.len() as u128 {
@@ -121,6 +125,8 @@ impl<W: Write> Sink for IoSink<W> {
 
     ghost view = { view_of W.contents };
 
+    /// Passes the bytes to the writer by one call, and returns how many it has taken. Passes nothing if `bytes` is empty. Errs, and counts
+    /// one failure, if the writer errs or takes no byte: none of the bytes is taken then.
     #[tactic(auto, using(crate::proofs::Writes::devices), unfolding(crate::specs::Sinks::append, crate::specs::Sinks::taken_len, crate::specs::Sinks::IsCut, crate::specs::Sinks::is_transparent, crate::specs::Failures::HasFailed))]
     fn write_some(&mut self, bytes: &[u8]) -> Result<usize, SinkFailed> {
         if bytes.is_empty() {
@@ -138,6 +144,7 @@ impl<W: Write> Sink for IoSink<W> {
 impl<W: Write> Flush for IoSink<W> {
     ghost is_flushed = { λ s. s.is_flushed };
 
+    /// Flushes the writer. Errs, and counts one failure, if the writer errs: it may still hold bytes back then.
     #[tactic(auto, using(crate::proofs::Writes::devices), unfolding(crate::specs::Sinks::append, crate::specs::Sinks::taken_len, crate::specs::Sinks::IsCut, crate::specs::Sinks::is_transparent, crate::specs::Failures::HasFailed))]
     fn flush(&mut self) -> Result<(), SinkFailed> {
         let answer = self.writer.flush();

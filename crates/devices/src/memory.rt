@@ -47,10 +47,13 @@ impl Source for MemSource<'_> {
 
     ghost view = { view_of };
 
+    /// Returns the number of the slice's bytes.
     fn len(&self) -> u64 {
         length_of(self.bytes)
     }
 
+    /// Copies bytes of the slice, from the offset `at` on, to the start of `into`, as many as there are and fit. Returns how many. Errs,
+    /// and counts one failure, only if the number of bytes read would reach 2^128: nothing is copied then.
     #[tactic(auto, unfolding(crate::specs::Failures::HasFailed))]
     fn read_at(&mut self, at: u64, into: &mut [u8]) -> Result<usize, SourceFailed>
         requires room { 0 < length into.old }
@@ -120,7 +123,8 @@ impl Sink for MemSink {
 
     ghost view = { sink_view_of };
 
-    /// Takes all of the bytes. Errs if an allocation fails.
+    /// Takes all of the bytes, and returns how many they are. Errs, and counts one failure, if an allocation fails: it takes none of them
+    /// then.
     #[tactic(auto, using(crate::proofs::Writes::devices), unfolding(crate::specs::Sinks::append, crate::specs::Sinks::taken_len, crate::specs::Sinks::IsCut, crate::specs::Sinks::is_transparent, crate::specs::Failures::HasFailed))]
     fn write_some(&mut self, bytes: &[u8]) -> Result<usize, SinkFailed> {
         if bytes.is_empty() {

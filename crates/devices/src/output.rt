@@ -58,6 +58,8 @@ impl<R: Files<File = File>> Creator for SystemOutputs<'_, R> {
 
     ghost view = { λ s. record { given = []; creations = s.creations; failures = s.failures } };
 
+    /// Creates the file at the path, or empties it, and returns a sink that writes to it through a buffer of 64 KiB, which is allocated.
+    /// Errs, and counts one failure, if the buffer can't be allocated, the file can't be created, or 2^128 - 1 outputs were created before.
     #[tactic(auto, unfolding(crate::specs::Failures::HasFailed))]
     fn create(&mut self, path: &str) -> Result<IoSink<BufWriter<OutputFile<File>>>, CreateFailed> {
         if self.creations < u128::MAX {
@@ -70,7 +72,9 @@ impl<R: Files<File = File>> Creator for SystemOutputs<'_, R> {
         Err(CreateFailed)
     }
 
-    /// Flushes the output to its file, and then drops the output, which closes the file. The path isn't needed for that.
+    /// Flushes the output to its file, adds the output's failures to its own, up to `u128::MAX`, and drops the output, which closes the
+    /// file. The path isn't needed for that. Errs if the flush fails: then it counts one failure in place of those of the output, and drops
+    /// the output all the same.
     #[tactic(auto, unfolding(crate::specs::Failures::HasFailed))]
     fn close(
         &mut self,
@@ -98,6 +102,8 @@ pub struct OutputFile<W: Write> {
 impl<W: Write> Write for OutputFile<W> {
     ghost contents = { λ output. option_and_then W.contents output.file };
 
+    /// Passes the bytes to the file's writer, and returns how many it has taken. Errs if that writer does, and with `NotFound` if the file
+    /// hasn't been created yet.
     fn write(&mut self, bytes: &[u8]) -> io::Result<usize> {
         match &mut self.file {
             Some(file) => file.write(bytes),
@@ -105,6 +111,7 @@ impl<W: Write> Write for OutputFile<W> {
         }
     }
 
+    /// Flushes the file's writer, and errs if that does. Does nothing if the file hasn't been created yet.
     fn flush(&mut self) -> io::Result<()> {
         match &mut self.file {
             Some(file) => file.flush(),

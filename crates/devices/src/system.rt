@@ -50,11 +50,14 @@ impl<R: Files<File = File>> Opener for SystemFiles<'_, R> {
 
     ghost view = { view_of };
 
+    /// Opens the regular file at the path as a source, which keeps the length that the file has now. Errs if the path names no regular
+    /// file, the file can't be opened for reading, or the system doesn't tell its kind or its length. The attempt is counted in any case.
     fn open(&mut self, path: &str) -> Result<FileSource, OpenFailed> {
         self.opens = self.opens.saturating_add(1);
         FileSource::open(self.rt, path)
     }
 
+    /// Adds the failures of the source to its own, up to `u128::MAX`, and drops the source, which closes the file.
     fn close(&mut self, source: FileSource) {
         self.failures = self.failures.saturating_add(source.failures());
     }
@@ -69,6 +72,8 @@ impl<R: Files<File = File>> TextOpener for SystemFiles<'_, R> {
 
     ghost view = { view_of };
 
+    /// Opens the file at the path, which may also be a pipe or a device, as a text, and returns a reader of it. Errs if it can't be opened,
+    /// if the system doesn't tell its kind, or if it is a directory.
     // the attempt is counted, whether the path opens or not
     fn open_text(&mut self, path: &str) -> Result<CountedRead<File>, OpenFailed> {
         self.opens = self.opens.saturating_add(1);
@@ -76,6 +81,7 @@ impl<R: Files<File = File>> TextOpener for SystemFiles<'_, R> {
         Ok(CountedRead::new(file))
     }
 
+    /// Adds the failures of the text to its own, up to `u128::MAX`, and drops the text, which closes the file.
     fn close_text(&mut self, text: CountedRead<File>)
         ensures { HasBack (view_of self.old) (view_of self.new) text.failures }
     {

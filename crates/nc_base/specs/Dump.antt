@@ -75,7 +75,7 @@ pub record VariableValues : Type 0 where
   pub values : List ℤ
   pub missing : Option ℕ
 
--- what a file with these bytes has of a variable over n records (its place doesn't matter; of a dataset it tells the array)
+-- what a file with these bytes has of a variable over n records (its place doesn't matter; in a dataset it is that of its array)
 abbrev pub values_in_file : Header → Bytes → ℕ → ℕ → Var → VariableValues
 values_in_file h bytes n _ var = record { values = stored_values h bytes var n; missing = first_missing h bytes var n }
 

@@ -65,7 +65,8 @@ impl Quoting {
     }
 
     /// Returns how the byte is written in a name or in a string, whichever this is (ncdump(1), and the chapter on CDL of the NetCDF User's
-    /// Guide).
+    /// Guide). The first byte of a name may get a backslash even if this returns [`Escape::Plain`] for it ([`begins_with_digit_or_mark`],
+    /// [`is_reserved`]).
     pub fn escape(self, b: u8) -> Escape
         ensures { written result b ≡ escaped_in self b }
     {

@@ -44,7 +44,7 @@ impl Model for ListedArray {
 }
 
 impl ListedArray {
-    /// Creates an array without bytes. It does not allocate.
+    /// Creates an array without bytes, and allocates nothing. The array takes its memory from `alloc` as it grows.
     #[tactic(auto, unfolding(crate::specs::code::ListedRows::filled_rows))]
     pub fn new(alloc: Global) -> ListedArray
         ensures { result ≡ [] }

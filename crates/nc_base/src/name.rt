@@ -47,14 +47,15 @@ fn is_utf8(bytes: &[u8]) -> bool
     str::from_utf8(bytes).is_ok()
 }
 
-/// Returns true if a name may begin with this byte.
+/// Returns true if a name may begin with this byte: if it is a letter, a digit, `_` or a byte from 0x80.
 fn may_begin(b: u8) -> bool
     ensures { result ≡ may_begin_name b }
 {
     b.is_ascii_alphabetic() || b.is_ascii_digit() || b == b'_' || b >= 0x80
 }
 
-/// Returns true if this byte may stand in a name after its first byte.
+/// Returns true if this byte may stand in a name after its first byte: if it is an ASCII character from space to `~` other than `/`, or a
+/// byte from 0x80.
 fn may_follow(b: u8) -> bool
     ensures { result ≡ may_follow_in_name b }
 {

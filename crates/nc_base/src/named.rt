@@ -18,6 +18,7 @@ pub trait Named {
 impl Named for Dim {
     ghost name_of = { λ d. d.name };
 
+    /// Returns the bytes of the dimension's name.
     fn name(&self) -> &[u8] {
         self.name.as_slice()
     }
@@ -26,6 +27,7 @@ impl Named for Dim {
 impl Named for Att {
     ghost name_of = { λ a. a.name };
 
+    /// Returns the bytes of the attribute's name.
     fn name(&self) -> &[u8] {
         self.name.as_slice()
     }
@@ -34,6 +36,7 @@ impl Named for Att {
 impl Named for Var {
     ghost name_of = { λ v. v.name };
 
+    /// Returns the bytes of the variable's name.
     fn name(&self) -> &[u8] {
         self.name.as_slice()
     }
@@ -42,6 +45,7 @@ impl Named for Var {
 impl Named for Sequence<u8> {
     ghost name_of = { λ name. name };
 
+    /// Returns the bytes of the sequence, which is a name itself.
     fn name(&self) -> &[u8] {
         self.as_slice()
     }

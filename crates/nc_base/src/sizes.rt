@@ -136,7 +136,8 @@ pub fn extent_end(header: &Header, v: usize, records: u64) -> u128
 }
 
 /// Returns the offset that [`extent_end`] returns: the begin for a record variable over 0 records, otherwise the sum of the begin, the
-/// bytes of the slab, and for a record variable one record size for each record after the first. Needs a sound header ([`Header::sound`]).
+/// bytes of the slab, and for a record variable one record size for each record after the first. It is there for its contract, which states
+/// this sum: the contract of [`extent_end`] states where the last value ends. Needs a sound header ([`Header::sound`]).
 fn extent_sum(header: &Header, v: usize, records: u64) -> u128
     requires sound { IsSound header.now }
     requires there { v < length header.now.vars }

@@ -37,8 +37,9 @@ pub(crate) struct Window<'a, S: Source> {
 impl<S: Source> Window<'_, S> {
     ghost use Rattle.nc_file.specs.code.Window.{FailsOnly, Kept, Refilled, Read, ReadNext, Filled, Ready};
 
-    /// Needs a window whose bytes have all been used. Reads the next bytes of the source in their place, and returns true if at least one
-    /// came, or false if the source has no more. If the source fails, it errs with `ReadFailed`, and the window holds no bytes.
+    /// Reads the next bytes of the source in place of those in the window, and returns true if at least one came, or false if the source
+    /// has no more. If the source fails, it errs with `ReadFailed`, and the window holds no bytes. Needs a window whose bytes have all been
+    /// used.
     fn refill(&mut self) -> Result<bool, HeadFault>
         requires empty { self.old.pos ≡ self.old.filled }
         ensures kept { Kept self.old self.new }
@@ -110,7 +111,8 @@ impl<S: Source> Window<'_, S> {
         bytes
     }
 
-    /// Reads an array as [`array`](Window::array) does, but byte by byte. It is for an array that the window doesn't hold whole.
+    /// Reads `N` bytes, one after the other, and returns them. [`array`](Window::array) calls it if the window doesn't hold them all. Errs
+    /// with `HeaderTruncated` if fewer are left, and with `ReadFailed` if the source fails.
     #[tactic(auto, using(crate::proofs::Loops::array))]
     fn array_by_bytes<const N: usize>(&mut self) -> Result<[u8; N], HeadFault>
         ensures { Read self.old self.new (bytes_at N []) result }
@@ -153,14 +155,16 @@ impl<S: Source> Window<'_, S> {
         }
     }
 
-    /// Reads a big-endian number of four bytes, and returns it as a `u64`. Errs as [`read_u32`](Window::read_u32) does.
+    /// Reads a big-endian number of four bytes, and returns it as a `u64`, for a field that has eight bytes in other versions. Errs with
+    /// `HeaderTruncated` if fewer are left, and with `ReadFailed` if the source fails.
     pub(crate) fn read_u32_as_u64(&mut self) -> Result<u64, HeadFault>
         ensures { Read self.old self.new (number_at w32) result }
     {
         Ok(self.read_u32()? as u64)
     }
 
-    /// Reads a count or a length (`NON_NEG`) as [`number`](Window::number) does, but errs with `BadCount` if its top bit is 1.
+    /// Reads a count or a length (`NON_NEG`), a big-endian number of eight bytes in CDF-5 and otherwise four. Errs with `BadCount` if its
+    /// top bit is 1, with `HeaderTruncated` if fewer bytes are left, and with `ReadFailed` if the source fails.
     #[tactic(auto, using(crate::proofs::Parts::parts), unfolding(crate::specs::code::Reading::count_at))]
     pub(crate) fn count(&mut self, version: Version) -> Result<u64, HeadFault>
         ensures { Read self.old self.new (count_at version) result }
@@ -232,7 +236,8 @@ impl<S: Source> Window<'_, S> {
         Ok(())
     }
 
-    /// Passes over `n` bytes as [`skip`](Window::skip) does, but byte by byte. It is for the case that the window doesn't hold them all.
+    /// Passes over `n` bytes, one after the other. [`skip`](Window::skip) calls it if the window doesn't hold them all. Errs with
+    /// `HeaderTruncated` if fewer are left, and with `ReadFailed` if the source fails.
     #[tactic(auto, using(crate::proofs::Loops::skip))]
     fn skip_by_bytes(&mut self, n: u64) -> Result<(), HeadFault>
         ensures { Read self.old self.new (skip_at n) result }
@@ -244,7 +249,8 @@ impl<S: Source> Window<'_, S> {
     }
 
     /// Reads `n` bytes and the padding after them, up to a multiple of four, and returns the bytes without the padding, which may be any
-    /// bytes. Errs as [`bytes`](Window::bytes) and [`skip`](Window::skip) do.
+    /// bytes. Errs with `HeaderTruncated` if fewer are left, with `ReadFailed` if the source fails, and with `OutOfMemory` if an allocation
+    /// fails.
     #[tactic(auto, using(crate::proofs::Parts::parts), unfolding(crate::specs::code::Reading::padded_at))]
     pub(crate) fn padded(&mut self, alloc: Global, n: u128) -> Result<Sequence<u8>, HeadFault>
         ensures { Read self.old self.new (padded_at n) result }

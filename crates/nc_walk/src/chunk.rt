@@ -31,8 +31,10 @@ impl Chunk {
     }
 }
 
-/// Reads `ready` values of one slab into the start of `into`, as [`read_values`] does and under its conditions. Returns a [`Chunk`]: how
-/// many values were read (fewer than `ready` if the source has ended before its length), and the cursor after them.
+/// Reads `ready` values of one slab into the start of `into`, by [`read_values`]. Returns a [`Chunk`]: how many values were read (fewer
+/// than `ready` if the source has ended before its length), and the cursor after them. The first value is at `cursor`, and `at` is its
+/// offset in the file. Needs a `ready` of at least 1, and values that all end inside of the slab, of `into`, and of the source by its
+/// length.
 ///
 /// # Errors
 ///

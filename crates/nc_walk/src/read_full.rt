@@ -32,8 +32,9 @@ pub(crate) fn read_full<S: Source>(
     Ok(got + more)
 }
 
-/// Reads bytes as [`read_full`] does, in as many reads as it takes, into a slice that may be empty. It is for the bytes that the one read
-/// of [`read_full`] didn't get.
+/// Reads the bytes from the offset `at` on until the slice, which may be empty, is full, or a read gets no byte because the source has
+/// ended. Returns how many bytes were read. It is for the bytes that the one read of [`read_full`] didn't get. Needs a source that by its
+/// length has bytes for all of the slice.
 ///
 /// # Errors
 ///

@@ -100,7 +100,7 @@ impl Slabs {
     }
 
     /// Returns how many values one read can take from this cursor on: those up to the end of its slab that are whole inside of a file of
-    /// `len` bytes, but at most `capacity`.
+    /// `len` bytes, but at most `capacity`. Returns 0 if not even the value at the cursor is whole. Needs a `capacity` above 0.
     pub(crate) fn ready(&self, cursor: Cursor, capacity: u64, len: u64) -> u64
         requires sized { IsSized self.now }
         requires within { cursor.within < self.now.values_per_slab }

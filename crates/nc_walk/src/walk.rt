@@ -67,9 +67,10 @@ impl<'a> Walk<'a> {
         )
     }
 
-    /// Returns a walk at the first value of the variable at index `v`, as [`Walk::new`] does. `layout` has the number of records and the
-    /// record size, as `nc_base::record_layout` returns them, so this takes time in proportion to the variable's rank alone. It is for a
-    /// caller that walks over many variables of one file.
+    /// Returns a walk at the first value of the variable at index `v`, over the records of `layout`. It is for a caller that walks over
+    /// many variables of one file: it takes time in proportion to the variable's rank alone, while [`Walk::new`] computes the record size
+    /// anew. Needs a sound header (`nc_base::Header::sound`), its record size in `layout`, as `nc_base::record_layout` returns it, and a
+    /// buffer of at least 16 bytes.
     pub fn with_layout(
         header: &Header,
         v: usize,
@@ -102,7 +103,8 @@ impl<'a> Walk<'a> {
     }
 
     /// Reads the next values into the start of the buffer, moves the walk past them, and returns the number of their bytes, or 0 after the
-    /// last value. Errs as [`Walk::next`] does, which calls this and lends the bytes.
+    /// last value. [`Walk::next`] calls it, and lends the bytes. Errs with `ReadFailed` if the source fails, and with `DataTruncated` if
+    /// the next value isn't whole in the source. After an error each call returns the same error, and touches nothing.
     fn step<S: Source>(&mut self, source: &mut S) -> Result<usize, WalkFault>
         ensures advanced { Advanced self.old self.new (as_answer self.new.buf result) }
         ensures steps { TakesStep S.is_transparent self.old S.view source.old source.new

@@ -32,7 +32,7 @@ impl<'a> NameSet<'a> {
         self.names.contains(name)
     }
 
-    /// Returns an empty set.
+    /// Returns an empty set. Does not allocate.
     fn new(alloc: Global) -> NameSet<'a>
         ensures { (name : List ℕ) → holds result name ≡ false }
     {

@@ -64,8 +64,8 @@ fn dim_names<'a>(
     Ok(Some(dims))
 }
 
-/// Returns `names` as a set, if each of them is the name of a variable. Errs with `NoSuchVariable` and the index of the first name that
-/// no variable has, and with `OutOfMemory` if an allocation failed.
+/// Returns `names` as a set, if each of them is the name of a variable. Errs with `NoSuchVariable` and the index, counted from 0, of the
+/// first name that no variable has, and with `OutOfMemory` if an allocation failed.
 fn checked_names<'a>(
     alloc: Global,
     vars: &[Var],

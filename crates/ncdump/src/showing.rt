@@ -75,7 +75,8 @@ fn data_word(options: &DumpOptions, header: &Header) -> &'static [u8]
 }
 
 /// Writes the values, if any, of each variable whose item of `selection` is true; a variable without an item isn't written. Reads them
-/// through `buf`. `layout` has the number of records and the record size. Breaks lines of numbers at `width` bytes. Errs as [`show`] does.
+/// through `buf`. `layout` has the number of records and the record size. Breaks lines of numbers at `width` bytes. Errs with `ReadFailed`
+/// or `WriteFailed` if the source or the sink failed, and with `DataTruncated` at the first of these values that isn't in the file.
 fn show_selected<S: Source, W: Sink>(
     source: &mut S,
     header: &Header,
@@ -125,7 +126,9 @@ fn has_slabs(header: &Header, v: usize, count: u64) -> bool
 }
 
 /// Writes the variable at index `v`: what stands before its values, the values as they are read through `buf`, and what stands after them.
-/// Numbers are gathered in `text`, which may hold anything. `layout` and `width` are as in [`show_selected`]. Errs as [`show`] does.
+/// Numbers are gathered in `text`, which may hold anything. `layout` has the number of records and the record size. Breaks lines of numbers
+/// at `width` bytes. Errs with `ReadFailed` or `WriteFailed` if the source or the sink failed, and with `DataTruncated` at the first value
+/// that isn't in the file.
 fn show_variable<S: Source, W: Sink>(
     source: &mut S,
     header: &Header,

@@ -128,7 +128,8 @@ fn version_in(word: Option<&str>) -> Option<Version>
     }
 }
 
-/// Returns the version that a word names, or `None` if it names none.
+/// Returns the version that `word`, a value of `-k`, names: CDF-1 for `classic` or `nc3`, CDF-2 for `64-bit offset` or `nc6`, and CDF-5 for
+/// `64-bit data` or `nc5`. Returns `None` for any other word.
 fn version_of(word: &str) -> Option<Version>
     ensures { result ≡ version_of word.now }
 {

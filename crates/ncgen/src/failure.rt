@@ -61,7 +61,7 @@ impl From<TextFault> for InputFault {
 impl From<GenFault> for InputFault {
     ghost from_gives = { λ fault e. e ≡ input.Generate fault };
 
-    /// Turns the reason why no file was generated into [`InputFault::Generate`] with it, for the `?` after the call.
+    /// Turns the reason why no file was generated into [`InputFault::Generate`] with it, for the `?` after `prepare`.
     fn from(fault: GenFault) -> InputFault {
         InputFault::Generate(fault)
     }

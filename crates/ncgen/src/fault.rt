@@ -45,7 +45,8 @@ impl From<CdlFault> for GenFault {
 impl From<AllocError> for GenFault {
     ghost from_gives = { λ _ e. e ≡ gen.Cdl out_of_memory };
 
-    /// Turns a failed allocation into such a fault, for the `?` after a call that allocates.
+    /// Turns a failed allocation into [`GenFault::Cdl`] with the kind `OutOfMemory` and the line 0, for the `?` after a call that
+    /// allocates.
     fn from(_e: AllocError) -> GenFault {
         GenFault::Cdl(CdlFault {
             line: 0,

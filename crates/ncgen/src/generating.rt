@@ -41,7 +41,8 @@ pub fn prepare(alloc: Global, text: &[u8], version: Version) -> Result<Prepared,
 
 /// Reads a CDL text, and writes to the sink the netCDF classic file of the dataset that the text declares in this version (ncgen(1)).
 ///
-/// Needs a text of at most 268,435,456 bytes (256 MiB). Allocates as [`prepare`] does, and no more.
+/// Needs a text of at most 268,435,456 bytes (256 MiB). Allocates for what the text declares and for the values that it lists, not for the
+/// file.
 ///
 /// For callers of the library: the program itself calls [`prepare`] and [`Prepared::write`], and creates its output in between.
 ///

@@ -38,8 +38,8 @@ pub fn read_input<T: TextOpener, R: Read>(
     }
 }
 
-/// Reads the text at the path, and returns its bytes. Gives the reader back to the opener `texts`, also if a read failed. Errs as
-/// [`read_input`] does.
+/// Reads the text at the path, and returns its bytes. Gives the reader back to the opener `texts`, also if a read failed. Errs with
+/// `CannotOpen` if the path can't be opened, and with `Text` if the text is longer than 256 MiB or a read or an allocation fails.
 fn read_path<T: TextOpener>(texts: &mut T, alloc: Global, path: &str) -> Result<Vec<u8>, InputFault>
     ensures text { ReadsAt T.is_transparent (T.named texts.old path.now) result }
     ensures opens { (T.view texts.new).opens ≡ one_more (T.view texts.old).opens }

@@ -10,7 +10,7 @@ use nc_walk::{RecordSlab, write_data};
 
 /// A file that stands ready to be written: its header, and the values that a text lists.
 ///
-/// The values that the text doesn't list are written as fill values, and are never held in memory.
+/// The values that the text doesn't list are written as fill values, and needn't be held in memory.
 #[derive(Drop)]
 pub struct Prepared {
     /// The header, with the begin of each variable.

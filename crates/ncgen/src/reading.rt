@@ -41,7 +41,8 @@ pub fn read_text<R: Read>(
 
 /// Reads the next bytes of the input through `buf`, and appends them to `text`, which then has at most `max + 1` bytes. More than `max`
 /// bytes show that the text is too long. Needs a `buf` that isn't empty, and a `text` of at most `max` bytes. Returns false at the end of
-/// the input, otherwise true. Errs with `ReadFailed` if the reader failed, and with `OutOfMemory` if an allocation failed.
+/// the input, otherwise true. Errs with `ReadFailed` if the reader failed, and with `OutOfMemory` if an allocation failed. Then `text` is
+/// what it was.
 fn read_part<R: Read>(
     input: &mut CountedRead<R>,
     buf: &mut [u8],

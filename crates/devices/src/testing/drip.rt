@@ -83,10 +83,13 @@ impl Source for DripSource<'_> {
 
     ghost view = { view_of };
 
+    /// Returns the number of the slice's bytes.
     fn len(&self) -> u64 {
         length_of(self.bytes)
     }
 
+    /// Copies at most `step` bytes of the slice, from the offset `at` on, to the start of `into`, and returns how many. Errs, and counts
+    /// one failure, if `fail` asks for it, or if the number of bytes read would reach 2^128: nothing is copied then.
     #[tactic(auto, unfolding(crate::specs::Failures::HasFailed))]
     fn read_at(&mut self, at: u64, into: &mut [u8]) -> Result<usize, SourceFailed>
         requires room { 0 < length into.old }

@@ -78,7 +78,8 @@ impl Creator for MadeFiles {
 
     ghost view = { view_of };
 
-    /// Appends an item without bytes to what [`given`](MadeFiles::given) returns, and returns an empty sink.
+    /// Appends an item without bytes to what [`given`](MadeFiles::given) returns, and returns an empty sink. Errs, and counts one failure,
+    /// if an allocation fails or 2^128 - 1 outputs were created before: nothing is appended then.
     #[tactic(auto, unfolding(crate::specs::Failures::HasFailed))]
     fn create(&mut self, path: &str) -> Result<MemSink, CreateFailed> {
         let is_given = self.creations < u128::MAX
@@ -91,7 +92,8 @@ impl Creator for MadeFiles {
         Ok(MemSink::new(self.alloc))
     }
 
-    /// Appends an item with the bytes of `output` to what [`given`](MadeFiles::given) returns. Errs if an allocation fails.
+    /// Appends an item with the bytes of `output` to what [`given`](MadeFiles::given) returns, and adds the failures of `output` to its
+    /// own, up to `u128::MAX`. Errs if an allocation fails: then it appends nothing, and counts one failure in place of those of `output`.
     #[tactic(auto, unfolding(crate::specs::Failures::HasFailed))]
     fn close(&mut self, path: &str, output: MemSink) -> Result<(), CloseFailed> {
         let failures = output.failures();

@@ -45,12 +45,15 @@ impl<'a> Opener for MemFiles<'a> {
 
     ghost view = { view_of };
 
+    /// Opens the first file at the path as a source of its bytes, which aren't copied. Errs if there is none. The attempt is counted in any
+    /// case.
     fn open(&mut self, path: &str) -> Result<MemSource<'a>, OpenFailed> {
         self.opens = self.opens.saturating_add(1);
         let bytes = bytes_at(self.files, path).ok_or(OpenFailed)?;
         Ok(MemSource::new(bytes))
     }
 
+    /// Adds the failures of the source to its own, up to `u128::MAX`, and drops the source.
     fn close(&mut self, source: MemSource<'a>) {
         self.failures = self.failures.saturating_add(source.failures());
     }
@@ -65,12 +68,15 @@ impl<'a> TextOpener for MemFiles<'a> {
 
     ghost view = { view_of };
 
+    /// Opens the first file at the path as a text, and returns a reader of its bytes, which aren't copied. Errs if there is none. The
+    /// attempt is counted in any case.
     fn open_text(&mut self, path: &str) -> Result<CountedRead<&'a [u8]>, OpenFailed> {
         self.opens = self.opens.saturating_add(1);
         let bytes = bytes_at(self.files, path).ok_or(OpenFailed)?;
         Ok(CountedRead::new(bytes))
     }
 
+    /// Adds the failures of the text to its own, up to `u128::MAX`, and drops the text.
     fn close_text(&mut self, text: CountedRead<&'a [u8]>)
         ensures { HasBack (view_of self.old) (view_of self.new) text.entry.failures }
     {

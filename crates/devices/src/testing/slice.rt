@@ -49,6 +49,8 @@ impl Sink for SliceSink<'_> {
 
     ghost view = { view_of };
 
+    /// Takes bytes from the start of `bytes`, at most `step` and no more than the slice has room for, and returns how many. Errs, and
+    /// counts one failure, if the slice is full and `bytes` isn't empty.
     #[tactic(auto, using(crate::proofs::Writes::devices), unfolding(crate::specs::Sinks::append, crate::specs::Sinks::taken_len, crate::specs::Sinks::IsCut, crate::specs::Sinks::is_transparent, crate::specs::Failures::HasFailed))]
     fn write_some(&mut self, bytes: &[u8]) -> Result<usize, SinkFailed>
         ensures wrote { WroteSome (view_of self.old) (view_of self.new) bytes.now result }
@@ -79,6 +81,7 @@ impl Flush for SliceSink<'_> {
     // It holds nothing back.
     ghost is_flushed = { λ _. true };
 
+    /// Does nothing, since the sink holds nothing back, and never errs.
     #[tactic(auto, using(crate::proofs::Writes::writes))]
     fn flush(&mut self) -> Result<(), SinkFailed> {
         Ok(())

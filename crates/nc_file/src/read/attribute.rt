@@ -12,7 +12,8 @@ use nc_base::{Att, Sequence, Version};
 use std::alloc::Global;
 
 impl<S: Source> Window<'_, S> {
-    /// Reads an attribute: its name, its type, the number of its values, and its values. Passes over the padding after them.
+    /// Reads an attribute: its name, its type, the number of its values, and its values. Passes over the padding after them. Errs with the
+    /// fault of the first wrong field, with `ReadFailed` if the source fails, and with `OutOfMemory` if an allocation fails.
     #[tactic(auto, using(crate::proofs::Parts::parts), unfolding(crate::specs::code::Reading::att_at))]
     fn att(&mut self, alloc: Global, version: Version) -> Result<Att, HeadFault>
         ensures { Read self.old self.new (att_at version) result }
@@ -25,6 +26,7 @@ impl<S: Source> Window<'_, S> {
     }
 
     /// Reads `n` attributes, one after the other, and returns them. [`att_list`](Window::att_list) has read the list's tag and `n` before.
+    /// Errs with the fault of the first wrong field, with `ReadFailed` if the source fails, and with `OutOfMemory` if an allocation fails.
     #[tactic(auto, using(crate::proofs::Loops::each))]
     fn atts(&mut self, alloc: Global, version: Version, n: u64) -> Result<Sequence<Att>, HeadFault>
         ensures { Read self.old self.new (each_at (att_after version) n []) result }
@@ -37,7 +39,8 @@ impl<S: Source> Window<'_, S> {
         Ok(atts)
     }
 
-    /// Reads a list of attributes: its tag, their number and the attributes. Returns the attributes.
+    /// Reads a list of attributes: its tag, their number and the attributes. Returns the attributes. Errs with the fault of the first wrong
+    /// field, with `ReadFailed` if the source fails, and with `OutOfMemory` if an allocation fails.
     #[tactic(auto, using(crate::proofs::Parts::parts), unfolding(crate::specs::code::Reading::list_at))]
     pub(crate) fn att_list(
         &mut self,

@@ -42,7 +42,8 @@ impl<S: Source> Window<'_, S> {
         Ok(dims)
     }
 
-    /// Reads the list of dimensions: its tag, their number and the dimensions. Returns the dimensions.
+    /// Reads the list of dimensions: its tag, their number and the dimensions. Returns the dimensions. Errs with the fault of the first
+    /// wrong field, with `ReadFailed` if the source fails, and with `OutOfMemory` if an allocation fails.
     #[tactic(auto, using(crate::proofs::Parts::parts), unfolding(crate::specs::code::Reading::list_at))]
     pub(crate) fn dim_list(
         &mut self,

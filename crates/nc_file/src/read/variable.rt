@@ -53,7 +53,8 @@ impl<S: Source> Window<'_, S> {
         Ok(dimids)
     }
 
-    /// Reads the shape of a variable: its rank and its dimension ids. Returns the ids.
+    /// Reads the shape of a variable: its rank and its dimension ids. Returns the ids. Errs with `BadShape` if one of them names no
+    /// dimension of `dims`, or if one after the first names the record dimension.
     #[tactic(auto, using(crate::proofs::Parts::parts), unfolding(crate::specs::code::Reading::shape_at))]
     fn shape(
         &mut self,
@@ -146,7 +147,7 @@ impl<S: Source> Window<'_, S> {
     }
 
     /// Reads the list of variables: its tag, their number and the variables, whose shapes it checks against `dims`. Returns the variables.
-    /// Errs with the fault of the first wrong field, or as [`Window`] says.
+    /// Errs with the fault of the first wrong field, with `ReadFailed` if the source fails, and with `OutOfMemory` if an allocation fails.
     #[tactic(auto, using(crate::proofs::Parts::parts), unfolding(crate::specs::code::Reading::list_at))]
     pub(crate) fn var_list(
         &mut self,

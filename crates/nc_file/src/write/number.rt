@@ -29,7 +29,8 @@ pub(crate) fn put_number<W: Sink>(sink: &mut W, version: Version, n: u64) -> Res
     }
 }
 
-/// Writes a count, a length or a dimension id (`NON_NEG`), whose top bit must be 0, as [`put_number`] does. Errs if the sink fails.
+/// Writes a count, a length or a dimension id (`NON_NEG`) as a big-endian number, in eight bytes in CDF-5 and otherwise in four. Needs a
+/// number below the version's limit of counts, whose top bit is 0 then. Errs if the sink fails.
 pub(crate) fn put_count<W: Sink>(sink: &mut W, version: Version, n: u64) -> Result<(), WriteFailed>
     requires { n < count_limit version }
     ensures { Wrote W.view sink.old sink.new (count_spelling version n) result }
@@ -37,7 +38,8 @@ pub(crate) fn put_count<W: Sink>(sink: &mut W, version: Version, n: u64) -> Resu
     put_number(sink, version, n)
 }
 
-/// Writes an offset (`OFFSET`), in four bytes in CDF-1 and otherwise in eight. Needs an offset whose top bit is 0. Errs if the sink fails.
+/// Writes an offset (`OFFSET`), in four bytes in CDF-1 and otherwise in eight. Needs an offset below the
+/// version's limit of offsets. Errs if the sink fails.
 pub(crate) fn put_offset<W: Sink>(
     sink: &mut W,
     version: Version,

@@ -16,7 +16,8 @@ use crate::tag::NC_VARIABLE;
 use devices::{Sink, WriteFailed};
 use nc_base::{Dim, Var, Version};
 
-/// Writes the list of variables: its tag, their number and the variables. Errs if the sink fails.
+/// Writes the list of variables: its tag, their number and the variables. `dims` has the header's dimensions. Needs sound variables with
+/// begins that fit their fields, and fewer variables, and fewer dimensions, than the version's limit of counts. Errs if the sink fails.
 #[tactic(auto, using(devices::proofs::Writes::writes))]
 pub(crate) fn put_var_list<W: Sink>(
     sink: &mut W,

@@ -10,8 +10,8 @@ use super::slab_writer::SlabWriter;
 use devices::{Sink, WriteFailed};
 use nc_base::{Dim, Header, ListedArray, Var, is_record_var};
 
-/// Writes the block (all values) of each variable that isn't a record variable, followed by its padding. `arrays` has the listed values
-/// of each variable, in header order.
+/// Writes the block (all values) of each variable that isn't a record variable, followed by its padding. `arrays` has the listed values of
+/// each variable, in header order. The values that an array lacks at its end are written as the fill value of its variable.
 pub(super) fn put_blocks<W: Sink>(
     sink: &mut W,
     header: &Header,

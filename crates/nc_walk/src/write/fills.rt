@@ -28,7 +28,8 @@ pub(super) fn put_fills<W: Sink>(sink: &mut W, unit: [u8; 8], n: u128) -> Result
     put_many_fills(sink, unit, n)
 }
 
-/// Writes `n` bytes as [`put_fills`] does, in one piece. Needs an `n` of at most 256, the bytes of a buffer that each call makes anew.
+/// Writes `n` bytes in one piece: those of `unit`, over and over. [`put_fills`] calls it for 9 to 256 bytes. Needs an `n` of at most 256,
+/// the bytes of a buffer that each call makes anew.
 fn put_few_fills<W: Sink>(sink: &mut W, unit: [u8; 8], n: u128) -> Result<(), WriteFailed>
     requires { n ≤ 256 }
     ensures { Wrote W.view sink.old sink.new (repeated unit n) result }
@@ -38,8 +39,8 @@ fn put_few_fills<W: Sink>(sink: &mut W, unit: [u8; 8], n: u128) -> Result<(), Wr
     put(sink, &buffer[..n as usize])
 }
 
-/// Writes `n` bytes as [`put_fills`] does, in pieces, each but the last as long as a buffer of 8192 bytes, so that many fill values
-/// take few calls.
+/// Writes `n` bytes: those of `unit`, over and over, in pieces, each but the last as long as a buffer of 8192 bytes, so that many fill
+/// values take few calls. [`put_fills`] calls it for more than 256 bytes.
 fn put_many_fills<W: Sink>(sink: &mut W, unit: [u8; 8], n: u128) -> Result<(), WriteFailed>
     ensures { Wrote W.view sink.old sink.new (repeated unit n) result }
 {
@@ -54,7 +55,7 @@ fn put_many_fills<W: Sink>(sink: &mut W, unit: [u8; 8], n: u128) -> Result<(), W
     Ok(())
 }
 
-/// Returns eight bytes of a variable's fill value: the value as often as it fits.
+/// Returns eight bytes of a variable's fill value, big-endian: the value as often as it fits.
 #[tactic(auto, unfolding(nc_base::specs::GeneratedFile::fill_bytes))]
 pub(super) fn fill_unit(var: &Var) -> [u8; 8]
     ensures { result ≡ fill_bytes var.now 8 }

@@ -49,7 +49,7 @@ impl<'a> SlabWriter<'a> {
         self.put_slab(sink, 0, self.listed.len())
     }
 
-    /// Writes the slab of record `r`, and its padding. It is for a record variable.
+    /// Writes the slab of record `r`, counted from 0, and its padding. It is for a record variable.
     pub(super) fn put_record<W: Sink>(&self, sink: &mut W, r: u64) -> Result<(), WriteFailed>
         ensures { Wrote W.view sink.old sink.new (filled_record r self.now) result }
     {
