@@ -64,8 +64,8 @@ broken rest = refl
 either_closed : (b : Bool) → Closed (if b then codes "\n    " else []) []
 either_closed b = grind (arith, broken)
 
-break_closed : (look : Look) (before : List ℕ) (i len : ℕ) → Closed (line_break look before i len) []
-break_closed look before i len = either_closed (not (begins_row look i) && nat_lt look.width (column before + len + 2))
+break_closed : (look : Look) (i end : ℕ) → Closed (line_break look i end) []
+break_closed look i end = either_closed (not (begins_row look i) && nat_lt look.width (end + 2))
 
 -- what comes before a number that isn't the first: a comma and a space, or a comma and the beginning of a row
 data Gap (lead : List ℕ) : Type 0 where
@@ -92,9 +92,9 @@ piece_reads : (look : Look) (before : List ℕ) (i : ℕ) (x : ℤ) → 0 < i �
     Reads (number_piece look before i x) (comma ∷ value_lexeme look x ∷ [])
 unfolding number_piece
 piece_reads look before i x some small fits =
-    then_reads (number_lead look i ++ line_break look (before ++ number_lead look i) i (length (number_text look x))) (number_text look x) (comma ∷ []) (value_lexeme look x ∷ [])
-    (closed_both (number_lead look i) (line_break look (before ++ number_lead look i) i (length (number_text look x))) (comma ∷ []) []
-    (gap_closed (number_lead look i) (gap look i some small)) (break_closed look (before ++ number_lead look i) i (length (number_text look x))))
+    let end = column (before ++ number_lead look i) + length (number_text look x) in
+    then_reads (number_lead look i ++ line_break look i end) (number_text look x) (comma ∷ []) (value_lexeme look x ∷ [])
+    (closed_both (number_lead look i) (line_break look i end) (comma ∷ []) [] (gap_closed (number_lead look i) (gap look i some small)) (break_closed look i end))
     (text_reads look x fits)
 
 piece_stops : (look : Look) (before : List ℕ) (i : ℕ) (x : ℤ) (more : List ℕ) → 0 < i → (look.in_rows ≡ false → i < look.row) → Stops (number_piece look before i x ++ more)
@@ -145,7 +145,7 @@ first_lead look = rw (zero-mod look.row) (elim (look.in_rows) as (λ w. Closed (
 first_reads : (look : Look) (before : List ℕ) (x : ℤ) → unsigned_abs x < 2 ^ 64 → Reads (number_piece look before 0 x) (value_lexeme look x ∷ [])
 unfolding number_piece
 first_reads look before x fits =
-    grind (arith, first_lead look, break_closed look (before ++ number_lead look 0) 0 (length (number_text look x)), text_reads look x fits, then_reads, closed_both, fits)
+    grind (arith, first_lead look, break_closed look 0 (column (before ++ number_lead look 0) + length (number_text look x)), text_reads look x fits, then_reads, closed_both, fits)
 
 pub all_read : (look : Look) (before : List ℕ) (x : ℤ) (xs : List ℤ) → is_char look.ty ≡ false → (look.in_rows ≡ false → length (x ∷ xs) ≤ look.row) → AreSmall (x ∷ xs) →
     Reads (pieces look before [] (x ∷ xs)) (value_lexeme look x ∷ commas (map (value_lexeme look) xs))

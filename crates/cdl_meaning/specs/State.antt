@@ -45,7 +45,7 @@ abbrev pub ◌>>=◌ : {A B F : Type 0} → Result A F → (A → Result B F) �
 (Ok x) >>= f = f x
 (Err e) >>= f = Err e
 
--- up to the first fault
+-- f with each of these in turn, up to the first fault
 abbrev pub in_turn : {S A : Type 0} → (S → A → Result S CdlKind) → S → List A → Result S CdlKind
 in_turn f s [] = Ok s
 in_turn f s (x ∷ xs) = elim (f s x) [ Ok t ↦ in_turn f t xs | Err e ↦ Err e ]
@@ -107,11 +107,11 @@ add_dimid dims ids name = do
 
 -- appends a variable; its begin stays 0 (`GeneratedFile.with_begins` sets begins)
 unfoldable pub add_var : List Dim → NcType → List Draft → Variable → Result (List Draft) CdlKind
-add_var dims ty drafts v = do
-  _ ← unless (is_name v.name) BadName
-  _ ← when (list_any (λ (w : Draft). bytes_eq w.var.name v.name) drafts) DuplicateName
-  ids ← in_turn (add_dimid dims) [] v.dimensions
-  Ok (drafts ++ record { var = record { name = v.name; dimids = ids; atts = []; ty = ty; begin_at = 0 }; listed = None } ∷ [])
+add_var dims ty drafts declared = do
+  _ ← unless (is_name declared.name) BadName
+  _ ← when (list_any (λ (d : Draft). bytes_eq d.var.name declared.name) drafts) DuplicateName
+  ids ← in_turn (add_dimid dims) [] declared.dimensions
+  Ok (drafts ++ record { var = record { name = declared.name; dimids = ids; atts = []; ty = ty; begin_at = 0 }; listed = None } ∷ [])
 
 -- the variables, with f applied to the one of this name
 abbrev pub change_named : Bytes → (Draft → Result Draft CdlKind) → List Draft → Result (List Draft) CdlKind
@@ -221,7 +221,8 @@ listed_by add listing values = in_turn add [] values >>= (λ items. Ok (listing 
 
 unfoldable pub listing_of : Capacity → List Value → Result Listing CdlKind
 listing_of capacity values =
-    if is_char capacity.ty then (if capacity.in_rows then listed_by (add_row capacity) Rows values else listed_by (add_characters capacity) Joined values)
+    if is_char capacity.ty
+    then (if capacity.in_rows then listed_by (add_row capacity) Rows values else listed_by (add_characters capacity) Joined values)
     else listed_by (add_number capacity) Numbers values
 
 -- the values, and fill values up to n in all

@@ -32,7 +32,7 @@ gap_at : (look : Look) (prefix : List ℕ) (i columns_left len : ℕ) (first : B
 gap_at look prefix i columns_left len first h = grind (arith, row_gap_is, append-nil, column-flat, codes, comma_gap, columns_left_test, column)
 
 gap_is : (look : Look) (xs : List ℤ) (p : Progress) (len : ℕ) → is_char look.ty ≡ false → IsAfter look xs p
-    → gap_bytes (next_gap look p len) ≡ number_lead look (length xs) ++ line_break look (variable_prefix look xs ++ number_lead look (length xs)) (length xs) len
+    → gap_bytes (next_gap look p len) ≡ number_lead look (length xs) ++ line_break look (length xs) (column (variable_prefix look xs ++ number_lead look (length xs)) + len)
 gap_is look xs p len is following = search (rules, gap_at)
 
 -- the next number's text is the next value's piece

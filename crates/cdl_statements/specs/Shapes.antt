@@ -69,7 +69,7 @@ each f (x ∷ xs) = both (λ y ys. y ∷ ys) (f x) (each f xs)
 abbrev pub parens_after : Bool → Lexeme → Bool
 parens_after parens l = is_mark (byte "(") l || parens && not (is_mark (byte ")") l)
 
--- the tokens between commas: of `a, b(c, d)`, `a` and `b(c, d)`; parens: these tokens are inside parentheses, where a comma separates nothing
+-- these tokens, cut at each comma that isn't inside parentheses (`a, b(c, d)`: `a` and `b(c, d)`); parens: one is open before them
 abbrev pub members_in : Bool → List Lexeme → List (List Lexeme)
 members_in parens [] = [] ∷ []
 members_in parens (l ∷ ls) =
@@ -173,8 +173,8 @@ section_mark before (l ∷ c ∷ []) =
     if_so (is_mark (byte ":") c) (option_and_then (λ s. if_so (is_later before s) (Some (Enter s))) (section_of l))
 section_mark before _ = None
 
--- What a piece says, if it has a shape of its section. In the other four sections it is `}`, the mark of a later section, or a statement
--- with its `;`.
+-- What a piece says, if it has a shape of its section. From Globals to Values it is `}`, the mark of a later section, or a statement with
+-- its `;`.
 unfoldable pub shape : Version → Section → List Lexeme → Option Statement
 shape v Unopened ls = single (λ l. if_so (is_opening_kind l.kind) (Some Open)) ls
 shape v Closed ls = single (λ l. if_so (is_end_kind l.kind) (Some End)) ls

@@ -11,6 +11,7 @@ use Rattle.nc_base.specs.declared.nc_type.NcType.TheVariants.{Char, Int}
 use Rattle.nc_base.specs.Types.{all_types, number_suffix}
 use Rattle.nc_base.specs.Versions.{has_type}
 
+-- what a number token says
 pub record Numeral : Type 0 where
   pub value : ℤ
   pub ty : NcType
@@ -39,7 +40,8 @@ in_base v minus base n bs =
 -- what comes after the sign: hexadecimal digits after `0x`, octal digits that begin with `0`, or decimal digits
 abbrev pub with_sign : Version → Bool → Bytes → Option Parts
 with_sign v minus bs =
-    if slice_index bs 0 == byte "0" && to_ascii_lowercase (slice_index bs 1) == byte "x" then in_base v minus 16 (prefix_len is_hex (drop 2 bs)) (drop 2 bs)
+    if slice_index bs 0 == byte "0" && to_ascii_lowercase (slice_index bs 1) == byte "x"
+    then in_base v minus 16 (prefix_len is_hex (drop 2 bs)) (drop 2 bs)
     else if slice_index bs 0 == byte "0" then in_base v minus 8 (prefix_len is_octal bs) bs
     else in_base v minus 10 (prefix_len is_digit bs) bs
 

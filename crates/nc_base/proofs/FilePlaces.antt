@@ -23,7 +23,7 @@ length-padded dims var slab len = grind (arith, length-append, length-replicated
 
 -- ---- totals
 
-padded_total-append : (dims : List Dim) (xs ys : List Var) → padded_total dims (xs ++ ys) ≡ padded_total dims xs + padded_total dims ys
+pub padded_total-append : (dims : List Dim) (xs ys : List Var) → padded_total dims (xs ++ ys) ≡ padded_total dims xs + padded_total dims ys
 padded_total-append dims xs ys = grind (arith, sum-map, sum_by-append)
 
 -- how much of a record a record variable takes
@@ -235,7 +235,9 @@ agrees-one h vs bytes n before var vars array arrays all is placed = of_kind (is
 
     begin-is : (kind : Bool) → is_record_var dims var ≡ kind
         → begin_after h before var ≡ head + (if kind then fixed_total dims h.vars + padded_total dims (record_vars dims before) else fixed_total dims before)
-    begin-is kind e = ap (λ (b : Bool). head + (if b then fixed_total dims h.vars + padded_total dims (record_vars dims before) else fixed_total dims before)) e
+    begin-is true e = ap (λ (b : Bool). head + padded_total dims (if b then fixed_vars dims h.vars ++ record_vars dims before else fixed_vars dims before)) e
+        ∙ ap (λ (n : ℕ). head + n) (padded_total-append dims (fixed_vars dims h.vars) (record_vars dims before))
+    begin-is false e = ap (λ (b : Bool). head + padded_total dims (if b then fixed_vars dims h.vars ++ record_vars dims before else fixed_vars dims before)) e
 
     of_kind : (kind : Bool) → is_record_var dims var ≡ kind → Agrees (record h { vars = vs }) bytes n (record var { begin_at = begin_after h before var }) array
     of_kind false e =

@@ -106,7 +106,8 @@ variables_text d v _ _ = no_data_text
 
 -- those that the selection marks of all variables, or none if the header alone is shown
 abbrev pub shown_data_text : Header → Options → (ℕ → Var → VariableValues) → ℕ → List Bool → DataText
-shown_data_text h o values_of n selection = variables_text (shown_data h values_of n o.width) 0 h.vars (if o.head_only then [] else selection)
+shown_data_text h o values_of n selection =
+    variables_text (shown_data h values_of n o.width) 0 h.vars (if o.head_only then [] else selection)
 
 -- before the values: nothing if the header alone is shown, or has no variables
 unfoldable pub data_word : Header → Options → Bytes

@@ -13,7 +13,7 @@ is_fill_att att = bytes_eq att.name (codes "_FillValue")
 abbrev pub has_one_value_of : NcType → Att → Bool
 has_one_value_of ty att = (code_of att.ty == code_of ty) && (length att.vals == size_of ty)
 
--- what an attribute gives to a variable of this type
+-- the fill value that an attribute gives to a variable of this type
 abbrev pub fill_of_att : NcType → Option Att → Option ℤ
 fill_of_att ty None = None
 fill_of_att ty (Some att) = if has_one_value_of ty att then Some (number_of ty att.vals) else None

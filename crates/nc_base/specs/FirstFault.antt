@@ -8,7 +8,7 @@ use Rattle.nc_base.specs.Bytes.{Bytes, padding_len}
 use Rattle.nc_base.specs.Types.{code_of, size_of}
 use Rattle.nc_base.specs.Versions.{version_byte, count_width, offset_width, count_limit, offset_limit, streaming_mark, has_type}
 use Rattle.nc_base.specs.Names.{IsName}
-use Rattle.nc_base.specs.Grammar.{IsDimid, ElementSpelling, dimension_tag, attribute_tag, variable_tag, SpellsNumber, SpellsMagic, SpellsName, SpellsType, SpellsList, SpellsDim, SpellsAtt, SpellsAtts, SpellsDimid, SpellsShape, SpellsVar, SpellsNumRecs, IsWithinLimits}
+use Rattle.nc_base.specs.Grammar.{IsDimid, Spelling, ElementSpelling, dimension_tag, attribute_tag, variable_tag, SpellsNumber, SpellsMagic, SpellsName, SpellsType, SpellsList, SpellsDim, SpellsAtt, SpellsAtts, SpellsDimid, SpellsShape, SpellsVar, SpellsNumRecs, IsWithinLimits}
 use Rattle.nc_base.specs.Sizes.{has_record_dim}
 
 -- ---- fields one after the other
@@ -27,7 +27,7 @@ EndsWithin cut n bytes fault rest = (length bytes < n) × (fault ≡ cut) × (re
 
 -- A part and what follows it: reading stops in the part, or the part is spelled with a value x, and reading stops after it, in `InNext x`.
 -- (The last three arguments are those of `Stops`.)
-abbrev pub Then : {A : Type 0} → (Bytes → A → Bytes → Type 0) → Stops → (A → Stops) → Stops
+abbrev pub Then : {A : Type 0} → Spelling A → Stops → (A → Stops) → Stops
 Then {A = A} Spells InPart InNext bytes fault rest =
     InPart bytes fault rest
     ⊎ ((x : A) × (middle : Bytes) × Spells bytes x middle × InNext x middle fault rest)
@@ -35,7 +35,7 @@ Then {A = A} Spells InPart InNext bytes fault rest =
 -- a rule on the field just read: if it is broken, reading has stopped at that field, and all that comes after it is the rest; if it holds,
 -- reading stops in what follows
 abbrev pub Requires : Type 0 → FormatFault → Stops → Stops
-Requires Holds wrong InNext after fault rest = ((¬ Holds) × (fault ≡ wrong) × (rest ≡ after)) ⊎ (Holds × InNext after fault rest)
+Requires Holds wrong Later after fault rest = ((¬ Holds) × (fault ≡ wrong) × (rest ≡ after)) ⊎ (Holds × Later after fault rest)
 
 -- ---- numbers, names and types
 

@@ -44,7 +44,8 @@ dim_spelling v dim = name_spelling v dim.name ++ count_spelling v dim.len
 
 unfoldable pub att_spelling : Version → Att → Bytes
 att_spelling v att =
-    name_spelling v att.name ++ (word_spelling (code_of att.ty) ++ (count_spelling v (length att.vals / size_of att.ty) ++ zero_padded att.vals))
+    name_spelling v att.name ++ (word_spelling (code_of att.ty)
+    ++ (count_spelling v (length att.vals / size_of att.ty) ++ zero_padded att.vals))
 
 abbrev pub atts_spelling : Version → List Att → Bytes
 atts_spelling v atts = list_spelling v attribute_tag (att_spelling v) atts
@@ -117,14 +118,15 @@ data_of h arrays =
 abbrev pub fixed_vars : List Dim → List Var → List Var
 fixed_vars dims vars = filter (λ (var : Var). not (is_record_var dims var)) vars
 
--- The begin of a variable; `before` are the variables before it in the header. After the header (a begin takes the same bytes, whatever it is) come the
--- padded slabs of all fixed variables, then record 0. So a fixed variable begins after the fixed ones of `before`, and a record variable
--- after all fixed ones and the record variables of `before`.
+-- the variables whose padded slabs come before the values of a variable: the slabs of all fixed variables come first, then record 0;
+-- `before` are the variables before it in the header
+abbrev pub slabs_before : Header → List Var → Var → List Var
+slabs_before h before var =
+    if is_record_var h.dims var then fixed_vars h.dims h.vars ++ record_vars h.dims before else fixed_vars h.dims before
+
+-- the begin of a variable (a begin takes the same bytes of the header, whatever it is)
 abbrev pub begin_after : Header → List Var → Var → ℕ
-begin_after h before var =
-    length (header_spelling h)
-    + (if is_record_var h.dims var then padded_total h.dims (fixed_vars h.dims h.vars) + padded_total h.dims (record_vars h.dims before)
-    else padded_total h.dims (fixed_vars h.dims before))
+begin_after h before var = length (header_spelling h) + padded_total h.dims (slabs_before h before var)
 
 abbrev pub vars_with_begins : Header → List Var → List Var → List Var
 vars_with_begins h before [] = []

@@ -21,6 +21,10 @@ variable_tag = 11
 abbrev pub attribute_tag : ℕ
 attribute_tag = 12
 
+-- how a value is spelled. `Spells bytes x rest`: the bytes begin with x and go on with the rest
+abbrev pub Spelling : Type 0 → Type 1
+Spelling A = Bytes → A → Bytes → Type 0
+
 -- ---- numbers
 
 pub record SpellsNumber (width : Width) (bytes : Bytes) (n : ℕ) (rest : Bytes) : Type 0 where
@@ -59,25 +63,26 @@ pub record SpellsType (v : Version) (bytes : Bytes) (ty : NcType) (rest : Bytes)
 
 -- ---- lists
 
--- how an element of a list is spelled, such as `SpellsDim v`. `Element before bytes x rest`: the bytes begin with x and go on with the rest;
--- `before` are the elements before x in its list, which rules such as "one record dimension" need
+-- how an element of a list is spelled after those before it, such as `SpellsDim v`: rules such as "one record dimension" need these
 abbrev pub ElementSpelling : Type 0 → Type 1
-ElementSpelling A = List A → Bytes → A → Bytes → Type 0
+ElementSpelling A = List A → Spelling A
 
 -- these elements, one after the other; `before` are those before them
-abbrev pub SpellsEach : {A : Type 0} → ElementSpelling A → List A → Bytes → List A → Bytes → Type 0
+abbrev pub SpellsEach : {A : Type 0} → ElementSpelling A → List A → Spelling (List A)
 SpellsEach Element before bytes [] rest = bytes ≡ rest
 SpellsEach Element before bytes (x ∷ xs) rest =
     (middle : Bytes) × Element before bytes x middle × SpellsEach Element (before ++ x ∷ []) middle xs rest
 
 -- nelems [element ...]
-pub record SpellsCounted {A : Type 0} (v : Version) (Element : ElementSpelling A) (bytes : Bytes) (xs : List A) (rest : Bytes) : Type 0 where
+pub record SpellsCounted {A : Type 0} (v : Version) (Element : ElementSpelling A)
+    (bytes : Bytes) (xs : List A) (rest : Bytes) : Type 0 where
   pub after_count : Bytes
   pub count : SpellsCount v bytes (length xs) after_count
   pub each : SpellsEach Element [] after_count xs rest
 
 -- a list = ABSENT | TAG nelems [element ...] (an empty one has either form)
-pub data SpellsList {A : Type 0} (v : Version) (tag : ℕ) (Element : ElementSpelling A) (bytes : Bytes) (xs : List A) (rest : Bytes) : Type 0 where
+pub data SpellsList {A : Type 0} (v : Version) (tag : ℕ) (Element : ElementSpelling A)
+    (bytes : Bytes) (xs : List A) (rest : Bytes) : Type 0 where
   absent : (after_tag : Bytes)
       → SpellsNumber w32 bytes 0 after_tag → SpellsCount v after_tag 0 rest → xs ≡ []
       → SpellsList v tag Element bytes xs rest
@@ -106,7 +111,7 @@ pub record SpellsAtt (v : Version) (before : List Att) (bytes : Bytes) (att : At
   pub whole : length att.vals ≡ count * size_of att.ty
   pub values : SpellsPadded after_count att.vals rest
 
-abbrev pub SpellsAtts : Version → Bytes → List Att → Bytes → Type 0
+abbrev pub SpellsAtts : Version → Spelling (List Att)
 SpellsAtts v bytes atts rest = SpellsList v attribute_tag (SpellsAtt v) bytes atts rest
 
 -- ---- variables
@@ -126,7 +131,7 @@ pub record IsWithinLimits (dims : List Dim) (before : List Var) (var : Var) : Ty
   pub record_bytes : padded_total dims (record_vars dims (before ++ var ∷ [])) ≤ record_limit
 
 -- nelems [dimid ...]
-abbrev pub SpellsShape : Version → List Dim → Bytes → List ℕ → Bytes → Type 0
+abbrev pub SpellsShape : Version → List Dim → Spelling (List ℕ)
 SpellsShape v dims bytes dimids rest = SpellsCounted v (SpellsDimid v dims) bytes dimids rest
 
 -- var = name nelems [dimid ...] vatt_list nc_type vsize begin
@@ -148,11 +153,11 @@ pub record SpellsVar (v : Version) (dims : List Dim) (before : List Var) (bytes 
 -- ---- the whole
 
 -- magic = 'C' 'D' 'F' VERSION
-abbrev pub SpellsMagic : Bytes → Version → Bytes → Type 0
+abbrev pub SpellsMagic : Spelling Version
 SpellsMagic bytes v rest = bytes ≡ codes "CDF" ++ version_byte v ∷ rest
 
 -- numrecs = NON_NEG | STREAMING
-abbrev pub SpellsNumRecs : Version → Bytes → NumRecs → Bytes → Type 0
+abbrev pub SpellsNumRecs : Version → Spelling NumRecs
 SpellsNumRecs v bytes (Known n) rest = SpellsCount v bytes n rest
 SpellsNumRecs v bytes Streaming rest = SpellsNumber (count_width v) bytes (streaming_mark v) rest
 

@@ -67,7 +67,8 @@ att_text ty vals = numbers_text ty vals
 -- escaped_owner: the escaped name of the variable, or nothing for the whole dataset
 unfoldable pub att_line : Bytes → Att → Bytes
 att_line escaped_owner att =
-    concat_parts (codes "\t\t" ∷ escaped_owner ∷ codes ":" ∷ escaped_name att.name ∷ codes " = " ∷ att_text att.ty att.vals ∷ codes " ;\n" ∷ [])
+    concat_parts (codes "\t\t" ∷ escaped_owner ∷ codes ":" ∷ escaped_name att.name
+    ∷ codes " = " ∷ att_text att.ty att.vals ∷ codes " ;\n" ∷ [])
 
 unfoldable pub att_lines : Bytes → List Att → Bytes
 att_lines escaped_owner atts = concat_parts (map (att_line escaped_owner) atts)
@@ -107,4 +108,5 @@ gatts_text gatts = if length gatts == 0 then [] else concat_parts (global_word �
 
 unfoldable pub head_text : Bytes → Header → ℕ → Bytes
 head_text name h records =
-    concat_parts (netcdf_word ∷ escaped_name name ∷ codes " {\n" ∷ dims_text records h.dims ∷ vars_text h.dims h.vars ∷ gatts_text h.gatts ∷ [])
+    concat_parts (netcdf_word ∷ escaped_name name ∷ codes " {\n"
+    ∷ dims_text records h.dims ∷ vars_text h.dims h.vars ∷ gatts_text h.gatts ∷ [])

@@ -18,9 +18,6 @@ abbrev pub vectors_below : List ℕ → List (List ℕ)
 vectors_below [] = [] ∷ []
 vectors_below (n ∷ ns) = flat_map (λ i. map (λ indices. i ∷ indices) (vectors_below ns)) (range_with_len 0 n)
 
-abbrev pub index_vectors : List Dim → Var → ℕ → List (List ℕ)
-index_vectors dims var n = vectors_below (lens_over dims var n)
-
 -- ---- offsets
 
 -- the stride of each of these dimensions, in bytes: the size of a value, times the lengths of the dimensions after it
@@ -45,7 +42,7 @@ value_offset h var indices = var.begin_at + distance indices (strides h var)
 
 -- in row-major order
 unfoldable pub value_offsets : Header → Var → ℕ → List ℕ
-value_offsets h var n = map (value_offset h var) (index_vectors h.dims var n)
+value_offsets h var n = map (value_offset h var) (vectors_below (lens_over h.dims var n))
 
 -- ---- values
 

@@ -13,7 +13,7 @@ use Rattle.nc_base.specs.Sizes.{value_count, dim_len, is_record_var}
 
 -- ---- what the text depends on
 
--- how the values of a variable are laid out
+-- what the text of a variable depends on, but for its values
 pub record Look : Type 0 where
   pub name : Bytes
   pub ty : NcType
@@ -35,7 +35,7 @@ abbrev pub is_char : NcType → Bool
 is_char Char = true
 is_char ty = false
 
--- the values of a row: all (`total`) at rank 0 and 1, otherwise as many as the last dimension is long
+-- how many values a row has: all (`total`) at rank 0 and 1, otherwise as many as the last dimension is long
 abbrev pub row_len : List Dim → List ℕ → ℕ → ℕ
 row_len dims dimids total =
     if nat_lt (length dimids) 2 then total else dim_len dims (slice_index dimids (length dimids - 1))
@@ -76,18 +76,17 @@ number_lead look i =
     if begins_row look i then (if look.in_rows then (if i == 0 then codes "\n  " else codes ",\n  ") else codes " ")
     else codes ", "
 
--- The break before value i, whose text has len bytes; `with_lead` is the text so far with the lead of value i. There is one if the last
--- line of `with_lead`, the value and two bytes more, for what comes after it, would pass the width, but never before a row's first number.
-abbrev pub line_break : Look → Bytes → ℕ → ℕ → Bytes
-line_break look with_lead i len =
-    if not (begins_row look i) && nat_lt look.width (column with_lead + len + 2) then codes "\n    " else []
+-- the break before value i, which without it would end in this column: there is one if two bytes more, for what comes after the value,
+-- would pass the width, but never before a row's first number
+abbrev pub line_break : Look → ℕ → ℕ → Bytes
+line_break look i end = if not (begins_row look i) && nat_lt look.width (end + 2) then codes "\n    " else []
 
 -- value i, after the text so far, with what comes before it
 unfoldable pub number_piece : Look → Bytes → ℕ → ℤ → Bytes
 number_piece look before i value =
     let lead = number_lead look i in
     let text = number_text look value in
-    (lead ++ line_break look (before ++ lead) i (length text)) ++ text
+    (lead ++ line_break look i (column (before ++ lead) + length text)) ++ text
 
 -- these numbers, beginning with value i, after this text
 unfoldable pub number_pieces : Look → Bytes → ℕ → List ℤ → Bytes

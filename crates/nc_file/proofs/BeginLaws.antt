@@ -1,7 +1,7 @@
 -- Begins that are summed up as they go are those of the padded slabs before.
 use Rattle.std.proofs.Common.{◌≡◌, ℕ, ◌+◌, ◌-◌, ◌^◌, ◌≤◌, min, Ok, Err, Bool, true, false, ◌&&◌, List, [], ◌∷◌, ◌++◌, length, refl, sym, ◌∙◌, ap, arith, if◌then◌else◌, rules}
-use Rattle.nc_file.proofs.Prelude.{list_all, le-ltb, Dim, Var, Header, Version, padded_total, record_vars, offset_limit, header_spelling, fixed_vars, begin_after, vars_with_begins, with_begins, fits, after, is_below, offset_of, placed}
-use Rattle.nc_base.proofs.FilePlaces.{fixed_total, fixed-push}
+use Rattle.nc_file.proofs.Prelude.{list_all, le-ltb, Dim, Var, Header, Version, padded_total, record_vars, offset_limit, header_spelling, fixed_vars, begin_after, is_record_var, vars_with_begins, with_begins, fits, after, is_below, offset_of, placed}
+use Rattle.nc_base.proofs.FilePlaces.{fixed_total, fixed-push, padded_total-append}
 use Rattle.nc_file.proofs.Totals.{total_of-append}
 use Rattle.nc_file.specs.declared.write.begins.NextBegins.{NextBegins}
 
@@ -22,7 +22,12 @@ after-push : (h : Header) (head : ℕ) (before : List Var) (var : Var) → after
 after-push h head before var = search (rules, fixed-push, total_of-append, same-offsets)
 
 offset-begin : (h : Header) (before : List Var) (var : Var) → offset_of h.dims (offsets_after h (length (header_spelling h)) before) var ≡ begin_after h before var
-offset-begin h before var = search rules
+offset-begin h before var = by (is_record_var h.dims var)
+  where
+    by : (b : Bool) → (if b then length (header_spelling h) + (fixed_total h.dims h.vars + padded_total h.dims (record_vars h.dims before)) else length (header_spelling h) + fixed_total h.dims before)
+        ≡ length (header_spelling h) + padded_total h.dims (if b then fixed_vars h.dims h.vars ++ record_vars h.dims before else fixed_vars h.dims before)
+    by true = ap (λ (n : ℕ). length (header_spelling h) + n) (sym (padded_total-append h.dims (fixed_vars h.dims h.vars) (record_vars h.dims before)))
+    by false = refl
 
 placed-after : (h : Header) (before vars : List Var) → placed h.dims (offsets_after h (length (header_spelling h)) before) vars ≡ vars_with_begins h before vars
 placed-after h before [] = refl
