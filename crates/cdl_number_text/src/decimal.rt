@@ -98,8 +98,8 @@ pub fn put_text(text: &mut [u8], at: usize, len: usize, is_fill: bool, number: i
     }
 }
 
-/// Writes the decimal digits of `n` at the offset `at` of `text`. Needs the number of these digits as `len`, and room for them. The
-/// contract says nothing of the bytes after them.
+/// Writes the decimal digits of `n` at the offset `at` of `text`. Needs the number of these digits as `len`, and room for them. The bytes
+/// after them may change.
 #[inline(always)]
 pub fn put_digits(text: &mut [u8], at: usize, len: usize, n: u64)
     requires len { len ≡ length (decimal n) }

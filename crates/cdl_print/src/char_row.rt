@@ -52,8 +52,9 @@ fn run_len_in_row(row: u128, row_index: u128, bytes: &[u8]) -> usize
 }
 
 /// Writes the lead of the next run ([`Layout::char_lead`]), the NULs that were held back, and the run, or the lead alone if the run is a
-/// NUL that is held back or dropped. Moves `progress` past the run, by one call of [`put_run_with_lead`]. It is there for its contract:
-/// what is written is the text of these values, whichever values were printed before. Errs only if the sink failed.
+/// NUL that is held back or dropped. Moves `progress` past the run. Needs a run as [`run_len_in_row`] cuts it, and no more characters than
+/// the variable has left. Errs only if the sink failed; then `progress` is where it was. It does this by one call of
+/// [`put_run_with_lead`], and is there for its contract: what is written is the text of these values, whichever were printed before.
 fn put_next_run<W: Sink>(
     sink: &mut W,
     layout: &Layout<'_>,

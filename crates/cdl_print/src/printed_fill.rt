@@ -61,7 +61,7 @@ impl PrintedFill {
     }
 }
 
-/// Returns the fill value if it prints as `_` and is from 0 to 99, otherwise 100, which equals no number that is compared with it.
+/// Returns the fill value if it prints as `_` and is from 0 to 99, otherwise 100. Only numbers from 0 to 99 are compared with it.
 fn fill_below_100(layout: &Layout<'_>) -> u64
     ensures { IsFillBelow100 (look_at layout.now) result }
 {

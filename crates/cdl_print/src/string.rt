@@ -10,8 +10,8 @@ use crate::word::Word;
 use devices::{Sink, WriteFailed, put};
 use nc_base::Quoting;
 
-/// Writes the bytes of a string with their escapes. The string is closed and opened again after each line feed that isn't its last
-/// byte. The string's first and last quotes are left to the caller.
+/// Writes the bytes of a string with their escapes. The string is closed and opened again (`",`, a new line, three tabs and `"`) after each
+/// line feed that isn't its last byte. The string's first and last quotes are left to the caller.
 pub fn put_broken_text<W: Sink>(sink: &mut W, bytes: &[u8]) -> Result<(), WriteFailed>
     ensures { Wrote W.view sink.old sink.new (broken_text bytes.now) result }
 {

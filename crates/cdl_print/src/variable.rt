@@ -68,8 +68,8 @@ fn put_type_and_name<W: Sink>(sink: &mut W, ty: NcType, name: &[u8]) -> Result<(
     put_name(sink, name)
 }
 
-/// Writes the names of a variable's dimensions in parentheses and joined by `, `, or nothing if it has no dimension. `dimids` has the ids
-/// of these dimensions, which are indexes into `dims`, the header's dimensions.
+/// Writes the names of a variable's dimensions with their escapes, in parentheses and joined by `, `, or nothing if it has no dimension.
+/// `dimids` has the ids of these dimensions, which are indexes into `dims`, the header's dimensions.
 #[tactic(auto, using(devices::proofs::Writes::writes), unfolding(nc_base::specs::HeadText::shape_text))]
 fn put_shape<W: Sink>(sink: &mut W, dims: &[Dim], dimids: &[u64]) -> Result<(), WriteFailed>
     ensures { Wrote W.view sink.old sink.new (shape_text dims.now dimids.now) result }

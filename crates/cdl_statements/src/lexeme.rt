@@ -53,7 +53,7 @@ impl<'a> Lexeme<'a> {
         is_word_kind(self.kind)
     }
 
-    /// Returns true if the token is a name: a word that isn't an unescaped reserved word.
+    /// Returns true if the token is a name: a word that isn't an unescaped reserved word, such as `dimensions` or `int`.
     pub fn is_name(self) -> bool
         ensures { result ≡ is_name (lexeme_of self.entry) }
     {

@@ -73,7 +73,7 @@ fn plain_digits(bytes: &[u8]) -> Option<(usize, u64)>
     Some((n, value))
 }
 
-/// Returns true if a comma comes right after the first `n` bytes, those of a number. Needs at least `n` bytes.
+/// Returns true if a comma comes right after the first `n` bytes, those of a number, and false if nothing does. Needs at least `n` bytes.
 #[inline(always)]
 fn is_before_comma(bytes: &[u8], n: usize) -> bool
     requires { n ≤ length bytes.now }

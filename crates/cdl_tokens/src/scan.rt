@@ -118,7 +118,7 @@ fn scan_text(bytes: &[u8]) -> Scanned
     }
 }
 
-/// Returns true if the bytes begin as a word does: with a letter, `_`, a byte from 0x80 or an escape.
+/// Returns true if the bytes begin as a word does: with a letter, `_`, a byte from 0x80 or an escape of a word ([`is_escape`]).
 fn begins_a_word(bytes: &[u8]) -> bool
     ensures { result ≡ begins_a_word bytes.now }
 {

@@ -272,7 +272,8 @@ impl<'a> Scanner<'a> {
         }
     }
 
-    /// Skips white space, though there is mostly none. Returns true if a comma comes next; this comma isn't passed.
+    /// Skips white space, but no comment, and returns true if a comma comes next. The comma isn't passed. It suits the case that there is
+    /// no white space.
     #[inline(always)]
     fn skip_to_comma(&mut self) -> bool
         ensures left { left self.new ≡ left self.old }

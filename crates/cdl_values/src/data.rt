@@ -72,9 +72,9 @@ pub fn read_data_statement<'a>(
     read_quickly_or_slowly(alloc, names, targets, start)
 }
 
-/// Reads the next statement by [`read_quickly`]. If this finds some fault in the statement, reads it again by [`read_slowly`]. Errs with
-/// the statement's first fault, or if an allocation failed. Its contract is about the tokens of the statement; from it follows that of
-/// [`read_data_statement`], which is about the dataset.
+/// Reads the next statement, with the arguments and the result of [`read_data_statement`]: by [`read_quickly`], and if this finds some
+/// fault in the statement, again by [`read_slowly`]. Errs with the statement's first fault, or if an allocation failed. Its contract is
+/// about the tokens of the statement; from it follows that of [`read_data_statement`], which is about the dataset.
 fn read_quickly_or_slowly<'a>(
     alloc: Global,
     names: &VariableNames<'_>,

@@ -77,7 +77,8 @@ impl Quoting {
     }
 }
 
-/// Returns how a byte is written in a name: as it is if [`is_plain_in_name`] is true of it, otherwise after a backslash.
+/// Returns how a byte is written in a name: as it is if [`is_plain_in_name`] is true of it, otherwise after a backslash. The first byte of
+/// a name may need a backslash all the same ([`Quoting::escape`]).
 fn escape_in_name(b: u8) -> Escape
     ensures { written result b ≡ escaped_in_name b }
 {

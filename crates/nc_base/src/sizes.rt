@@ -296,7 +296,8 @@ fn capped_product(bytes: u64, len: u64) -> u64
     }
 }
 
-/// Returns true if the first dimension of a shape is the record dimension, which has length 0.
+/// Returns true if the first of `dimids`, the ids of a shape, is that of the record dimension, the one of length 0 in `dims`. Returns false
+/// for a shape without dimensions, and if no dimension has the first id.
 pub fn is_record_shape(dims: &[Dim], dimids: &[u64]) -> bool
     ensures { result ≡ is_record_shape dims.now dimids.now }
 {

@@ -9,6 +9,9 @@ use crate::cursor::Cursor;
 use nc_base::{Dim, Header, RecordLayout, Var, is_record_var, slab_of};
 
 /// The slabs of a variable: values side by side in each, and one slab after the other at the same distance.
+///
+/// The functions need slabs as [`Slabs::of`] makes them (`IsSized`): with at least one value in a slab, values of 1 to 8 bytes, and a
+/// `stride` of at most 2^62. A cursor that they take is in a slab: its `within` is below `values_per_slab`.
 #[derive(Clone, Copy)]
 pub(crate) struct Slabs {
     /// The offset of the first value in the file.

@@ -94,7 +94,7 @@ impl<'a> Walk<'a> {
         }
     }
 
-    /// Returns the first `n` bytes of the buffer.
+    /// Returns the first `n` bytes of the buffer: the chunk that [`Walk::next`] lends after it has read `n` bytes.
     fn buffer_prefix(&self, n: usize) -> &[u8]
         requires { n ≤ length self.now.buf }
         ensures { result.now ≡ take n self.now.buf }

@@ -58,7 +58,7 @@ fn usage_line() -> &'static [u8]
     b"usage: ncdump [-h] [-c] [-v names] [-n name] [-l width] file\n"
 }
 
-/// Writes the line that says why the file at this path could not be opened or dumped.
+/// Writes the line that says why the file at this path could not be opened (`ncdump: PATH: cannot open`) or dumped ([`fault_line`]).
 #[tactic(auto, unfolding(crate::specs::Faults::file_line))]
 fn put_file_fault<W: Sink>(sink: &mut W, path: &[u8], fault: FileFault) -> Result<(), WriteFailed>
     ensures { Wrote W.view sink.old sink.new (file_line path.now fault) result }

@@ -18,8 +18,9 @@ use nc_base::{Header, RecordLayout, is_record_var, record_layout};
 use nc_walk::{Walk, WalkFault};
 
 /// Writes the dump of the file that the source has: the head for `header` (the text before `data:`), and after `data:` the values of each
-/// variable whose item of `selection` is true. If the options ask for the header alone, no values are shown. Needs a sound header, such as
-/// `read_header` returns, an item of `selection` for each variable, and a `buf` of at least 16 bytes, through which the values are read.
+/// variable whose item of `selection` is true. If the options ask for the header alone, no values are shown. Of the other options only the
+/// name and the width count here. Needs a sound header, such as `read_header` returns, an item of `selection` for each variable, and a
+/// `buf` of at least 16 bytes, through which the values are read.
 ///
 /// Does not allocate. What stands before a variable's values is written before the first of them is read. Reading is at most one
 /// buffer ahead of writing.

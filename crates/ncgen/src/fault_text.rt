@@ -118,7 +118,7 @@ fn put_message<W: Sink>(sink: &mut W, fault: &GenFault) -> Result<(), WriteFaile
     }
 }
 
-/// Writes the message of a fault of a CDL text: `line N: `, unless its kind is `OutOfMemory`, and then the words for its kind.
+/// Writes the message of a fault of a CDL text: `line N: ` and the words for its kind, or for `OutOfMemory` the words alone.
 #[tactic(auto, using(devices::proofs::Writes::writes), unfolding(crate::specs::Faults::fault_text))]
 fn put_cdl_fault<W: Sink>(sink: &mut W, fault: CdlFault) -> Result<(), WriteFailed>
     ensures { Wrote W.view sink.old sink.new (fault_text (Cdl fault)) result }

@@ -124,8 +124,9 @@ impl<S: Source> Window<'_, S> {
         })
     }
 
-    /// Reads `n` variables, one after the other, and returns them. Errs with `TooLarge` if a slab passes 2^48 bytes, or if the padded slabs
-    /// of the record variables together pass 2^62 bytes.
+    /// Reads `n` variables, one after the other, and returns them. [`var_list`](Window::var_list) has read the list's tag and `n` before.
+    /// Allocates for the variables that it has read, and not for `n`. Errs with `TooLarge` if a slab passes 2^48 bytes, or if the padded
+    /// slabs of the record variables together pass 2^62 bytes.
     #[tactic(auto, using(crate::proofs::Loops::each))]
     fn vars(
         &mut self,

@@ -9,7 +9,8 @@ use super::number::{put_count, put_u32};
 use devices::{Sink, WriteFailed, put};
 use nc_base::{Version, padding_len};
 
-/// Writes a name: its length, its bytes and their padding. Errs if the sink fails.
+/// Writes a name: its length, as wide as the version's counts, its bytes, and zeros up to a multiple of four. Needs a length below the
+/// version's limit of counts; the name isn't checked. Errs if the sink fails.
 #[tactic(auto, using(devices::proofs::Writes::writes))]
 pub(crate) fn put_name<W: Sink>(
     sink: &mut W,

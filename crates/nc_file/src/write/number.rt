@@ -38,8 +38,8 @@ pub(crate) fn put_count<W: Sink>(sink: &mut W, version: Version, n: u64) -> Resu
     put_number(sink, version, n)
 }
 
-/// Writes an offset (`OFFSET`), in four bytes in CDF-1 and otherwise in eight. Needs an offset below the
-/// version's limit of offsets. Errs if the sink fails.
+/// Writes an offset (`OFFSET`) as a big-endian number, in four bytes in CDF-1 and otherwise in eight. Needs an offset below the version's
+/// limit of offsets. Errs if the sink fails.
 pub(crate) fn put_offset<W: Sink>(
     sink: &mut W,
     version: Version,
