@@ -72,20 +72,24 @@ install:
 	install -m 644 man/cdl.5 $(pages)/man5
 
 # Packs the programs, the manual pages, the documents with the definitions that they lead to, and the samples into dist/RELEASE.tar.gz, the
-# same bytes each time. In the unpacked folder `make install` installs them without the kit.
+# same bytes each time. In the unpacked folder `make install` installs them without the kit. The files are gathered outside of the
+# repository, in which rt allows no .antt file that is of no crate.
 dist:
 	test -x bin/ncdump || $(MAKE) bin/ncdump
 	test -x bin/ncgen || $(MAKE) bin/ncgen
 	rm -rf dist
-	install -d dist/$(release)/bin dist/$(release)/man dist/$(release)/docs dist/$(release)/samples
-	install -s -m 755 bin/ncdump bin/ncgen dist/$(release)/bin
-	install -m 644 man/* dist/$(release)/man
-	install -m 644 docs/* dist/$(release)/docs
-	find crates -name out -prune -o -path '*/specs/*.antt' -exec install -D -m 644 {} dist/$(release)/{} \;
-	install -m 644 samples/*.cdl samples/*.nc dist/$(release)/samples
-	install -m 644 Makefile VERSION README.md CHANGELOG.md CONTRIBUTING.md dist/$(release)
-	cd dist/$(release) && find * -type f | LC_ALL=C sort | xargs sha256sum >../SHA256SUMS && mv ../SHA256SUMS .
-	tar --sort=name --owner=0 --group=0 --numeric-owner --mode=u=rwX,go=rX --mtime='$(day) UTC' -C dist -cf - $(release) | gzip -n9 >dist/$(release).tar.gz
+	mkdir dist
+	folder=$$(mktemp -d) && trap 'rm -rf "$$folder"' EXIT && to=$$folder/$(release) && \
+		install -d $$to/bin $$to/man $$to/docs $$to/samples && \
+		install -s -m 755 bin/ncdump bin/ncgen $$to/bin && \
+		install -m 644 man/* $$to/man && \
+		install -m 644 docs/* $$to/docs && \
+		find crates -name out -prune -o -path '*/specs/*.antt' -exec install -D -m 644 {} $$to/{} \; && \
+		install -m 644 samples/*.cdl samples/*.nc $$to/samples && \
+		install -m 644 Makefile VERSION README.md CHANGELOG.md CONTRIBUTING.md $$to && \
+		(cd $$to && find * -type f | LC_ALL=C sort | xargs sha256sum >../SHA256SUMS && mv ../SHA256SUMS .) && \
+		tar --sort=name --owner=0 --group=0 --numeric-owner --mode=u=rwX,go=rX --mtime='$(day) UTC' -C $$folder -cf - $(release) \
+		| gzip -n9 >dist/$(release).tar.gz
 
 # Proves every crate, over what earlier runs kept.
 check:
