@@ -1,12 +1,15 @@
 -- The statements of a head, and what they say.
-use Rattle.std.proofs.Common.{◌≡◌, ℕ, ◌^◌, ◌<◌, true, false, List, [], ◌∷◌, ◌++◌, map, sym, ◌∙◌, ap, refl, subst, arith, append_assoc, append-nil, ℤ, pos, unsigned_abs, decimal, ◌==◌, not, if◌then◌else◌, None, Some, codes, rules}
-use Rattle.cdl_laws.proofs.Prelude.{signed_decimal, flat_map, list_all, flat_map-append, list_all-append, concat_parts, Att, Dim, NcType, Version, escaped_name, escaped_in_string, joined, dim_len_text, dim_line, unlimited_word, currently_word, att_line, att_text, chars_text, broken_text, string_break, without_trailing_nuls, IsName, number_suffix, is_char, has_type, Section, Dimensions, Variables, is_digit, scan, Lexeme, said_dim, IsBeforeData, globals, dimensions, variables, lexemes_at, Value, Number, Characters, Statement, DeclareDimensions, Attribute, each, both, constant, constants, typed, global, assigned, body, option_or, and_left, and_right, and_both, Each}
+use Rattle.std.proofs.Common.{◌≡◌, ℕ, ◌^◌, ◌<◌, true, false, List, [], ◌∷◌, ◌++◌, map, sym, ◌∙◌, ap, refl, subst, arith, append_assoc, append-nil, ℤ, pos, unsigned_abs, decimal, ◌==◌, not, if◌then◌else◌, None, Some, is_some, codes, rules}
+use Rattle.cdl_laws.proofs.Prelude.{signed_decimal, flat_map, list_all, option_map, flat_map-append, list_all-append, concat_parts, Att, Dim, NcType, Version, escaped_name, escaped_in_string, joined, dim_len_text, dim_line, unlimited_word, currently_word, att_line, att_text, chars_text, broken_text, string_break, without_trailing_nuls, IsName, number_suffix, is_char, has_type, Section, Dimensions, Variables, is_digit, scan, Lexeme, said_dim, IsBeforeData, globals, dimensions, variables, lexemes_at, Value, Number, Characters, DeclareDimensions, Attribute, each, both, constant, constants, assigned, shape, section_of, name_of, and_left, and_right, and_both, Each}
 use Rattle.cdl_laws.proofs.Texts.{Closed, Reads, closed_both, closed_by, mark, word, number, name_word}
 use Rattle.cdl_laws.proofs.Numerals.{number_reads, numeral_again, value_again, decimal_digits, on_suffix}
 use Rattle.cdl_laws.proofs.Strings.{quoted, string, string_closed}
 use Rattle.cdl_laws.proofs.ValueTexts.{comma, commas, constants_all, semicolon_closed}
 use Rattle.cdl_laws.proofs.Filled.{strings_said}
-use Rattle.cdl_laws.proofs.Takes.{Says, statement_says, semicolon, is_fine, word_fine, is_open}
+use Rattle.cdl_laws.proofs.Takes.{Says, statement_says, semicolon, is_fine, word_fine}
+use Rattle.cdl_statements.specs.Shapes as shapes
+use Rattle.cdl_statements.proofs.Dues.{name_is}
+use Rattle.cdl_statements.proofs.Sections.{section_no_name}
 use Rattle.cdl_laws.proofs.Heads.{name_starts, bare_word, tab_closed, tabs_closed, is_closed, colon_closed, stop_closed, comment_closed, joined_reads, fine_commas, strings_fine}
 
 -- ---- dimensions
@@ -50,13 +53,21 @@ dim_closed n dim name h =
 extent_fine : (v : Version) (len : ℕ) → len < 2 ^ 64 → is_fine v (extent_lexeme len) ≡ true
 extent_fine v len h = grind (arith, codes "UNLIMITED", decimal len, word_fine v (codes "UNLIMITED"), value_again v (pos len) h, pos len, word, number)
 
-dim_is : (v : Version) (dim : Dim) → IsName dim.name → dim.len < 2 ^ 64 → body v Dimensions (word (escaped_name dim.name) ∷ mark 61 ∷ extent_lexeme dim.len ∷ []) ≡ Some (DeclareDimensions (said_dim dim ∷ []))
-dim_is v dim name h =
+-- a name is the word of no section
+no_section : (l : Lexeme) (name : List ℕ) → name_of l ≡ Some name → is_some (section_of l) ≡ false
+no_section l name h = grind (arith, name_is l, section_no_name l)
+
+dim_listed : (v : Version) (dim : Dim) → IsName dim.name → dim.len < 2 ^ 64 → shapes.dimensions v (word (escaped_name dim.name) ∷ mark 61 ∷ extent_lexeme dim.len ∷ semicolon ∷ []) ≡ Some (said_dim dim ∷ [])
+dim_listed v dim name h =
     grind (arith, word (escaped_name dim.name), codes "UNLIMITED", decimal dim.len, pos dim.len, name_word dim.name name, value_again v (pos dim.len) h, number)
+
+dim_is : (v : Version) (dim : Dim) → IsName dim.name → dim.len < 2 ^ 64 → shape v Dimensions (word (escaped_name dim.name) ∷ mark 61 ∷ extent_lexeme dim.len ∷ semicolon ∷ []) ≡ Some (DeclareDimensions (said_dim dim ∷ []))
+unfolding shape
+dim_is v dim name h = rw (no_section (word (escaped_name dim.name)) dim.name (name_word dim.name name).stands) (ap (option_map DeclareDimensions) (dim_listed v dim name h))
 
 pub dim_says : (v : Version) (n : ℕ) (dim : Dim) → IsName dim.name → dim.len < 2 ^ 64 → Says v Dimensions (dim_line n dim) (DeclareDimensions (said_dim dim ∷ []))
 dim_says v n dim name h =
-    statement_says v Dimensions (dim_line n dim) (word (escaped_name dim.name)) (mark 61) (extent_lexeme dim.len ∷ []) (DeclareDimensions (said_dim dim ∷ [])) refl
+    statement_says v Dimensions (dim_line n dim) (word (escaped_name dim.name)) (mark 61 ∷ extent_lexeme dim.len ∷ []) (DeclareDimensions (said_dim dim ∷ []))
     (dim_closed n dim name h) (name_starts dim.name name)
     (and_both (is_fine v (word (escaped_name dim.name))) (list_all (is_fine v) (mark 61 ∷ extent_lexeme dim.len ∷ [])) (word_fine v (escaped_name dim.name)) (and_both (is_fine v (extent_lexeme dim.len)) true (extent_fine v dim.len h) refl))
     (dim_is v dim name h)
@@ -85,7 +96,7 @@ numbers_each v ty [] fit h k = refl
 numbers_each v ty (x ∷ xs) fit h k = rw (numeral_again v ty x fit.0 h k) (ap (both (λ y ys. y ∷ ys) (Some (Number (record { value = x; ty = ty })))) (numbers_each v ty xs fit.1 h k))
 
 numbers_are : (v : Version) (ty : NcType) (x : ℤ) (xs : List ℤ) → AreSmall (x ∷ xs) → has_type v ty ≡ true → is_char ty ≡ false →
-    constants v false (number (suffixed ty x) ∷ commas (number_lexemes ty xs)) ≡ Some (numbers_said ty (x ∷ xs))
+    constants v false (number (suffixed ty x) ∷ commas (number_lexemes ty xs) ++ semicolon ∷ []) ≡ Some (numbers_said ty (x ∷ xs))
 numbers_are v ty x xs fit h k = constants_all v false (number (suffixed ty x)) (number_lexemes ty xs) ∙ numbers_each v ty (x ∷ xs) fit h k
 
 numbers_fine : (v : Version) (ty : NcType) (xs : List ℤ) → AreSmall xs → has_type v ty ≡ true → is_char ty ≡ false → list_all (is_fine v) (number_lexemes ty xs) ≡ true
@@ -157,7 +168,7 @@ pub record IsListOf (v : Version) (bytes : List ℕ) (said : List Value) : Type 
   pub ls : List Lexeme
   pub reads : Reads bytes (l ∷ commas ls)
   pub fine : list_all (is_fine v) (l ∷ ls) ≡ true
-  pub are : constants v false (l ∷ commas ls) ≡ Some said
+  pub are : constants v false (l ∷ commas ls ++ semicolon ∷ []) ≡ Some said
 
 pub chars_list : (v : Version) (vals : List ℕ) → IsListOf v (chars_text vals) (map Characters (first (without_trailing_nuls vals) ∷ others (without_trailing_nuls vals)))
 unfolding chars_text concat_parts
@@ -197,35 +208,35 @@ att_fine : (v : Version) (att : Att) (said : List Value) (list : IsListOf v (att
 att_fine v att said list = grind (arith, and_both, word, word_fine, and_left, fine_commas, and_right)
 
 assigned_is : {A : Type 0} (v : Version) (f : List ℕ → List Value → A) (att : Att) (said : List Value) (list : IsListOf v (att_text att.ty att.vals) said) → IsName att.name →
-    assigned v false f (word (escaped_name att.name) ∷ mark 61 ∷ list.l ∷ commas list.ls) ≡ Some (f att.name said)
-assigned_is v f att said list name = ap (λ o. both f o (constants v false (list.l ∷ commas list.ls))) (name_word att.name name).stands ∙ ap (both f (Some att.name)) list.are
+    assigned v false f (word (escaped_name att.name) ∷ mark 61 ∷ list.l ∷ commas list.ls ++ semicolon ∷ []) ≡ Some (f att.name said)
+assigned_is v f att said list name = ap (λ o. both f o (constants v false (list.l ∷ commas list.ls ++ semicolon ∷ []))) (name_word att.name name).stands ∙ ap (both f (Some att.name)) list.are
 
 -- of the whole dataset, in a section before the data
-abbrev pub takes_global : Section → Type 0
-takes_global section = (v : Version) (ls : List Lexeme) (s : Statement) → global v ls ≡ Some s → body v section ls ≡ Some s
-
-global_in : (section : Section) → IsBeforeData section → takes_global section
-global_in section globals = grind (arith, dimensions, variables)
-global_in section _ = grind (arith, dimensions, variables)
-
-open_in : (section : Section) → IsBeforeData section → is_open section ≡ true
-open_in section h = grind arith
+global_in : (v : Version) (section : Section) (ls : List Lexeme) → IsBeforeData section → shape v section (mark 58 ∷ ls) ≡ assigned v false (Attribute None) ls
+unfolding shape
+global_in v section ls globals = refl
+global_in v section ls dimensions = refl
+global_in v section ls variables = refl
 
 pub global_says : (v : Version) (section : Section) (att : Att) (said : List Value) → IsBeforeData section → IsListOf v (att_text att.ty att.vals) said → IsName att.name → Says v section (att_line [] att) (Attribute None att.name said)
 unfolding att_line concat_parts
 global_says v section att said before list name =
-    statement_says v section (codes "\t\t" ++ rest_of_att att) (mark 58) (word (escaped_name att.name)) (mark 61 ∷ list.l ∷ commas list.ls) (Attribute None att.name said) (open_in section before)
+    statement_says v section (codes "\t\t" ++ rest_of_att att) (mark 58) (word (escaped_name att.name) ∷ mark 61 ∷ list.l ∷ commas list.ls) (Attribute None att.name said)
     (closed_both (codes "\t\t") (rest_of_att att) [] (mark 58 ∷ word (escaped_name att.name) ∷ mark 61 ∷ (list.l ∷ commas list.ls ++ semicolon ∷ [])) tabs_closed (att_closed v att said list name))
     refl (att_fine v att said list)
-    (global_in section before v (mark 58 ∷ word (escaped_name att.name) ∷ mark 61 ∷ list.l ∷ commas list.ls) (Attribute None att.name said) (assigned_is v (Attribute None) att said list name))
+    (global_in v section (word (escaped_name att.name) ∷ mark 61 ∷ list.l ∷ commas list.ls ++ semicolon ∷ []) before ∙ assigned_is v (Attribute None) att said list name)
 
 -- of a variable
+owned_is : (v : Version) (owner : List ℕ) (ls : List Lexeme) → IsName owner → shape v Variables (word (escaped_name owner) ∷ mark 58 ∷ ls) ≡ assigned v false (Attribute (Some owner)) ls
+unfolding shape
+owned_is v owner ls own = rw ((name_word owner own).stands) refl
+
 pub owned_says : (v : Version) (owner : List ℕ) (att : Att) (said : List Value) → IsListOf v (att_text att.ty att.vals) said → IsName owner → IsName att.name → Says v Variables (att_line (escaped_name owner) att) (Attribute (Some owner) att.name said)
 unfolding att_line concat_parts
 owned_says v owner att said list own name =
-    statement_says v Variables (codes "\t\t" ++ (escaped_name owner ++ rest_of_att att)) (word (escaped_name owner)) (mark 58) (word (escaped_name att.name) ∷ mark 61 ∷ list.l ∷ commas list.ls) (Attribute (Some owner) att.name said) refl
+    statement_says v Variables (codes "\t\t" ++ (escaped_name owner ++ rest_of_att att)) (word (escaped_name owner)) (mark 58 ∷ word (escaped_name att.name) ∷ mark 61 ∷ list.l ∷ commas list.ls) (Attribute (Some owner) att.name said)
     (closed_both (codes "\t\t") (escaped_name owner ++ rest_of_att att) [] (word (escaped_name owner) ∷ mark 58 ∷ word (escaped_name att.name) ∷ mark 61 ∷ (list.l ∷ commas list.ls ++ semicolon ∷ [])) tabs_closed
     (closed_by (escaped_name owner) (rest_of_att att) (word (escaped_name owner) ∷ []) (mark 58 ∷ word (escaped_name att.name) ∷ mark 61 ∷ (list.l ∷ commas list.ls ++ semicolon ∷ [])) (name_word owner own).reads (λ rest. refl) (att_closed v att said list name)))
     (name_starts owner own)
     (and_both (is_fine v (word (escaped_name owner))) (list_all (is_fine v) (mark 58 ∷ word (escaped_name att.name) ∷ mark 61 ∷ list.l ∷ commas list.ls)) (word_fine v (escaped_name owner)) (att_fine v att said list))
-    (rw ((name_word owner own).stands) (ap (λ o. option_or o (typed (word (escaped_name owner) ∷ mark 58 ∷ word (escaped_name att.name) ∷ mark 61 ∷ list.l ∷ commas list.ls))) (assigned_is v (Attribute (Some owner)) att said list name)))
+    (owned_is v owner (word (escaped_name att.name) ∷ mark 61 ∷ list.l ∷ commas list.ls ++ semicolon ∷ []) own ∙ assigned_is v (Attribute (Some owner)) att said list name)

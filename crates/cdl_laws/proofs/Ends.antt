@@ -1,6 +1,6 @@
 -- The opening, the section marks and the closing brace of a dump.
 use Rattle.std.proofs.Common.{◌≡◌, ℕ, ◌+◌, true, false, List, [], ◌∷◌, ◌++◌, length, map, sym, ◌∙◌, ap, refl, subst, arith, append_assoc, append-nil, length-append, ◌==◌, Some, Ok, codes, rules}
-use Rattle.cdl_laws.proofs.Prelude.{false≢true, eqb-true, concat_parts, Att, Dim, Var, Version, escaped_name, is_plain, dim_line, dim_lines, dims_text, att_line, att_lines, var_lines, vars_text, gatts_text, dimensions_word, variables_word, global_word, IsName, Section, Globals, Dimensions, Variables, Values, Ended, scan, word_len, len_until, Lexeme, piece_read, empty, pieces_at, is_section, cut_lexemes, lexemes_at, lexemes, pieces_of, trimmed_att, Enter, shape, State, Draft, act, in_turn, IsBeforeData, globals, dimensions, variables, and_left, until_at_start, lt-ltb, not_none, Each}
+use Rattle.cdl_laws.proofs.Prelude.{false≢true, eqb-true, concat_parts, Att, Dim, Var, Version, escaped_name, is_reserved, name_of, is_plain, dim_line, dim_lines, dims_text, att_line, att_lines, var_lines, vars_text, gatts_text, dimensions_word, variables_word, global_word, IsName, Section, Globals, Dimensions, Variables, Values, Ended, scan, word_len, len_until, Lexeme, piece_read, empty, pieces_at, is_section, cut_lexemes, lexemes_at, lexemes, pieces_of, trimmed_att, Enter, shape, State, Draft, act, in_turn, IsBeforeData, globals, dimensions, variables, and_left, until_at_start, lt-ltb, not_none, Each}
 use Rattle.cdl_tokens.specs.declared.token.TokenKind.TheVariants as kinds
 use Rattle.cdl_laws.proofs.NameTexts.{rest_of, Begins, marked, bare, begins}
 use Rattle.cdl_laws.proofs.Texts.{mark, word, prefix_again, some_name}
@@ -22,7 +22,7 @@ unfolding variables_word lexemes_at scan word_len pieces_at is_section shape
 variables_says v section before h = record { piece = word (codes "variables") ∷ mark 58 ∷ []; reads = λ rest. refl; cut = λ rest. refl; sound = refl; shaped = h }
 
 pub data_says : (v : Version) → Says v Variables (codes "data:\n") (Enter Values)
-unfolding lexemes_at scan word_len pieces_at is_section shape
+unfolding name_of is_reserved lexemes_at scan word_len pieces_at is_section shape
 data_says v = record { piece = word (codes "data") ∷ mark 58 ∷ []; reads = λ rest. refl; cut = λ rest. refl; sound = refl; shaped = refl }
 
 mark_act : (v : Version) (from to : Section) (dims : List Dim) (gatts : List Att) (drafts : List Draft) → act v (state from dims gatts drafts) (Enter to) ≡ Ok (state to dims gatts drafts)

@@ -3,7 +3,7 @@ use Rattle.std.proofs.Common.{◌≡◌, ℕ, zero, suc, ◌+◌, ◌-◌, ◌�
 use Rattle.cdl_laws.proofs.Prelude.{printed, flat_map, eqb-true, map-append, length-replicate, replicate_more, Version, escaped_in_string, is_nul, is_char, string_value, stands_for, Characters, each, both, constant, constants, Capacity, Joined, Rows, add_row, filled, in_turn, listing_of, values_in, le-leb, length-map, Each, ◌>>=◌}
 use Rattle.cdl_laws.proofs.Characters.{flat}
 use Rattle.cdl_laws.proofs.Strings.{string, unescape_all, between_quotes}
-use Rattle.cdl_laws.proofs.ValueTexts.{commas, constants_all, turn, room_for}
+use Rattle.cdl_laws.proofs.ValueTexts.{commas, semicolon, constants_all, turn, room_for}
 
 -- a value of a character
 abbrev pub IsCharacter : ℤ → Type 0
@@ -74,7 +74,7 @@ strings_each v takes_fill (bytes ∷ all) =
     ap (both (λ y ys. y ∷ ys) (constant v takes_fill (string bytes))) (strings_each v takes_fill all) ∙
     ap (λ y. both (λ y ys. y ∷ ys) y (Some (map Characters all))) (string_said v takes_fill bytes)
 
-pub strings_said : (v : Version) (takes_fill : Bool) (bytes : List ℕ) (all : List (List ℕ)) → constants v takes_fill (string bytes ∷ commas (map string all)) ≡ Some (map Characters (bytes ∷ all))
+pub strings_said : (v : Version) (takes_fill : Bool) (bytes : List ℕ) (all : List (List ℕ)) → constants v takes_fill (string bytes ∷ commas (map string all) ++ semicolon ∷ []) ≡ Some (map Characters (bytes ∷ all))
 strings_said v takes_fill bytes all = constants_all v takes_fill (string bytes) (map string all) ∙ strings_each v takes_fill (bytes ∷ all)
 
 -- ---- what becomes of them

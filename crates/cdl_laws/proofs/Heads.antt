@@ -1,6 +1,6 @@
 -- The statements of a dump, and what they say.
 use Rattle.std.proofs.Common.{◌≡◌, ℕ, ◌^◌, ◌<◌, ◌≤◌, Bool, true, false, List, [], ◌∷◌, ◌++◌, length, map, ◌∙◌, ap, refl, subst, arith, append_assoc, ℤ, unsigned_abs, ◌==◌, not, None, Some, codes, rules}
-use Rattle.cdl_laws.proofs.Prelude.{printed, list_all, prefix_len, NcType, Byte, Char, Short, Int, Ubyte, Ushort, Uint, Int64, Uint64, Version, escaped_name, is_plain, is_reserved, joined, IsName, type_word, Look, is_char, variable_text, Values, may_begin_word, scan, word_len, Lexeme, role, is_section, section_of, lexemes_at, Value, Characters, Listed, both, constants, body, and_left, and_right, and_both, word_at_start, Each}
+use Rattle.cdl_laws.proofs.Prelude.{printed, list_all, prefix_len, NcType, Byte, Char, Short, Int, Ubyte, Ushort, Uint, Int64, Uint64, Version, escaped_name, is_plain, is_reserved, joined, IsName, type_word, Look, is_char, variable_text, Values, may_begin_word, scan, word_len, Lexeme, role, is_section, section_of, lexemes_at, Value, Characters, Listed, both, constants, shape, and_left, and_right, and_both, word_at_start, Each}
 use Rattle.cdl_laws.proofs.NameTexts.{no_escape}
 use Rattle.cdl_laws.proofs.Texts.{Closed, Reads, stops, then_reads, reads_both, mark, word, number, name_word, word_reads, stop_word, prefix_again}
 use Rattle.cdl_laws.proofs.Numerals.{value_again}
@@ -117,17 +117,18 @@ listed_fine : (v : Version) (name : List ℕ) (l : Lexeme) (ls : List Lexeme) �
 listed_fine v name l ls h = grind (arith, and_both, word, word_fine, and_left, fine_commas, and_right)
 
 listed_is : (v : Version) (name : List ℕ) (ls : List Lexeme) (values : List Value) → IsName name → constants v true ls ≡ Some values →
-    body v Values (word (escaped_name name) ∷ mark 61 ∷ ls) ≡ Some (Listed name values)
+    shape v Values (word (escaped_name name) ∷ mark 61 ∷ ls) ≡ Some (Listed name values)
+unfolding shape
 listed_is v name ls values h e = ap (λ o. both Listed o (constants v true ls)) (name_word name h).stands ∙ ap (both Listed (Some name)) e
 
 pub numbers_say : (v : Version) (look : Look) (x : ℤ) (xs : List ℤ) → IsName look.name → is_char look.ty ≡ false → (look.in_rows ≡ false → length (x ∷ xs) ≤ look.row) → AreSmall (x ∷ xs) →
     Says v Values (variable_text look (x ∷ xs)) (Listed look.name (map (value_said look) (x ∷ xs)))
 numbers_say v look x xs name ty small fit =
     let ls = value_lexeme look x ∷ commas (map (value_lexeme look) xs) in
-    statement_says v Values (variable_text look (x ∷ xs)) (word (escaped_name look.name)) (mark 61) ls (Listed look.name (map (value_said look) (x ∷ xs))) refl
+    statement_says v Values (variable_text look (x ∷ xs)) (word (escaped_name look.name)) (mark 61 ∷ ls) (Listed look.name (map (value_said look) (x ∷ xs)))
     (numbers_closed look x xs name ty small fit) (name_starts look.name name)
     (listed_fine v (escaped_name look.name) (value_lexeme look x) (map (value_lexeme look) xs) (values_fine v look (x ∷ xs) fit))
-    (listed_is v look.name ls (map (value_said look) (x ∷ xs)) name (values_said v look x xs fit))
+    (listed_is v look.name (ls ++ semicolon ∷ []) (map (value_said look) (x ∷ xs)) name (values_said v look x xs fit))
 
 pub strings_fine : (v : Version) (all : List (List ℕ)) → list_all (is_fine v) (map string all) ≡ true
 strings_fine v [] = refl
@@ -142,20 +143,20 @@ pub table_says : (v : Version) (look : Look) (r : List ℤ) (rows : List (List �
 table_says v look r rows name ty h wide all =
     let shows = map (printed look.trimmed 0) rows in
     let ls = string (printed look.trimmed 0 r) ∷ commas (map string shows) in
-    statement_says v Values (variable_text look (flat (r ∷ rows))) (word (escaped_name look.name)) (mark 61) ls (Listed look.name (map Characters (printed look.trimmed 0 r ∷ shows))) refl
+    statement_says v Values (variable_text look (flat (r ∷ rows))) (word (escaped_name look.name)) (mark 61 ∷ ls) (Listed look.name (map Characters (printed look.trimmed 0 r ∷ shows)))
     (subst (λ l. Closed (variable_text look (flat (r ∷ rows))) (word (escaped_name look.name) ∷ mark 61 ∷ (string (printed look.trimmed 0 r) ∷ commas l ++ semicolon ∷ []))) (map_map look.trimmed rows) (table_closed look r rows name ty h wide all))
     (name_starts look.name name)
     (listed_fine v (escaped_name look.name) (string (printed look.trimmed 0 r)) (map string shows) (strings_fine v shows))
-    (listed_is v look.name ls (map Characters (printed look.trimmed 0 r ∷ shows)) name (strings_said v true (printed look.trimmed 0 r) shows))
+    (listed_is v look.name (ls ++ semicolon ∷ []) (map Characters (printed look.trimmed 0 r ∷ shows)) name (strings_said v true (printed look.trimmed 0 r) shows))
 
 pub line_says : (v : Version) (look : Look) (x : ℤ) (xs : List ℤ) → IsName look.name → is_char look.ty ≡ true → look.in_rows ≡ false → length (x ∷ xs) ≤ look.row →
     Says v Values (variable_text look (x ∷ xs)) (Listed look.name (Characters (printed look.trimmed 0 (x ∷ xs)) ∷ []))
 line_says v look x xs name ty h small =
     let r = printed look.trimmed 0 (x ∷ xs) in
-    statement_says v Values (variable_text look (x ∷ xs)) (word (escaped_name look.name)) (mark 61) (string r ∷ []) (Listed look.name (Characters r ∷ [])) refl
+    statement_says v Values (variable_text look (x ∷ xs)) (word (escaped_name look.name)) (mark 61 ∷ string r ∷ []) (Listed look.name (Characters r ∷ []))
     (line_closed look x xs name ty h small) (name_starts look.name name)
     (listed_fine v (escaped_name look.name) (string r) [] refl)
-    (listed_is v look.name (string r ∷ []) (Characters r ∷ []) name (strings_said v true r []))
+    (listed_is v look.name (string r ∷ semicolon ∷ []) (Characters r ∷ []) name (strings_said v true r []))
 
 -- ---- dimensions
 

@@ -1,7 +1,7 @@
 -- What holds of what an option or a result has, and of lists by totals.
 use Rattle.std.proofs.Common.{◌≡◌, ℕ, ◌+◌, ◌≤◌, Bool, true, false, List, [], ◌∷◌, ◌++◌, subst, arith, zero, suc, All, if◌then◌else◌, Option, None, Some, Result, Ok, Err, take, drop}
 use Rattle.std.specs.Prelude.{⊤}
-use Rattle.cdl_laws.proofs.Prelude.{option_map, option_and_then, in_turn, unless, when, ok_or, both, each, option_or, if_so, CdlKind, Each, ◌>>=◌}
+use Rattle.cdl_laws.proofs.Prelude.{option_map, option_and_then, in_turn, unless, when, ok_or, both, if_so, CdlKind, Each, ◌>>=◌}
 
 -- ---- options
 
@@ -20,9 +20,6 @@ some_weaker P Q o h h2 = grind arith
 
 pub some_both : {A B C : Type 0} (P : A → Type 0) (Q : B → Type 0) (R : C → Type 0) (f : A → B → C) (a : Option A) (b : Option B) → SomeIs P a → SomeIs Q b → ((x : A) (y : B) → P x → Q y → R (f x y)) → SomeIs R (both f a b)
 some_both P Q R f a b h h2 h3 = grind arith
-
-pub some_first : {A : Type 0} (P : A → Type 0) (a b : Option A) → SomeIs P a → SomeIs P b → SomeIs P (option_or a b)
-some_first P a b h h2 = grind arith
 
 pub some_given : {A : Type 0} (P : A → Type 0) (b : Bool) (o : Option A) → (b ≡ true → SomeIs P o) → SomeIs P (if_so b o)
 some_given P b o h = grind arith
@@ -71,11 +68,6 @@ turns {S = S} f P cost Q step n s (x ∷ xs) p q =
       | Ok t ↦ (λ h. let e : n + cost x + total cost xs ≡ n + (cost x + total cost xs) = omega arith in subst (λ m. OkIs (P m) (in_turn f t xs)) e (turns f P cost Q step (n + cost x) t xs h q.1))
       | Err e ↦ (λ h. tt)
     ] (step n s x p q.0)
-
--- each of a list has its shape, of no greater total
-pub each_total : {A B : Type 0} (w : A → ℕ) (c : B → ℕ) (f : A → Option B) → ((a : A) → SomeIs (λ b. c b ≤ w a) (f a)) → (xs : List A) → SomeIs (λ ys. total c ys ≤ total w xs) (each f xs)
-each_total w c f g [] = omega arith
-each_total w c f g (x ∷ xs) = grind (arith, total c, each f xs, some_both, each_total w c f g xs)
 
 -- ---- lists
 

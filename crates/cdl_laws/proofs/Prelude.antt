@@ -15,10 +15,9 @@ unfoldable pub use Rattle.cdl_meaning.specs.State.{act, add_att, add_dim, add_di
 pub use Rattle.cdl_statements.proofs.PieceLengths.{pieces_by_steps}
 pub use Rattle.cdl_statements.specs.Lexemes.{Lexeme, is_end_kind, is_mark, is_opening_kind, is_word, is_word_kind, lexeme}
 unfoldable pub use Rattle.cdl_statements.specs.Lexemes.{name_of}
-pub use Rattle.cdl_statements.proofs.Members.{alone, constants, constants_are, constants_by, mark_after, members, name_alone}
 pub use Rattle.cdl_statements.specs.Pieces.{section_of}
 unfoldable pub use Rattle.cdl_statements.specs.Pieces.{pieces_at}
-pub use Rattle.cdl_statements.specs.Shapes.{Attribute, Close, Characters, DeclareDimensions, Dimension, End, Listed, Enter, Number, Open, Statement, DeclareVariables, Underscore, Value, Variable, assigned, attribute, before_mark, body, both, constant, constant_of, dimension, each, first_bad, if_so, global, length_of, members_in, section_mark, section_number, single, token_fault, typed, variable}
+pub use Rattle.cdl_statements.specs.Shapes.{Attribute, Close, Characters, DeclareDimensions, Dimension, End, Listed, Enter, Number, Open, Statement, DeclareVariables, Underscore, Value, Variable, after_member, assigned, at_end, attribute_or_mark, both, constant, constant_of, constants, dimension, first_bad, if_so, in_parentheses, length_of, other_statement, section_mark, section_number, token_fault}
 unfoldable pub use Rattle.cdl_statements.specs.Shapes.{shape}
 pub use Rattle.cdl_statements.specs.Statements.{statements}
 pub use Rattle.cdl_statements.specs.code.CutSteps.{going_on, step, unless_end, with_first}
@@ -49,11 +48,11 @@ pub use Rattle.nc_base.specs.Escapes.{begins_with_digit_or_mark, escaped_in_name
 unfoldable pub use Rattle.nc_base.specs.Escapes.{escaped_name, escaped_text, is_reserved}
 pub use Rattle.nc_base.specs.Fill.{fill_of_att, is_fill_att}
 unfoldable pub use Rattle.nc_base.specs.Fill.{fill_value}
-unfoldable pub use Rattle.nc_base.specs.GeneratedFile.{file_of, var_spelling, with_begins}
+unfoldable pub use Rattle.nc_base.specs.GeneratedFile.{file_of, with_begins}
 pub use Rattle.nc_base.specs.HeadText.{att_text, broken_text, dim_name, joined, without_trailing_nuls}
 unfoldable pub use Rattle.nc_base.specs.HeadText.{att_line, att_lines, chars_text, currently_word, dim_len_text, dim_line, dim_lines, dimensions_word, dims_text, gatts_text, global_word, head_text, netcdf_word, numbers_text, shape_text, string_break, unlimited_word, var_lines, variables_word, vars_text}
 pub use Rattle.nc_base.specs.Headers.{AreArrays, AreDimids, IsArray, IsGood, IsSound, IsSoundAtt, IsSoundDim, IsSoundVar, bare, bare_var}
-pub use Rattle.nc_base.specs.Grammar.{IsDimid}
+pub use Rattle.nc_base.specs.Headers.{IsDimid}
 pub use Rattle.nc_base.specs.Sizes.{has_record_dim, value_count, array_limit, dim_len, is_record_shape, is_record_dim, is_record_var, padded_size, padded_total, product, record_limit, record_size, record_size_of, record_vars, slab_count, slab_lens, slab_limit, slab_size}
 pub use Rattle.nc_base.specs.Names.{IsName, ends_with_space, has_name_bytes, is_beyond_ascii, is_name, may_begin_name, may_follow_in_name}
 pub use Rattle.nc_base.specs.NumberLaws.{IsInRange}
@@ -85,7 +84,7 @@ pub use Rattle.std.specs.Char.{is_ascii_control, is_ascii_digit, to_ascii_lowerc
 pub use Rattle.std.specs.Fmt.{digit_glyph, digits_onto, signed_decimal}
 unfoldable pub use Rattle.std.specs.Fmt.{digits}
 pub use Rattle.std.specs.Int.{cast_unsigned, is_in_range, to_be_bytes, w16, w32, w64, w8}
-pub use Rattle.std.specs.List.{flat_map, list_all, list_any, onto_first, position, position_or_len, prefix_len, range_with_len, starts_with, suffix_len, take_while}
+pub use Rattle.std.specs.List.{flat_map, list_all, list_any, position, position_or_len, prefix_len, range_with_len, starts_with, suffix_len, take_while}
 pub use Rattle.std.specs.Option.{ok_or, option_and_then, option_map, option_or}
 pub use Rattle.std.specs.Ordering.{int_eq}
 pub use Rattle.std.specs.Str.{bytes_eq}
@@ -93,7 +92,7 @@ unfoldable pub use Rattle.std.specs.Str.{chars, is_utf8}
 pub use Rattle.nc_base.proofs.Tests.{and_left, and_right, and_both, is_off, none_before, not_none, or_second, is_on}
 pub use Rattle.cdl_tokens.proofs.Words.{word_at_start, until_at_start, and_false, value_at_start}
 pub use Rattle.nc_base.proofs.SoundLaws.{some_product, some_size, some_count}
-pub use Rattle.nc_base.proofs.HeaderSpelled.{some-limit}
+pub use Rattle.nc_base.proofs.Printable.{some-limit}
 pub use Rattle.nc_base.proofs.Found.{all-at}
 pub use Rattle.cdl_tokens.proofs.PlainStrings.{inner_of}
 pub use Rattle.nc_base.proofs.ValueLaws.{look-type, length-numbers_from}
@@ -101,4 +100,4 @@ pub use Rattle.nc_base.proofs.CharacterRows.{IsWide, prefix_is, pieces_are, a_ro
 unfoldable pub use Rattle.nc_base.proofs.CharacterRows.{char_pieces, printed}
 pub use Rattle.nc_base.proofs.FilePlaces.{length-numbers}
 pub use Rattle.cdl_meaning.proofs.InRange.{is_had}
-pub use Rattle.cdl_laws.proofs.Lists.{Each, all_of, each_map, each_of}
+pub use Rattle.cdl_laws.proofs.Lists.{Each, all_of, each, each_map, each_of}

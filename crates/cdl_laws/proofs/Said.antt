@@ -1,9 +1,9 @@
 -- What the shapes give: names, counts and types of what a statement says, against the bytes of its tokens.
-use Rattle.std.proofs.Common.{◌≡◌, ℕ, ◌+◌, ◌-◌, ◌≤◌, ◌<◌, Bool, true, false, List, [], ◌∷◌, length, sym, subst, arith, zero, suc, Option, None, Some, drop, ◌&&◌, ◌||◌, not, ◌==◌, slice_index, codes, map, rules, if◌then◌else◌}
-use Rattle.cdl_laws.proofs.Prelude.{length-take, length-drop, is_reserved, Version, has_type, is_escape, character, inner, unescape_at, word_value, or_zero, Lexeme, is_word_kind, is_mark, name_of, Parts, parts, number, Numeral, numeral, type_of_suffix, in_base, with_sign, Value, Number, Characters, Underscore, Dimension, Variable, both, each, if_so, onto_first, members_in, members, single, dimension, constant_of, constant, constants, constants_are, constants_by, name_alone, before_mark, variable, TokenKind, Each}
-use Rattle.cdl_statements.proofs.Members.{dimensions, dimensions_are, dimensions_by}
+use Rattle.std.proofs.Common.{◌≡◌, ℕ, ◌+◌, ◌-◌, ◌≤◌, ◌<◌, Bool, true, false, List, [], ◌∷◌, length, arith, zero, suc, Option, None, Some, drop, ◌&&◌, not, ◌==◌, slice_index, codes, map, rules}
+use Rattle.cdl_laws.proofs.Prelude.{length-take, length-drop, is_reserved, Version, has_type, is_escape, character, inner, unescape_at, word_value, or_zero, Lexeme, is_word_kind, is_mark, name_of, Parts, parts, number, Numeral, numeral, type_of_suffix, in_base, with_sign, Value, Number, Characters, Underscore, Dimension, Variable, both, if_so, at_end, after_member, in_parentheses, dimension, constant_of, constant, constants, TokenKind, option_map, Each}
+use Rattle.cdl_statements.specs.Shapes.{dimensions, variables}
 use Rattle.cdl_tokens.specs.declared.scan.Character.{Character}
-use Rattle.cdl_laws.proofs.Outcomes.{SomeIs, some_map, some_then, some_weaker, some_both, some_given, in_if, total, each_total, each_take, each_drop}
+use Rattle.cdl_laws.proofs.Outcomes.{SomeIs, some_map, some_then, some_weaker, some_both, some_given, in_if, total, each_take, each_drop}
 
 -- ---- weights
 
@@ -20,31 +20,19 @@ IsByte b = b < 256
 abbrev pub HasBytes : Lexeme → Type 0
 HasBytes l = Each IsByte l.bytes
 
--- ---- members
+-- ---- the ends of lists
 
-first_mass : (l : Lexeme) (ms : List (List Lexeme)) → total mass (onto_first l ms) ≡ weight l + total mass ms
-first_mass l ms = grind arith
+pub ended : {A : Type 0} (P : A → Type 0) (a : A) (ls : List Lexeme) → P a → SomeIs P (at_end a ls)
+ended P a [] h = h
+ended P a (l ∷ ls) h = tt
 
-members_mass : (parens : Bool) (ls : List Lexeme) → total mass (members_in parens ls) ≤ mass ls
-members_mass parens [] = omega arith
-members_mass parens (l ∷ ls) =
-    let q = is_mark 0x28 l || parens && not (is_mark 0x29 l) in
-    let ih = members_mass q ls in
-    elim (is_mark 0x2c l && not parens) as (λ b. total mass (if b then [] ∷ members_in q ls else onto_first l (members_in q ls)) ≤ weight l + mass ls) [
-      | true ↦ omega (arith, ih)
-      | false ↦ (let e = first_mass l (members_in q ls) in omega (arith, ih, e))
-    ]
+member_some : {A : Type 0} (P : List A → Type 0) (others : Option (List A)) (c : Lexeme) (ls : List Lexeme) → P [] → SomeIs P others → SomeIs P (after_member others c ls)
+member_some P others c ls none h = grind (arith, some_given, ended P [] ls none)
 
--- all but the last
-pub before_mass : (b : ℕ) (ls : List Lexeme) → SomeIs (λ xs. mass xs ≤ mass ls) (before_mark b ls)
-before_mass b [] = tt
-before_mass b (l ∷ []) = some_given (λ xs. mass xs ≤ mass (l ∷ [])) (is_mark b l) (Some []) (λ e. omega arith)
-before_mass b (l ∷ m ∷ ls) = grind (arith, some_map, some_weaker, before_mass b (m ∷ ls))
-
-pub before_each : (P : Lexeme → Type 0) (b : ℕ) (ls : List Lexeme) → Each P ls → SomeIs (Each P) (before_mark b ls)
-before_each P b [] h = tt
-before_each P b (l ∷ []) h = some_given (Each P) (is_mark b l) (Some []) (λ e. tt)
-before_each P b (l ∷ m ∷ ls) h = search (rules, some_map, some_weaker, before_each P b (m ∷ ls) h.1)
+-- a list's first member, and what follows
+list_some : {A : Type 0} (P : A → Type 0) (Q R : List A → Type 0) (x : Option A) (others : Option (List A)) (c : Lexeme) (ls : List Lexeme) → SomeIs P x → Q [] → SomeIs Q others →
+    ((a : A) (xs : List A) → P a → Q xs → R (a ∷ xs)) → SomeIs R (both (λ a xs. a ∷ xs) x (after_member others c ls))
+list_some P Q R x others c ls p none h f = some_both P Q R (λ a xs. a ∷ xs) x (after_member others c ls) p (member_some Q others c ls none h) f
 
 -- ---- words
 
@@ -138,24 +126,15 @@ one_short v takes_fill l k = grind (arith, stands_short, inner_short, blank_shor
 constant_fine : (v : Version) (takes_fill : Bool) (l : Lexeme) → HasBytes l → SomeIs (IsFineValue v) (constant v takes_fill l)
 constant_fine v takes_fill l h = one_fine v takes_fill l l.kind h
 
-list_fine : (v : Version) (takes_fill : Bool) (ls : List Lexeme) → Each HasBytes ls → SomeIs (Each (IsFineValue v)) (constants_by v takes_fill ls)
-list_fine v takes_fill [] h = tt
-list_fine v takes_fill (l ∷ []) h = search (rules, some_both, constant, one_fine)
-list_fine v takes_fill (l ∷ c ∷ ls) h =
-    some_given (Each (IsFineValue v)) (is_mark 0x2c c) (both (λ x xs. x ∷ xs) (constant v takes_fill l) (constants_by v takes_fill ls)) (λ q.
-    some_both (IsFineValue v) (Each (IsFineValue v)) (Each (IsFineValue v)) (λ x xs. x ∷ xs) (constant v takes_fill l) (constants_by v takes_fill ls) (constant_fine v takes_fill l h.0) (list_fine v takes_fill ls h.1.1) (λ x xs a b. (a, b)))
-
 pub constants_fine : (v : Version) (takes_fill : Bool) (ls : List Lexeme) → Each HasBytes ls → SomeIs (Each (IsFineValue v)) (constants v takes_fill ls)
-constants_fine v takes_fill ls h = subst (λ o. SomeIs (Each (IsFineValue v)) o) (sym (constants_are v takes_fill ls)) (list_fine v takes_fill ls h)
-
-list_short : (v : Version) (takes_fill : Bool) (ls : List Lexeme) → SomeIs (λ xs. total cost xs ≤ mass ls) (constants_by v takes_fill ls)
-list_short v takes_fill [] = tt
-list_short v takes_fill (l ∷ []) = search (rules, some_both, total, constant, one_short)
-list_short v takes_fill (l ∷ c ∷ ls) =
-    grind (arith, some_given, total, both, constant, constants_by, some_both, list_short v takes_fill ls, one_short)
+constants_fine v takes_fill (l ∷ c ∷ ls) h =
+    list_some (IsFineValue v) (Each (IsFineValue v)) (Each (IsFineValue v)) (constant v takes_fill l) (constants v takes_fill ls) c ls (constant_fine v takes_fill l h.0) tt (constants_fine v takes_fill ls h.1.1) (λ x xs a b. (a, b))
+constants_fine v takes_fill _ h = tt
 
 pub constants_short : (v : Version) (takes_fill : Bool) (ls : List Lexeme) → SomeIs (λ xs. total cost xs ≤ mass ls) (constants v takes_fill ls)
-constants_short v takes_fill ls = subst (λ o. SomeIs (λ xs. total cost xs ≤ mass ls) o) (sym (constants_are v takes_fill ls)) (list_short v takes_fill ls)
+constants_short v takes_fill (l ∷ c ∷ ls) =
+    list_some (λ x. cost x ≤ weight l) (λ xs. total cost xs ≤ mass ls) _ (constant v takes_fill l) (constants v takes_fill ls) c ls (one_short v takes_fill l l.kind) (omega arith) (constants_short v takes_fill ls) (λ x xs a b. omega (arith, a, b))
+constants_short v takes_fill _ = tt
 
 -- ---- dimensions and variables
 
@@ -171,30 +150,40 @@ var_cost x = suc (length x.name + total name_cost x.dimensions)
 any_some : {A : Type 0} (o : Option A) → SomeIs (λ a. Unit {0}) o
 any_some o = grind arith
 
-dimension_short : (v : Version) (n e l : Lexeme) → SomeIs (λ d. dim_cost d ≤ weight n) (dimension v (n ∷ e ∷ l ∷ []))
+dimension_short : (v : Version) (n e l : Lexeme) → SomeIs (λ d. dim_cost d ≤ weight n) (dimension v n e l)
 dimension_short v n e l = grind (arith, some_given, both, some_both, name_short)
 
-dims_short : (v : Version) (ls : List Lexeme) → SomeIs (λ ds. total dim_cost ds ≤ mass ls) (dimensions_by v ls)
-dims_short v (n ∷ e ∷ l ∷ []) = grind (arith, total dim_cost, some_both, some_given, both, name_short, any_some)
-dims_short v (n ∷ e ∷ l ∷ c ∷ ls) = grind (arith, some_given, total, both, dimensions_by, some_both, dimension_short, dims_short v ls)
-dims_short v _ = tt
-
 pub dimensions_short : (v : Version) (ls : List Lexeme) → SomeIs (λ ds. total dim_cost ds ≤ mass ls) (dimensions v ls)
-dimensions_short v ls = subst (λ o. SomeIs (λ ds. total dim_cost ds ≤ mass ls) o) (sym (dimensions_are v ls)) (dims_short v ls)
+dimensions_short v (n ∷ e ∷ l ∷ c ∷ ls) =
+    list_some (λ d. dim_cost d ≤ weight n) (λ ds. total dim_cost ds ≤ mass ls) _ (dimension v n e l) (dimensions v ls) c ls (dimension_short v n e l) (omega arith) (dimensions_short v ls) (λ d ds a b. omega (arith, a, b))
+dimensions_short v _ = tt
 
-alone_short : (ls : List Lexeme) → SomeIs (λ name. name_cost name ≤ mass ls) (name_alone ls)
-alone_short ls = grind (arith, some_weaker, name_short)
+-- the variables after this one
+after_short : (x : Variable) (k : ℕ) (c : Lexeme) (ls : List Lexeme) → var_cost x ≤ k → SomeIs (λ xs. total var_cost xs ≤ mass ls) (variables ls) →
+    SomeIs (λ xs. total var_cost xs ≤ k + mass (c ∷ ls)) (option_map (λ xs. x ∷ xs) (after_member (variables ls) c ls))
+after_short x k c ls short h =
+    some_map (λ xs. total var_cost xs ≤ k + mass (c ∷ ls)) (λ xs. x ∷ xs) (after_member (variables ls) c ls)
+    (some_weaker (λ xs. total var_cost xs ≤ mass ls) (λ xs. total var_cost (x ∷ xs) ≤ k + mass (c ∷ ls)) (after_member (variables ls) c ls)
+    (member_some (λ xs. total var_cost xs ≤ mass ls) (variables ls) c ls (omega arith) h) (λ xs a. omega (arith, short, a)))
 
-names_short : (ls : List Lexeme) → SomeIs (λ ns. total name_cost ns ≤ mass ls) (each name_alone (members ls))
-names_short ls =
-    grind (arith, total name_cost, each name_alone (members ls), each_total mass name_cost name_alone alone_short (members ls), members_mass false ls, some_weaker)
+mutual
+  pub variables_short : (ls : List Lexeme) → SomeIs (λ xs. total var_cost xs ≤ mass ls) (variables ls)
+  variables_short (n ∷ c ∷ ls) =
+      some_then (λ (name : List ℕ). length name ≤ length n.bytes) (λ xs. total var_cost xs ≤ mass (n ∷ c ∷ ls)) _ (name_of n) (name_short n) (λ name short.
+      in_if (SomeIs (λ xs. total var_cost xs ≤ mass (n ∷ c ∷ ls))) (is_mark 0x28 c) (in_parentheses (λ ds. record { name = name; dimensions = ds }) ls) _
+      (some_weaker (λ xs. total var_cost xs ≤ weight n + mass ls) (λ xs. total var_cost xs ≤ mass (n ∷ c ∷ ls)) _
+      (references_short (λ ds. record { name = name; dimensions = ds }) (weight n) (λ ds. omega (arith, short)) ls) (λ xs a. omega (arith, a)))
+      (after_short (record { name = name; dimensions = [] }) (weight n) c ls (omega (arith, short)) (variables_short ls)))
+  variables_short _ = tt
 
-names_listed : (ls : List Lexeme) → SomeIs (λ ns. total name_cost ns ≤ mass ls) (each (single name_of) (members_in false ls))
-names_listed ls = names_short ls
-
-variable_short : (ls : List Lexeme) → SomeIs (λ x. var_cost x ≤ mass ls) (variable ls)
-variable_short ls = grind (arith, some_map, dimensions, some_weaker, name_short, each, some_given, both, some_both, total, some_then, before_mass, names_listed)
-
-pub variables_short : (ls : List Lexeme) → SomeIs (λ xs. total var_cost xs ≤ mass ls) (each variable (members ls))
-variables_short ls =
-    grind (arith, total var_cost, each variable (members ls), each_total mass var_cost variable variable_short (members ls), members_mass false ls, some_weaker)
+  -- a variable that costs no more than k beside its dimensions
+  references_short : (f : List (List ℕ) → Variable) (k : ℕ) → ((ds : List (List ℕ)) → var_cost (f ds) ≤ k + total name_cost ds) → (ls : List Lexeme) → SomeIs (λ xs. total var_cost xs ≤ k + mass ls) (in_parentheses f ls)
+  references_short f k h (n ∷ p ∷ c ∷ ls) =
+      some_then (λ (name : List ℕ). length name ≤ length n.bytes) (λ xs. total var_cost xs ≤ k + mass (n ∷ p ∷ c ∷ ls)) _ (name_of n) (name_short n) (λ name short.
+      in_if (SomeIs (λ xs. total var_cost xs ≤ k + mass (n ∷ p ∷ c ∷ ls))) (is_mark 0x2c p) (in_parentheses (λ ds. f (name ∷ ds)) (c ∷ ls)) _
+      (some_weaker (λ xs. total var_cost xs ≤ k + weight n + mass (c ∷ ls)) (λ xs. total var_cost xs ≤ k + mass (n ∷ p ∷ c ∷ ls)) _
+      (references_short (λ ds. f (name ∷ ds)) (k + weight n) (λ ds. let a = h (name ∷ ds) in omega (arith, short, a)) (c ∷ ls)) (λ xs a. omega (arith, a)))
+      (some_given (λ xs. total var_cost xs ≤ k + mass (n ∷ p ∷ c ∷ ls)) (is_mark 0x29 p) _ (λ e.
+      some_weaker (λ xs. total var_cost xs ≤ k + weight n + mass (c ∷ ls)) (λ xs. total var_cost xs ≤ k + mass (n ∷ p ∷ c ∷ ls)) _
+      (after_short (f (name ∷ [])) (k + weight n) c ls (let a = h (name ∷ []) in omega (arith, short, a)) (variables_short ls)) (λ xs a. omega (arith, a)))))
+  references_short f k h _ = tt

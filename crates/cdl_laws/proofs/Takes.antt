@@ -1,11 +1,11 @@
 -- What a text makes of a state, statement by statement.
 use Rattle.std.proofs.Common.{◌≡◌, ℕ, Bool, true, false, List, [], ◌∷◌, ◌++◌, ◌∙◌, ap, refl, append_assoc, ◌&&◌, if◌then◌else◌, Option, None, Some, is_none, Ok, arith, rules}
-use Rattle.cdl_laws.proofs.Prelude.{list_all, option_map, Version, CdlKind, Section, Globals, Dimensions, Variables, Values, Role, Lexeme, first_role, role, piece_read, pieces_after, going_on, unless_end, with_first, is_section, pieces_by_steps, cut_lexemes, pieces_of, Statement, first_bad, token_fault, shape, before_mark, body, State, act, in_turn, and_left, and_right, and_both}
+use Rattle.cdl_laws.proofs.Prelude.{list_all, Version, CdlKind, Section, Globals, Dimensions, Variables, Values, Role, Lexeme, first_role, role, piece_read, pieces_after, going_on, unless_end, with_first, is_section, pieces_by_steps, cut_lexemes, pieces_of, Statement, first_bad, token_fault, shape, State, act, in_turn, and_left, and_right, and_both}
 use Rattle.cdl_statements.specs.declared.piece.Role.TheVariants as roles
 use Rattle.cdl_statements.specs.declared.piece.CutState.TheVariants.{Begins, Inside}
 use Rattle.cdl_laws.proofs.Texts as texts
 use Rattle.cdl_laws.proofs.Texts.{mark, word, number}
-use Rattle.cdl_laws.proofs.ValueTexts.{turn}
+pub use Rattle.cdl_laws.proofs.ValueTexts.{semicolon, turn}
 use Rattle.cdl_meaning.proofs.Readings as readings
 
 -- ---- a statement is one piece, whatever follows
@@ -34,9 +34,6 @@ unless_going n h = grind arith
 
 plain_no_end : (r : Role) → is_plain r ≡ true → is_end_role r ≡ false
 plain_no_end r h = grind arith
-
-abbrev pub semicolon : Lexeme
-semicolon = mark 59
 
 next_no_end : (p rest : List Lexeme) → all_plain p ≡ true → is_end_role (first_role role (p ++ semicolon ∷ rest)) ≡ false
 next_no_end [] rest h = refl
@@ -101,10 +98,6 @@ fine_sound v [] h = refl
 fine_sound v (l ∷ ls) h =
     grind (arith, and_left, none_is, and_right, is_plain, is_none, fine_sound v ls (and_right (is_fine v l) (list_all (is_fine v) ls) h))
 
-pub before_semicolon : (p : List Lexeme) → before_mark 0x3b (p ++ semicolon ∷ []) ≡ Some p
-before_semicolon (l ∷ m ∷ p) = ap (option_map (λ xs. l ∷ xs)) (before_semicolon (m ∷ p))
-before_semicolon _ = refl
-
 -- the sections that have statements to a semicolon
 abbrev pub is_open : Section → Bool
 is_open Globals = true
@@ -113,12 +106,8 @@ is_open Variables = true
 is_open Values = true
 is_open _ = false
 
-shape_is : (v : Version) (section : Section) (a b : Lexeme) (p : List Lexeme) → is_open section ≡ true → shape v section ((a ∷ b ∷ p) ++ semicolon ∷ []) ≡ body v section (a ∷ b ∷ p)
-unfolding shape
-shape_is v section a b p h = grind (arith, before_semicolon)
-
 -- a statement to its semicolon
-pub statement_says : (v : Version) (section : Section) (bytes : List ℕ) (a b : Lexeme) (p : List Lexeme) (statement : Statement) → is_open section ≡ true →
-    texts.Closed bytes ((a ∷ b ∷ p) ++ semicolon ∷ []) → is_starter (role a) ≡ true → list_all (is_fine v) (a ∷ b ∷ p) ≡ true → body v section (a ∷ b ∷ p) ≡ Some statement → Says v section bytes statement
-statement_says v section bytes a b p statement h reads start fine is =
-    search (rules, semicolon, and_right, is_plain, fine_plain, fine_sound, shape_is, pieces_by_steps, one_by_steps)
+pub statement_says : (v : Version) (section : Section) (bytes : List ℕ) (a : Lexeme) (p : List Lexeme) (statement : Statement) → texts.Closed bytes (a ∷ p ++ semicolon ∷ []) → is_starter (role a) ≡ true →
+    list_all (is_fine v) (a ∷ p) ≡ true → shape v section (a ∷ p ++ semicolon ∷ []) ≡ Some statement → Says v section bytes statement
+statement_says v section bytes a p statement reads start fine is =
+    search (rules, semicolon, and_right, is_plain, fine_plain, fine_sound, pieces_by_steps, one_by_steps)

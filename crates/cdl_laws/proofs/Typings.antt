@@ -1,8 +1,8 @@
 -- The declaration of a variable, and what it says.
-use Rattle.std.proofs.Common.{◌≡◌, ℕ, true, List, [], ◌∷◌, ◌++◌, map, ◌∙◌, ap, refl, Some, codes, arith, rules}
-use Rattle.cdl_laws.proofs.Prelude.{list_all, option_map, option_and_then, list_all-append, concat_parts, NcType, Version, escaped_name, joined, IsName, type_word, Variables, Lexeme, DeclareVariables, members, members_in, onto_first, each, both, variable, name_alone, before_mark, body, and_both, Each}
+use Rattle.std.proofs.Common.{◌≡◌, ℕ, true, List, [], ◌∷◌, ◌++◌, map, ◌∙◌, ap, refl, Some, codes, arith}
+use Rattle.cdl_laws.proofs.Prelude.{list_all, option_map, list_all-append, concat_parts, NcType, Version, escaped_name, joined, IsName, type_word, Variables, Lexeme, DeclareVariables, Variable, in_parentheses, shape, and_both, Each}
 use Rattle.cdl_laws.proofs.Texts.{Closed, Reads, closed_both, closed_by, mark, word, name_word}
-use Rattle.cdl_laws.proofs.ValueTexts.{comma, commas, is_member, members_all, semicolon_closed}
+use Rattle.cdl_laws.proofs.ValueTexts.{commas, semicolon_closed}
 use Rattle.cdl_laws.proofs.Takes.{Says, statement_says, semicolon, is_fine, word_fine}
 use Rattle.cdl_laws.proofs.Heads.{type_reads, type_starts, tab_closed, blank_closed, paren_closed, end_closed, joined_reads, fine_commas}
 
@@ -25,17 +25,9 @@ names_read : (names : List (List ℕ)) → AreNames names → Each (λ name. Rea
 names_read [] h = tt
 names_read (name ∷ names) h = ((name_word name h.0).reads, names_read names h.1)
 
-names_members : (names : List (List ℕ)) → list_all is_member (name_lexemes names) ≡ true
-names_members [] = refl
-names_members (name ∷ names) = names_members names
-
 names_fine : (v : Version) (names : List (List ℕ)) → list_all (is_fine v) (name_lexemes names) ≡ true
 names_fine v [] = refl
 names_fine v (name ∷ names) = and_both (is_fine v (word (escaped_name name))) (list_all (is_fine v) (name_lexemes names)) (word_fine v (escaped_name name)) (names_fine v names)
-
-names_each : (names : List (List ℕ)) → AreNames names → each name_alone (map (λ m. m ∷ []) (name_lexemes names)) ≡ Some names
-names_each [] h = refl
-names_each (name ∷ names) h = rw ((name_word name h.0).stands) (ap (both (λ y ys. y ∷ ys) (Some name)) (names_each names h.1))
 
 -- ---- without a shape
 
@@ -50,12 +42,13 @@ scalar_closed ty name h =
 two_fine : (v : Version) (a b : List ℕ) (ls : List Lexeme) → list_all (is_fine v) ls ≡ true → list_all (is_fine v) (word a ∷ word b ∷ ls) ≡ true
 two_fine v a b ls h = and_both (is_fine v (word a)) (list_all (is_fine v) (word b ∷ ls)) (word_fine v a) (and_both (is_fine v (word b)) (list_all (is_fine v) ls) (word_fine v b) h)
 
-scalar_is : (v : Version) (ty : NcType) (name : List ℕ) → IsName name → body v Variables (word (type_word ty) ∷ word (escaped_name name) ∷ []) ≡ Some (DeclareVariables (word (type_word ty)) (record { name = name; dimensions = [] } ∷ []))
+scalar_is : (v : Version) (ty : NcType) (name : List ℕ) → IsName name → shape v Variables (word (type_word ty) ∷ word (escaped_name name) ∷ semicolon ∷ []) ≡ Some (DeclareVariables (word (type_word ty)) (record { name = name; dimensions = [] } ∷ []))
+unfolding shape
 scalar_is v ty name h = rw ((name_word name h).stands) refl
 
 scalar_says : (v : Version) (ty : NcType) (name : List ℕ) → IsName name → Says v Variables (typed_line (type_word ty) name []) (DeclareVariables (word (type_word ty)) (record { name = name; dimensions = [] } ∷ []))
 scalar_says v ty name h =
-    statement_says v Variables (typed_line (type_word ty) name []) (word (type_word ty)) (word (escaped_name name)) [] (DeclareVariables (word (type_word ty)) (record { name = name; dimensions = [] } ∷ [])) refl
+    statement_says v Variables (typed_line (type_word ty) name []) (word (type_word ty)) (word (escaped_name name) ∷ []) (DeclareVariables (word (type_word ty)) (record { name = name; dimensions = [] } ∷ []))
     (scalar_closed ty name h) (type_starts ty) (two_fine v (type_word ty) (escaped_name name) [] refl) (scalar_is v ty name h)
 
 -- ---- with one
@@ -79,28 +72,14 @@ array_closed ty name n ns h all =
     (closed_by inner (codes ")" ++ []) (shape_lexemes n ns) (mark 41 ∷ []) (joined_reads escaped_name (λ m. word (escaped_name m)) n ns (names_read (n ∷ ns) all)) (λ rest. refl) end_closed))
     semicolon_closed))))
 
-before_end : (p : List Lexeme) → before_mark 0x29 (p ++ mark 41 ∷ []) ≡ Some p
-before_end (l ∷ m ∷ p) = ap (option_map (λ xs. l ∷ xs)) (before_end (m ∷ p))
-before_end _ = refl
-
--- what is in parentheses stays together
-inside_member : (names : List (List ℕ)) → members_in true (commas (name_lexemes names) ++ mark 41 ∷ []) ≡ (commas (name_lexemes names) ++ mark 41 ∷ []) ∷ []
-inside_member [] = refl
-inside_member (name ∷ names) = ap (λ ms. onto_first comma (onto_first (word (escaped_name name)) ms)) (inside_member names)
+names_in : (f : List (List ℕ) → Variable) (n : List ℕ) (ns : List (List ℕ)) → AreNames (n ∷ ns) → in_parentheses f ((shape_lexemes n ns ++ mark 41 ∷ []) ++ semicolon ∷ []) ≡ Some (f (n ∷ ns) ∷ [])
+names_in f n [] h = rw ((name_word n h.0).stands) refl
+names_in f n (m ∷ ns) h = rw ((name_word n h.0).stands) (names_in (λ ds. f (n ∷ ds)) m ns h.1)
 
 array_is : (v : Version) (ty : NcType) (name n : List ℕ) (ns : List (List ℕ)) → IsName name → AreNames (n ∷ ns) →
-    body v Variables (word (type_word ty) ∷ word (escaped_name name) ∷ mark 40 ∷ (shape_lexemes n ns ++ mark 41 ∷ [])) ≡ Some (DeclareVariables (word (type_word ty)) (record { name = name; dimensions = n ∷ ns } ∷ []))
-array_is v ty name n ns h all =
-    let w = word (escaped_name name) in
-    let close = mark 41 ∷ [] in
-    let ls = shape_lexemes n ns ++ close in
-    let one : members (w ∷ mark 40 ∷ ls) ≡ (w ∷ mark 40 ∷ ls) ∷ [] = ap (λ ms. onto_first w (onto_first (mark 40) (onto_first (word (escaped_name n)) ms))) (inside_member ns) in
-    let names : each name_alone (members (shape_lexemes n ns)) ≡ Some (n ∷ ns) = ap (each name_alone) (members_all (word (escaped_name n)) (name_lexemes ns) (names_members (n ∷ ns))) ∙ names_each (n ∷ ns) all in
-    let said : variable (w ∷ mark 40 ∷ ls) ≡ Some (record { name = name; dimensions = n ∷ ns }) =
-    ap (λ o. both (λ m ds. record { name = m; dimensions = ds }) o (option_and_then (λ inner. each name_alone (members inner)) (before_mark 0x29 ls))) (name_word name h).stands ∙
-    ap (λ o. both (λ m ds. record { name = m; dimensions = ds }) (Some name) (option_and_then (λ inner. each name_alone (members inner)) o)) (before_end (shape_lexemes n ns)) ∙
-    ap (both (λ m ds. record { name = m; dimensions = ds }) (Some name)) names in
-    search (rules, word, each, both)
+    shape v Variables (word (type_word ty) ∷ word (escaped_name name) ∷ mark 40 ∷ (shape_lexemes n ns ++ mark 41 ∷ []) ++ semicolon ∷ []) ≡ Some (DeclareVariables (word (type_word ty)) (record { name = name; dimensions = n ∷ ns } ∷ []))
+unfolding shape
+array_is v ty name n ns h all = rw ((name_word name h).stands) (ap (option_map (DeclareVariables (word (type_word ty)))) (names_in (λ ds. record { name = name; dimensions = ds }) n ns all))
 
 array_says : (v : Version) (ty : NcType) (name n : List ℕ) (ns : List (List ℕ)) → IsName name → AreNames (n ∷ ns) →
     Says v Variables (typed_line (type_word ty) name (shape_of (n ∷ ns))) (DeclareVariables (word (type_word ty)) (record { name = name; dimensions = n ∷ ns } ∷ []))
@@ -110,7 +89,7 @@ array_says v ty name n ns h all =
     let fine : list_all (is_fine v) ls ≡ true =
     list_all-append (is_fine v) inner (mark 41 ∷ []) ∙
     and_both (list_all (is_fine v) inner) true (and_both (is_fine v (word (escaped_name n))) (list_all (is_fine v) (commas (name_lexemes ns))) (word_fine v (escaped_name n)) (fine_commas v (name_lexemes ns) (names_fine v ns))) refl in
-    statement_says v Variables (typed_line (type_word ty) name (shape_of (n ∷ ns))) (word (type_word ty)) (word (escaped_name name)) ls (DeclareVariables (word (type_word ty)) (record { name = name; dimensions = n ∷ ns } ∷ [])) refl
+    statement_says v Variables (typed_line (type_word ty) name (shape_of (n ∷ ns))) (word (type_word ty)) (word (escaped_name name) ∷ ls) (DeclareVariables (word (type_word ty)) (record { name = name; dimensions = n ∷ ns } ∷ []))
     (array_closed ty name n ns h all) (type_starts ty) (two_fine v (type_word ty) (escaped_name name) ls fine) (array_is v ty name n ns h all)
 
 -- a declaration

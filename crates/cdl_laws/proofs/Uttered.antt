@@ -1,11 +1,10 @@
 -- What each statement of a text says, and how many bytes and tokens all of them have.
-use Rattle.std.proofs.Common.{◌≡◌, ℕ, ◌+◌, ◌-◌, ◌*◌, ◌≤◌, ◌<◌, Bool, true, false, List, [], ◌∷◌, length, map, ◌∙◌, ap, refl, arith, zero, suc, Option, None, drop, ◌&&◌, is_none, rules}
-use Rattle.cdl_laws.proofs.Prelude.{length-take, length-drop, option_map, option_and_then, Version, scan, Lexeme, lexeme, is_mark, is_opening_kind, is_end_kind, name_of, first_role, role, pieces_after, with_first, step, pieces_by_steps, Value, Statement, Open, Enter, DeclareDimensions, DeclareVariables, Attribute, Listed, Close, End, each, option_or, constants, assigned, global, typed, attribute, body, section_number, section_mark, alone, shape, before_mark, tokens, tokens_at, statements, Section, Unopened, Globals, Dimensions, Variables, Values, Closed, Ended, CutState, Role, Token, Each}
+use Rattle.std.proofs.Common.{◌≡◌, ℕ, ◌+◌, ◌-◌, ◌*◌, ◌≤◌, ◌<◌, Bool, true, false, List, [], ◌∷◌, length, map, ◌∙◌, ap, refl, arith, zero, suc, Option, None, drop, ◌&&◌, is_none, is_some, if◌then◌else◌, Some, rules}
+use Rattle.cdl_laws.proofs.Prelude.{length-take, length-drop, option_map, Version, scan, Lexeme, lexeme, is_mark, is_opening_kind, is_end_kind, name_of, first_role, role, pieces_after, with_first, step, pieces_by_steps, Value, Statement, Open, Enter, DeclareDimensions, DeclareVariables, Attribute, Listed, Close, End, at_end, attribute_or_mark, constants, assigned, other_statement, section_number, section_mark, section_of, is_word_kind, shape, tokens, tokens_at, statements, Section, Unopened, Globals, Dimensions, Variables, Values, Closed, Ended, CutState, Role, Token, Each}
 use Rattle.cdl_statements.specs.Shapes as shapes
-use Rattle.cdl_statements.proofs.Members.{dimensions}
 use Rattle.cdl_statements.specs.declared.piece.CutState.TheVariants as places
-use Rattle.cdl_laws.proofs.Outcomes.{SomeIs, some_map, some_then, some_weaker, some_both, some_first, some_given, some_and, total, each_take, each_drop}
-use Rattle.cdl_laws.proofs.Said.{weight, mass, IsByte, HasBytes, before_mass, before_each, name_short, cost, IsFineValue, constants_fine, constants_short, dim_cost, dimensions_short, var_cost, variables_short}
+use Rattle.cdl_laws.proofs.Outcomes.{SomeIs, some_map, some_then, some_weaker, some_both, some_given, some_and, in_if, total, each_take, each_drop}
+use Rattle.cdl_laws.proofs.Said.{weight, mass, IsByte, HasBytes, ended, name_short, cost, IsFineValue, constants_fine, constants_short, dim_cost, dimensions_short, var_cost, variables_short}
 
 -- ---- statements
 
@@ -36,60 +35,49 @@ assigned_says P v takes_fill f (n ∷ e ∷ ls) h g =
     (λ name cs short fine. let a = short in let b = fine.0 in g name cs (omega (arith, a), omega (arith, b), fine.1)))
 assigned_says P v takes_fill f _ h g = tt
 
-global_says : (v : Version) (section : Section) (ls : List Lexeme) → Each HasBytes ls → SomeIs (IsSaid v section (mass ls)) (global v ls)
-global_says v section [] h = tt
-global_says v section (c ∷ ls) h =
-    some_given (IsSaid v section (mass (c ∷ ls))) (is_mark 0x3a c) (assigned v false (Attribute None) ls) (λ q.
-    assigned_says (IsSaid v section (mass (c ∷ ls))) v false (Attribute None) ls h.1 (λ name cs k. let a = k.0 in let b = k.1 in (omega (arith, a), omega (arith, b), k.2)))
+marks_say : (v : Version) (n : ℕ) (before : Section) (l : Lexeme) (ls : List Lexeme) → SomeIs (IsSaid v before n) (section_mark before l ls)
+marks_say v n before l (c ∷ []) = grind (arith, some_given, some_then)
+marks_say v n before l _ = grind arith
 
-attribute_says : (v : Version) (section : Section) (ls : List Lexeme) → Each HasBytes ls → SomeIs (IsSaid v section (mass ls)) (attribute v ls)
-attribute_says v section (n ∷ c ∷ ls) h =
-    let P : Statement → Type 0 = IsSaid v section (mass (n ∷ c ∷ ls)) in
-    grind (arith, some_given P, some_then (λ (name : List ℕ). length name ≤ length n.bytes) P, name_short n, assigned_says P v false)
-attribute_says v section _ h = tt
+attribute_says : (v : Version) (section : Section) (n : ℕ) (o : Option (List ℕ)) (ls : List Lexeme) → mass ls ≤ n → Each HasBytes ls → SomeIs (IsSaid v section n) (assigned v false (Attribute o) ls)
+attribute_says v section n o ls less h =
+    assigned_says (IsSaid v section n) v false (Attribute o) ls h (λ name cs k. let a = k.0 in let b = k.1 in (omega (arith, a, less), omega (arith, b, less), k.2))
 
-typed_says : (v : Version) (ls : List Lexeme) → SomeIs (IsSaid v Variables (mass ls)) (typed ls)
-typed_says v ls = grind (arith, some_given, each, some_map, some_weaker, total, variables_short)
+owned_says : (v : Version) (l : Lexeme) (o : Option (List ℕ)) (c : Lexeme) (ls : List Lexeme) → Each HasBytes ls → SomeIs (IsSaid v Variables (mass (l ∷ c ∷ ls))) (attribute_or_mark v l o (c ∷ ls))
+owned_says v l (Some name) c ls h = attribute_says v Variables (mass (l ∷ c ∷ ls)) (Some name) ls (omega arith) h
+owned_says v l None c ls h = marks_say v (mass (l ∷ c ∷ ls)) Variables l (c ∷ ls)
 
-declared_says : (v : Version) (ls : List Lexeme) → SomeIs (IsSaid v Dimensions (mass ls)) (option_map DeclareDimensions (dimensions v ls))
-declared_says v ls = grind (arith, dimensions v ls, total dim_cost, dimensions_short v ls, some_map, some_weaker)
+other_says : (v : Version) (section : Section) (l : Lexeme) (ls : List Lexeme) → Each HasBytes ls → SomeIs (IsSaid v section (mass (l ∷ ls))) (other_statement v section l ls)
+other_says v Globals l ls h = marks_say v (mass (l ∷ ls)) Globals l ls
+other_says v Dimensions l ls h =
+    in_if (SomeIs (IsSaid v Dimensions (mass (l ∷ ls)))) (is_some (section_of l)) (section_mark Dimensions l ls) (option_map DeclareDimensions (shapes.dimensions v (l ∷ ls))) (marks_say v (mass (l ∷ ls)) Dimensions l ls)
+    (some_map (IsSaid v Dimensions (mass (l ∷ ls))) DeclareDimensions (shapes.dimensions v (l ∷ ls)) (some_weaker (λ ds. total dim_cost ds ≤ mass (l ∷ ls)) _ (shapes.dimensions v (l ∷ ls)) (dimensions_short v (l ∷ ls)) (λ ds a. (refl, a))))
+other_says v Variables l (c ∷ ls) h =
+    let P : Statement → Type 0 = IsSaid v Variables (mass (l ∷ c ∷ ls)) in
+    some_given P (is_word_kind l.kind) _ (λ e.
+    in_if (SomeIs P) (is_mark 0x3a c) (attribute_or_mark v l (name_of l) (c ∷ ls)) (option_map (DeclareVariables l) (shapes.variables (c ∷ ls))) (owned_says v l (name_of l) c ls h.1)
+    (some_map P (DeclareVariables l) (shapes.variables (c ∷ ls)) (some_weaker (λ vs. total var_cost vs ≤ mass (c ∷ ls)) _ (shapes.variables (c ∷ ls)) (variables_short (c ∷ ls)) (λ vs a. (refl, omega (arith, a))))))
+other_says v _ l _ h = tt
 
-body_says : (v : Version) (section : Section) (ls : List Lexeme) → Each HasBytes ls → SomeIs (IsSaid v section (mass ls)) (body v section ls)
-body_says v Globals ls h = global_says v Globals ls h
-body_says v Dimensions ls h = some_first (IsSaid v Dimensions (mass ls)) (global v ls) (option_map DeclareDimensions (dimensions v ls)) (global_says v Dimensions ls h) (declared_says v ls)
-body_says v Variables ls h = search (rules, some_first, option_or, typed, global_says, attribute_says, typed_says)
-body_says v Values ls h = assigned_says (IsSaid v Values (mass ls)) v true Listed ls h (λ name cs k. k)
-body_says v _ ls h = tt
-
-said_more : (v : Version) (section : Section) (m n : ℕ) (s : Statement) → m ≤ n → IsSaid v section m s → IsSaid v section n s
-said_more v section m n s h h2 = grind arith
-
-marks_say : (v : Version) (n : ℕ) (before : Section) (ls : List Lexeme) → SomeIs (IsSaid v before n) (section_mark before ls)
-marks_say v n before (l ∷ c ∷ []) = grind (arith, some_given, some_then)
-marks_say v n before _ = grind (arith, some_given, some_then)
-
-alone_says : {A : Type 0} (P : A → Type 0) (test : Lexeme → Bool) (a : A) (ls : List Lexeme) → P a → SomeIs P (alone test a ls)
-alone_says P test a ls h = grind (arith, some_given)
-
-inside : (v : Version) (section : Section) (ls : List Lexeme) → Each HasBytes ls →
-    SomeIs (IsSaid v section (mass ls)) (option_or (alone (is_mark 0x7d) Close ls) (option_or (section_mark section ls) (option_and_then (body v section) (before_mark 0x3b ls))))
-inside v section ls h =
-    let P : Statement → Type 0 = IsSaid v section (mass ls) in
-    let rest : Option Statement = option_and_then (body v section) (before_mark 0x3b ls) in
-    some_first P (alone (is_mark 0x7d) Close ls) (option_or (section_mark section ls) rest) (alone_says P (is_mark 0x7d) Close ls tt)
-    (some_first P (section_mark section ls) rest (marks_say v (mass ls) section ls)
-    (some_then (λ xs. (mass xs ≤ mass ls) × Each HasBytes xs) P (body v section) (before_mark 0x3b ls) (some_and (λ xs. mass xs ≤ mass ls) (Each HasBytes) (before_mark 0x3b ls) (before_mass 0x3b ls) (before_each HasBytes 0x3b ls h))
-    (λ xs k. some_weaker (IsSaid v section (mass xs)) P (body v section xs) (body_says v section xs k.1) (λ s said. said_more v section (mass xs) (mass ls) s k.0 said))))
+open_says : (v : Version) (section : Section) (l : Lexeme) (ls : List Lexeme) → Each HasBytes ls →
+    SomeIs (IsSaid v section (mass (l ∷ ls))) (if is_mark 0x7d l then at_end Close ls else (if is_mark 0x3a l then assigned v false (Attribute None) ls else other_statement v section l ls))
+open_says v section l ls h =
+    let P : Statement → Type 0 = IsSaid v section (mass (l ∷ ls)) in
+    in_if (SomeIs P) (is_mark 0x7d l) (at_end Close ls) _ (ended P Close ls tt)
+    (in_if (SomeIs P) (is_mark 0x3a l) (assigned v false (Attribute None) ls) (other_statement v section l ls) (attribute_says v section (mass (l ∷ ls)) None ls (omega arith) h) (other_says v section l ls h))
 
 pub shape_says : (v : Version) (section : Section) (ls : List Lexeme) → Each HasBytes ls → SomeIs (IsSaid v section (mass ls)) (shape v section ls)
 unfolding shape
-shape_says v Unopened ls h = alone_says (IsSaid v Unopened (mass ls)) (λ l. is_opening_kind l.kind) Open ls refl
-shape_says v Closed ls h = alone_says (IsSaid v Closed (mass ls)) (λ l. is_end_kind l.kind) End ls tt
-shape_says v Ended ls h = tt
-shape_says v Globals ls h = inside v Globals ls h
-shape_says v Dimensions ls h = inside v Dimensions ls h
-shape_says v Variables ls h = inside v Variables ls h
-shape_says v Values ls h = inside v Values ls h
+shape_says v section [] h = tt
+shape_says v Unopened (l ∷ ls) h = some_given (IsSaid v Unopened (mass (l ∷ ls))) (is_opening_kind l.kind) (at_end Open ls) (λ e. ended (IsSaid v Unopened (mass (l ∷ ls))) Open ls refl)
+shape_says v Closed (l ∷ ls) h = some_given (IsSaid v Closed (mass (l ∷ ls))) (is_end_kind l.kind) (at_end End ls) (λ e. ended (IsSaid v Closed (mass (l ∷ ls))) End ls tt)
+shape_says v Ended (l ∷ ls) h = tt
+shape_says v Values (l ∷ ls) h =
+    in_if (SomeIs (IsSaid v Values (mass (l ∷ ls)))) (is_mark 0x7d l) (at_end Close ls) (assigned v true Listed (l ∷ ls)) (ended (IsSaid v Values (mass (l ∷ ls))) Close ls tt)
+    (assigned_says (IsSaid v Values (mass (l ∷ ls))) v true Listed (l ∷ ls) h (λ name cs k. k))
+shape_says v Globals (l ∷ ls) h = open_says v Globals l ls h.1
+shape_says v Dimensions (l ∷ ls) h = open_says v Dimensions l ls h.1
+shape_says v Variables (l ∷ ls) h = open_says v Variables l ls h.1
 
 -- ---- the bytes of all
 

@@ -1,6 +1,6 @@
 -- The listed numbers of a variable are read back, wherever the breaks are.
 use Rattle.std.proofs.Common.{◌≡◌, ℕ, ◌+◌, ◌^◌, ◌<◌, ◌≤◌, Bool, true, false, List, [], ◌∷◌, ◌++◌, length, map, sym, ◌∙◌, ap, refl, subst, arith, append_assoc, append-nil, length-append, ℤ, unsigned_abs, ◌&&◌, ◌||◌, not, if◌then◌else◌, nat_lt, Some, Result, Ok, codes}
-use Rattle.cdl_laws.proofs.Prelude.{signed_decimal, flat_map, list_all, int_eq, mod-eq_of_lt, zero-mod, false≢true, concat_parts, escaped_name, Int, Version, IsName, Look, is_char, number_text, number_lead, line_break, begins_row, column, number_piece, piece, pieces, variable_opening, variable_closing, variable_text, prefix_is, CdlKind, Lexeme, is_mark, lexemes_at, scan, Value, Number, Underscore, members, each, both, constant, constants, constants_are, constants_by, Capacity, Numbers, add_number, has_number, in_turn, listing_of, and_left, and_right, is_off, word_at_start, lt-ltb, Each, ◌>>=◌}
+use Rattle.cdl_laws.proofs.Prelude.{signed_decimal, flat_map, int_eq, mod-eq_of_lt, zero-mod, false≢true, concat_parts, escaped_name, Int, Version, IsName, Look, is_char, number_text, number_lead, line_break, begins_row, column, number_piece, piece, pieces, variable_opening, variable_closing, variable_text, prefix_is, CdlKind, Lexeme, lexemes_at, scan, Value, Number, Underscore, each, both, constant, constants, constants, Capacity, Numbers, add_number, has_number, in_turn, listing_of, word_at_start, lt-ltb, Each, ◌>>=◌}
 use Rattle.cdl_laws.proofs.Texts.{Closed, Reads, Stops, closed_both, then_reads, closed_by, reads_both, mark, word, number, name_word, word_reads, stop_word}
 use Rattle.cdl_laws.proofs.Numerals.{number_reads, value_again}
 
@@ -13,29 +13,17 @@ turn f s t x xs e = rw (in_turn, e) refl
 abbrev pub comma : Lexeme
 comma = mark 44
 
+abbrev pub semicolon : Lexeme
+semicolon = mark 59
+
 -- the lexemes after the first
 abbrev pub commas : List Lexeme → List Lexeme
 commas ls = flat_map (λ l. comma ∷ l ∷ []) ls
 
--- neither a comma nor an opening parenthesis
-abbrev pub is_member : Lexeme → Bool
-is_member l = not (is_mark 0x2c l) && not (is_mark 0x28 l)
-
-pub members_last : (l : Lexeme) → is_member l ≡ true → members (l ∷ []) ≡ (l ∷ []) ∷ []
-members_last l h = grind (arith, is_off, and_left)
-
-pub members_all : (l : Lexeme) (ls : List Lexeme) → list_all is_member (l ∷ ls) ≡ true → members (l ∷ commas ls) ≡ map (λ m. m ∷ []) (l ∷ ls)
-members_all l [] h = members_last l (and_left (is_member l) true h)
-members_all l (m ∷ ls) h =
-    grind (arith, and_left, and_right, members_all m ls (and_right (is_member l) (list_all is_member (m ∷ ls)) h))
-
--- a list of constants
-list_all_said : (v : Version) (takes_fill : Bool) (l : Lexeme) (ls : List Lexeme) → constants_by v takes_fill (l ∷ commas ls) ≡ each (constant v takes_fill) (l ∷ ls)
-list_all_said v takes_fill l [] = refl
-list_all_said v takes_fill l (m ∷ ls) = ap (both (λ x xs. x ∷ xs) (constant v takes_fill l)) (list_all_said v takes_fill m ls)
-
-pub constants_all : (v : Version) (takes_fill : Bool) (l : Lexeme) (ls : List Lexeme) → constants v takes_fill (l ∷ commas ls) ≡ each (constant v takes_fill) (l ∷ ls)
-constants_all v takes_fill l ls = constants_are v takes_fill (l ∷ commas ls) ∙ list_all_said v takes_fill l ls
+-- a list of constants, with its semicolon
+pub constants_all : (v : Version) (takes_fill : Bool) (l : Lexeme) (ls : List Lexeme) → constants v takes_fill (l ∷ commas ls ++ semicolon ∷ []) ≡ each (constant v takes_fill) (l ∷ ls)
+constants_all v takes_fill l [] = refl
+constants_all v takes_fill l (m ∷ ls) = ap (both (λ x xs. x ∷ xs) (constant v takes_fill l)) (constants_all v takes_fill m ls)
 
 -- ---- the text of numbers
 
@@ -199,7 +187,7 @@ values_all : (v : Version) (look : Look) (xs : List ℤ) → AreSmall xs → eac
 values_all v look [] fit = refl
 values_all v look (x ∷ xs) fit = grind (arith, both, constant, word, codes, number, value_again, values_all v look xs fit.1)
 
-pub values_said : (v : Version) (look : Look) (x : ℤ) (xs : List ℤ) → AreSmall (x ∷ xs) → constants v true (value_lexeme look x ∷ commas (map (value_lexeme look) xs)) ≡ Some (map (value_said look) (x ∷ xs))
+pub values_said : (v : Version) (look : Look) (x : ℤ) (xs : List ℤ) → AreSmall (x ∷ xs) → constants v true (value_lexeme look x ∷ commas (map (value_lexeme look) xs) ++ semicolon ∷ []) ≡ Some (map (value_said look) (x ∷ xs))
 values_said v look x xs fit = grind (arith, constants_all v true (value_lexeme look x) (map (value_lexeme look) xs), values_all v look (x ∷ xs) fit)
 
 -- ---- what becomes of them

@@ -74,8 +74,8 @@ dataset_of v s = record { header = header_of v s; arrays = map (array_of s.dims 
 abbrev pub is_within_limits : List Dim → ℕ → Draft → Bool
 is_within_limits dims n d = nat_le (slab_size dims d.var) slab_limit && nat_le (value_count dims d.var n * size_of d.var.ty) array_limit
 
--- the limits of slabs, of arrays and of the record (`Grammar.IsWithinLimits` bounds the padded slabs; a record differs from these only if
--- it has one narrow slab, which is far smaller)
+-- the limits of slabs, of arrays and of the record (`Grammar.is_within_limits` bounds the padded slabs; a record differs from these only if
+-- it has one narrow slab, which is far below the limit)
 unfoldable pub are_within_limits : Version → State → Bool
 are_within_limits v s =
     list_all (is_within_limits s.dims (records_in s.dims s.drafts)) s.drafts && nat_le (record_size (header_of v s)) record_limit

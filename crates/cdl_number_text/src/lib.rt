@@ -3,11 +3,9 @@
 //! A caller asks how long a text is, sees whether its line has enough columns left, and writes it in its place. Nothing is copied twice.
 //!
 //! ```
-//! let mut text = [0; 64];
 //! let len = decimal_len(-273);
-//! put_decimal(&mut text, 0, len, -273);
-//! let end = put_comma(&mut text, len);
-//! // text[..end] is b"-273, "
+//! put_decimal(text, 0, len, -273);
+//! put_comma(text, len)
 //! ```
 //!
 //! This crate is internal: `cdl_print` alone calls it.

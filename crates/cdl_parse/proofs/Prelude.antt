@@ -7,6 +7,7 @@ pub use Rattle.cdl_meaning.specs.State.{Draft, Listing, State, add_constant, cha
 unfoldable pub use Rattle.cdl_meaning.specs.State.{act, add_att, add_dim, add_dimid, add_var, change_variable, capacity_of, listing_of, type_of}
 pub use Rattle.cdl_parse.specs.code.AttributeNames.{att_names, has_attribute}
 pub use Rattle.cdl_parse.specs.code.AttributeRead.{att_read, att_said, constants_said}
+pub use Rattle.cdl_parse.specs.code.ClosingLines.{closing_after, closing_of, with_line}
 pub use Rattle.cdl_parse.specs.code.DataSections.{BeginsData, Closes, IsInDataSection, ReadsOne, TakesStatement, given_at}
 pub use Rattle.cdl_parse.specs.code.Declarations.{ReadsDimension, added, continued, declared, is_open_after, next_dimid, read_on, type_first, with_begun}
 pub use Rattle.cdl_parse.specs.code.DeclaredDatasets.{dataset_of_declared, or_too_large}
@@ -17,9 +18,10 @@ pub use Rattle.cdl_parse.specs.code.Extents.{records_for, records_kept, records_
 pub use Rattle.cdl_parse.specs.code.Runs.{FailsAt, ReadsOn, at_line, run_after}
 pub use Rattle.cdl_parse.specs.code.TakenNames.{duplicate_name_or}
 pub use Rattle.cdl_parse.specs.code.VariablePositions.{at_position}
-pub use Rattle.cdl_parse.specs.declared.{declaration.PartialVariable.PartialVariable, declared_values.Declared.Declared, parse_error.ParseError.ParseError, records.Extent.Extent, variables.Variable.Variable}
+pub use Rattle.cdl_parse.specs.declared.{closing.PassedLines.PassedLines, declaration.PartialVariable.PartialVariable, declared_values.Declared.Declared, parse_error.ParseError.ParseError, records.Extent.Extent, variables.Variable.Variable}
 pub use Rattle.cdl_statements.proofs.DimensionSteps.{first_goes, on, said_on, second_goes, shaped_on, third_goes}
-pub use Rattle.cdl_statements.proofs.Listing.{only_completes, value_first}
+pub use Rattle.cdl_statements.proofs.Dues.{only_completes}
+pub use Rattle.cdl_statements.proofs.Listing.{value_first}
 pub use Rattle.cdl_statements.specs.Lexemes.{Lexeme, is_mark, is_mark_kind, is_word_kind, lexeme}
 pub use Rattle.cdl_statements.specs.Shapes.{Attribute, Close, Dimension, End, Listed, Enter, Open, Statement, DeclareVariables, Value, first_bad}
 pub use Rattle.cdl_statements.specs.Pieces.{section_of}
@@ -50,7 +52,7 @@ pub use Rattle.cdl_values.specs.declared.{data.Target.Target, read_error.ReadErr
 pub use Rattle.cdl_values.specs.declared.read_error.ReadError.TheVariants.{Fault, OutOfMemory}
 unfoldable pub use Rattle.nc_base.specs.Fill.{fill_value}
 pub use Rattle.nc_base.specs.Headers.{AreDimids}
-pub use Rattle.nc_base.specs.Grammar.{IsDimid}
+pub use Rattle.nc_base.specs.Headers.{IsDimid}
 pub use Rattle.nc_base.specs.Sizes.{value_count, array_limit, dim_len, is_record_dim, is_record_var, product, record_limit, record_size, slab_count, slab_lens, slab_limit, slab_size}
 pub use Rattle.nc_base.specs.Names.{is_name}
 pub use Rattle.nc_base.specs.Numbers.{bytes_of_number}

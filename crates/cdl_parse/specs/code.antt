@@ -13,4 +13,5 @@ pub mod OwedCounts
 pub mod DataSections
 pub mod Drafts
 pub mod Declarations
+pub mod ClosingLines
 pub mod Parsing

@@ -1,41 +1,44 @@
 //! The line of the closing brace.
 
-ghost use Rattle.std.specs.Prelude.{◌≡◌, false};
-ghost use Rattle.cdl_statements.specs.code.Cutters.{Follows, is_done};
-ghost use Rattle.cdl_statements.specs.Statements.{statements};
+ghost use Rattle.std.specs.Prelude.{◌≡◌, [], List};
+ghost use Rattle.cdl_tokens.specs.declared.token.Token.{Token};
 ghost use Rattle.cdl_meaning.specs.Meaning.{closing_line};
+ghost use Rattle.cdl_parse.specs.code.ClosingLines.{closing_after, with_line};
 
-use cdl_statements::Cutter;
-use nc_base::Version;
-
-/// Returns the line for the fault `TooLarge`: the line on which the last statement but one of the text begins, or 0 if the text has fewer
-/// than two statements. The last statement is the end of the text. If each statement has its shape, the one before it is the closing brace.
-///
-/// Reads the whole text. Does not allocate. `version` doesn't change the line, but a [`Cutter`] has to have a version.
-pub fn closing_line(text: &[u8], version: Version) -> u64
-    ensures { result ≡ closing_line (statements text.now) }
-{
-    let mut cutter = Cutter::new(text, version);
-    let mut before = 0;
-    let mut last = 0;
-    while !cutter.is_done() {
-        before = last;
-        last = cutter.line();
-        cutter = pass_statement(cutter);
-    }
-    before
+/// The lines on which the last two of the statements that have been passed begin. The line of the closing brace follows from them at the
+/// end of a text, so that no text is gone over for it.
+#[derive(Clone, Copy)]
+pub struct PassedLines {
+    /// The line of the last statement but one, or 0 if fewer than two were passed.
+    before: u64,
+    /// The line of the last statement, or 0 if none was passed.
+    last: u64,
 }
 
-/// Passes over the next statement without a check of it, and returns the cutter after it. Needs a `start` that isn't done.
-fn pass_statement(start: Cutter<'_>) -> Cutter<'_>
-    requires { is_done start ≡ false }
-    ensures { Follows start.entry result }
-{
-    let mut cutter = start;
-    'tokens: loop {
-        let ends = cutter.advance();
-        if ends {
-            return cutter;
+impl PassedLines {
+    /// Returns the lines at the start of a text: no statement has been passed.
+    #[tactic(auto, using(crate::proofs::Closings::from_start))]
+    pub fn none() -> PassedLines
+        ensures { (pieces : List (List Token)) → closing_after result pieces ≡ closing_line pieces }
+    {
+        PassedLines { before: 0, last: 0 }
+    }
+
+    /// Returns the lines after one more statement, which begins on `line`.
+    pub fn and(self, line: u64) -> PassedLines
+        ensures { result ≡ with_line self line }
+    {
+        PassedLines {
+            before: self.last,
+            last: line,
         }
+    }
+
+    /// Returns the line of the last statement but one, or 0 if fewer than two were passed. At the end of a text in which each statement has
+    /// its shape, the last statement is the end of the text, and the one before it is the closing brace.
+    pub fn closing(self) -> u64
+        ensures { result ≡ closing_after self [] }
+    {
+        self.before
     }
 }

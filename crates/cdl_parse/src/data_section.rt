@@ -5,8 +5,10 @@ ghost use Rattle.cdl_statements.specs.code.Cutters.{Follows, SameText, is_done, 
 ghost use Rattle.cdl_statements.specs.declared.section.Section.TheVariants.{Values};
 ghost use Rattle.cdl_meaning.specs.State.{State};
 ghost use Rattle.cdl_values.specs.code.Meant.{begins_brace};
+ghost use Rattle.cdl_parse.specs.code.ClosingLines.{closing_of};
 ghost use Rattle.cdl_parse.specs.code.DataSections.{Closes, ReadsDataSection, ReadsNextStatement, given_at};
 
+use crate::closing::PassedLines;
 use crate::parse_error::ParseError;
 use crate::statement::check_statement;
 use cdl_statements::{Cutter, Section};
@@ -21,6 +23,8 @@ pub struct DataSection<'a> {
     pub arrays: Vec<ListedArray>,
     /// The statements after the section.
     pub rest: Cutter<'a>,
+    /// The lines of the last two statements before these.
+    pub lines: PassedLines,
     /// True if the section ended with the closing brace. If false, no statement is left.
     pub is_closed: bool,
 }
@@ -47,8 +51,9 @@ struct DataStatement<'a> {
 /// brace. If no statement is left in `start`, reads nothing, and `is_closed` of the result is false.
 ///
 /// Each statement lists the values of the variable that it names, and no two of them may name the same variable (the CDL chapter of the
-/// NetCDF User's Guide, and ncgen(1)). `names` are the names of the variables, and `targets` what each may take, in the same order. The end
-/// of the text counts as a statement that this section doesn't allow. So a text that ends before the closing brace has a fault at its end.
+/// NetCDF User's Guide, and ncgen(1)). `names` are the names of the variables, and `targets` what each may take, in the same order.
+/// `before` has the lines of the last two statements before `start`. The end of the text counts as a statement that this section doesn't
+/// allow. So a text that ends before the closing brace has a fault at its end.
 ///
 /// # Errors
 ///
@@ -58,29 +63,35 @@ pub fn read_data<'a>(
     names: &VariableNames<'_>,
     targets: Vec<Target>,
     start: Cutter<'a>,
+    before: PassedLines,
 ) -> Result<DataSection<'a>, ParseError>
     ensures reads { ReadsDataSection start.entry names.now targets.items result }
     ensures ends { IfOk result (λ d. d.is_closed ≡ false → is_done d.rest ≡ true) }
     ensures same { IfOk result (λ d. SameText start.entry d.rest) }
+    ensures lines { IfOk result (λ d. closing_of d.rest d.lines ≡ closing_of start.entry before) }
 {
     let arrays = empty_arrays(alloc, targets.len())?;
     let mut listings = Listings { targets, arrays };
     let mut cutter = start;
+    let mut lines = before;
     'statements: loop {
         if cutter.is_done() {
             return Ok(DataSection {
                 arrays: listings.arrays,
                 rest: cutter,
+                lines,
                 is_closed: false,
             });
         }
         match read_next_statement(alloc, names, &mut listings, cutter) {
             Ok(passed) => {
+                lines = lines.and(cutter.line());
                 cutter = passed.rest;
                 if passed.is_brace {
                     return Ok(DataSection {
                         arrays: listings.arrays,
                         rest: cutter,
+                        lines,
                         is_closed: true,
                     });
                 }

@@ -8,7 +8,7 @@ ghost use Rattle.nc_base.specs.Numbers.{bytes_of_number};
 ghost use Rattle.nc_base.specs.code.OwedValues.{fills, whole_array, whole_arrays};
 ghost use Rattle.cdl_parse.specs.code.OwedCounts.{CountsOwed, HasSmallSlab};
 
-use cdl_values::put_number;
+use cdl_values::pack_number;
 use nc_base::{Dataset, Dim, Header, ListedArray, Sequence, Var, fill_of, is_record_var, slab_of};
 use std::alloc::{AllocError, Global};
 
@@ -130,7 +130,7 @@ fn fill_bytes(alloc: Global, var: &Var) -> Result<Vec<u8>, AllocError>
     ensures { IfOk result (λ bytes. bytes.items ≡ bytes_of_number var.now.ty (fill_value var.now)) }
 {
     let mut fill = ListedArray::new(alloc);
-    put_number(&mut fill, var.ty, fill_of(var))?;
+    pack_number(&mut fill, var.ty, fill_of(var))?;
     fill.into_bytes(alloc, 0)
 }
 

@@ -1,12 +1,14 @@
 //! The sections before the data section.
 
 ghost use Rattle.std.specs.Prelude.{◌≡◌, IfOk, false};
-ghost use Rattle.cdl_statements.specs.code.Cutters.{SameText, is_done};
-ghost use Rattle.cdl_meaning.specs.Meaning.{empty};
+ghost use Rattle.cdl_statements.specs.code.Cutters.{SameText, is_done, pieces_left};
+ghost use Rattle.cdl_meaning.specs.Meaning.{closing_line, empty};
 ghost use Rattle.cdl_values.specs.code.Listed.{AreShaped};
+ghost use Rattle.cdl_parse.specs.code.ClosingLines.{closing_of};
 ghost use Rattle.cdl_parse.specs.code.Defined.{is_early, run_past};
 ghost use Rattle.cdl_parse.specs.code.Runs.{ReadsOn, run_from};
 
+use crate::closing::PassedLines;
 use crate::definitions::Definitions;
 use crate::parse_error::ParseError;
 use cdl_statements::{Cutter, Section};
@@ -18,6 +20,8 @@ pub struct Defined<'a> {
     pub definitions: Definitions,
     /// The statements after these sections.
     pub rest: Cutter<'a>,
+    /// The lines of the last two statements of these sections.
+    pub lines: PassedLines,
 }
 
 /// Reads the statements of a text up to and including `data:` or the closing brace, and returns what they declare, and the statements after
@@ -31,18 +35,24 @@ pub fn read_definitions<'a>(alloc: Global, start: Cutter<'a>) -> Result<Defined<
     ensures shaped { IfOk result (λ d. AreShaped d.definitions.dims d.definitions.variables) }
     ensures ends { IfOk result (λ d. is_done d.rest ≡ false → is_early d.definitions.section ≡ false) }
     ensures same { IfOk result (λ d. SameText start.entry d.rest) }
+    ensures lines { IfOk result (λ d. closing_of d.rest d.lines ≡ closing_line (pieces_left start.entry)) }
 {
     let mut definitions = Definitions::new(alloc);
     let mut cutter = start;
+    let mut lines = PassedLines::none();
     'statements: loop {
         if cutter.is_done() || !is_early(definitions.section) {
             return Ok(Defined {
                 definitions,
                 rest: cutter,
+                lines,
             });
         }
         match definitions.read_statement(alloc, cutter) {
-            Ok(rest) => cutter = rest,
+            Ok(rest) => {
+                lines = lines.and(cutter.line());
+                cutter = rest;
+            }
             Err(e) => return Err(ParseError::at_line(cutter.line(), e)),
         }
     }

@@ -4,11 +4,11 @@ ghost use Rattle.std.specs.Prelude.{◌≡◌, IfSome};
 ghost use Rattle.cdl_parse.specs.code.DeclaredDatasets.{Finishes};
 
 use crate::declared_values::Declared;
-use crate::records::records_of;
+use crate::records::records_within_limits;
 use nc_base::{Att, Dim, Header, ListedArray, NumRecs, Sequence, Var, Version, rec_size};
 
-/// Finishes the reading of a text: makes a header of what it declares, with the number of records that [`records_of`] returns, and returns
-/// it with `listed`, the listed values of each variable in the order of `vars`. `gatts` are the attributes of the dataset.
+/// Finishes the reading of a text: makes a header of what it declares, with the number of records that [`records_within_limits`] returns,
+/// and returns it with `listed`, the listed values of each variable in the order of `vars`. `gatts` are the attributes of the dataset.
 ///
 /// Returns `None` if the dataset is too large: a slab or an array of more than 2^48 bytes, or a record of more than 2^62 bytes.
 /// Does not allocate.
@@ -22,7 +22,7 @@ pub fn finish(
     ensures declares { Finishes version dims gatts vars listed.items result }
     ensures keeps { IfSome result (λ d. (d.listed ≡ listed.items) × (d.header.vars ≡ vars)) }
 {
-    let records = records_of(dims.as_slice(), vars.as_slice(), listed.as_slice())?;
+    let records = records_within_limits(dims.as_slice(), vars.as_slice(), listed.as_slice())?;
     let header = Header {
         version,
         numrecs: NumRecs::Known(records),

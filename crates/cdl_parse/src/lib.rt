@@ -12,7 +12,7 @@
 //!             println!(rt; "{} bytes", array.len())?;
 //!         }
 //!     }
-//!     Err(fault) => println!(rt; "line {}: {:?}", fault.line, fault.kind)?,
+//!     Err(fault) => println!(rt; "{fault}")?,
 //! }
 //! ```
 #![tactic(auto)]

@@ -12,7 +12,7 @@ const ARRAY_LIMIT: u128 = 1 << 48;
 /// Returns the number of records: as many as it takes to hold the listed values of each record variable. A record counts even if only a
 /// part of it is listed. `listed` has the listed values of each variable, in the order of `vars`. Returns `None` if a slab, or the array
 /// of a record variable over that many records, has more than 2^48 bytes.
-pub fn records_of(dims: &[Dim], vars: &[Var], listed: &[ListedArray]) -> Option<u64>
+pub fn records_within_limits(dims: &[Dim], vars: &[Var], listed: &[ListedArray]) -> Option<u64>
     ensures { CountsRecords dims.now vars.now listed.now result }
 {
     extent_of(dims, vars, listed)?.records()

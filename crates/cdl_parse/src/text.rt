@@ -1,14 +1,15 @@
 //! A whole text.
 
 ghost use Rattle.std.specs.Prelude.{if◌then◌else◌, ◌≡◌, ◌<◌, ◌^◌, IfOk, Ok, false, length, true};
-ghost use Rattle.cdl_statements.specs.code.Cutters.{SameText, is_done, text_of};
-ghost use Rattle.cdl_meaning.specs.Meaning.{empty, meaning};
+ghost use Rattle.cdl_statements.specs.code.Cutters.{SameText, is_done, pieces_left, text_of};
+ghost use Rattle.cdl_meaning.specs.Meaning.{closing_line, empty, meaning};
+ghost use Rattle.cdl_parse.specs.code.ClosingLines.{closing_of};
 ghost use Rattle.cdl_parse.specs.code.Defined.{is_early, is_over};
 ghost use Rattle.cdl_parse.specs.code.DeclaredDatasets.{dataset_of_declared};
 ghost use Rattle.cdl_parse.specs.code.Parsing.{MeansOrOutOfMemory, ReadsAll, ReadsAsDefined, as_dataset, fault_of};
 ghost use Rattle.cdl_parse.specs.code.Runs.{ReadsOn, run_from};
 
-use crate::closing::closing_line;
+use crate::closing::PassedLines;
 use crate::data_section::{empty_arrays, read_data};
 use crate::declared_values::Declared;
 use crate::definition_sections::{Defined, read_definitions};
@@ -84,11 +85,12 @@ fn read_declared(alloc: Global, text: &[u8], version: Version) -> Result<Declare
         gatts,
         vars,
         listed,
+        closing_line,
     } = read_contents(alloc, Cutter::new(text, version))?;
     match finish(version, dims, gatts, vars, listed) {
         Some(declared) => Ok(declared),
         None => Err(ParseError::Fault(CdlFault {
-            line: closing_line(text, version),
+            line: closing_line,
             kind: CdlKind::TooLarge,
         })),
     }
@@ -103,14 +105,21 @@ struct Contents {
     vars: Sequence<Var>,
     /// For each variable the listed values.
     listed: Vec<ListedArray>,
+    /// The line of the closing brace.
+    closing_line: u64,
 }
 
 /// Reads all statements of a text, and returns what they declare and list. `start` is a cutter at the text's start. The sizes of slabs,
 /// arrays and the record aren't checked: [`finish`] does that. Errs with the fault of the first bad statement, or if an allocation failed.
 fn read_contents(alloc: Global, start: Cutter<'_>) -> Result<Contents, ParseError>
-    ensures { length (text_of start.entry) < 2 ^ 63 → ReadsAll result (run_from start.entry empty) }
+    ensures reads { length (text_of start.entry) < 2 ^ 63 → ReadsAll result (run_from start.entry empty) }
+    ensures line { IfOk result (λ c. c.closing_line ≡ closing_line (pieces_left start.entry)) }
 {
-    let Defined { definitions, rest } = read_definitions(alloc, start)?;
+    let Defined {
+        definitions,
+        rest,
+        lines,
+    } = read_definitions(alloc, start)?;
     let Definitions {
         section,
         dims,
@@ -126,13 +135,15 @@ fn read_contents(alloc: Global, start: Cutter<'_>) -> Result<Contents, ParseErro
         &VariableNames::new(vars.as_slice(), &names),
         rest,
         section,
+        lines,
     )?;
-    check_end(values.rest, values.section)?;
+    let closing_line = check_end(values.rest, values.section, values.lines)?;
     Ok(Contents {
         dims,
         gatts: gatts.into_sequence(),
         vars,
         listed: values.listed,
+        closing_line,
     })
 }
 
@@ -145,11 +156,14 @@ struct Values<'a> {
     section: Section,
     /// The statements that are left.
     rest: Cutter<'a>,
+    /// The lines of the last two statements before these.
+    lines: PassedLines,
 }
 
 /// Reads the data section by [`read_data_section`] if `section`, the section of the next statement of `start`, is `Values`. Otherwise the
-/// text has no data section: reads nothing, and returns an array without values for each variable, and `section` and `start` unchanged.
-/// `names` are the names of the variables. Errs with the fault of the first bad statement, or if an allocation failed.
+/// text has no data section: reads nothing, and returns an array without values for each variable, and `section`, `start` and `before`
+/// unchanged. `names` are the names of the variables, and `before` has the lines of the last two statements before `start`. Errs with the
+/// fault of the first bad statement, or if an allocation failed.
 fn read_values<'a>(
     alloc: Global,
     dims: &[Dim],
@@ -157,41 +171,48 @@ fn read_values<'a>(
     names: &VariableNames<'_>,
     start: Cutter<'a>,
     section: Section,
+    before: PassedLines,
 ) -> Result<Values<'a>, ParseError>
     requires { is_done start ≡ false → is_early section ≡ false }
     ensures reads { ReadsAsDefined start.entry dims.now vars.now names.now section result }
     ensures past { IfOk result (λ values. is_done values.rest ≡ false → is_over values.section ≡ true) }
     ensures same { IfOk result (λ values. SameText start.entry values.rest) }
+    ensures lines { IfOk result (λ values. closing_of values.rest values.lines ≡ closing_of start.entry before) }
 {
     match section {
-        Section::Values => read_data_section(alloc, dims, vars, names, start),
+        Section::Values => read_data_section(alloc, dims, vars, names, start, before),
         _ => Ok(Values {
             listed: empty_arrays(alloc, vars.len())?,
             section,
             rest: start,
+            lines: before,
         }),
     }
 }
 
 /// Reads the data section, whose statements begin at `start`: finds out how many values each variable may take ([`targets_of`]), and reads
-/// the statements by [`read_data`]. Returns what the section lists, and what comes after it. `names` are the names of the variables. Errs
-/// with the fault of the first bad statement, or if an allocation failed. A text that ends before the closing brace has a fault at its end.
+/// the statements by [`read_data`]. Returns what the section lists, and what comes after it. `names` are the names of the variables, and
+/// `before` has the lines of the last two statements before `start`. Errs with the fault of the first bad statement, or if an allocation
+/// failed. A text that ends before the closing brace has a fault at its end.
 fn read_data_section<'a>(
     alloc: Global,
     dims: &[Dim],
     vars: &[Var],
     names: &VariableNames<'_>,
     start: Cutter<'a>,
+    before: PassedLines,
 ) -> Result<Values<'a>, ParseError>
     ensures reads { ReadsAsDefined start.entry dims.now vars.now names.now Section.Values result }
     ensures past { IfOk result (λ values. is_done values.rest ≡ false → is_over values.section ≡ true) }
     ensures same { IfOk result (λ values. SameText start.entry values.rest) }
+    ensures lines { IfOk result (λ values. closing_of values.rest values.lines ≡ closing_of start.entry before) }
 {
     let targets = targets_of(alloc, dims, vars)?;
-    let data = read_data(alloc, names, targets, start)?;
+    let data = read_data(alloc, names, targets, start, before)?;
     Ok(Values {
         section: section_after_data(data.is_closed),
         rest: data.rest,
+        lines: data.lines,
         listed: data.arrays,
     })
 }

@@ -1,32 +1,38 @@
 //! The end of a text.
 
-ghost use Rattle.std.specs.Prelude.{◌≡◌, false, true};
+ghost use Rattle.std.specs.Prelude.{◌≡◌, IfOk, false, true};
 ghost use Rattle.cdl_statements.specs.code.Cutters.{is_done};
 ghost use Rattle.cdl_meaning.specs.State.{State};
+ghost use Rattle.cdl_parse.specs.code.ClosingLines.{closing_of};
 ghost use Rattle.cdl_parse.specs.code.Defined.{EndsAs, is_over};
 ghost use Rattle.cdl_parse.specs.code.Runs.{run_from};
 
+use crate::closing::PassedLines;
 use crate::statement::check_statement;
 use cdl_statements::{CdlFault, Cutter, Section};
 
 /// Checks that nothing comes after the closing brace but the end of the text. `start` has the statements after the brace. If it has any,
-/// `section` has to be the section of the next one, `Closed` or `Ended`. Does not allocate.
+/// `section` has to be the section of the next one, `Closed` or `Ended`. `before` has the lines of the last two statements before `start`.
+/// Returns the line of the closing brace. Does not allocate.
 ///
 /// # Errors
 ///
 /// The fault of the first bad statement, with its line.
-pub fn check_end(start: Cutter<'_>, section: Section) -> Result<(), CdlFault>
+pub fn check_end(start: Cutter<'_>, section: Section, before: PassedLines) -> Result<u64, CdlFault>
     requires { is_done start ≡ false → is_over section ≡ true }
-    ensures { (s : State) → s.section ≡ section → EndsAs s result (run_from start.entry s) }
+    ensures ends { (s : State) → s.section ≡ section → EndsAs s result (run_from start.entry s) }
+    ensures line { IfOk result (λ line. line ≡ closing_of start.entry before) }
 {
     let mut cutter = start;
     let mut here = section;
+    let mut lines = before;
     'statements: loop {
         if cutter.is_done() {
-            return Ok(());
+            return Ok(lines.closing());
         }
         match check_statement(cutter, here) {
             Ok(rest) => {
+                lines = lines.and(cutter.line());
                 cutter = rest;
                 here = Section::Ended;
             }

@@ -61,3 +61,10 @@ number_values-parts ty size rest value others is_last is le prefix back last = g
 pub numbers_parts : (ty : NcType) (size : ℕ) (rest value others : List ℕ) → size ≡ size_of ty → size ≤ length rest → value ≡ take size rest → others ≡ drop size rest
     → numbers ty rest ≡ number_of ty value ∷ numbers ty others
 numbers_parts ty size rest value others is le prefix back = grind (arith, numbers-cons ty rest)
+
+-- a number with its suffix and what follows it, each put after the other
+pub number_put : (ty : NcType) (value before d s e suffix : List ℕ) (number : ℤ) (is_last : Bool) → number ≡ number_of ty value → suffix ≡ number_suffix ty
+    → d ≡ before ++ signed_decimal number → s ≡ d ++ suffix → e ≡ s ++ following is_last → e ≡ before ++ number_text ty value is_last
+unfolding number_text concat_parts
+number_put ty value before d s e suffix number is_last n x put_d put_s put_e =
+    rw (put_e, put_s, put_d, x, n) (simp (append_assoc, append-nil))

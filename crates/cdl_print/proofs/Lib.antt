@@ -3,6 +3,7 @@ pub mod Runs
 pub mod Joined
 pub mod NumberRows
 pub mod PrintingLaws
+pub mod TrailingNuls
 pub mod CharRows
 pub mod Openings
 pub mod PrinterLaws

@@ -1,11 +1,11 @@
 -- The names that proofs of this crate cite from elsewhere, passed on from one place.
 pub use Rattle.cdl_print.specs.code.Fills.{IsFillOf, shows_below_100}
 pub use Rattle.cdl_print.specs.code.Leads.{columns_left_after, gap_bytes, gap_in_row, look_at, next_char_lead, next_gap, row_gap}
-pub use Rattle.cdl_print.specs.code.Pieces.{IsRun, line_len, opening_of}
+pub use Rattle.cdl_print.specs.code.Pieces.{line_len, opening_of}
 unfoldable pub use Rattle.cdl_print.specs.code.Pieces.{dim_text, line_text, prefix_escape, var_rows}
 pub use Rattle.cdl_print.specs.code.Printer.{HasPrinted, Takes, look_in, position_of}
-pub use Rattle.cdl_print.specs.code.Printing.{AppendedNext, FailedInNext, IsAfter, IsAfterNext, IsAfterNumber, IsAfterRun, NextValues, PrintedInRow, PutAt, PutInRow, PutLine, PutNumber, WrittenNext, bytes_in_row, columns_left_after_text, columns_left_in_row, gathered, number_bytes, row_index_after_run, run_bytes, text_in_row, values_after}
-unfoldable pub use Rattle.cdl_print.specs.code.Printing.{run_text}
+pub use Rattle.cdl_print.specs.code.Printing.{AppendedNext, FailedInNext, IsAfter, IsAfterNext, IsAfterNumber, IsAfterPart, NextValues, PrintedInRow, PutAt, PutInRow, PutLine, PutNumber, WrittenNext, bytes_in_row, columns_left_after_text, columns_left_in_row, gathered, held_after, number_bytes, part_bytes, row_index_after_part, shown, text_in_row, values_after}
+unfoldable pub use Rattle.cdl_print.specs.code.Printing.{part_text}
 pub use Rattle.cdl_print.specs.declared.{printer.ValuePrinter.ValuePrinter, progress.Progress.Progress}
 pub use Rattle.devices.proofs.Writes.{IsWritten, append-none, appended_partway, appended_then, partway_next, wrote_next}
 pub use Rattle.devices.specs.Sinks.{Appended, FailedPartway, SinkView}

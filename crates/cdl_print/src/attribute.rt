@@ -2,13 +2,14 @@
 
 ghost use Rattle.std.specs.Prelude.{◌≡◌};
 ghost use Rattle.nc_base.specs.Escapes.{escaped_name};
-ghost use Rattle.nc_base.specs.HeadText.{att_line, att_lines, att_text, chars_text, without_trailing_nuls};
+ghost use Rattle.nc_base.specs.HeadText.{att_line, att_lines, att_text, chars_text};
 ghost use Rattle.devices.specs.code.SinkWrites.{Wrote};
 ghost use Rattle.cdl_print.specs.code.Pieces.{att_prefix};
 
 use crate::name::put_name;
 use crate::number::put_numbers;
 use crate::string::put_broken_text;
+use crate::trailing_nuls::without_trailing_nuls;
 use devices::{Sink, WriteFailed, put};
 use nc_base::{Att, NcType};
 
@@ -67,15 +68,4 @@ fn put_quoted_chars<W: Sink>(sink: &mut W, vals: &[u8]) -> Result<(), WriteFaile
     put(sink, b"\"")?;
     put_broken_text(sink, without_trailing_nuls(vals))?;
     put(sink, b"\"")
-}
-
-/// Returns the bytes without the NULs at their end.
-fn without_trailing_nuls(bytes: &[u8]) -> &[u8]
-    ensures { result.now ≡ without_trailing_nuls bytes.now }
-{
-    let mut len = bytes.len();
-    while 0 < len && bytes[len - 1] == 0 {
-        len -= 1;
-    }
-    &bytes[..len]
 }

@@ -6,9 +6,11 @@ ghost use Rattle.nc_base.specs.Headers.{IsSound};
 ghost use Rattle.nc_base.specs.Sizes.{is_record_var};
 ghost use Rattle.nc_base.specs.ValueText.{variable_closing, is_char, is_trimmed, row_len};
 ghost use Rattle.cdl_print.specs.code.Leads.{IfVariable, IsLayoutOf, look_at, next_char_lead, next_gap, row_gap};
+ghost use Rattle.cdl_print.specs.code.Printing.{shown};
 
 use crate::gap::{Gap, gap_in_row};
 use crate::progress::Progress;
+use crate::trailing_nuls::without_trailing_nuls;
 use nc_base::{
     Dim, Header, NcType, Var, dim_len, fill_of, is_record_var, prints_fill, value_count,
 };
@@ -148,6 +150,18 @@ impl Layout<'_> {
             Gap::FirstRow
         } else {
             Gap::NextRow
+        }
+    }
+
+    /// Returns those of these characters of one row that are printed unless others follow them in the row: in a trimmed layout all but the
+    /// NULs at their end, otherwise all.
+    pub fn shown_chars<'b>(&self, chars: &'b [u8]) -> &'b [u8]
+        ensures { result.now ≡ shown (look_at self.now) chars.now }
+    {
+        if self.trimmed {
+            without_trailing_nuls(chars)
+        } else {
+            chars
         }
     }
 

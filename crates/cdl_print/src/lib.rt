@@ -4,22 +4,21 @@
 //! sink fails, and writes nothing after that.
 //!
 //! ```
-//! put_head(&mut sink, b"a", &header, records)?;
-//! let mut printer = ValuePrinter::new(&header, var_index, records, 80);
+//! put_head(sink, b"a", header, records)?;
+//! let mut printer = ValuePrinter::new(header, var_index, records, 80);
 //! let mut text = [0; 4096];
-//! printer.start(&mut sink)?;
-//! while let Some(chunk) = walk.next(&mut source)? {
-//!     printer.values(&mut sink, &mut text, chunk)?;
+//! printer.start(sink)?;
+//! if printer.takes(values) {
+//!     printer.values(sink, &mut text, values)?;
 //! }
-//! printer.finish(&mut sink)?;
+//! printer.finish(sink)?;
 //! ```
 //!
-//! Here `walk` is a `Walk` of `nc_walk` over the values of that variable.
+//! Here `values` are values of that variable, big-endian, such as a chunk of a `Walk` of `nc_walk`. There may be many such calls.
 #![tactic(auto)]
 
 mod attribute;
 mod char_row;
-mod decimal;
 mod escaped;
 mod gap;
 mod head;
@@ -33,6 +32,7 @@ mod printed_fill;
 mod printer;
 mod progress;
 mod string;
+mod trailing_nuls;
 mod variable;
 mod word;
 

@@ -1,16 +1,17 @@
 //! The numbers of an attribute as CDL writes them.
 
-ghost use Rattle.std.specs.Prelude.{◌≡◌, length};
-ghost use Rattle.std.specs.Fmt.{signed_decimal};
+ghost use Rattle.std.specs.Prelude.{◌≡◌, ◌+◌, ◌++◌, ◌<◌, ◌≤◌, length, take};
 ghost use Rattle.nc_base.specs.HeadText.{numbers_text};
-ghost use Rattle.nc_base.specs.Numbers.{number_of};
 ghost use Rattle.nc_base.specs.Types.{size_of};
 ghost use Rattle.devices.specs.code.SinkWrites.{Wrote};
 ghost use Rattle.cdl_print.specs.code.Pieces.{number_text};
 
-use crate::decimal::put_integer;
+use cdl_number_text::{decimal_len, put_bytes, put_comma, put_decimal};
 use devices::{Sink, WriteFailed, put};
 use nc_base::{NcType, number_of};
+
+/// The most bytes that a number takes: 21 in decimal, 3 of its suffix, and 2 of a comma and a space.
+const MOST: usize = 26;
 
 /// Writes the numbers of an attribute of the type `ty`, each with the suffix of the type, joined by `, `. `vals` has the numbers,
 /// big-endian. Bytes at the end that are no whole number are left out.
@@ -18,39 +19,49 @@ pub fn put_numbers<W: Sink>(sink: &mut W, ty: NcType, vals: &[u8]) -> Result<(),
     ensures { Wrote W.view sink.old sink.new (numbers_text ty vals.now) result }
 {
     let size = ty.size() as usize;
+    let mut text = [0; 1024];
     let mut rest = vals;
     while size <= rest.len() {
-        let (value, others) = rest.split_at(size);
-        put_number(sink, ty, value, others.len() < size)?;
+        let (end, others) = gather_numbers(&mut text, ty, rest);
+        put(sink, &text[..end])?;
         rest = others;
     }
     Ok(())
 }
 
-/// Writes the number of the type `ty` that has the big-endian bytes `value`, with the suffix of the type, and then a comma and a space
-/// unless `is_last`.
-#[tactic(auto, using(devices::proofs::Writes::writes), unfolding(crate::specs::code::Pieces::number_text))]
-fn put_number<W: Sink>(
-    sink: &mut W,
-    ty: NcType,
-    value: &[u8],
-    is_last: bool,
-) -> Result<(), WriteFailed>
-    requires { length value.now ≡ size_of ty }
-    ensures { Wrote W.view sink.old sink.new (number_text ty value.now is_last) result }
+/// Puts numbers of the type `ty` at the start of `text`, as many of the first numbers of `vals` as surely fit, and at least one. Each has
+/// the suffix of the type, and a comma and a space after it unless it is the last of `vals`. Returns the offset at which they end, and the
+/// bytes of the other numbers. `vals` has at least one number, big-endian. Needs room for 26 bytes in `text` ([`MOST`]).
+fn gather_numbers<'a>(text: &mut [u8], ty: NcType, vals: &'a [u8]) -> (usize, &'a [u8])
+    requires some { size_of ty ≤ length vals.now }
+    requires fits { 26 ≤ length text.old }
+    ensures text { numbers_text ty vals.now ≡ take result.0 text.new ++ numbers_text ty result.1.now }
+    ensures inside { result.0 ≤ length text.new }
+    ensures fewer { length result.1.now < length vals.now }
 {
-    put_bare_number(sink, ty, value)?;
-    put(sink, ty.suffix())?;
-    if is_last {
-        return Ok(());
+    let size = ty.size() as usize;
+    let (value, mut rest) = vals.split_at(size);
+    let mut end = put_suffixed_number(text, 0, ty, value, rest.len() < size);
+    while size <= rest.len() && text.len() - end >= MOST {
+        let (value, others) = rest.split_at(size);
+        end = put_suffixed_number(text, end, ty, value, others.len() < size);
+        rest = others;
     }
-    put(sink, b", ")
+    (end, rest)
 }
 
-/// Writes the number of the type `ty` that has the big-endian bytes `value`, in decimal and without a suffix.
-fn put_bare_number<W: Sink>(sink: &mut W, ty: NcType, value: &[u8]) -> Result<(), WriteFailed>
-    requires { length value.now ≡ size_of ty }
-    ensures { Wrote W.view sink.old sink.new (signed_decimal (number_of ty value.now)) result }
+/// Puts the number of the type `ty` that has the big-endian bytes `value` at the offset `at` of `text`, with the suffix of the type, and
+/// then a comma and a space unless `is_last`. Returns the offset at which they end. Needs room for 26 bytes in `text` ([`MOST`]).
+#[tactic(auto, unfolding(crate::specs::code::Pieces::number_text, nc_base::specs::Bytes::concat_parts))]
+fn put_suffixed_number(text: &mut [u8], at: usize, ty: NcType, value: &[u8], is_last: bool) -> usize
+    requires whole { length value.now ≡ size_of ty }
+    requires fits { at + 26 ≤ length text.old }
+    ensures text { take result text.new ≡ take at text.old ++ number_text ty value.now is_last }
+    ensures short { result ≤ at + 26 }
 {
-    put_integer(sink, number_of(ty, value))
+    let number = number_of(ty, value);
+    let len = decimal_len(number);
+    put_decimal(text, at, len, number);
+    let end = put_bytes(text, at + len, ty.suffix());
+    if is_last { end } else { put_comma(text, end) }
 }

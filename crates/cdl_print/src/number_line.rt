@@ -65,7 +65,7 @@ fn gather_typed(
     let mut rest = bytes;
     while size <= rest.len() {
         let (value, others) = rest.split_at(size);
-        now = gather_next(ty, text, now, layout, fill, value);
+        now = put_next_value(ty, text, now, layout, fill, value);
         rest = others;
     }
     now
@@ -75,7 +75,7 @@ fn gather_typed(
 /// last line after it. `value` has the number's bytes, big-endian, as a value of the type `ty`. Needs a `fill` made of `layout`, and room
 /// for 47 bytes in `text`.
 #[inline(always)]
-fn gather_next(
+fn put_next_value(
     ty: NcType,
     text: &mut [u8],
     line: LastLine,
@@ -115,7 +115,7 @@ fn put_next_number(
     } else if fill.prints(layout, number) {
         put_fill(text, line, layout.width)
     } else {
-        put_number(text, line, layout.width, number)
+        put_decimal_in_row(text, line, layout.width, number)
     }
 }
 
@@ -156,8 +156,8 @@ fn put_fill(text: &mut [u8], line: LastLine, width: usize) -> LastLine
 {
     let start = put_gap_in_row(text, line, width, 1);
     LastLine {
-        end: put_byte(text, start.end, b'_'),
-        columns_left: start.columns_left,
+        end: put_byte(text, start.offset, b'_'),
+        columns_left: start.columns_left_after,
     }
 }
 
@@ -165,7 +165,7 @@ fn put_fill(text: &mut [u8], line: LastLine, width: usize) -> LastLine
 /// `width` is how many bytes a line may have. Needs an absolute value below 2^64, and room for 28 bytes in `text`: 21 of the number, and 7
 /// before it.
 #[inline(always)]
-fn put_number(text: &mut [u8], line: LastLine, width: usize, number: i128) -> LastLine
+fn put_decimal_in_row(text: &mut [u8], line: LastLine, width: usize, number: i128) -> LastLine
     requires magnitude { unsigned_abs number < 2 ^ 64 }
     requires fits { line.end + 28 ≤ length text.old }
     ensures put { PutInRow width (signed_decimal number) line text.old result text.new }
@@ -173,28 +173,37 @@ fn put_number(text: &mut [u8], line: LastLine, width: usize, number: i128) -> La
 {
     let len = decimal_len(number);
     let start = put_gap_in_row(text, line, width, len);
-    put_decimal(text, start.end, len, number);
+    put_decimal(text, start.offset, len, number);
     LastLine {
-        end: start.end + len,
-        columns_left: start.columns_left,
+        end: start.offset + len,
+        columns_left: start.columns_left_after,
     }
 }
 
+/// The place of a number that is still to be put into a text.
+#[derive(Clone, Copy)]
+struct NumberStart {
+    /// The offset in the text at which the number begins.
+    offset: usize,
+    /// How many columns its line has left after it.
+    columns_left_after: usize,
+}
+
 /// Puts `, ` at the end of the line in `text`, and a new line after it if a number of `len` bytes and two bytes more don't fit on this one.
-/// Doesn't put the number. Returns a line whose `end` is where the number begins, and whose `columns_left` already counts the number.
+/// Doesn't put the number. Returns where it begins, and how many columns are left after it.
 /// `width` is how many bytes a line may have. Needs a `len` of at most 40, and room for 7 bytes in `text`: `, `, LF and four spaces.
 #[inline(always)]
-fn put_gap_in_row(text: &mut [u8], line: LastLine, width: usize, len: usize) -> LastLine
+fn put_gap_in_row(text: &mut [u8], line: LastLine, width: usize, len: usize) -> NumberStart
     requires short { len ≤ 40 }
     requires fits { line.end + 7 ≤ length text.old }
-    ensures text { PutAt line.end text.old result.end text.new (gap_bytes (gap_at_end line len)) }
-    ensures columns { result.columns_left ≡ columns_left_at_end width line len }
-    ensures start { result.end ≡ line.end + length (gap_bytes (gap_at_end line len)) }
+    ensures text { PutAt line.end text.old result.offset text.new (gap_bytes (gap_at_end line len)) }
+    ensures columns { result.columns_left_after ≡ columns_left_at_end width line len }
+    ensures start { result.offset ≡ line.end + length (gap_bytes (gap_at_end line len)) }
 {
     let gap = gap_in_row(line.columns_left, len);
     let columns_left = gap.columns_left_after(line.columns_left, width);
-    LastLine {
-        end: put_gap(text, line.end, gap),
-        columns_left: columns_left.saturating_sub(len),
+    NumberStart {
+        offset: put_gap(text, line.end, gap),
+        columns_left_after: columns_left.saturating_sub(len),
     }
 }

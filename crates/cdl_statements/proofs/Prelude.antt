@@ -1,10 +1,8 @@
 -- The names that proofs of this crate cite from elsewhere, passed on from one place.
 pub use Rattle.cdl_statements.specs.Lexemes.{Lexeme, is_end_kind, is_mark, is_mark_kind, is_opening_kind, is_word, is_word_kind, lexeme}
 unfoldable pub use Rattle.cdl_statements.specs.Lexemes.{name_of}
-pub use Rattle.std.specs.List.{onto_first}
-pub use Rattle.cdl_statements.specs.Shapes.{Attribute, Close, DeclareDimensions, Dimension, End, Listed, Enter, Number, Open, Statement, DeclareVariables, Value, Variable, assigned, attribute, before_mark, body, both, constant, constant_of, dimension, each, first_bad, if_so, global, length_of, list_of, members_in, section_mark, section_number, single, token_fault, typed, variable}
+pub use Rattle.cdl_statements.specs.Shapes.{Attribute, Close, DeclareDimensions, Dimension, End, Listed, Enter, Number, Open, Statement, DeclareVariables, Value, Variable, after_member, assigned, at_end, attribute_or_mark, both, constant, constant_of, constants, dimension, dimensions, first_bad, if_so, in_parentheses, is_later, length_of, other_statement, section_mark, token_fault, variables}
 pub use Rattle.cdl_statements.specs.Pieces.{section_of}
-pub use Rattle.cdl_statements.proofs.Members.{alone, constants, constants_are, constants_by, dimensions, dimensions_are, dimensions_by, mark_after, members, one_mark, name_alone, dimensions_none}
 unfoldable pub use Rattle.cdl_statements.specs.Shapes.{shape}
 pub use Rattle.cdl_statements.specs.code.Contents.{Declaration, attribute_said, dimension_said, is_unlimited, length_said, mark_said, parts_or_zero, variable_said, with_name}
 unfoldable pub use Rattle.cdl_statements.specs.code.Contents.{declaration_said, dimensions_said, statement_said, value_of, values}

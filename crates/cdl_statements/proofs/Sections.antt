@@ -1,61 +1,134 @@
--- The table of due tokens says whether a piece has its shape, section by section.
-use Rattle.std.proofs.Common.{◌≡◌, Bool, true, false, List, [], ◌∷◌, refl, sym, ap, ◌∙◌, None, if◌then◌else◌, is_some}
-use Rattle.cdl_statements.proofs.Prelude.{Version, only, next, completes, opens_section_after, Lexeme, is_mark, is_opening_kind, is_end_kind, Close, Open, End, first_bad, option_or, alone, section_mark, shape, Section, Unopened, Globals, Dimensions, Variables, Values, Ended}
-use Rattle.cdl_statements.specs.declared.due.Due.TheVariants as dues
+-- Statements: the table of due tokens says whether a piece has its shape, and what it says stands in its tokens.
+use Rattle.std.proofs.Common.{◌≡◌, ℕ, Bool, true, false, List, [], ◌∷◌, drop, refl, sym, ap, subst, ◌∙◌, Option, None, Some, if◌then◌else◌, is_some, codes, arith, rules}
+use Rattle.std.specs.Str.{bytes_eq}
+use Rattle.std.specs.Cmp.Lexicographic.{bytes_decides}
+use Rattle.cdl_statements.proofs.Prelude.{option_map, option_and_then, is_reserved, Version, values, only, next, completes, is_name, is_after, opens_section_after, word_value, Lexeme, is_mark, is_word_kind, is_opening_kind, is_end_kind, name_of, Value, Statement, Attribute, Listed, Close, DeclareDimensions, DeclareVariables, Enter, End, Open, first_bad, constants, dimensions, assigned, section_mark, attribute_or_mark, other_statement, shape, at_end, both, if_so, is_later, section_of, dimensions_said, attribute_said, mark_said, variable_said, statement_said, Due, Section, Unopened, Globals, Dimensions, Variables, Values, Ended}
 use Rattle.cdl_statements.specs.declared.section.Section.TheVariants.{Closed}
-use Rattle.cdl_statements.proofs.Listing.{never_completes, fine_on}
-use Rattle.cdl_statements.proofs.Shaping.{data_is, data_said, mark_word, no_section, no_mark, no_brace}
-use Rattle.cdl_statements.proofs.Options.{either_none, either_only, some_if}
-use Rattle.cdl_statements.proofs.SectionParts.{alone_completes, mark_completes, global_to, no_global, global_completes, no_colon}
-use Rattle.cdl_statements.proofs.DimensionSection.{dims_complete}
-use Rattle.cdl_statements.proofs.VariableSection.{variables_complete}
+use Rattle.cdl_statements.specs.declared.due.Due.TheVariants as dues
+use Rattle.cdl_statements.proofs.Dues.{fine_on, never_completes, name_is, due_for, never_due, end_due, map_due, only_due, both_ways}
+use Rattle.cdl_statements.proofs.Listing.{constants_due}
+use Rattle.cdl_statements.proofs.Dimensions.{dimensions_due}
+use Rattle.cdl_statements.proofs.Declarations.{variables_due}
 
-pub globals_complete : (v : Version) (l : Lexeme) (ls : List Lexeme) → first_bad v ls ≡ None → is_some (shape v Globals (l ∷ ls)) ≡ completes (dues.First Globals) (l ∷ ls)
-unfolding shape completes next
-globals_complete v l ls good = by (is_mark 0x7d l) (is_mark 0x3a l) refl refl
+-- ---- attributes and lists of values
+
+equals_due : (v : Version) (takes_fill : Bool) (f : List ℕ → List Value → Statement) (n e : Lexeme) (ls : List Lexeme) → first_bad v ls ≡ None →
+    if_so (is_mark 0x3d e) (both f (name_of n) (constants v takes_fill ls)) ≡ due_for (only (is_name n) (dues.Equals takes_fill)) (e ∷ ls) (f (word_value n.bytes) (values v ls))
+unfolding completes next
+equals_due v takes_fill f n e ls good = grind (arith, name_is n, constants_due v takes_fill ls good, never_completes ls)
+
+pub assigned_due : (v : Version) (takes_fill : Bool) (f : List ℕ → List Value → Statement) (n : Lexeme) (ls : List Lexeme) → first_bad v ls ≡ None →
+    assigned v takes_fill f (n ∷ ls) ≡ due_for (only (is_name n) (dues.Equals takes_fill)) ls (f (word_value n.bytes) (values v (drop 1 ls)))
+unfolding completes
+assigned_due v takes_fill f n [] good = search rules
+assigned_due v takes_fill f n (e ∷ ls) good = equals_due v takes_fill f n e ls (fine_on v e ls good)
+
+attribute_due : (v : Version) (owner : Option (List ℕ)) (ls : List Lexeme) → first_bad v ls ≡ None → assigned v false (Attribute owner) ls ≡ due_for dues.AttributeName ls (attribute_said v owner ls)
+unfolding completes next
+attribute_due v owner [] good = refl
+attribute_due v owner (n ∷ ls) good = assigned_due v false (Attribute owner) n ls (fine_on v n ls good)
+
+-- ---- section marks
+
+mark_of : (before : Section) (c : Lexeme) (o : Option Section) →
+    if_so (is_mark 0x3a c) (option_and_then (λ s. if_so (is_later before s) (Some (Enter s))) o) ≡ due_for (only (is_after before o) dues.Colon) (c ∷ []) (mark_said o)
+unfolding completes next
+mark_of before c o = grind arith
+
+mark_due : (before : Section) (l : Lexeme) (ls : List Lexeme) → section_mark before l ls ≡ due_for (only (opens_section_after before l) dues.Colon) ls (mark_said (section_of l))
+unfolding completes next
+mark_due before l [] = search rules
+mark_due before l (c ∷ []) = mark_of before c (section_of l)
+mark_due before l (c ∷ d ∷ ls) = search (rules, never_completes, next)
+
+-- the word of a section is no name
+reserved_by : (word bytes : List ℕ) → bytes_eq bytes word ≡ true → is_reserved word ≡ true → is_reserved bytes ≡ true
+reserved_by word bytes same h = subst (λ (w : List ℕ). is_reserved w ≡ true) (sym ((bytes_decides bytes word).0 same)) h
+
+pub section_no_name : (l : Lexeme) → is_some (section_of l) ≡ true → is_name l ≡ false
+unfolding is_reserved
+section_no_name l h = search (rules, codes, reserved_by)
+
+dimensions_said_due : (v : Version) (l : Lexeme) (ls : List Lexeme) → first_bad v (l ∷ ls) ≡ None →
+    other_statement v Dimensions l ls ≡ due_for (if opens_section_after Dimensions l then dues.Colon else only (is_name l) dues.LengthEquals) ls
+    (if opens_section_after Dimensions l then mark_said (section_of l) else DeclareDimensions (dimensions_said v (l ∷ ls)))
+unfolding completes next
+dimensions_said_due v l ls good = by (section_of l) refl
   where
-    by : (b c : Bool) → is_mark 0x7d l ≡ b → is_mark 0x3a l ≡ c →
-        is_some (option_or (alone (is_mark 0x7d) Close (l ∷ ls)) (option_or (section_mark Globals (l ∷ ls)) (global_to v (l ∷ ls)))) ≡
-        completes (if b then dues.Nothing else (if c then dues.AttributeName else only (opens_section_after Globals l) dues.Colon)) ls
-    by true c on is =
-        let rest = either_none (section_mark Globals (l ∷ ls)) (global_to v (l ∷ ls)) (no_mark Globals l ls (no_section l (mark_word 0x7d l on))) ∙ no_global v l ls (no_colon l on) in
-        ap is_some (either_only (alone (is_mark 0x7d) Close (l ∷ ls)) (option_or (section_mark Globals (l ∷ ls)) (global_to v (l ∷ ls))) rest) ∙ alone_completes (is_mark 0x7d) Close l ls ∙ ap (λ t. completes (only t dues.Nothing) ls) on
-    by false true off on =
-        ap is_some (either_none (alone (is_mark 0x7d) Close (l ∷ ls)) (option_or (section_mark Globals (l ∷ ls)) (global_to v (l ∷ ls))) (no_brace l ls off) ∙
-        either_none (section_mark Globals (l ∷ ls)) (global_to v (l ∷ ls)) (no_mark Globals l ls (no_section l (mark_word 0x3a l on)))) ∙ global_completes v l ls good on
-    by false false off other =
-        ap is_some (either_none (alone (is_mark 0x7d) Close (l ∷ ls)) (option_or (section_mark Globals (l ∷ ls)) (global_to v (l ∷ ls))) (no_brace l ls off) ∙
-        either_only (section_mark Globals (l ∷ ls)) (global_to v (l ∷ ls)) (no_global v l ls other)) ∙ mark_completes Globals l ls
+    by : (o : Option Section) → section_of l ≡ o →
+        (if is_some o then section_mark Dimensions l ls else option_map DeclareDimensions (dimensions v (l ∷ ls))) ≡
+        due_for (if is_after Dimensions o then dues.Colon else only (is_name l) dues.LengthEquals) ls (if is_after Dimensions o then mark_said o else DeclareDimensions (dimensions_said v (l ∷ ls)))
+    by None e = map_due DeclareDimensions dues.DimensionName (l ∷ ls) _ _ _ (dimensions_due v (l ∷ ls) good) (λ w. refl)
+    by (Some s) e =
+        mark_due Dimensions l ls ∙ ap (λ o. due_for (only (is_after Dimensions o) dues.Colon) ls (mark_said o)) e ∙
+        later (is_later Dimensions s) (section_no_name l (ap (λ o. is_some o) e))
+      where
+        later : (b : Bool) → is_name l ≡ false → due_for (only b dues.Colon) ls (Enter s) ≡
+            due_for (if b then dues.Colon else only (is_name l) dues.LengthEquals) ls (if b then Enter s else DeclareDimensions (dimensions_said v (l ∷ ls)))
+        later b off = grind (arith, never_due ls (Enter s), never_due ls (DeclareDimensions (dimensions_said v (l ∷ ls))))
 
-pub data_complete : (v : Version) (l : Lexeme) (ls : List Lexeme) → first_bad v ls ≡ None → is_some (shape v Values (l ∷ ls)) ≡ completes (dues.First Values) (l ∷ ls)
-data_complete v l ls good = ap is_some (data_is v l ls good) ∙ some_if (completes (dues.First Values) (l ∷ ls)) (data_said v l ls)
+variables_said_due : (v : Version) (l : Lexeme) (ls : List Lexeme) → first_bad v ls ≡ None →
+    other_statement v Variables l ls ≡ due_for (only (is_word_kind l.kind) (dues.AfterWord (is_name l) (opens_section_after Variables l))) ls (variable_said v l ls)
+unfolding completes next
+variables_said_due v l [] good = search rules
+variables_said_due v l (c ∷ ls) good =
+    only_due (is_word_kind l.kind) (dues.AfterWord (is_name l) (opens_section_after Variables l)) (c ∷ ls) _ _ (λ word.
+    both_ways (is_mark 0x3a c) _ _ _ _ ls _ _
+    (λ colon. ap (λ o. attribute_or_mark v l o (c ∷ ls)) (name_is l) ∙ by (is_name l) colon)
+    (λ e. map_due (DeclareVariables l) dues.VariableName (c ∷ ls) _ _ _ (variables_due (c ∷ ls)) (λ w. refl)))
+  where
+    goes : (g : Bool) → is_mark 0x3a c ≡ true → due_for (only g dues.Colon) (c ∷ ls) (mark_said (section_of l)) ≡ due_for (only g dues.Nothing) ls (mark_said (section_of l))
+    goes g colon = grind arith
 
-pub opening_completes : (v : Version) (l : Lexeme) (ls : List Lexeme) → is_some (shape v Unopened (l ∷ ls)) ≡ completes (dues.First Unopened) (l ∷ ls)
+    by : (b : Bool) → is_mark 0x3a c ≡ true → attribute_or_mark v l (if b then Some (word_value l.bytes) else None) (c ∷ ls) ≡
+        due_for (if b then dues.AttributeName else only (opens_section_after Variables l) dues.Nothing) ls (if b then attribute_said v (Some (word_value l.bytes)) ls else mark_said (section_of l))
+    by true colon = attribute_due v (Some (word_value l.bytes)) ls (fine_on v c ls good)
+    by false colon = mark_due Variables l (c ∷ ls) ∙ goes (opens_section_after Variables l) colon
+
+-- ---- statements
+
+open_due : (v : Version) (section : Section) (l : Lexeme) (ls : List Lexeme) (due : Due) (s : Statement) → first_bad v ls ≡ None → other_statement v section l ls ≡ due_for due ls s →
+    (if is_mark 0x7d l then at_end Close ls else (if is_mark 0x3a l then assigned v false (Attribute None) ls else other_statement v section l ls)) ≡
+    due_for (if is_mark 0x7d l then dues.Nothing else (if is_mark 0x3a l then dues.AttributeName else due)) ls (if is_mark 0x7d l then Close else (if is_mark 0x3a l then attribute_said v None ls else s))
+open_due v section l ls due s good h =
+    both_ways (is_mark 0x7d l) _ _ _ _ ls _ _ (λ e. end_due ls Close) (λ e. both_ways (is_mark 0x3a l) _ _ _ _ ls _ _ (λ g. attribute_due v None ls good) (λ g. h))
+
+-- the data section has no attributes
+abbrev pub data_said : Version → Lexeme → List Lexeme → Statement
+data_said v l ls = if is_mark 0x7d l then Close else Listed (word_value l.bytes) (values v (drop 1 ls))
+
+pub data_is : (v : Version) (l : Lexeme) (ls : List Lexeme) → first_bad v ls ≡ None → shape v Values (l ∷ ls) ≡ due_for (dues.First Values) (l ∷ ls) (data_said v l ls)
 unfolding shape completes next
-opening_completes v l ls = alone_completes (λ (l : Lexeme). is_opening_kind l.kind) Open l ls
+data_is v l ls good = both_ways (is_mark 0x7d l) _ _ _ _ ls _ _ (λ e. end_due ls Close) (λ e. assigned_due v true Listed l ls good)
 
-pub end_completes : (v : Version) (l : Lexeme) (ls : List Lexeme) → is_some (shape v Closed (l ∷ ls)) ≡ completes (dues.First Closed) (l ∷ ls)
-unfolding shape completes next
-end_completes v l ls = alone_completes (λ (l : Lexeme). is_end_kind l.kind) End l ls
+mark_name : (b : ℕ) (l : Lexeme) → is_mark b l ≡ true → is_name l ≡ false
+mark_name b l h = search rules
 
-pub ended_completes : (v : Version) (l : Lexeme) (ls : List Lexeme) → is_some (shape v Ended (l ∷ ls)) ≡ completes (dues.First Ended) (l ∷ ls)
-unfolding shape completes next
-ended_completes v l ls = sym (never_completes ls)
+no_attribute : (v : Version) (l : Lexeme) (ls : List Lexeme) → due_for (dues.First Values) (l ∷ ls) (data_said v l ls) ≡ due_for (dues.First Values) (l ∷ ls) (statement_said v Values (l ∷ ls))
+unfolding completes next statement_said
+no_attribute v l ls = grind (arith, mark_name 0x3a l, never_completes ls)
 
--- every section
-pub piece_completes : (v : Version) (section : Section) (ws : List Lexeme) → first_bad v ws ≡ None → is_some (shape v section ws) ≡ completes (dues.First section) ws
-unfolding shape completes
-piece_completes v Unopened [] good = refl
-piece_completes v Globals [] good = refl
-piece_completes v Dimensions [] good = refl
-piece_completes v Variables [] good = refl
-piece_completes v Values [] good = refl
-piece_completes v Closed [] good = refl
-piece_completes v Ended [] good = refl
-piece_completes v Unopened (l ∷ ls) good = opening_completes v l ls
-piece_completes v Globals (l ∷ ls) good = globals_complete v l ls (fine_on v l ls good)
-piece_completes v Dimensions (l ∷ ls) good = dims_complete v l ls good
-piece_completes v Variables (l ∷ ls) good = variables_complete v l ls (fine_on v l ls good)
-piece_completes v Values (l ∷ ls) good = data_complete v l ls (fine_on v l ls good)
-piece_completes v Closed (l ∷ ls) good = end_completes v l ls
-piece_completes v Ended (l ∷ ls) good = ended_completes v l ls
+pub shape_is : (v : Version) (section : Section) (ls : List Lexeme) → first_bad v ls ≡ None → shape v section ls ≡ due_for (dues.First section) ls (statement_said v section ls)
+unfolding shape completes next statement_said
+shape_is v Unopened [] good = refl
+shape_is v Globals [] good = refl
+shape_is v Dimensions [] good = refl
+shape_is v Variables [] good = refl
+shape_is v Values [] good = refl
+shape_is v Closed [] good = refl
+shape_is v Ended [] good = refl
+shape_is v Unopened (l ∷ ls) good = only_due (is_opening_kind l.kind) dues.Nothing ls _ _ (λ e. end_due ls Open)
+shape_is v Closed (l ∷ ls) good = only_due (is_end_kind l.kind) dues.Nothing ls _ _ (λ e. end_due ls End)
+shape_is v Ended (l ∷ ls) good = never_due ls End
+shape_is v Globals (l ∷ ls) good = open_due v Globals l ls _ _ (fine_on v l ls good) (mark_due Globals l ls)
+shape_is v Dimensions (l ∷ ls) good = open_due v Dimensions l ls _ _ (fine_on v l ls good) (dimensions_said_due v l ls good)
+shape_is v Variables (l ∷ ls) good = open_due v Variables l ls _ _ (fine_on v l ls good) (variables_said_due v l ls (fine_on v l ls good))
+shape_is v Values (l ∷ ls) good = data_is v l ls (fine_on v l ls good) ∙ no_attribute v l ls
+
+-- whether a piece has its shape
+pub piece_completes : (v : Version) (section : Section) (ls : List Lexeme) → first_bad v ls ≡ None → is_some (shape v section ls) ≡ completes (dues.First section) ls
+piece_completes v section ls good = rw (shape_is v section ls good) (grind arith)
+
+-- a whole piece says this
+pub said_is : (v : Version) (section : Section) (ls : List Lexeme) → first_bad v ls ≡ None → completes (dues.First section) ls ≡ true → shape v section ls ≡ Some (statement_said v section ls)
+said_is v section ls good whole = shape_is v section ls good ∙ rw whole refl

@@ -1,7 +1,6 @@
 -- Definition. The shapes of statements. NAME, LENGTH, CONST, VALUE and TYPE are tokens, and `..` means more of the same.
-use Rattle.std.specs.Prelude.{ℕ, ℤ, Bool, true, false, List, [], ◌∷◌, ◌&&◌, ◌||◌, not, if◌then◌else◌, codes, Option, None, Some, is_none, nat_lt}
+use Rattle.std.specs.Prelude.{ℕ, ℤ, Bool, true, false, List, [], ◌∷◌, ◌&&◌, ◌||◌, if◌then◌else◌, codes, Option, None, Some, is_none, is_some, nat_lt}
 use Rattle.std.specs.Str.{byte}
-use Rattle.std.specs.List.{onto_first}
 use Rattle.std.specs.Option.{option_map, option_and_then, option_or}
 use Rattle.nc_base.specs.Bytes.{Bytes}
 use Rattle.cdl_tokens.specs.Escapes.{inner, string_value}
@@ -60,33 +59,18 @@ both f None b = None
 both f (Some a) None = None
 both f (Some a) (Some b) = Some (f a b)
 
--- f of each, if all are there
-abbrev pub each : {A B : Type 0} → (A → Option B) → List A → Option (List B)
-each f [] = Some []
-each f (x ∷ xs) = both (λ y ys. y ∷ ys) (f x) (each f xs)
-
--- a parenthesis is open after l; parens: one is open before it
-abbrev pub parens_after : Bool → Lexeme → Bool
-parens_after parens l = is_mark (byte "(") l || parens && not (is_mark (byte ")") l)
-
--- these tokens, cut at each comma that isn't inside parentheses (`a, b(c, d)`: `a` and `b(c, d)`); parens: one is open before them
-abbrev pub members_in : Bool → List Lexeme → List (List Lexeme)
-members_in parens [] = [] ∷ []
-members_in parens (l ∷ ls) =
-    let others = members_in (parens_after parens l) ls in
-    if is_mark (byte ",") l && not parens then [] ∷ others else onto_first l others
-
--- MEMBER, .. where f reads a MEMBER
-abbrev pub list_of : {A : Type 0} → (List Lexeme → Option A) → List Lexeme → Option (List A)
-list_of f ls = each f (members_in false ls)
-
-abbrev pub single : {A : Type 0} → (Lexeme → Option A) → List Lexeme → Option A
-single f (l ∷ []) = f l
-single f _ = None
-
 abbrev pub if_so : {A : Type 0} → Bool → Option A → Option A
 if_so true a = a
 if_so false a = None
+
+-- a, if no token follows
+abbrev pub at_end : {A : Type 0} → A → List Lexeme → Option A
+at_end a [] = Some a
+at_end a (l ∷ ls) = None
+
+-- after a member of a list: a comma and others, or the semicolon at the end
+abbrev pub after_member : {A : Type 0} → Option (List A) → Lexeme → List Lexeme → Option (List A)
+after_member others c ls = if is_mark (byte ",") c then others else if_so (is_mark (byte ";") c) (at_end [] ls)
 
 -- LENGTH: l, with its kind beside it; Some None: the record dimension
 abbrev pub length_of : Version → Lexeme → TokenKind → Option (Option ℤ)
@@ -94,10 +78,14 @@ length_of v l kinds.Number = option_map (λ (n : Numeral). Some n.value) (numera
 length_of v l _ = if_so (is_word (codes "unlimited") l || is_word (codes "UNLIMITED") l) (Some None)
 
 -- NAME = LENGTH
-abbrev pub dimension : Version → List Lexeme → Option Dimension
-dimension v (n ∷ e ∷ l ∷ []) =
+abbrev pub dimension : Version → Lexeme → Lexeme → Lexeme → Option Dimension
+dimension v n e l =
     if_so (is_mark (byte "=") e) (both (λ name len. record { name = name; len = len }) (name_of n) (length_of v l l.kind))
-dimension v _ = None
+
+-- NAME = LENGTH, .. ;
+abbrev pub dimensions : Version → List Lexeme → Option (List Dimension)
+dimensions v (n ∷ e ∷ l ∷ c ∷ ls) = both (λ d ds. d ∷ ds) (dimension v n e l) (after_member (dimensions v ls) c ls)
+dimensions v _ = None
 
 -- VALUE if `_` is taken, otherwise CONST: l, with its kind beside it
 abbrev pub constant_of : Version → Bool → Lexeme → TokenKind → Option Value
@@ -108,51 +96,34 @@ constant_of v takes_fill l _ = if_so (takes_fill && is_word (codes "_") l) (Some
 abbrev pub constant : Version → Bool → Lexeme → Option Value
 constant v takes_fill l = constant_of v takes_fill l l.kind
 
--- all but the last, which has to be this mark
-abbrev pub before_mark : ℕ → List Lexeme → Option (List Lexeme)
-before_mark b [] = None
-before_mark b (l ∷ []) = if_so (is_mark b l) (Some [])
-before_mark b (l ∷ m ∷ ls) = option_map (λ xs. l ∷ xs) (before_mark b (m ∷ ls))
+-- CONST, .. ; or VALUE, .. ;
+abbrev pub constants : Version → Bool → List Lexeme → Option (List Value)
+constants v takes_fill (l ∷ c ∷ ls) =
+    both (λ x xs. x ∷ xs) (constant v takes_fill l) (after_member (constants v takes_fill ls) c ls)
+constants v takes_fill _ = None
 
--- NAME, or NAME (NAME, ..)
-abbrev pub variable : List Lexeme → Option Variable
-variable [] = None
-variable (n ∷ []) = option_map (λ name. record { name = name; dimensions = [] }) (name_of n)
-variable (n ∷ p ∷ ls) =
-    if_so (is_mark (byte "(") p) (
-    both (λ name ds. record { name = name; dimensions = ds }) (name_of n) (
-    option_and_then (list_of (single name_of)) (before_mark (byte ")") ls)))
-
--- f of a name and values: NAME = VALUE, .. if `_` is taken, otherwise NAME = CONST, ..
+-- f of a name and values: NAME = VALUE, .. ; if `_` is taken, otherwise NAME = CONST, .. ;
 abbrev pub assigned : {A : Type 0} → Version → Bool → (Bytes → List Value → A) → List Lexeme → Option A
-assigned v takes_fill f (n ∷ e ∷ ls) = if_so (is_mark (byte "=") e) (both f (name_of n) (list_of (single (constant v takes_fill)) ls))
+assigned v takes_fill f (n ∷ e ∷ ls) = if_so (is_mark (byte "=") e) (both f (name_of n) (constants v takes_fill ls))
 assigned v takes_fill f _ = None
 
--- : NAME = CONST, ..
-abbrev pub global : Version → List Lexeme → Option Statement
-global v (c ∷ ls) = if_so (is_mark (byte ":") c) (assigned v false (Attribute None) ls)
-global v _ = None
+abbrev mutual
+  -- NAME, .. ; where (NAME, ..) may follow a NAME
+  pub variables : List Lexeme → Option (List Variable)
+  variables (n ∷ c ∷ ls) = option_and_then (λ name.
+      if is_mark (byte "(") c then in_parentheses (λ ds. record { name = name; dimensions = ds }) ls
+      else option_map (λ vs. record { name = name; dimensions = [] } ∷ vs) (after_member (variables ls) c ls)) (name_of n)
+  variables _ = None
 
--- TYPE NAME, .. where (NAME, ..) may follow a NAME
-abbrev pub typed : List Lexeme → Option Statement
-typed (ty ∷ ls) = if_so (is_word_kind ty.kind) (option_map (DeclareVariables ty) (list_of variable ls))
-typed _ = None
-
--- NAME : NAME = CONST, ..
-abbrev pub attribute : Version → List Lexeme → Option Statement
-attribute v (n ∷ c ∷ ls) =
-    if_so (is_mark (byte ":") c) (option_and_then (λ name. assigned v false (Attribute (Some name)) ls) (name_of n))
-attribute v _ = None
+  -- NAME, ..) and what follows; variable: the variable that has these dimensions
+  pub in_parentheses : (List Bytes → Variable) → List Lexeme → Option (List Variable)
+  in_parentheses variable (n ∷ p ∷ c ∷ ls) = option_and_then (λ name.
+      if is_mark (byte ",") p then in_parentheses (λ ds. variable (name ∷ ds)) (c ∷ ls)
+      else if_so (is_mark (byte ")") p) (
+      option_map (λ vs. variable (name ∷ []) ∷ vs) (after_member (variables ls) c ls))) (name_of n)
+  in_parentheses variable _ = None
 
 -- ---- statements
-
--- a statement without its `;`, by its section
-abbrev pub body : Version → Section → List Lexeme → Option Statement
-body v Globals ls = global v ls
-body v Dimensions ls = option_or (global v ls) (option_map DeclareDimensions (list_of (dimension v) ls))
-body v Variables ls = option_or (global v ls) (option_or (attribute v ls) (typed ls))
-body v Values ls = assigned v true Listed ls
-body v _ ls = None
 
 -- the order of the sections
 abbrev pub section_number : Section → ℕ
@@ -167,19 +138,38 @@ section_number Ended = 6
 abbrev pub is_later : Section → Section → Bool
 is_later before s = nat_lt (section_number before) (section_number s)
 
--- the mark of a section that comes after this one
-abbrev pub section_mark : Section → List Lexeme → Option Statement
-section_mark before (l ∷ c ∷ []) =
+-- the mark of a section that comes after this one: l is its word
+abbrev pub section_mark : Section → Lexeme → List Lexeme → Option Statement
+section_mark before l (c ∷ []) =
     if_so (is_mark (byte ":") c) (option_and_then (λ s. if_so (is_later before s) (Some (Enter s))) (section_of l))
-section_mark before _ = None
+section_mark before l _ = None
+
+-- NAME : NAME = CONST, .. ; or, if the word l that comes first is no NAME, a section mark
+abbrev pub attribute_or_mark : Version → Lexeme → Option Bytes → List Lexeme → Option Statement
+attribute_or_mark v l (Some name) (c ∷ ls) = assigned v false (Attribute (Some name)) ls
+attribute_or_mark v l _ ls = section_mark Variables l ls
+
+-- Before the data, a statement that begins with l, which is neither `}` nor `:`. It is a section mark; or NAME = LENGTH, .. ; or
+-- NAME : NAME = CONST, .. ; or TYPE NAME, .. ; where (NAME, ..) may follow a NAME but the TYPE.
+abbrev pub other_statement : Version → Section → Lexeme → List Lexeme → Option Statement
+other_statement v Globals l ls = section_mark Globals l ls
+other_statement v Dimensions l ls =
+    if is_some (section_of l) then section_mark Dimensions l ls else option_map DeclareDimensions (dimensions v (l ∷ ls))
+other_statement v Variables l (c ∷ ls) =
+    if_so (is_word_kind l.kind) (
+    if is_mark (byte ":") c then attribute_or_mark v l (name_of l) (c ∷ ls)
+    else option_map (DeclareVariables l) (variables (c ∷ ls)))
+other_statement v _ l ls = None
 
 -- What a piece says, if it has a shape of its section. From Globals to Values it is `}`, the mark of a later section, or a statement with
 -- its `;`.
 unfoldable pub shape : Version → Section → List Lexeme → Option Statement
-shape v Unopened ls = single (λ l. if_so (is_opening_kind l.kind) (Some Open)) ls
-shape v Closed ls = single (λ l. if_so (is_end_kind l.kind) (Some End)) ls
-shape v Ended ls = None
-shape v section ls =
-    option_or (single (λ l. if_so (is_mark (byte "}") l) (Some Close)) ls) (
-    option_or (section_mark section ls) (
-    option_and_then (body v section) (before_mark (byte ";") ls)))
+shape v section [] = None
+shape v Unopened (l ∷ ls) = if_so (is_opening_kind l.kind) (at_end Open ls)
+shape v Closed (l ∷ ls) = if_so (is_end_kind l.kind) (at_end End ls)
+shape v Ended (l ∷ ls) = None
+shape v Values (l ∷ ls) = if is_mark (byte "}") l then at_end Close ls else assigned v true Listed (l ∷ ls)
+shape v section (l ∷ ls) =
+    if is_mark (byte "}") l then at_end Close ls
+    else if is_mark (byte ":") l then assigned v false (Attribute None) ls
+    else other_statement v section l ls

@@ -1,5 +1,11 @@
 //! The faults of a CDL text.
 
+ghost use Rattle.std.specs.Prelude.{◌≡◌};
+ghost use Rattle.cdl_statements.specs.FaultWords.{kind_words};
+
+use std::error::Error;
+use std::fmt;
+
 /// What is wrong with a CDL text, or with the call that reads it.
 #[derive(Clone, Copy, Debug, PartialEq, Eq)]
 pub enum CdlKind {
@@ -53,3 +59,55 @@ pub struct CdlFault {
     pub line: u64,
     pub kind: CdlKind,
 }
+
+impl CdlKind {
+    /// Returns the words for the kind of fault, such as `bad token`.
+    #[tactic(auto, unfolding(crate::specs::FaultWords::kind_words))]
+    pub fn words(self) -> &'static str
+        ensures { result.now ≡ kind_words self }
+    {
+        match self {
+            CdlKind::OutOfMemory => "out of memory",
+            CdlKind::BadToken => "bad token",
+            CdlKind::BadNumber => "bad number",
+            CdlKind::Syntax => "syntax",
+            CdlKind::BadName => "bad name",
+            CdlKind::DuplicateName => "duplicate name",
+            CdlKind::UnknownDimension => "unknown dimension",
+            CdlKind::UnknownVariable => "unknown variable",
+            CdlKind::FloatingType => "floating type",
+            CdlKind::UnknownType => "unknown type",
+            CdlKind::ZeroDimension => "zero dimension",
+            CdlKind::TwoRecordDims => "two record dimensions",
+            CdlKind::BadShape => "bad shape",
+            CdlKind::MixedConstants => "mixed constants",
+            CdlKind::NumberRange => "number out of range",
+            CdlKind::WrongKind => "wrong kind of value",
+            CdlKind::TooManyValues => "too many values",
+            CdlKind::StringTooLong => "string too long",
+            CdlKind::DuplicateData => "duplicate data",
+            CdlKind::TooLarge => "too large",
+        }
+    }
+}
+
+impl fmt::Display for CdlKind {
+    /// Writes the [`words`](CdlKind::words) for the kind of fault.
+    fn fmt<W: fmt::Write>(&self, f: &mut fmt::Formatter<W>) -> fmt::Result {
+        f.write_str(self.words())
+    }
+}
+
+impl Error for CdlKind {}
+
+impl fmt::Display for CdlFault {
+    /// Writes `line N: ` and the words for the kind of fault. Of `OutOfMemory`, which belongs to no line, it writes the words alone.
+    fn fmt<W: fmt::Write>(&self, f: &mut fmt::Formatter<W>) -> fmt::Result {
+        match self.kind {
+            CdlKind::OutOfMemory => self.kind.fmt(f),
+            kind => write!(f, "line {}: {kind}", self.line),
+        }
+    }
+}
+
+impl Error for CdlFault {}

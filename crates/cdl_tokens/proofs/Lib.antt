@@ -1,6 +1,7 @@
 pub mod Words
 pub mod Steps
 pub mod Strings
+pub mod StringContents
 pub mod Scans
 pub mod PlainTokens
 pub mod Sizes

@@ -1,6 +1,6 @@
 -- The names that proofs of this crate cite from elsewhere, passed on from one place.
-pub use Rattle.cdl_tokens.specs.Bytes.{may_begin_word, digit_value, goes_on_number, goes_on_word, is_blank, is_digit, is_escape, is_mark_byte, is_sign, number_in}
-pub use Rattle.cdl_tokens.specs.Escapes.{inner, string_value, unescape}
+pub use Rattle.cdl_tokens.specs.Bytes.{may_begin_word, digit_value, goes_on_number, goes_on_word, is_blank, is_digit, is_escape, is_hex, is_mark_byte, is_octal, is_sign, number_in}
+pub use Rattle.cdl_tokens.specs.Escapes.{inner, number_escape, plain_escape, string_value, unescape}
 unfoldable pub use Rattle.cdl_tokens.specs.Escapes.{character, unescape_at, word_value}
 pub use Rattle.cdl_tokens.specs.Numerals.{with_sign}
 unfoldable pub use Rattle.cdl_tokens.specs.Numerals.{parts, type_of_suffix}

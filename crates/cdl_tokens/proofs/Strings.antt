@@ -1,9 +1,8 @@
 -- A string, one character on.
-use Rattle.std.proofs.Common.{◌≡◌, ℕ, suc, ◌+◌, ◌-◌, ◌<◌, ◌≤◌, true, false, List, [], ◌∷◌, ◌++◌, length, get_or, take, drop, sym, ◌∙◌, ap, refl, arith, ◌==◌, map, Option, Some, is_some, unwrap_or, rules}
-use Rattle.cdl_tokens.proofs.Prelude.{list_all, prefix_len, append-nil, at_drop_more, at_drop_all, drop-drop, take_all, unescape, unescape_at, character, string_value, is_unescaped}
+use Rattle.std.proofs.Common.{◌≡◌, ℕ, suc, ◌-◌, ◌<◌, ◌≤◌, true, false, List, [], ◌∷◌, ◌++◌, length, take, drop, sym, ◌∙◌, ap, refl, arith, ◌==◌, map, Option, Some, is_some, unwrap_or, rules}
+use Rattle.cdl_tokens.proofs.Prelude.{list_all, prefix_len, plain_escape, append-nil, at_drop_all, take_all, unescape, unescape_at, character, string_value, is_unescaped}
 use Rattle.cdl_tokens.specs.declared.scan.Character.{Character}
 use Rattle.cdl_tokens.proofs.Steps.{drop_some, drop_one_more, take_one_more}
-use Rattle.cdl_tokens.specs.Escapes.{plain_escape}
 
 abbrev pub or_zero : Option ℕ → ℕ
 or_zero b = unwrap_or b 0
@@ -17,13 +16,13 @@ unfolding unescape_at
 unescape_skip (suc more) (b ∷ bs) = unescape_skip more bs
 unescape_skip _ _ = refl
 
-unescape_at_start : (b : ℕ) (bs : List ℕ) (c : Character) → c ≡ character (b ∷ bs) → 0 < c.len → unescape (b ∷ bs) ≡ c.value ∷ unescape (drop c.len (b ∷ bs))
+pub unescape_at_start : (b : ℕ) (bs : List ℕ) (c : Character) → c ≡ character (b ∷ bs) → 0 < c.len → unescape (b ∷ bs) ≡ c.value ∷ unescape (drop c.len (b ∷ bs))
 unfolding unescape_at
 unescape_at_start b bs c is some = rw (← is) (rw (drop_some c.len b bs some) (ap (λ xs. c.value ∷ xs) (unescape_skip (c.len - 1) bs)))
 
-pub unescape_more : (text : List ℕ) (at : ℕ) (c : Character) → at < length text → c ≡ character (drop at text) → 0 < c.len → unescape (drop at text) ≡ c.value ∷ unescape (drop (at + c.len) text)
-unescape_more text at c h is some =
-    grind (arith, at_drop_more (λ xs. xs) text at 0 h, unescape_at_start (get_or text at 0) (drop (at + 1) text) c, drop-drop c.len at text)
+pub unescape_first : (bs : List ℕ) (c : Character) → 0 < length bs → c ≡ character bs → 0 < c.len → unescape bs ≡ c.value ∷ unescape (drop c.len bs)
+unescape_first [] c h is some = absurd (let e : 0 < 0 = h in omega (arith, e))
+unescape_first (b ∷ bs) c h is some = unescape_at_start b bs c is some
 
 pub unescape_past : (text : List ℕ) (at : ℕ) → length text ≤ at → unescape (drop at text) ≡ []
 unfolding unescape_at
@@ -35,7 +34,7 @@ character_unescaped : (b : ℕ) (bs : List ℕ) → (b == 0x5c) ≡ false → ch
 unfolding character
 character_unescaped b bs off = rw (off) refl
 
-unescape_unescaped : (b : ℕ) (bs : List ℕ) → (b == 0x5c) ≡ false → unescape (b ∷ bs) ≡ Some b ∷ unescape bs
+pub unescape_unescaped : (b : ℕ) (bs : List ℕ) → (b == 0x5c) ≡ false → unescape (b ∷ bs) ≡ Some b ∷ unescape bs
 unescape_unescaped b bs off = unescape_at_start b bs (record { value = Some b; len = 1 }) (sym (character_unescaped b bs off)) (omega arith)
 
 unescape_after : (bs : List ℕ) → unescape bs ≡ bytes (take (prefix_len is_unescaped bs) bs) ++ unescape (drop (prefix_len is_unescaped bs) bs)
@@ -55,9 +54,6 @@ plain_unescaped bs all =
 string_of : (bs : List ℕ) (os : List (Option ℕ)) → list_all is_some (bytes bs ++ os) ≡ list_all is_some os
 string_of [] os = refl
 string_of (b ∷ bs) os = string_of bs os
-
-pub string_run : (bs : List ℕ) (n : ℕ) → n ≡ prefix_len is_unescaped bs → list_all is_some (unescape bs) ≡ list_all is_some (unescape (drop n bs))
-string_run bs n is = ap (list_all is_some) (unescape_run bs n is) ∙ string_of (take n bs) (unescape (drop n bs))
 
 pub plain_string : (bs : List ℕ) → prefix_len is_unescaped bs ≡ length bs → list_all is_some (unescape bs) ≡ true
 plain_string bs all = ap (list_all is_some) (plain_unescaped bs all ∙ sym (append-nil (bytes bs))) ∙ string_of bs []

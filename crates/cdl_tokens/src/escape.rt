@@ -1,9 +1,9 @@
 //! The escapes of strings.
 
-ghost use Rattle.std.specs.Prelude.{◌≡◌, ◌≤◌, ◌<◌, is_some, length};
-ghost use Rattle.std.specs.List.{list_all, prefix_len};
+ghost use Rattle.std.specs.Prelude.{◌≡◌, ◌≤◌, ◌<◌, length};
+ghost use Rattle.std.specs.List.{prefix_len};
 ghost use Rattle.cdl_tokens.specs.Bytes.{number_in};
-ghost use Rattle.cdl_tokens.specs.Escapes.{up_to_255, character, escaped_character, number_escape, plain_escape, unescape};
+ghost use Rattle.cdl_tokens.specs.Escapes.{up_to_255, character, escaped_character, number_escape, plain_escape};
 ghost use Rattle.cdl_tokens.specs.code.Scanners.{is_unescaped};
 
 use crate::bytes::{byte_at, first_bytes, is_octal};
@@ -66,6 +66,7 @@ fn plain_escape(b: u8) -> u8
 /// Returns the escape that a backslash begins; `bytes` are those after the backslash. It takes up to three octal digits, or `x` and up to
 /// two hexadecimal digits, or one other byte. The length counts the backslash. The value is `None` if `x` has no digit, or if octal digits
 /// say more than 255. If `bytes` is empty, the value is 0 and the length is 2, as if a 0 byte came next.
+#[inline(always)]
 fn escape(bytes: &[u8]) -> Character
     ensures escape { result ≡ escaped_character bytes.now }
     ensures some { 0 < result.len }
@@ -90,6 +91,7 @@ fn escape(bytes: &[u8]) -> Character
 /// Returns the first character of these bytes: an escape, or a byte that stands for itself. If the bytes are a backslash alone, the length
 /// of the character is 2, more than there are bytes.
 #[tactic(auto, unfolding(crate::specs::Escapes::character))]
+#[inline(always)]
 pub fn character(bytes: &[u8]) -> Character
     requires { 0 < length bytes.now }
     ensures character { result ≡ character bytes.now }
@@ -112,25 +114,4 @@ pub fn len_before_escape(bytes: &[u8]) -> usize
     ensures within { result ≤ length bytes.now }
 {
     len_before_any(bytes, b'\\', b'\\', b'\\')
-}
-
-/// Returns true if each character in `raw` stands for a byte. `raw` is what a string has between its quotes.
-pub fn has_good_escapes(raw: &[u8]) -> bool
-    ensures { result ≡ list_all is_some (unescape raw.now) }
-{
-    let mut at = len_before_escape(raw);
-    while at < raw.len() {
-        let (_, escape) = raw.split_at(at);
-        let found = character(escape);
-        if found.value.is_none() {
-            return false;
-        }
-        if found.len > escape.len() {
-            return true;
-        }
-        at += found.len;
-        let (_, rest) = raw.split_at(at);
-        at += len_before_escape(rest);
-    }
-    true
 }

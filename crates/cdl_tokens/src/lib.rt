@@ -7,7 +7,12 @@
 //! let mut scanner = Scanner::new(text);
 //! let mut token = scanner.token();
 //! while !token.kind.is_end() {
-//!     println!(rt; "line {}: {:?}, {} bytes", token.line, token.kind, token.bytes(text).len())?;
+//!     println!(rt;
+//!         "line {}: {:?}, {} bytes",
+//!         token.line,
+//!         token.kind,
+//!         token.bytes(text).len()
+//!     )?;
 //!     token = scanner.token();
 //! }
 //! ```
@@ -22,6 +27,7 @@ mod plain_string;
 mod scan;
 mod scanner;
 mod search;
+mod string;
 mod token;
 
 pub use bytes::{byte_at, first_bytes, is_escape};

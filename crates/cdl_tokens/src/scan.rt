@@ -10,8 +10,8 @@ use crate::bytes::{
     begins_word, byte_at, goes_on_number, goes_on_word, is_blank, is_digit, is_escape, is_mark,
     is_sign,
 };
-use crate::escape::has_good_escapes;
 use crate::search::len_before_any;
+use crate::string::string_contents;
 use crate::token::TokenKind;
 
 /// The length of the word that opens a text, `netcdf`.
@@ -108,13 +108,13 @@ fn scan_text(bytes: &[u8]) -> Scanned
     ensures scan { result ≡ scan_text bytes.now (len_until 0x22 bytes.now) }
     ensures within { result.len ≤ length bytes.now + 1 }
 {
-    let n = len_until(bytes, b'"');
-    if n == bytes.len() {
-        token(TokenKind::Bad, 1 + n)
-    } else if has_good_escapes(&bytes[..n]) {
-        token(TokenKind::Text, n + 2)
+    let found = string_contents(bytes);
+    if found.len == bytes.len() {
+        token(TokenKind::Bad, 1 + found.len)
+    } else if found.is_good {
+        token(TokenKind::Text, found.len + 2)
     } else {
-        token(TokenKind::Bad, n + 2)
+        token(TokenKind::Bad, found.len + 2)
     }
 }
 
@@ -212,7 +212,8 @@ fn is_escaping(bytes: &[u8], at: usize) -> bool
 
 /// Returns how many bytes come before the first backslash or `close`. If there is none, returns the number of all bytes.
 #[tactic(auto, using(crate::proofs::Searches::before_ordinary))]
-fn ordinary_len(bytes: &[u8], close: u8) -> usize
+#[inline(always)]
+pub fn ordinary_len(bytes: &[u8], close: u8) -> usize
     ensures len { result ≡ prefix_len (is_ordinary close) bytes.now }
     ensures within { result ≤ length bytes.now }
 {

@@ -38,6 +38,7 @@ pub struct ListedToken {
 #[derive(Clone, Copy)]
 pub struct ListedNumber {
     pub numeral: Numeral,
+    /// The token of the number. It is for contracts: no caller reads it.
     pub number: Token,
     pub comma: Token,
 }

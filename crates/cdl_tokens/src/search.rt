@@ -8,15 +8,19 @@ ghost use Rattle.cdl_tokens.specs.code.Scanners.{is_none_of};
 const BLOCK: usize = 64;
 
 /// The number of bytes that [`len_before_any`] tests one by one before it tests blocks: escapes often follow one another.
-const NEAR: usize = 8;
+const NEAR: usize = 16;
 
 /// Returns how many bytes come before the first one that equals the argument `a`, `b` or `c`. If there is none, returns the number of all
-/// bytes.
+/// bytes. It is inlined, so that arguments that are the same byte are tested once, and the tests of the first [`NEAR`] bytes need no loop.
+#[inline(always)]
 pub fn len_before_any(bytes: &[u8], a: u8, b: u8, c: u8) -> usize
     ensures len { result ≡ prefix_len (is_none_of a b c) bytes.now }
     ensures within { result ≤ length bytes.now }
 {
-    let (near, far) = bytes.split_at(bytes.len().min(NEAR));
+    if bytes.len() < NEAR {
+        return near_len(bytes, a, b, c);
+    }
+    let (near, far) = bytes.split_at(NEAR);
     let n = near_len(near, a, b, c);
     if n < near.len() {
         n
@@ -48,6 +52,7 @@ fn far_len(bytes: &[u8], a: u8, b: u8, c: u8) -> usize
 /// Returns how many bytes come before the first one that equals `a`, `b` or `c`, or the number of all bytes if there is none. It tests one
 /// byte after the other, which suits a match that is near: [`len_before_any`] calls it for the first [`NEAR`] bytes, and [`far_len`] if a
 /// match or the end is less than [`BLOCK`] bytes away.
+#[inline(always)]
 fn near_len(bytes: &[u8], a: u8, b: u8, c: u8) -> usize
     ensures len { result ≡ prefix_len (is_none_of a b c) bytes.now }
     ensures within { result ≤ length bytes.now }

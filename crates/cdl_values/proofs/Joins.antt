@@ -3,7 +3,7 @@ use Rattle.std.proofs.Common.{◌≡◌, ℕ, suc, ◌≤◌, arith, Bool, true,
 use Rattle.cdl_values.proofs.Prelude.{flat_map, position_from, bytes_eq, length-drop, bytes_of_number, Dim, Version, values, completes, next, word_value, Lexeme, is_mark, Listed, first_bad, shape, CdlKind, Syntax, UnknownVariable, fine_on, State, Draft, Listing, capacity_of, change_named, change_variable, values_in, with_values, act, data_read, bytes_assigned, target_of, target_at, unless_given, packed_for, unless_bad, AllSuit, names_of, HasListed, Means, begins_brace, ReadsStatement, result_array, GivesRead, ReadError, as_bytes, most, Target}
 use Rattle.cdl_statements.specs.declared.due.Due.TheVariants as dues
 use Rattle.cdl_statements.specs.declared.section.Section.TheVariants.{Values}
-use Rattle.cdl_statements.proofs.Shaping.{data_is}
+use Rattle.cdl_statements.proofs.Sections.{data_is}
 use Rattle.cdl_meaning.proofs.Readings.{checked, shaped}
 use Rattle.cdl_meaning.specs.Meaning.{piece_read}
 use Rattle.cdl_meaning.specs.State.{◌>>=◌}
@@ -68,7 +68,7 @@ said_is v l ls good off = grind (arith, data_is v l ls good, values v (drop 1 ls
 
 pub data_means : (v : Version) (s : State) (ts : List Target) (ws : List Lexeme) → s.section ≡ Values → AllSuit s.dims ts s.drafts → begins_brace ws ≡ false → length ws ≤ most → Means v s ws (data_read v (names_of s.drafts) ts ws)
 unfolding piece_read data_read completes shape act
-data_means v s ts [] section suit off few = rw (section) refl
+data_means v s ts [] section suit off few = refl
 data_means v s ts (l ∷ ls) section suit off few = by (first_bad v (l ∷ ls)) refl
   where
     ws : List Lexeme

@@ -1,7 +1,8 @@
 -- The names that proofs of this crate cite from elsewhere, passed on from one place.
 pub use Rattle.cdl_meaning.specs.State.{Draft, Listing, State, add_characters, add_constant, add_number, add_row, change_named, filled, in_turn, listed_by, same_type, type_said, unless, values_in, when, with_values}
 unfoldable pub use Rattle.cdl_meaning.specs.State.{act, change_variable, capacity_of, has_number, listing_of}
-pub use Rattle.cdl_statements.proofs.Listing.{fine_on, only_completes, past_mark}
+pub use Rattle.cdl_statements.proofs.Dues.{fine_on, only_completes}
+pub use Rattle.cdl_statements.proofs.Listing.{past_mark}
 pub use Rattle.cdl_statements.proofs.NumberLists.{at_same_comma, same_after, same_words}
 pub use Rattle.cdl_statements.proofs.ShapeChecks.{ending, first_word, going, good_end, good_on}
 pub use Rattle.cdl_statements.specs.Lexemes.{Lexeme, is_mark, is_mark_kind, is_word_kind, lexeme}
@@ -18,7 +19,7 @@ pub use Rattle.cdl_statements.specs.code.Views.{lexeme_of, lexeme_with}
 pub use Rattle.cdl_statements.specs.declared.{cutter.Cutter.Cutter, due.Due.Due, fault.CdlKind.CdlKind}
 pub use Rattle.cdl_statements.specs.declared.due.Due.TheVariants.{DataName, Equals, Separator}
 pub use Rattle.cdl_statements.specs.declared.fault.CdlKind.TheVariants.{BadName, BadNumber, DuplicateData, NumberRange, StringTooLong, Syntax, TooManyValues, UnknownVariable, WrongKind}
-pub use Rattle.cdl_tokens.proofs.Strings.{or_zero, stands_run, unescape_more, unescape_past, plain_small}
+pub use Rattle.cdl_tokens.proofs.Strings.{or_zero, stands_run, unescape_first, unescape_past, plain_small}
 pub use Rattle.cdl_tokens.specs.Bytes.{is_escape, is_hex, is_octal, number_in}
 pub use Rattle.cdl_tokens.specs.Escapes.{up_to_255, escaped_character, inner, number_escape, plain_escape, string_value}
 unfoldable pub use Rattle.cdl_tokens.specs.Escapes.{character, unescape_at, word_value}

@@ -3,10 +3,10 @@
 //! What a statement means is defined in `cdl_meaning`. This crate is internal: `cdl_parse` alone calls it.
 //!
 //! ```
-//! // `equals` is a cutter at the `=` of an attribute
-//! let (first, _) = equals.advanced();
+//! // the next token of `first` is the first constant of an attribute
 //! let ty = type_said(first.version(), first.lexeme());
 //! let bytes = read_constants(alloc, ty, first)?;
+//! Ok(bytes)
 //! ```
 #![tactic(auto)]
 
@@ -33,7 +33,7 @@ pub use fill::Fill;
 pub use filling::Filling;
 pub use name::{name_of_word, read_name};
 pub use name_index::NameIndex;
-pub use number::{number_or_zero, put_number};
+pub use number::{number_or_zero, pack_number};
 pub use read_error::ReadError;
 pub use targets::targets_of;
 pub use variable_names::VariableNames;

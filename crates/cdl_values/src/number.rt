@@ -30,22 +30,17 @@ pub fn number_or_zero(version: Version, bytes: &[u8]) -> Numeral
 /// Appends to `array` the bytes of a number, big-endian, in the width of `ty`. The type of the number's suffix is ignored. Errs with
 /// `NumberRange` if the number is out of the range of `ty`, and with `OutOfMemory` if an allocation failed. Nothing is appended in either
 /// case.
-#[inline(always)]
+#[inline(never)]
 pub fn put_numeral(array: &mut ListedArray, ty: NcType, n: Numeral) -> Result<(), ReadError>
     ensures adds { Adds array.old array.new result (held_bytes ty n.minus n.magnitude) }
     ensures refuses { RefusesValue result (held_bytes ty n.minus n.magnitude) }
 {
-    match n.magnitude {
-        Some(magnitude) if is_in_range(ty, n.minus, magnitude) => {
-            Ok(put_number(array, ty, signed(n.minus, magnitude))?)
-        }
-        _ => Err(ReadError::Fault(CdlKind::NumberRange)),
-    }
+    put_numeral_inline(array, ty, n)
 }
 
 /// Appends to `array` the bytes of a number, big-endian, in the width of `ty`. Errs with `NumberRange` if the number is out of the range of
 /// `ty`, and with `OutOfMemory` if an allocation failed. Nothing is appended in either case. It is [`put_numeral`] for a loop over numbers
-/// of one type: [`put_number_inline`] is inlined into it.
+/// of one type, into which it is inlined.
 #[inline(always)]
 pub fn put_numeral_inline(array: &mut ListedArray, ty: NcType, n: Numeral) -> Result<(), ReadError>
     ensures adds { Adds array.old array.new result (held_bytes ty n.minus n.magnitude) }
@@ -53,7 +48,7 @@ pub fn put_numeral_inline(array: &mut ListedArray, ty: NcType, n: Numeral) -> Re
 {
     match n.magnitude {
         Some(magnitude) if is_in_range(ty, n.minus, magnitude) => {
-            Ok(put_number_inline(array, ty, signed(n.minus, magnitude))?)
+            Ok(pack_number_inline(array, ty, signed(n.minus, magnitude))?)
         }
         Some(_) | None => Err(ReadError::Fault(CdlKind::NumberRange)),
     }
@@ -62,17 +57,17 @@ pub fn put_numeral_inline(array: &mut ListedArray, ty: NcType, n: Numeral) -> Re
 /// Appends to `array` the number, big-endian, in the width of `ty`. Needs a number in the range of `ty`: unlike [`put_numeral`], it doesn't
 /// check the range. Errs only if an allocation failed; nothing is appended then.
 #[inline(never)]
-pub fn put_number(array: &mut ListedArray, ty: NcType, number: i128) -> Result<(), AllocError>
+pub fn pack_number(array: &mut ListedArray, ty: NcType, number: i128) -> Result<(), AllocError>
     requires { IsInRange ty number }
     ensures { OnOk result (array.new ≡ array.old ++ bytes_of_number ty number) }
 {
-    put_number_inline(array, ty, number)
+    pack_number_inline(array, ty, number)
 }
 
-/// Appends to `array` the number, big-endian, in the width of `ty`. Unlike [`put_number`], it is inlined into its caller. Needs a number in
+/// Appends to `array` the number, big-endian, in the width of `ty`. Unlike [`pack_number`], it is inlined into its caller. Needs a number in
 /// the range of `ty`. Errs only if an allocation failed; nothing is appended then.
 #[inline(always)]
-fn put_number_inline(array: &mut ListedArray, ty: NcType, number: i128) -> Result<(), AllocError>
+fn pack_number_inline(array: &mut ListedArray, ty: NcType, number: i128) -> Result<(), AllocError>
     requires { IsInRange ty number }
     ensures { OnOk result (array.new ≡ array.old ++ bytes_of_number ty number) }
 {

@@ -5,6 +5,8 @@ ghost use Rattle.cdl_values.specs.declared.read_error.ReadError.TheVariants.{Fau
 
 use cdl_statements::CdlKind;
 use std::alloc::AllocError;
+use std::error::Error;
+use std::fmt;
 
 /// Why a call that reads a statement gives up.
 #[derive(Clone, Copy, Debug, PartialEq, Eq)]
@@ -14,6 +16,18 @@ pub enum ReadError {
     /// The statement has this fault.
     Fault(CdlKind),
 }
+
+impl fmt::Display for ReadError {
+    /// Writes `out of memory`, or the words for the fault's kind.
+    fn fmt<W: fmt::Write>(&self, f: &mut fmt::Formatter<W>) -> fmt::Result {
+        match self {
+            ReadError::OutOfMemory => f.write_str(CdlKind::OutOfMemory.words()),
+            ReadError::Fault(kind) => kind.fmt(f),
+        }
+    }
+}
+
+impl Error for ReadError {}
 
 impl From<AllocError> for ReadError {
     ghost from_gives = { λ _ e. e ≡ OutOfMemory };

@@ -92,19 +92,21 @@ pub fn put_plain_row(
 fn put_string(array: &mut ListedArray, raw: &[u8]) -> Result<(), AllocError>
     ensures { OnOk result (array.new ≡ array.old ++ char_bytes (string_value raw.now)) }
 {
-    let mut at = put_unescaped(array, raw)?;
-    while at < raw.len() {
-        let (_, escape) = raw.split_at(at);
+    let mut rest = raw;
+    'escapes: loop {
+        let n = put_unescaped(array, rest)?;
+        let (_, escape) = rest.split_at(n);
+        if escape.is_empty() {
+            return Ok(());
+        }
         let found = character(escape);
         array.add_byte(found.value.unwrap_or(0))?;
         if found.len > escape.len() {
             return Ok(());
         }
-        at += found.len;
-        let (_, rest) = raw.split_at(at);
-        at += put_unescaped(array, rest)?;
+        let (_, after) = escape.split_at(found.len);
+        rest = after;
     }
-    Ok(())
 }
 
 /// Appends to `array` the bytes before the first backslash, or all if there is none, and returns how many it appended. Errs only if an

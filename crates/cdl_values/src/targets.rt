@@ -97,13 +97,13 @@ fn place_count(dims: &[Dim], dimids: &[u64]) -> u64
 {
     let mut count = 1;
     for id in dimids {
-        count = capped_product(count, dim_len(dims, *id));
+        count = saturating_product(count, dim_len(dims, *id));
     }
     count
 }
 
 /// Returns the product of `count` and `len`, or `u64::MAX` if the product is greater.
-fn capped_product(count: u64, len: u64) -> u64
+fn saturating_product(count: u64, len: u64) -> u64
     ensures { result ≡ min (count * len) most }
 {
     count.saturating_mul(len)

@@ -13,7 +13,7 @@ ghost use Rattle.cdl_values.specs.code.TokenValues.{at, number_token_bytes, toke
 use crate::capacity::Capacity;
 use crate::fill::Fill;
 use crate::filling::Filling;
-use crate::number::{number_or_zero, put_number, put_numeral};
+use crate::number::{number_or_zero, pack_number, put_numeral};
 use crate::read_error::ReadError;
 use crate::string::{put_joined_string, put_row};
 use cdl_statements::{CdlKind, Due, Lexeme};
@@ -215,6 +215,6 @@ fn put_number_or_fill(
         TokenKind::Text => Err(ReadError::Fault(CdlKind::WrongKind)),
         _ if full => Err(ReadError::Fault(CdlKind::TooManyValues)),
         TokenKind::Number => put_numeral(array, fill.ty, number_or_zero(version, token.bytes)),
-        _ => Ok(put_number(array, fill.ty, fill.value)?),
+        _ => Ok(pack_number(array, fill.ty, fill.value)?),
     }
 }

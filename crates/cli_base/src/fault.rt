@@ -9,7 +9,8 @@ ghost use Rattle.cli_base.specs.declared.fault.OptFault.TheVariants as opt;
 
 use clap::error::ErrorKind;
 use std::alloc::AllocError;
-use std::io;
+use std::error::Error;
+use std::{fmt, io};
 
 /// Why the command line could not be read.
 #[derive(Clone, Copy, Debug, PartialEq, Eq)]
@@ -19,6 +20,18 @@ pub enum OptFault {
     /// The words are no command line that the program takes, or one of them isn't UTF-8.
     Usage,
 }
+
+impl fmt::Display for OptFault {
+    /// Writes `out of memory`, or `bad command line`. The programs' fault lines have the usage line in place of the latter.
+    fn fmt<W: fmt::Write>(&self, f: &mut fmt::Formatter<W>) -> fmt::Result {
+        match self {
+            OptFault::OutOfMemory => f.write_str("out of memory"),
+            OptFault::Usage => f.write_str("bad command line"),
+        }
+    }
+}
+
+impl Error for OptFault {}
 
 impl From<AllocError> for OptFault {
     ghost from_gives = { λ _ e. e ≡ opt.OutOfMemory };

@@ -9,6 +9,7 @@
 //! let matches = command.try_get_matches_from(words)?;
 //! let header_only = is_given(&matches, "header");
 //! let width = value_of(&matches, "width");
+//! Ok(header_only || width.is_some())
 //! ```
 //!
 //! This crate is internal: `ncdump`, `ncgen` and their programs alone call it.

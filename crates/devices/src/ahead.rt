@@ -1,6 +1,6 @@
 //! Reading ahead.
 
-ghost use Rattle.std.specs.Prelude.{◌≡◌, ◌<◌, ◌≤◌, ◌⊎◌, ◌+◌, IfOk, OnErr, true, length};
+ghost use Rattle.std.specs.Prelude.{◌≡◌, ◌<◌, ◌≤◌, ◌⊎◌, ◌+◌, ◌*◌, IfOk, OnErr, true, length};
 ghost use Rattle.devices.specs.code.SourceReads.{ReadSome, AreFrom, CantCount, CanCount, unread};
 
 use crate::{Source, SourceFailed};
@@ -34,7 +34,8 @@ pub struct ReadAhead<S: Source> {
 }
 
 impl<S: Source> ReadAhead<S> {
-    ghost use Rattle.devices.specs.code.Ahead.{Answers, ReadsAhead, SameCounts, SourceFails, bytes_of, taken, view_of};
+    ghost use Rattle.devices.specs.code.Ahead.{Answers, IsFar, IsInStretch, ReadNoMore, ReadsAhead, SameCounts, SourceFails};
+    ghost use Rattle.devices.specs.code.Ahead.{bytes_of, taken, view_of};
 
     /// Creates a source of the bytes of `source`, without a stretch. Its own counts, of bytes and of failures, start at 0.
     pub fn new(source: S) -> ReadAhead<S>
@@ -56,7 +57,7 @@ impl<S: Source> ReadAhead<S> {
         ensures within { result ≤ length into.old }
         ensures held { result ≤ self.now.len }
         ensures bytes { S.is_transparent ≡ true → AreFrom at result (bytes_of self.now) into.new }
-        ensures some { 0 < length into.old → at ≡ self.now.at → 0 < self.now.len → 0 < result }
+        ensures some { 0 < length into.old → IsInStretch self.now at → 0 < result }
     {
         if at < self.at || self.len as u64 <= at - self.at {
             return 0;
@@ -72,6 +73,7 @@ impl<S: Source> ReadAhead<S> {
     fn next_stretch_len(&self, at: u64) -> usize
         ensures some { 0 < result }
         ensures within { result ≤ 65536 }
+        ensures far { IsFar self.now at → result ≤ 4096 }
     {
         let is_near = self.at <= at && at - self.at < 2 * self.len as u64;
         if is_near {
@@ -90,6 +92,8 @@ impl<S: Source> ReadAhead<S> {
         ensures place { self.new.at ≡ at }
         ensures some { S.is_transparent ≡ true → IfOk result (λ _. 0 < self.new.len) }
         ensures held { IfOk result (λ _. taken self.old + self.new.len ≡ taken self.new) }
+        ensures no_more { taken self.new ≤ taken self.old + 65536 }
+        ensures far { IsFar self.old at → taken self.new ≤ taken self.old + 4096 }
         ensures blame { OnErr result (SourceFails self.old self.new) }
     {
         let wanted = self.next_stretch_len(at);
@@ -110,6 +114,8 @@ impl<S: Source> ReadAhead<S> {
         ensures counts { SameCounts self.old self.new }
         ensures answers { IfOk result (Answers S.is_transparent (bytes_of self.old) at into.new) }
         ensures given { IfOk result (λ n. taken self.old + n ≤ taken self.new) }
+        ensures no_more { ReadNoMore self.old self.new into.old 65536 }
+        ensures far { IsFar self.old at → ReadNoMore self.old self.new into.old 4096 }
         ensures blame { OnErr result (SourceFails self.old self.new) }
     {
         if MOST_AHEAD <= into.len() {
@@ -130,6 +136,8 @@ impl<S: Source> ReadAhead<S> {
         requires counted { CanCount self.old.handed into.old }
         ensures read { ReadsAhead self.old self.new at into.new result }
         ensures given { IfOk result (λ n. taken self.old + n ≤ taken self.new) }
+        ensures no_more { ReadNoMore self.old self.new into.old 65536 }
+        ensures far { IsFar self.old at → ReadNoMore self.old self.new into.old 4096 }
         ensures blame { OnErr result (SourceFails self.old self.new) }
     {
         match self.read_uncounted(at, into) {
@@ -203,13 +211,14 @@ fn read_at_most<S: Source>(
     requires some { 0 < wanted }
     requires within { wanted ≤ length to.old }
     requires inside { at < length (S.view from.old).bytes }
-    ensures { ReadSome S.is_transparent (S.view from.old) (S.view from.new) at to.new result }
+    ensures read { ReadSome S.is_transparent (S.view from.old) (S.view from.new) at to.new result }
+    ensures no_more { (S.view from.new).handed ≤ (S.view from.old).handed + wanted }
 {
     from.read_at(at, &mut to[..wanted])
 }
 
 impl<S: Source> Source for ReadAhead<S> {
-    ghost use Rattle.devices.specs.code.Ahead.{ReadsAhead, SourceFails, bytes_of, taken, view_of};
+    ghost use Rattle.devices.specs.code.Ahead.{IsFar, IsInStretch, ReadNoMore, ReadsAhead, SourceFails, bytes_of, taken, view_of};
 
     ghost is_transparent = { S.is_transparent };
 
@@ -232,6 +241,12 @@ impl<S: Source> Source for ReadAhead<S> {
         // It hands over no more bytes than this call reads and the stretch had. It errs only if its source fails, or if it can't count.
         ensures given { IfOk result (λ n. taken self.old + n ≤ taken self.new + self.old.len) }
         ensures blame { OnErr result (SourceFails self.old self.new ⊎ CantCount self.old.handed into.old) }
+
+        // It reads no more of its source than there is room for, or than its longest stretch has; after a jump, than its shortest one has;
+        // and nothing if the stretch has the byte.
+        ensures no_more { ReadNoMore self.old self.new into.old 65536 }
+        ensures far { IsFar self.old at → ReadNoMore self.old self.new into.old 4096 }
+        ensures near { IsInStretch self.old at → self.new.source ≡ self.old.source }
     {
         if u128::MAX - self.handed < into.len() as u128 {
             self.failures = self.failures.saturating_add(1);

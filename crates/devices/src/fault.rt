@@ -1,4 +1,7 @@
-//! What can go wrong with a device.
+//! What can go wrong with a device. The words for each error are those that the fault lines of the programs have.
+
+use std::error::Error;
+use std::fmt;
 
 /// A source failed to give bytes.
 #[derive(Clone, Copy, Debug, PartialEq, Eq)]
@@ -31,3 +34,57 @@ impl From<SinkFailed> for WriteFailed {
         WriteFailed
     }
 }
+
+impl fmt::Display for SourceFailed {
+    /// Writes `read failed`.
+    fn fmt<W: fmt::Write>(&self, f: &mut fmt::Formatter<W>) -> fmt::Result {
+        f.write_str("read failed")
+    }
+}
+
+impl Error for SourceFailed {}
+
+impl fmt::Display for SinkFailed {
+    /// Writes `write failed`.
+    fn fmt<W: fmt::Write>(&self, f: &mut fmt::Formatter<W>) -> fmt::Result {
+        f.write_str("write failed")
+    }
+}
+
+impl Error for SinkFailed {}
+
+impl fmt::Display for WriteFailed {
+    /// Writes `write failed`.
+    fn fmt<W: fmt::Write>(&self, f: &mut fmt::Formatter<W>) -> fmt::Result {
+        f.write_str("write failed")
+    }
+}
+
+impl Error for WriteFailed {}
+
+impl fmt::Display for OpenFailed {
+    /// Writes `cannot open`.
+    fn fmt<W: fmt::Write>(&self, f: &mut fmt::Formatter<W>) -> fmt::Result {
+        f.write_str("cannot open")
+    }
+}
+
+impl Error for OpenFailed {}
+
+impl fmt::Display for CreateFailed {
+    /// Writes `cannot open`.
+    fn fmt<W: fmt::Write>(&self, f: &mut fmt::Formatter<W>) -> fmt::Result {
+        f.write_str("cannot open")
+    }
+}
+
+impl Error for CreateFailed {}
+
+impl fmt::Display for CloseFailed {
+    /// Writes `write failed`.
+    fn fmt<W: fmt::Write>(&self, f: &mut fmt::Formatter<W>) -> fmt::Result {
+        f.write_str("write failed")
+    }
+}
+
+impl Error for CloseFailed {}

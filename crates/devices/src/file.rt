@@ -68,13 +68,15 @@ impl Source for OpenFile {
     /// Reads bytes from the offset `at` on to the start of `into`, by one call of the system, and returns how many it got: 0 if the file
     /// has no byte at `at`, as when it has become shorter. Errs, and counts one failure, if the call fails, or without a call if the number
     /// of bytes read could reach 2^128.
+    // It asks for no byte past the file's length: the system refuses to read past 2^63 - 1, though it has bytes there up to that offset.
     #[tactic(auto, unfolding(crate::specs::Failures::HasFailed))]
     fn read_at(&mut self, at: u64, into: &mut [u8]) -> Result<usize, SourceFailed> {
         if u128::MAX - self.handed < into.len() as u128 {
             self.failures = self.failures.saturating_add(1);
             return Err(SourceFailed);
         }
-        match self.file.read_at(into, at) {
+        let wanted = (into.len() as u64).min(self.len - at) as usize;
+        match self.file.read_at(&mut into[..wanted], at) {
             Ok(n) => {
                 self.handed += n as u128;
                 Ok(n)

@@ -12,8 +12,8 @@
 //! [`MemFiles`] opens files of a list in memory, and [`MadeFiles`] creates outputs in memory.
 //!
 //! ```
-//! let source = FileSource::open(&rt, "a.nc")?;
-//! let mut out = IoSink::new(BufWriter::new(alloc, io::writer(&rt))?);
+//! let source = FileSource::open(rt, "a.nc")?;
+//! let mut out = IoSink::new(BufWriter::new(rt.alloc(), io::writer(rt))?);
 //! put(&mut out, b"a.nc has ")?;
 //! put_decimal(&mut out, source.len() as u128)?;
 //! put(&mut out, b" bytes\n")?;

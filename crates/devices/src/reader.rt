@@ -47,7 +47,7 @@ impl<R: Read> CountedRead<R> {
     #[tactic(auto, unfolding(crate::specs::Failures::HasFailed))]
     pub fn read_some(&mut self, into: &mut [u8]) -> Result<usize, SourceFailed>
         ensures read { ReadsNext R.remaining self.old self.new into.old into.new result }
-        ensures ended { StaysEnded R.remaining self.old self.new }
+        ensures ended { StaysEnded self.old self.new }
     {
         if self.is_ended {
             return Ok(0);

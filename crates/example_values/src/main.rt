@@ -1,15 +1,13 @@
-//! The program `example_values [file]`: prints the values of the first int variable of a netCDF file, each on a line.
+//! The program `example_values [file name]`: prints the values of a variable of a netCDF file, each on a line.
 //!
-//! It shows how a file is read: open a source, read the header, and walk over the values of a variable in chunks that are lent out of one
-//! buffer. Without a path it reads the bytes in `FILE`.
+//! It shows how a file is read: open a source, open a variable by its name, and walk over the values in chunks that are lent out of one
+//! buffer. Without arguments it reads the variable `v` of the bytes in `FILE`.
 #![tactic(auto)]
 
-ghost use Rattle.std.specs.Prelude.{◌<◌, IfSome, length};
-
 use devices::{FileSource, MemSource, OpenFailed, Source};
-use nc_base::{Header, NcType, number_of, record_layout};
-use nc_file::{HeadFault, read_header};
-use nc_walk::{Walk, WalkFault};
+use nc_base::{NcType, number_of};
+use nc_variable::{VariableFault, open_variable};
+use nc_walk::WalkFault;
 use std::alloc::Global;
 use std::io::{BufWriter, Write};
 use std::{env, io};
@@ -41,10 +39,8 @@ enum Failure {
     Io(io::Error),
     /// The path can't be opened.
     Open(OpenFailed),
-    /// The header can't be read.
-    Header(HeadFault),
-    /// No variable of the file has the type int.
-    NoIntVariable,
+    /// The header can't be read, or the file has no variable of this name.
+    Variable(VariableFault),
     /// A value can't be read.
     Values(WalkFault),
 }
@@ -55,52 +51,48 @@ impl From<io::Error> for Failure {
     }
 }
 
-/// Prints the values of the first int variable of the file at the path on the command line, or of the bytes in
-/// `FILE` if there is no path.
+/// Prints the values of the variable that the command line names after a path, or of the variable `v` of the bytes in `FILE` if there are
+/// no arguments.
 fn main(rt: HostRuntime) -> Result<(), Failure> {
     let alloc = rt.alloc();
     let mut out = BufWriter::new(alloc, io::writer(&rt))?;
-    match env::args(&rt)?.nth(1) {
-        Some(path) => {
+    let mut words = env::args(&rt)?.skip(1);
+    match (words.next(), words.next()) {
+        (Some(path), Some(name)) => {
             let mut file = FileSource::open(&rt, path.as_str()).map_err(Failure::Open)?;
-            print_values(alloc, &mut file, &mut out)?;
+            print_values(alloc, &mut file, name.as_bytes(), &mut out)?;
         }
-        None => print_values(alloc, &mut MemSource::new(FILE), &mut out)?,
+        _ => print_values(alloc, &mut MemSource::new(FILE), b"v", &mut out)?,
     }
     out.flush()?;
     Ok(())
 }
 
-/// Writes the values of the first int variable of the file that the source has, each on a line. Errs if the header or a value can't be
-/// read, if there is no int variable, or if the writer fails.
+/// Writes the values of the variable of this name in the file that the source has, each on a line. Errs if the header or a value can't be
+/// read, if there is no such variable, or if the writer fails.
 fn print_values<S: Source, W: Write>(
     alloc: Global,
     source: &mut S,
+    name: &[u8],
     out: &mut W,
 ) -> Result<(), Failure> {
     let mut buf = [0; 4096];
-    let header = read_header(alloc, source, &mut buf).map_err(Failure::Header)?;
-    let var_index = first_int_variable(&header).ok_or(Failure::NoIntVariable)?;
-    let layout = record_layout(&header, source.len());
-    let mut walk = Walk::with_layout(&header, var_index, layout, &mut buf);
-    while let Some(chunk) = walk.next(source).map_err(Failure::Values)? {
-        print_chunk(chunk, out)?;
+    let variable = open_variable(alloc, source, &mut buf, name).map_err(Failure::Variable)?;
+    let ty = variable.var().ty;
+    let mut walk = variable.walk(source.len(), &mut buf);
+    for _ in 0..u64::MAX {
+        match walk.next(source).map_err(Failure::Values)? {
+            Some(chunk) => print_chunk(ty, chunk, out)?,
+            None => break,
+        }
     }
     Ok(())
 }
 
-/// Writes the int values of a chunk, which are big-endian and one after the other, each on a line. Errs if the writer fails.
-fn print_chunk<W: Write>(chunk: &[u8], out: &mut W) -> io::Result<()> {
-    for value in chunk.chunks_exact(4) {
-        writeln!(out, "{}", number_of(NcType::Int, value))?;
+/// Writes the values of a chunk, which are big-endian and one after the other, each on a line. Errs if the writer fails.
+fn print_chunk<W: Write>(ty: NcType, chunk: &[u8], out: &mut W) -> io::Result<()> {
+    for value in chunk.chunks_exact(ty.size() as usize) {
+        writeln!(out, "{}", number_of(ty, value))?;
     }
     Ok(())
-}
-
-/// Returns the index of the first variable of the type int, or `None` if there is none.
-fn first_int_variable(header: &Header) -> Option<usize>
-    ensures { IfSome result (λ v. v < length header.now.vars) }
-{
-    let vars = header.vars.as_slice();
-    vars.iter().position(|var| var.ty == NcType::Int)
 }

@@ -1,9 +1,13 @@
 -- A generated file holds its dataset.
 use Rattle.std.proofs.Common.{◌≡◌, ℕ, suc, ◌+◌, ◌*◌, ◌<◌, List, [], ◌∷◌, ◌++◌, length, map, refl, sym, ◌∙◌, ap, subst, arith, length-append, All, sum}
-use Rattle.nc_base.proofs.Prelude.{to_be_bytes, flat_map, range_with_len, append-nil, length-map, All-nil, All-cons, All-head, All-tail, Att, Dim, Var, Header, NumRecs, Known, Dataset, Version, offset_width, count_limit, IsName, padded_size, record_size_of, record_vars, record_size, record_count, IsSoundVar, IsSound, HasValidNames, bare_var, AreArrays, IsGood, HoldsDataset, list_spelling, var_spelling, header_spelling, blocks, is_sole_narrow, record_of, known_records, data_of, vars_with_begins, with_begins, Fits, file_of}
+use Rattle.nc_base.proofs.Prelude.{to_be_bytes, flat_map, range_with_len, append-nil, length-map, All-nil, All-cons, All-head, All-tail, Att, Dim, Var, Header, NumRecs, Known, Dataset, Version, offset_width, count_limit, IsName, padded_size, record_size_of, record_vars, record_size, record_count, IsSoundVar, IsSound, HasValidNames, bare_var, AreArrays, IsGood, HoldsDataset, header_spelling, blocks, is_sole_narrow, record_of, known_records, data_of, vars_with_begins, with_begins, Fits, file_of}
 use Rattle.nc_base.proofs.IsAt.{IsAt, stands-here, stands-after, stands-in, stands-at, stands-first, stands-second, stands-row}
 use Rattle.nc_base.proofs.FilePlaces.{slots, fixed_total, record_size_of-slots, length-blocks, length-record, IsPlaced, agree-all, agree-arrays, agree-whole}
-use Rattle.nc_base.proofs.HeaderSpelled.{header-spelled}
+use Rattle.nc_base.specs.Parts.{print}
+use Rattle.nc_base.specs.Grammar.{variable_tag, number, offset_part, list_head, var_part, var_after, var_list, header_part}
+use Rattle.nc_base.proofs.PrintedLists.{IsPrintedAs, list-printed}
+use Rattle.nc_base.proofs.PartOutcomes.{printed}
+use Rattle.nc_base.proofs.Printable.{header-printable}
 use Rattle.nc_base.proofs.WholeValues.{map-map}
 
 -- ---- begins change nothing else
@@ -45,20 +49,32 @@ both a b x y e f = length-append a x ∙ ap (λ (n : ℕ). n + length x) e ∙ a
 offset-len : (v : Version) (m n : ℕ) → length (to_be_bytes (offset_width v) m) ≡ length (to_be_bytes (offset_width v) n)
 offset-len v m n = grind arith
 
-var-len : (v : Version) (dims : List Dim) (var : Var) → length (var_spelling v dims (bare_var var)) ≡ length (var_spelling v dims var)
-unfolding var_spelling
-var-len v dims var = grind (arith, longer, offset-len)
+-- a variable's bytes, whatever stands before it
+abbrev var_bytes : Version → List Dim → Var → List ℕ
+var_bytes v dims var = print (var_part v dims 0) var
+
+var-printed : (v : Version) (dims : List Dim) → IsPrintedAs (var_after v dims) (var_bytes v dims)
+unfolding print var_part
+var-printed v dims before var = refl
+
+var-len : (v : Version) (dims : List Dim) (var : Var) → length (var_bytes v dims (bare_var var)) ≡ length (var_bytes v dims var)
+unfolding print var_part offset_part number
+var-len v dims var = grind (arith, longer, offset-len, append-nil)
 
 each-len : (f : Var → List ℕ) (xs : List Var) → ((x : Var) → length (f (bare_var x)) ≡ length (f x)) → length (flat_map f (map bare_var xs)) ≡ length (flat_map f xs)
 each-len f [] same = refl
 each-len f (x ∷ xs) same = both (f (bare_var x)) (f x) (flat_map f (map bare_var xs)) (flat_map f xs) (same x) (each-len f xs same)
 
-list-len : (v : Version) (tag : ℕ) (f : Var → List ℕ) (xs : List Var) → ((x : Var) → length (f (bare_var x)) ≡ length (f x)) → length (list_spelling v tag f (map bare_var xs)) ≡ length (list_spelling v tag f xs)
-list-len v tag f xs same = grind (arith, both, length-map, each-len)
+list-len : (v : Version) (dims : List Dim) (xs : List Var) → length (print (var_list v dims) (map bare_var xs)) ≡ length (print (var_list v dims) xs)
+unfolding var_list
+list-len v dims xs =
+    ap length (list-printed v variable_tag (var_after v dims) (var_bytes v dims) (map bare_var xs) (var-printed v dims))
+    ∙ both _ _ _ _ (ap (λ (n : ℕ). length (print (list_head v variable_tag) n)) (length-map xs bare_var)) (each-len (var_bytes v dims) xs (var-len v dims))
+    ∙ ap length (sym (list-printed v variable_tag (var_after v dims) (var_bytes v dims) xs (var-printed v dims)))
 
 header-len-bare : (h : Header) (vars : List Var) → length (header_spelling (record h { vars = map bare_var vars })) ≡ length (header_spelling (record h { vars = vars }))
-unfolding header_spelling
-header-len-bare h vars = grind (arith, longer, list-len, var-len)
+unfolding print header_part
+header-len-bare h vars = grind (arith, longer, both, list-len)
 
 pub len-after : (h : Header) → length (header_spelling (record h { vars = vars_with_begins h [] h.vars })) ≡ length (header_spelling h)
 len-after h =
@@ -140,7 +156,7 @@ file-holds d good fits =
       header = k;
       rest = data_of d.header d.arrays;
       records = n;
-      spelled = header-spelled k (data_of d.header d.arrays) (sound-after h good.is_sound) (names-after h good.names) fits;
+      spelled = printed header_part k (data_of d.header d.arrays) (header-printable k (sound-after h good.is_sound) (names-after h good.names) fits);
       counted = counted k n (length (file_of d)) known;
       is_bare = good.is_bare ∙ ap (λ (vs : List Var). let x : Header = record h { numrecs = Known n; vars = vs } in x) (sym (bare-after h [] h.vars));
       whole = agree-whole k (file_of d) n (vars_with_begins h [] h.vars) d.arrays agree;

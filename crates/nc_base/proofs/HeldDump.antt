@@ -3,8 +3,7 @@ use Rattle.std.proofs.Common.{◌≡◌, ℕ, ℤ, suc, ◌+◌, ◌≤◌, Bool
 use Rattle.std.proofs.Math.Path.{fun_ext}
 use Rattle.nc_base.proofs.Prelude.{record_count, concat, position, position_or_len, bytes_eq, lt-ltb, ltb-false, length-map, All-head, All-tail, All-map, All-weaker, All-from_get_or, fails_before_first, Dim, Header, Known, Var, Dataset, numbers, bare_var, bare, escaped_name, fill_value, Look, look_of, concat_parts, SpellsHeader, stored_bytes, stored_values, ends_after, first_missing, HoldsDataset, Options, Ending, DataText, VariableValues, has_variable, has_values, first_unknown, is_selected, selection_of, values_in_file, values_in_dataset, with_variable, variables_text, shown_data_text, data_word, dump_text, IsDump, IsText, shown_data, stopped, unknown, shown, is_shown, is_unknown}
 use Rattle.nc_base.specs.HeadText.{vars_text, var_lines, head_text, netcdf_word, dims_text, gatts_text}
-use Rattle.nc_base.specs.FirstFault.{StopsAt}
-use Rattle.nc_base.specs.declared.fault.FormatFault.{FormatFault}
+use Rattle.nc_base.proofs.HeaderOutcomes.{one-header, header-fine}
 use Rattle.nc_base.proofs.WholeValues.{map-map, numbers-concat, length-whole}
 
 -- ---- whole values
@@ -121,22 +120,17 @@ held-dump bytes d o t ending s is =
 
 -- ---- back
 
--- bytes have one header
-abbrev pub HasOneHeader : List ℕ → Type 0
-HasOneHeader bytes = (h k : Header) (rest more : List ℕ) → SpellsHeader bytes h rest → SpellsHeader bytes k more → h ≡ k
+one : (bytes : List ℕ) (h k : Header) (rest more : List ℕ) → SpellsHeader bytes h rest → SpellsHeader bytes k more → h ≡ k
+one bytes h k rest more s t = (one-header bytes h k rest more s t).0
 
--- and no fault where they have one
-abbrev pub HasNoFault : List ℕ → Type 0
-HasNoFault bytes = (h : Header) (rest : List ℕ) (fault : FormatFault) (end : ℕ) → SpellsHeader bytes h rest → ¬ StopsAt bytes fault end
-
-text-of-dump : (h : Header) (bytes rest : List ℕ) (n : ℕ) (o : Options) (t : List ℕ) (ending : Ending) → HasOneHeader bytes → HasNoFault bytes
+text-of-dump : (h : Header) (bytes rest : List ℕ) (n : ℕ) (o : Options) (t : List ℕ) (ending : Ending)
     → SpellsHeader bytes h rest → n ≡ record_count h (length bytes)
     → All (λ (var : Var). first_missing h bytes var n ≡ None) h.vars → IsDump bytes o t ending → IsText (held h bytes n) o t ending
-text-of-dump h bytes rest n o t ending one fine spelled counted whole (stopped fault end stops) = absurd (fine h rest fault end spelled stops)
-text-of-dump h bytes rest n o t ending one fine spelled counted whole (unknown k more index s u) =
-    is_unknown index (unknown-bare h.vars o.chosen ∙ ap (λ (x : Header). first_unknown x.vars o.chosen) (one h k rest more spelled s) ∙ u)
-text-of-dump h bytes rest n o t ending one fine spelled counted whole (shown k more m section s knows count is) =
-    let same : k ≡ h = one k h more rest s spelled in
+text-of-dump h bytes rest n o t ending spelled counted whole (stopped fault end stops) = absurd (header-fine bytes h rest fault end spelled stops)
+text-of-dump h bytes rest n o t ending spelled counted whole (unknown k more index s u) =
+    is_unknown index (unknown-bare h.vars o.chosen ∙ ap (λ (x : Header). first_unknown x.vars o.chosen) (one bytes h k rest more spelled s) ∙ u)
+text-of-dump h bytes rest n o t ending spelled counted whole (shown k more m section s knows count is) =
+    let same : k ≡ h = one bytes k h more rest s spelled in
     let m_is : m ≡ n = count ∙ ap (λ (x : Header). record_count x (length bytes)) same ∙ sym counted in
     let all : section ≡ shown_data_text (bare h n) o (values_in_dataset (held h bytes n)) n (selection_of (bare h n) o) =
     is ∙ ap (λ (x : Header). shown_data_text x o (values_in_file x bytes m) m (selection_of x o)) same
@@ -146,14 +140,14 @@ text-of-dump h bytes rest n o t ending one fine spelled counted whole (shown k m
     subst (λ (x : List ℕ). IsText (held h bytes n) o x section.ending) (sym words)
     (is_shown n section (unknown-bare h.vars o.chosen ∙ ap (λ (x : Header). first_unknown x.vars o.chosen) (sym same) ∙ knows) refl all)
 
-pub dump-held : (bytes : List ℕ) (d : Dataset) (o : Options) (t : List ℕ) (ending : Ending) → HasOneHeader bytes → HasNoFault bytes
+pub dump-held : (bytes : List ℕ) (d : Dataset) (o : Options) (t : List ℕ) (ending : Ending)
     → HoldsDataset bytes d → IsDump bytes o t ending → IsText d o t ending
-dump-held bytes d o t ending one fine s is =
-    grind (arith, held-is bytes d s, text-of-dump s.header bytes s.rest s.records o t ending one fine s.spelled s.counted s.whole is)
+dump-held bytes d o t ending s is =
+    grind (arith, held-is bytes d s, text-of-dump s.header bytes s.rest s.records o t ending s.spelled s.counted s.whole is)
 
 -- one header is one dataset
-pub one-held : (bytes : List ℕ) (d e : Dataset) → HasOneHeader bytes → HoldsDataset bytes d → HoldsDataset bytes e → d ≡ e
-one-held bytes d e one s t =
-    let same : s.header ≡ t.header = one s.header t.header s.rest t.rest s.spelled t.spelled in
+pub one-held : (bytes : List ℕ) (d e : Dataset) → HoldsDataset bytes d → HoldsDataset bytes e → d ≡ e
+one-held bytes d e s t =
+    let same : s.header ≡ t.header = one bytes s.header t.header s.rest t.rest s.spelled t.spelled in
     let count : s.records ≡ t.records = s.counted ∙ ap (λ (h : Header). record_count h (length bytes)) same ∙ sym t.counted in
     held-is bytes d s ∙ ap (λ (h : Header). held h bytes s.records) same ∙ ap (λ (n : ℕ). held t.header bytes n) count ∙ sym (held-is bytes e t)

@@ -7,6 +7,11 @@ pub mod SizeLaws
 pub mod SoundLaws
 pub mod Found
 pub mod Extents
+pub mod PartOutcomes
+pub mod PartPlaces
+pub mod PartLens
+pub mod PrintedLists
+pub mod Printable
 pub mod SoundSpelling
 pub mod CharacterRows
 pub mod ValueLaws
@@ -14,8 +19,8 @@ pub mod WholeValues
 pub mod SlabBytes
 pub mod IsAt
 pub mod FilePlaces
-pub mod HeaderSpelled
 pub mod FileHolds
+pub mod HeaderOutcomes
 pub mod HeldDump
 pub mod Fitting
 pub mod ListedArrays

@@ -6,18 +6,18 @@ pub use Rattle.nc_base.specs.Datasets.{Fits, HoldsDataset, IsText, is_shown, is_
 unfoldable pub use Rattle.nc_base.specs.Dump.{closing_word, data_word}
 unfoldable pub use Rattle.nc_base.specs.Escapes.{escaped_name, escaped_text, is_reserved}
 unfoldable pub use Rattle.nc_base.specs.Fill.{fill_value}
-pub use Rattle.nc_base.specs.GeneratedFile.{atts_spelling, begin_after, blocks, count_spelling, fits, fixed_vars, is_sole_narrow, known_records, list_head, list_spelling, name_spelling, numrecs_spelling, record_of, slab_in, vars_with_begins, vsize_of, zero_padded}
-unfoldable pub use Rattle.nc_base.specs.GeneratedFile.{att_spelling, data_of, dim_spelling, file_of, fill_bytes, header_spelling, magic_spelling, padded_slab, var_spelling, with_begins, word_spelling}
-pub use Rattle.nc_base.specs.Grammar.{ElementSpelling, IsWithinLimits, SpellsAtt, SpellsAtts, SpellsCount, SpellsCounted, SpellsDim, SpellsDimid, SpellsEach, SpellsHeader, SpellsList, SpellsName, SpellsNumRecs, SpellsNumber, SpellsPadded, SpellsType, SpellsVar, absent, attribute_tag, dimension_tag, present, variable_tag, IsDimid}
-pub use Rattle.nc_base.specs.Headers.{AreArrays, AreDimids, HasValidNames, HasWholeValues, IsArray, IsGood, IsSound, IsSoundAtt, IsSoundDim, IsSoundNumRecs, IsSoundVar, bare, bare_var}
-pub use Rattle.nc_base.specs.Sizes.{has_record_dim, value_count, dim_len, is_narrow, is_record_dim, is_record_var, is_record_shape, least_begin, padded_size, padded_total, product, record_count, record_limit, record_size, record_size_of, record_vars, records_between, slab_count, slab_lens, slab_limit, slab_size}
+pub use Rattle.nc_base.specs.GeneratedFile.{begin_after, blocks, fits, fixed_vars, is_sole_narrow, known_records, record_of, slab_in, vars_with_begins}
+unfoldable pub use Rattle.nc_base.specs.GeneratedFile.{data_of, file_of, fill_bytes, padded_slab, with_begins}
+pub use Rattle.nc_base.specs.Grammar.{SpellsHeader, StopsAt, header_spelling, vsize_of}
+pub use Rattle.nc_base.specs.Headers.{AreArrays, AreDimids, IsDimid, HasValidNames, HasWholeValues, IsArray, IsGood, IsSound, IsSoundAtt, IsSoundDim, IsSoundNumRecs, IsSoundVar, bare, bare_var}
+pub use Rattle.nc_base.specs.Sizes.{has_record_dim, value_count, dim_len, is_narrow, is_record_dim, is_record_var, is_record_shape, least_begin, padded_size, padded_total, product, record_count, record_limit, record_size, record_size_of, record_vars, records_between, slab_count, slab_lens, slab_limit, slab_of, slab_size}
 pub use Rattle.nc_base.specs.Names.{IsName}
 pub use Rattle.nc_base.specs.Numbers.{bytes_of_number, number_of, numbers_from}
 unfoldable pub use Rattle.nc_base.specs.Numbers.{numbers}
 pub use Rattle.nc_base.specs.Places.{bytes_at, distance, ends_after, first_missing, slab_strides, stored_bytes, stored_values, vectors_below}
 pub use Rattle.nc_base.specs.code.Extents.{extent_end, end_after}
 unfoldable pub use Rattle.nc_base.specs.Places.{value_offsets}
-pub use Rattle.nc_base.specs.code.SizeParts.{slab_of, checked_record_size, extent_sum, least_record_begin, has_small_slab, is_fixed_dim, lesser, slab_at}
+pub use Rattle.nc_base.specs.code.SizeParts.{checked_record_size, extent_sum, least_record_begin, has_small_slab, is_fixed_dim, min_begin, slab_at}
 pub use Rattle.nc_base.specs.Types.{code_of, size_of}
 pub use Rattle.nc_base.specs.HeadText.{without_trailing_nuls}
 pub use Rattle.nc_base.specs.ValueText.{Look, begins_row, char_lead, column, is_char, number_text, printed_bytes, row_len, row_text}

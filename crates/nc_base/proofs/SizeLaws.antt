@@ -1,6 +1,6 @@
 -- The sizes of slabs and of records.
 use Rattle.std.proofs.Common.{◌≡◌, ℕ, zero, ◌+◌, ◌*◌, ◌<◌, ◌≤◌, min, Bool, true, false, ◌&&◌, cond, List, [], ◌∷◌, ◌++◌, length, get_or, drop, take, map, refl, sym, ◌∙◌, ap, arith, drop-cons, Some, None, filter, if◌then◌else◌}
-use Rattle.nc_base.proofs.Prelude.{list_all, mul-le-mul_left, le-leb, leb_tells, append-nil, filter_more, filter-append, list_all-append, sum-map, sum_by_push, padding_len, product, is_record_var, is_narrow, slab_size, padded_size, padded_total, record_size_of, slab_limit, least_begin, has_small_slab, checked_record_size, least_record_begin, lesser, Dim, Var, Header}
+use Rattle.nc_base.proofs.Prelude.{list_all, mul-le-mul_left, le-leb, leb_tells, append-nil, filter_more, filter-append, list_all-append, sum-map, sum_by_push, padding_len, product, is_record_var, is_narrow, slab_size, padded_size, padded_total, record_size_of, slab_limit, least_begin, has_small_slab, checked_record_size, least_record_begin, min_begin, Dim, Var, Header}
 use Rattle.std.proofs.Math.ListN.{drop_of_length-le, take-append-drop}
 
 -- a number that is cut off at c may be cut off before it is multiplied
@@ -142,12 +142,12 @@ least_begin-push : (var : Var) (vars : List Var) (x : Var) → least_begin var (
 least_begin-push var [] x = refl
 least_begin-push var (next ∷ vars) x = omega (arith, least_begin-push next vars x)
 
-least_record_begin-push : (vars : List Var) (x : Var) → least_record_begin (vars ++ x ∷ []) ≡ Some (lesser (least_record_begin vars) x.begin_at)
+least_record_begin-push : (vars : List Var) (x : Var) → least_record_begin (vars ++ x ∷ []) ≡ Some (min_begin (least_record_begin vars) x.begin_at)
 least_record_begin-push vars x = grind (arith, least_begin-push)
 
 -- one more record variable
 pub least_record_begin_more : (dims : List Dim) (vars : List Var) (i : ℕ) (x : Var) → i < length vars → x ≡ get_or vars i x
-    → is_record_var dims x ≡ true → least_record_begin (seen dims vars (i + 1)) ≡ Some (lesser (least_record_begin (seen dims vars i)) x.begin_at)
+    → is_record_var dims x ≡ true → least_record_begin (seen dims vars (i + 1)) ≡ Some (min_begin (least_record_begin (seen dims vars i)) x.begin_at)
 least_record_begin_more dims vars i x lt at growing = grind (arith, seen_more dims vars i x lt, least_record_begin-push)
 
 pub seen_skipped_at : (dims : List Dim) (vars : List Var) (i : ℕ) (x : Var) → i < length vars → x ≡ get_or vars i x

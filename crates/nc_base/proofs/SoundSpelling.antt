@@ -1,53 +1,106 @@
 -- A header that bytes spell is sound, and its names are valid.
-use Rattle.std.proofs.Common.{◌≡◌, ℕ, ◌+◌, ◌<◌, ◌≤◌, Bool, true, false, cond, List, [], ◌∷◌, ◌++◌, length, refl, sym, subst, append_assoc, arith, ◌==◌, ◌||◌, filter, All, rules}
-use Rattle.nc_base.proofs.Prelude.{eqb-true, append-nil, length-append, All-from_recursion, filter-append, AllByRecursion, Att, Dim, Var, Header, NumRecs, Known, Streaming, Version, padding_len, count_limit, IsName, is_narrow, slab_size, padded_total, record_size_of, record_vars, record_limit, has_record_dim, AreDimids, IsSoundAtt, IsSoundVar, IsSoundDim, IsSoundNumRecs, IsSound, HasValidNames, ElementSpelling, SpellsEach, SpellsList, absent, present, SpellsDim, SpellsAtt, SpellsAtts, SpellsDimid, SpellsVar, SpellsNumRecs, SpellsHeader}
+use Rattle.std.proofs.Common.{◌≡◌, ℕ, zero, suc, ◌+◌, ◌<◌, ◌≤◌, Bool, true, false, List, [], ◌∷◌, ◌++◌, length, Option, Some, None, Result, Ok, Err, refl, sym, ap, subst, ◌∙◌, append_assoc, append-nil, arith, not, ◌==◌, ◌&&◌, ◌||◌, if◌then◌else◌, ok_or, All, IsTrue, filter, cond}
+use Rattle.nc_base.proofs.Prelude.{All-nil, All-cons, ltb-true, IsName, IsSoundAtt, IsSoundVar, IsSoundDim, IsSoundNumRecs, IsSound, HasValidNames, AreDimids, IsDimid, count_limit, has_type, has_record_dim, filter-append, length-append, padded_total, record_vars, record_limit, record_size_of, is_narrow, slab_size, padding_len, slab_limit, leb-true, eqb-true}
+use Rattle.nc_base.specs.declared.{fault.FormatFault.FormatFault, header.Att.Att, header.Dim.Dim, header.Var.Var, header.Header.Header, header.NumRecs.NumRecs, nc_type.NcType.NcType, version.Version.Version}
+use Rattle.nc_base.specs.declared.fault.FormatFault.TheVariants.{BadType, FloatingType, BadCount}
+use Rattle.nc_base.specs.declared.header.NumRecs.TheVariants.{Known, Streaming}
+use Rattle.nc_base.specs.Bytes.{Bytes}
+use Rattle.nc_base.proofs.Printable.{total-append, one-total}
+use Rattle.nc_base.specs.Parts.{Part, Spells}
+use Rattle.nc_base.specs.Grammar.{dimension_tag, attribute_tag, variable_tag, is_dimid, is_within_limits, count_part, name_part, known_type, type_part, each, counted, list_head, list_part, dim_part, dim_after, dim_list, att_part, att_after, att_list, dimid_part, dimid_after, shape_part, var_part, var_after, var_list, numrecs_in, numrecs_part, header_part}
+
+-- a test that was passed
+passed : {A : Type 0} (b : Bool) (x y : A) (wrong : FormatFault) → ◌≡◌ {A = Result A FormatFault} (if b then Ok x else Err wrong) (Ok y) → (b ≡ true) × (x ≡ y)
+passed true x y wrong e = (refl, cc)
+passed false x y wrong e = absurd cc
+
+count-below : (v : Version) (from : Bytes) (n : ℕ) (rest : Bytes) → Spells (count_part v) from n rest → n < count_limit v
+unfolding Spells count_part
+count-below v from n rest (m, s, e) = let p = passed _ m n _ e in subst (λ k. k < count_limit v) p.1 (ltb-true _ _ p.0)
+
+-- a name that was spelled
+pub record IsSoundName (v : Version) (text : Bytes) : Type 0 where
+  pub len : length text < count_limit v
+  pub valid : IsName text
+
+name-sound : (v : Version) (from text rest : Bytes) → Spells (name_part v) from text rest → IsSoundName v text
+unfolding Spells name_part
+name-sound v from text rest (n, m, c, (t, m2, (x, (len, is), e), (u, m3, any, (same, all)))) =
+    let p = passed _ x t _ e in
+    let x_is : x ≡ text = p.1 ∙ sym same in
+    record { len = subst (λ k. k < count_limit v) (sym len ∙ ap length x_is) (count-below v from n m c); valid = subst IsName x_is p.0 }
+
+has-type : (v : Version) (o : Option NcType) (ty : NcType) → ok_or (known_type v o) BadType ≡ Ok ty → IsTrue (has_type v ty)
+has-type v None ty e = absurd cc
+has-type v (Some t) ty e = by-test (has_type v t) refl e
+  where
+    by-test : (b : Bool) → has_type v t ≡ b → ok_or (if b then Some t else None) BadType ≡ Ok ty → IsTrue (has_type v ty)
+    by-test true h e = let same : t ≡ ty = cc in subst (λ x. IsTrue (has_type v x)) same h
+    by-test false h e = absurd cc
+
+not-floating : (b : Bool) (r : Result NcType FormatFault) (ty : NcType) → (if b then Err FloatingType else r) ≡ Ok ty → r ≡ Ok ty
+not-floating true r ty e = absurd cc
+not-floating false r ty e = e
+
+type-sound : (v : Version) (from : Bytes) (ty : NcType) (rest : Bytes) → Spells (type_part v) from ty rest → IsTrue (has_type v ty)
+unfolding Spells type_part
+type-sound v from ty rest (code, s, e) = has-type v _ ty (not-floating _ _ ty e)
 
 -- ---- lists
 
--- the elements of a list, which the version can count
-pub record SpellsListed {A : Type 0} (v : Version) (Element : ElementSpelling A) (xs : List A) (rest : List ℕ) : Type 0 where
-  pub count : length xs < count_limit v
-  pub prefix : List ℕ
-  pub each : SpellsEach Element [] prefix xs rest
+-- these elements, one after the other, after those before
+abbrev pub SpellsEach : {A : Type 0} → (List A → Part A) → List A → Bytes → List A → Bytes → Type 0
+SpellsEach element before from [] rest = Unit {0}
+SpellsEach {A = A} element before from (x ∷ xs) rest = (middle : Bytes) × Spells (element before) from x middle × SpellsEach element (before ++ x ∷ []) middle xs rest
 
-pub listed : {A : Type 0} (v : Version) (tag : ℕ) (Element : ElementSpelling A) (bytes : List ℕ) (xs : List A) (rest : List ℕ)
-    → SpellsList v tag Element bytes xs rest → SpellsListed v Element xs rest
-listed {A = A} v tag Element bytes xs rest (absent after_tag number count none) =
-    subst (λ (ys : List A). SpellsListed v Element ys rest) (sym none) (record { count = count.non_negative; prefix = rest; each = refl })
-listed v tag Element bytes xs rest (present after_tag number counted) =
-    record { count = counted.count.non_negative; prefix = counted.after_count; each = counted.each }
+pub record Elements {A : Type 0} (element : List A → Part A) (n : ℕ) (before : List A) (from : Bytes) (all : List A) (rest : Bytes) : Type 0 where
+  pub xs : List A
+  pub joined : all ≡ before ++ xs
+  pub count : length xs ≡ n
+  pub each : SpellsEach element before from xs rest
+
+each-elements : {A : Type 0} (element : List A → Part A) (n : ℕ) (before : List A) (from : Bytes) (all : List A) (rest : Bytes) → Spells (each element n before) from all rest → Elements element n before from all rest
+unfolding Spells each
+each-elements element zero before from all rest s = record { xs = []; joined = s.0 ∙ sym (append-nil before); count = refl; each = tt }
+each-elements element (suc n) before from all rest (x, middle, s, t) =
+    let e = each-elements element n (before ++ x ∷ []) middle all rest t in
+    record { xs = x ∷ e.xs; joined = e.joined ∙ append_assoc before (x ∷ []) e.xs; count = ap suc e.count; each = (middle, s, e.each) }
+
+-- what a list that was spelled has: its elements, and a number of them that the version can count
+pub record Listed {A : Type 0} (v : Version) (element : List A → Part A) (xs : List A) (rest : Bytes) : Type 0 where
+  pub count : length xs < count_limit v
+  pub start : Bytes
+  pub each : SpellsEach element [] start xs rest
+
+list-elements : {A : Type 0} (v : Version) (tag : ℕ) (element : List A → Part A) (from : Bytes) (xs : List A) (rest : Bytes) → Spells (list_part v tag element) from xs rest → Listed v element xs rest
+unfolding Spells list_part list_head
+list-elements {A = A} v tag element from xs rest (n, m, (found, m0, tagged, (k, c, e)), t) =
+    let es = each-elements element n [] m xs rest t in
+    let p = passed _ k n _ e in
+    record { count = subst (λ k. k < count_limit v) (p.1 ∙ sym es.count ∙ ap length (sym es.joined)) (count-below v m0 k m c); start = m; each = subst (λ ys. SpellsEach element [] m ys rest) (sym es.joined) es.each }
 
 -- what each spelling of an element gives
-abbrev pub Gives : {A : Type 0} → ElementSpelling A → (A → Type 0) → Type 0
-Gives {A = A} Element P = (before : List A) (bytes : List ℕ) (x : A) (rest : List ℕ) → Element before bytes x rest → P x
+all-each : {A : Type 0} (element : List A → Part A) (P : A → Type 0) → ((before : List A) (from : Bytes) (x : A) (rest : Bytes) → Spells (element before) from x rest → P x)
+    → (xs before : List A) (from rest : Bytes) → SpellsEach element before from xs rest → All P xs
+all-each element P gives [] before from rest s = All-nil P
+all-each element P gives (x ∷ xs) before from rest s = All-cons P x xs (gives before from x s.0 s.1) (all-each element P gives xs (before ++ x ∷ []) s.0 rest s.2)
 
-each-by_recursion : {A : Type 0} (Element : ElementSpelling A) (P : A → Type 0) → Gives Element P
-    → (xs before : List A) (bytes rest : List ℕ) → SpellsEach Element before bytes xs rest → AllByRecursion P xs
-each-by_recursion Element P gives [] before bytes rest each = tt
-each-by_recursion Element P gives (x ∷ xs) before bytes rest each =
-    (gives before bytes x each.0 each.1, each-by_recursion Element P gives xs (before ++ x ∷ []) each.0 rest each.2)
+-- ---- attributes and dimensions
 
--- each element of a list has it
-list-all : {A : Type 0} (v : Version) (tag : ℕ) (Element : ElementSpelling A) (P : A → Type 0) → Gives Element P
-    → (bytes : List ℕ) (xs : List A) (rest : List ℕ) → SpellsList v tag Element bytes xs rest → All P xs
-list-all v tag Element P gives bytes xs rest s =
-    grind (arith, listed v tag Element bytes xs rest s, All-from_recursion P xs, each-by_recursion Element P gives xs [])
+att-sound : (v : Version) (from : Bytes) (a : Att) (rest : Bytes) → Spells (att_part v) from a rest → IsSoundAtt v a × IsName a.name
+unfolding Spells att_part
+att-sound v from a rest (text, m, s, (ty, m2, t, (n, m3, c, (vals, m4, (len, is), (u, m5, any, (whole, end)))))) =
+    let named = name-sound v from text m s in
+    subst (λ a. IsSoundAtt v a × IsName a.name) (sym whole)
+    (record { name_len = named.len; ty = type-sound v m ty m2 t; values = record { count = n; counted = count-below v m2 n m3 c; whole = len } }, named.valid)
 
--- ---- attributes
-
-att-sound : (v : Version) → Gives (SpellsAtt v) (IsSoundAtt v)
-att-sound v before bytes att rest s = grind arith
-
-att-name : (v : Version) → Gives (SpellsAtt v) (λ (att : Att). IsName att.name)
-att-name v before bytes att rest s = s.named.valid
-
--- ---- dimensions
-
-dim-sound : (v : Version) → Gives (SpellsDim v) (IsSoundDim v)
-dim-sound v before bytes dim rest s = record { name_len = s.name.count.non_negative; len = s.len.non_negative }
-
-dim-name : (v : Version) → Gives (SpellsDim v) (λ (dim : Dim). IsName dim.name)
-dim-name v before bytes dim rest s = s.name.valid
+dim-sound : (v : Version) (before : List Dim) (from : Bytes) (d : Dim) (rest : Bytes) → Spells (dim_after v before) from d rest → IsSoundDim v d × IsName d.name × (not (has_record_dim before && (d.len == 0)) ≡ true)
+unfolding Spells dim_part
+dim-sound v before from d rest (text, m, s, (len, m2, (k, c, e), (whole, end))) =
+    let named = name-sound v from text m s in
+    let p = passed _ k len _ e in
+    subst (λ d. IsSoundDim v d × IsName d.name × (not (has_record_dim before && (d.len == 0)) ≡ true)) (sym whole)
+    (record { name_len = named.len; len = subst (λ k. k < count_limit v) p.1 (count-below v m k m2 c) }, named.valid, subst (λ k. not (has_record_dim before && (k == 0)) ≡ true) p.1 p.0)
 
 -- the record dimensions among these
 abbrev record_dims : List Dim → List Dim
@@ -65,48 +118,107 @@ one-more : (b : Bool) (before : List Dim) (dim : Dim) → (b ≡ true → length
     → length (record_dims before ++ cond b (dim ∷ []) []) ≤ 1
 one-more b before dim h h2 = grind (arith, length-append)
 
-dims-one : (v : Version) (dims before : List Dim) (bytes rest : List ℕ) → SpellsEach (SpellsDim v) before bytes dims rest
+only-one : (has b : Bool) → not (has && b) ≡ true → b ≡ true → has ≡ false
+only-one has b h e = grind arith
+
+dims-one : (v : Version) (dims before : List Dim) (from rest : Bytes) → SpellsEach (dim_after v) before from dims rest
     → length (record_dims before) ≤ 1 → length (record_dims (before ++ dims)) ≤ 1
-dims-one v [] before bytes rest each one = subst (λ (ds : List Dim). length (record_dims ds) ≤ 1) (sym (append-nil before)) one
-dims-one v (dim ∷ dims) before bytes rest each one = grind (arith, one-more, no-record_dims, eqb-true, filter-append, append_assoc, dims-one v dims)
+dims-one v [] before from rest s one = subst (λ (ds : List Dim). length (record_dims ds) ≤ 1) (sym (append-nil before)) one
+dims-one v (dim ∷ dims) before from rest s one =
+    let single = (dim-sound v before from dim s.0 s.1).2 in
+    let so_far = one-more (dim.len == 0) before dim (λ e. no-record_dims before (only-one _ _ single e)) one in
+    subst (λ ds. length (record_dims ds) ≤ 1) (append_assoc before (dim ∷ []) dims)
+    (dims-one v dims (before ++ dim ∷ []) s.0 rest s.2 (subst (λ ds. length ds ≤ 1) (sym (filter-append (λ (d : Dim). d.len == 0) before (dim ∷ []))) so_far))
 
 -- ---- variables
 
-shape-known : (v : Version) (dims : List Dim) (ids before bytes rest : List ℕ) → SpellsEach (SpellsDimid v dims) before bytes ids rest → AreDimids dims before ids
-shape-known v dims [] before bytes rest each = tt
-shape-known v dims (id ∷ ids) before bytes rest each = (each.1.known, shape-known v dims ids (before ++ id ∷ []) each.0 rest each.2)
+length-none : {A : Type 0} (xs : List A) → (length xs == 0) ≡ true → xs ≡ []
+length-none [] e = refl
+length-none (x ∷ xs) e = let none : length (x ∷ xs) ≡ 0 = eqb-true _ _ e in absurd (omega arith)
 
-atts-sound : (v : Version) (bytes : List ℕ) (atts : List Att) (rest : List ℕ) → SpellsAtts v bytes atts rest → All (IsSoundAtt v) atts
-atts-sound v bytes atts rest s = list-all v _ (SpellsAtt v) (IsSoundAtt v) (att-sound v) bytes atts rest s
+is-dimid : (dims : List Dim) (before : List ℕ) (id : ℕ) → is_dimid dims (length before == 0) id ≡ true → IsDimid dims before id
+is-dimid dims before id e = grind (arith, length-none)
 
-atts-names : (v : Version) (bytes : List ℕ) (atts : List Att) (rest : List ℕ) → SpellsAtts v bytes atts rest → All (λ (att : Att). IsName att.name) atts
-atts-names v bytes atts rest s = list-all v _ (SpellsAtt v) (λ (att : Att). IsName att.name) (att-name v) bytes atts rest s
+dimid-sound : (v : Version) (dims : List Dim) (before : List ℕ) (from : Bytes) (id : ℕ) (rest : Bytes) → Spells (dimid_after v dims before) from id rest → IsDimid dims before id
+unfolding Spells dimid_part
+dimid-sound v dims before from id rest (k, s, e) = let p = passed _ k id _ e in is-dimid dims before id (subst (λ k. is_dimid dims (length before == 0) k ≡ true) p.1 p.0)
 
-var-sound : (v : Version) (dims : List Dim) → Gives (SpellsVar v dims) (IsSoundVar v dims)
-var-sound v dims before bytes var rest s =
+shape-known : (v : Version) (dims : List Dim) (ids before : List ℕ) (from rest : Bytes) → SpellsEach (dimid_after v dims) before from ids rest → AreDimids dims before ids
+shape-known v dims [] before from rest s = tt
+shape-known v dims (id ∷ ids) before from rest s = (dimid-sound v dims before from id s.0 s.1, shape-known v dims ids (before ++ id ∷ []) s.0 rest s.2)
+
+-- a shape that was spelled
+pub record IsSoundShape (v : Version) (dims : List Dim) (ids : List ℕ) : Type 0 where
+  pub rank : length ids < count_limit v
+  pub known : AreDimids dims [] ids
+
+shape-sound : (v : Version) (dims : List Dim) (from : Bytes) (ids : List ℕ) (rest : Bytes) → Spells (shape_part v dims) from ids rest → IsSoundShape v dims ids
+unfolding Spells shape_part counted
+shape-sound v dims from ids rest (n, m, c, t) =
+    let es = each-elements (dimid_after v dims) n [] m ids rest t in
     record {
-      name_len = s.named.count.non_negative;
-      rank = s.shape.count.non_negative;
-      shape = shape-known v dims var.dimids [] s.shape.after_count s.after_shape s.shape.each;
-      att_count = (listed v _ (SpellsAtt v) s.after_shape var.atts s.after_atts s.atts).count;
-      atts = atts-sound v s.after_shape var.atts s.after_atts s.atts;
-      ty = s.typed.has;
-      slab = s.small.slab;
+      rank = subst (λ k. k < count_limit v) (sym es.count ∙ ap length (sym es.joined)) (count-below v from n m c);
+      known = subst (AreDimids dims []) (sym es.joined) (shape-known v dims es.xs [] m rest es.each);
     }
+
+-- attributes that were spelled
+pub record AreSoundAtts (v : Version) (atts : List Att) : Type 0 where
+  pub count : length atts < count_limit v
+  pub sound : All (IsSoundAtt v) atts
+  pub names : All (λ (att : Att). IsName att.name) atts
+
+atts-sound : (v : Version) (from : Bytes) (atts : List Att) (rest : Bytes) → Spells (att_list v) from atts rest → AreSoundAtts v atts
+unfolding att_list
+atts-sound v from atts rest s =
+    let es = list-elements v attribute_tag (att_after v) from atts rest s in
+    record {
+      count = es.count;
+      sound = all-each (att_after v) (IsSoundAtt v) (λ before from a rest s. (att-sound v from a rest s).0) atts [] es.start rest es.each;
+      names = all-each (att_after v) (λ (att : Att). IsName att.name) (λ before from a rest s. (att-sound v from a rest s).1) atts [] es.start rest es.each;
+    }
+
+-- this variable keeps the limits after those before it
+pub record IsWithinLimits (dims : List Dim) (before : List Var) (var : Var) : Type 0 where
+  pub slab : slab_size dims var ≤ slab_limit
+  pub record_bytes : padded_total dims (record_vars dims (before ++ var ∷ [])) ≤ record_limit
+
+both-true : (a b : Bool) → (a && b) ≡ true → (a ≡ true) × (b ≡ true)
+both-true a b e = grind arith
+
+is-within : (dims : List Dim) (before : List Var) (var : Var) → is_within_limits dims (padded_total dims (record_vars dims before)) var.dimids var.ty ≡ true → IsWithinLimits dims before var
+is-within dims before var e =
+    let both = both-true _ _ e in
+    let below = leb-true _ _ both.1 in
+    record { slab = leb-true _ _ both.0; record_bytes = omega (arith, total-append dims before (var ∷ []), one-total dims var, below) }
 
 abbrev HasNames : Var → Type 0
 HasNames var = IsName var.name × All (λ (att : Att). IsName att.name) var.atts
 
-var-names : (v : Version) (dims : List Dim) → Gives (SpellsVar v dims) HasNames
-var-names v dims before bytes var rest s =
-    (s.named.valid, atts-names v s.after_shape var.atts s.after_atts s.atts)
+abbrev SoundVar : Version → List Dim → List Var → Var → Type 0
+SoundVar v dims before x = IsSoundVar v dims x × HasNames x × IsWithinLimits dims before x
+
+var-sound : (v : Version) (dims : List Dim) (before : List Var) (from : Bytes) (x : Var) (rest : Bytes) → Spells (var_after v dims before) from x rest → SoundVar v dims before x
+unfolding Spells var_part
+var-sound v dims before from x rest (text, m, s, (ids, m2, sh, (atts, m3, a, (ty, m4, (t, ts, e), (vsize, m5, vs, (begin, m6, b, (whole, end))))))) =
+    let named = name-sound v from text m s in
+    let shaped = shape-sound v dims m ids m2 sh in
+    let listed = atts-sound v m2 atts m3 a in
+    let p = passed _ t ty _ e in
+    let within = is-within dims before (record { name = text; dimids = ids; atts = atts; ty = ty; begin_at = begin }) (subst (λ k. is_within_limits dims (padded_total dims (record_vars dims before)) ids k ≡ true) p.1 p.0) in
+    subst (SoundVar v dims before) (sym whole) (
+      record { name_len = named.len; rank = shaped.rank; shape = shaped.known; att_count = listed.count; atts = listed.sound; ty = subst (λ k. IsTrue (has_type v k)) p.1 (type-sound v m3 t m4 ts); slab = within.slab },
+      (named.valid, listed.names),
+      within,
+    )
 
 -- ---- the record size
 
-vars-small : (v : Version) (dims : List Dim) (vars before : List Var) (bytes rest : List ℕ) → SpellsEach (SpellsVar v dims) before bytes vars rest
+vars-small : (v : Version) (dims : List Dim) (vars before : List Var) (from rest : Bytes) → SpellsEach (var_after v dims) before from vars rest
     → padded_total dims (record_vars dims before) ≤ record_limit → padded_total dims (record_vars dims (before ++ vars)) ≤ record_limit
-vars-small v dims [] before bytes rest each small = subst (λ (vs : List Var). padded_total dims (record_vars dims vs) ≤ record_limit) (sym (append-nil before)) small
-vars-small v dims (var ∷ vars) before bytes rest each small = grind (arith, append_assoc, vars-small v dims vars)
+vars-small v dims [] before from rest s small = subst (λ (vs : List Var). padded_total dims (record_vars dims vs) ≤ record_limit) (sym (append-nil before)) small
+vars-small v dims (x ∷ vars) before from rest s small =
+    subst (λ vs. padded_total dims (record_vars dims vs) ≤ record_limit) (append_assoc before (x ∷ []) vars)
+    (vars-small v dims vars (before ++ x ∷ []) s.0 rest s.2 (var-sound v dims before from x s.0 s.1).2.record_bytes)
 
 one-record_size_of : (narrow : Bool) (slab padding : ℕ) → cond narrow slab (slab + padding) ≤ slab + padding
 one-record_size_of narrow slab padding = grind arith
@@ -117,28 +229,46 @@ record_size_of-le-padded dims _ = omega arith
 
 -- ---- the whole
 
-records-sound : (v : Version) (bytes : List ℕ) (numrecs : NumRecs) (rest : List ℕ) → SpellsNumRecs v bytes numrecs rest → IsSoundNumRecs v numrecs
-records-sound v bytes (Known n) rest s = s.non_negative
-records-sound v bytes Streaming rest s = tt
+known-below : (b c : Bool) (k m : ℕ) → (if b then Ok Streaming else (if c then Ok (Known k) else Err BadCount)) ≡ Ok (Known m) → (c ≡ true) × (k ≡ m)
+known-below b c k m e = grind arith
 
-pub spelled-sound : (bytes : List ℕ) (h : Header) (rest : List ℕ) → SpellsHeader bytes h rest → IsSound h
-spelled-sound bytes h rest s =
-    let v = h.version in
-    let dim_list = listed v _ (SpellsDim v) s.after_numrecs h.dims s.after_dims s.dim_list in
-    let var_list = listed v _ (SpellsVar v h.dims) s.after_gatts h.vars rest s.var_list in
-    let records = vars-small v h.dims h.vars [] var_list.prefix rest var_list.each (omega arith) in
-    let packed = record_size_of-le-padded h.dims (record_vars h.dims h.vars) in
-    record {
-      numrecs = records-sound v s.after_magic h.numrecs s.after_numrecs s.numrecs;
-      dim_count = dim_list.count;
-      dims = list-all v _ (SpellsDim v) (IsSoundDim v) (dim-sound v) s.after_numrecs h.dims s.after_dims s.dim_list;
-      one_record_dim = dims-one v h.dims [] dim_list.prefix s.after_dims dim_list.each (omega arith);
-      gatt_count = (listed v _ (SpellsAtt v) s.after_dims h.gatts s.after_gatts s.gatt_list).count;
-      gatts = atts-sound v s.after_dims h.gatts s.after_gatts s.gatt_list;
-      var_count = var_list.count;
-      vars = list-all v _ (SpellsVar v h.dims) (IsSoundVar v h.dims) (var-sound v h.dims) s.after_gatts h.vars rest s.var_list;
-      small_records = omega (arith, packed, records);
-    }
+numrecs-in : (v : Version) (k : ℕ) (n : NumRecs) → numrecs_in v k ≡ Ok n → IsSoundNumRecs v n
+numrecs-in v k (Known m) e = let p = known-below _ _ k m e in subst (λ k. k < count_limit v) p.1 (ltb-true _ _ p.0)
+numrecs-in v k Streaming e = tt
 
-pub spelled-names : (bytes : List ℕ) (h : Header) (rest : List ℕ) → SpellsHeader bytes h rest → HasValidNames h
-spelled-names bytes h rest s = search (rules, list-all, dim-name, atts-names, var-names)
+numrecs-sound : (v : Version) (from : Bytes) (n : NumRecs) (rest : Bytes) → Spells (numrecs_part v) from n rest → IsSoundNumRecs v n
+unfolding Spells numrecs_part
+numrecs-sound v from n rest (k, s, e) = numrecs-in v k n e
+
+-- what was spelled is sound, and its names are valid
+pub record IsSoundAndNamed (h : Header) : Type 0 where
+  pub sound : IsSound h
+  pub names : HasValidNames h
+
+pub spelled-sound : (from : Bytes) (h : Header) (rest : Bytes) → Spells header_part from h rest → IsSoundAndNamed h
+unfolding Spells header_part dim_list var_list
+spelled-sound from h rest (v, m, s, (n, m2, ns, (dims, m3, d, (gatts, m4, g, (vars, m5, vs, (whole, end)))))) =
+    let ds = list-elements v dimension_tag (dim_after v) m2 dims m3 d in
+    let listed = atts-sound v m3 gatts m4 g in
+    let xs = list-elements v variable_tag (var_after v dims) m4 vars m5 vs in
+    let records = vars-small v dims vars [] xs.start m5 xs.each (omega arith) in
+    let packed = record_size_of-le-padded dims (record_vars dims vars) in
+    subst IsSoundAndNamed (sym whole)
+    (record {
+      sound = record {
+        numrecs = numrecs-sound v m n m2 ns;
+        dim_count = ds.count;
+        dims = all-each (dim_after v) (IsSoundDim v) (λ before from x rest s. (dim-sound v before from x rest s).0) dims [] ds.start m3 ds.each;
+        one_record_dim = dims-one v dims [] ds.start m3 ds.each (omega arith);
+        gatt_count = listed.count;
+        gatts = listed.sound;
+        var_count = xs.count;
+        vars = all-each (var_after v dims) (IsSoundVar v dims) (λ before from x rest s. (var-sound v dims before from x rest s).0) vars [] xs.start m5 xs.each;
+        small_records = omega (arith, packed, records);
+      };
+      names = record {
+        dims = all-each (dim_after v) (λ (dim : Dim). IsName dim.name) (λ before from x rest s. (dim-sound v before from x rest s).1) dims [] ds.start m3 ds.each;
+        gatts = listed.names;
+        vars = all-each (var_after v dims) HasNames (λ before from x rest s. (var-sound v dims before from x rest s).1) vars [] xs.start m5 xs.each;
+      };
+    })

@@ -1,3 +1,4 @@
 mod Files
+mod Places
 mod Texts
 pub mod Written

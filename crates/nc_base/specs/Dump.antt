@@ -5,8 +5,7 @@ use Rattle.std.specs.Str.{bytes_eq}
 use Rattle.nc_base.specs.declared.{fault.FormatFault.FormatFault, header.Dim.Dim, header.Header.Header, header.Var.Var}
 use Rattle.nc_base.specs.Bytes.{Bytes, concat_parts}
 use Rattle.nc_base.specs.Sizes.{value_count, record_count}
-use Rattle.nc_base.specs.Grammar.{SpellsHeader}
-use Rattle.nc_base.specs.FirstFault.{StopsAt}
+use Rattle.nc_base.specs.Grammar.{SpellsHeader, StopsAt}
 use Rattle.nc_base.specs.HeadText.{head_text}
 use Rattle.nc_base.specs.Places.{stored_values, first_missing}
 use Rattle.nc_base.specs.ValueText.{Look, look_of, variable_prefix, variable_text}

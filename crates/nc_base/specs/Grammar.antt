@@ -1,17 +1,90 @@
--- Definition. The grammar of a header, as the NetCDF Classic Format Specification has it: for each of its lines a relation between
--- bytes, the value at their start, and the rest after it. A field such as `after_name : Bytes` says that there are such bytes. Padding and
--- vsize may be any.
-use Rattle.std.specs.Prelude.{ℕ, ◌≡◌, ◌*◌, ◌^◌, ◌<◌, ◌≤◌, true, false, IsTrue, List, [], ◌∷◌, ◌++◌, length, codes}
-use Rattle.std.specs.Int.{Width, w32, to_be_bytes, byte_len}
-use Rattle.nc_base.specs.declared.{header.Att.Att, header.Dim.Dim, header.Var.Var, header.Header.Header, header.NumRecs.NumRecs, nc_type.NcType.NcType, version.Version.Version}
+-- Definition. The header of a file, line by line as the NetCDF Classic Format Specification has it: its own line stands above each part, and
+-- what it says of padding in words. The parts build on each other, from numbers to `header_part` at the end. `Name ∶` puts a part under a step,
+-- and `p is f` says: to write a whole value x, write p with f x. A comment that begins with `Project` is a rule of this project.
+use Rattle.std.specs.Prelude.{ℕ, zero, suc, ◌≡◌, ◌+◌, ◌*◌, ◌/◌, ◌^◌, ◌-◌, ◌==◌, ◌&&◌, ◌||◌, Bool, not, nat_lt, nat_le, if◌then◌else◌, List, [], ◌∷◌, ◌++◌, length, drop, replicate, codes, slice_index, Option, Some, None, Result, Ok, Err, ok_or}
+use Rattle.std.specs.Int.{Width, w32, to_be_bytes, from_be_bytes, byte_len}
+use Rattle.std.specs.Str.{bytes_eq}
+use Rattle.nc_base.specs.declared.{fault.FormatFault.FormatFault, header.Att.Att, header.Dim.Dim, header.Var.Var, header.Header.Header, header.NumRecs.NumRecs, nc_type.NcType.NcType, version.Version.Version, version.Version.TheVariants.Cdf5}
+use Rattle.nc_base.specs.declared.fault.FormatFault.TheVariants.{NotNetcdf, UnknownVersion, HeaderTruncated, BadTag, BadCount, BadName, FloatingType, BadType, BadShape, TwoRecordDims, BadOffset, TooLarge}
 use Rattle.nc_base.specs.declared.header.NumRecs.TheVariants.{Known, Streaming}
 use Rattle.nc_base.specs.Bytes.{Bytes, padding_len}
-use Rattle.nc_base.specs.Types.{code_of, size_of}
-use Rattle.nc_base.specs.Versions.{version_byte, count_width, offset_width, count_limit, offset_limit, streaming_mark, has_type}
-use Rattle.nc_base.specs.Names.{IsName}
-use Rattle.nc_base.specs.Sizes.{has_record_dim, is_record_dim, slab_size, padded_total, record_vars, slab_limit, record_limit}
+use Rattle.nc_base.specs.Types.{code_of, size_of, type_of_code}
+use Rattle.nc_base.specs.Versions.{version_byte, version_of_byte, count_width, offset_width, count_limit, offset_limit, streaming_mark, has_type}
+use Rattle.nc_base.specs.Names.{is_name}
+use Rattle.nc_base.specs.Sizes.{has_record_dim, is_record_dim, is_record_shape, slab_of, padded_size, padded_total, record_vars, slab_limit, record_limit}
+use Rattle.nc_base.specs.Parts.{Step, Part, done, bytes, decoded, under, chain, Spells, Stops, print}
+use Rattle.nc_base.specs.Parts.{Magic, VersionByte, Records, Dims, Gatts, Vars, Tag, Count, Item, Name, Length, Text, Padding, TypeCode, Values, Shape, Atts, Vsize, Begin}
 
--- the tags of the lists: NC_DIMENSION, NC_VARIABLE, NC_ATTRIBUTE
+-- ---- notation
+
+-- a part of a B, and its value in a B
+pub record Member (B A : Type 0) : Type 1 where
+  pub part : Part A
+  pub value : B → Option A
+
+-- a member, and what follows it (`x ← m` and the lines after it)
+infixl 10 ◌>>=◌
+abbrev pub ◌>>=◌ : {A B : Type 0} → Member B A → (A → Part B) → Part B
+m >>= next = chain m.value m.part next
+
+infixl 20 ◌is◌
+abbrev pub ◌is◌ : {A B : Type 0} → Part A → (B → A) → Member B A
+p is value = record { part = p; value = λ whole. Some (value whole) }
+
+infixr 30 ◌∶◌
+abbrev pub ◌∶◌ : {A : Type 0} → Step → Part A → Part A
+step ∶ p = under step p
+
+-- a part whose value must pass a test; otherwise the part is wrong
+abbrev pub checked : {A : Type 0} → (A → Bool) → FormatFault → Part A → Part A
+checked test fault p = decoded (λ x. if test x then Ok x else Err fault) (λ x. x) p
+
+-- ---- numbers
+
+-- a big-endian number (a byte above 255 would count as it is; files have none)
+unfoldable pub number : Width → Part ℕ
+number width = decoded (λ digits. Ok (from_be_bytes width digits)) (to_be_bytes width) (bytes (byte_len width) HeaderTruncated)
+
+-- NON_NEG, in 4 or 8 bytes: its top bit is 0. (nelems = NON_NEG, dim_length = NON_NEG)
+unfoldable pub count_part : Version → Part ℕ
+count_part v = checked (λ n. nat_lt n (count_limit v)) BadCount (number (count_width v))
+
+-- OFFSET, in 4 or 8 bytes: its top bit is 0, too
+unfoldable pub offset_part : Version → Part ℕ
+offset_part v = checked (λ n. nat_lt n (offset_limit v)) BadOffset (number (offset_width v))
+
+-- ---- bytes and names
+
+-- n bytes, which are written as zeros. Project: they may have any value.
+unfoldable pub ignored : ℕ → Part (Unit {0})
+ignored n = decoded (λ any. Ok tt) (λ nothing. replicate n 0) (bytes n HeaderTruncated)
+
+-- name = nelems namestring  (filled up to the next multiple of four)
+unfoldable pub name_part : Version → Part Bytes
+name_part v = do
+  n ← Length ∶ count_part v is length
+  text ← Text ∶ checked is_name BadName (bytes n HeaderTruncated) is λ text. text
+  padding ← Padding ∶ ignored (padding_len n) is λ text. tt
+  done text
+
+-- ---- types
+
+-- the type, if it is one of the version's
+abbrev pub known_type : Version → Option NcType → Option NcType
+known_type v (Some ty) = if has_type v ty then Some ty else None
+known_type v None = None
+
+-- the version's type with this code. Project: float, whose code is 5, and double, 6, are refused.
+abbrev pub type_in : Version → ℕ → Result NcType FormatFault
+type_in v code = if (code == 5) || (code == 6) then Err FloatingType else ok_or (known_type v (type_of_code code)) BadType
+
+-- nc_type = NC_BYTE | NC_CHAR | NC_SHORT | NC_INT | .. | NC_UINT64
+unfoldable pub type_part : Version → Part NcType
+type_part v = decoded (type_in v) code_of (number w32)
+
+-- ---- lists
+
+-- NC_DIMENSION = \x00 \x00 \x00 \x0A, and so NC_VARIABLE and NC_ATTRIBUTE
 abbrev pub dimension_tag : ℕ
 dimension_tag = 10
 
@@ -21,154 +94,172 @@ variable_tag = 11
 abbrev pub attribute_tag : ℕ
 attribute_tag = 12
 
--- how a value is spelled. `Spells bytes x rest`: the bytes begin with x and go on with the rest
-abbrev pub Spelling : Type 0 → Type 1
-Spelling A = Bytes → A → Bytes → Type 0
+-- the first element, if there is one
+abbrev pub first : {A : Type 0} → List A → Option A
+first [] = None
+first (x ∷ xs) = Some x
 
--- ---- numbers
-
-pub record SpellsNumber (width : Width) (bytes : Bytes) (n : ℕ) (rest : Bytes) : Type 0 where
-  pub fits : n < 256 ^ byte_len width
-  pub spelled : bytes ≡ to_be_bytes width n ++ rest
-
--- NON_NEG: a number of the version's width whose top bit is 0
-pub record SpellsCount (v : Version) (bytes : Bytes) (n : ℕ) (rest : Bytes) : Type 0 where
-  pub number : SpellsNumber (count_width v) bytes n rest
-  pub non_negative : n < count_limit v
-
--- OFFSET: the same of an offset's width
-pub record SpellsOffset (v : Version) (bytes : Bytes) (n : ℕ) (rest : Bytes) : Type 0 where
-  pub number : SpellsNumber (offset_width v) bytes n rest
-  pub non_negative : n < offset_limit v
-
--- ---- names and types
-
--- these bytes, and padding up to the next multiple of four
-pub record SpellsPadded (bytes content rest : Bytes) : Type 0 where
-  pub padding : Bytes
-  pub padded : length padding ≡ padding_len (length content)
-  pub spelled : bytes ≡ content ++ (padding ++ rest)
-
--- name = nelems namestring
-pub record SpellsName (v : Version) (bytes name rest : Bytes) : Type 0 where
-  pub after_count : Bytes
-  pub count : SpellsCount v bytes (length name) after_count
-  pub valid : IsName name
-  pub padded : SpellsPadded after_count name rest
-
--- nc_type = NC_BYTE | NC_CHAR | ..
-pub record SpellsType (v : Version) (bytes : Bytes) (ty : NcType) (rest : Bytes) : Type 0 where
-  pub number : SpellsNumber w32 bytes (code_of ty) rest
-  pub has : has_type v ty ≡ true
-
--- ---- lists
-
--- how an element of a list is spelled after those before it, such as `SpellsDim v`: rules such as "one record dimension" need these
-abbrev pub ElementSpelling : Type 0 → Type 1
-ElementSpelling A = List A → Spelling A
-
--- these elements, one after the other; `before` are those before them
-abbrev pub SpellsEach : {A : Type 0} → ElementSpelling A → List A → Spelling (List A)
-SpellsEach Element before bytes [] rest = bytes ≡ rest
-SpellsEach Element before bytes (x ∷ xs) rest =
-    (middle : Bytes) × Element before bytes x middle × SpellsEach Element (before ++ x ∷ []) middle xs rest
+-- n more elements after `before`; the value is all of them (a rule such as "one record dimension" looks at those before)
+unfoldable pub each : {A : Type 0} → (List A → Part A) → ℕ → List A → Part (List A)
+each element zero before = done before
+each element (suc n) before = do
+  x ← record { part = Item (length before) ∶ element before; value = λ all. first (drop (length before) all) }
+  each element n (before ++ x ∷ [])
 
 -- nelems [element ...]
-pub record SpellsCounted {A : Type 0} (v : Version) (Element : ElementSpelling A)
-    (bytes : Bytes) (xs : List A) (rest : Bytes) : Type 0 where
-  pub after_count : Bytes
-  pub count : SpellsCount v bytes (length xs) after_count
-  pub each : SpellsEach Element [] after_count xs rest
+unfoldable pub counted : {A : Type 0} → Version → (List A → Part A) → Part (List A)
+counted v element = do
+  n ← Count ∶ count_part v is length
+  each element n []
 
--- a list = ABSENT | TAG nelems [element ...] (an empty one has either form)
-pub data SpellsList {A : Type 0} (v : Version) (tag : ℕ) (Element : ElementSpelling A)
-    (bytes : Bytes) (xs : List A) (rest : Bytes) : Type 0 where
-  absent : (after_tag : Bytes)
-      → SpellsNumber w32 bytes 0 after_tag → SpellsCount v after_tag 0 rest → xs ≡ []
-      → SpellsList v tag Element bytes xs rest
-  present : (after_tag : Bytes)
-      → SpellsNumber w32 bytes tag after_tag → SpellsCounted v Element after_tag xs rest
-      → SpellsList v tag Element bytes xs rest
+-- what stands before the elements of a list: its tag and their number. ABSENT, a tag of 0 and the number 0, is written if there are none.
+-- Project: a list without elements may have its own tag, too.
+unfoldable pub list_head : Version → ℕ → Part ℕ
+list_head v tag = do
+  found ← Tag ∶ checked (λ t. (t == 0) || (t == tag)) BadTag (number w32) is λ n. if n == 0 then 0 else tag
+  Count ∶ checked (λ n. not (found == 0) || (n == 0)) BadCount (count_part v)
+
+-- ABSENT | TAG nelems [element ...]
+unfoldable pub list_part : {A : Type 0} → Version → ℕ → (List A → Part A) → Part (List A)
+list_part v tag element = do
+  n ← list_head v tag is length
+  each element n []
 
 -- ---- dimensions and attributes
 
--- dim = name dim_length: no two are the record dimension
-pub record SpellsDim (v : Version) (before : List Dim) (bytes : Bytes) (dim : Dim) (rest : Bytes) : Type 0 where
-  pub after_name : Bytes
-  pub name : SpellsName v bytes dim.name after_name
-  pub len : SpellsCount v after_name dim.len rest
-  pub one_record_dim : dim.len ≡ 0 → has_record_dim before ≡ false
+-- dim = name dim_length  (a length of 0 marks the record dimension; there is at most one)
+unfoldable pub dim_part : Version → Bool → Part Dim
+dim_part v has_record = do
+  name ← Name ∶ name_part v is λ dim. dim.name
+  len ← Length ∶ checked (λ len. not (has_record && (len == 0))) TwoRecordDims (count_part v) is λ dim. dim.len
+  done (record { name = name; len = len })
 
--- attr = name nc_type nelems [values ...]
-pub record SpellsAtt (v : Version) (before : List Att) (bytes : Bytes) (att : Att) (rest : Bytes) : Type 0 where
-  pub after_name : Bytes
-  pub after_type : Bytes
-  pub after_count : Bytes
-  pub count : ℕ
-  pub named : SpellsName v bytes att.name after_name
-  pub typed : SpellsType v after_name att.ty after_type
-  pub counted : SpellsCount v after_type count after_count
-  pub whole : length att.vals ≡ count * size_of att.ty
-  pub values : SpellsPadded after_count att.vals rest
+abbrev pub dim_after : Version → List Dim → Part Dim
+dim_after v before = dim_part v (has_record_dim before)
 
-abbrev pub SpellsAtts : Version → Spelling (List Att)
-SpellsAtts v bytes atts rest = SpellsList v attribute_tag (SpellsAtt v) bytes atts rest
+-- dim_list = ABSENT | NC_DIMENSION nelems [dim ...]
+unfoldable pub dim_list : Version → Part (List Dim)
+dim_list v = list_part v dimension_tag (dim_after v)
+
+-- attr = name nc_type nelems [values ...]  (filled up to the next multiple of four)
+unfoldable pub att_part : Version → Part Att
+att_part v = do
+  name ← Name ∶ name_part v is λ att. att.name
+  ty ← TypeCode ∶ type_part v is λ att. att.ty
+  n ← Count ∶ count_part v is λ att. length att.vals / size_of att.ty
+  vals ← Values ∶ bytes (n * size_of ty) HeaderTruncated is λ att. att.vals
+  padding ← Padding ∶ ignored (padding_len (length vals)) is λ att. tt
+  done (record { name = name; ty = ty; vals = vals })
+
+abbrev pub att_after : Version → List Att → Part Att
+att_after v before = att_part v
+
+-- gatt_list, vatt_list = ABSENT | NC_ATTRIBUTE nelems [attr ...]
+unfoldable pub att_list : Version → Part (List Att)
+att_list v = list_part v attribute_tag (att_after v)
 
 -- ---- variables
 
--- the id is that of a dimension, and may follow these ids in a shape: the record dimension comes first, if at all
-pub record IsDimid (dims : List Dim) (before : List ℕ) (id : ℕ) : Type 0 where
-  pub known : id < length dims
-  pub record_first : IsTrue (is_record_dim dims id) → before ≡ []
+-- the id of a dimension; that of the record dimension only as the first of a shape
+abbrev pub is_dimid : List Dim → Bool → ℕ → Bool
+is_dimid dims is_first id = nat_lt id (length dims) && (is_first || not (is_record_dim dims id))
 
-pub record SpellsDimid (v : Version) (dims : List Dim) (before : List ℕ) (bytes : Bytes) (id : ℕ) (rest : Bytes) : Type 0 where
-  pub number : SpellsNumber (count_width v) bytes id rest
-  pub known : IsDimid dims before id
+-- dimid = NON_NEG  (Project: any other number names no dimension, also one whose top bit is 1)
+unfoldable pub dimid_part : Version → List Dim → Bool → Part ℕ
+dimid_part v dims is_first = checked (is_dimid dims is_first) BadShape (number (count_width v))
 
--- this project's limits: of the slab, and of the padded slabs in a record up to this variable
-pub record IsWithinLimits (dims : List Dim) (before : List Var) (var : Var) : Type 0 where
-  pub slab : slab_size dims var ≤ slab_limit
-  pub record_bytes : padded_total dims (record_vars dims (before ++ var ∷ [])) ≤ record_limit
+abbrev pub dimid_after : Version → List Dim → List ℕ → Part ℕ
+dimid_after v dims before = dimid_part v dims (length before == 0)
 
 -- nelems [dimid ...]
-abbrev pub SpellsShape : Version → List Dim → Spelling (List ℕ)
-SpellsShape v dims bytes dimids rest = SpellsCounted v (SpellsDimid v dims) bytes dimids rest
+unfoldable pub shape_part : Version → List Dim → Part (List ℕ)
+shape_part v dims = counted v (dimid_after v dims)
 
--- var = name nelems [dimid ...] vatt_list nc_type vsize begin
-pub record SpellsVar (v : Version) (dims : List Dim) (before : List Var) (bytes : Bytes) (var : Var) (rest : Bytes) : Type 0 where
-  pub after_name : Bytes
-  pub after_shape : Bytes
-  pub after_atts : Bytes
-  pub after_type : Bytes
-  pub after_vsize : Bytes
-  pub vsize : ℕ
-  pub named : SpellsName v bytes var.name after_name
-  pub shape : SpellsShape v dims after_name var.dimids after_shape
-  pub atts : SpellsAtts v after_shape var.atts after_atts
-  pub typed : SpellsType v after_atts var.ty after_type
-  pub small : IsWithinLimits dims before var
-  pub any_vsize : SpellsNumber (count_width v) after_type vsize after_vsize
-  pub begin : SpellsOffset v after_vsize var.begin_at rest
+-- what a variable of this shape and type adds to a record: nothing if it isn't a record variable
+abbrev pub record_bytes : List Dim → List ℕ → NcType → ℕ
+record_bytes dims ids ty = if is_record_shape dims ids then slab_of dims ids ty + padding_len (slab_of dims ids ty) else 0
+
+-- Project: the limits, of the slab, and of the padded slabs in a record up to this variable; those before it have `total` bytes
+abbrev pub is_within_limits : List Dim → ℕ → List ℕ → NcType → Bool
+is_within_limits dims total ids ty = nat_le (slab_of dims ids ty) slab_limit && nat_le (total + record_bytes dims ids ty) record_limit
+
+-- vsize as it is written: the bytes of the padded slab, or in CDF-1 and CDF-2 2^32 - 1 if there are 2^32 or more
+abbrev pub vsize_of : Version → ℕ → ℕ
+vsize_of Cdf5 size = size
+vsize_of v size = if nat_lt size (2 ^ 32) then size else (2 ^ 32 - 1)
+
+-- var = name nelems [dimid ...] vatt_list nc_type vsize begin  (begin = OFFSET)
+-- Project: vsize may be any number; if a variable is too large, its type is the wrong field.
+unfoldable pub var_part : Version → List Dim → ℕ → Part Var
+var_part v dims total = do
+  name ← Name ∶ name_part v is λ var. var.name
+  dimids ← Shape ∶ shape_part v dims is λ var. var.dimids
+  atts ← Atts ∶ att_list v is λ var. var.atts
+  ty ← TypeCode ∶ checked (is_within_limits dims total dimids) TooLarge (type_part v) is λ var. var.ty
+  vsize ← Vsize ∶ number (count_width v) is λ var. vsize_of v (padded_size dims var)
+  begin ← Begin ∶ offset_part v is λ var. var.begin_at
+  done (record { name = name; dimids = dimids; atts = atts; ty = ty; begin_at = begin })
+
+abbrev pub var_after : Version → List Dim → List Var → Part Var
+var_after v dims before = var_part v dims (padded_total dims (record_vars dims before))
+
+-- var_list = ABSENT | NC_VARIABLE nelems [var ...]
+unfoldable pub var_list : Version → List Dim → Part (List Var)
+var_list v dims = list_part v variable_tag (var_after v dims)
 
 -- ---- the whole
 
+-- the version with this byte
+abbrev pub version_in : Bytes → Result Version FormatFault
+version_in byte = ok_or (version_of_byte (slice_index byte 0)) (UnknownVersion (slice_index byte 0))
+
+-- VERSION = \x01 | \x02 | \x05
+unfoldable pub version_part : Part Version
+version_part = decoded version_in (λ v. version_byte v ∷ []) (bytes 1 HeaderTruncated)
+
 -- magic = 'C' 'D' 'F' VERSION
-abbrev pub SpellsMagic : Spelling Version
-SpellsMagic bytes v rest = bytes ≡ codes "CDF" ++ version_byte v ∷ rest
+unfoldable pub magic_part : Part Version
+magic_part = do
+  letters ← Magic ∶ checked (λ letters. bytes_eq letters (codes "CDF")) NotNetcdf (bytes 3 NotNetcdf) is λ v. codes "CDF"
+  VersionByte ∶ version_part
+
+-- STREAMING, all of whose bits are 1, or a number of records
+abbrev pub numrecs_in : Version → ℕ → Result NumRecs FormatFault
+numrecs_in v n = if n == streaming_mark v then Ok Streaming else (if nat_lt n (count_limit v) then Ok (Known n) else Err BadCount)
+
+abbrev pub number_of_numrecs : Version → NumRecs → ℕ
+number_of_numrecs v (Known n) = n
+number_of_numrecs v Streaming = streaming_mark v
 
 -- numrecs = NON_NEG | STREAMING
-abbrev pub SpellsNumRecs : Version → Spelling NumRecs
-SpellsNumRecs v bytes (Known n) rest = SpellsCount v bytes n rest
-SpellsNumRecs v bytes Streaming rest = SpellsNumber (count_width v) bytes (streaming_mark v) rest
+unfoldable pub numrecs_part : Version → Part NumRecs
+numrecs_part v = decoded (numrecs_in v) (number_of_numrecs v) (number (count_width v))
 
 -- header = magic numrecs dim_list gatt_list var_list
-pub record SpellsHeader (bytes : Bytes) (h : Header) (rest : Bytes) : Type 0 where
-  pub after_magic : Bytes
-  pub after_numrecs : Bytes
-  pub after_dims : Bytes
-  pub after_gatts : Bytes
-  pub magic : SpellsMagic bytes h.version after_magic
-  pub numrecs : SpellsNumRecs h.version after_magic h.numrecs after_numrecs
-  pub dim_list : SpellsList h.version dimension_tag (SpellsDim h.version) after_numrecs h.dims after_dims
-  pub gatt_list : SpellsAtts h.version after_dims h.gatts after_gatts
-  pub var_list : SpellsList h.version variable_tag (SpellsVar h.version h.dims) after_gatts h.vars rest
+unfoldable pub header_part : Part Header
+header_part = do
+  v ← magic_part is λ h. h.version
+  numrecs ← Records ∶ numrecs_part v is λ h. h.numrecs
+  dims ← Dims ∶ dim_list v is λ h. h.dims
+  gatts ← Gatts ∶ att_list v is λ h. h.gatts
+  vars ← Vars ∶ var_list v dims is λ h. h.vars
+  done (record { version = v; numrecs = numrecs; dims = dims; gatts = gatts; vars = vars })
+
+-- the bytes begin with a spelling of the header, and go on with the rest
+abbrev pub SpellsHeader : Bytes → Header → Bytes → Type 0
+SpellsHeader = Spells header_part
+
+-- the one spelling in which a header is written
+abbrev pub header_spelling : Header → Bytes
+header_spelling = print header_part
+
+-- the first wrong field of a header has this fault, and ends at this offset
+pub record StopsAt (from : Bytes) (fault : FormatFault) (end : ℕ) : Type 0 where
+  -- these steps lead to it, and it starts at this offset
+  pub steps : List Step
+  pub start : ℕ
+  pub from_start : Bytes
+  pub rest : Bytes
+  pub stops : Stops header_part from steps from_start fault rest
+  pub starts : start + length from_start ≡ length from
+  pub ends : end + length rest ≡ length from

@@ -6,8 +6,12 @@ use Rattle.nc_base.specs.Bytes.{Bytes, AreBytes}
 use Rattle.nc_base.specs.Types.{size_of}
 use Rattle.nc_base.specs.Versions.{count_limit, has_type}
 use Rattle.nc_base.specs.Names.{IsName}
-use Rattle.nc_base.specs.Grammar.{IsDimid}
-use Rattle.nc_base.specs.Sizes.{value_count, slab_size, record_size, slab_limit, array_limit, record_limit}
+use Rattle.nc_base.specs.Sizes.{is_record_dim, value_count, slab_size, record_size, slab_limit, array_limit, record_limit}
+
+-- the id is that of a dimension, and may follow these ids in a shape: the record dimension comes first, if at all
+pub record IsDimid (dims : List Dim) (before : List ℕ) (id : ℕ) : Type 0 where
+  pub known : id < length dims
+  pub record_first : IsTrue (is_record_dim dims id) → before ≡ []
 
 abbrev pub AreDimids : List Dim → List ℕ → List ℕ → Type 0
 AreDimids dims before [] = Unit {0}
@@ -53,7 +57,7 @@ pub record IsSound (h : Header) : Type 0 where
   pub gatts : All (IsSoundAtt h.version) h.gatts
   pub var_count : length h.vars < count_limit h.version
   pub vars : All (IsSoundVar h.version h.dims) h.vars
-  -- `Grammar.IsWithinLimits` bounds the padded slabs; a record differs from these only if it has one narrow slab, which is far smaller
+  -- `Grammar.is_within_limits` bounds the padded slabs; a record differs from these only if it has one narrow slab, which is far below the limit
   pub small_records : record_size h ≤ record_limit
 
 -- each name is valid

@@ -4,10 +4,11 @@ pub mod Numbers
 pub mod NumberLaws
 pub mod Paths
 pub mod Versions
+pub mod FaultWords
 pub mod Names
 pub mod Sizes
+pub mod Parts
 pub mod Grammar
-pub mod FirstFault
 pub mod Headers
 pub mod Places
 pub mod Fill
@@ -17,6 +18,7 @@ pub mod ValueText
 pub mod Dump
 pub mod GeneratedFile
 pub mod Datasets
+pub mod HeaderLaws
 pub mod FileLaws
 pub mod Sayable
 pub mod code

@@ -2,7 +2,7 @@
 -- one record. Of any other variable it is all that the variable has.
 use Rattle.std.specs.Prelude.{ℕ, ◌+◌, ◌-◌, ◌*◌, ◌/◌, ◌^◌, min, Bool, false, nat_lt, ◌==◌, ◌&&◌, if◌then◌else◌, List, [], ◌∷◌, length, map, filter, drop, slice_index, sum}
 use Rattle.std.specs.List.{list_any}
-use Rattle.nc_base.specs.declared.{header.Dim.Dim, header.Var.Var, header.Header.Header, header.NumRecs.NumRecs}
+use Rattle.nc_base.specs.declared.{header.Dim.Dim, header.Var.Var, header.Header.Header, header.NumRecs.NumRecs, nc_type.NcType.NcType}
 use Rattle.nc_base.specs.declared.header.NumRecs.TheVariants.{Known, Streaming}
 use Rattle.nc_base.specs.Bytes.{padding_len}
 use Rattle.nc_base.specs.Types.{size_of}
@@ -41,8 +41,12 @@ slab_count dims var = product (slab_lens dims var.dimids)
 abbrev pub value_count : List Dim → Var → ℕ → ℕ
 value_count dims var n = slab_count dims var * (if is_record_var dims var then n else 1)
 
+-- the bytes of a slab of this shape and type
+abbrev pub slab_of : List Dim → List ℕ → NcType → ℕ
+slab_of dims ids ty = product (slab_lens dims ids) * size_of ty
+
 abbrev pub slab_size : List Dim → Var → ℕ
-slab_size dims var = slab_count dims var * size_of var.ty
+slab_size dims var = slab_of dims var.dimids var.ty
 
 -- with the padding up to the next multiple of four
 abbrev pub padded_size : List Dim → Var → ℕ

@@ -1,5 +1,5 @@
 -- Definition. The type table.
-use Rattle.std.specs.Prelude.{ℕ, Bool, true, false, ℤ, pos, neg_ℤ, List, [], ◌∷◌, codes}
+use Rattle.std.specs.Prelude.{ℕ, ◌==◌, Bool, true, false, ℤ, pos, neg_ℤ, List, [], ◌∷◌, codes, Option, find}
 use Rattle.std.specs.Int.{Width, w8, w16, w32, w64, byte_len}
 use Rattle.nc_base.specs.Bytes.{Bytes}
 use Rattle.nc_base.specs.declared.nc_type.NcType.{NcType}
@@ -19,6 +19,10 @@ code_of Uint64 = 11
 
 abbrev pub all_types : List NcType
 all_types = Byte ∷ Char ∷ Short ∷ Int ∷ Ubyte ∷ Ushort ∷ Uint ∷ Int64 ∷ Uint64 ∷ []
+
+-- the type with this code; 5 and 6, the codes of the floating types, have none, and so have all other codes
+abbrev pub type_of_code : ℕ → Option NcType
+type_of_code code = find (λ ty. code == code_of ty) all_types
 
 abbrev pub width_of : NcType → Width
 width_of Byte = w8

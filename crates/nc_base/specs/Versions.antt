@@ -1,5 +1,5 @@
 -- Definition. What differs between the versions of the format, each thing once.
-use Rattle.std.specs.Prelude.{ℕ, ◌-◌, ◌^◌, Bool, true, false}
+use Rattle.std.specs.Prelude.{ℕ, ◌-◌, ◌^◌, ◌==◌, Bool, true, false, [], ◌∷◌, Option, find}
 use Rattle.std.specs.Int.{Width, w32, w64}
 use mir.Val.{bits, hbits}
 use Rattle.nc_base.specs.declared.{nc_type.NcType.NcType, version.Version.Version}
@@ -11,6 +11,10 @@ abbrev pub version_byte : Version → ℕ
 version_byte Cdf1 = 1
 version_byte Cdf2 = 2
 version_byte Cdf5 = 5
+
+-- the version with this byte
+abbrev pub version_of_byte : ℕ → Option Version
+version_of_byte b = find (λ v. b == version_byte v) (Cdf1 ∷ Cdf2 ∷ Cdf5 ∷ [])
 
 -- the width of a NON_NEG (a count, a length, the number of records), of a dimension id and of a vsize
 abbrev pub count_width : Version → Width

@@ -4,6 +4,6 @@ pub mod Quoted
 pub mod OwedValues
 pub mod ListedRows
 pub mod Weight
-pub mod TypeCodes
+pub mod PartRuns
 pub mod Extents
 pub mod LaterPieces

@@ -1,5 +1,11 @@
 //! What can be wrong with the bytes of a header.
 
+ghost use Rattle.std.specs.Prelude.{◌≡◌};
+ghost use Rattle.nc_base.specs.FaultWords.{fault_words};
+
+use std::error::Error;
+use std::fmt;
+
 /// What is wrong with the first wrong field of a header, from the left.
 #[derive(Clone, Copy, Debug, PartialEq, Eq)]
 pub enum FormatFault {
@@ -28,3 +34,39 @@ pub enum FormatFault {
     /// A variable's slab passes 2^48 bytes, or the padded slabs of the record variables up to it pass 2^62 bytes together.
     TooLarge,
 }
+
+impl FormatFault {
+    /// Returns the words for the fault, such as `bad tag`. For an unknown version they are `unknown version `, which the version byte
+    /// comes after.
+    #[tactic(auto, unfolding(crate::specs::FaultWords::fault_words))]
+    pub fn words(self) -> &'static str
+        ensures { result.now ≡ fault_words self }
+    {
+        match self {
+            FormatFault::NotNetcdf => "not a netCDF classic file",
+            FormatFault::UnknownVersion(_) => "unknown version ",
+            FormatFault::HeaderTruncated => "header truncated",
+            FormatFault::BadTag => "bad tag",
+            FormatFault::BadCount => "bad count",
+            FormatFault::BadName => "bad name",
+            FormatFault::FloatingType => "floating type",
+            FormatFault::BadType => "bad type",
+            FormatFault::BadShape => "bad shape",
+            FormatFault::TwoRecordDims => "two record dimensions",
+            FormatFault::BadOffset => "bad offset",
+            FormatFault::TooLarge => "too large",
+        }
+    }
+}
+
+impl fmt::Display for FormatFault {
+    /// Writes the words for the fault, with the version byte of an unknown version: what the fault lines of `ncdump` say of it.
+    fn fmt<W: fmt::Write>(&self, f: &mut fmt::Formatter<W>) -> fmt::Result {
+        match self {
+            FormatFault::UnknownVersion(byte) => write!(f, "{}{byte}", self.words()),
+            _ => f.write_str(self.words()),
+        }
+    }
+}
+
+impl Error for FormatFault {}

@@ -1,5 +1,7 @@
 //! Laws of the definitions in `specs/`, each the contract of a function that does nothing.
 
+ghost use Rattle.nc_base.specs.Grammar.{header_part};
+ghost use Rattle.nc_base.specs.HeaderLaws.{IsCoherent, SpelledHeadersAreSound};
 ghost use Rattle.nc_base.specs.NumberLaws.{NumbersReadBack, BytesReadBack, NumbersAreInRange};
 
 /// States three laws, and does nothing. `numbers`: if a number is in the range of a type, its big-endian bytes are read as this number.
@@ -10,4 +12,12 @@ pub fn numbers_read_back()
     ensures numbers { NumbersReadBack }
     ensures bytes { BytesReadBack }
     ensures in_range { NumbersAreInRange }
+{}
+
+/// States two laws of the description of a header, and does nothing. `coherent`: what bytes spell, where the first wrong field lies, what
+/// reading gives and how a header is written are recursions on the description, and they agree. `sound`: a header that bytes spell is sound
+/// (`nc_base::Header::sound`), and its names are valid.
+pub fn header_is_coherent()
+    ensures coherent { IsCoherent header_part }
+    ensures sound { SpelledHeadersAreSound }
 {}

@@ -17,7 +17,8 @@
 //!     gatts: Sequence::new(alloc),
 //!     vars: Sequence::new(alloc),
 //! };
-//! assert!(rt; header.sound());
+//! let keeps_limits = header.sound();
+//! Ok(keeps_limits)
 //! ```
 #![tactic(auto)]
 

@@ -66,7 +66,8 @@ impl ListedArray {
     #[inline(always)]
     #[tactic(auto, using(crate::proofs::FilledRows::filled_append))]
     pub fn add(&mut self, bytes: &[u8]) -> Result<(), AllocError>
-        ensures { OnOk result (self.new ≡ self.old ++ bytes.now) }
+        ensures ok { OnOk result (self.new ≡ self.old ++ bytes.now) }
+        ensures err { OnErr result (self.new ≡ self.old) }
     {
         self.bytes.extend_from_slice(bytes)?;
         Ok(())
@@ -79,7 +80,8 @@ impl ListedArray {
     /// An allocation failed. The array stays as it was.
     #[tactic(auto, using(crate::proofs::FilledRows::filled_append))]
     pub fn add_byte(&mut self, byte: u8) -> Result<(), AllocError>
-        ensures { OnOk result (self.new ≡ self.old ++ byte ∷ []) }
+        ensures ok { OnOk result (self.new ≡ self.old ++ byte ∷ []) }
+        ensures err { OnErr result (self.new ≡ self.old) }
     {
         self.bytes.push(byte)?;
         Ok(())
@@ -96,7 +98,8 @@ impl ListedArray {
     /// An allocation failed. The array stays as it was.
     #[tactic(auto, using(crate::proofs::FilledRows::filled_append, crate::proofs::FilledRows::filled_end, crate::proofs::FilledRows::ends_end))]
     pub fn end_row(&mut self, lacking: u64, fill: u8) -> Result<(), AllocError>
-        ensures { OnOk result (self.new ≡ self.old ++ replicate lacking fill) }
+        ensures ok { OnOk result (self.new ≡ self.old ++ replicate lacking fill) }
+        ensures err { OnErr result (self.new ≡ self.old) }
     {
         let end = self.bytes.len();
         let row_len = (end - self.last_row_end) as u128 + lacking as u128;

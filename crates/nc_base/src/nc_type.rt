@@ -27,7 +27,7 @@ pub enum NcType {
 
 impl NcType {
     ghost use Rattle.nc_base.specs.Types.{size_of, code_of, default_fill_of, type_word, number_suffix};
-    ghost use Rattle.nc_base.specs.code.TypeCodes.{type_of_code};
+    ghost use Rattle.nc_base.specs.Types.{type_of_code};
 
     /// All types, in the order of their codes.
     pub const ALL: [NcType; 9] = [

@@ -3,8 +3,8 @@
 ghost use Rattle.std.specs.Prelude.{◌≡◌, ◌+◌, ◌*◌, ◌/◌, ◌<◌, ◌≤◌, ◌^◌, ◌&&◌, IfSome, if◌then◌else◌, length, map, min, slice_get, SomeIff};
 ghost use Rattle.nc_base.specs.Types.{size_of};
 ghost use Rattle.nc_base.specs.Bytes.{padding_len};
-ghost use Rattle.nc_base.specs.Sizes.{dim_len, is_record_dim, is_record_shape, is_record_var, is_narrow, product, slab_size, padded_size, slab_limit, record_size, record_limit, record_vars, record_count};
-ghost use Rattle.nc_base.specs.code.SizeParts.{slab_of, slab_at, checked_record_size, extent_sum, least_record_begin, lesser, CountsValues, IsCappedSlab};
+ghost use Rattle.nc_base.specs.Sizes.{slab_of, dim_len, is_record_dim, is_record_shape, is_record_var, is_narrow, product, slab_size, padded_size, slab_limit, record_size, record_limit, record_vars, record_count};
+ghost use Rattle.nc_base.specs.code.SizeParts.{slab_at, checked_record_size, extent_sum, least_record_begin, min_begin, CountsValues, IsCappedSlab};
 ghost use Rattle.nc_base.specs.GeneratedFile.{known_records};
 ghost use Rattle.nc_base.specs.code.Extents.{extent_end};
 ghost use Rattle.nc_base.specs.Headers.{IsSound};
@@ -199,15 +199,15 @@ fn least_record_begin(dims: &[Dim], vars: &[Var]) -> Option<u64>
     let mut least = None;
     for var in vars {
         if is_record_var(dims, var) {
-            least = Some(lesser(least, var.begin_at));
+            least = Some(min_begin(least, var.begin_at));
         }
     }
     least
 }
 
 /// Returns the lesser of the offsets `least` and `begin`, or `begin` if `least` is `None`, as it is before the first record variable.
-fn lesser(least: Option<u64>, begin: u64) -> u64
-    ensures { result ≡ lesser least begin }
+fn min_begin(least: Option<u64>, begin: u64) -> u64
+    ensures { result ≡ min_begin least begin }
 {
     match least {
         Some(offset) => offset.min(begin),
@@ -281,13 +281,13 @@ fn capped_slab_size(dims: &[Dim], dimids: &[u64], ty: NcType) -> u64
 {
     let mut bytes = ty.size();
     for id in dimids {
-        bytes = capped_product(bytes, dim_len(dims, *id));
+        bytes = slab_limited_product(bytes, dim_len(dims, *id));
     }
     bytes
 }
 
 /// Returns the product of `bytes` and `len`, or 2^48 + 1 if the product passes 2^48, the limit of a slab.
-fn capped_product(bytes: u64, len: u64) -> u64
+fn slab_limited_product(bytes: u64, len: u64) -> u64
     ensures { result ≡ min (bytes * len) (slab_limit + 1) }
 {
     match bytes.checked_mul(len) {

@@ -3,8 +3,8 @@
 ghost use Rattle.std.specs.Prelude.{◌≡◌, ◌<◌, ◌≤◌, ◌==◌, ◌↔◌, [], length, filter, IsTrue};
 ghost use Rattle.nc_base.specs.Versions.{count_limit};
 ghost use Rattle.std.specs.List.{list_all, count_by};
-ghost use Rattle.nc_base.specs.Sizes.{slab_limit, record_size, record_limit};
-ghost use Rattle.nc_base.specs.code.SizeParts.{slab_of, is_fixed_dim};
+ghost use Rattle.nc_base.specs.Sizes.{slab_of, slab_limit, record_size, record_limit};
+ghost use Rattle.nc_base.specs.code.SizeParts.{is_fixed_dim};
 ghost use Rattle.nc_base.specs.code.SoundParts.{AreSoundAtts, AreSoundDims, AreSoundVars, HasSoundVars, IsSoundShape};
 ghost use Rattle.nc_base.specs.Headers.{IsSoundNumRecs, IsSoundDim, IsSoundAtt, IsSoundVar, AreDimids, HasWholeValues};
 

@@ -17,7 +17,7 @@ pub enum Version {
 
 impl Version {
     ghost use Rattle.nc_base.specs.Versions.{version_byte, count_limit, offset_limit, streaming_mark, has_type};
-    ghost use Rattle.nc_base.specs.code.TypeCodes.{version_of_byte};
+    ghost use Rattle.nc_base.specs.Versions.{version_of_byte};
 
     /// Returns the version with the version byte `b` (1, 2 or 5), which comes after `CDF` at a file's start, or `None` for any other byte.
     pub fn of_byte(b: u8) -> Option<Version>

@@ -1,25 +1,23 @@
 -- What a reader of the code answers is what the grammar says.
-use Rattle.std.proofs.Common.{◌≡◌, ℕ, ◌+◌, ◌-◌, ◌≤◌, Bool, true, List, length, drop, Result, Ok, Err, sym, ap, ◌∙◌, subst, arith, length-drop}
-use Rattle.nc_file.proofs.Prelude.{OnTrue, OnTrue_at, OnTrue_from, FormatFault, Header, AreBytes, Stops, StopsWith, SpellsHeader, HeadFault, Format, Window, Ghosts, Outcome, Reads, left_over, header_at, Kept, Read, left, source_of}
-use Rattle.nc_base.proofs.SoundSpelling.{spelled-sound, spelled-names}
-use Rattle.nc_file.specs.code.Answers.{EndsAt, header_end, fault_end, ReadUpTo, IsInterrupted, Answers, HasAnswered}
-use Rattle.nc_file.proofs.Means.{Means, spells, stops}
-use Rattle.nc_file.proofs.HeaderLaws.{means-header}
+use Rattle.std.proofs.Common.{◌≡◌, ℕ, ◌+◌, ◌-◌, ◌≤◌, Bool, true, List, length, drop, Result, Ok, Err, IfOk, sym, ap, ◌∙◌, subst, arith, length-drop, refl}
+use Rattle.nc_file.proofs.Prelude.{OnTrue, OnTrue_from, Header, HeadFault, Format, Window, Ghosts, Reads, header_spelling, Kept, Read, left, source_of}
+use Rattle.nc_base.specs.Grammar.{header_part}
+use Rattle.nc_base.specs.code.PartRuns.{Outcome, run, left_after}
+use Rattle.nc_base.proofs.PartLens.{print-len}
+use Rattle.nc_base.proofs.HeaderOutcomes.{header-read, header-stopped, rest-within, end-within, stops-at}
+use Rattle.nc_base.proofs.SoundSpelling.{spelled-sound}
+use Rattle.nc_file.specs.code.Answers.{EndsAt, header_end, fault_end, ReadAtLeast, ReadUpTo, IsInterrupted, Answers, HasAnswered}
+use Rattle.nc_file.proofs.PartRuns.{shorter}
 
-value-of : {A : Type 0} {P : A → List ℕ → Type 0} {In : Stops} {bytes : List ℕ} {x : A} {rest : List ℕ} → Means P In bytes (Ok (x, rest)) → P x rest
-value-of (spells x rest p fits) = p
-
-fault-of : {A : Type 0} {P : A → List ℕ → Type 0} {In : Stops} {bytes : List ℕ} {fault : FormatFault} {rest : List ℕ} → Means P In bytes (Err (Format fault, rest)) → In bytes fault rest
-fault-of (stops fault rest q) = q
-
--- where the header ends, or its first wrong field, from how much is left over after it
-ends-of : (bytes : List ℕ) {o : Outcome Header} → Means (SpellsHeader bytes) StopsWith bytes o → left_over o ≤ length bytes → EndsAt bytes (length bytes - left_over o)
-unfolding left_over
-ends-of bytes (spells h rest p fits) le = header_end h rest p (omega (arith, le))
-ends-of bytes (stops fault rest q) le = fault_end fault (record { rest = rest; stops = q; ends = omega (arith, le) })
+-- where the header ends, or its first wrong field, from how much is left after it
+ends-of : (bytes : List ℕ) (o : Outcome Header) → run header_part bytes ≡ o → EndsAt bytes (length bytes - left_after o)
+unfolding left_after
+ends-of bytes (Ok x) e = let s = header-read bytes x.0 x.1 e in header_end x.0 x.1 s (omega (arith, rest-within bytes x.0 x.1 s))
+ends-of bytes (Err x) e =
+    let s = header-stopped bytes x.0 x.1 e in fault_end x.0 (stops-at bytes x.0 x.1 (length bytes - length x.1) s (omega (arith, end-within bytes x.0 x.1 s)))
 
 module _ {S : Type 0} {g : Ghosts S} (start now : Window S g) (base : start.base ≡ 0) (filled : start.filled ≡ 0) (pos : start.pos ≡ 0)
-    (kept : Kept start now) (fits : AreBytes (source_of start).bytes) where
+    (kept : Kept start now) where
   abbrev bytes : List ℕ
   bytes = (source_of start).bytes
 
@@ -38,45 +36,50 @@ module _ {S : Type 0} {g : Ghosts S} (start now : Window S g) (base : start.base
       let within : now.base + now.filled ≤ length bytes = omega (arith, now.within, ap (λ (bs : List ℕ). length bs) kept.bytes) in
       omega (arith, len, le, within, kept.handed, now.used, now.fits, kept.same_buffer_len, base, filled)
 
-  -- what is read from the start, as the grammar says
-  read-from-start : (o : Outcome Header) → header_at.run (left start) ≡ o → Means (SpellsHeader bytes) StopsWith bytes o
-  read-from-start o e = subst (Means (SpellsHeader bytes) StopsWith bytes) (sym (ap header_at.run at_start) ∙ e) (means-header bytes fits)
+  read-from-start : (o : Outcome Header) → run header_part (left start) ≡ o → run header_part bytes ≡ o
+  read-from-start o e = sym (ap (run header_part) at_start) ∙ e
 
-  broken-off : left_over (header_at.run (left start)) ≤ length (left now) → IsInterrupted bytes (source_of start).handed (source_of now).handed (length start.buf.now)
+  broken-off : left_after (run header_part (left start)) ≤ length (left now) → IsInterrupted bytes (source_of start).handed (source_of now).handed (length start.buf.now)
   broken-off reads =
-      let few : left_over (header_at.run bytes) ≤ length (left now) = subst (λ (bs : List ℕ). left_over (header_at.run bs) ≤ length (left now)) at_start reads in
-      let shorter : left_over (header_at.run bytes) ≤ length bytes = header_at.shorter bytes in
+      let few : left_after (run header_part bytes) ≤ length (left now) = subst (λ (bs : List ℕ). left_after (run header_part bs) ≤ length (left now)) at_start reads in
       record {
-        end = length bytes - left_over (header_at.run bytes);
-        ends = ends-of bytes (means-header bytes fits) shorter;
-        handed = handed-up-to (length bytes - left_over (header_at.run bytes)) (omega (arith, few, shorter));
+        end = length bytes - left_after (run header_part bytes);
+        ends = ends-of bytes (run header_part bytes) refl;
+        handed = handed-up-to (length bytes - left_after (run header_part bytes)) (omega (arith, few, shorter header_part bytes));
       }
 
-  answer : (result : Result Header HeadFault) → Reads true (left start) (left now) header_at result
+  answer : (result : Result Header HeadFault) → Reads true (left start) (left now) header_part result
       → Answers bytes (source_of start).handed (source_of now).handed (length start.buf.now) result
   answer (Ok h) reads =
-      let found = value-of (read-from-start (Ok (h, left now)) reads) in
+      let found = header-read bytes h (left now) (read-from-start (Ok (h, left now)) reads) in
       record {
         rest = left now;
         end = length bytes - length (left now);
         spelled = found;
         ends = ends-at;
         handed = handed-up-to (length bytes - length (left now)) (omega (arith, ends-at));
-        sound = spelled-sound bytes h (left now) found;
-        names = spelled-names bytes h (left now) found;
+        sound = (spelled-sound bytes h (left now) found).sound;
+        names = (spelled-sound bytes h (left now) found).names;
       }
   answer (Err (Format fault)) reads = record {
     end = length bytes - length (left now);
-    stops = record { rest = left now; stops = fault-of (read-from-start (Err (Format fault, left now)) reads); ends = ends-at };
+    stops = stops-at bytes fault (left now) _ (header-stopped bytes fault (left now) (read-from-start (Err (fault, left now)) reads)) ends-at;
     handed = handed-up-to (length bytes - length (left now)) (omega (arith, ends-at));
   }
   answer (Err _) reads = broken-off reads
 
 pub answered : {S : Type 0} {g : Ghosts S} (old new : Window S g) (result : Result Header HeadFault) → old.base ≡ 0 → old.filled ≡ 0 → old.pos ≡ 0
-    → OnTrue g.is_transparent (AreBytes (source_of old).bytes) → Read old new header_at result
+    → Read old new header_part result
     → OnTrue g.is_transparent (HasAnswered (source_of old).bytes (source_of old).handed (source_of new).handed (length old.buf.now) result)
-answered {g = g} old new result base filled pos fits d =
+answered {g = g} old new result base filled pos d =
     let right : g.is_transparent ≡ true → HasAnswered (source_of old).bytes (source_of old).handed (source_of new).handed (length old.buf.now) result = λ known.
-    let reads : Reads true (left old) (left new) header_at result = subst (λ (t : Bool). Reads t (left old) (left new) header_at result) known d.reads in
-    record { answer = answer old new base filled pos d.kept (OnTrue_at {P = AreBytes (source_of old).bytes} known fits) result reads } in
+    let reads : Reads true (left old) (left new) header_part result = subst (λ (t : Bool). Reads t (left old) (left new) header_part result) known d.reads in
+    record { answer = answer old new base filled pos d.kept result reads } in
     OnTrue_from _ _ right
+
+-- A header that was read is spelled in no more bytes than the source has handed over, whatever the source.
+pub spelled_handed : {S : Type 0} {g : Ghosts S} (old new : Window S g) (result : Result Header HeadFault) → old.base ≡ 0 → old.filled ≡ 0 → old.pos ≡ 0
+    → Read old new header_part result
+    → IfOk result (λ h. ReadAtLeast (source_of old) (source_of new) (length (header_spelling h)))
+spelled_handed old new (Ok h) base filled pos d = omega (arith, print-len header_part h, d.kept.handed, d.used, new.used, base, filled, pos)
+spelled_handed old new (Err e) base filled pos d = tt

@@ -1,76 +1,119 @@
--- The bytes of a header's spelling are those of its parts.
-use Rattle.std.proofs.Common.{◌≡◌, ℕ, ◌+◌, ◌*◌, List, [], ◌∷◌, ◌++◌, length, refl, ◌∙◌, arith, length-append, rules}
-use Rattle.nc_file.proofs.Prelude.{to_be_bytes, byte_len, flat_map, sum_by, length-replicate, sum_by-cons, Att, Dim, Header, NumRecs, Var, Version, padding_len, offset_width, count_spelling, word_spelling, magic_spelling, zero_padded, name_spelling, list_head, list_spelling, dim_spelling, att_spelling, atts_spelling, var_spelling, numrecs_spelling, header_spelling}
-use Rattle.nc_file.specs.code.Lengths as len
+-- How many bytes the parts of a written header have.
+use Rattle.std.proofs.Common.{◌≡◌, ℕ, ◌+◌, ◌*◌, ◌≤◌, min, take, Bool, false, List, [], ◌∷◌, ◌++◌, length, refl, sym, ap, ◌∙◌, arith, rules}
+use Rattle.nc_base.specs.Parts.{Part, bytes}
+use Rattle.nc_base.specs.code.PartRuns.{printed_len}
+use Rattle.nc_base.specs.Grammar.{count_part, ignored, name_part, type_part, list_head, list_part, dim_part, dim_after, dim_list, att_part, att_after, att_list, dimid_part, dimid_after, counted, shape_part, var_part, var_after, var_list, version_part, magic_part, numrecs_part, header_part}
+use Rattle.nc_base.proofs.PartLens.{each_len}
+use Rattle.nc_base.proofs.PartLens.{each-len, count-len, ignored-len, field_lens, print-len}
+use Rattle.nc_file.proofs.Prelude.{HeaderTruncated, take_all, Att, Dim, Header, NumRecs, Var, Version, NcType, byte_len, count_width, offset_width, padding_len, sum_by, sum_by-cons, header_spelling}
 
--- ---- numbers
+-- a count, as wide as the version's
+abbrev pub count_bytes : Version → ℕ
+count_bytes v = byte_len (count_width v)
 
-count-len : (v : Version) (n : ℕ) → length (count_spelling v n) ≡ len.count_len v
-count-len v n = grind arith
+pub name-len : (v : Version) (name : List ℕ) → printed_len (name_part v) name ≡ count_bytes v + (length name + padding_len (length name))
+unfolding printed_len name_part
+name-len v name = search (rules, field_lens)
 
-offset-len : (v : Version) (n : ℕ) → length (to_be_bytes (offset_width v) n) ≡ byte_len (offset_width v)
-offset-len v n = grind arith
+-- a name that was read
+pub name-used : (v : Version) (name : List ℕ) (n padding at after_len after_text end : ℕ) → length name ≡ n → padding ≡ padding_len n → at + printed_len (count_part v) n ≡ after_len
+    → after_len + printed_len (bytes n HeaderTruncated) name ≡ after_text → after_text + printed_len (ignored padding) tt ≡ end → at + printed_len (name_part v) name ≡ end
+unfolding printed_len
+name-used v name n padding at after_len after_text end len is a b c =
+    omega (arith, name-len v name, count-len v n, ignored-len padding, ap padding_len len, len, is, a, b, c)
 
-word-len : (n : ℕ) → length (word_spelling n) ≡ 4
-unfolding word_spelling
-word-len n = refl
+pub type-len : (v : Version) (ty : NcType) → printed_len (type_part v) ty ≡ 4
+unfolding printed_len type_part
+type-len v ty = search (rules, field_lens)
 
-numrecs-len : (v : Version) (numrecs : NumRecs) → length (numrecs_spelling v numrecs) ≡ len.count_len v
-numrecs-len v numrecs = grind (arith, count-len)
+pub dim-len : (v : Version) (b : Bool) (dim : Dim) → printed_len (dim_part v b) dim ≡ printed_len (name_part v) dim.name + count_bytes v
+unfolding printed_len dim_part
+dim-len v b dim = search (rules, field_lens)
 
-magic-len : (v : Version) → length (magic_spelling v) ≡ 4
-unfolding magic_spelling
-magic-len v = refl
+pub att-len : (v : Version) (att : Att)
+    → printed_len (att_part v) att ≡ printed_len (name_part v) att.name + (4 + (count_bytes v + (length att.vals + padding_len (length att.vals))))
+unfolding printed_len att_part
+att-len v att = search (rules, field_lens, type-len)
 
--- ---- lists of bytes
+-- an attribute that was read
+pub att-used : (v : Version) (att : Att) (n at after_name after_type after_count after_values end : ℕ) → at + printed_len (name_part v) att.name ≡ after_name → after_name + printed_len (type_part v) att.ty ≡ after_type
+    → after_type + printed_len (count_part v) n ≡ after_count → after_count + length att.vals ≡ after_values → after_values + printed_len (ignored (padding_len (length att.vals))) tt ≡ end → at + printed_len (att_part v) att ≡ end
+att-used v att n at after_name after_type after_count after_values end a b c d e =
+    omega (arith, att-len v att, type-len v att.ty, count-len v n, ignored-len (padding_len (length att.vals)), a, b, c, d, e)
 
-joined : (xs ys : List ℕ) (m n : ℕ) → length xs ≡ m → length ys ≡ n → length (xs ++ ys) ≡ m + n
-joined xs ys m n e f = omega (arith, length-append xs ys, e, f)
+-- ---- lists
 
-padded-len : (bytes : List ℕ) → length (zero_padded bytes) ≡ len.padded_len (length bytes)
-padded-len bytes = joined bytes _ _ _ refl (length-replicate (padding_len (length bytes)) 0)
+-- an element has as many bytes, whatever stands before it
+each-sum : {A : Type 0} (element : List A → Part A) (size : A → ℕ) → ((before : List A) (x : A) → printed_len (element before) x ≡ size x) → (before xs : List A) → each_len element before xs ≡ sum_by size xs
+unfolding each_len
+each-sum element size one before [] = refl
+each-sum element size one before (x ∷ xs) = omega (arith, sum_by-cons size x xs, one before x, each-sum element size one (before ++ x ∷ []) xs)
 
-name-len : (v : Version) (name : List ℕ) → length (name_spelling v name) ≡ len.name_len v name
-name-len v name = joined (count_spelling v (length name)) _ _ _ (count-len v (length name)) (padded-len name)
+head-len : (v : Version) (tag n : ℕ) → printed_len (list_head v tag) n ≡ 4 + count_bytes v
+unfolding printed_len list_head
+head-len v tag n = search (rules, field_lens)
 
--- ---- lists of elements
+list-len : {A : Type 0} (v : Version) (tag : ℕ) (element : List A → Part A) (size : A → ℕ) (xs : List A) → ((before : List A) (x : A) → printed_len (element before) x ≡ size x)
+    → printed_len (list_part v tag element) xs ≡ (4 + count_bytes v) + sum_by size xs
+unfolding printed_len list_part
+list-len v tag element size xs one = omega (arith, head-len v tag (length xs), each-len element (length xs) xs refl, each-sum element size one [] xs)
 
-each-len : {A : Type 0} (spelling : A → List ℕ) (size : A → ℕ) → ((x : A) → length (spelling x) ≡ size x) → (xs : List A)
-    → length (flat_map spelling xs) ≡ sum_by size xs
-each-len spelling size one [] = refl
-each-len spelling size one (x ∷ xs) =
-    omega (arith, sum_by-cons size x xs, joined (spelling x) (flat_map spelling xs) _ _ (one x) (each-len spelling size one xs))
+pub dims-len : (v : Version) (dims : List Dim) → printed_len (dim_list v) dims ≡ (4 + count_bytes v) + sum_by (printed_len (dim_part v false)) dims
+unfolding dim_list
+dims-len v dims = list-len v _ (dim_after v) (printed_len (dim_part v false)) dims (λ before dim. dim-len v _ dim ∙ sym (dim-len v false dim))
 
-list-len : {A : Type 0} (v : Version) (tag : ℕ) (spelling : A → List ℕ) (size : A → ℕ) → ((x : A) → length (spelling x) ≡ size x) → (xs : List A)
-    → length (list_spelling v tag spelling xs) ≡ len.list_head_len v + sum_by size xs
-list-len v tag spelling size one xs =
-    joined (list_head v tag (length xs)) _ _ _ (joined _ (count_spelling v (length xs)) _ _ (word-len _) (count-len v (length xs))) (each-len spelling size one xs)
+pub atts-len : (v : Version) (atts : List Att) → printed_len (att_list v) atts ≡ (4 + count_bytes v) + sum_by (printed_len (att_part v)) atts
+unfolding att_list
+atts-len v atts = list-len v _ (att_after v) (printed_len (att_part v)) atts (λ before att. refl)
 
--- ---- dimensions, attributes and variables
+-- ---- variables
 
-dim-len : (v : Version) (dim : Dim) → length (dim_spelling v dim) ≡ len.dim_len v dim
-unfolding dim_spelling
-dim-len v dim = joined (name_spelling v dim.name) _ _ _ (name-len v dim.name) (count-len v dim.len)
+ids-sum : (v : Version) (ids : List ℕ) → sum_by (λ (id : ℕ). count_bytes v) ids ≡ length ids * count_bytes v
+ids-sum v [] = omega arith
+ids-sum v (id ∷ ids) = sum_by-cons (λ (id : ℕ). count_bytes v) id ids ∙ ap (λ (n : ℕ). count_bytes v + n) (ids-sum v ids) ∙ grind arith
 
-att-len : (v : Version) (att : Att) → length (att_spelling v att) ≡ len.att_len v att
-unfolding att_spelling
-att-len v att = search (rules, joined, name-len, word-len, count-len, padded-len)
+dimid-len : (v : Version) (dims : List Dim) (before : List ℕ) (id : ℕ) → printed_len (dimid_after v dims before) id ≡ count_bytes v
+unfolding printed_len dimid_part
+dimid-len v dims before id = search (rules, field_lens)
 
-atts-len : (v : Version) (atts : List Att) → length (atts_spelling v atts) ≡ len.atts_len v atts
-atts-len v atts = list-len v _ (att_spelling v) (len.att_len v) (att-len v) atts
+pub shape-len : (v : Version) (dims : List Dim) (ids : List ℕ) → printed_len (shape_part v dims) ids ≡ count_bytes v + length ids * count_bytes v
+unfolding printed_len shape_part counted
+shape-len v dims ids =
+    omega (arith, count-len v (length ids), each-len (dimid_after v dims) (length ids) ids refl, each-sum (dimid_after v dims) (λ (id : ℕ). count_bytes v) (dimid-len v dims) [] ids, ids-sum v ids)
 
-ids-len : (v : Version) (ids : List ℕ) → length (flat_map (count_spelling v) ids) ≡ length ids * len.count_len v
-ids-len v [] = omega arith
-ids-len v (id ∷ ids) = joined (count_spelling v id) _ _ _ (count-len v id) (ids-len v ids) ∙ omega arith
+pub var-len : (v : Version) (dims : List Dim) (total : ℕ) (var : Var)
+    → printed_len (var_part v dims total) var ≡ printed_len (name_part v) var.name + ((count_bytes v + length var.dimids * count_bytes v) + (printed_len (att_list v) var.atts + (4 + (count_bytes v + byte_len (offset_width v)))))
+unfolding printed_len var_part
+var-len v dims total var = search (rules, field_lens, type-len, shape-len)
 
-var-len : (v : Version) (dims : List Dim) (var : Var) → length (var_spelling v dims var) ≡ len.var_len v var
-unfolding var_spelling
-var-len v dims var = search (rules, joined, name-len, count-len, ids-len, atts-len, word-len, offset-len)
+pub vars-len : (v : Version) (dims : List Dim) (vars : List Var) → printed_len (var_list v dims) vars ≡ (4 + count_bytes v) + sum_by (printed_len (var_part v [] 0)) vars
+unfolding var_list
+vars-len v dims vars = list-len v _ (var_after v dims) (printed_len (var_part v [] 0)) vars (λ before var. var-len v dims _ var ∙ sym (var-len v [] 0 var))
 
 -- ---- the whole
 
-pub header-len : (h : Header) → length (header_spelling h) ≡ len.header_len h
-unfolding header_spelling
-header-len h = search (rules, joined, magic-len, numrecs-len, list-len, dim-len, atts-len, var-len)
+magic-len : (v : Version) → printed_len magic_part v ≡ 4
+unfolding printed_len magic_part version_part
+magic-len v = refl
+
+numrecs-len : (v : Version) (numrecs : NumRecs) → printed_len (numrecs_part v) numrecs ≡ count_bytes v
+unfolding printed_len numrecs_part
+numrecs-len v numrecs = search (rules, field_lens)
+
+parts-len : (h : Header) → printed_len header_part h ≡ (4 + count_bytes h.version) + (printed_len (dim_list h.version) h.dims + (printed_len (att_list h.version) h.gatts + printed_len (var_list h.version h.dims) h.vars))
+unfolding printed_len header_part
+parts-len h = omega (arith, magic-len h.version, numrecs-len h.version h.numrecs)
+
+pub header-len : (h : Header) → length (header_spelling h) ≡ (4 + count_bytes h.version) + (printed_len (dim_list h.version) h.dims + (printed_len (att_list h.version) h.gatts + printed_len (var_list h.version []) h.vars))
+header-len h = omega (arith, print-len header_part h, parts-len h, vars-len h.version h.dims h.vars, vars-len h.version [] h.vars)
+
+-- ---- sums that stop at a limit
+
+-- all elements were added
+pub all-added : {A : Type 0} (size : A → ℕ) (xs : List A) (i total head whole limit : ℕ) → length xs ≤ i → total ≡ min (head + sum_by size (take i xs)) limit → whole ≡ head + sum_by size xs → total ≡ min whole limit
+all-added size xs i total head whole limit le so_far is =
+    so_far ∙ ap (λ ys. min (head + sum_by size ys) limit) (take_all i xs le) ∙ ap (λ n. min n limit) (sym is)
+
+pub ruleset fields_len = (name-len, dim-len, att-len, var-len)
 
 pub ruleset header_len = (header-len)

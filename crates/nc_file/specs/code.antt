@@ -1,6 +1,4 @@
-pub mod Reading
 pub mod Window
+pub mod SizedVars
 pub mod Answers
-pub mod Lengths
 pub mod Begins
-pub mod WrittenParts

@@ -6,6 +6,8 @@ ghost use Rattle.nc_file.specs.declared.head_fault.HeadFault.TheVariants.{OutOfM
 use devices::SourceFailed;
 use nc_base::FormatFault;
 use std::alloc::AllocError;
+use std::error::Error;
+use std::fmt;
 
 /// Why a header could not be read: because an allocation failed, because the source failed, or for what is wrong with its
 /// bytes.
@@ -18,6 +20,19 @@ pub enum HeadFault {
     /// The first wrong field of the header, from the left.
     Format(FormatFault),
 }
+
+impl fmt::Display for HeadFault {
+    /// Writes the words for the fault, such as `read failed` or `bad tag`.
+    fn fmt<W: fmt::Write>(&self, f: &mut fmt::Formatter<W>) -> fmt::Result {
+        match self {
+            HeadFault::OutOfMemory => f.write_str("out of memory"),
+            HeadFault::ReadFailed => f.write_str("read failed"),
+            HeadFault::Format(fault) => fault.fmt(f),
+        }
+    }
+}
+
+impl Error for HeadFault {}
 
 impl From<SourceFailed> for HeadFault {
     ghost from_gives = { λ _ e. e ≡ ReadFailed };

@@ -1,18 +1,18 @@
 //! Laws of the grammar of a header, each the contract of a function that does nothing.
 
 ghost use Rattle.std.specs.Prelude.{ℕ, List};
-ghost use Rattle.nc_base.specs.Bytes.{AreBytes};
 ghost use Rattle.nc_base.specs.FileLaws.{FilesHoldTheirDatasets, FilesHoldOneDataset, FilesAreDumpedAsTheirText, GeneratedFilesAreDumped};
 ghost use Rattle.nc_file.specs.OneOutcome.{HasOneOutcome};
-ghost use Rattle.nc_file.specs.WrittenHeaders.{WrittenHeadersReadBack};
+ghost use Rattle.nc_base.specs.HeaderLaws.{WrittenHeadersReadBack};
 
 /// States a law, and does nothing. Each list of bytes begins with a header by the grammar, or has a first wrong field, but never both. If
 /// it begins with a header, then there is only one such header, and only one rest after it. If it has a first wrong field, then there is
-/// only one fault of that field, and only one offset at which the field ends.
+/// only one fault of that field, only one way to it through the header's fields, and only one offset at which it begins and one at which it
+/// ends.
 ///
-/// The grammar consists of relations, and doesn't say how to read. This law says that it leaves no choice.
+/// What bytes spell and where the first wrong field lies are relations, which don't say how to read. This law says that they leave no choice.
 pub fn one_header_or_one_fault()
-    ensures { (bytes : List ℕ) → AreBytes bytes → HasOneOutcome bytes }
+    ensures { (bytes : List ℕ) → HasOneOutcome bytes }
 {}
 
 /// States a law, and does nothing. If a header is sound (`nc_base::Header::sound`), its names are valid, and each begin is below the

@@ -6,10 +6,10 @@
 //! re-exported, for the crates above.
 //!
 //! ```
-//! let mut source = FileSource::open(&rt, "a.nc")?;
 //! let mut buf = [0; 4096];
-//! let header = read_header(alloc, &mut source, &mut buf)?;
-//! write_header(&mut sink, &with_begins(header)?)?;
+//! let header = read_header(alloc, source, &mut buf)?;
+//! let placed = with_begins(header)?;
+//! write_header(sink, &placed)?;
 //! ```
 //!
 //! The crates `example_values` and `example_file` are whole programs.

@@ -1,11 +1,19 @@
-//! A variable, with the bytes that a record has up to and including it.
+//! A variable or a type that was read, with the bytes that a record has up to and including that variable.
 
-use nc_base::Var;
+use nc_base::{NcType, Var};
 
 /// A variable that was read, with the bytes that a record has up to and including it.
 #[derive(Debug, Drop)]
 pub(crate) struct SizedVar {
     pub(crate) var: Var,
     /// The bytes of the padded slabs of all record variables up to and including `var`.
+    pub(crate) total: u64,
+}
+
+/// The type of a variable that was read, with the bytes that a record has up to and including that variable.
+#[derive(Debug, Drop)]
+pub(crate) struct SizedType {
+    pub(crate) ty: NcType,
+    /// The bytes of the padded slabs of all record variables up to and including the one that has this type.
     pub(crate) total: u64,
 }

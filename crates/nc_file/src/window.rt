@@ -1,14 +1,17 @@
 //! A window on a source: bytes and numbers, one after the other, through a caller's buffer.
 
-ghost use Rattle.std.specs.Prelude.{◌≡◌, ◌+◌, ◌<◌, ◌≤◌, [], true, length, take, drop, IfOk};
+ghost use Rattle.std.specs.Prelude.{◌≡◌, ◌+◌, ◌<◌, ◌≤◌, true, length, take, drop, IfOk};
 ghost use Rattle.std.specs.Int.{w32, w64};
+ghost use Rattle.nc_base.specs.Grammar.{count_part, ignored, number};
+ghost use Rattle.nc_base.specs.Parts.{bytes};
 ghost use Rattle.nc_base.specs.Versions.{count_width};
+ghost use Rattle.nc_base.specs.declared.fault.FormatFault.TheVariants.{HeaderTruncated};
 ghost use Rattle.devices.specs.code.SourceReads.{AreFrom};
-ghost use Rattle.nc_file.specs.code.Reading.{byte_at, number_at, count_at, bytes_at, skip_at, padded_at};
 
 use crate::head_fault::HeadFault;
+use byteorder::{BigEndian, ByteOrder};
 use devices::Source;
-use nc_base::{FormatFault, Sequence, Version, padding_len};
+use nc_base::{FormatFault, Sequence, Version};
 use std::alloc::Global;
 
 /// A window on a source: a caller's buffer that holds `filled` bytes of the source, from the offset `base` on. The first `pos` of them have
@@ -35,7 +38,7 @@ pub(crate) struct Window<'a, S: Source> {
 }
 
 impl<S: Source> Window<'_, S> {
-    ghost use Rattle.nc_file.specs.code.Window.{FailsOnly, Kept, Refilled, Read, ReadNext, Filled, Ready};
+    ghost use Rattle.nc_file.specs.code.Window.{FailsOnly, Filled, Kept, Read, Ready, Refilled, TookByte, TookSome};
 
     /// Reads the next bytes of the source in place of those in the window, and returns true if at least one came, or false if the source
     /// has no more. If the source fails, it errs with `ReadFailed`, and the window holds no bytes. Needs a window whose bytes have all been
@@ -78,9 +81,10 @@ impl<S: Source> Window<'_, S> {
     }
 
     /// Reads one byte. Errs with `HeaderTruncated` if no byte is left, and with `ReadFailed` if the source fails.
-    #[tactic(auto, using(crate::proofs::Parts::byte_shorter), unfolding(crate::specs::code::Reading::byte_or, crate::specs::code::Reading::left_over))]
-    pub(crate) fn byte(&mut self) -> Result<u8, HeadFault>
-        ensures { Read self.old self.new byte_at result }
+    fn byte(&mut self) -> Result<u8, HeadFault>
+        ensures kept { Kept self.old self.new }
+        ensures cause { FailsOnly self.old self.new result }
+        ensures byte { TookByte self.old self.new result }
     {
         self.ensure_byte()?;
         let b = self.buf[self.pos];
@@ -90,8 +94,8 @@ impl<S: Source> Window<'_, S> {
 
     /// Reads `N` bytes, and returns them: by one copy if the window holds them all, otherwise byte by byte. Errs with
     /// `HeaderTruncated` if fewer are left, and with `ReadFailed` if the source fails.
-    fn array<const N: usize>(&mut self) -> Result<[u8; N], HeadFault>
-        ensures { Read self.old self.new (bytes_at N []) result }
+    pub(crate) fn array<const N: usize>(&mut self) -> Result<[u8; N], HeadFault>
+        ensures { Read self.old self.new (bytes N HeaderTruncated) result }
     {
         if self.filled - self.pos < N {
             return self.array_by_bytes();
@@ -113,41 +117,40 @@ impl<S: Source> Window<'_, S> {
 
     /// Reads `N` bytes, one after the other, and returns them. [`array`](Window::array) calls it if the window doesn't hold them all. Errs
     /// with `HeaderTruncated` if fewer are left, and with `ReadFailed` if the source fails.
-    #[tactic(auto, using(crate::proofs::Loops::array))]
     fn array_by_bytes<const N: usize>(&mut self) -> Result<[u8; N], HeadFault>
-        ensures { Read self.old self.new (bytes_at N []) result }
+        ensures { Read self.old self.new (bytes N HeaderTruncated) result }
     {
-        let mut bytes = [0; N];
+        let mut array = [0; N];
         for i in 0..N {
-            bytes[i] = self.byte()?;
+            array[i] = self.byte()?;
         }
-        Ok(bytes)
+        Ok(array)
     }
 
     /// Reads a big-endian number of four bytes. Errs with `HeaderTruncated` if fewer are left, and with `ReadFailed` if the source
     /// fails.
-    #[tactic(auto, using(crate::proofs::Parts::parts), unfolding(crate::specs::code::Reading::number_at))]
+    #[tactic(auto, using(crate::proofs::PartRuns::part_runs), unfolding(nc_base::specs::Grammar::number, nc_base::specs::code::PartRuns::printed_len))]
     pub(crate) fn read_u32(&mut self) -> Result<u32, HeadFault>
-        ensures { Read self.old self.new (number_at w32) result }
+        ensures { Read self.old self.new (number w32) result }
     {
         let bytes: [u8; 4] = self.array()?;
-        Ok(u32::from_be_bytes(bytes))
+        Ok(BigEndian::read_u32(&bytes))
     }
 
     /// Reads a big-endian number of eight bytes. Errs with `HeaderTruncated` if fewer are left, and with `ReadFailed` if the source
     /// fails.
-    #[tactic(auto, using(crate::proofs::Parts::parts), unfolding(crate::specs::code::Reading::number_at))]
+    #[tactic(auto, using(crate::proofs::PartRuns::part_runs), unfolding(nc_base::specs::Grammar::number, nc_base::specs::code::PartRuns::printed_len))]
     pub(crate) fn read_u64(&mut self) -> Result<u64, HeadFault>
-        ensures { Read self.old self.new (number_at w64) result }
+        ensures { Read self.old self.new (number w64) result }
     {
         let bytes: [u8; 8] = self.array()?;
-        Ok(u64::from_be_bytes(bytes))
+        Ok(BigEndian::read_u64(&bytes))
     }
 
     /// Reads a big-endian number of the width that counts have in the version, eight bytes in CDF-5 and otherwise four. Any value is
     /// allowed. Errs with `HeaderTruncated` if fewer bytes are left, and with `ReadFailed` if the source fails.
     pub(crate) fn number(&mut self, version: Version) -> Result<u64, HeadFault>
-        ensures { Read self.old self.new (number_at (count_width version)) result }
+        ensures { Read self.old self.new (number (count_width version)) result }
     {
         match version {
             Version::Cdf1 | Version::Cdf2 => self.read_u32_as_u64(),
@@ -158,16 +161,16 @@ impl<S: Source> Window<'_, S> {
     /// Reads a big-endian number of four bytes, and returns it as a `u64`, for a field that has eight bytes in other versions. Errs with
     /// `HeaderTruncated` if fewer are left, and with `ReadFailed` if the source fails.
     pub(crate) fn read_u32_as_u64(&mut self) -> Result<u64, HeadFault>
-        ensures { Read self.old self.new (number_at w32) result }
+        ensures { Read self.old self.new (number w32) result }
     {
         Ok(self.read_u32()? as u64)
     }
 
     /// Reads a count or a length (`NON_NEG`), a big-endian number of eight bytes in CDF-5 and otherwise four. Errs with `BadCount` if its
     /// top bit is 1, with `HeaderTruncated` if fewer bytes are left, and with `ReadFailed` if the source fails.
-    #[tactic(auto, using(crate::proofs::Parts::parts), unfolding(crate::specs::code::Reading::count_at))]
+    #[tactic(auto, using(crate::proofs::PartRuns::part_runs), unfolding(nc_base::specs::Grammar::count_part, nc_base::specs::code::PartRuns::printed_len))]
     pub(crate) fn count(&mut self, version: Version) -> Result<u64, HeadFault>
-        ensures { Read self.old self.new (count_at version) result }
+        ensures { Read self.old self.new (count_part version) result }
     {
         let n = self.number(version)?;
         if version.count_limit() <= n {
@@ -195,13 +198,12 @@ impl<S: Source> Window<'_, S> {
     /// Reads the next bytes that the window holds, at least one and at most `most`, appends them to `out`, and returns how many. If it
     /// holds no unused byte, it first reads from the source, once. Needs a `most` above 0. Errs with `HeaderTruncated` if no byte is left,
     /// with `ReadFailed` if the source fails, and with `OutOfMemory` if an allocation fails. After an error `out` is as before.
-    #[tactic(auto, using(crate::proofs::Chunks::drop_more))]
     fn read_some(&mut self, out: &mut Sequence<u8>, most: u128) -> Result<usize, HeadFault>
         requires most { 0 < most }
         ensures kept { Kept self.old self.new }
         ensures cause { FailsOnly self.old self.new result }
         ensures count { IfOk result (λ k. (0 < k) × (k ≤ most)) }
-        ensures next { ReadNext self.old self.new out.old out.new result }
+        ensures bytes { TookSome self.old self.new out.old out.new result }
     {
         self.ensure_byte()?;
         let piece = self.ready(most);
@@ -213,21 +215,21 @@ impl<S: Source> Window<'_, S> {
 
     /// Reads `n` bytes, and returns them. Errs with `HeaderTruncated` if fewer are left, with `ReadFailed` if the source fails,
     /// and with `OutOfMemory` if an allocation fails.
-    #[tactic(auto, using(crate::proofs::Chunks::chunks))]
     pub(crate) fn bytes(&mut self, alloc: Global, n: u128) -> Result<Sequence<u8>, HeadFault>
-        ensures { Read self.old self.new (bytes_at n []) result }
+        ensures read { Read self.old self.new (bytes n HeaderTruncated) result }
+        ensures whole { IfOk result (λ content. length content ≡ n) }
     {
-        let mut bytes = Sequence::new(alloc);
+        let mut content = Sequence::new(alloc);
         let mut missing = n;
         while missing > 0 {
-            missing -= self.read_some(&mut bytes, missing)? as u128;
+            missing -= self.read_some(&mut content, missing)? as u128;
         }
-        Ok(bytes)
+        Ok(content)
     }
 
     /// Passes over `n` bytes. Errs with `HeaderTruncated` if fewer are left, and with `ReadFailed` if the source fails.
     pub(crate) fn skip(&mut self, n: u64) -> Result<(), HeadFault>
-        ensures { Read self.old self.new (skip_at n) result }
+        ensures { Read self.old self.new (ignored n) result }
     {
         if ((self.filled - self.pos) as u64) < n {
             return self.skip_by_bytes(n);
@@ -238,25 +240,12 @@ impl<S: Source> Window<'_, S> {
 
     /// Passes over `n` bytes, one after the other. [`skip`](Window::skip) calls it if the window doesn't hold them all. Errs with
     /// `HeaderTruncated` if fewer are left, and with `ReadFailed` if the source fails.
-    #[tactic(auto, using(crate::proofs::Loops::skip))]
     fn skip_by_bytes(&mut self, n: u64) -> Result<(), HeadFault>
-        ensures { Read self.old self.new (skip_at n) result }
+        ensures { Read self.old self.new (ignored n) result }
     {
         for _ in 0..n {
             self.byte()?;
         }
         Ok(())
-    }
-
-    /// Reads `n` bytes and the padding after them, up to a multiple of four, and returns the bytes without the padding, which may be any
-    /// bytes. Errs with `HeaderTruncated` if fewer are left, with `ReadFailed` if the source fails, and with `OutOfMemory` if an allocation
-    /// fails.
-    #[tactic(auto, using(crate::proofs::Parts::parts), unfolding(crate::specs::code::Reading::padded_at))]
-    pub(crate) fn padded(&mut self, alloc: Global, n: u128) -> Result<Sequence<u8>, HeadFault>
-        ensures { Read self.old self.new (padded_at n) result }
-    {
-        let content = self.bytes(alloc, n)?;
-        self.skip(padding_len(n))?;
-        Ok(content)
     }
 }

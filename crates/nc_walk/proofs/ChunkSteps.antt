@@ -61,6 +61,7 @@ module _ (is_transparent : Bool) (l : Slabs) (i n : ℕ) (had part : List ℕ) (
     within = count_for m k.within;
     capacity = capacity_for m k.capacity;
     failures = k.failures ∙ h.failures;
+    handed = omega (arith, length-append xs ys, h.handed, k.handed);
     exactly = transparent_both is_transparent (exactly_then xs ys m) h.exactly k.exactly;
   }
 
@@ -97,6 +98,7 @@ module _ (is_transparent : Bool) (l : Slabs) (i n : ℕ) (had part : List ℕ) (
     within = h.within;
     capacity = h.capacity;
     failures = t.failures ∙ h.failures;
+    handed = omega (arith, h.handed, t.kept);
     exactly = transparent_both is_transparent (λ e f. record { whole = e.whole; bytes = e.bytes; handed = f.1 ∙ e.handed }) h.exactly t.missing;
   }
 

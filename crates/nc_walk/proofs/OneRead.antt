@@ -1,7 +1,10 @@
 -- One read of a walk, and what the walk is afterwards.
-use Rattle.std.proofs.Common.{◌≡◌, ℕ, ◌+◌, ◌-◌, ◌*◌, ◌/◌, ◌<◌, ◌≤◌, Bool, List, ◌++◌, length, take, drop, map, sym, ◌∙◌, ap, refl, subst, arith, length-append, length-take, Option, None, Some, Ok, All}
-use Rattle.nc_walk.proofs.Prelude.{concat, take-append-le, mul-div_cancel, mul-le-mul_right, le_of_mul-le-mul_right, div-mul-le_self, bytes_at, SourceView, having_read, Slabs, ReadInFull, FailedReadInFull, total, offset, offsets_from, offsets_after, Ready, IsSized, IsWhole, Exactly, ReturnsValues, Failing, Truncated, ReadValues, Steps, Advanced, standing, stopped, as_answer, count}
+use Rattle.std.proofs.Common.{◌≡◌, ℕ, ◌+◌, ◌-◌, ◌*◌, ◌/◌, ◌<◌, ◌≤◌, Bool, List, ◌++◌, length, take, drop, map, sym, ◌∙◌, ap, refl, subst, arith, length-append, length-take, Option, None, Some, Result, Ok, Err, IfOk, IfErr, All}
+use Rattle.std.proofs.Math.Nat.{mod-lt}
+use Rattle.nc_walk.proofs.Prelude.{concat, take-append-le, div-add-mod', mod-mul-add, mul-div_cancel, mul-le-mul_right, le_of_mul-le-mul_right, div-mul-le_self, bytes_at, SourceView, having_read, Slabs, Cursor, ReadInFull, FailedReadInFull, total, number_at, offset, offsets_from, offsets_after, Ready, IsSized, IsCursor, IsWhole, Exactly, ReturnsValues, Failing, Truncated, ReadValues, Steps, Advanced, reading, between, standing, stopped, as_answer, count}
 use Rattle.nc_walk.specs.declared.fault.WalkFault.{WalkFault}
+use Rattle.nc_walk.specs.declared.fault.WalkFault.TheVariants.{ReadFailed, DataTruncated}
+use Rattle.nc_walk.specs.code.Walks.{Reads}
 use Rattle.nc_walk.proofs.FullReadSteps.{transparent_any, transparent_map, transparent_both}
 use Rattle.nc_walk.proofs.Runs.{length-offsets, take-offsets, drop-offsets, first_offset, run_bytes, run_within, ready_whole}
 
@@ -12,9 +15,19 @@ pub none_left : (l : Slabs) (done : ℕ) → done ≡ total l → length (offset
 none_left l done e = omega (arith, length-offsets l done (total l - done))
 
 -- no value is ready
-pub not_ready : (is_transparent : Bool) (l : Slabs) (done capacity : ℕ) (buf : List ℕ) (before : SourceView) (n : ℕ) → done < total l
+pub not_ready : (is_transparent : Bool) (l : Slabs) (done capacity : ℕ) (buf : List ℕ) (before : SourceView) (n : ℕ) → IsSized l → done < total l
     → Ready l done capacity (length before.bytes) n → n ≡ 0 → Truncated is_transparent (standing l done buf) before before done
-not_ready is_transparent l done capacity buf before n more ready none = grind (arith, some_left, transparent_any, first_offset, total)
+not_ready is_transparent l done capacity buf before n sized more ready none = grind (arith, some_left, transparent_any, first_offset, total)
+
+-- bytes of no whole value
+below : (got size : ℕ) → 0 < size → got / size ≡ 0 → got < size
+below got size some none =
+    let e : got / size * size ≡ 0 * size = ap (λ (k : ℕ). k * size) none in
+    omega (arith, e, div-add-mod' got size, mod-lt got {m = size} some)
+
+-- what one read handed over
+grown : (before now : SourceView) (got : ℕ) → now ≡ having_read before got → now.handed ≡ before.handed + got
+grown before now got same = ap (λ (v : SourceView). v.handed) same
 
 -- n values were requested, and `got` bytes came
 module _ (is_transparent : Bool) (l : Slabs) (done capacity : ℕ) (buf : List ℕ) (before now : SourceView) (ys rest : List ℕ) (n got : ℕ)
@@ -61,20 +74,13 @@ module _ (is_transparent : Bool) (l : Slabs) (done capacity : ℕ) (buf : List �
           within = omega (arith, end, few f.within, length-offsets l done (total l - done));
           capacity = omega (arith, most, f.within, len, ready.in_capacity, fits);
           failures = ap (λ (v : SourceView). v.failures) f.same;
+          handed = omega (arith, most, le, length-take (w * l.size) (ys ++ rest), grown before now got f.same);
           exactly = transparent_both is_transparent (λ e b. all_of e b f.same) f.all f.bytes;
         },
       )
 
-  -- all of them came
-  pub came_all : ReadInFull is_transparent before now (offset l done) ys got → got ≡ n * l.size
-      → (n * l.size ≤ length (ys ++ rest)) × ReturnsValues is_transparent (standing l done buf) before now (take (n * l.size) (ys ++ rest)) n
-  came_all f all =
-      let k : got / l.size ≡ n = ap (λ (m : ℕ). m / l.size) all ∙ mul-div_cancel n sized.some in
-      subst (λ (m : ℕ). (m * l.size ≤ length (ys ++ rest)) × ReturnsValues is_transparent (standing l done buf) before now (take (m * l.size) (ys ++ rest)) m) k
-      (came f (omega (arith, k)))
-
-  -- and where all came, these bytes alone were read
-  pub ran_all : ReadInFull is_transparent before now (offset l done) ys got → got ≡ n * l.size → ReadValues l done before now n
+  -- where all came, these bytes alone were read
+  ran_all : ReadInFull is_transparent before now (offset l done) ys got → got ≡ n * l.size → ReadValues l done before now n
   ran_all f all = record { whole = whole; handed = f.same ∙ ap (having_read before) all }
 
   pub values_read : ReadInFull is_transparent before now (offset l done) ys got → n ≤ got / l.size → ReadValues l done before now (got / l.size)
@@ -88,6 +94,8 @@ module _ (is_transparent : Bool) (l : Slabs) (done capacity : ℕ) (buf : List �
     value = refl;
     some = some_left l done more;
     failures = ap (λ (v : SourceView). v.failures) f.same;
+    kept = omega (arith, grown before now got f.same);
+    part = omega (arith, grown before now got f.same, below got l.size sized.some none);
     missing = transparent_map is_transparent (λ full.
         let k : got / l.size ≡ n = ap (λ (m : ℕ). m / l.size) (full ∙ len) ∙ mul-div_cancel n sized.some in
         absurd (omega arith)) f.all;
@@ -104,6 +112,46 @@ module _ (is_transparent : Bool) (l : Slabs) (done capacity : ℕ) (buf : List �
       partway = subst (FailedReadInFull before now) len b;
     },
   )
+
+-- ---- how many of them are whole
+
+abbrev truncated_at : WalkFault → ℕ
+truncated_at (DataTruncated k) = k
+truncated_at ReadFailed = 0
+
+-- of n values that were requested from a cursor on, `got` bytes came, which have some whole values, or not one
+module _ (is_transparent : Bool) (l : Slabs) (cursor : Cursor) (capacity : ℕ) (had : List ℕ) (before now : SourceView) (ys rest : List ℕ) (n got : ℕ)
+    (sized : IsSized l) (is_cursor : IsCursor l cursor) (more : number_at l cursor < total l) (fits : capacity ≤ length had)
+    (ready : Ready l (number_at l cursor) capacity (length before.bytes) n) (some : 0 < n) (len : length ys ≡ n * l.size)
+    (f : ReadInFull is_transparent before now (offset l (number_at l cursor)) ys got) where
+  abbrev i : ℕ
+  i = number_at l cursor
+
+  in_slab : cursor.within + n ≤ l.values_per_slab
+  in_slab = omega (arith, mod-mul-add cursor.slab l.values_per_slab cursor.within is_cursor.within, ready.in_slab)
+
+  most : got / l.size ≤ n
+  most = few is_transparent l i capacity had before now ys rest n got sized more fits ready some len f.within
+
+  pub answered : (result : Result ℕ WalkFault) → IfOk result (λ m. m ≡ got / l.size) → IfOk result (λ m. 0 < m) → IfErr result (λ fault. (fault ≡ DataTruncated i) × (got / l.size ≡ 0))
+      → Reads is_transparent (reading l cursor had (ys ++ rest)) (between before now) result
+  answered (Ok m) whole some_came none =
+      subst (λ (k : ℕ). (k * l.size ≤ length (ys ++ rest)) × ReturnsValues is_transparent (standing l i had) before now (take (k * l.size) (ys ++ rest)) k) (sym whole)
+      (came is_transparent l i capacity had before now ys rest n got sized more fits ready some len f (subst (λ (k : ℕ). 0 < k) whole some_came))
+  answered (Err ReadFailed) whole some_came none = absurd (let e = none.0 in cc)
+  answered (Err (DataTruncated k)) whole some_came none =
+      subst (λ (j : ℕ). Truncated is_transparent (standing l i had) before now j) (sym (ap truncated_at none.0))
+      (came_none is_transparent l i capacity had before now ys rest n got sized more fits ready some len f none.1)
+
+  pub ends_in_slab : (result : Result ℕ WalkFault) → IfOk result (λ m. m ≡ got / l.size) → IfOk result (λ m. cursor.within + m ≤ l.values_per_slab)
+  ends_in_slab (Ok m) whole = omega (arith, in_slab, most, whole)
+  ends_in_slab (Err fault) whole = tt
+
+  pub slab_read : (result : Result ℕ WalkFault) → IfOk result (λ m. m ≡ got / l.size) → IfOk result (λ m. cursor.within + m ≡ l.values_per_slab → ReadValues l i before now m)
+  slab_read (Ok m) whole = λ full.
+      subst (ReadValues l i before now) (sym whole)
+      (values_read is_transparent l i capacity had before now ys rest n got sized more fits ready some len f (omega (arith, in_slab, whole, full)))
+  slab_read (Err fault) whole = tt
 
 -- ---- afterwards
 
@@ -130,6 +178,7 @@ module _ (is_transparent : Bool) (l : Slabs) (done : ℕ) (had buf : List ℕ) (
         within = h.1.within;
         capacity = h.1.capacity;
         failures = h.1.failures;
+        handed = h.1.handed;
         exactly = transparent_map is_transparent (λ e. record { whole = e.whole; bytes = e.bytes; handed = e.handed }) h.1.exactly;
       }))
 

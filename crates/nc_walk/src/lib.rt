@@ -7,11 +7,15 @@
 //! allocate either: [`record_slabs`], called before it, collects what it has to know of each record variable.
 //!
 //! ```
-//! let layout = record_layout(&header, source.len());
-//! let mut walk = Walk::with_layout(&header, var_index, layout, &mut buf);
-//! while let Some(chunk) = walk.next(&mut source)? {
+//! let mut buf = [0; 4096];
+//! let layout = record_layout(header, source.len());
+//! let mut walk = Walk::with_layout(header, var_index, layout, &mut buf);
+//! let mut longest = 0;
+//! while let Some(chunk) = walk.next(source)? {
 //!     // whole values, big-endian, one after the other
+//!     longest = longest.max(chunk.len());
 //! }
+//! Ok(longest)
 //! ```
 //!
 //! The crates `example_values` and `example_file` are whole programs.

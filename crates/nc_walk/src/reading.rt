@@ -1,7 +1,7 @@
 //! One read of a walk.
 
-ghost use Rattle.std.specs.Prelude.{◌+◌, ◌≤◌, IfOk};
-ghost use Rattle.nc_walk.specs.code.Slabs.{AreReady};
+ghost use Rattle.std.specs.Prelude.{◌≡◌, ◌+◌, ◌*◌, ◌/◌, ◌^◌, ◌<◌, ◌≤◌, IfOk, IfErr};
+ghost use Rattle.nc_walk.specs.code.Slabs.{AreReady, number_at};
 ghost use Rattle.devices.specs.Uses.{use_of};
 ghost use Rattle.nc_walk.specs.code.Walks.{reading, Reads, ReadsSlabToEnd};
 
@@ -35,10 +35,31 @@ pub(crate) fn read_values<S: Source>(
 {
     let wanted = (ready * slabs.size) as usize;
     let got = read_full(source, at, &mut into[..wanted])?;
-    if got == wanted {
+    whole_values(slabs, cursor, ready, got as u64)
+}
+
+/// Returns how many of `ready` values are whole in the first `got` of their bytes. The first one is at `cursor`. Needs a `ready` of at least
+/// 1, and no more bytes than these values have.
+///
+/// # Errors
+///
+/// `DataTruncated` if not even the first one is whole.
+#[inline(always)]
+fn whole_values(slabs: &Slabs, cursor: Cursor, ready: u64, got: u64) -> Result<u64, WalkFault>
+    requires some { 0 < ready }
+    requires size { 0 < slabs.now.size }
+    requires fits { ready * slabs.now.size < 2 ^ 64 }
+    requires within { got ≤ ready * slabs.now.size }
+    ensures whole { IfOk result (λ n. n ≡ got / slabs.now.size) }
+    ensures some { IfOk result (λ n. 0 < n) }
+    ensures none { IfErr result (λ fault.
+        (fault ≡ WalkFault.DataTruncated (number_at slabs.now cursor))
+        × (got / slabs.now.size ≡ 0)) }
+{
+    if got == ready * slabs.size {
         return Ok(ready);
     }
-    let whole = got as u64 / slabs.size;
+    let whole = got / slabs.size;
     if whole == 0 {
         return Err(WalkFault::DataTruncated(cursor.number(*slabs)));
     }

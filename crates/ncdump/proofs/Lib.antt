@@ -7,6 +7,7 @@ pub mod Held
 pub mod OneVariable
 pub mod Selected
 pub mod Blame
+pub mod Flushed
 pub mod WholeText
 pub mod DumpLaws
 pub mod OneDump

@@ -57,7 +57,7 @@ same-dump bytes o t u e f one (shown h rest n section s knows counted is) (shown
     )
 
 pub one-dump : BytesHaveOneDump
-one-dump bytes o fits = grind (arith, one-outcome bytes fits, some-dump bytes o, same-dump bytes o)
+one-dump bytes o = grind (arith, one-outcome bytes, some-dump bytes o, same-dump bytes o)
 
 -- ---- calls that meet no failure
 
@@ -80,5 +80,5 @@ ended : (bytes : List ℕ) (o : Options) (old new : SinkView) (answer : Result (
 ended bytes o old new answer h = grind (arith, whole)
 
 pub dumps-agree : DumpsAgree
-dumps-agree bytes o a b c d answer other fits first second =
-    grind (arith, ended bytes o a b answer first, ended bytes o c d other second, same-dump bytes o, one-outcome bytes fits)
+dumps-agree bytes o a b c d answer other first second =
+    grind (arith, ended bytes o a b answer first, ended bytes o c d other second, same-dump bytes o, one-outcome bytes)

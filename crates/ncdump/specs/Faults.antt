@@ -2,16 +2,14 @@
 use Rattle.std.specs.Prelude.{[], ◌∷◌, codes, decimal, string_bytes}
 use Rattle.nc_base.specs.Bytes.{Bytes, concat_parts}
 use Rattle.nc_base.specs.declared.fault.FormatFault.{FormatFault}
-use Rattle.nc_base.specs.declared.fault.FormatFault.TheVariants.{NotNetcdf, UnknownVersion, HeaderTruncated, BadTag, BadCount, BadName, FloatingType, BadType, BadShape, TwoRecordDims, BadOffset, TooLarge}
+use Rattle.nc_base.specs.declared.fault.FormatFault.TheVariants.{UnknownVersion}
+use Rattle.nc_base.specs.FaultWords.{fault_words}
 use Rattle.ncdump.specs.declared.{fault.DumpFault.DumpFault, fault.FileFault.FileFault, fault.Failure.Failure}
 use Rattle.ncdump.specs.declared.fault.DumpFault.TheVariants.{OutOfMemory, ReadFailed, WriteFailed, Format, NoSuchVariable, DataTruncated}
 use Rattle.cli_base.specs.declared.fault.OptFault.{OptFault}
 use Rattle.cli_base.specs.declared.fault.OptFault.TheVariants as opt
 use Rattle.ncdump.specs.declared.fault.FileFault.TheVariants.{CannotOpen, Dump}
 use Rattle.ncdump.specs.declared.fault.Failure.TheVariants.{CommandLine, File, Flush}
-
-unfoldable pub version_words : Bytes
-version_words = codes "unknown version "
 
 unfoldable pub item_words : Bytes
 item_words = codes "no such variable: item "
@@ -20,18 +18,8 @@ unfoldable pub truncated_words : Bytes
 truncated_words = codes ": data truncated at value "
 
 unfoldable pub format_text : FormatFault → Bytes
-format_text NotNetcdf = codes "not a netCDF classic file"
-format_text (UnknownVersion n) = concat_parts (version_words ∷ decimal n ∷ [])
-format_text HeaderTruncated = codes "header truncated"
-format_text BadTag = codes "bad tag"
-format_text BadCount = codes "bad count"
-format_text BadName = codes "bad name"
-format_text FloatingType = codes "floating type"
-format_text BadType = codes "bad type"
-format_text BadShape = codes "bad shape"
-format_text TwoRecordDims = codes "two record dimensions"
-format_text BadOffset = codes "bad offset"
-format_text TooLarge = codes "too large"
+format_text (UnknownVersion n) = concat_parts (fault_words (UnknownVersion n) ∷ decimal n ∷ [])
+format_text fault = fault_words fault
 
 unfoldable pub fault_text : DumpFault → Bytes
 fault_text OutOfMemory = codes "out of memory"

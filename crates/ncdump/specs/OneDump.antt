@@ -1,6 +1,6 @@
 -- Law. There is one dump of a file under all options, and each call that meets no failure writes it.
 use Rattle.std.specs.Prelude.{◌≡◌, Result, Err}
-use Rattle.nc_base.specs.Bytes.{Bytes, AreBytes}
+use Rattle.nc_base.specs.Bytes.{Bytes}
 use Rattle.nc_base.specs.Dump.{Options, Ending, IsDump}
 use Rattle.devices.specs.Sinks.{SinkView, Appended}
 use Rattle.ncdump.specs.declared.fault.DumpFault.{DumpFault}
@@ -36,9 +36,9 @@ pub record Agree (a b c d : SinkView) (answer other : Result (Unit {0}) DumpFaul
 
 -- for all bytes and options
 abbrev pub BytesHaveOneDump : Type 0
-BytesHaveOneDump = (bytes : Bytes) (o : Options) → AreBytes bytes → HasOneDump bytes o
+BytesHaveOneDump = (bytes : Bytes) (o : Options) → HasOneDump bytes o
 
 -- whichever buffer was lent, and however reads and writes were cut
 abbrev pub DumpsAgree : Type 0
-DumpsAgree = (bytes : Bytes) (o : Options) (a b c d : SinkView) (answer other : Result (Unit {0}) DumpFault) → AreBytes bytes
+DumpsAgree = (bytes : Bytes) (o : Options) (a b c d : SinkView) (answer other : Result (Unit {0}) DumpFault)
     → HasDumped bytes o a b answer → HasDumped bytes o c d other → Agree a b c d answer other

@@ -1,3 +1,4 @@
+pub mod Flushed
 pub mod HeadFaults
 pub mod Names
 pub mod Options

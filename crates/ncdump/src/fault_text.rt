@@ -2,14 +2,25 @@
 
 ghost use Rattle.std.specs.Prelude.{◌≡◌};
 ghost use Rattle.devices.specs.code.SinkWrites.{Wrote};
-ghost use Rattle.ncdump.specs.Faults.{cannot_open_line, cannot_open_words, fault_text, file_line, flush_fault_line, format_text, item_words, dump_fault_line, line_of_failure, opt_fault_line, program_words, truncated_words, usage_line, version_words};
-ghost use Rattle.nc_base.specs.declared.fault.FormatFault.TheVariants.{UnknownVersion};
+ghost use Rattle.ncdump.specs.Faults.{cannot_open_line, cannot_open_words, fault_text, file_line, flush_fault_line, format_text, item_words, dump_fault_line, line_of_failure, opt_fault_line, program_words, truncated_words, usage_line};
 ghost use Rattle.ncdump.specs.declared.fault.DumpFault.TheVariants.{DataTruncated, NoSuchVariable};
 
 use crate::fault::{DumpFault, Failure, FileFault};
 use cli_base::OptFault;
 use devices::{Sink, WriteFailed, put, put_decimal};
 use nc_base::FormatFault;
+use std::error::Error;
+use std::fmt;
+
+const OUT_OF_MEMORY: &str = "out of memory";
+
+const READ_FAILED: &str = "read failed";
+
+const WRITE_FAILED: &str = "write failed";
+
+const OF_NAMES: &str = " of -v";
+
+const VARIABLE: &str = "variable ";
 
 /// Writes the line that says why a run failed.
 ///
@@ -110,9 +121,9 @@ fn put_message<W: Sink>(sink: &mut W, fault: &DumpFault) -> Result<(), WriteFail
     ensures { Wrote W.view sink.old sink.new (fault_text fault.now) result }
 {
     match fault {
-        DumpFault::OutOfMemory => put(sink, b"out of memory"),
-        DumpFault::ReadFailed => put(sink, b"read failed"),
-        DumpFault::WriteFailed => put(sink, b"write failed"),
+        DumpFault::OutOfMemory => put(sink, OUT_OF_MEMORY.as_bytes()),
+        DumpFault::ReadFailed => put(sink, READ_FAILED.as_bytes()),
+        DumpFault::WriteFailed => put(sink, WRITE_FAILED.as_bytes()),
         DumpFault::Format(fault) => put_format_fault(sink, *fault),
         DumpFault::NoSuchVariable(index) => put_unknown_name(sink, *index),
         DumpFault::DataTruncated { var, value } => put_missing_value(sink, *var, *value),
@@ -124,9 +135,9 @@ fn put_message<W: Sink>(sink: &mut W, fault: &DumpFault) -> Result<(), WriteFail
 fn put_unknown_name<W: Sink>(sink: &mut W, index: usize) -> Result<(), WriteFailed>
     ensures { Wrote W.view sink.old sink.new (fault_text (NoSuchVariable index)) result }
 {
-    put(sink, item_words())?;
+    put(sink, item_words().as_bytes())?;
     put_decimal(sink, index as u128)?;
-    put(sink, b" of -v")
+    put(sink, OF_NAMES.as_bytes())
 }
 
 /// Writes the message for data that isn't all in the file: the first missing value is number `value` of variable `var`, both from 0 on.
@@ -134,64 +145,38 @@ fn put_unknown_name<W: Sink>(sink: &mut W, index: usize) -> Result<(), WriteFail
 fn put_missing_value<W: Sink>(sink: &mut W, var: usize, value: u128) -> Result<(), WriteFailed>
     ensures { Wrote W.view sink.old sink.new (fault_text (DataTruncated var value)) result }
 {
-    put(sink, b"variable ")?;
+    put(sink, VARIABLE.as_bytes())?;
     put_decimal(sink, var as u128)?;
-    put(sink, truncated_words())?;
+    put(sink, truncated_words().as_bytes())?;
     put_decimal(sink, value)
 }
 
 /// Writes the message for a wrong field of a header.
-#[tactic(auto, unfolding(crate::specs::Faults::format_text))]
+#[tactic(auto, using(devices::proofs::Writes::writes), unfolding(crate::specs::Faults::format_text))]
 fn put_format_fault<W: Sink>(sink: &mut W, fault: FormatFault) -> Result<(), WriteFailed>
     ensures { Wrote W.view sink.old sink.new (format_text fault) result }
 {
+    put(sink, fault.words().as_bytes())?;
     match fault {
-        FormatFault::NotNetcdf => put(sink, b"not a netCDF classic file"),
-        FormatFault::UnknownVersion(n) => put_unknown_version(sink, n),
-        FormatFault::HeaderTruncated => put(sink, b"header truncated"),
-        FormatFault::BadTag => put(sink, b"bad tag"),
-        FormatFault::BadCount => put(sink, b"bad count"),
-        FormatFault::BadName => put(sink, b"bad name"),
-        FormatFault::FloatingType => put(sink, b"floating type"),
-        FormatFault::BadType => put(sink, b"bad type"),
-        FormatFault::BadShape => put(sink, b"bad shape"),
-        FormatFault::TwoRecordDims => put(sink, b"two record dimensions"),
-        FormatFault::BadOffset => put(sink, b"bad offset"),
-        FormatFault::TooLarge => put(sink, b"too large"),
+        FormatFault::UnknownVersion(byte) => put_decimal(sink, byte as u128),
+        _ => Ok(()),
     }
-}
-
-/// Writes the message for a file whose version byte, `n`, names no version.
-#[tactic(auto, using(devices::proofs::Writes::writes), unfolding(crate::specs::Faults::format_text))]
-fn put_unknown_version<W: Sink>(sink: &mut W, n: u8) -> Result<(), WriteFailed>
-    ensures { Wrote W.view sink.old sink.new (format_text (UnknownVersion n)) result }
-{
-    put(sink, version_words())?;
-    put_decimal(sink, n as u128)
-}
-
-/// Returns the words that stand before the version byte in the message for an unknown version.
-#[tactic(auto, unfolding(crate::specs::Faults::version_words))]
-fn version_words() -> &'static [u8]
-    ensures { result.now ≡ version_words }
-{
-    b"unknown version "
 }
 
 /// Returns the words that stand before the index in the message for a chosen name that no variable has.
 #[tactic(auto, unfolding(crate::specs::Faults::item_words))]
-fn item_words() -> &'static [u8]
+fn item_words() -> &'static str
     ensures { result.now ≡ item_words }
 {
-    b"no such variable: item "
+    "no such variable: item "
 }
 
 /// Returns the words between the index of the variable and the number of its first missing value, in the message for missing data.
 #[tactic(auto, unfolding(crate::specs::Faults::truncated_words))]
-fn truncated_words() -> &'static [u8]
+fn truncated_words() -> &'static str
     ensures { result.now ≡ truncated_words }
 {
-    b": data truncated at value "
+    ": data truncated at value "
 }
 
 /// Returns the words that each line on standard error begins with, except for the usage line.
@@ -201,3 +186,21 @@ fn program_words() -> &'static [u8]
 {
     b"ncdump: "
 }
+
+impl fmt::Display for DumpFault {
+    /// Writes the message that [`fault_line`] has for the fault.
+    fn fmt<W: fmt::Write>(&self, f: &mut fmt::Formatter<W>) -> fmt::Result {
+        match self {
+            DumpFault::OutOfMemory => f.write_str(OUT_OF_MEMORY),
+            DumpFault::ReadFailed => f.write_str(READ_FAILED),
+            DumpFault::WriteFailed => f.write_str(WRITE_FAILED),
+            DumpFault::Format(fault) => fault.fmt(f),
+            DumpFault::NoSuchVariable(index) => write!(f, "{}{index}{OF_NAMES}", item_words()),
+            DumpFault::DataTruncated { var, value } => {
+                write!(f, "{VARIABLE}{var}{}{value}", truncated_words())
+            }
+        }
+    }
+}
+
+impl Error for DumpFault {}

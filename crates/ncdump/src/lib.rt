@@ -5,9 +5,6 @@
 //! gives it the opener of files and the standard streams, and flushes standard error.
 //!
 //! ```
-//! use devices::FileSource;
-//! use nc_base::Sequence;
-//!
 //! let options = DumpOptions {
 //!     file: String::from_str(alloc, "a.nc")?,
 //!     name: Sequence::from_vec(Vec::from_slice(alloc, b"a")?),
@@ -16,11 +13,9 @@
 //!     chosen: None,
 //!     width: 80,
 //! };
-//! let mut source = FileSource::open(&rt, "a.nc")?;
+//! let mut source = FileSource::open(rt, "a.nc")?;
 //! let mut buf = [0; 4096];
-//! if let Err(fault) = dump(alloc, &mut source, &options, &mut buf, &mut out) {
-//!     fault_line(&mut err, b"a.nc", &fault)?;
-//! }
+//! dump(alloc, &mut source, &options, &mut buf, out)?;
 //! ```
 #![tactic(auto)]
 

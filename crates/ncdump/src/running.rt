@@ -7,6 +7,7 @@ ghost use Rattle.devices.specs.Uses.{use_of};
 ghost use Rattle.ncdump.specs.Dumps.{options_of, Dumps};
 ghost use Rattle.ncdump.specs.Dumps as dumps;
 ghost use Rattle.ncdump.specs.Runs.{run_of, DumpsAsked, DumpsFile, Ends, OfDump, OpensFile, Runs};
+ghost use Rattle.ncdump.specs.code.Flushed.{IsFlushedUnlessFailed};
 ghost use Rattle.ncdump.specs.code.Shows.{ReadFailsOnly};
 
 use crate::command_line::options_of_words;
@@ -37,6 +38,8 @@ pub fn run_with<P: Opener, O: Flush, E: Sink>(
         (use_of O.Sink.view out.old out.new))
         (use_of E.view err.old err.new) result }
     ensures flushed { result ≡ 0 → O.is_flushed out.new ≡ true }
+    ensures flushed_anyway { IsFlushedUnlessFailed (O.is_flushed out.new)
+        (O.Sink.view out.old).failures (O.Sink.view out.new).failures }
 {
     match dump_and_flush(opener, alloc, words, out) {
         Ok(()) => 0,
@@ -60,6 +63,8 @@ fn dump_and_flush<P: Opener, O: Flush>(
         (opener_use P.Source.is_transparent P.named P.view opener.old opener.new)
         (use_of O.Sink.view out.old out.new)) result }
     ensures flushed { IfOk result (λ _. O.is_flushed out.new ≡ true) }
+    ensures flushed_anyway { IsFlushedUnlessFailed (O.is_flushed out.new)
+        (O.Sink.view out.old).failures (O.Sink.view out.new).failures }
 {
     let dumped = dump_for_words(opener, alloc, words, out);
     let flushed = out.flush();

@@ -41,12 +41,12 @@ fn run_words<R: Env + Files<File = File> + Print + AllocGlobal, E: Write + Drop>
     stderr: E,
 ) -> Result<u8, OptFault> {
     let alloc = rt.alloc();
-    let words: Vec<String> = env::args(rt)?.collect(alloc)?;
-    let texts: Vec<&str> = words.iter().map(|word| word.as_str()).collect(alloc)?;
+    let arguments: Vec<String> = env::args(rt)?.collect(alloc)?;
+    let words: Vec<&str> = arguments.iter().map(|word| word.as_str()).collect(alloc)?;
     let mut files = SystemFiles::new(rt);
     let mut out = IoSink::new(BufWriter::with_capacity(alloc, TEXT_HELD_BACK, io::writer(rt))?);
     let mut err = IoSink::new(BufWriter::with_capacity(alloc, LINE_HELD_BACK, stderr)?);
-    let status = run_with(&mut files, alloc, texts.as_slice(), &mut out, &mut err);
+    let status = run_with(&mut files, alloc, words.as_slice(), &mut out, &mut err);
     let _ = err.flush();
     Ok(status)
 }

@@ -12,7 +12,8 @@ unfoldable pub use Rattle.devices.specs.Sinks.{IsCut, append, is_transparent}
 pub use Rattle.nc_base.proofs.Fitting.{Fits-from_fits, IsSound-with_begins, begins-below}
 pub use Rattle.nc_base.specs.Bytes.{AreBytes}
 pub use Rattle.nc_base.specs.GeneratedFile.{blocks, fits, is_sole_narrow, known_records, record_of, slab_in, vars_with_begins}
-unfoldable pub use Rattle.nc_base.specs.GeneratedFile.{data_of, file_of, fill_bytes, header_spelling, padded_slab, with_begins}
+unfoldable pub use Rattle.nc_base.specs.GeneratedFile.{data_of, file_of, fill_bytes, padded_slab, with_begins}
+pub use Rattle.nc_base.specs.Grammar.{header_spelling}
 pub use Rattle.nc_base.specs.Headers.{AreArrays, IsGood, IsSound, bare_var}
 pub use Rattle.nc_base.specs.code.OwedValues.{AreListed, whole_array, whole_arrays}
 pub use Rattle.nc_base.specs.declared.{dataset.Dataset.Dataset, header.Header.Header, version.Version.Version}

@@ -4,6 +4,7 @@ use Rattle.std.specs.Prelude.{ℕ, [], ◌∷◌, Option, Some, None, String, co
 use Rattle.nc_base.specs.Bytes.{Bytes, concat_parts}
 use Rattle.cdl_statements.specs.declared.fault.CdlKind.{CdlKind}
 use Rattle.cdl_statements.specs.declared.fault.CdlKind.TheVariants as cdl
+use Rattle.cdl_statements.specs.FaultWords.{kind_words}
 use Rattle.cli_base.specs.declared.fault.OptFault.{OptFault}
 use Rattle.cli_base.specs.declared.fault.OptFault.TheVariants as opt
 use Rattle.ncgen.specs.declared.{fault.GenFault.GenFault, failure.InputFault.InputFault, failure.OutputFault.OutputFault, failure.Failure.Failure}
@@ -12,28 +13,6 @@ use Rattle.ncgen.specs.declared.fault.TextFault.TheVariants as text
 use Rattle.ncgen.specs.declared.failure.InputFault.TheVariants as input
 use Rattle.ncgen.specs.declared.failure.OutputFault.TheVariants as output
 use Rattle.ncgen.specs.declared.failure.Failure.TheVariants.{CommandLine, Input, Output}
-
-unfoldable pub kind_words : CdlKind → Bytes
-kind_words cdl.OutOfMemory = codes "out of memory"
-kind_words cdl.BadToken = codes "bad token"
-kind_words cdl.BadNumber = codes "bad number"
-kind_words cdl.Syntax = codes "syntax"
-kind_words cdl.BadName = codes "bad name"
-kind_words cdl.DuplicateName = codes "duplicate name"
-kind_words cdl.UnknownDimension = codes "unknown dimension"
-kind_words cdl.UnknownVariable = codes "unknown variable"
-kind_words cdl.FloatingType = codes "floating type"
-kind_words cdl.UnknownType = codes "unknown type"
-kind_words cdl.ZeroDimension = codes "zero dimension"
-kind_words cdl.TwoRecordDims = codes "two record dimensions"
-kind_words cdl.BadShape = codes "bad shape"
-kind_words cdl.MixedConstants = codes "mixed constants"
-kind_words cdl.NumberRange = codes "number out of range"
-kind_words cdl.WrongKind = codes "wrong kind of value"
-kind_words cdl.TooManyValues = codes "too many values"
-kind_words cdl.StringTooLong = codes "string too long"
-kind_words cdl.DuplicateData = codes "duplicate data"
-kind_words cdl.TooLarge = codes "too large"
 
 -- Out of memory belongs to no line.
 unfoldable pub line_prefix : CdlKind → ℕ → Bytes

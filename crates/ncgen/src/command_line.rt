@@ -107,13 +107,13 @@ fn output_name(alloc: Global, path: &str) -> Result<String, AllocError>
     Ok(name)
 }
 
-/// Returns a copy of `text`, which is the path of the CDL text, or `None` if no path is given: the text is then read from standard input.
+/// Returns a copy of `path`, that of the CDL text, or `None` if no path is given: the text is then read from standard input.
 /// Errs only if an allocation failed.
-fn copy_path(alloc: Global, text: Option<&str>) -> Result<Option<String>, AllocError>
-    ensures { IfOk result (λ copy. option_map string_bytes copy ≡ text_of text.entry) }
+fn copy_path(alloc: Global, path: Option<&str>) -> Result<Option<String>, AllocError>
+    ensures { IfOk result (λ copy. option_map string_bytes copy ≡ text_of path.entry) }
 {
-    match text {
-        Some(text) => Ok(Some(String::from_str(alloc, text)?)),
+    match path {
+        Some(path) => Ok(Some(String::from_str(alloc, path)?)),
         None => Ok(None),
     }
 }

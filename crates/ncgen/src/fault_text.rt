@@ -3,13 +3,19 @@
 ghost use Rattle.std.specs.Prelude.{◌≡◌, codes};
 ghost use Rattle.devices.specs.code.SinkWrites.{Wrote};
 ghost use Rattle.ncgen.specs.declared.fault.GenFault.TheVariants.{Cdl};
-ghost use Rattle.ncgen.specs.Faults.{fault_line, fault_text, input_words, kind_words, line_of_failure, opt_fault_line, output_words, line_prefix, text_name};
+ghost use Rattle.ncgen.specs.Faults.{fault_line, fault_text, input_words, line_of_failure, opt_fault_line, output_words, line_prefix, text_name};
 
 use crate::failure::{Failure, InputFault, OutputFault};
 use crate::fault::{GenFault, TextFault};
 use cdl_parse::{CdlFault, CdlKind};
 use cli_base::OptFault;
 use devices::{Sink, WriteFailed, put, put_decimal};
+use std::error::Error;
+use std::fmt;
+
+const OFFSET_TOO_LARGE: &str = "offset too large";
+
+const WRITE_FAILED: &str = "write failed";
 
 /// Writes the line that says why a run failed.
 ///
@@ -23,7 +29,11 @@ pub(crate) fn put_failure<W: Sink>(sink: &mut W, failure: &Failure) -> Result<()
     match failure {
         Failure::CommandLine(fault) => put_command_line_fault(sink, *fault),
         Failure::Input(path, fault) => put_input_fault(sink, text_name(path), fault),
-        Failure::Output(path, fault) => put_line(sink, path.as_bytes(), output_words(*fault)),
+        Failure::Output(path, fault) => put_line(
+            sink,
+            path.as_bytes(),
+            output_words(*fault).as_bytes(),
+        ),
     }
 }
 
@@ -71,7 +81,7 @@ fn put_input_fault<W: Sink>(
 {
     match fault {
         InputFault::CannotOpen => put_line(sink, name, b"cannot open"),
-        InputFault::Text(fault) => put_line(sink, name, input_words(*fault)),
+        InputFault::Text(fault) => put_line(sink, name, input_words(*fault).as_bytes()),
         InputFault::Generate(fault) => fault_line(sink, name, fault),
     }
 }
@@ -113,8 +123,8 @@ fn put_message<W: Sink>(sink: &mut W, fault: &GenFault) -> Result<(), WriteFaile
 {
     match fault {
         GenFault::Cdl(fault) => put_cdl_fault(sink, *fault),
-        GenFault::OffsetTooLarge => put(sink, b"offset too large"),
-        GenFault::WriteFailed => put(sink, b"write failed"),
+        GenFault::OffsetTooLarge => put(sink, OFFSET_TOO_LARGE.as_bytes()),
+        GenFault::WriteFailed => put(sink, WRITE_FAILED.as_bytes()),
     }
 }
 
@@ -124,7 +134,7 @@ fn put_cdl_fault<W: Sink>(sink: &mut W, fault: CdlFault) -> Result<(), WriteFail
     ensures { Wrote W.view sink.old sink.new (fault_text (Cdl fault)) result }
 {
     put_line_number(sink, fault.kind, fault.line)?;
-    put(sink, kind_words(fault.kind))
+    put(sink, fault.kind.words().as_bytes())
 }
 
 /// Writes `line N: ` for a fault in the line `line`, or nothing if its kind is `OutOfMemory`, which belongs to no line of the text.
@@ -140,55 +150,26 @@ fn put_line_number<W: Sink>(sink: &mut W, kind: CdlKind, line: u64) -> Result<()
     put(sink, b": ")
 }
 
-/// Returns the message for a fault of this kind, without `line N: `.
-#[tactic(auto, unfolding(crate::specs::Faults::kind_words))]
-fn kind_words(kind: CdlKind) -> &'static [u8]
-    ensures { result.now ≡ kind_words kind }
-{
-    match kind {
-        CdlKind::OutOfMemory => b"out of memory",
-        CdlKind::BadToken => b"bad token",
-        CdlKind::BadNumber => b"bad number",
-        CdlKind::Syntax => b"syntax",
-        CdlKind::BadName => b"bad name",
-        CdlKind::DuplicateName => b"duplicate name",
-        CdlKind::UnknownDimension => b"unknown dimension",
-        CdlKind::UnknownVariable => b"unknown variable",
-        CdlKind::FloatingType => b"floating type",
-        CdlKind::UnknownType => b"unknown type",
-        CdlKind::ZeroDimension => b"zero dimension",
-        CdlKind::TwoRecordDims => b"two record dimensions",
-        CdlKind::BadShape => b"bad shape",
-        CdlKind::MixedConstants => b"mixed constants",
-        CdlKind::NumberRange => b"number out of range",
-        CdlKind::WrongKind => b"wrong kind of value",
-        CdlKind::TooManyValues => b"too many values",
-        CdlKind::StringTooLong => b"string too long",
-        CdlKind::DuplicateData => b"duplicate data",
-        CdlKind::TooLarge => b"too large",
-    }
-}
-
 /// Returns the message for a text that could not be read.
 #[tactic(auto, unfolding(crate::specs::Faults::input_words))]
-fn input_words(fault: TextFault) -> &'static [u8]
+fn input_words(fault: TextFault) -> &'static str
     ensures { result.now ≡ input_words (InputFault.Text fault) }
 {
     match fault {
-        TextFault::OutOfMemory => b"out of memory",
-        TextFault::ReadFailed => b"read failed",
-        TextFault::TooLong => b"CDL text too long",
+        TextFault::OutOfMemory => "out of memory",
+        TextFault::ReadFailed => "read failed",
+        TextFault::TooLong => "CDL text too long",
     }
 }
 
 /// Returns the message for an output that could not be created or written.
 #[tactic(auto, unfolding(crate::specs::Faults::output_words))]
-fn output_words(fault: OutputFault) -> &'static [u8]
+fn output_words(fault: OutputFault) -> &'static str
     ensures { result.now ≡ output_words fault }
 {
     match fault {
-        OutputFault::CannotOpen => b"cannot open",
-        OutputFault::WriteFailed => b"write failed",
+        OutputFault::CannotOpen => "cannot open",
+        OutputFault::WriteFailed => WRITE_FAILED,
     }
 }
 
@@ -198,3 +179,25 @@ fn program_words() -> &'static [u8]
 {
     b"ncgen: "
 }
+
+impl fmt::Display for GenFault {
+    /// Writes the message that [`fault_line`] has for the fault.
+    fn fmt<W: fmt::Write>(&self, f: &mut fmt::Formatter<W>) -> fmt::Result {
+        match self {
+            GenFault::Cdl(fault) => fault.fmt(f),
+            GenFault::OffsetTooLarge => f.write_str(OFFSET_TOO_LARGE),
+            GenFault::WriteFailed => f.write_str(WRITE_FAILED),
+        }
+    }
+}
+
+impl Error for GenFault {}
+
+impl fmt::Display for TextFault {
+    /// Writes the message that the program has for the fault, such as `read failed`.
+    fn fmt<W: fmt::Write>(&self, f: &mut fmt::Formatter<W>) -> fmt::Result {
+        f.write_str(input_words(*self))
+    }
+}
+
+impl Error for TextFault {}

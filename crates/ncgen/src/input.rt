@@ -16,37 +16,41 @@ use std::io::Read;
 /// How many bytes a text may have: 256 MiB.
 const TEXT_LIMIT: usize = 1 << 28;
 
-/// Returns the bytes of the text at the path `file`, which `texts` opens, or, if there is no path, what `input` (standard input) has left.
+/// Returns the bytes of the text at the path `file`, which `opener` opens, or, if there is no path, what `input` (standard input) has left.
 /// Errs with `CannotOpen` if the path can't be opened, and with `Text` if the text is longer than 256 MiB or a read or an allocation fails.
 pub fn read_input<T: TextOpener, R: Read>(
-    texts: &mut T,
+    opener: &mut T,
     alloc: Global,
     file: &Option<String>,
     input: &mut CountedRead<R>,
 ) -> Result<Vec<u8>, InputFault>
     ensures { ReadsInput
         (record {
-          texts = opener_use T.is_transparent T.named T.view texts.old texts.new;
+          texts = opener_use T.is_transparent T.named T.view opener.old opener.new;
           input = use_of (view_of R.remaining) input.old input.new;
         })
         (option_map string_bytes file.now)
         result }
 {
     match file {
-        Some(path) => read_path(texts, alloc, path.as_str()),
+        Some(path) => read_path(opener, alloc, path.as_str()),
         None => Ok(read_text(alloc, input, TEXT_LIMIT)?),
     }
 }
 
-/// Reads the text at the path, and returns its bytes. Gives the reader back to the opener `texts`, also if a read failed. Errs with
+/// Reads the text at the path, and returns its bytes. Gives the reader back to `opener`, also if a read failed. Errs with
 /// `CannotOpen` if the path can't be opened, and with `Text` if the text is longer than 256 MiB or a read or an allocation fails.
-fn read_path<T: TextOpener>(texts: &mut T, alloc: Global, path: &str) -> Result<Vec<u8>, InputFault>
-    ensures text { ReadsAt T.is_transparent (T.named texts.old path.now) result }
-    ensures opens { (T.view texts.new).opens ≡ one_more (T.view texts.old).opens }
-    ensures reads { ReadFailsOnly (T.view texts.old) (T.view texts.new) result }
+fn read_path<T: TextOpener>(
+    opener: &mut T,
+    alloc: Global,
+    path: &str,
+) -> Result<Vec<u8>, InputFault>
+    ensures text { ReadsAt T.is_transparent (T.named opener.old path.now) result }
+    ensures opens { (T.view opener.new).opens ≡ one_more (T.view opener.old).opens }
+    ensures reads { ReadFailsOnly (T.view opener.old) (T.view opener.new) result }
 {
-    let mut reader = texts.open_text(path)?;
+    let mut reader = opener.open_text(path)?;
     let text = read_text(alloc, &mut reader, TEXT_LIMIT);
-    texts.close_text(reader);
+    opener.close_text(reader);
     Ok(text?)
 }

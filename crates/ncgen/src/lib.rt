@@ -7,15 +7,11 @@
 //! standard error.
 //!
 //! ```
-//! use devices::MemSink;
-//! use nc_base::Version;
-//!
-//! const TEXT: &[u8] = b"netcdf a { dimensions: x = 3 ; variables: int v(x) ; data: v = 1, 2, 3 ; }";
+//! const TEXT: &[u8] =
+//!     b"netcdf a { dimensions: x = 3 ; variables: int v(x) ; data: v = 1, 2, 3 ; }";
 //! let mut file = MemSink::new(alloc);
-//! match generate(alloc, TEXT, Version::Cdf1, &mut file) {
-//!     Ok(()) => println!(rt; "{} bytes", file.as_slice().len())?,
-//!     Err(fault) => fault_line(&mut err, b"a.cdl", &fault)?,
-//! }
+//! generate(alloc, TEXT, Version::Cdf1, &mut file)?;
+//! println!(rt; "{} bytes", file.as_slice().len())?;
 //! ```
 #![tactic(auto)]
 

@@ -22,7 +22,7 @@ use devices::{CountedRead, Creator, Sink, TextOpener};
 use std::alloc::Global;
 use std::io::Read;
 
-/// Runs the program, and returns its exit status. `words` is the command line, with the program's name first; `texts` opens the text;
+/// Runs the program, and returns its exit status. `words` is the command line, with the program's name first; `opener` opens the text;
 /// `creator` creates the output; `input` is standard input, and `err` is standard error.
 ///
 /// The status is 0 if the file that the words ask for was written, or, if they ask for no output, if the text gives a file. Otherwise
@@ -30,7 +30,7 @@ use std::io::Read;
 /// text itself, or of creating or writing the output. The output is created only if the text gives a file. If standard error fails, the
 /// status stays 1. Standard error is not flushed.
 pub fn run_with<T: TextOpener, C: Creator, R: Read, E: Sink>(
-    texts: &mut T,
+    opener: &mut T,
     creator: &mut C,
     alloc: Global,
     words: &[&str],
@@ -41,7 +41,7 @@ pub fn run_with<T: TextOpener, C: Creator, R: Read, E: Sink>(
         (record {
           asked = asked_by (texts_of words.now);
           inputs = record {
-            texts = opener_use T.is_transparent T.named T.view texts.old texts.new;
+            texts = opener_use T.is_transparent T.named T.view opener.old opener.new;
             input = use_of (view_of R.remaining) input.old input.new;
           };
           outputs = record { is_transparent = C.is_transparent; before = C.view creator.old; after = C.view creator.new };
@@ -49,7 +49,7 @@ pub fn run_with<T: TextOpener, C: Creator, R: Read, E: Sink>(
         })
         result }
 {
-    match generate_for_words(texts, creator, alloc, words, input) {
+    match generate_for_words(opener, creator, alloc, words, input) {
         Ok(()) => 0,
         Err(failure) => {
             let _ = put_failure(err, &failure);
@@ -61,7 +61,7 @@ pub fn run_with<T: TextOpener, C: Creator, R: Read, E: Sink>(
 /// Reads the text that the words ask for, and writes its file if the words ask for an output. Errs with the first failure: of the
 /// command line, of the text, or of the output.
 fn generate_for_words<T: TextOpener, C: Creator, R: Read>(
-    texts: &mut T,
+    opener: &mut T,
     creator: &mut C,
     alloc: Global,
     words: &[&str],
@@ -69,7 +69,7 @@ fn generate_for_words<T: TextOpener, C: Creator, R: Read>(
 ) -> Result<(), Failure>
     ensures { GeneratesAsked
         (record {
-          texts = opener_use T.is_transparent T.named T.view texts.old texts.new;
+          texts = opener_use T.is_transparent T.named T.view opener.old opener.new;
           input = use_of (view_of R.remaining) input.old input.new;
         })
         (record { is_transparent = C.is_transparent; before = C.view creator.old; after = C.view creator.new })
@@ -77,7 +77,7 @@ fn generate_for_words<T: TextOpener, C: Creator, R: Read>(
         result }
 {
     let options = options_of_words(alloc, words)?;
-    match read_and_prepare(texts, alloc, &options, input) {
+    match read_and_prepare(opener, alloc, &options, input) {
         Ok(prepared) => write_if_asked(creator, options.out, &prepared),
         Err(fault) => Err(Failure::Input(options.file, fault)),
     }
@@ -86,21 +86,21 @@ fn generate_for_words<T: TextOpener, C: Creator, R: Read>(
 /// Reads the text that the options name, or standard input if they name none, and returns its file, ready to be written. Errs with
 /// `CannotOpen` or `Text` if the text can't be read, and with `Generate` if it gives no file or an allocation fails after it was read.
 fn read_and_prepare<T: TextOpener, R: Read>(
-    texts: &mut T,
+    opener: &mut T,
     alloc: Global,
     options: &GenOptions,
     input: &mut CountedRead<R>,
 ) -> Result<Prepared, InputFault>
     ensures { PreparesInput
         (record {
-          texts = opener_use T.is_transparent T.named T.view texts.old texts.new;
+          texts = opener_use T.is_transparent T.named T.view opener.old opener.new;
           input = use_of (view_of R.remaining) input.old input.new;
         })
         (option_map string_bytes options.now.file)
         options.now.kind
         result }
 {
-    let text = read_input(texts, alloc, &options.file, input)?;
+    let text = read_input(opener, alloc, &options.file, input)?;
     Ok(prepare(alloc, text.as_slice(), options.kind)?)
 }
 

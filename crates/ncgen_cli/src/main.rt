@@ -38,8 +38,8 @@ fn run_words<R: Env + Files<File = File> + Input + AllocGlobal, E: Write + Drop>
     stderr: E,
 ) -> Result<u8, OptFault> {
     let alloc = rt.alloc();
-    let words: Vec<String> = env::args(rt)?.collect(alloc)?;
-    let texts: Vec<&str> = words.iter().map(|word| word.as_str()).collect(alloc)?;
+    let arguments: Vec<String> = env::args(rt)?.collect(alloc)?;
+    let words: Vec<&str> = arguments.iter().map(|word| word.as_str()).collect(alloc)?;
     let mut outputs = SystemOutputs::new(rt, alloc);
     let mut input = CountedRead::new(rt.reader());
     let mut err = IoSink::new(BufWriter::with_capacity(alloc, LINE_HELD_BACK, stderr)?);
@@ -47,7 +47,7 @@ fn run_words<R: Env + Files<File = File> + Input + AllocGlobal, E: Write + Drop>
         &mut SystemFiles::new(rt),
         &mut outputs,
         alloc,
-        texts.as_slice(),
+        words.as_slice(),
         &mut input,
         &mut err,
     );

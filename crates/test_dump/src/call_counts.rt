@@ -1,9 +1,14 @@
-//! How often a dump calls its devices, on files of some 100,000 bytes: about once for each buffer of the file, and for each stretch
-//! of the text.
+//! How often a dump and a whole run call their devices, on files of some 100,000 bytes: about once for each buffer of the file, and for
+//! each stretch of the text.
+
+ghost use Rattle.std.specs.Prelude.{true};
 
 use crate::runs::{WHOLE, options_of};
-use devices::{DripSource, FailWhen, IoSink};
-use ncdump::dump;
+use devices::{
+    DripSource, FailWhen, IoSink, MemFile, MemFiles, MemSource, OpenFailed, Opener, SliceSink,
+    Source, SourceFailed,
+};
+use ncdump::{dump, run_with};
 use std::alloc::{AllocError, Global};
 use std::io;
 use std::io::Write;
@@ -76,7 +81,7 @@ type Calls = (
 );
 
 /// Files of many numbers, records and characters, and of a long attribute. Values of two record variables lie apart, so that each
-/// takes a read of its own, and none takes two.
+/// takes a read of its own, and none takes two. Those of a sole record variable lie side by side, and a read takes many of them.
 const FILES: &[Calls] = &[
     (
         test_files::ONE_VARIABLE,
@@ -95,6 +100,15 @@ const FILES: &[Calls] = &[
         b"",
         25_030,
         3_000,
+    ),
+    (
+        test_files::RECORD_BYTES,
+        80,
+        (4, b"\0\x01\x86\xa0"),
+        7,
+        b"",
+        30,
+        6_000,
     ),
     (
         test_files::HELD_NULS,
@@ -133,5 +147,75 @@ fn dumps_of_long_files(rt: HostRuntime) -> Result<(), AllocError> {
     for row in FILES {
         dumps_long_file(&rt, rt.alloc(), row)?;
     }
+    Ok(())
+}
+
+/// A source in memory, with a count of its reads.
+#[derive(Drop)]
+struct CountedSource<'a> {
+    source: MemSource<'a>,
+    reads: u64,
+}
+
+impl Source for CountedSource<'_> {
+    ghost is_transparent = { true };
+
+    ghost view = { λ counted. ⟦<MemSource<'static> as Source>⟧.view counted.source };
+
+    fn len(&self) -> u64 {
+        self.source.len()
+    }
+
+    fn read_at(&mut self, at: u64, into: &mut [u8]) -> Result<usize, SourceFailed> {
+        self.reads = self.reads.saturating_add(1);
+        self.source.read_at(at, into)
+    }
+}
+
+/// Files in memory, with a count of the reads from the sources that it has taken back.
+#[derive(Drop)]
+struct CountedFiles<'a> {
+    files: MemFiles<'a>,
+    reads: u64,
+}
+
+impl<'a> Opener for CountedFiles<'a> {
+    type Source = CountedSource<'a>;
+
+    ghost named = { λ counted path. ⟦<MemFiles<'static> as Opener>⟧.named counted.files path };
+
+    ghost view = { λ counted. ⟦<MemFiles<'static> as Opener>⟧.view counted.files };
+
+    fn open(&mut self, path: &str) -> Result<CountedSource<'a>, OpenFailed> {
+        let source = Opener::open(&mut self.files, path)?;
+        Ok(CountedSource { source, reads: 0 })
+    }
+
+    fn close(&mut self, source: CountedSource<'a>) {
+        self.reads = self.reads.saturating_add(source.reads);
+        self.files.close(source.source);
+    }
+}
+
+#[test]
+fn reads_of_a_run(rt: HostRuntime) -> Result<(), AllocError> {
+    let mut head = test_files::patched(rt.alloc(), test_files::RECORD_BYTES, 4, b"\0\x01\x86\xa0")?;
+    head.truncate(80);
+    let file = long_file(rt.alloc(), head.as_slice(), (7, COUNT), b"")?;
+    let listed = [MemFile {
+        path: "t.nc",
+        bytes: file.as_slice(),
+    }];
+    let mut files = CountedFiles {
+        files: MemFiles::new(&listed),
+        reads: 0,
+    };
+    let mut writer = Counting { calls: 0 };
+    let mut out = IoSink::new(&mut writer);
+    let mut err = SliceSink::new(&mut [], 1);
+    let words = ["ncdump", "t.nc"];
+    let status = run_with(&mut files, rt.alloc(), &words, &mut out, &mut err);
+    assert!(rt; status == 0);
+    assert!(rt; files.reads <= 30, "{}", files.reads);
     Ok(())
 }

@@ -67,6 +67,12 @@ const CHANGED: &[DumpRow<'static>] = &[
         len: 134,
         ..ONE_VARIABLE
     },
+    DumpRow {
+        about: "half of the padding after the last value",
+        bytes: test_files::ONE_VARIABLE_CDF5,
+        len: 135,
+        ..ONE_VARIABLE
+    },
 ];
 
 #[test]
@@ -100,6 +106,14 @@ fn refuses_cut_headers(
 
 #[test]
 fn cut_headers(rt: HostRuntime) -> Result<(), AllocError> {
-    refuses_cut_headers(&rt, rt.alloc(), test_files::RECORD_BYTES, 80)?;
-    refuses_cut_headers(&rt, rt.alloc(), test_files::PADDED_RECORDS, 116)
+    const ROWS: &[(&[u8], usize)] = &[
+        (test_files::RECORD_BYTES, 80),
+        (test_files::PADDED_RECORDS, 116),
+        (test_files::ONE_VARIABLE, 80),
+        (test_files::ONE_VARIABLE_CDF5, 128),
+    ];
+    for (bytes, header_len) in ROWS {
+        refuses_cut_headers(&rt, rt.alloc(), *bytes, *header_len)?;
+    }
+    Ok(())
 }

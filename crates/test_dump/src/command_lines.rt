@@ -4,11 +4,14 @@ use crate::rows::{COORDINATES_TEXT, GENERATED_TEXT, SELECTION_TEXT};
 use cli_base::OptFault;
 use devices::{Flush, IoSink, MemFile, MemFiles, MemSource, OpenFailed, Opener, SliceSink};
 use ncdump::{command, options_of, run_with};
-use std::alloc::Global;
+use std::alloc::{AllocError, Global};
 use std::io;
 use std::io::{ErrorKind, Write};
 use std::process::Abort;
 use std::test::Fail;
+
+/// Words that ask for a dump of the file.
+const DUMP_WORDS: &[&str] = &["ncdump", "t.nc"];
 
 /// How the program is used.
 const USAGE: &[u8] = b"usage: ncdump [-h] [-c] [-v names] [-n name] [-l width] file\n";
@@ -213,18 +216,47 @@ const REFUSED: &[(&[u8], &[&str], &[u8])] = &[
     ),
 ];
 
+/// Changes of the file with three shorts: an offset and the bytes that stand there, and the line on the header.
+const CHANGED: &[(usize, &[u8], &[u8])] = &[
+    (0, b"D", b"ncdump: t.nc: not a netCDF classic file\n"),
+    (3, b"\x03", b"ncdump: t.nc: unknown version 3\n"),
+    (4, b"\x80", b"ncdump: t.nc: bad count\n"),
+    (11, b"\x0b", b"ncdump: t.nc: bad tag\n"),
+    (11, b"\0", b"ncdump: t.nc: bad count\n"),
+    (20, b"/", b"ncdump: t.nc: bad name\n"),
+    (59, b"\x01", b"ncdump: t.nc: bad shape\n"),
+    (71, b"\x05", b"ncdump: t.nc: floating type\n"),
+    (71, b"\x07", b"ncdump: t.nc: bad type\n"),
+    (76, b"\x80", b"ncdump: t.nc: bad offset\n"),
+];
+
+/// Other files whose header has a fault, each with the line.
+const FAULTY_HEADERS: &[(&[u8], &[u8])] = &[
+    (b"CDF", b"ncdump: t.nc: header truncated\n"),
+    (
+        test_files::TWO_RECORD_DIMS,
+        b"ncdump: t.nc: two record dimensions\n",
+    ),
+    (test_files::LARGE_SLAB, b"ncdump: t.nc: too large\n"),
+];
+
 #[test]
-fn faults_have_their_lines(rt: HostRuntime) {
+fn faults_have_their_lines(rt: HostRuntime) -> Result<(), AllocError> {
+    let alloc = rt.alloc();
     for words in USAGE_FAULTS {
-        runs(
-            &rt,
-            rt.alloc(),
-            refused(test_files::ONE_VARIABLE, *words, USAGE),
-        );
+        runs(&rt, alloc, refused(test_files::ONE_VARIABLE, *words, USAGE));
     }
     for (bytes, words, line) in REFUSED {
-        runs(&rt, rt.alloc(), refused(*bytes, *words, *line));
+        runs(&rt, alloc, refused(*bytes, *words, *line));
     }
+    for (at, change, line) in CHANGED {
+        let file = test_files::patched(alloc, test_files::ONE_VARIABLE, *at, *change)?;
+        runs(&rt, alloc, refused(file.as_slice(), DUMP_WORDS, *line));
+    }
+    for (bytes, line) in FAULTY_HEADERS {
+        runs(&rt, alloc, refused(*bytes, DUMP_WORDS, *line));
+    }
+    Ok(())
 }
 
 /// Files in memory, with counts of how often one was opened and given back.

@@ -14,6 +14,8 @@ mod dumps;
 #[cfg(test)]
 mod failures;
 #[cfg(test)]
+mod fault_words;
+#[cfg(test)]
 mod many_variables;
 #[cfg(test)]
 mod rows;

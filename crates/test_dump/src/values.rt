@@ -8,6 +8,20 @@ use ncdump::DumpFault;
 use std::alloc::{AllocError, Global};
 use std::process::Abort;
 
+/// `short m(y, x)`, y = 2, x = 3, with 10000, 20000, 30000, and 1, 2, 3: the first row takes two lines of 20 bytes.
+const LONG_ROW: &[u8] = b"CDF\x01\0\0\0\0\
+    \0\0\0\x0a\0\0\0\x02\
+    \0\0\0\x01y\0\0\0\0\0\0\x02\
+    \0\0\0\x01x\0\0\0\0\0\0\x03\
+    \0\0\0\0\0\0\0\0\
+    \0\0\0\x0b\0\0\0\x01\
+    \0\0\0\x01m\0\0\0\
+    \0\0\0\x02\0\0\0\0\0\0\0\x01\
+    \0\0\0\0\0\0\0\0\
+    \0\0\0\x03\0\0\0\x0c\0\0\0\x60\
+    \x27\x10\x4e\x20\x75\x30\
+    \0\x01\0\x02\0\x03";
+
 /// The dumps of whole files.
 const WHOLE_FILES: &[DumpRow<'static>] = &[
     ONE_VARIABLE,
@@ -42,6 +56,20 @@ const WHOLE_FILES: &[DumpRow<'static>] = &[
         ..WHOLE
     },
     DumpRow {
+        about: "a line of 20 bytes in full",
+        bytes: test_files::SHORT_LINE,
+        width: 20,
+        text: b"netcdf t {\ndimensions:\n\tx = 3 ;\nvariables:\n\tint v(x) ;\ndata:\n\n v = 100, 200, 300 ;\n}\n",
+        ..WHOLE
+    },
+    DumpRow {
+        about: "a row in lines of 20 bytes",
+        bytes: LONG_ROW,
+        width: 20,
+        text: b"netcdf t {\ndimensions:\n\ty = 2 ;\n\tx = 3 ;\nvariables:\n\tshort m(y, x) ;\ndata:\n\n m =\n  10000, 20000, \n    30000,\n  1, 2, 3 ;\n}\n",
+        ..WHOLE
+    },
+    DumpRow {
         about: "a line of 20 bytes",
         bytes: test_files::LONG_LINE,
         width: 20,
@@ -64,9 +92,33 @@ const WHOLE_FILES: &[DumpRow<'static>] = &[
         ..WHOLE
     },
     DumpRow {
+        about: "escaped characters",
+        bytes: test_files::ESCAPED_CHARACTERS,
+        text: b"netcdf t {\ndimensions:\n\tx = 6 ;\nvariables:\n\tchar c(x) ;\ndata:\n\n c = \"\\t\\\"\\\\\\177\xc3\xa9\" ;\n}\n",
+        ..WHOLE
+    },
+    DumpRow {
+        about: "rows of NULs",
+        bytes: test_files::ROWS_OF_NULS,
+        text: b"netcdf t {\ndimensions:\n\tt = UNLIMITED ; // (2 currently)\n\tx = 3 ;\nvariables:\n\tchar c(t, x) ;\ndata:\n\n c =\n  \"a\",\n  \"\" ;\n}\n",
+        ..WHOLE
+    },
+    DumpRow {
+        about: "rows of NULs beside a fill value",
+        bytes: test_files::ROWS_OF_NULS_AND_FILL,
+        text: b"netcdf t {\ndimensions:\n\tt = UNLIMITED ; // (2 currently)\n\tx = 3 ;\nvariables:\n\tchar c(t, x) ;\n\t\tc:_FillValue = \"x\" ;\ndata:\n\n c =\n  \"a\\000\\000\",\n  \"\\000\\000\\000\" ;\n}\n",
+        ..WHOLE
+    },
+    DumpRow {
         about: "escaped names",
         bytes: test_files::ESCAPED_NAMES,
         text: b"netcdf t {\nvariables:\n\tint \\data ;\n\t\t\\data:units = \"m\" ;\n\tshort \\2\\ b ;\ndata:\n\n \\data = 5 ;\n\n \\2\\ b = 6 ;\n}\n",
+        ..WHOLE
+    },
+    DumpRow {
+        about: "the default fill value of bytes",
+        bytes: test_files::LOW_BYTE,
+        text: b"netcdf t {\nvariables:\n\tbyte b ;\ndata:\n\n b = -127 ;\n}\n",
         ..WHOLE
     },
     DumpRow {

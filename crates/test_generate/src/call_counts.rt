@@ -72,12 +72,17 @@ fn takes_few_writes(rt: &impl Abort, alloc: Global, text: &str, len: u64, calls:
 /// A text of a variable of 50,000 shorts, and its values.
 const SHORTS: &str = "netcdf t {\ndimensions: x = 50000 ;\nvariables: short s(x) ;\ndata: s = 1";
 
+/// The same of a record variable, whose records lie side by side.
+const RECORDS: &str =
+    "netcdf t {\ndimensions: t = UNLIMITED ;\nvariables: short s(t) ;\ndata: s = 1";
+
 #[test]
 fn writes_of_long_files(rt: HostRuntime) -> Result<(), Fail> {
     const NOTE: &str = "netcdf t {\n:note = \"";
     const ROWS: &[(&str, (&str, usize), &str, u64, u64)] = &[
         (SHORTS, (", 1", 49_999), " ;\n}\n", 100_080, 40),
         (SHORTS, (", 1", 2), " ;\n}\n", 100_080, 60),
+        (RECORDS, (", 1", 49_999), " ;\n}\n", 100_080, 40),
         (NOTE, ("a", 100_000), "\" ;\n}\n", 100_048, 30),
     ];
     for (head, piece, tail, len, calls) in ROWS {

@@ -9,6 +9,8 @@ mod command_lines;
 #[cfg(test)]
 mod failing_sinks;
 #[cfg(test)]
+mod fault_words;
+#[cfg(test)]
 mod full_disks;
 #[cfg(test)]
 mod generated_files;

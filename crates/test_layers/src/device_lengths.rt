@@ -112,13 +112,13 @@ fn reads_of_every_length_of_a_file(rt: HostRuntime) -> Result<(), Fail> {
     Ok(())
 }
 
-/// Writes these bytes to an output at the path in pieces of 12,288, and asserts that the file has them then.
+/// Writes these bytes to a new output at the path in pieces of 12,288, and asserts that the file has them then.
 fn holds_what_was_written<R: Files<File = File> + AllocGlobal + Abort>(
     rt: &R,
+    outputs: &mut SystemOutputs<'_, R>,
     path: &str,
     bytes: &[u8],
 ) -> Result<(), Fail> {
-    let mut outputs = SystemOutputs::new(rt, rt.alloc());
     let mut output = outputs.create(path)?;
     for piece in bytes.chunks(12288) {
         put(&mut output, piece)?;
@@ -129,15 +129,17 @@ fn holds_what_was_written<R: Files<File = File> + AllocGlobal + Abort>(
     Ok(())
 }
 
-/// Writes the first bytes of these to outputs at the path, `from` of them up to `to`, and asserts that the files have them then.
+/// Writes the first bytes of these to outputs at the path, `from` of them up to `to`, and asserts that the files have them then. All are
+/// outputs of one `SystemOutputs`.
 fn hold_what_was_written<R: Files<File = File> + AllocGlobal + Abort>(
     rt: &R,
     path: &str,
     bytes: &[u8],
     (from, to): (usize, usize),
 ) -> Result<(), Fail> {
+    let mut outputs = SystemOutputs::new(rt, rt.alloc());
     for len in from..=to.min(bytes.len()) {
-        holds_what_was_written(rt, path, &bytes[..len.min(bytes.len())])?;
+        holds_what_was_written(rt, &mut outputs, path, &bytes[..len.min(bytes.len())])?;
     }
     Ok(())
 }
@@ -157,6 +159,20 @@ fn outputs_of_one_buffer_and_two(rt: HostRuntime) -> Result<(), Fail> {
         hold_what_was_written(&rt, path, bytes.as_slice(), (len, len))?;
     }
     fs::remove_file(&rt, path)?;
+    Ok(())
+}
+
+/// Outputs on a device that is full, one after the other: closing each of them errs, since what is held back can't be written.
+#[test]
+fn outputs_on_a_full_device(rt: HostRuntime) -> Result<(), Fail> {
+    let path = "/dev/full";
+    assert!(rt; !fs::metadata(&rt, path)?.is_file(), "{path} is no device");
+    let mut outputs = SystemOutputs::new(&rt, rt.alloc());
+    for n in 1..=5 {
+        let mut output = outputs.create(path)?;
+        put(&mut output, b"a")?;
+        assert!(rt; outputs.close(path, output).is_err(), "output {n}");
+    }
     Ok(())
 }
 
@@ -184,6 +200,36 @@ fn files_of_the_system_at_paths_of_every_length(rt: HostRuntime) -> Result<(), F
     for _ in 1..=200 {
         path.push('a')?;
         is_created(&rt, &mut outputs, path.as_str())?;
+    }
+    Ok(())
+}
+
+/// The longest path that the system takes, and 194 shorter ones.
+#[test]
+fn files_of_the_system_at_long_paths(rt: HostRuntime) -> Result<(), Fail> {
+    let mut outputs = SystemOutputs::new(&rt, rt.alloc());
+    let mut path = String::new(rt.alloc());
+    for _ in 0..1950 {
+        path.push_str("./")?;
+    }
+    for _ in 3900..4095 {
+        path.push('a')?;
+        is_created(&rt, &mut outputs, path.as_str())?;
+    }
+    Ok(())
+}
+
+#[test]
+fn files_of_the_system_at_paths_of_utf_8(rt: HostRuntime) -> Result<(), Fail> {
+    const PATHS: &[&str] = &[
+        "gr\u{f6}\u{df}e.bin",
+        "\u{30c7}\u{30fc}\u{30bf}.bin",
+        "\u{1f30d}.bin",
+        "e\u{301}.bin",
+    ];
+    let mut outputs = SystemOutputs::new(&rt, rt.alloc());
+    for path in PATHS {
+        is_created(&rt, &mut outputs, *path)?;
     }
     Ok(())
 }

@@ -5,6 +5,8 @@
 #[cfg(test)]
 mod device_calls;
 #[cfg(test)]
+mod device_failures;
+#[cfg(test)]
 mod device_lengths;
 #[cfg(test)]
 mod device_rows;
@@ -16,6 +18,8 @@ mod heads;
 mod lines;
 #[cfg(test)]
 mod listed_rows;
+#[cfg(test)]
+mod read_ahead;
 #[cfg(test)]
 mod sizes;
 #[cfg(test)]

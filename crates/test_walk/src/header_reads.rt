@@ -1,13 +1,13 @@
 //! Headers read from failing devices, and long ones.
 
 use crate::reading::header_through;
-use devices::{DripSource, FailWhen, MemSource};
+use devices::{DripSource, FailWhen, MemSource, ReadAhead, Source};
 use nc_base::{FormatFault, Header};
 use nc_file::HeadFault;
 use std::alloc::Global;
 use std::process::Abort;
 use std::test::Fail;
-use test_files::repeated;
+use test_files::{cut, repeated};
 
 /// A failed read is answered at once: the nth one, of a byte each.
 fn failed_read(rt: &impl Abort, alloc: Global, bytes: &[u8], n: u64, buffer_len: usize) {
@@ -97,6 +97,32 @@ fn records_at_their_limit(rt: HostRuntime) -> Result<(), Fail> {
         let answer = header_through(&rt, rt.alloc(), &mut source, &mut [0; 4096]);
         assert!(rt; answer.is_ok() == is_read);
         assert!(rt; is_fault(answer, FormatFault::TooLarge) != is_read);
+    }
+    Ok(())
+}
+
+/// Returns true if the header that is read from this source ends too early.
+fn is_cut<S: Source>(rt: &impl Abort, alloc: Global, source: &mut S, buf: &mut [u8]) -> bool {
+    let answer = header_through(rt, alloc, source, buf);
+    is_fault(answer, FormatFault::HeaderTruncated)
+}
+
+/// A header of 2,000 variables and 88,056 bytes, whose source promises them all but ends early. The longer buffer has room for a hundred
+/// variables. So the bytes that it had before are those of the next variables, if any of them is taken for one that didn't come.
+#[test]
+fn long_headers_end_early(rt: HostRuntime) -> Result<(), Fail> {
+    // 44,056 bytes end with the thousandth variable.
+    const LENS: &[usize] = &[4_096, 44_056, 44_064, 65_535, 65_536, 65_537, 88_055];
+    let bytes = repeated(rt.alloc(), BEFORE_LARGE_RECORDS, LARGE_RECORD, 2_000)?;
+    let mut buf = [0; 4400];
+    for len in LENS {
+        let mut source = cut(bytes.as_slice(), *len);
+        assert!(rt; is_cut(&rt, rt.alloc(), &mut source, &mut buf), "{len}");
+        let mut ahead = ReadAhead::new(cut(bytes.as_slice(), *len));
+        assert!(rt;
+            is_cut(&rt, rt.alloc(), &mut ahead, &mut buf[..17]),
+            "{len}"
+        );
     }
     Ok(())
 }

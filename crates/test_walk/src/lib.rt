@@ -16,4 +16,6 @@ mod reading;
 #[cfg(test)]
 mod stretches;
 #[cfg(test)]
+mod variables;
+#[cfg(test)]
 mod walks;

@@ -1,13 +1,13 @@
 //! Walks over the values of whole files, through buffers of every length and in reads of every length.
 
 use crate::reading::{ends, header_through, next_len, walk_over};
-use devices::{DripSource, FailWhen, Source};
+use devices::{DripSource, FailWhen, MemSource, Source};
 use nc_base::{Header, records};
 use nc_walk::{Walk, WalkFault};
 use std::alloc::Global;
 use std::process::Abort;
 use std::test::Fail;
-use test_files::patched;
+use test_files::{cut, patched};
 
 /// How many records the header has in a file of this length.
 fn records_in(rt: &impl Abort, header: &Header, len: u64) -> u64 {
@@ -219,6 +219,64 @@ fn walk_all(rt: &impl Abort, alloc: Global, rows: &[Walked]) -> Result<(), Fail>
         let file = patched(alloc, *file, *at, *bytes)?;
         for cut in *cuts {
             walk_cuts(rt, alloc, file.as_slice(), *cut)?;
+        }
+    }
+    Ok(())
+}
+
+/// Walks over the file that ends at `len`, though its source promises all of it, through each buffer from 16 to 40 bytes, and fails unless
+/// the chunks joined are these values, and the walk ends so.
+fn walks_promised(
+    rt: &impl Abort,
+    alloc: Global,
+    (file, len): (&[u8], usize),
+    v: usize,
+    values: &[u8],
+    end: Result<(), WalkFault>,
+) -> Result<(), Fail> {
+    for buffer_len in 16..41 {
+        let mut space = [0; 40];
+        let buf = &mut space[..buffer_len];
+        let mut whole = MemSource::new(file);
+        let header = header_through(rt, alloc, &mut whole, buf)?;
+        let records = records_in(rt, &header, len as u64);
+        let mut source = cut(file, len);
+        let mut walk = walk_over(rt, &header, v, records, buf);
+        let mut rest = values;
+        for _ in 0..=values.len() {
+            let n = next_len(rt, &mut walk, &mut source, rest);
+            assert!(rt; n <= rest.len());
+            rest = &rest[n..];
+        }
+        assert!(rt; rest.is_empty(), "{values:?}");
+        ends(rt, &mut walk, &mut source, end);
+    }
+    Ok(())
+}
+
+#[test]
+fn long_slab_of_a_cut_source(rt: HostRuntime) -> Result<(), Fail> {
+    let mut file = patched(rt.alloc(), test_files::ONE_VARIABLE, 24, b"\0\0\0\x64")?;
+    file.truncate(80);
+    let values = [7; 200];
+    file.extend_from_slice(&values)?;
+    for len in 0..200 {
+        let whole = len / 2;
+        let end = Err(WalkFault::DataTruncated(whole as u128));
+        let cut = (file.as_slice(), 80 + len);
+        walks_promised(&rt, rt.alloc(), cut, 0, &values[..2 * whole], end)?;
+    }
+    Ok(())
+}
+
+#[test]
+fn values_of_sources_cut_at_each_byte(rt: HostRuntime) -> Result<(), Fail> {
+    for (file, (at, bytes), cuts) in CUT_FILES {
+        let file = patched(rt.alloc(), *file, *at, *bytes)?;
+        for ((from, to), v, values, end) in *cuts {
+            for len in *from..*to {
+                walks_promised(&rt, rt.alloc(), (file.as_slice(), len), *v, *values, *end)?;
+            }
         }
     }
     Ok(())

@@ -1,5 +1,5 @@
 -- For contracts. The state that the statements before the data section make.
-use Rattle.std.specs.Prelude.{◌≡◌, Bool, true, false, None, Some, Option, Result, Ok, Err, ⊤}
+use Rattle.std.specs.Prelude.{◌≡◌, ℕ, Bool, true, false, None, Some, Option, Result, Ok, Err}
 use Rattle.cdl_statements.specs.code.Cutters.{pieces_left, text_of, version_of, words}
 use Rattle.cdl_statements.specs.declared.{cutter.Cutter.Cutter, fault.CdlFault.CdlFault, fault.CdlKind.CdlKind, section.Section.Section}
 use Rattle.cdl_statements.specs.declared.section.Section.TheVariants.{Unopened, Globals, Dimensions, Variables, Closed, Ended}
@@ -58,8 +58,8 @@ Makes after (Ok b) read = read ≡ Ok after
 Makes after (Err e) read = FailsRead e read
 
 -- no statement is left, but for the section the state is as it was; or there is the fault
-abbrev pub EndsAs : State → Result ⊤ CdlFault → Result State CdlFault → Type 0
-EndsAs s (Ok u) read = (last : Section) × (read ≡ Ok (record s { section = last }))
+abbrev pub EndsAs : State → Result ℕ CdlFault → Result State CdlFault → Type 0
+EndsAs s (Ok line) read = (last : Section) × (read ≡ Ok (record s { section = last }))
 EndsAs s (Err fault) read = read ≡ Err fault
 
 -- the statements after those that define, from the state that they make

@@ -1,8 +1,7 @@
 -- For contracts. How many values the variables of a text lack.
 use Rattle.std.specs.Prelude.{ℕ, ◌≡◌, ◌<◌, ◌≤◌, ◌^◌, List, Option, SomeIff, length}
 use Rattle.nc_base.specs.code.OwedValues.{owed_count}
-use Rattle.nc_base.specs.Sizes.{slab_limit}
-use Rattle.nc_base.specs.code.SizeParts.{slab_of}
+use Rattle.nc_base.specs.Sizes.{slab_limit, slab_of}
 use Rattle.nc_base.specs.declared.{header.Dim.Dim, header.Var.Var}
 
 -- a slab of the variable is within its limit

@@ -1,6 +1,7 @@
 -- For contracts. What a call that prints values has done.
-use Rattle.std.specs.Prelude.{ℕ, ◌≡◌, ◌+◌, ◌-◌, ◌%◌, ◌<◌, ◌≤◌, ◌==◌, ◌&&◌, ◌||◌, ℤ, Bool, true, false, not, if◌then◌else◌, List, [], ◌∷◌, ◌++◌, length, take, replicate, Some, Result, Ok, Err}
+use Rattle.std.specs.Prelude.{ℕ, ◌≡◌, ◌+◌, ◌-◌, ◌%◌, ◌<◌, ◌≤◌, ◌==◌, ℤ, true, false, if◌then◌else◌, List, [], ◌∷◌, ◌++◌, length, take, replicate, Some, Result, Ok, Err}
 use Rattle.nc_base.specs.Escapes.{escaped_text}
+use Rattle.nc_base.specs.HeadText.{without_trailing_nuls}
 use Rattle.nc_base.specs.Numbers.{number_of}
 use Rattle.nc_base.specs.ValueText.{Look, is_char, column, number_text, variable_prefix}
 use Rattle.nc_base.specs.code.LaterPieces.{held, later_pieces}
@@ -74,34 +75,38 @@ pub record PutInRow (width : ℕ) (bytes : List ℕ) (before : LastLine) (old : 
 abbrev pub PutNumber : Layout → ℤ → LastLine → List ℕ → LastLine → List ℕ → Type 0
 PutNumber layout number before old after new = PutInRow layout.width (number_text (look_at layout) number) before old after new
 
--- ---- characters of one row: one, or some that stand for themselves
+-- ---- characters of one row
 
-abbrev pub is_one_nul : List ℕ → Bool
-is_one_nul [] = false
-is_one_nul (b ∷ []) = b == 0
-is_one_nul (b ∷ c ∷ bytes) = false
+-- those that are printed unless others follow: in a trimmed variable all but the NULs at their end
+abbrev pub shown : Look → List ℕ → List ℕ
+shown look part = if look.trimmed then without_trailing_nuls part else part
 
--- characters after n NULs that aren't printed yet, or nothing if they wait too
-unfoldable pub run_text : Bool → ℕ → List ℕ → List ℕ
-run_text is_held_back nuls run = if is_held_back then [] else escaped_text (replicate nuls 0) ++ escaped_text run
+-- these after n NULs that aren't printed yet, or nothing if there are none
+unfoldable pub part_text : ℕ → List ℕ → List ℕ
+part_text nuls [] = []
+part_text nuls (b ∷ bytes) = escaped_text (replicate nuls 0) ++ escaped_text (b ∷ bytes)
 
 -- the next characters with what stands before them
-abbrev pub run_bytes : Look → Progress → List ℕ → List ℕ
-run_bytes look p run = next_char_lead look p ++ run_text (look.trimmed && is_one_nul run) p.held_nuls run
+abbrev pub part_bytes : Look → Progress → List ℕ → List ℕ
+part_bytes look p part = next_char_lead look p ++ part_text p.held_nuls (shown look part)
 
 -- the next characters by a layout, with what stands before them
-abbrev pub next_run : Layout → Progress → List ℕ → List ℕ
-next_run layout p run = run_bytes (look_at layout) p run
+abbrev pub next_part : Layout → Progress → List ℕ → List ℕ
+next_part layout p part = part_bytes (look_at layout) p part
 
 -- the index in the row after the next characters
-abbrev pub row_index_after_run : Look → Progress → List ℕ → ℕ
-row_index_after_run look p run = if p.row_index + length run == look.row then 0 else p.row_index + length run
+abbrev pub row_index_after_part : Look → Progress → List ℕ → ℕ
+row_index_after_part look p part = if p.row_index + length part == look.row then 0 else p.row_index + length part
+
+-- how many NULs are held back after n were and some characters of the row followed, of which these are shown
+abbrev pub held_after : ℕ → List ℕ → List ℕ → ℕ
+held_after nuls part shown = (if length shown == 0 then nuls else 0) + (length part - length shown)
 
 -- after the next characters
-pub record IsAfterRun (look : Look) (p : Progress) (run : List ℕ) (q : Progress) : Type 0 where
-  pub position : q.position ≡ p.position + length run
-  pub row_index : q.row_index ≡ row_index_after_run look p run
-  pub held : q.held_nuls ≡ (if (row_index_after_run look p run == 0) || not (look.trimmed && is_one_nul run) then 0 else p.held_nuls + 1)
+pub record IsAfterPart (look : Look) (p : Progress) (part : List ℕ) (q : Progress) : Type 0 where
+  pub position : q.position ≡ p.position + length part
+  pub row_index : q.row_index ≡ row_index_after_part look p part
+  pub held : q.held_nuls ≡ (if row_index_after_part look p part == 0 then 0 else held_after p.held_nuls part (shown look part))
 
 -- ---- values
 

@@ -1,5 +1,5 @@
 -- For contracts. What is read ahead of a source, and what is copied from there.
-use Rattle.std.specs.Prelude.{◌≡◌, ℕ, ◌<◌, ◌≤◌, Bool, true, List, length, Result}
+use Rattle.std.specs.Prelude.{◌≡◌, ℕ, ◌+◌, ◌*◌, ◌<◌, ◌≤◌, ◌⊎◌, max, Bool, true, List, length, Result}
 use Rattle.devices.specs.Failures.{HasFailed}
 use Rattle.devices.specs.Sources.{SourceView}
 use Rattle.devices.specs.code.SourceReads.{ReadSome, AreFrom}
@@ -27,6 +27,18 @@ module _ {S : Type 0} {g : Ghosts S} where
   -- how many bytes were read from the other source
   abbrev pub taken : ReadAhead S g → ℕ
   taken ahead = (g.view ahead.source).handed
+
+  -- the stretch has the byte at this offset
+  abbrev pub IsInStretch : ReadAhead S g → ℕ → Type 0
+  IsInStretch ahead at = (ahead.at ≤ at) × (at < ahead.at + ahead.len)
+
+  -- the offset is before the stretch, or after its end by the stretch's length or more
+  abbrev pub IsFar : ReadAhead S g → ℕ → Type 0
+  IsFar ahead at = (at < ahead.at) ⊎ (ahead.at + 2 * ahead.len ≤ at)
+
+  -- it has read no more bytes than there was room for, or than the longest stretch has
+  abbrev pub ReadNoMore : ReadAhead S g → ReadAhead S g → List ℕ → ℕ → Type 0
+  ReadNoMore old new into longest = taken new ≤ taken old + max (length into) longest
 
   -- the other source has failed once more
   abbrev pub SourceFails : ReadAhead S g → ReadAhead S g → Type 0

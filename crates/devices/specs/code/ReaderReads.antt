@@ -38,6 +38,6 @@ Reads old new before following (Err failure) = NoneHandedOver old new
 abbrev pub ReadsNext : {R E : Type 0} → (R → Option (List ℕ)) → CountedRead R → CountedRead R → List ℕ → List ℕ → Result ℕ E → Type 0
 ReadsNext remaining old new before following result = Reads (view_of remaining old) (view_of remaining new) before following result
 
--- once it has ended, it stays what it is
-abbrev pub StaysEnded : {R : Type 0} → (R → Option (List ℕ)) → CountedRead R → CountedRead R → Type 0
-StaysEnded remaining old new = (view_of remaining old).is_ended ≡ true → view_of remaining new ≡ view_of remaining old
+-- once it has ended, it stays what it is, and its reader isn't read again
+abbrev pub StaysEnded : {R : Type 0} → CountedRead R → CountedRead R → Type 0
+StaysEnded old new = old.is_ended ≡ true → new ≡ old

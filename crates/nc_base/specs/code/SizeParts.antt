@@ -2,12 +2,7 @@
 use Rattle.std.specs.Prelude.{◌≡◌, ◌≤◌, ℕ, ◌+◌, ◌-◌, ◌*◌, min, Bool, nat_lt, nat_le, ◌==◌, ◌&&◌, not, if◌then◌else◌, List, [], ◌∷◌, length, map, slice_get, slice_index, IfSome, Option, Some, None, SomeIff}
 use Rattle.std.specs.List.{list_all}
 use Rattle.nc_base.specs.declared.{header.Dim.Dim, header.Var.Var, header.Header.Header, nc_type.NcType.NcType}
-use Rattle.nc_base.specs.Sizes.{value_count, is_record_dim, is_record_var, slab_size, record_vars, record_size, slab_limit, record_limit, least_begin, slab_lens, product}
-use Rattle.nc_base.specs.Types.{size_of}
-
--- the bytes of a slab of this shape and type
-abbrev pub slab_of : List Dim → List ℕ → NcType → ℕ
-slab_of dims ids ty = product (slab_lens dims ids) * size_of ty
+use Rattle.nc_base.specs.Sizes.{value_count, is_record_dim, is_record_var, slab_size, record_vars, record_size, slab_limit, record_limit, least_begin, slab_of}
 
 -- the id is that of a dimension other than the record dimension
 abbrev pub is_fixed_dim : List Dim → ℕ → Bool
@@ -33,9 +28,9 @@ least_record_begin [] = None
 least_record_begin (var ∷ vars) = Some (least_begin var vars)
 
 -- the lesser of two offsets, if there are two
-abbrev pub lesser : Option ℕ → ℕ → ℕ
-lesser None begin = begin
-lesser (Some offset) begin = min offset begin
+abbrev pub min_begin : Option ℕ → ℕ → ℕ
+min_begin None begin = begin
+min_begin (Some offset) begin = min offset begin
 
 -- the first offset after the last value that a variable has over n records: its begin, where it has none
 abbrev pub extent_sum : Header → ℕ → Var → ℕ

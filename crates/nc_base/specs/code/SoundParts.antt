@@ -2,8 +2,7 @@
 use Rattle.std.specs.Prelude.{ℕ, ◌<◌, ◌≤◌, List, [], length, All}
 use Rattle.nc_base.specs.declared.{header.Att.Att, header.Dim.Dim, header.Header.Header, header.Var.Var, nc_type.NcType.NcType, version.Version.Version}
 use Rattle.nc_base.specs.Headers.{AreDimids, IsSoundAtt, IsSoundDim, IsSoundVar}
-use Rattle.nc_base.specs.Sizes.{record_limit, record_size, slab_limit}
-use Rattle.nc_base.specs.code.SizeParts.{slab_of}
+use Rattle.nc_base.specs.Sizes.{record_limit, record_size, slab_limit, slab_of}
 use Rattle.nc_base.specs.Versions.{count_limit}
 
 -- the version can count the dimensions, and each is sound

@@ -3,8 +3,7 @@ use Rattle.std.specs.Bool.{OnTrue}
 use Rattle.std.specs.Prelude.{◌≡◌, Bool, ℕ, ◌+◌, ◌≤◌, List, length, Result, Ok, Err}
 use Rattle.nc_base.specs.declared.{fault.FormatFault.FormatFault, header.Header.Header}
 use Rattle.nc_base.specs.Headers.{IsSound, HasValidNames}
-use Rattle.nc_base.specs.Grammar.{SpellsHeader}
-use Rattle.nc_base.specs.FirstFault.{StopsAt}
+use Rattle.nc_base.specs.Grammar.{SpellsHeader, StopsAt}
 use Rattle.devices.specs.Sources.{SourceView}
 use Rattle.nc_file.specs.declared.head_fault.HeadFault.{HeadFault}
 use Rattle.nc_file.specs.declared.head_fault.HeadFault.TheVariants.{OutOfMemory, ReadFailed, Format}
@@ -12,6 +11,10 @@ use Rattle.nc_file.specs.declared.head_fault.HeadFault.TheVariants.{OutOfMemory,
 -- no more was read in between than the bytes up to here, and one buffer
 abbrev pub ReadUpTo : ℕ → ℕ → ℕ → ℕ → Type 0
 ReadUpTo before after end buffer_len = after ≤ before + end + buffer_len
+
+-- at least n bytes were read in between
+abbrev pub ReadAtLeast : SourceView → SourceView → ℕ → Type 0
+ReadAtLeast old new n = old.handed + n ≤ new.handed
 
 -- The bytes begin with a spelling of the header, with this rest after it. The header is sound and has valid names.
 pub record IsRead (bytes : List ℕ) (before after buffer_len : ℕ) (h : Header) : Type 0 where

@@ -1,7 +1,7 @@
 //! Dimensions.
 
-ghost use Rattle.std.specs.Prelude.{[]};
-ghost use Rattle.nc_file.specs.code.Reading.{dim_at, dim_after, dim_list_at, each_at};
+ghost use Rattle.std.specs.Prelude.{◌≡◌, [], IfOk, length};
+ghost use Rattle.nc_base.specs.Grammar.{dim_after, dim_list, dim_part, each};
 ghost use Rattle.nc_file.specs.code.Window.{Read};
 
 use crate::head_fault::HeadFault;
@@ -14,9 +14,9 @@ use std::alloc::Global;
 impl<S: Source> Window<'_, S> {
     /// Reads a dimension: its name and its length. `has_record` is true if a dimension before it has length 0. Errs with `TwoRecordDims` if
     /// `has_record` is true and this dimension has length 0, too.
-    #[tactic(auto, using(crate::proofs::Parts::parts), unfolding(crate::specs::code::Reading::dim_at))]
+    #[tactic(auto, using(crate::proofs::PartRuns::part_runs), unfolding(nc_base::specs::Grammar::dim_part, nc_base::specs::code::PartRuns::printed_len))]
     fn dim(&mut self, alloc: Global, version: Version, has_record: bool) -> Result<Dim, HeadFault>
-        ensures { Read self.old self.new (dim_at version has_record) result }
+        ensures { Read self.old self.new (dim_part version has_record) result }
     {
         let name = self.name(alloc, version)?;
         let len = self.count(version)?;
@@ -28,9 +28,10 @@ impl<S: Source> Window<'_, S> {
 
     /// Reads `n` dimensions, one after the other, and returns them. Errs with `TwoRecordDims` at the second one of length 0.
     /// [`dim_list`](Window::dim_list) has read the list's tag and `n` before.
-    #[tactic(auto, using(crate::proofs::Loops::each))]
+    #[tactic(auto, using(crate::proofs::PartRuns::each_runs))]
     fn dims(&mut self, alloc: Global, version: Version, n: u64) -> Result<Sequence<Dim>, HeadFault>
-        ensures { Read self.old self.new (each_at (dim_after version) n []) result }
+        ensures read { Read self.old self.new (each (dim_after version) n []) result }
+        ensures count { IfOk result (λ dims. length dims ≡ n) }
     {
         let mut dims = Sequence::new(alloc);
         let mut has_record = false;
@@ -44,13 +45,13 @@ impl<S: Source> Window<'_, S> {
 
     /// Reads the list of dimensions: its tag, their number and the dimensions. Returns the dimensions. Errs with the fault of the first
     /// wrong field, with `ReadFailed` if the source fails, and with `OutOfMemory` if an allocation fails.
-    #[tactic(auto, using(crate::proofs::Parts::parts), unfolding(crate::specs::code::Reading::list_at))]
+    #[tactic(auto, using(crate::proofs::PartRuns::part_runs), unfolding(nc_base::specs::Grammar::dim_list, nc_base::specs::Grammar::list_part, nc_base::specs::code::PartRuns::printed_len))]
     pub(crate) fn dim_list(
         &mut self,
         alloc: Global,
         version: Version,
     ) -> Result<Sequence<Dim>, HeadFault>
-        ensures { Read self.old self.new (dim_list_at version) result }
+        ensures { Read self.old self.new (dim_list version) result }
     {
         let n = self.list_len(version, NC_DIMENSION)?;
         self.dims(alloc, version, n)

@@ -1,12 +1,13 @@
 //! The whole header.
 
 ghost use Rattle.std.specs.Prelude.{◌≡◌, ◌≤◌, length, IfOk};
-ghost use Rattle.nc_base.specs.GeneratedFile.{header_spelling};
+ghost use Rattle.nc_base.specs.Grammar.{header_part, header_spelling, magic_part, numrecs_part, version_part};
 ghost use Rattle.nc_base.specs.Headers.{IsSound};
 ghost use Rattle.nc_base.specs.code.Weight.{weight_of};
-ghost use Rattle.nc_file.specs.code.Answers.{AnswersIn};
-ghost use Rattle.nc_file.specs.code.Reading.{Caused, magic_byte_at, version_at, magic_at, numrecs_at, header_at};
-ghost use Rattle.nc_file.specs.code.Window.{Read};
+ghost use Rattle.nc_file.specs.code.Answers.{AnswersIn, ReadAtLeast};
+ghost use Rattle.nc_base.specs.Parts.{bytes};
+ghost use Rattle.nc_base.specs.declared.fault.FormatFault.TheVariants.{NotNetcdf};
+ghost use Rattle.nc_file.specs.code.Window.{Caused, Read};
 
 use crate::head_fault::HeadFault;
 use crate::window::Window;
@@ -15,8 +16,9 @@ use nc_base::{FormatFault, Header, NumRecs, Version};
 use std::alloc::Global;
 
 /// Reads the header at the start of a source, through a caller's buffer of at least 16 bytes, which may hold anything before and after.
-/// Whatever the source, the returned header is sound (`nc_base::Header::sound`). It takes memory in proportion to its weight
-/// (`nc_base::weight`), which is at most the number of bytes that it takes in a file ([`header_len`](crate::header_len)).
+/// Whatever the source, the returned header is sound (`nc_base::Header::sound`), and the source has handed over at least as many bytes as
+/// it takes in a file ([`header_len`](crate::header_len)). It takes memory in proportion to its weight (`nc_base::weight`), which is at
+/// most that number too.
 ///
 /// It reads from the source only when the next field lacks a byte in the buffer, and from that byte on. So it reads at most one buffer more
 /// of a transparent source ([`Source`]) than the header, or than the bytes up to the end of the first wrong field. No count of the header
@@ -39,7 +41,10 @@ pub fn read_header<S: Source>(
     ensures cause { Caused (S.view source.old).failures (S.view source.new) result }
     ensures answer { AnswersIn S.is_transparent (S.view source.old) (S.view source.new) buf.old result }
     ensures sound { IfOk result IsSound }
-    ensures weight { IfOk result (λ h. weight_of h ≤ length (header_spelling h)) }
+    ensures spelled { IfOk result (λ h. ReadAtLeast (S.view source.old) (S.view source.new)
+        (length (header_spelling h))) }
+    ensures weight { IfOk result (λ h. ReadAtLeast (S.view source.old) (S.view source.new)
+        (weight_of h)) }
 {
     match read_unchecked_header(alloc, source, buf) {
         Ok(header) if !header.sound() => Err(HeadFault::Format(FormatFault::TooLarge)),
@@ -58,6 +63,8 @@ fn read_unchecked_header<S: Source>(
     ensures bytes { (S.view source.new).bytes ≡ (S.view source.old).bytes }
     ensures cause { Caused (S.view source.old).failures (S.view source.new) result }
     ensures answer { AnswersIn S.is_transparent (S.view source.old) (S.view source.new) buf.old result }
+    ensures spelled { IfOk result (λ h. ReadAtLeast (S.view source.old) (S.view source.new)
+        (length (header_spelling h))) }
 {
     let len = source.len();
     let mut window = Window {
@@ -72,48 +79,45 @@ fn read_unchecked_header<S: Source>(
 }
 
 impl<S: Source> Window<'_, S> {
-    /// Reads one of the three bytes that should be `CDF`, without checking it. Errs with `NotNetcdf` if no byte is left, and with
-    /// `ReadFailed` if the source fails.
-    #[tactic(auto, using(crate::proofs::Parts::byte_shorter), unfolding(crate::specs::code::Reading::byte_or, crate::specs::code::Reading::left_over))]
-    fn magic_byte(&mut self) -> Result<u8, HeadFault>
-        ensures { Read self.old self.new magic_byte_at result }
+    /// Reads the three bytes that should be `CDF`, without checking them. Errs with `NotNetcdf` if fewer are left, and with `ReadFailed` if
+    /// the source fails.
+    #[tactic(auto, using(crate::proofs::PartRuns::cuts), unfolding(nc_base::specs::code::PartRuns::printed_len))]
+    fn magic_word(&mut self) -> Result<[u8; 3], HeadFault>
+        ensures { Read self.old self.new (bytes 3 NotNetcdf) result }
     {
-        match self.byte() {
+        match self.array() {
             Err(HeadFault::Format(_)) => Err(HeadFault::Format(FormatFault::NotNetcdf)),
             answer => answer,
         }
     }
 
     /// Reads the version byte, and returns its version. Errs with `UnknownVersion` if the byte is none of 1, 2 and 5.
-    #[tactic(auto, using(crate::proofs::Parts::parts), unfolding(crate::specs::code::Reading::version_at))]
+    #[tactic(auto, using(crate::proofs::PartRuns::part_runs), unfolding(nc_base::specs::Grammar::version_part, nc_base::specs::code::PartRuns::printed_len))]
     fn version(&mut self) -> Result<Version, HeadFault>
-        ensures { Read self.old self.new version_at result }
+        ensures { Read self.old self.new version_part result }
     {
-        let b = self.byte()?;
-        Ok(Version::of_byte(b).ok_or(FormatFault::UnknownVersion(b))?)
+        let bytes: [u8; 1] = self.array()?;
+        Ok(Version::of_byte(bytes[0]).ok_or(FormatFault::UnknownVersion(bytes[0]))?)
     }
 
     /// Reads `CDF` and the version byte, and returns the version. Errs with `NotNetcdf` if other bytes than `CDF` come, or too
     /// few, and with `UnknownVersion` if the version byte is none of 1, 2 and 5.
-    #[tactic(auto, using(crate::proofs::Parts::parts), unfolding(crate::specs::code::Reading::magic_at))]
+    #[tactic(auto, using(crate::proofs::PartRuns::part_runs), unfolding(nc_base::specs::Grammar::magic_part, nc_base::specs::code::PartRuns::printed_len))]
     fn magic(&mut self) -> Result<Version, HeadFault>
-        ensures { Read self.old self.new magic_at result }
+        ensures { Read self.old self.new magic_part result }
     {
-        let a = self.magic_byte()?;
-        let b = self.magic_byte()?;
-        let c = self.magic_byte()?;
-        if a == b'C' && b == b'D' && c == b'F' {
-            self.version()
-        } else {
-            Err(HeadFault::Format(FormatFault::NotNetcdf))
+        let word = self.magic_word()?;
+        if word[..] != b"CDF"[..] {
+            return Err(HeadFault::Format(FormatFault::NotNetcdf));
         }
+        self.version()
     }
 
     /// Reads the number of records. Returns `Streaming` if all of its bits are 1. Errs with `BadCount` if its top bit is 1, but not all of
     /// its bits are.
-    #[tactic(auto, using(crate::proofs::Parts::parts), unfolding(crate::specs::code::Reading::numrecs_at))]
+    #[tactic(auto, using(crate::proofs::PartRuns::part_runs), unfolding(nc_base::specs::Grammar::numrecs_part, nc_base::specs::code::PartRuns::printed_len))]
     fn numrecs(&mut self, version: Version) -> Result<NumRecs, HeadFault>
-        ensures { Read self.old self.new (numrecs_at version) result }
+        ensures { Read self.old self.new (numrecs_part version) result }
     {
         let n = self.number(version)?;
         if n == version.streaming_mark() {
@@ -127,9 +131,9 @@ impl<S: Source> Window<'_, S> {
 
     /// Reads the whole header. Errs with the fault of the first wrong field, with `ReadFailed` if the source fails, and with
     /// `OutOfMemory` if an allocation fails.
-    #[tactic(auto, using(crate::proofs::Parts::parts), unfolding(crate::specs::code::Reading::header_at))]
+    #[tactic(auto, using(crate::proofs::PartRuns::part_runs), unfolding(nc_base::specs::Grammar::header_part, nc_base::specs::code::PartRuns::printed_len))]
     fn header(&mut self, alloc: Global) -> Result<Header, HeadFault>
-        ensures { Read self.old self.new header_at result }
+        ensures { Read self.old self.new header_part result }
     {
         let version = self.magic()?;
         let numrecs = self.numrecs(version)?;

@@ -1,7 +1,7 @@
 //! The parts that several lists share: a name, a type, and the number of elements.
 
 ghost use Rattle.std.specs.Prelude.{◌≡◌};
-ghost use Rattle.nc_file.specs.code.Reading.{type_in, name_at, type_at, list_len_at};
+ghost use Rattle.nc_base.specs.Grammar.{list_head, name_part, type_in, type_part};
 ghost use Rattle.nc_file.specs.code.Window.{Read};
 
 use crate::head_fault::HeadFault;
@@ -13,13 +13,13 @@ use std::alloc::Global;
 
 impl<S: Source> Window<'_, S> {
     /// Reads a name: its length, its bytes and their padding. Returns the bytes. Errs with `BadName` if they aren't a valid name.
-    #[tactic(auto, using(crate::proofs::Parts::parts), unfolding(crate::specs::code::Reading::name_at))]
+    #[tactic(auto, using(crate::proofs::PartRuns::part_runs), unfolding(nc_base::specs::Grammar::name_part, nc_base::specs::code::PartRuns::printed_len))]
     pub(crate) fn name(
         &mut self,
         alloc: Global,
         version: Version,
     ) -> Result<Sequence<u8>, HeadFault>
-        ensures { Read self.old self.new (name_at version) result }
+        ensures { Read self.old self.new (name_part version) result }
     {
         let n = self.count(version)?;
         let name = self.bytes(alloc, n as u128)?;
@@ -32,23 +32,20 @@ impl<S: Source> Window<'_, S> {
 
     /// Reads the code of a type, and returns the type. Errs with `FloatingType` if it is float or double, and with `BadType` if the version
     /// has no type with this code.
-    #[tactic(auto, using(crate::proofs::Parts::parts), unfolding(crate::specs::code::Reading::type_at))]
+    #[tactic(auto, using(crate::proofs::PartRuns::part_runs), unfolding(nc_base::specs::Grammar::type_part, nc_base::specs::code::PartRuns::printed_len))]
     pub(crate) fn nc_type(&mut self, version: Version) -> Result<NcType, HeadFault>
-        ensures { Read self.old self.new (type_at version) result }
+        ensures { Read self.old self.new (type_part version) result }
     {
         let code = self.read_u32()?;
-        if code == NC_FLOAT || code == NC_DOUBLE {
-            return Err(HeadFault::Format(FormatFault::FloatingType));
-        }
-        Ok(type_of(version, code).ok_or(FormatFault::BadType)?)
+        Ok(type_in(version, code)?)
     }
 
     /// Reads the tag of a list and the number of its elements, and returns the number. `tag` is the tag of lists of this kind; 0 may stand
     /// in its place if there are no elements. Errs with `BadTag` if any other tag was read, and with `BadCount` if the tag is 0 and the
     /// number isn't, or if the number's top bit is 1.
-    #[tactic(auto, using(crate::proofs::Parts::parts), unfolding(crate::specs::code::Reading::list_len_at))]
+    #[tactic(auto, using(crate::proofs::PartRuns::part_runs), unfolding(nc_base::specs::Grammar::list_head, nc_base::specs::code::PartRuns::printed_len))]
     pub(crate) fn list_len(&mut self, version: Version, tag: u32) -> Result<u64, HeadFault>
-        ensures { Read self.old self.new (list_len_at version tag) result }
+        ensures { Read self.old self.new (list_head version tag) result }
     {
         let found = self.read_u32()?;
         if found != 0 && found != tag {
@@ -62,13 +59,16 @@ impl<S: Source> Window<'_, S> {
     }
 }
 
-/// Returns the version's type with this code, or `None` if the version has no such type.
-#[tactic(auto, unfolding(crate::specs::code::Reading::type_in))]
-fn type_of(version: Version, code: u32) -> Option<NcType>
+/// Returns the version's type with this code. Errs with `FloatingType` if the code is that of float or double, and with `BadType` if the
+/// version has no type with this code.
+fn type_in(version: Version, code: u32) -> Result<NcType, FormatFault>
     ensures { result ≡ type_in version code }
 {
+    if code == NC_FLOAT || code == NC_DOUBLE {
+        return Err(FormatFault::FloatingType);
+    }
     match NcType::of_code(code) {
-        Some(ty) if version.has_type(ty) => Some(ty),
-        _ => None,
+        Some(ty) if version.has_type(ty) => Ok(ty),
+        _ => Err(FormatFault::BadType),
     }
 }

@@ -1,14 +1,16 @@
 //! Variables.
 
-ghost use Rattle.std.specs.Prelude.{IfOk, ◌≡◌, ◌+◌, ◌≤◌, [], true, if◌then◌else◌};
+ghost use Rattle.std.specs.Prelude.{IfOk, IfSome, ◌≡◌, ◌+◌, ◌≤◌, [], true, if◌then◌else◌, length};
 ghost use Rattle.nc_base.specs.Bytes.{padding_len};
 ghost use Rattle.nc_base.specs.Sizes.{is_record_shape, slab_limit};
 ghost use Rattle.nc_base.specs.Versions.{offset_width};
-ghost use Rattle.nc_file.specs.code.Reading.{is_dimid, dimid_at, dimid_after, each_at, number_at, shape_at, offset_at, total_with, var_at, var_after, var_list_at, IsCounted};
+ghost use Rattle.nc_base.specs.Grammar.{checked, dimid_after, dimid_part, each, is_dimid, is_within_limits, number, offset_part, record_bytes, shape_part, type_part, var_after, var_list, var_part};
+ghost use Rattle.nc_base.specs.declared.fault.FormatFault.TheVariants.{TooLarge};
+ghost use Rattle.nc_file.specs.code.SizedVars.{IsCounted, IsCountedType, total_with, type_of, var_of};
 ghost use Rattle.nc_file.specs.code.Window.{Read};
 
 use crate::head_fault::HeadFault;
-use crate::sized_var::SizedVar;
+use crate::sized_var::{SizedType, SizedVar};
 use crate::tag::NC_VARIABLE;
 use crate::window::Window;
 use devices::Source;
@@ -21,9 +23,9 @@ use std::alloc::Global;
 impl<S: Source> Window<'_, S> {
     /// Reads a dimension id of a shape, and returns it. `first` is true if it is the shape's first id. Errs with `BadShape` if no dimension
     /// of `dims` has this id, or if it is the id of the record dimension and `first` is false.
-    #[tactic(auto, using(crate::proofs::Parts::parts), unfolding(crate::specs::code::Reading::dimid_at))]
+    #[tactic(auto, using(crate::proofs::PartRuns::part_runs), unfolding(nc_base::specs::Grammar::dimid_part, nc_base::specs::code::PartRuns::printed_len))]
     fn dimid(&mut self, version: Version, dims: &[Dim], first: bool) -> Result<u64, HeadFault>
-        ensures { Read self.old self.new (dimid_at version dims.now first) result }
+        ensures { Read self.old self.new (dimid_part version dims.now first) result }
     {
         let id = self.number(version)?;
         if !is_dimid(dims, first, id) {
@@ -34,7 +36,7 @@ impl<S: Source> Window<'_, S> {
 
     /// Reads the `n` dimension ids of a shape. Errs with `BadShape` if one of them names no dimension of `dims`, or if one after the first
     /// names the record dimension.
-    #[tactic(auto, using(crate::proofs::Loops::each))]
+    #[tactic(auto, using(crate::proofs::PartRuns::each_runs))]
     fn dimids(
         &mut self,
         alloc: Global,
@@ -42,7 +44,8 @@ impl<S: Source> Window<'_, S> {
         dims: &[Dim],
         n: u64,
     ) -> Result<Sequence<u64>, HeadFault>
-        ensures { Read self.old self.new (each_at (dimid_after version dims.now) n []) result }
+        ensures read { Read self.old self.new (each (dimid_after version dims.now) n []) result }
+        ensures count { IfOk result (λ dimids. length dimids ≡ n) }
     {
         let mut dimids = Sequence::new(alloc);
         let mut first = true;
@@ -55,14 +58,14 @@ impl<S: Source> Window<'_, S> {
 
     /// Reads the shape of a variable: its rank and its dimension ids. Returns the ids. Errs with `BadShape` if one of them names no
     /// dimension of `dims`, or if one after the first names the record dimension.
-    #[tactic(auto, using(crate::proofs::Parts::parts), unfolding(crate::specs::code::Reading::shape_at))]
+    #[tactic(auto, using(crate::proofs::PartRuns::part_runs), unfolding(nc_base::specs::Grammar::shape_part, nc_base::specs::Grammar::counted, nc_base::specs::code::PartRuns::printed_len))]
     fn shape(
         &mut self,
         alloc: Global,
         version: Version,
         dims: &[Dim],
     ) -> Result<Sequence<u64>, HeadFault>
-        ensures { Read self.old self.new (shape_at version dims.now) result }
+        ensures { Read self.old self.new (shape_part version dims.now) result }
     {
         let n = self.count(version)?;
         self.dimids(alloc, version, dims, n)
@@ -71,7 +74,7 @@ impl<S: Source> Window<'_, S> {
     /// Reads a big-endian number of the width that offsets have in the version, four bytes in CDF-1 and otherwise eight. Its top bit may be
     /// 1: [`offset`](Window::offset) calls this, and then checks the bit.
     fn unchecked_offset(&mut self, version: Version) -> Result<u64, HeadFault>
-        ensures { Read self.old self.new (number_at (offset_width version)) result }
+        ensures { Read self.old self.new (number (offset_width version)) result }
     {
         match version {
             Version::Cdf1 => self.read_u32_as_u64(),
@@ -80,9 +83,9 @@ impl<S: Source> Window<'_, S> {
     }
 
     /// Reads a variable's begin, the offset of its first value. Errs with `BadOffset` if its top bit is 1.
-    #[tactic(auto, using(crate::proofs::Parts::parts), unfolding(crate::specs::code::Reading::offset_at))]
+    #[tactic(auto, using(crate::proofs::PartRuns::part_runs), unfolding(nc_base::specs::Grammar::offset_part, nc_base::specs::code::PartRuns::printed_len))]
     fn offset(&mut self, version: Version) -> Result<u64, HeadFault>
-        ensures { Read self.old self.new (offset_at version) result }
+        ensures { Read self.old self.new (offset_part version) result }
     {
         let n = self.unchecked_offset(version)?;
         if version.offset_limit() <= n {
@@ -91,10 +94,31 @@ impl<S: Source> Window<'_, S> {
         Ok(n)
     }
 
+    /// Reads the type of a variable of this shape, and returns it with the number of bytes that a record has up to and including that
+    /// variable. `total` is the bytes of the padded slabs of the record variables before it. Errs with `TooLarge` if its slab passes 2^48
+    /// bytes, or if the sum passes 2^62 bytes.
+    #[tactic(auto, using(crate::proofs::PartRuns::limit_runs), unfolding(nc_base::specs::code::PartRuns::printed_len))]
+    fn sized_type(
+        &mut self,
+        version: Version,
+        dims: &[Dim],
+        dimids: &[u64],
+        total: u64,
+    ) -> Result<SizedType, HeadFault>
+        ensures read { Read self.old self.new
+            (checked (is_within_limits dims.now total dimids.now) TooLarge (type_part version))
+            (type_of result) }
+        ensures total { IfOk result (IsCountedType dims.now dimids.now total) }
+    {
+        let ty = self.nc_type(version)?;
+        let total = total_with(dims, dimids, ty, total).ok_or(FormatFault::TooLarge)?;
+        Ok(SizedType { ty, total })
+    }
+
     /// Reads a variable, and returns it with the number of bytes that a record has up to and including it. This is `total`, the bytes of
     /// the padded slabs of the record variables before it, plus those of its own padded slab if it is a record variable. Errs with
     /// `TooLarge` if its slab passes 2^48 bytes, or if the sum passes 2^62 bytes. Its `vsize` may be any number.
-    #[tactic(auto, using(crate::proofs::Parts::parts), unfolding(crate::specs::code::Reading::var_at))]
+    #[tactic(auto, using(crate::proofs::PartRuns::part_runs), unfolding(nc_base::specs::Grammar::var_part, nc_base::specs::code::PartRuns::printed_len))]
     fn var(
         &mut self,
         alloc: Global,
@@ -102,14 +126,13 @@ impl<S: Source> Window<'_, S> {
         dims: &[Dim],
         total: u64,
     ) -> Result<SizedVar, HeadFault>
-        ensures read { Read self.old self.new (var_at version dims.now total) result }
+        ensures read { Read self.old self.new (var_part version dims.now total) (var_of result) }
         ensures total { IfOk result (IsCounted dims.now total) }
     {
         let name = self.name(alloc, version)?;
         let dimids = self.shape(alloc, version, dims)?;
         let atts = self.att_list(alloc, version)?;
-        let ty = self.nc_type(version)?;
-        let total = total_with(dims, dimids.as_slice(), ty, total).ok_or(FormatFault::TooLarge)?;
+        let sized = self.sized_type(version, dims, dimids.as_slice(), total)?;
         self.number(version)?;
         let begin_at = self.offset(version)?;
         Ok(SizedVar {
@@ -117,17 +140,17 @@ impl<S: Source> Window<'_, S> {
                 name,
                 dimids,
                 atts,
-                ty,
+                ty: sized.ty,
                 begin_at,
             },
-            total,
+            total: sized.total,
         })
     }
 
     /// Reads `n` variables, one after the other, and returns them. [`var_list`](Window::var_list) has read the list's tag and `n` before.
     /// Allocates for the variables that it has read, and not for `n`. Errs with `TooLarge` if a slab passes 2^48 bytes, or if the padded
     /// slabs of the record variables together pass 2^62 bytes.
-    #[tactic(auto, using(crate::proofs::Loops::each))]
+    #[tactic(auto, using(crate::proofs::PartRuns::each_runs))]
     fn vars(
         &mut self,
         alloc: Global,
@@ -135,7 +158,8 @@ impl<S: Source> Window<'_, S> {
         dims: &[Dim],
         n: u64,
     ) -> Result<Sequence<Var>, HeadFault>
-        ensures { Read self.old self.new (each_at (var_after version dims.now) n []) result }
+        ensures read { Read self.old self.new (each (var_after version dims.now) n []) result }
+        ensures count { IfOk result (λ vars. length vars ≡ n) }
     {
         let mut vars = Sequence::new(alloc);
         let mut total = 0;
@@ -149,14 +173,14 @@ impl<S: Source> Window<'_, S> {
 
     /// Reads the list of variables: its tag, their number and the variables, whose shapes it checks against `dims`. Returns the variables.
     /// Errs with the fault of the first wrong field, with `ReadFailed` if the source fails, and with `OutOfMemory` if an allocation fails.
-    #[tactic(auto, using(crate::proofs::Parts::parts), unfolding(crate::specs::code::Reading::list_at))]
+    #[tactic(auto, using(crate::proofs::PartRuns::part_runs), unfolding(nc_base::specs::Grammar::var_list, nc_base::specs::Grammar::list_part, nc_base::specs::code::PartRuns::printed_len))]
     pub(crate) fn var_list(
         &mut self,
         alloc: Global,
         version: Version,
         dims: &[Dim],
     ) -> Result<Sequence<Var>, HeadFault>
-        ensures { Read self.old self.new (var_list_at version dims.now) result }
+        ensures { Read self.old self.new (var_list version dims.now) result }
     {
         let n = self.list_len(version, NC_VARIABLE)?;
         self.vars(alloc, version, dims, n)
@@ -173,12 +197,13 @@ fn is_dimid(dims: &[Dim], first: bool, id: u64) -> bool
 
 /// Returns `total` plus the bytes of the padded slab of a variable of this shape and type if it is a record variable, otherwise `total`.
 /// `total` is the sum for the record variables before it. Returns `None` if the slab passes 2^48 bytes, or if the sum passes 2^62 bytes.
-#[tactic(auto, unfolding(crate::specs::code::Reading::total_with))]
+#[tactic(auto, unfolding(crate::specs::code::SizedVars::total_with))]
 fn total_with(dims: &[Dim], dimids: &[u64], ty: NcType, total: u64) -> Option<u64>
-    ensures { result ≡ total_with dims.now dimids.now ty total }
+    ensures value { result ≡ total_with dims.now dimids.now ty total }
+    ensures counted { IfSome result (λ sum. sum ≡ total + record_bytes dims.now dimids.now ty) }
 {
     let slab = slab_of(dims, dimids, ty)?;
-    let sum = total as u128 + record_part(dims, dimids, slab) as u128;
+    let sum = total as u128 + record_bytes(dims, dimids, slab) as u128;
     if sum <= RECORD_LIMIT {
         Some(sum as u64)
     } else {
@@ -188,7 +213,7 @@ fn total_with(dims: &[Dim], dimids: &[u64], ty: NcType, total: u64) -> Option<u6
 
 /// Returns how many bytes a slab of `slab` bytes adds to a record: its padded size if the first dimension of this shape is the record
 /// dimension, otherwise 0. Needs a slab of at most 2^48 bytes.
-fn record_part(dims: &[Dim], dimids: &[u64], slab: u64) -> u64
+fn record_bytes(dims: &[Dim], dimids: &[u64], slab: u64) -> u64
     requires { slab ≤ slab_limit }
     ensures { result ≡ (if is_record_shape dims.now dimids.now then slab + padding_len slab else 0) }
 {

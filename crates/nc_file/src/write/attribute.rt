@@ -2,19 +2,20 @@
 
 ghost use Rattle.std.specs.Prelude.{◌<◌, All, length};
 ghost use Rattle.std.specs.List.{flat_map};
-ghost use Rattle.nc_base.specs.GeneratedFile.{att_spelling, atts_spelling};
+ghost use Rattle.nc_base.specs.Grammar.{att_list, att_part};
 ghost use Rattle.nc_base.specs.Headers.{IsSoundAtt};
+ghost use Rattle.nc_base.specs.Parts.{print};
 ghost use Rattle.nc_base.specs.Versions.{count_limit};
 ghost use Rattle.devices.specs.code.SinkWrites.{Wrote};
 
-use super::list::{put_list_head, put_name, put_zero_padded};
+use super::list::{put_list_head, put_name, put_padded};
 use super::number::{put_count, put_u32};
 use crate::tag::NC_ATTRIBUTE;
 use devices::{Sink, WriteFailed};
 use nc_base::{Att, Version};
 
 /// Writes a list of attributes: its tag, their number and the attributes. Errs if the sink fails.
-#[tactic(auto, using(devices::proofs::Writes::writes))]
+#[tactic(auto, using(crate::proofs::Prints::list_prints))]
 pub(crate) fn put_att_list<W: Sink>(
     sink: &mut W,
     version: Version,
@@ -22,7 +23,7 @@ pub(crate) fn put_att_list<W: Sink>(
 ) -> Result<(), WriteFailed>
     requires few { length atts.now < count_limit version }
     requires sound { All (IsSoundAtt version) atts.now }
-    ensures { Wrote W.view sink.old sink.new (atts_spelling version atts.now) result }
+    ensures { Wrote W.view sink.old sink.new (print (att_list version) atts.now) result }
 {
     put_list_head(sink, version, NC_ATTRIBUTE, atts.len() as u64)?;
     put_atts(sink, version, atts)
@@ -31,7 +32,7 @@ pub(crate) fn put_att_list<W: Sink>(
 /// Writes the attributes of a list, one after another, without the tag and the number before them. Errs if the sink fails.
 fn put_atts<W: Sink>(sink: &mut W, version: Version, atts: &[Att]) -> Result<(), WriteFailed>
     requires { All (IsSoundAtt version) atts.now }
-    ensures { Wrote W.view sink.old sink.new (flat_map (att_spelling version) atts.now) result }
+    ensures { Wrote W.view sink.old sink.new (flat_map (print (att_part version)) atts.now) result }
 {
     for att in atts {
         put_att(sink, version, att)?;
@@ -41,13 +42,13 @@ fn put_atts<W: Sink>(sink: &mut W, version: Version, atts: &[Att]) -> Result<(),
 
 /// Writes an attribute: its name, the type and the number of its values, and the values with their padding. Errs if the sink
 /// fails.
-#[tactic(auto, using(devices::proofs::Writes::writes), unfolding(nc_base::specs::GeneratedFile::att_spelling))]
+#[tactic(auto, using(devices::proofs::Writes::writes), unfolding(nc_base::specs::Parts::print, nc_base::specs::Grammar::att_part, nc_base::specs::Grammar::type_part))]
 fn put_att<W: Sink>(sink: &mut W, version: Version, att: &Att) -> Result<(), WriteFailed>
     requires { IsSoundAtt version att.now }
-    ensures { Wrote W.view sink.old sink.new (att_spelling version att.now) result }
+    ensures { Wrote W.view sink.old sink.new (print (att_part version) att.now) result }
 {
     put_name(sink, version, att.name.as_slice())?;
     put_u32(sink, att.ty.code())?;
     put_count(sink, version, att.vals.len() as u64 / att.ty.size())?;
-    put_zero_padded(sink, att.vals.as_slice())
+    put_padded(sink, att.vals.as_slice())
 }

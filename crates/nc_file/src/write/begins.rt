@@ -10,10 +10,21 @@ ghost use Rattle.nc_file.specs.code.Begins.{after, is_below, offset_of, offset_t
 use super::length::header_len;
 use super::slab::padded_slab_len;
 use nc_base::{Dim, Header, Sequence, Var, is_record_var};
+use std::error::Error;
+use std::fmt;
 
 /// The begin of a variable is too large for its field in files of the version.
 #[derive(Clone, Copy, Debug, PartialEq, Eq)]
 pub struct OffsetTooLarge;
+
+impl fmt::Display for OffsetTooLarge {
+    /// Writes `offset too large`.
+    fn fmt<W: fmt::Write>(&self, f: &mut fmt::Formatter<W>) -> fmt::Result {
+        f.write_str("offset too large")
+    }
+}
+
+impl Error for OffsetTooLarge {}
 
 /// The begins of the next variables, in bytes from the file's start.
 #[derive(Clone, Copy)]

@@ -1,12 +1,12 @@
 //! The list of dimensions.
 
-ghost use Rattle.std.specs.Prelude.{◌<◌, All, length};
+ghost use Rattle.std.specs.Prelude.{◌<◌, All, false, length};
 ghost use Rattle.std.specs.List.{flat_map};
-ghost use Rattle.nc_base.specs.GeneratedFile.{dim_spelling};
+ghost use Rattle.nc_base.specs.Grammar.{dim_list, dim_part};
+ghost use Rattle.nc_base.specs.Parts.{print};
 ghost use Rattle.nc_base.specs.Headers.{IsSoundDim};
 ghost use Rattle.nc_base.specs.Versions.{count_limit};
 ghost use Rattle.devices.specs.code.SinkWrites.{Wrote};
-ghost use Rattle.nc_file.specs.code.WrittenParts.{dim_list};
 
 use super::list::{put_list_head, put_name};
 use super::number::put_count;
@@ -15,7 +15,7 @@ use devices::{Sink, WriteFailed};
 use nc_base::{Dim, Version};
 
 /// Writes the list of dimensions: its tag, their number and the dimensions. Errs if the sink fails.
-#[tactic(auto, using(devices::proofs::Writes::writes))]
+#[tactic(auto, using(crate::proofs::Prints::list_prints))]
 pub(crate) fn put_dim_list<W: Sink>(
     sink: &mut W,
     version: Version,
@@ -23,7 +23,7 @@ pub(crate) fn put_dim_list<W: Sink>(
 ) -> Result<(), WriteFailed>
     requires few { length dims.now < count_limit version }
     requires sound { All (IsSoundDim version) dims.now }
-    ensures { Wrote W.view sink.old sink.new (dim_list version dims.now) result }
+    ensures { Wrote W.view sink.old sink.new (print (dim_list version) dims.now) result }
 {
     put_list_head(sink, version, NC_DIMENSION, dims.len() as u64)?;
     put_dims(sink, version, dims)
@@ -32,7 +32,8 @@ pub(crate) fn put_dim_list<W: Sink>(
 /// Writes the dimensions of the list, one after another, without the tag and the number before them. Errs if the sink fails.
 fn put_dims<W: Sink>(sink: &mut W, version: Version, dims: &[Dim]) -> Result<(), WriteFailed>
     requires { All (IsSoundDim version) dims.now }
-    ensures { Wrote W.view sink.old sink.new (flat_map (dim_spelling version) dims.now) result }
+    ensures { Wrote W.view sink.old sink.new
+        (flat_map (print (dim_part version false)) dims.now) result }
 {
     for dim in dims {
         put_dim(sink, version, dim)?;
@@ -41,10 +42,10 @@ fn put_dims<W: Sink>(sink: &mut W, version: Version, dims: &[Dim]) -> Result<(),
 }
 
 /// Writes a dimension: its name and its length. Errs if the sink fails.
-#[tactic(auto, using(devices::proofs::Writes::writes), unfolding(nc_base::specs::GeneratedFile::dim_spelling))]
+#[tactic(auto, using(devices::proofs::Writes::writes), unfolding(nc_base::specs::Parts::print, nc_base::specs::Grammar::dim_part))]
 fn put_dim<W: Sink>(sink: &mut W, version: Version, dim: &Dim) -> Result<(), WriteFailed>
     requires { IsSoundDim version dim.now }
-    ensures { Wrote W.view sink.old sink.new (dim_spelling version dim.now) result }
+    ensures { Wrote W.view sink.old sink.new (print (dim_part version false) dim.now) result }
 {
     put_name(sink, version, dim.name.as_slice())?;
     put_count(sink, version, dim.len)

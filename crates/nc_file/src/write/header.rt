@@ -1,14 +1,15 @@
 //! The whole header.
 
 ghost use Rattle.std.specs.Prelude.{◌≡◌, ◌<◌, All};
-ghost use Rattle.nc_base.specs.GeneratedFile.{header_spelling, magic_spelling, numrecs_spelling};
+ghost use Rattle.nc_base.specs.Grammar.{header_spelling, magic_part, numrecs_part};
 ghost use Rattle.nc_base.specs.Headers.{IsSound, IsSoundNumRecs};
+ghost use Rattle.nc_base.specs.Parts.{print};
 ghost use Rattle.nc_base.specs.Versions.{offset_limit};
 ghost use Rattle.devices.specs.code.SinkWrites.{Wrote};
 
 use super::attribute::put_att_list;
 use super::dimension::put_dim_list;
-use super::number::{put_count, put_number};
+use super::number::{put_count, put_count_field};
 use super::variable::put_var_list;
 use devices::{Sink, WriteFailed, put};
 use nc_base::{Header, NumRecs, Version};
@@ -21,7 +22,7 @@ use nc_base::{Header, NumRecs, Version};
 /// # Errors
 ///
 /// The sink failed. It took some prefix of the header.
-#[tactic(auto, using(devices::proofs::Writes::writes), unfolding(nc_base::specs::GeneratedFile::header_spelling))]
+#[tactic(auto, using(devices::proofs::Writes::writes), unfolding(nc_base::specs::Parts::print, nc_base::specs::Grammar::header_part))]
 pub fn write_header<W: Sink>(sink: &mut W, header: &Header) -> Result<(), WriteFailed>
     requires sound { IsSound header.now }
     requires begins { All (λ var. var.begin_at < offset_limit header.now.version) header.now.vars }
@@ -41,20 +42,21 @@ pub fn write_header<W: Sink>(sink: &mut W, header: &Header) -> Result<(), WriteF
 }
 
 /// Writes `CDF` and the version byte. Errs if the sink fails.
-#[tactic(auto, unfolding(nc_base::specs::GeneratedFile::magic_spelling))]
+#[tactic(auto, unfolding(nc_base::specs::Parts::print, nc_base::specs::Grammar::magic_part, nc_base::specs::Grammar::version_part))]
 fn put_magic<W: Sink>(sink: &mut W, version: Version) -> Result<(), WriteFailed>
-    ensures { Wrote W.view sink.old sink.new (magic_spelling version) result }
+    ensures { Wrote W.view sink.old sink.new (print magic_part version) result }
 {
     put(sink, &[b'C', b'D', b'F', version.byte()])
 }
 
 /// Writes the number of records, or if it is unknown (`STREAMING`) a number whose bits are all 1. Errs if the sink fails.
+#[tactic(auto, unfolding(nc_base::specs::Parts::print, nc_base::specs::Grammar::numrecs_part, nc_base::specs::Grammar::count_part))]
 fn put_numrecs<W: Sink>(sink: &mut W, version: Version, numrecs: NumRecs) -> Result<(), WriteFailed>
     requires { IsSoundNumRecs version numrecs }
-    ensures { Wrote W.view sink.old sink.new (numrecs_spelling version numrecs) result }
+    ensures { Wrote W.view sink.old sink.new (print (numrecs_part version) numrecs) result }
 {
     match numrecs {
         NumRecs::Known(n) => put_count(sink, version, n),
-        NumRecs::Streaming => put_number(sink, version, version.streaming_mark()),
+        NumRecs::Streaming => put_count_field(sink, version, version.streaming_mark()),
     }
 }

@@ -1,11 +1,11 @@
 //! The number of bytes that a header takes in a file. Each sum stops at `u64::MAX`.
 
-ghost use Rattle.std.specs.Prelude.{◌≡◌, ◌+◌, ◌-◌, ◌^◌, length, min};
+ghost use Rattle.std.specs.Prelude.{◌≡◌, ◌+◌, ◌-◌, ◌^◌, [], false, length, min};
 ghost use Rattle.std.specs.Int.{byte_len};
-ghost use Rattle.std.specs.List.{sum_by};
-ghost use Rattle.nc_base.specs.GeneratedFile.{header_spelling};
-ghost use Rattle.nc_base.specs.Versions.{offset_width};
-ghost use Rattle.nc_file.specs.code.Lengths.{att_len, atts_len, count_len, dim_len, list_head_len, name_len, padded_len, var_len};
+ghost use Rattle.nc_base.specs.Bytes.{padding_len};
+ghost use Rattle.nc_base.specs.Grammar.{att_list, att_part, dim_list, dim_part, header_spelling, name_part, var_list, var_part};
+ghost use Rattle.nc_base.specs.Versions.{count_width, offset_width};
+ghost use Rattle.nc_base.specs.code.PartRuns.{printed_len};
 
 use nc_base::{Att, Dim, Header, Var, Version, padding_len};
 
@@ -28,7 +28,7 @@ pub fn header_len(header: &Header) -> u64
 
 /// Returns the number of bytes that the list of dimensions, with its tag and count, takes in a file, or `u64::MAX` if there are more.
 fn dims_len(version: Version, dims: &[Dim]) -> u64
-    ensures { result ≡ min (list_head_len version + sum_by (dim_len version) dims.now) (2 ^ 64 - 1) }
+    ensures { result ≡ min (printed_len (dim_list version) dims.now) (2 ^ 64 - 1) }
 {
     let mut total = list_head_len(version);
     for dim in dims {
@@ -39,7 +39,7 @@ fn dims_len(version: Version, dims: &[Dim]) -> u64
 
 /// Returns the number of bytes that a list of attributes, with its tag and count, takes in a file, or `u64::MAX` if there are more.
 fn atts_len(version: Version, atts: &[Att]) -> u64
-    ensures { result ≡ min (atts_len version atts.now) (2 ^ 64 - 1) }
+    ensures { result ≡ min (printed_len (att_list version) atts.now) (2 ^ 64 - 1) }
 {
     let mut total = list_head_len(version);
     for att in atts {
@@ -50,7 +50,7 @@ fn atts_len(version: Version, atts: &[Att]) -> u64
 
 /// Returns the number of bytes that the list of variables, with its tag and count, takes in a file, or `u64::MAX` if there are more.
 fn vars_len(version: Version, vars: &[Var]) -> u64
-    ensures { result ≡ min (list_head_len version + sum_by (var_len version) vars.now) (2 ^ 64 - 1) }
+    ensures { result ≡ min (printed_len (var_list version []) vars.now) (2 ^ 64 - 1) }
 {
     let mut total = list_head_len(version);
     for var in vars {
@@ -60,15 +60,17 @@ fn vars_len(version: Version, vars: &[Var]) -> u64
 }
 
 /// Returns the number of bytes that the name and the length of a dimension take in a header, or `u64::MAX` if there are more.
+#[tactic(auto, using(crate::proofs::HeaderLen::fields_len))]
 fn dim_len(version: Version, dim: &Dim) -> u64
-    ensures { result ≡ min (dim_len version dim.now) (2 ^ 64 - 1) }
+    ensures { result ≡ min (printed_len (dim_part version false) dim.now) (2 ^ 64 - 1) }
 {
     name_len(version, dim.name.as_slice()).saturating_add(count_len(version))
 }
 
 /// Returns the number of bytes that an attribute takes in a header, or `u64::MAX` if there are more.
+#[tactic(auto, using(crate::proofs::HeaderLen::fields_len))]
 fn att_len(version: Version, att: &Att) -> u64
-    ensures { result ≡ min (att_len version att.now) (2 ^ 64 - 1) }
+    ensures { result ≡ min (printed_len (att_part version) att.now) (2 ^ 64 - 1) }
 {
     let head = WORD_LEN + count_len(version);
     name_len(version, att.name.as_slice())
@@ -77,8 +79,9 @@ fn att_len(version: Version, att: &Att) -> u64
 }
 
 /// Returns the number of bytes that a variable takes in a header, or `u64::MAX` if there are more.
+#[tactic(auto, using(crate::proofs::HeaderLen::fields_len))]
 fn var_len(version: Version, var: &Var) -> u64
-    ensures { result ≡ min (var_len version var.now) (2 ^ 64 - 1) }
+    ensures { result ≡ min (printed_len (var_part version [] 0) var.now) (2 ^ 64 - 1) }
 {
     let ids = (var.dimids.len() as u64).saturating_mul(count_len(version));
     let fields = count_len(version) + WORD_LEN + count_len(version) + offset_len(version);
@@ -89,29 +92,30 @@ fn var_len(version: Version, var: &Var) -> u64
 }
 
 /// Returns the number of bytes that a name takes in a header, with its length and its padding, or `u64::MAX` if there are more.
+#[tactic(auto, using(crate::proofs::HeaderLen::fields_len))]
 fn name_len(version: Version, name: &[u8]) -> u64
-    ensures { result ≡ min (name_len version name.now) (2 ^ 64 - 1) }
+    ensures { result ≡ min (printed_len (name_part version) name.now) (2 ^ 64 - 1) }
 {
     count_len(version).saturating_add(padded_len(name.len() as u64))
 }
 
 /// Returns `n` rounded up to a multiple of four, or `u64::MAX` if that is greater.
 fn padded_len(n: u64) -> u64
-    ensures { result ≡ min (padded_len n) (2 ^ 64 - 1) }
+    ensures { result ≡ min (n + padding_len n) (2 ^ 64 - 1) }
 {
     n.saturating_add(padding_len(n as u128))
 }
 
 /// Returns the number of bytes before the elements of a list: those of its tag and of the number of elements.
 fn list_head_len(version: Version) -> u64
-    ensures { result ≡ list_head_len version }
+    ensures { result ≡ 4 + byte_len (count_width version) }
 {
     WORD_LEN + count_len(version)
 }
 
 /// Returns the number of bytes that a count takes in the version: 8 in CDF-5, otherwise 4.
 fn count_len(version: Version) -> u64
-    ensures { result ≡ count_len version }
+    ensures { result ≡ byte_len (count_width version) }
 {
     match version {
         Version::Cdf1 | Version::Cdf2 => 4,

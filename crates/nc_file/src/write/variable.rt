@@ -1,16 +1,17 @@
 //! The list of variables.
 
-ghost use Rattle.std.specs.Prelude.{◌≡◌, ◌<◌, All, length};
+ghost use Rattle.std.specs.Prelude.{◌≡◌, ◌<◌, [], All, length};
 ghost use Rattle.std.specs.List.{flat_map};
-ghost use Rattle.nc_base.specs.GeneratedFile.{count_spelling, var_spelling, vsize_of};
+ghost use Rattle.nc_base.specs.Grammar.{number, shape_part, var_list, var_part, vsize_of};
 ghost use Rattle.nc_base.specs.Headers.{IsSoundVar};
-ghost use Rattle.nc_base.specs.Versions.{count_limit, offset_limit};
+ghost use Rattle.nc_base.specs.Parts.{print};
+ghost use Rattle.nc_base.specs.Sizes.{padded_size};
+ghost use Rattle.nc_base.specs.Versions.{count_limit, count_width, offset_limit};
 ghost use Rattle.devices.specs.code.SinkWrites.{Wrote};
-ghost use Rattle.nc_file.specs.code.WrittenParts.{shape_spelling, var_list, vars_spelling, vsize_spelling};
 
 use super::attribute::put_att_list;
 use super::list::{put_list_head, put_name};
-use super::number::{put_count, put_number, put_offset, put_u32};
+use super::number::{put_count, put_count_field, put_offset, put_u32};
 use super::slab::padded_slab_len;
 use crate::tag::NC_VARIABLE;
 use devices::{Sink, WriteFailed};
@@ -18,7 +19,7 @@ use nc_base::{Dim, Var, Version};
 
 /// Writes the list of variables: its tag, their number and the variables. `dims` has the header's dimensions. Needs sound variables with
 /// begins that fit their fields, and fewer variables, and fewer dimensions, than the version's limit of counts. Errs if the sink fails.
-#[tactic(auto, using(devices::proofs::Writes::writes))]
+#[tactic(auto, using(crate::proofs::Prints::list_prints))]
 pub(crate) fn put_var_list<W: Sink>(
     sink: &mut W,
     version: Version,
@@ -29,7 +30,7 @@ pub(crate) fn put_var_list<W: Sink>(
     requires few_dims { length dims.now < count_limit version }
     requires sound { All (IsSoundVar version dims.now) vars.now }
     requires begins { All (λ var. var.begin_at < offset_limit version) vars.now }
-    ensures { Wrote W.view sink.old sink.new (var_list version dims.now vars.now) result }
+    ensures { Wrote W.view sink.old sink.new (print (var_list version dims.now) vars.now) result }
 {
     put_list_head(sink, version, NC_VARIABLE, vars.len() as u64)?;
     put_vars(sink, version, dims, vars)
@@ -45,7 +46,8 @@ fn put_vars<W: Sink>(
     requires few_dims { length dims.now < count_limit version }
     requires sound { All (IsSoundVar version dims.now) vars.now }
     requires begins { All (λ var. var.begin_at < offset_limit version) vars.now }
-    ensures { Wrote W.view sink.old sink.new (vars_spelling version dims.now vars.now) result }
+    ensures { Wrote W.view sink.old sink.new
+        (flat_map (print (var_part version dims.now 0)) vars.now) result }
 {
     for var in vars {
         put_var(sink, version, dims, var)?;
@@ -54,7 +56,7 @@ fn put_vars<W: Sink>(
 }
 
 /// Writes a variable: its name, its shape, its attributes, its type, its `vsize` and its begin. Errs if the sink fails.
-#[tactic(auto, using(devices::proofs::Writes::writes), unfolding(nc_base::specs::GeneratedFile::var_spelling))]
+#[tactic(auto, using(crate::proofs::Prints::var_prints), unfolding(nc_base::specs::Parts::print, nc_base::specs::Grammar::var_part, nc_base::specs::Grammar::type_part))]
 fn put_var<W: Sink>(
     sink: &mut W,
     version: Version,
@@ -64,46 +66,36 @@ fn put_var<W: Sink>(
     requires few_dims { length dims.now < count_limit version }
     requires sound { IsSoundVar version dims.now var.now }
     requires begin { var.now.begin_at < offset_limit version }
-    ensures { Wrote W.view sink.old sink.new (var_spelling version dims.now var.now) result }
+    ensures { Wrote W.view sink.old sink.new (print (var_part version dims.now 0) var.now) result }
 {
     put_name(sink, version, var.name.as_slice())?;
-    put_shape(sink, version, dims, var.dimids.as_slice())?;
+    put_shape(sink, version, var.dimids.as_slice())?;
     put_att_list(sink, version, var.atts.as_slice())?;
     put_u32(sink, var.ty.code())?;
     put_vsize(sink, version, dims, var)?;
     put_offset(sink, version, var.begin_at)
 }
 
-/// Writes a shape: its rank and `dimids`, the ids of its dimensions. Only the contract needs `dims`. Errs if the sink fails.
-#[tactic(auto, using(devices::proofs::Writes::writes))]
-fn put_shape<W: Sink>(
-    sink: &mut W,
-    version: Version,
-    dims: &[Dim],
-    dimids: &[u64],
-) -> Result<(), WriteFailed>
+/// Writes a shape: its rank and `dimids`, the ids of its dimensions. Needs a rank and ids below the version's limit of counts. Errs if the
+/// sink fails.
+#[tactic(auto, using(crate::proofs::Prints::var_prints))]
+fn put_shape<W: Sink>(sink: &mut W, version: Version, dimids: &[u64]) -> Result<(), WriteFailed>
     requires rank { length dimids.now < count_limit version }
-    requires few_dims { length dims.now < count_limit version }
-    requires known { All (λ id. id < length dims.now) dimids.now }
-    ensures { Wrote W.view sink.old sink.new (shape_spelling version dimids.now) result }
+    requires small { All (λ id. id < count_limit version) dimids.now }
+    ensures { Wrote W.view sink.old sink.new (print (shape_part version []) dimids.now) result }
 {
     put_count(sink, version, dimids.len() as u64)?;
-    put_dimids(sink, version, dims, dimids)
+    put_dimids(sink, version, dimids)
 }
 
-/// Writes `dimids`, the ids of dimensions, one after another. Only the contract needs `dims`. Errs if the sink fails.
-fn put_dimids<W: Sink>(
-    sink: &mut W,
-    version: Version,
-    dims: &[Dim],
-    dimids: &[u64],
-) -> Result<(), WriteFailed>
-    requires few_dims { length dims.now < count_limit version }
-    requires known { All (λ id. id < length dims.now) dimids.now }
-    ensures { Wrote W.view sink.old sink.new (flat_map (count_spelling version) dimids.now) result }
+/// Writes `dimids`, the ids of dimensions, one after another. Needs ids below the version's limit of counts. Errs if the sink fails.
+fn put_dimids<W: Sink>(sink: &mut W, version: Version, dimids: &[u64]) -> Result<(), WriteFailed>
+    requires { All (λ id. id < count_limit version) dimids.now }
+    ensures { Wrote W.view sink.old sink.new
+        (flat_map (print (number (count_width version))) dimids.now) result }
 {
     for id in dimids {
-        put_count(sink, version, *id)?;
+        put_count_field(sink, version, *id)?;
     }
     Ok(())
 }
@@ -117,9 +109,11 @@ fn put_vsize<W: Sink>(
     var: &Var,
 ) -> Result<(), WriteFailed>
     requires { IsSoundVar version dims.now var.now }
-    ensures { Wrote W.view sink.old sink.new (vsize_spelling version dims.now var.now) result }
+    ensures { Wrote W.view sink.old sink.new
+        (print (number (count_width version)) (vsize_of version (padded_size dims.now var.now)))
+        result }
 {
-    put_number(sink, version, vsize_of(version, padded_slab_len(dims, var)))
+    put_count_field(sink, version, vsize_of(version, padded_slab_len(dims, var)))
 }
 
 /// Returns the `vsize` of a variable whose padded slab has `padded` bytes. It is `padded`, but in CDF-1 and CDF-2 the greatest number of 32

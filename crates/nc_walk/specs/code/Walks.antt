@@ -75,13 +75,15 @@ pub record Exactly (w : WalkView) (before now : SourceView) (chunk : List ℕ) (
   pub bytes : chunk ≡ concat (map (bytes_at w.size before.bytes) (take n w.left))
   pub handed : now ≡ having_read before (length chunk)
 
--- the chunk has n values, one at least, in no more bytes than the buffer's
+-- The chunk has n values, one at least, in no more bytes than the buffer's, and as many bytes at least were read from the source: also
+-- from an opaque one.
 pub record ReturnsValues (is_transparent : Bool) (w : WalkView) (before now : SourceView) (chunk : List ℕ) (n : ℕ) : Type 0 where
   pub some : 0 < n
   pub len : length chunk ≡ n * w.size
   pub within : n ≤ length w.left
   pub capacity : n * w.size ≤ length w.buf
   pub failures : now.failures ≡ before.failures
+  pub handed : before.handed + length chunk ≤ now.handed
   pub exactly : OnTrue is_transparent (Exactly w before now chunk n)
 
 -- A read failed among the next n values, which are whole in the source. No bytes but theirs were read, and no more than the
@@ -93,11 +95,14 @@ pub record Failing (w : WalkView) (before now : SourceView) (n : ℕ) : Type 0 w
   pub capacity : n * w.size ≤ length w.buf
   pub partway : FailedReadInFull before now (n * w.size)
 
--- Value number k is the next one, and it isn't whole in the source. Nothing was read from the source.
+-- Value number k is the next one, and it isn't whole in the source. Nothing was read from the source, or from an opaque one a part of the
+-- value.
 pub record Truncated (is_transparent : Bool) (w : WalkView) (before now : SourceView) (k : ℕ) : Type 0 where
   pub value : k ≡ w.done
   pub some : 0 < length w.left
   pub failures : now.failures ≡ before.failures
+  pub kept : before.handed ≤ now.handed
+  pub part : now.handed < before.handed + w.size
   pub missing : OnTrue is_transparent ((length before.bytes < slice_index w.left 0 + w.size) × (now ≡ before))
 
 -- what a call does with a walk that hasn't stopped

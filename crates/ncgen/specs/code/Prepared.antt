@@ -1,7 +1,8 @@
 -- For contracts. A file that stands ready to be written.
 use Rattle.std.specs.Prelude.{◌≡◌, ◌<◌, ℕ, List, ◌++◌, All, Result, Ok, Err}
 use Rattle.nc_base.specs.declared.{header.Header.Header, header.Var.Var}
-use Rattle.nc_base.specs.GeneratedFile.{data_of, header_spelling, known_records}
+use Rattle.nc_base.specs.GeneratedFile.{data_of, known_records}
+use Rattle.nc_base.specs.Grammar.{header_spelling}
 use Rattle.nc_base.specs.Headers.{IsSound}
 use Rattle.nc_base.specs.code.OwedValues.{AreListed, whole_arrays}
 use Rattle.nc_base.specs.Versions.{offset_limit}

@@ -1,6 +1,7 @@
 use Rattle.std.proofs.Common.{rules, ◌≡◌, ◌<◌, ℕ, false, List, [], length, refl, sym, ap, ◌∙◌, subst, replicate, ◌^◌}
-use Rattle.cdl_parse.proofs.Prelude.{is_done, pieces_left, text_of, version_of, Section, run, IsInDataSection, TakesStatement, FailsAt, at_line, ParseError}
+use Rattle.cdl_parse.proofs.Prelude.{closing_of, is_done, pieces_left, text_of, version_of, Section, run, IsInDataSection, TakesStatement, FailsAt, at_line, ParseError}
 use Rattle.cdl_parse.proofs.DataRuns.{none_so_far, values_on}
+use Rattle.cdl_parse.proofs.Closings.{closing_on}
 use Rattle.cdl_parse.proofs.RunSteps.{fewer, goes_on, stops}
 use Rattle.cdl_parse.proofs.data_section.read_data.Goals as goal
 
@@ -8,7 +9,7 @@ pub statements-init : goal.statements-init
 statements-init c =
     let count : c.len.result ≡ length c.args.targets.items = search rules in
     let empty = c.in_ok-arrays.ensures ∙ ap (λ (n : ℕ). replicate {A = List ℕ} n []) count in
-    record { text = refl; version = refl; reads = λ vars s at. none_so_far vars s c.args.start c.args.targets.items c.in_ok-arrays.arrays.items at.section at.suit at.unlisted empty }
+    record { text = refl; version = refl; reads = λ vars s at. none_so_far vars s c.args.start c.args.targets.items c.in_ok-arrays.arrays.items at.section at.suit at.unlisted empty; lines = refl }
 
 pub statements-smaller : goal.statements-smaller
 statements-smaller c = fewer c.statements.cutter c.in-Ok.passed.rest (sym c.is_done.ensures ∙ c.if-is_done.false) c.in-Ok.ensures.rest.pieces
@@ -27,6 +28,7 @@ statements-preserved c =
           let taken = found.reads vars (record s { drafts = so.0 }) (subst (λ names. IsInDataSection vars names t.listings.targets.items t.listings.arrays.items (record s { drafts = so.0 })) (sym at.named) so.1) (subst (λ text. length text < 2 ^ 63) (sym t.invariant.text) at.short) in
           values_on start t.cutter t.invariant.text t.invariant.version more vars s t.listings.targets.items c.read_next_statement.new.listings.targets.items t.listings.arrays.items c.read_next_statement.new.listings.arrays.items c.in-Ok.passed.rest found.rest.pieces so
           (subst (λ b. TakesStatement b vars t.cutter (record s { drafts = so.0 }) c.read_next_statement.new.listings.targets.items c.read_next_statement.new.listings.arrays.items) c.if-passed.false taken);
+      lines = ap (closing_of c.in-Ok.passed.rest) c.and-lines.ensures ∙ closing_on t.lines t.cutter c.in-Ok.passed.rest c.line.result more (c.line.ensures more) found.rest.pieces ∙ t.invariant.lines;
     }
 
 pub returns-then-is_done-clause-reads : goal.returns-then-is_done-clause-reads
@@ -46,6 +48,12 @@ returns-then-passed-clause-reads c = λ vars s at.
     let closed = subst (λ b. TakesStatement b vars t.cutter (record s { drafts = so.0 }) c.read_next_statement.new.listings.targets.items c.read_next_statement.new.listings.arrays.items) c.if-passed.true taken in
     (so.0, closed.1, so.2 ∙ goes_on start t.cutter t.invariant.text t.invariant.version more (record s { drafts = so.0 }) (record s { section = Section.Closed; drafts = so.0 }) c.in-Ok.passed.rest closed.0 found.rest.pieces)
 
+pub returns-then-passed-clause-lines : goal.returns-then-passed-clause-lines
+returns-then-passed-clause-lines c =
+    let t = c.statements in
+    let more : is_done t.cutter ≡ false = sym c.is_done.ensures ∙ c.if-is_done.false in
+    ap (closing_of c.in-Ok.passed.rest) c.and-lines.ensures ∙ closing_on t.lines t.cutter c.in-Ok.passed.rest c.line.result more (c.line.ensures more) c.in-Ok.ensures.rest.pieces ∙ t.invariant.lines
+
 pub returns-in-Err-clause-reads : goal.returns-in-Err-clause-reads
 returns-in-Err-clause-reads c = λ vars s at.
     let start = c.args.start in
@@ -54,4 +62,4 @@ returns-in-Err-clause-reads c = λ vars s at.
     let so = t.invariant.reads vars s at in
     let fault = c.in-Err.ensures.reads vars (record s { drafts = so.0 }) (subst (λ names. IsInDataSection vars names t.listings.targets.items t.listings.arrays.items (record s { drafts = so.0 })) (sym at.named) so.1) (subst (λ text. length text < 2 ^ 63) (sym t.invariant.text) at.short) in
     subst (λ (e : ParseError). FailsAt e (run (text_of start) (version_of start) s (pieces_left start))) (sym c.at_line.ensures)
-    (subst (FailsAt (at_line c.line.result c.in-Err.e)) (sym so.2) (stops start t.cutter t.invariant.text t.invariant.version more (record s { drafts = so.0 }) c.in-Err.e c.line.result (c.line.ensures more) fault))
+    (subst (FailsAt (at_line c.line-in-Err.result c.in-Err.e)) (sym so.2) (stops start t.cutter t.invariant.text t.invariant.version more (record s { drafts = so.0 }) c.in-Err.e c.line-in-Err.result (c.line-in-Err.ensures more) fault))

@@ -1,5 +1,6 @@
-use Rattle.std.proofs.Common.{◌≡◌, false, sym, ◌∙◌, subst}
-use Rattle.cdl_parse.proofs.Prelude.{is_done, pieces_left, text_of, version_of, words, empty, run, state_of, FailsAt, at_line}
+use Rattle.std.proofs.Common.{◌≡◌, false, ap, sym, ◌∙◌, subst}
+use Rattle.cdl_parse.proofs.Prelude.{is_done, pieces_left, text_of, version_of, words, closing_of, empty, run, state_of, FailsAt, at_line}
+use Rattle.cdl_parse.proofs.Closings.{closing_on}
 use Rattle.cdl_parse.proofs.RunSteps.{fewer, goes_on, stops}
 use Rattle.cdl_parse.proofs.ShapesKept.{kept}
 use Rattle.cdl_parse.proofs.definition_sections.read_definitions.Goals as goal
@@ -17,6 +18,7 @@ statements-preserved c =
       version = c.in-Ok.ensures.rest.same.version ∙ t.invariant.version;
       shaped = kept (version_of t.cutter) (state_of t.definitions) (state_of c.read_statement.new.self) (words t.cutter) c.in-Ok.ensures.makes t.invariant.shaped;
       runs = t.invariant.runs ∙ goes_on start t.cutter t.invariant.text t.invariant.version more (state_of t.definitions) (state_of c.read_statement.new.self) c.in-Ok.rest c.in-Ok.ensures.makes c.in-Ok.ensures.rest.pieces;
+      lines = ap (closing_of c.in-Ok.rest) c.and-lines.ensures ∙ closing_on t.lines t.cutter c.in-Ok.rest c.line.result more (c.line.ensures more) c.in-Ok.ensures.rest.pieces ∙ t.invariant.lines;
     }
 
 pub returns-in-Err-clause-reads : goal.returns-in-Err-clause-reads
@@ -25,4 +27,4 @@ returns-in-Err-clause-reads c =
     let t = c.statements in
     let more : is_done t.cutter ≡ false = sym c.is_done.ensures ∙ c.if-is_done.false in
     subst (λ e. FailsAt e (run (text_of start) (version_of start) empty (pieces_left start))) (sym c.at_line.ensures)
-    (subst (FailsAt (at_line c.line.result c.in-Err.e)) (sym t.invariant.runs) (stops start t.cutter t.invariant.text t.invariant.version more (state_of t.definitions) c.in-Err.e c.line.result (c.line.ensures more) c.in-Err.ensures.makes))
+    (subst (FailsAt (at_line c.line-in-Err.result c.in-Err.e)) (sym t.invariant.runs) (stops start t.cutter t.invariant.text t.invariant.version more (state_of t.definitions) c.in-Err.e c.line-in-Err.result (c.line-in-Err.ensures more) c.in-Err.ensures.makes))

@@ -1,5 +1,5 @@
 use Rattle.std.proofs.Common.{◌≡◌, length}
-use Rattle.cdl_parse.proofs.Prelude.{pieces_left, text_of, version_of, empty, run, AreShaped, state_of}
+use Rattle.cdl_parse.proofs.Prelude.{pieces_left, text_of, version_of, closing_line, closing_of, empty, run, AreShaped, state_of}
 use Rattle.cdl_parse.proofs.definition_sections.read_definitions.Given as goal
 
 abbrev pub invariant-statements : goal.invariant-statements
@@ -8,6 +8,7 @@ invariant-statements l = record {
   version : version_of l.cutter ≡ version_of l.fn.start;
   shaped : AreShaped l.definitions.dims l.definitions.variables;
   runs : run (text_of l.fn.start) (version_of l.fn.start) empty (pieces_left l.fn.start) ≡ run (text_of l.fn.start) (version_of l.fn.start) (state_of l.definitions) (pieces_left l.cutter);
+  lines : closing_of l.cutter l.lines ≡ closing_line (pieces_left l.fn.start);
 }
 
 abbrev pub decreases-statements : goal.decreases-statements

@@ -7,31 +7,31 @@ use Rattle.cdl_parse.proofs.finishing.finish.Goals as goal
 pub returns-in_err-records-clause-declares : goal.returns-in_err-records-clause-declares
 returns-in_err-records-clause-declares c = λ s is att-is lists shaped line.
     let a = c.args in
-    let none : c.records_of.result ≡ None = search rules in
+    let none : c.records_within_limits.result ≡ None = search rules in
     let gives : c.from_residual.result ≡ None = search rules in
     array_too_large a.version s line
-    (kept_at c.as_slice.result.now a.dims c.as_slice-2.result.now a.vars c.as_slice-3.result.now a.listed.items s c.records_of.result c.as_slice.ensures c.as_slice-2.ensures c.as_slice-3.ensures.value is lists shaped c.records_of.ensures ∙ none) ∙
+    (kept_at c.as_slice.result.now a.dims c.as_slice-2.result.now a.vars c.as_slice-3.result.now a.listed.items s c.records_within_limits.result c.as_slice.ensures c.as_slice-2.ensures c.as_slice-3.ensures.value is lists shaped c.records_within_limits.ensures ∙ none) ∙
     ap (or_too_large line) (sym gives)
 
 pub returns-then-is_none-clause-declares : goal.returns-then-is_none-clause-declares
 returns-then-is_none-clause-declares c = λ s is att-is lists shaped line.
     let a = c.args in
     let n = c.in_ok-records.records in
-    let kept : c.records_of.result ≡ Some n = search rules in
+    let kept : c.records_within_limits.result ≡ Some n = search rules in
     let none : c.rec_size.result ≡ None = search rules in
     record_too_large a.version s line n
-    (kept_at c.as_slice.result.now a.dims c.as_slice-2.result.now a.vars c.as_slice-3.result.now a.listed.items s c.records_of.result c.as_slice.ensures c.as_slice-2.ensures c.as_slice-3.ensures.value is lists shaped c.records_of.ensures ∙ kept)
+    (kept_at c.as_slice.result.now a.dims c.as_slice-2.result.now a.vars c.as_slice-3.result.now a.listed.items s c.records_within_limits.result c.as_slice.ensures c.as_slice-2.ensures c.as_slice-3.ensures.value is lists shaped c.records_within_limits.ensures ∙ kept)
     (ap checked_record_size (header_at a.version n s a.dims a.gatts a.vars a.listed.items is att-is lists) ∙ sym c.rec_size.ensures ∙ none)
 
 pub returns-clause-declares : goal.returns-clause-declares
 returns-clause-declares c = λ s is att-is lists shaped line.
     let a = c.args in
     let n = c.in_ok-records.records in
-    let kept : c.records_of.result ≡ Some n = search rules in
+    let kept : c.records_within_limits.result ≡ Some n = search rules in
     let there : is_some c.rec_size.result ≡ true = search rules in
     let same = header_at a.version n s a.dims a.gatts a.vars a.listed.items is att-is lists in
     is_declared a.version s line n
-    (kept_at c.as_slice.result.now a.dims c.as_slice-2.result.now a.vars c.as_slice-3.result.now a.listed.items s c.records_of.result c.as_slice.ensures c.as_slice-2.ensures c.as_slice-3.ensures.value is lists shaped c.records_of.ensures ∙ kept)
+    (kept_at c.as_slice.result.now a.dims c.as_slice-2.result.now a.vars c.as_slice-3.result.now a.listed.items s c.records_within_limits.result c.as_slice.ensures c.as_slice-2.ensures c.as_slice-3.ensures.value is lists shaped c.records_within_limits.ensures ∙ kept)
     (ap (λ (h : Header). is_some (checked_record_size h)) same ∙ ap is_some (sym c.rec_size.ensures) ∙ there) ∙
     ap (λ (h : Header). or_too_large line (Some (record { header = h; listed = map (listed_of s.dims) s.drafts }))) same ∙
     ap (λ (ls : List (List ℕ)). or_too_large line (Some (record { header = record { version = a.version; numrecs = Known n; dims = a.dims; gatts = a.gatts; vars = a.vars }; listed = ls })))

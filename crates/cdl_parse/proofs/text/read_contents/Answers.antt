@@ -5,8 +5,8 @@ use Rattle.cdl_parse.specs.declared.{parse_error.ParseError.TheVariants.Fault, t
 use Rattle.cdl_parse.proofs.WholeTexts.{listed_shapes, names_known, same_end, same_fault, same_run}
 use Rattle.cdl_parse.proofs.text.read_contents.Goals as goal
 
-pub returns : goal.returns
-returns c = λ small.
+pub returns-clause-reads : goal.returns-clause-reads
+returns-clause-reads c = λ small.
     let start = c.args.start in
     let rest = c.in_ok-definitions.field-0.rest in
     let s = state_of c.in_ok-definitions.field-0.definitions in
@@ -23,7 +23,7 @@ returns c = λ small.
     c.in_ok-definitions.ensures.reads ∙ same_run (text_of start) (text_of rest) (version_of start) (version_of rest) s at (pieces_left rest) (pieces_left values.rest) c.in_ok-definitions.ensures.same.text c.in_ok-definitions.ensures.same.version read.2 in
     let text = c.in_ok-values.ensures.same.text ∙ c.in_ok-definitions.ensures.same.text in
     let version = c.in_ok-values.ensures.same.version ∙ c.in_ok-definitions.ensures.same.version in
-    let ended = c.in_ok-check_end.ensures at refl in
+    let ended = c.in_ok-closing_line.ensures.ends at refl in
     let kept : s.dims ≡ c.into_sequence-dims.result = search rules in
     let lists = subst (λ vs. AllList s.dims vs values.listed.items read.0) listed_of read.1 in (
       record at { section = ended.0 },
@@ -36,8 +36,8 @@ returns c = λ small.
       so_far ∙ same_end (text_of start) (text_of values.rest) (version_of start) (version_of values.rest) at (pieces_left values.rest) _ text version ended.1,
     )
 
-pub returns-in_err-check_end : goal.returns-in_err-check_end
-returns-in_err-check_end c = λ small.
+pub returns-in_err-closing_line-clause-reads : goal.returns-in_err-closing_line-clause-reads
+returns-in_err-closing_line-clause-reads c = λ small.
     let start = c.args.start in
     let rest = c.in_ok-definitions.field-0.rest in
     let s = state_of c.in_ok-definitions.field-0.definitions in
@@ -54,13 +54,13 @@ returns-in_err-check_end c = λ small.
     c.in_ok-definitions.ensures.reads ∙ same_run (text_of start) (text_of rest) (version_of start) (version_of rest) s at (pieces_left rest) (pieces_left values.rest) c.in_ok-definitions.ensures.same.text c.in_ok-definitions.ensures.same.version read.2 in
     let text = c.in_ok-values.ensures.same.text ∙ c.in_ok-definitions.ensures.same.text in
     let version = c.in_ok-values.ensures.same.version ∙ c.in_ok-definitions.ensures.same.version in
-    let fault = c.in_err-check_end.field-0.0 in
-    let is : c.from_residual-in_err-check_end.result ≡ Err (Fault fault) = search rules in
+    let fault = c.in_err-closing_line.field-0.0 in
+    let is : c.from_residual-in_err-closing_line.result ≡ Err (Fault fault) = search rules in
     subst (λ (r : Result Contents ParseError). ReadsAll r (run (text_of start) (version_of start) empty (pieces_left start))) (sym is)
-    (so_far ∙ same_end (text_of start) (text_of values.rest) (version_of start) (version_of values.rest) at (pieces_left values.rest) _ text version (c.in_err-check_end.ensures at refl))
+    (so_far ∙ same_end (text_of start) (text_of values.rest) (version_of start) (version_of values.rest) at (pieces_left values.rest) _ text version (c.in_err-closing_line.ensures.ends at refl))
 
-pub returns-in_err-values : goal.returns-in_err-values
-returns-in_err-values c = λ small.
+pub returns-in_err-values-clause-reads : goal.returns-in_err-values-clause-reads
+returns-in_err-values-clause-reads c = λ small.
     let start = c.args.start in
     let rest = c.in_ok-definitions.field-0.rest in
     let s = state_of c.in_ok-definitions.field-0.definitions in

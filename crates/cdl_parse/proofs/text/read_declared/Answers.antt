@@ -14,12 +14,12 @@ returns-in_err-dims-clause-reads c =
     let is : c.from_residual.result ≡ Err e = search rules in
     subst (λ (r : Result Declared ParseError). ReadsOn (λ d. Ok (dataset_of_declared d)) r (meaning text version)) (sym is)
     (run_fails version (closing_line (statements text)) e (run text version empty (statements text))
-    (subst (λ pieces. FailsAt e (run text version empty pieces)) c.new.ensures.pieces (same_fault text (text_of start) version (version_of start) empty (pieces_left start) e c.new.ensures.text c.new.ensures.version (c.in_err-dims.ensures short))))
+    (subst (λ pieces. FailsAt e (run text version empty pieces)) c.new.ensures.pieces (same_fault text (text_of start) version (version_of start) empty (pieces_left start) e c.new.ensures.text c.new.ensures.version (c.in_err-dims.ensures.reads short))))
 
 pub returns-in-Some-clause-one_each : goal.returns-in-Some-clause-one_each
 returns-in-Some-clause-one_each c =
     let short : length (text_of c.new.result) < 2 ^ 63 = subst (λ t. length t < 2 ^ 63) (sym c.new.ensures.text) (search rules) in
-    let read = c.in_ok-dims.ensures short in
+    let read = c.in_ok-dims.ensures.reads short in
     let contents = c.in_ok-dims.field-0 in
     let each : length contents.listed.items ≡ length contents.vars = one-each contents.dims contents.vars contents.listed.items read.0.drafts read.1.listed in
     let kept = c.in-Some.ensures.keeps in

@@ -17,4 +17,5 @@ returns-in_ok-empty_arrays-in_default c =
       );
       past = λ more. past_values c.args.section (c.requires more) c.in_default.not-Values;
       same = record { text = refl; version = refl };
+      lines = refl;
     }

@@ -1,5 +1,6 @@
 use Rattle.std.proofs.Common.{◌≡◌, false, refl, ap, sym, ◌∙◌}
-use Rattle.cdl_parse.proofs.Prelude.{is_done, next_token, pieces_left, text_of, version_of, words, lexeme, Ended, run}
+use Rattle.cdl_parse.proofs.Prelude.{closing_of, is_done, next_token, pieces_left, text_of, version_of, words, lexeme, Ended, run}
+use Rattle.cdl_parse.proofs.Closings.{closing_end, closing_on}
 use Rattle.cdl_parse.proofs.Defining.{ends}
 use Rattle.cdl_parse.proofs.RunSteps.{fault_stops, fewer, goes_on}
 use Rattle.cdl_parse.proofs.Runs.{run_none}
@@ -12,6 +13,7 @@ statements-init c = record {
   version = refl;
   past = c.requires;
   runs = λ s here. ap (λ section. run (text_of c.args.start) (version_of c.args.start) (record s { section = section }) (pieces_left c.args.start)) here;
+  lines = refl;
 }
 
 pub statements-smaller : goal.statements-smaller
@@ -32,18 +34,24 @@ statements-preserved c =
           t.invariant.runs s here ∙
           goes_on start t.cutter t.invariant.text t.invariant.version more at (record s { section = Ended }) c.in-Ok.rest
           (c.in-Ok.ensures.passes at refl ∙ ends (version_of t.cutter) at (lexeme (text_of t.cutter) (next_token t.cutter)) begun.0 (words t.cutter) (t.invariant.past more) begun.1) c.in-Ok.ensures.rest.pieces;
+      lines = ap (closing_of c.in-Ok.rest) c.and-lines.ensures ∙ closing_on t.lines t.cutter c.in-Ok.rest c.line.result more (c.line.ensures more) c.in-Ok.ensures.rest.pieces ∙ t.invariant.lines;
     }
 
-pub returns-then-is_done : goal.returns-then-is_done
-returns-then-is_done c = λ s here. (
+pub returns-then-is_done-clause-line : goal.returns-then-is_done-clause-line
+returns-then-is_done-clause-line c =
+    let t = c.statements in
+    c.closing.ensures ∙ closing_end t.lines t.cutter (sym c.is_done.ensures ∙ c.if-is_done.true) ∙ t.invariant.lines
+
+pub returns-then-is_done-clause-ends : goal.returns-then-is_done-clause-ends
+returns-then-is_done-clause-ends c = λ s here. (
   c.statements.here,
   c.statements.invariant.runs s here ∙ run_none (text_of c.args.start) (version_of c.args.start) (record s { section = c.statements.here }) c.statements.cutter (sym c.is_done.ensures ∙ c.if-is_done.true),
 )
 
-pub returns-in-Err : goal.returns-in-Err
-returns-in-Err c = λ s here.
+pub returns-in-Err-clause-ends : goal.returns-in-Err-clause-ends
+returns-in-Err-clause-ends c = λ s here.
     let start = c.args.start in
     let t = c.statements in
     let more : is_done t.cutter ≡ false = sym c.is_done.ensures ∙ c.if-is_done.false in
     let at = record s { section = t.here } in
-    t.invariant.runs s here ∙ fault_stops start t.cutter t.invariant.text t.invariant.version more at c.in-Err.kind c.line.result (c.line.ensures more) (c.in-Err.ensures.passes at refl)
+    t.invariant.runs s here ∙ fault_stops start t.cutter t.invariant.text t.invariant.version more at c.in-Err.kind c.line-in-Err.result (c.line-in-Err.ensures more) (c.in-Err.ensures.passes at refl)

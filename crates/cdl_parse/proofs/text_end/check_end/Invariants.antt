@@ -1,5 +1,5 @@
 use Rattle.std.proofs.Common.{◌≡◌, length, true, false}
-use Rattle.cdl_parse.proofs.Prelude.{is_done, pieces_left, text_of, version_of, run, State, is_over}
+use Rattle.cdl_parse.proofs.Prelude.{closing_of, is_done, pieces_left, text_of, version_of, run, State, is_over}
 use Rattle.cdl_parse.proofs.text_end.check_end.Given as goal
 
 abbrev pub invariant-statements : goal.invariant-statements
@@ -9,6 +9,7 @@ invariant-statements l = record {
   past : is_done l.cutter ≡ false → is_over l.here ≡ true;
   runs : (s : State) → s.section ≡ l.fn.section →
       run (text_of l.fn.start) (version_of l.fn.start) s (pieces_left l.fn.start) ≡ run (text_of l.fn.start) (version_of l.fn.start) (record s { section = l.here }) (pieces_left l.cutter);
+  lines : closing_of l.cutter l.lines ≡ closing_of l.fn.start l.fn.before;
 }
 
 abbrev pub decreases-statements : goal.decreases-statements

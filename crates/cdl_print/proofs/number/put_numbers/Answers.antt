@@ -1,22 +1,19 @@
-use Rattle.std.proofs.Common.{arith, refl}
+use Rattle.std.proofs.Common.{arith}
 use Rattle.std.proofs.lemmas.Result.{err_from_is_err_and}
 use Rattle.cdl_print.proofs.Begun.{begun_at_first, begun_next, begun_partway, begun_all}
-use Rattle.cdl_print.proofs.Joined.{number_values-parts, number_values-none}
+use Rattle.cdl_print.proofs.Joined.{number_values-none}
 use Rattle.cdl_print.proofs.number.put_numbers.Goals as goal
 
 pub loop-rest-init : goal.loop-rest-init
 loop-rest-init g c = begun_at_first _ _
 
 pub loop-rest-preserved : goal.loop-rest-preserved
-loop-rest-preserved g c =
-    let parts = number_values-parts c.args.ty c.size-size.result c.loop-rest.rest.now c.split_at.result.0.now c.split_at.result.1.now _ c.size-size.ensures c.loop-rest-test.true c.split_at.ensures.front c.split_at.ensures.back refl in
-    begun_next _ _ _ _ _ _ _ c.loop-rest.invariant parts c.in_ok-put_number.ensures
+loop-rest-preserved g c = begun_next _ _ _ _ _ _ _ c.loop-rest.invariant c.gather_numbers-end.ensures.text c.in_ok-put.ensures
 
-pub returns-in_err-put_number : goal.returns-in_err-put_number
-returns-in_err-put_number g c =
+pub returns-in_err-put : goal.returns-in_err-put
+returns-in_err-put g c =
     let p = err_from_is_err_and c.from_residual.result c.from_residual.ensures.1 in
-    let parts = number_values-parts c.args.ty c.size-size.result c.loop-rest.rest.now c.split_at.result.0.now c.split_at.result.1.now _ c.size-size.ensures c.loop-rest-test.true c.split_at.ensures.front c.split_at.ensures.back refl in
-    rw p.1 (begun_partway _ _ _ _ _ _ _ c.loop-rest.invariant parts c.in_err-put_number.ensures)
+    rw p.1 (begun_partway _ _ _ _ _ _ _ c.loop-rest.invariant c.gather_numbers-end.ensures.text c.in_err-put.ensures)
 
 pub returns : goal.returns
 returns g c =

@@ -6,17 +6,17 @@ use Rattle.cdl_print.proofs.number_line.gather_typed.Goals as goal
 pub loop-rest-init : goal.loop-rest-init
 loop-rest-init c = (in_row_at_first _ _ _ _, omega arith, refl)
 
-pub gather_next-now-requires-clause-fits : goal.gather_next-now-requires-clause-fits
-gather_next-now-requires-clause-fits c =
+pub put_next_value-now-requires-clause-fits : goal.put_next_value-now-requires-clause-fits
+put_next_value-now-requires-clause-fits c =
     let parts = numbers_parts c.args.ty c.size-size.result c.loop-rest.rest.now _ _ c.size-size.ensures c.loop-rest-test.true c.split_at.ensures.front c.split_at.ensures.back in
     omega (arith, ap length parts, c.loop-rest.invariant.1, c.loop-rest.invariant.2, c.requires.fits)
 
 pub loop-rest-preserved : goal.loop-rest-preserved
 loop-rest-preserved c =
     let parts = numbers_parts c.args.ty c.size-size.result c.loop-rest.rest.now _ _ c.size-size.ensures c.loop-rest-test.true c.split_at.ensures.front c.split_at.ensures.back in (
-      in_row_goes_on _ _ _ _ _ _ _ _ _ _ _ c.loop-rest.invariant.0 parts c.gather_next-now.ensures.put.text c.gather_next-now.ensures.put.columns_left,
-      omega (arith, ap length parts, c.loop-rest.invariant.1, c.gather_next-now.ensures.short),
-      c.gather_next-now.auto.text ∙ c.loop-rest.invariant.2,
+      in_row_goes_on _ _ _ _ _ _ _ _ _ _ _ c.loop-rest.invariant.0 parts c.put_next_value-now.ensures.put.text c.put_next_value-now.ensures.put.columns_left,
+      omega (arith, ap length parts, c.loop-rest.invariant.1, c.put_next_value-now.ensures.short),
+      c.put_next_value-now.auto.text ∙ c.loop-rest.invariant.2,
     )
 
 pub returns-clause-more : goal.returns-clause-more

@@ -1,7 +1,6 @@
 use Rattle.std.proofs.Common.{sym, ◌∙◌}
 use Rattle.cdl_statements.specs.code.Cutters.{version_of, words}
-use Rattle.cdl_statements.proofs.Sections.{piece_completes}
-use Rattle.cdl_statements.proofs.StatementsSaid.{said_is}
+use Rattle.cdl_statements.proofs.Sections.{piece_completes, said_is}
 use Rattle.cdl_statements.proofs.shape_check.check_shape.Goals as goal
 
 pub returns-clause-shaped : goal.returns-clause-shaped
@@ -9,5 +8,4 @@ returns-clause-shaped c = λ good. c.check_shape_by_due.ensures.shaped ∙ sym (
 
 pub returns-clause-says : goal.returns-clause-says
 returns-clause-says c = λ good whole.
-    let fine = sym c.check_shape_by_due.ensures.bad ∙ good in
-    said_is (version_of c.args.start) c.args.section (words c.args.start) fine (piece_completes (version_of c.args.start) c.args.section (words c.args.start) fine ∙ sym c.check_shape_by_due.ensures.shaped ∙ whole)
+    said_is (version_of c.args.start) c.args.section (words c.args.start) (sym c.check_shape_by_due.ensures.bad ∙ good) (sym c.check_shape_by_due.ensures.shaped ∙ whole)

@@ -1,9 +1,9 @@
-use Rattle.std.proofs.Common.{length, ◌-◌, ◌≡◌, ◌++◌, drop}
+use Rattle.std.proofs.Common.{length, ◌≡◌, ◌++◌}
 use Rattle.cdl_values.proofs.Prelude.{string_value, char_bytes}
 use Rattle.cdl_values.proofs.string.put_string.Given as goal
 
-abbrev pub invariant-loop-at : goal.invariant-loop-at
-invariant-loop-at l = l.array ++ char_bytes (string_value (drop l.at l.raw)) ≡ l.fn.array ++ char_bytes (string_value l.raw)
+abbrev pub invariant-escapes : goal.invariant-escapes
+invariant-escapes l = l.array ++ char_bytes (string_value l.rest) ≡ l.fn.array ++ char_bytes (string_value l.raw)
 
-abbrev pub decreases-loop-at : goal.decreases-loop-at
-decreases-loop-at l = length l.raw - l.at
+abbrev pub decreases-escapes : goal.decreases-escapes
+decreases-escapes l = length l.rest

@@ -1,8 +1,9 @@
-use Rattle.nc_file.proofs.FileLaws.{files-hold, files-hold-one, files-dumped, generated-dumped}
+use Rattle.nc_base.proofs.FileHolds.{file-holds}
+use Rattle.nc_file.proofs.FileLaws.{files-hold-one, files-dumped, generated-dumped}
 use Rattle.nc_file.proofs.laws.file_reads_back.Goals as goal
 
 pub returns-clause-holds : goal.returns-clause-holds
-returns-clause-holds c = files-hold
+returns-clause-holds c = file-holds
 
 pub returns-clause-one : goal.returns-clause-one
 returns-clause-one c = files-hold-one

@@ -1,5 +1,7 @@
-use Rattle.nc_base.proofs.HeaderSpelled.{header-spelled}
+use Rattle.nc_base.proofs.PartOutcomes.{printed}
+use Rattle.nc_base.proofs.Printable.{header-printable}
+use Rattle.nc_base.specs.Grammar.{header_part}
 use Rattle.nc_file.proofs.laws.written_header_reads_back.Goals as goal
 
 pub returns : goal.returns
-returns c = header-spelled
+returns c = λ h rest sound names begins. printed header_part h rest (header-printable h sound names begins)

@@ -17,8 +17,8 @@ ends_are c =
 pub invariant_of-self-2 : goal.invariant_of-self-2
 invariant_of-self-2 c = grind (arith, ends_are c, ends_end)
 
-pub returns : goal.returns
-returns c =
+pub returns-clause-ok : goal.returns-clause-ok
+returns-clause-ok c =
     let l = c.self.inside in
     let len : ℕ = c.len-end.result - l.last_row_end + c.args.lacking in
     let end : ℕ = c.len-end.result in

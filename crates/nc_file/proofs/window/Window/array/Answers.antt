@@ -1,5 +1,5 @@
 use Rattle.std.proofs.Common.{refl}
-use Rattle.nc_file.proofs.Chunks.{array_held}
+use Rattle.nc_file.proofs.Bytes.{array_held}
 use Rattle.nc_file.proofs.window.Window.array.Goals as goal
 
 pub returns : goal.returns

@@ -1,9 +1,22 @@
-use Rattle.std.proofs.Common.{arith, length-set}
-use Rattle.nc_file.proofs.Loops.{array-next}
+use Rattle.std.proofs.Common.{ℕ, arith, length-set}
+use Rattle.nc_file.proofs.Prelude.{err_from_is_err_and}
+use Rattle.nc_file.proofs.Bytes.{on-by, array-next, read-array, stop-bytes}
 use Rattle.nc_file.proofs.window.Window.array_by_bytes.Goals as goal
 
+pub returns-in_err-array : goal.returns-in_err-array
+returns-in_err-array g c =
+    let p = err_from_is_err_and c.from_residual.result c.from_residual.ensures.1 in
+    let e = c.in_err-array.ensures in
+    rw (p.1, p.2) (stop-bytes ℕ c.args.self.now c.loop-i.self c.byte.new.self g.row.N c.loop-i.i _ c.loop-i.invariant.so_far (omega arith) (record { kept = e.kept; cause = e.cause; stuck = e.byte }))
+
 pub loop-i-preserved : goal.loop-i-preserved
-loop-i-preserved g c = record {
-  reads = array-next _ _ _ g.row.N c.loop-i.i c.in_ok-bytes.field-0 c.loop-i.bytes (omega arith) c.loop-i.invariant.len c.loop-i.invariant.reads c.in_ok-bytes.ensures;
-  len = omega (arith, length-set c.loop-i.bytes c.loop-i.i c.in_ok-bytes.field-0, c.loop-i.invariant.len);
-}
+loop-i-preserved g c =
+    let e = c.in_ok-array.ensures in
+    record {
+      so_far = on-by _ _ _ c.loop-i.i 1 c.loop-i.invariant.so_far e.kept e.cause e.byte.0;
+      same = array-next c.args.self.now c.loop-i.self g.row.N c.loop-i.i c.in_ok-array.field-0 c.loop-i.array (omega arith) c.loop-i.invariant.len c.loop-i.invariant.so_far c.loop-i.invariant.same e.byte.1;
+      len = omega (arith, length-set c.loop-i.array c.loop-i.i c.in_ok-array.field-0, c.loop-i.invariant.len);
+    }
+
+pub returns : goal.returns
+returns g c = read-array _ _ g.row.N c.loop-i.i c.loop-i.array (omega arith) (omega arith) c.loop-i.invariant.so_far c.loop-i.invariant.len c.loop-i.invariant.same

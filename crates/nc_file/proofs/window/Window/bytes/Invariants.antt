@@ -1,10 +1,14 @@
-use Rattle.std.proofs.Common.{[]}
-use Rattle.nc_file.specs.code.Reading.{bytes_at}
-use Rattle.nc_file.proofs.Loops.{ReadsOn}
+use Rattle.std.proofs.Common.{◌≡◌, ◌+◌, length, take}
+use Rattle.nc_file.proofs.Prelude.{OnTrue, left}
+use Rattle.nc_file.proofs.Bytes.{Progress}
 use Rattle.nc_file.proofs.window.Window.bytes.Given as goal
 
 abbrev pub invariant-loop-missing : goal.invariant-loop-missing
-invariant-loop-missing g l = ReadsOn l.fn.self l.self (bytes_at l.missing l.bytes) (bytes_at l.n [])
+invariant-loop-missing g l = record {
+  so_far : Progress l.fn.self l.self (length l.content);
+  same : OnTrue g.S.Source.is_transparent (l.content ≡ take (length l.content) (left l.fn.self));
+  whole : length l.content + l.missing ≡ l.n;
+}
 
 abbrev pub decreases-loop-missing : goal.decreases-loop-missing
 decreases-loop-missing g l = l.missing

@@ -1,5 +1,5 @@
 use Rattle.std.proofs.Common.{arith}
-use Rattle.nc_file.proofs.Chunks.{is_ready}
+use Rattle.nc_file.proofs.Bytes.{is_ready}
 use Rattle.nc_file.proofs.window.Window.ready.Goals as goal
 
 pub returns : goal.returns

@@ -1,5 +1,5 @@
 use Rattle.std.proofs.Common.{refl}
-use Rattle.nc_file.proofs.Chunks.{skip_held}
+use Rattle.nc_file.proofs.Bytes.{skip_held}
 use Rattle.nc_file.proofs.window.Window.skip.Goals as goal
 
 pub returns : goal.returns

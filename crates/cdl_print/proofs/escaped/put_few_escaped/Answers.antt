@@ -1,0 +1,9 @@
+use Rattle.std.proofs.Common.{◌≡◌, ◌∙◌, true, sym}
+use Rattle.cdl_print.proofs.Prelude.{list_all, escaped_in, stands_for_itself}
+use Rattle.cdl_print.proofs.Runs.{flat_map_itself, plain_itself}
+use Rattle.cdl_print.proofs.escaped.put_few_escaped.Goals as goal
+
+pub returns-then-mark_plain : goal.returns-then-mark_plain
+returns-then-mark_plain g c =
+    let all : list_all (stands_for_itself c.args.quoting) c.args.bytes.now ≡ true = sym c.mark_plain.ensures.all ∙ c.if-mark_plain.true in
+    rw (flat_map_itself (stands_for_itself c.args.quoting) (escaped_in c.args.quoting) (plain_itself c.args.quoting) c.args.bytes.now all) c.put.ensures

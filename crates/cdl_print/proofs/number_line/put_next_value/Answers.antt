@@ -1,0 +1,8 @@
+use Rattle.std.proofs.Common.{◌∙◌, ℤ, subst, to_z-of_z}
+use Rattle.cdl_print.proofs.Prelude.{w128, PutNumber}
+use Rattle.cdl_print.proofs.number_line.put_next_value.Goals as goal
+
+pub returns-clause-put : goal.returns-clause-put
+returns-clause-put c =
+    let back = to_z-of_z {w = w128} (record { sfits = c.number_of.type_inv }) in
+    subst (λ (number : ℤ). PutNumber c.args.layout.now number c.args.line c.args.text.now c.put_next_number.result c.put_next_number.new.text) (back ∙ c.number_of.ensures.number) c.put_next_number.ensures.put

@@ -1,0 +1,200 @@
+-- What a string has between its quotes, one escape on.
+use Rattle.std.proofs.Common.{◌≡◌, ℕ, zero, suc, ◌+◌, ◌<◌, Bool, true, false, cond, List, [], ◌∷◌, length, take, drop, min, refl, sym, ap, ◌∙◌, subst, arith, ◌==◌, ◌&&◌, Some, is_some, slice_index, if◌then◌else◌}
+use Rattle.cdl_tokens.proofs.Prelude.{list_all, prefix_len, take_while, character, unescape, unescape_at, is_octal, is_hex, is_ordinary, len_until, number_escape, plain_escape}
+use Rattle.cdl_tokens.specs.declared.scan.Character.{Character}
+use Rattle.std.proofs.lemmas.List.Sums.{take_while-cons}
+use Rattle.cdl_tokens.proofs.Steps.{drop_one_more, take_one_more}
+use Rattle.cdl_tokens.proofs.Strings.{unescape_at_start, unescape_unescaped}
+use Rattle.cdl_tokens.proofs.Words.{until_at_start, until_run}
+
+-- the bytes before the closing quote
+abbrev pub contents : List ℕ → List ℕ
+contents bs = take (len_until 0x22 bs) bs
+
+-- each character stands for a byte
+abbrev pub are_good : List ℕ → Bool
+are_good bs = list_all is_some (unescape bs)
+
+-- ---- up to the first escape or the closing quote
+
+until_ordinary : (b : ℕ) (bs : List ℕ) → is_ordinary 0x22 b ≡ true → len_until 0x22 (b ∷ bs) ≡ 1 + len_until 0x22 bs
+until_ordinary b bs h = grind (arith, until_at_start 0x22 b bs)
+
+ordinary_first : (b : ℕ) (bs : List ℕ) → is_ordinary 0x22 b ≡ true → contents (b ∷ bs) ≡ b ∷ contents bs
+ordinary_first b bs h = ap (λ n. take n (b ∷ bs)) (until_ordinary b bs h) ∙ take_one_more b (len_until 0x22 bs) bs
+
+ordinary_good : (b : ℕ) (bs : List ℕ) → is_ordinary 0x22 b ≡ true → are_good (contents (b ∷ bs)) ≡ are_good (contents bs)
+ordinary_good b bs h =
+    let other : (b == 0x5c) ≡ false = grind (arith, h) in
+    ap are_good (ordinary_first b bs h) ∙ ap (list_all is_some) (unescape_unescaped b (contents bs) other)
+
+run_good : (bs : List ℕ) → are_good (contents bs) ≡ are_good (contents (drop (prefix_len (is_ordinary 0x22) bs) bs))
+run_good [] = refl
+run_good (b ∷ bs) = by (run_good bs) (is_ordinary 0x22 b) refl
+  where
+    by : are_good (contents bs) ≡ are_good (contents (drop (prefix_len (is_ordinary 0x22) bs) bs)) → (c : Bool) → is_ordinary 0x22 b ≡ c → are_good (contents (b ∷ bs)) ≡ are_good (contents (drop (cond c (1 + prefix_len (is_ordinary 0x22) bs) 0) (b ∷ bs)))
+    by on true h = ordinary_good b bs h ∙ on ∙ ap (λ xs. are_good (contents xs)) (sym (drop_one_more b (prefix_len (is_ordinary 0x22) bs) bs))
+    by on false h = refl
+
+-- ---- an escape
+
+no_contents : contents [] ≡ []
+unfolding len_until
+no_contents = refl
+
+-- the digits of an escape stand before the closing quote
+digits_inside : (p : ℕ → Bool) (k : ℕ) (bs : List ℕ) → ((b : ℕ) → p b ≡ true → is_ordinary 0x22 b ≡ true) → take_while p (take k (contents bs)) ≡ take_while p (take k bs)
+digits_inside p zero bs h = refl
+digits_inside p (suc k) [] h = ap (λ xs. take_while p (take (suc k) xs)) no_contents
+digits_inside p (suc k) (b ∷ bs) h = by (digits_inside p k bs h) (p b) refl ∙ sym (take_while-cons p b (take k bs))
+  where
+    first : (n : ℕ) → p b ≡ false → take_while p (take (suc k) (take n (b ∷ bs))) ≡ []
+    first zero off = refl
+    first (suc n) off = take_while-cons p b (take k (take n bs)) ∙ rw (off) refl
+
+    by : take_while p (take k (contents bs)) ≡ take_while p (take k bs) → (c : Bool) → p b ≡ c → take_while p (take (suc k) (contents (b ∷ bs))) ≡ cond c (b ∷ take_while p (take k bs)) []
+    by same true on = ap (λ xs. take_while p (take (suc k) xs)) (ordinary_first b bs (h b on)) ∙ take_while-cons p b (take k (contents bs)) ∙ rw (on) (ap (λ xs. b ∷ xs) same)
+    by same false off = first (len_until 0x22 (b ∷ bs)) off
+
+-- digits are good
+digits_good : (p : ℕ → Bool) (k : ℕ) (bs : List ℕ) → ((b : ℕ) → p b ≡ true → (b == 0x5c) ≡ false) → are_good (drop (length (take_while p (take k bs))) bs) ≡ are_good bs
+digits_good p zero bs h = refl
+digits_good p (suc k) [] h = refl
+digits_good p (suc k) (b ∷ bs) h = ap (λ ds. are_good (drop (length ds) (b ∷ bs))) (take_while-cons p b (take k bs)) ∙ by (digits_good p k bs h) (p b) refl
+  where
+    by : are_good (drop (length (take_while p (take k bs))) bs) ≡ are_good bs → (c : Bool) → p b ≡ c → are_good (drop (length (cond c (b ∷ take_while p (take k bs)) [])) (b ∷ bs)) ≡ are_good (b ∷ bs)
+    by same true on = same ∙ sym (ap (list_all is_some) (unescape_unescaped b bs (h b on)))
+    by same false off = refl
+
+-- the escape that a byte and these digits make
+abbrev escape_of : ℕ → List ℕ → List ℕ → Character
+escape_of c octal hex =
+    if is_octal c then number_escape 1 8 (if is_octal c then c ∷ octal else []) else if c == 0x78 then number_escape 2 16 hex else record { value = Some (plain_escape c); len = 2 }
+
+escape_is : (c : ℕ) (xs : List ℕ) → character (0x5c ∷ c ∷ xs) ≡ escape_of c (take_while is_octal (take 2 xs)) (take_while is_hex (take 2 xs))
+unfolding character
+escape_is c xs =
+    ap (λ digits. if is_octal c then number_escape 1 8 digits else if c == 0x78 then number_escape 2 16 (take_while is_hex (take 2 xs)) else record { value = Some (plain_escape c); len = 2 }) (take_while-cons is_octal c (take 2 xs))
+
+octal_ordinary : (b : ℕ) → is_octal b ≡ true → is_ordinary 0x22 b ≡ true
+octal_ordinary b h = grind (arith, h)
+
+hex_ordinary : (b : ℕ) → is_hex b ≡ true → is_ordinary 0x22 b ≡ true
+hex_ordinary b h = grind (arith, h)
+
+not_escaping : (b : ℕ) → is_ordinary 0x22 b ≡ true → (b == 0x5c) ≡ false
+not_escaping b h = grind (arith, h)
+
+same_character : (c : ℕ) (xs : List ℕ) → character (0x5c ∷ c ∷ contents xs) ≡ character (0x5c ∷ c ∷ xs)
+same_character c xs =
+    escape_is c (contents xs) ∙ ap (λ octal. escape_of c octal (take_while is_hex (take 2 (contents xs)))) (digits_inside is_octal 2 xs octal_ordinary) ∙
+    ap (escape_of c (take_while is_octal (take 2 xs))) (digits_inside is_hex 2 xs hex_ordinary) ∙ sym (escape_is c xs)
+
+octal_len : (c : ℕ) (octal hex : List ℕ) → is_octal c ≡ true → (escape_of c octal hex).len ≡ 2 + length octal
+octal_len c octal hex on = rw (on) (omega arith)
+
+hex_len : (c : ℕ) (octal hex : List ℕ) → is_octal c ≡ false → (c == 0x78) ≡ true → (escape_of c octal hex).len ≡ 2 + length hex
+hex_len c octal hex off on = rw (off) (rw (on) refl)
+
+other_len : (c : ℕ) (octal hex : List ℕ) → is_octal c ≡ false → (c == 0x78) ≡ false → (escape_of c octal hex).len ≡ 2 + 0
+other_len c octal hex off other = rw (off) (rw (other) refl)
+
+two_past : (n k a c : ℕ) (xs : List ℕ) → n ≡ 2 + k → drop n (a ∷ c ∷ xs) ≡ drop k xs
+two_past n k a c xs is = ap (λ m. drop m (a ∷ c ∷ xs)) (let e : n ≡ suc (suc k) = omega (arith, is) in e)
+
+digits_past : (c : ℕ) (octal hex xs : List ℕ) → are_good (drop (length octal) xs) ≡ are_good xs → are_good (drop (length hex) xs) ≡ are_good xs → are_good (drop (escape_of c octal hex).len (0x5c ∷ c ∷ xs)) ≡ are_good xs
+digits_past c octal hex xs o h = by (is_octal c) refl (c == 0x78) refl
+  where
+    by : (a : Bool) → is_octal c ≡ a → (x : Bool) → (c == 0x78) ≡ x → are_good (drop (escape_of c octal hex).len (0x5c ∷ c ∷ xs)) ≡ are_good xs
+    by true on x is = ap are_good (two_past (escape_of c octal hex).len (length octal) 0x5c c xs (octal_len c octal hex on)) ∙ o
+    by false off true on = ap are_good (two_past (escape_of c octal hex).len (length hex) 0x5c c xs (hex_len c octal hex off on)) ∙ h
+    by false off false other = ap are_good (two_past (escape_of c octal hex).len 0 0x5c c xs (other_len c octal hex off other))
+
+some_bytes : (c : ℕ) (octal hex : List ℕ) → 0 < (escape_of c octal hex).len
+some_bytes c octal hex = by (is_octal c) refl (c == 0x78) refl
+  where
+    by : (o : Bool) → is_octal c ≡ o → (x : Bool) → (c == 0x78) ≡ x → 0 < (escape_of c octal hex).len
+    by true on x is = omega (arith, octal_len c octal hex on)
+    by false off true on = omega (arith, hex_len c octal hex off on)
+    by false off false other = omega (arith, other_len c octal hex off other)
+
+escaped_good : (c : ℕ) (xs : List ℕ) → are_good (0x5c ∷ c ∷ xs) ≡ (is_some (character (0x5c ∷ c ∷ xs)).value && are_good xs)
+escaped_good c xs =
+    let octal = take_while is_octal (take 2 xs) in
+    let hex = take_while is_hex (take 2 xs) in
+    ap (list_all is_some) (unescape_at_start 0x5c (c ∷ xs) (escape_of c octal hex) (sym (escape_is c xs)) (some_bytes c octal hex)) ∙
+    ap (λ g. is_some (escape_of c octal hex).value && g) (digits_past c octal hex xs (digits_good is_octal 2 xs (λ b h. not_escaping b (octal_ordinary b h))) (digits_good is_hex 2 xs (λ b h. not_escaping b (hex_ordinary b h)))) ∙ ap (λ (e : Character). is_some e.value && are_good xs) (sym (escape_is c xs))
+
+-- a backslash without a byte after it stands for a 0
+lone_good : are_good (contents (0x5c ∷ [])) ≡ (is_some (character (0x5c ∷ [])).value && are_good (contents (drop 2 (0x5c ∷ []))))
+unfolding character unescape_at len_until
+lone_good = refl
+
+two_more : (a b n : ℕ) (xs : List ℕ) → take (2 + n) (a ∷ b ∷ xs) ≡ a ∷ b ∷ take n xs
+two_more a b n xs = ap (λ m. take m (a ∷ b ∷ xs)) (let e : 2 + n ≡ suc (suc n) = omega arith in e)
+
+until_escape : (c : ℕ) (xs : List ℕ) → len_until 0x22 (0x5c ∷ c ∷ xs) ≡ 2 + len_until 0x22 xs
+unfolding len_until
+until_escape c xs = refl
+
+escape_good : (bs : List ℕ) → slice_index bs 0 ≡ 0x5c → are_good (contents bs) ≡ (is_some (character bs).value && are_good (contents (drop 2 bs)))
+escape_good [] h = cc
+escape_good (b ∷ []) h = subst (λ x. are_good (contents (x ∷ [])) ≡ (is_some (character (x ∷ [])).value && are_good (contents (drop 2 (x ∷ []))))) (sym h) lone_good
+escape_good (b ∷ c ∷ xs) h =
+    let two : contents (0x5c ∷ c ∷ xs) ≡ 0x5c ∷ c ∷ contents xs = ap (λ n. take n (0x5c ∷ c ∷ xs)) (until_escape c xs) ∙ two_more 0x5c c (len_until 0x22 xs) xs in
+    subst (λ x. are_good (contents (x ∷ c ∷ xs)) ≡ (is_some (character (x ∷ c ∷ xs)).value && are_good (contents xs))) (sym h)
+    (ap are_good two ∙ escaped_good c (contents xs) ∙ ap (λ (e : Character). is_some e.value && are_good (contents xs)) (same_character c xs))
+
+escape_len : (bs : List ℕ) → slice_index bs 0 ≡ 0x5c → len_until 0x22 bs ≡ min (length bs) 2 + len_until 0x22 (drop 2 bs)
+unfolding len_until
+escape_len [] h = cc
+escape_len (b ∷ []) h = subst (λ x. len_until 0x22 (x ∷ []) ≡ 1) (sym h) refl
+escape_len (b ∷ c ∷ xs) h = subst (λ x. len_until 0x22 (x ∷ c ∷ xs) ≡ min (length (x ∷ c ∷ xs)) 2 + len_until 0x22 xs) (sym h) (omega arith)
+
+past_two : (bs : List ℕ) → drop (min (length bs) 2) bs ≡ drop 2 bs
+past_two [] = refl
+past_two (b ∷ []) = refl
+past_two (b ∷ c ∷ xs) = ap (λ n. drop n (b ∷ c ∷ xs)) (let e : min (length (b ∷ c ∷ xs)) 2 ≡ 2 = omega arith in e)
+
+-- ---- a turn of the loop
+
+stopped : (p : ℕ → Bool) (bs : List ℕ) → prefix_len p (drop (prefix_len p bs) bs) ≡ 0
+stopped p [] = refl
+stopped p (b ∷ bs) = by (stopped p bs) (p b) refl
+  where
+    by : prefix_len p (drop (prefix_len p bs) bs) ≡ 0 → (c : Bool) → p b ≡ c → prefix_len p (drop (cond c (1 + prefix_len p bs) 0) (b ∷ bs)) ≡ 0
+    by none true on = ap (prefix_len p) (drop_one_more b (prefix_len p bs) bs) ∙ none
+    by none false off = rw (off) refl
+
+-- n bytes on, all is as before but for a test of what was passed
+pub record Goes (test : Bool) (n : ℕ) (bs rest : List ℕ) : Type 0 where
+  pub len : len_until 0x22 bs ≡ n + len_until 0x22 rest
+  pub good : are_good (contents bs) ≡ (test && are_good (contents rest))
+
+pub past_run : (bs rest : List ℕ) (n : ℕ) → n ≡ prefix_len (is_ordinary 0x22) bs → rest ≡ drop n bs → Goes true n bs rest
+past_run bs rest n is after =
+    record {
+      len = until_run 0x22 bs 0 n is ∙ ap (λ xs. n + len_until 0x22 xs) (ap (λ m. drop m bs) (let e : 0 + n ≡ n = omega arith in e) ∙ sym after);
+      good = run_good bs ∙ ap (λ xs. are_good (contents xs)) (sym (after ∙ ap (λ m. drop m bs) is));
+    }
+
+pub past_escape : (bs rest : List ℕ) (n : ℕ) → slice_index bs 0 ≡ 0x5c → n ≡ min (length bs) 2 → rest ≡ drop n bs → Goes (is_some (character bs).value) n bs rest
+past_escape bs rest n slash two after =
+    let at : drop 2 bs ≡ rest = sym (after ∙ ap (λ m. drop m bs) two ∙ past_two bs) in
+    record {
+      len = omega (arith, escape_len bs slash, ap (len_until 0x22) at, two);
+      good = escape_good bs slash ∙ ap (λ xs. is_some (character bs).value && are_good (contents xs)) at;
+    }
+
+no_more : (bs : List ℕ) → prefix_len (is_ordinary 0x22) bs ≡ 0 → (slice_index bs 0 == 0x5c) ≡ false → len_until 0x22 bs ≡ 0
+unfolding len_until
+no_more [] h off = refl
+no_more (b ∷ bs) h off = grind (arith, until_at_start 0x22 b bs)
+
+-- no escape comes after a run
+pub ends : (bs rest : List ℕ) (n : ℕ) → n ≡ prefix_len (is_ordinary 0x22) bs → rest ≡ drop n bs → (slice_index rest 0 == 0x5c) ≡ false → len_until 0x22 rest ≡ 0
+ends bs rest n is after off = no_more rest (ap (prefix_len (is_ordinary 0x22)) (after ∙ ap (λ m. drop m bs) is) ∙ stopped (is_ordinary 0x22) bs) off
+
+pub none_good : are_good [] ≡ true
+unfolding unescape_at
+none_good = refl

@@ -1,0 +1,20 @@
+-- Definition. The words for the fault of a header.
+use Rattle.std.specs.Prelude.{codes}
+use Rattle.nc_base.specs.Bytes.{Bytes}
+use Rattle.nc_base.specs.declared.fault.FormatFault.{FormatFault}
+use Rattle.nc_base.specs.declared.fault.FormatFault.TheVariants.{NotNetcdf, UnknownVersion, HeaderTruncated, BadTag, BadCount, BadName, FloatingType, BadType, BadShape, TwoRecordDims, BadOffset, TooLarge}
+
+-- After those for an unknown version stands the version byte.
+unfoldable pub fault_words : FormatFault → Bytes
+fault_words NotNetcdf = codes "not a netCDF classic file"
+fault_words (UnknownVersion n) = codes "unknown version "
+fault_words HeaderTruncated = codes "header truncated"
+fault_words BadTag = codes "bad tag"
+fault_words BadCount = codes "bad count"
+fault_words BadName = codes "bad name"
+fault_words FloatingType = codes "floating type"
+fault_words BadType = codes "bad type"
+fault_words BadShape = codes "bad shape"
+fault_words TwoRecordDims = codes "two record dimensions"
+fault_words BadOffset = codes "bad offset"
+fault_words TooLarge = codes "too large"

@@ -1,0 +1,248 @@
+-- What the parts of a header read.
+use Rattle.std.proofs.Common.{◌≡◌, ℕ, suc, ◌+◌, ◌-◌, ◌<◌, ◌≤◌, Bool, true, false, leb, List, [], ◌∷◌, ◌++◌, length, take, drop, Option, Some, None, Result, Ok, Err, cond, if◌then◌else◌, ◌==◌, ◌||◌, refl, sym, ap, subst, ◌∙◌, arith, le_refl, le_trans, length-append, length-drop}
+use Rattle.nc_file.proofs.Prelude.{FormatFault, HeadFault, Format, OutOfMemory, ReadFailed, HeaderTruncated, TooLarge, Dim, NcType, has_record_dim, total_with, Ghosts, Window, OnTrue, OnTrue_from, sub-zero, Kept, Read, Reads, left, next_of, source_of}
+use Rattle.std.proofs.lemmas.List.Folds.{list_any-append}
+use Rattle.nc_base.specs.Bytes.{Bytes}
+use Rattle.nc_base.specs.Parts.{Step, Part, done, bytes, decoded, under, chain}
+use Rattle.nc_base.specs.code.PartRuns.{Outcome, and_then, with_rest, run, left_after}
+use Rattle.nc_base.specs.Grammar.{checked, each, is_within_limits}
+use Rattle.nc_base.proofs.PartLens.{each_len, each_len-none, each_len-push, each-len, field_lens}
+use Rattle.nc_file.proofs.Bytes.{kept-then, cause-then}
+use Rattle.nc_file.proofs.Totals.{total_of-append}
+
+-- ---- the rules
+
+pub run-done : {A : Type 0} (x : A) (from : Bytes) → run (done x) from ≡ Ok (x, from)
+unfolding run
+run-done x from = refl
+
+pub run-under : {A : Type 0} (step : Step) (p : Part A) (from : Bytes) → run (under step p) from ≡ run p from
+unfolding run
+run-under step p from = refl
+
+pub run-decoded : {A B : Type 0} (decode : A → Result B FormatFault) (encode : B → A) (p : Part A) (from : Bytes)
+    → run (decoded decode encode p) from ≡ and_then (run p from) (λ x rest. with_rest (decode x) rest)
+unfolding run
+run-decoded decode encode p from = refl
+
+pub run-chain : {A B : Type 0} (get : B → Option A) (p : Part A) (next : A → Part B) (from : Bytes) → run (chain get p next) from ≡ and_then (run p from) (λ x middle. run (next x) middle)
+unfolding run
+run-chain get p next from = refl
+
+pub left_after-ok : (A : Type 0) (x : A) (from : Bytes) → left_after {A = A} (Ok (x, from)) ≡ length from
+unfolding left_after
+left_after-ok A x from = refl
+
+pub left_after-err : (A : Type 0) (e : FormatFault) (from : Bytes) → left_after {A = A} (Err (e, from)) ≡ length from
+unfolding left_after
+left_after-err A e from = refl
+
+-- ---- no more is left than there was
+
+decoded-after : {B : Type 0} (r : Result B FormatFault) (rest : Bytes) → left_after (with_rest r rest) ≡ length rest
+unfolding left_after
+decoded-after (Ok y) rest = refl
+decoded-after (Err e) rest = refl
+
+pub after-decoded : {A B : Type 0} (o : Outcome A) (decode : A → Result B FormatFault) → left_after (and_then o (λ x rest. with_rest (decode x) rest)) ≡ left_after o
+unfolding left_after
+after-decoded (Ok x) decode = decoded-after (decode x.0) x.1
+after-decoded (Err e) decode = refl
+
+after-then : {A B : Type 0} (o : Outcome A) (f : A → Bytes → Outcome B) → ((x : A) (rest : Bytes) → left_after (f x rest) ≤ length rest) → left_after (and_then o f) ≤ left_after o
+unfolding left_after
+after-then (Ok x) f short = short x.0 x.1
+after-then (Err e) f short = le_refl (length e.1)
+
+after-bytes : (n : ℕ) (cut : FormatFault) (from : Bytes) → left_after (run (bytes n cut) from) ≤ length from
+unfolding left_after run
+after-bytes n cut from = by-test (leb n (length from))
+  where
+    by-test : (b : Bool) → left_after {A = Bytes} (cond b (Ok (take n from, drop n from)) (Err (cut, []))) ≤ length from
+    by-test true = omega (arith, length-drop n from)
+    by-test false = omega arith
+
+pub shorter : {A : Type 0} (p : Part A) (from : Bytes) → left_after (run p from) ≤ length from
+unfolding left_after run
+shorter (done x) from = le_refl (length from)
+shorter (bytes n cut) from = after-bytes n cut from
+shorter (decoded decode encode p) from = omega (arith, after-decoded (run p from) decode, shorter p from)
+shorter (under step p) from = shorter p from
+shorter (chain get p next) from = omega (arith, after-then (run p from) (λ x middle. run (next x) middle) (λ x middle. shorter (next x) middle), shorter p from)
+
+pub after-chain : {A B : Type 0} (o : Outcome A) (next : A → Part B) → left_after (and_then o (λ x middle. run (next x) middle)) ≤ left_after o
+after-chain o next = after-then o (λ x middle. run (next x) middle) (λ x middle. shorter (next x) middle)
+
+pub ruleset part_runs = (run-done, run-under, run-decoded, run-chain, left_after-ok, left_after-err, after-decoded, after-chain, field_lens)
+
+-- ---- elements
+
+-- i elements were read, and what is still to be read from here gives what all of it gives from the start
+pub record ReadsOn {S A : Type 0} {g : Ghosts S} (start now : Window S g) (element : List A → Part A) (n i : ℕ) (prefix : List A) : Type 0 where
+  pub kept : Kept start now
+  pub failures : (source_of now).failures ≡ (source_of start).failures
+  pub same : OnTrue g.is_transparent (run (each element (n - i) prefix) (left now) ≡ run (each element n []) (left start))
+  pub used : next_of start + each_len element [] prefix ≡ next_of now
+  pub count : length prefix ≡ i
+
+each-step : {A : Type 0} (element : List A → Part A) (n i : ℕ) (prefix : List A) (from : Bytes) → i < n
+    → run (each element (n - i) prefix) from ≡ and_then (run (element prefix) from) (λ x middle. run (each element (n - (i + 1)) (prefix ++ x ∷ [])) middle)
+unfolding each run
+each-step element n i prefix from lt = let k : n - i ≡ suc (n - (i + 1)) = omega arith in rw k refl
+
+each-end : {A : Type 0} (element : List A → Part A) (n i : ℕ) (prefix : List A) (from : Bytes) → n ≤ i → run (each element (n - i) prefix) from ≡ Ok (prefix, from)
+unfolding each run
+each-end element n i prefix from le = let k : n - i ≡ 0 = omega arith in rw k refl
+
+-- none was read
+pub each-start : {S A : Type 0} {g : Ghosts S} (start : Window S g) (element : List A → Part A) (n : ℕ) (none : List A) → none ≡ [] → ReadsOn start start element n 0 none
+each-start {S = S} {A = A} {g = g} start element n none is = subst (ReadsOn start start element n 0) (sym is) at-start
+  where
+    at-start : ReadsOn start start element n 0 []
+    at-start = record {
+      kept = record { same_source = refl; bytes = refl; same_buffer_len = refl; handed = refl };
+      failures = refl;
+      same = OnTrue_from g.is_transparent _ (λ known. ap (λ m. run (each element m []) (left start)) (sub-zero n));
+      used = ap (λ k. next_of start + k) (each_len-none element []) ∙ omega arith;
+      count = refl;
+    }
+
+-- an element that stops
+each-fault : {A : Type 0} (is_transparent : Bool) (start mid now : Bytes) (element : List A → Part A) (n i : ℕ) (prefix : List A) (e : HeadFault) → i < n
+    → OnTrue is_transparent (run (each element (n - i) prefix) mid ≡ run (each element n []) start)
+    → Reads {A = A} is_transparent mid now (element prefix) (Err e) → Reads {A = List A} is_transparent start now (each element n []) (Err e)
+each-fault true start mid now element n i prefix (Format fault) lt same r =
+    sym same ∙ each-step element n i prefix mid lt ∙ ap (λ o. and_then o (λ x middle. run (each element (n - (i + 1)) (prefix ++ x ∷ [])) middle)) r
+each-fault true start mid now element n i prefix OutOfMemory lt same r =
+    rw (← same, each-step element n i prefix mid lt) (le_trans (after-chain (run (element prefix) mid) (λ x. each element (n - (i + 1)) (prefix ++ x ∷ []))) r)
+each-fault true start mid now element n i prefix ReadFailed lt same r =
+    rw (← same, each-step element n i prefix mid lt) (le_trans (after-chain (run (element prefix) mid) (λ x. each element (n - (i + 1)) (prefix ++ x ∷ []))) r)
+each-fault false start mid now element n i prefix (Format fault) lt same r = tt
+each-fault false start mid now element n i prefix OutOfMemory lt same r = tt
+each-fault false start mid now element n i prefix ReadFailed lt same r = tt
+
+pub each-err : {S A : Type 0} {g : Ghosts S} (start mid now : Window S g) (element : List A → Part A) (n i : ℕ) (prefix : List A) (e : HeadFault) → i < n
+    → ReadsOn start mid element n i prefix → Read {A = A} mid now (element prefix) (Err e) → Read {A = List A} start now (each element n []) (Err e)
+each-err {A = A} {g = g} start mid now element n i prefix e lt so_far r = record {
+  kept = kept-then so_far.kept r.kept;
+  cause = cause-then A (List A) start mid now e so_far.failures r.cause;
+  reads = each-fault g.is_transparent (left start) (left mid) (left now) element n i prefix e lt so_far.same r.reads;
+  used = tt;
+}
+
+-- the next element was read
+each-on : {A : Type 0} (is_transparent : Bool) (start mid now : Bytes) (element : List A → Part A) (n i : ℕ) (prefix : List A) (x : A) → i < n
+    → OnTrue is_transparent (run (each element (n - i) prefix) mid ≡ run (each element n []) start)
+    → OnTrue is_transparent (run (element prefix) mid ≡ Ok (x, now)) → OnTrue is_transparent (run (each element (n - (i + 1)) (prefix ++ x ∷ [])) now ≡ run (each element n []) start)
+each-on true start mid now element n i prefix x lt same r =
+    sym (sym same ∙ each-step element n i prefix mid lt ∙ ap (λ o. and_then o (λ y middle. run (each element (n - (i + 1)) (prefix ++ y ∷ [])) middle)) r)
+each-on false start mid now element n i prefix x lt same r = tt
+
+on-next : {S A : Type 0} {g : Ghosts S} (start mid now : Window S g) (element : List A → Part A) (n i : ℕ) (prefix : List A) (x : A) → i < n
+    → ReadsOn start mid element n i prefix → Read mid now (element prefix) (Ok x) → ReadsOn start now element n (i + 1) (prefix ++ x ∷ [])
+on-next {g = g} start mid now element n i prefix x lt so_far r = record {
+  kept = kept-then so_far.kept r.kept;
+  failures = r.cause ∙ so_far.failures;
+  same = each-on g.is_transparent (left start) (left mid) (left now) element n i prefix x lt so_far.same r.reads;
+  used = omega (arith, so_far.used, r.used, each_len-push element [] prefix x);
+  count = omega (arith, so_far.count, length-append prefix (x ∷ []));
+}
+
+pub each-next : {S A : Type 0} {g : Ghosts S} (start mid now : Window S g) (element : List A → Part A) (n i : ℕ) (prefix more : List A) (x : A) → i < n → more ≡ prefix ++ x ∷ []
+    → ReadsOn start mid element n i prefix → Read mid now (element prefix) (Ok x) → ReadsOn start now element n (i + 1) more
+each-next start mid now element n i prefix more x lt is so_far r = subst (ReadsOn start now element n (i + 1)) (sym is) (on-next start mid now element n i prefix x lt so_far r)
+
+memory-fault : {A : Type 0} (is_transparent : Bool) (start now : Bytes) (element : List A → Part A) (n i : ℕ) (prefix : List A) → OnTrue is_transparent (run (each element (n - i) prefix) now ≡ run (each element n []) start)
+    → OnTrue is_transparent (left_after (run (each element n []) start) ≤ length now)
+memory-fault true start now element n i prefix same = rw (← same) (shorter (each element (n - i) prefix) now)
+memory-fault false start now element n i prefix same = tt
+
+-- memory ran out for an element that was read
+pub memory-err : {S A : Type 0} {g : Ghosts S} (start mid now : Window S g) (element : List A → Part A) (n i : ℕ) (prefix : List A) (x : A) (e : HeadFault) → i < n → e ≡ OutOfMemory
+    → ReadsOn start mid element n i prefix → Read mid now (element prefix) (Ok x) → Read {A = List A} start now (each element n []) (Err e)
+memory-err {A = A} {g = g} start mid now element n i prefix x e lt is so_far r =
+    let on = on-next start mid now element n i prefix x lt so_far r in
+    subst (λ e. Read {A = List A} start now (each element n []) (Err e)) (sym is)
+    (record { kept = on.kept; cause = on.failures; reads = memory-fault g.is_transparent (left start) (left now) element n (i + 1) (prefix ++ x ∷ []) on.same; used = tt })
+
+-- all were read
+all-read : {A : Type 0} (is_transparent : Bool) (start now : Bytes) (element : List A → Part A) (n i : ℕ) (prefix : List A) → n ≤ i → OnTrue is_transparent (run (each element (n - i) prefix) now ≡ run (each element n []) start)
+    → OnTrue is_transparent (run (each element n []) start ≡ Ok (prefix, now))
+all-read true start now element n i prefix le same = sym same ∙ each-end element n i prefix now le
+all-read false start now element n i prefix le same = tt
+
+pub each-done : {S A : Type 0} {g : Ghosts S} (start now : Window S g) (element : List A → Part A) (n i : ℕ) (prefix : List A) → n ≤ i → i ≤ n → ReadsOn start now element n i prefix
+    → Read start now (each element n []) (Ok prefix)
+each-done {g = g} start now element n i prefix le ge so_far = record {
+  kept = so_far.kept;
+  cause = so_far.failures;
+  reads = all-read g.is_transparent (left start) (left now) element n i prefix le so_far.same;
+  used = ap (λ k. next_of start + k) (each-len element n prefix (omega (arith, so_far.count))) ∙ so_far.used;
+}
+
+-- the record dimension stands before the next dimension, or in one before
+pub has_record-next : (dims : List Dim) (d : Dim) → has_record_dim (dims ++ d ∷ []) ≡ (has_record_dim dims || (d.len == 0))
+has_record-next dims d =
+    list_any-append (λ (dim : Dim). dim.len == 0) dims (d ∷ []) ∙ ap (λ (b : Bool). has_record_dim dims || b) (elim (d.len == 0) as (λ b. (b || false) ≡ b) [ true ↦ refl | false ↦ refl ])
+
+-- the next dimension id isn't the first
+pub first-next : (ids : List ℕ) (id : ℕ) → (length (ids ++ id ∷ []) == 0) ≡ false
+first-next [] id = refl
+first-next (x ∷ ids) id = grind arith
+
+pub ruleset each_runs = (each-start, each-err, each-next, memory-err, each-done, has_record-next, first-next, total_of-append)
+
+-- ---- the word `CDF`
+
+pub run-cut : (n : ℕ) (cut : FormatFault) (from rest : Bytes) (x : Bytes) → run (bytes n HeaderTruncated) from ≡ Ok (x, rest) → run (bytes n cut) from ≡ Ok (x, rest)
+unfolding run
+run-cut n cut from rest x = by-test (leb n (length from))
+  where
+    by-test : (b : Bool) → ◌≡◌ {A = Outcome Bytes} (cond b (Ok (take n from, drop n from)) (Err (HeaderTruncated, []))) (Ok (x, rest)) → ◌≡◌ {A = Outcome Bytes} (cond b (Ok (take n from, drop n from)) (Err (cut, []))) (Ok (x, rest))
+    by-test true e = e
+    by-test false e = absurd cc
+
+pub run-cut_err : (n : ℕ) (cut fault : FormatFault) (from rest : Bytes) → run (bytes n HeaderTruncated) from ≡ Err (fault, rest) → run (bytes n cut) from ≡ Err (cut, rest)
+unfolding run
+run-cut_err n cut fault from rest = by-test (leb n (length from))
+  where
+    by-test : (b : Bool) → ◌≡◌ {A = Outcome Bytes} (cond b (Ok (take n from, drop n from)) (Err (HeaderTruncated, []))) (Err (fault, rest)) → ◌≡◌ {A = Outcome Bytes} (cond b (Ok (take n from, drop n from)) (Err (cut, []))) (Err (cut, rest))
+    by-test true e = absurd cc
+    by-test false e = grind arith
+
+pub left-cut : (n : ℕ) (cut : FormatFault) (from : Bytes) → left_after (run (bytes n cut) from) ≡ left_after (run (bytes n HeaderTruncated) from)
+unfolding run left_after
+left-cut n cut from = by-test (leb n (length from))
+  where
+    by-test : (b : Bool) → left_after {A = Bytes} (cond b (Ok (take n from, drop n from)) (Err (cut, []))) ≡ left_after {A = Bytes} (cond b (Ok (take n from, drop n from)) (Err (HeaderTruncated, [])))
+    by-test true = refl
+    by-test false = refl
+
+pub ruleset cuts = (run-cut, run-cut_err, left-cut)
+
+-- ---- the limits of a variable
+
+within : (dims : List Dim) (ids : List ℕ) (ty : NcType) (total sum : ℕ) → Some sum ≡ total_with dims ids ty total → is_within_limits dims total ids ty ≡ true
+unfolding total_with
+within dims ids ty total sum e = grind arith
+
+beyond : (dims : List Dim) (ids : List ℕ) (ty : NcType) (total : ℕ) → None ≡ total_with dims ids ty total → is_within_limits dims total ids ty ≡ false
+unfolding total_with
+beyond dims ids ty total e = grind arith
+
+-- the type of a variable that keeps the limits, and of one that doesn't
+pub run-within : (p : Part NcType) (from rest : Bytes) (dims : List Dim) (ids : List ℕ) (ty : NcType) (total sum : ℕ) → run p from ≡ Ok (ty, rest) → Some sum ≡ total_with dims ids ty total
+    → run (checked (is_within_limits dims total ids) TooLarge p) from ≡ Ok (ty, rest)
+unfolding run
+run-within p from rest dims ids ty total sum e is =
+    ap (λ o. and_then o (λ x rest. with_rest (if is_within_limits dims total ids x then Ok x else Err TooLarge) rest)) e
+    ∙ ap (λ b. with_rest (if b then Ok ty else Err TooLarge) rest) (within dims ids ty total sum is)
+
+pub run-beyond : (p : Part NcType) (from rest : Bytes) (dims : List Dim) (ids : List ℕ) (ty : NcType) (total : ℕ) → run p from ≡ Ok (ty, rest) → None ≡ total_with dims ids ty total
+    → run (checked (is_within_limits dims total ids) TooLarge p) from ≡ Err (TooLarge, rest)
+unfolding run
+run-beyond p from rest dims ids ty total e is =
+    ap (λ o. and_then o (λ x rest. with_rest (if is_within_limits dims total ids x then Ok x else Err TooLarge) rest)) e
+    ∙ ap (λ b. with_rest (if b then Ok ty else Err TooLarge) rest) (beyond dims ids ty total is)
+
+pub ruleset limit_runs = (run-within, run-beyond, part_runs)

@@ -1,0 +1,17 @@
+use Rattle.std.proofs.Common.{List, Ok, ap, arith, length, rules, subst, sym, ℕ, ◌==◌}
+use Rattle.nc_base.specs.Grammar.{dimid_part, dimid_after}
+use Rattle.nc_file.proofs.Prelude.{err_from_is_err_and, Read}
+use Rattle.nc_file.proofs.PartRuns.{each-start, each-next, memory-err, first-next}
+use Rattle.nc_file.proofs.window.Window.dimids.Goals as goal
+
+pub loop-init : goal.loop-init
+loop-init g c = record { reads = each-start c.args.self.now (dimid_after c.args.version c.args.dims.now) c.args.n _ c.new-dimids.ensures; first = ap (λ (ids : List ℕ). length ids == 0) (sym c.new-dimids.ensures) }
+
+pub returns-in_err-push-clause-read : goal.returns-in_err-push-clause-read
+returns-in_err-push-clause-read g c =
+    let p = err_from_is_err_and c.from_residual-in_err-push.result c.from_residual-in_err-push.ensures.1 in
+    let read = subst (λ b. Read c.loop.self c.dimid.new.self (dimid_part c.args.version c.args.dims.now b) (Ok c.in_ok-dimid.field-0)) c.loop.invariant.first c.in_ok-dimid.ensures in
+    rw p.1 (memory-err _ _ _ (dimid_after c.args.version c.args.dims.now) c.args.n c.loop.counter c.loop.dimids c.in_ok-dimid.field-0 p.0 (omega arith) p.2 c.loop.invariant.reads read)
+
+pub loop-preserved : goal.loop-preserved
+loop-preserved g c = let read = subst (λ b. Read c.loop.self c.dimid.new.self (dimid_part c.args.version c.args.dims.now b) (Ok c.in_ok-dimid.field-0)) c.loop.invariant.first c.in_ok-dimid.ensures in record { reads = each-next _ _ _ (dimid_after c.args.version c.args.dims.now) c.args.n c.loop.counter c.loop.dimids _ c.in_ok-dimid.field-0 (omega arith) c.in_ok-push.ensures.ok c.loop.invariant.reads read; first = search (rules, first-next) }

@@ -1,0 +1,118 @@
+//! Headers, values, and devices.
+
+ghost use Rattle.std.specs.Prelude.{◌≡◌, ◌<◌, ◌≤◌, length};
+ghost use Rattle.nc_base.specs.Headers.{IsSound};
+
+use anyhow::Result;
+use cdl_print::{ValuePrinter, put_head};
+use devices::{FileSource, Flush, IoSink, Sink, Source, WriteFailed, put, put_decimal};
+use nc_base::{Dim, Header, NumRecs, Sequence, Version, record_layout};
+use nc_file::{read_header, with_begins, write_header};
+use nc_variable::open_variable;
+use nc_walk::{Walk, WalkFault};
+use std::alloc::{AllocError, Global};
+use std::fs::File;
+use std::io;
+use std::io::BufWriter;
+use std::rt::Files;
+
+/// The example of `nc_base`. Returns true if a header with one dimension and nothing else keeps the format's limits. Errs only if an
+/// allocation failed.
+pub fn header_of_one_dimension(alloc: Global) -> Result<bool, AllocError> {
+    let mut name = Sequence::new(alloc);
+    name.push(b'x')?;
+    let mut dims = Sequence::new(alloc);
+    dims.push(Dim { name, len: 3 })?;
+    let header = Header {
+        version: Version::Cdf1,
+        numrecs: NumRecs::Known(0),
+        dims,
+        gatts: Sequence::new(alloc),
+        vars: Sequence::new(alloc),
+    };
+    let keeps_limits = header.sound();
+    Ok(keeps_limits)
+}
+
+/// The example of `devices`. Prints how long the file `a.nc` is. Errs if it can't be opened, if an allocation fails, or if standard output
+/// fails.
+pub fn print_length<R: Files<File = File> + Print + AllocGlobal>(rt: &R) -> Result<()> {
+    let source = FileSource::open(rt, "a.nc")?;
+    let mut out = IoSink::new(BufWriter::new(rt.alloc(), io::writer(rt))?);
+    put(&mut out, b"a.nc has ")?;
+    put_decimal(&mut out, source.len() as u128)?;
+    put(&mut out, b" bytes\n")?;
+    out.flush()?;
+    Ok(())
+}
+
+/// The example of `nc_file`. Writes the header that the source has to the sink, with each begin anew. Errs if the header can't be read, if a
+/// begin doesn't fit its field, or if the sink fails.
+pub fn copy_header<S: Source, W: Sink>(alloc: Global, source: &mut S, sink: &mut W) -> Result<()> {
+    let mut buf = [0; 4096];
+    let header = read_header(alloc, source, &mut buf)?;
+    let placed = with_begins(header)?;
+    write_header(sink, &placed)?;
+    Ok(())
+}
+
+/// The example of `nc_walk`. Returns the number of bytes of the longest chunk in which the values of a variable come. `var_index` is its
+/// index in the header. Errs if a value can't be read.
+pub fn longest_chunk<S: Source>(
+    source: &mut S,
+    header: &Header,
+    var_index: usize,
+) -> Result<usize, WalkFault>
+    requires sound { IsSound header.now }
+    requires there { var_index < length header.now.vars }
+{
+    let mut buf = [0; 4096];
+    let layout = record_layout(header, source.len());
+    let mut walk = Walk::with_layout(header, var_index, layout, &mut buf);
+    let mut longest = 0;
+    while let Some(chunk) = walk.next(source)? {
+        // whole values, big-endian, one after the other
+        longest = longest.max(chunk.len());
+    }
+    Ok(longest)
+}
+
+/// The example of `nc_variable`. Returns how many bytes the values of the variable `temperature` have. Errs if the header or a value can't
+/// be read, or if there is no such variable.
+pub fn bytes_of_temperature<S: Source>(alloc: Global, source: &mut S) -> Result<u128> {
+    let mut buf = [0; 4096];
+    let variable = open_variable(alloc, source, &mut buf, b"temperature")?;
+    let mut walk = variable.walk(source.len(), &mut buf);
+    let mut len: u128 = 0;
+    for _ in 0..u64::MAX {
+        // whole values, big-endian, one after the other
+        match walk.next(source)? {
+            Some(chunk) => len = len.saturating_add(chunk.len() as u128),
+            None => break,
+        }
+    }
+    Ok(len)
+}
+
+/// The example of `cdl_print`. Writes the head of a dump, and the text of a variable with these values, which are big-endian. `var_index` is
+/// its index in the header, and `records` the number of records. Errs if the sink fails.
+pub fn print_variable<W: Sink>(
+    sink: &mut W,
+    header: &Header,
+    records: u64,
+    var_index: usize,
+    values: &[u8],
+) -> Result<(), WriteFailed>
+    requires sound { IsSound header.now }
+    requires there { var_index < length header.now.vars }
+{
+    put_head(sink, b"a", header, records)?;
+    let mut printer = ValuePrinter::new(header, var_index, records, 80);
+    let mut text = [0; 4096];
+    printer.start(sink)?;
+    if printer.takes(values) {
+        printer.values(sink, &mut text, values)?;
+    }
+    printer.finish(sink)?;
+    Ok(())
+}

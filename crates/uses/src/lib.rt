@@ -1,0 +1,8 @@
+//! The examples on the pages of the libraries: each page shows the body of a function of this crate, which is compiled and proved with the
+//! rest. `tests/documents.py` compares the two.
+#![tactic(auto)]
+
+pub mod files;
+pub mod numbers;
+pub mod programs;
+pub mod texts;
