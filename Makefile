@@ -2,10 +2,14 @@
 
 sample = samples/stations
 keep = mkdir -p bin && cp crates/$(1)_cli/out/$(1)_cli bin/$(1)
-# where `make install` puts the programs and their manual pages
+# where `make install` puts the programs, their manual pages, completions, documents and samples
 PREFIX = /usr/local
+# what comes before the names of the installed programs and pages, such as juniper- beside Unidata's
+NAMES =
 programs = $(DESTDIR)$(PREFIX)/bin
 pages = $(DESTDIR)$(PREFIX)/share/man
+completions = $(DESTDIR)$(PREFIX)/share/bash-completion/completions
+documents = $(DESTDIR)$(PREFIX)/share/doc/juniperbrick
 release = juniperbrick-$(shell cat VERSION)-linux-x86_64
 # the day of the newest version
 day = $(shell sed -n 's/^## .*(\(.*\))$$/\1/p' CHANGELOG.md | head -n 1)
@@ -16,13 +20,16 @@ all: bin/ncdump bin/ncgen
 	bin/ncdump bin/stations.nc
 
 # Proves and builds both programs, if anything has changed.
-# (tests, examples and edits are no part of them)
+# (tests, examples, edits and nc_variable are no part of them)
 bin/ncdump bin/ncgen &: $(wildcard build.sh HANDLES crates.txt) $(shell find crates \( -name out -o -name must-fail -o -name wrong-bodies \
-		-o -name 'test_*' -o -name 'example_*' \) -prune -o -type f -print 2>/dev/null)
+		-o -name 'test_*' -o -name 'example_*' -o -name uses -o -name nc_variable \) -prune -o -type f -print 2>/dev/null)
 	./build.sh
 
-# The merge gate, in parts that run side by side where none waits for another.
-test: test-proofs test-definitions test-bodies test-programs
+# The merge gate, in parts that run side by side where none waits for another. A release has neither tests nor the sources that they prove.
+test: $(if $(wildcard tests),test-proofs test-definitions test-bodies test-programs,no-tests)
+no-tests:
+	@echo 'make test needs the sources and the Rattle kit: this folder is a release, which only has the programs' >&2
+	@exit 1
 test-bodies test-programs: test-proofs
 ifeq ($(MAKECMDGOALS),test)
 MAKEFLAGS += --jobs=3
@@ -38,22 +45,25 @@ test-proofs:
 test-definitions:
 	nice -n 19 tests/definitions.py
 
-# Wrong bodies, which the prover or a test has to refuse. Of those tests a few are run, drawn by the date.
+# Wrong bodies, which the prover or a test has to refuse. Of those tests a few are run, drawn by a checksum of the code and the edits.
 test-bodies:
 	tests/wrong_bodies.py
 	tests/wrong_bodies.py --tests 4
 
-# Places where out of memory is made of anything but a failed allocation; the tests and the programs that the gate has built, with each
-# allocation failing in turn; the programs from end to end, with their calls of the system counted, on texts and files of many parts, whose
-# time may not grow with a square, on random datasets, and on mangled files and texts; the documents; and a release, unpacked and run.
+# Places where out of memory is made of anything but a failed allocation, or of one by a number that isn't known to be needed; the tests and
+# the programs that the gate has built, with each allocation failing in turn; how much memory the programs ask for; the programs from end to
+# end, with their calls of the system counted, on texts and files of many parts, whose time may not grow with a square, nor be that of a
+# slower way, on random datasets, and on mangled files and texts; the documents; and a release, unpacked and run.
 test-programs:
 	tests/refusals.py
 	tests/allocation_failures.sh
+	tests/memory.py
 	tests/ncdump.sh
 	tests/ncgen.sh
 	tests/calls.sh
 	tests/lengths.py 8
 	tests/squares.py
+	tests/ratios.py
 	tests/roundtrip.py
 	tests/hostile.py
 	tests/documents.py
@@ -62,14 +72,26 @@ test-programs:
 # The scripts run make of their own, which knows nothing of this one.
 unexport MAKEFLAGS
 
-# Installs the programs that bin/ has, and their manual pages. Proves and builds the programs first if bin/ lacks them.
+# Installs the programs that bin/ has, with what belongs to them. Proves and builds the programs first if bin/ lacks them.
 install:
 	test -x bin/ncdump || $(MAKE) bin/ncdump
 	test -x bin/ncgen || $(MAKE) bin/ncgen
-	install -d $(programs) $(pages)/man1 $(pages)/man5
-	install -m 755 bin/ncdump bin/ncgen $(programs)
-	install -m 644 man/ncdump.1 man/ncgen.1 $(pages)/man1
-	install -m 644 man/cdl.5 $(pages)/man5
+	install -d $(programs) $(pages)/man1 $(pages)/man5 $(completions) $(documents)/docs $(documents)/samples
+	for name in ncdump ncgen; do \
+		install -m 755 bin/$$name $(programs)/$(NAMES)$$name && \
+		install -m 644 man/$$name.1 $(pages)/man1/$(NAMES)$$name.1 && \
+		sed 's/ '$$name'$$/ $(NAMES)'$$name'/' completions/$$name >$(completions)/$(NAMES)$$name || exit 1; \
+	done
+	install -m 644 man/cdl.5 $(pages)/man5/$(NAMES)cdl.5
+	install -m 644 README.md CHANGELOG.md $(documents)
+	install -m 644 docs/*.md $(documents)/docs
+	install -m 644 samples/*.cdl samples/*.nc $(documents)/samples
+
+# Removes what `make install` has put there, if PREFIX and NAMES are the same.
+uninstall:
+	rm -f $(addprefix $(programs)/$(NAMES),ncdump ncgen) $(addprefix $(completions)/$(NAMES),ncdump ncgen)
+	rm -f $(addprefix $(pages)/man1/$(NAMES),ncdump.1 ncgen.1) $(pages)/man5/$(NAMES)cdl.5
+	rm -rf $(documents)
 
 # Packs the programs, the manual pages, the documents with the definitions that they lead to, and the samples into dist/RELEASE.tar.gz, the
 # same bytes each time. In the unpacked folder `make install` installs them without the kit. The files are gathered outside of the
@@ -80,10 +102,11 @@ dist:
 	rm -rf dist
 	mkdir dist
 	folder=$$(mktemp -d) && trap 'rm -rf "$$folder"' EXIT && to=$$folder/$(release) && \
-		install -d $$to/bin $$to/man $$to/docs $$to/samples && \
+		install -d $$to/bin $$to/man $$to/docs $$to/samples $$to/completions && \
 		install -s -m 755 bin/ncdump bin/ncgen $$to/bin && \
 		install -m 644 man/* $$to/man && \
 		install -m 644 docs/* $$to/docs && \
+		install -m 644 completions/* $$to/completions && \
 		find crates -name out -prune -o -path '*/specs/*.antt' -exec install -D -m 644 {} $$to/{} \; && \
 		install -m 644 samples/*.cdl samples/*.nc $$to/samples && \
 		install -m 644 Makefile VERSION README.md CHANGELOG.md CONTRIBUTING.md $$to && \
@@ -99,4 +122,4 @@ check:
 clean:
 	rm -rf bin dist crates/*/out
 
-.PHONY: all test test-proofs test-definitions test-bodies test-programs install dist check clean
+.PHONY: all test no-tests test-proofs test-definitions test-bodies test-programs install uninstall dist check clean

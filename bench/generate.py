@@ -112,13 +112,14 @@ KINDS = {"int64s": "nc5", "skeleton": "nc5"}
 
 
 def timed(name, content, out="made.nc"):
-    """The least time of ours on this text; prints a line."""
+    """The least time of ours on this text; prints a line. Unidata's is given no device, which as root it removes where it fails."""
     path = f"{name}.cdl"
     Path(path).write_text(content)
     size = len(content)
     kind = KINDS.get(name, "nc3")
     words = ["-k", kind, "-o", out, path]
-    ours, theirs = run([GENERATE, *words]), run([THEIR_GENERATE, *words], STOPPED / 1000)
+    ours = run([GENERATE, *words])
+    theirs = None if out.startswith("/dev/") else run([THEIR_GENERATE, *words], STOPPED / 1000)
     reading = run([GENERATE, "-k", kind, path])
     for _ in range(RUNS - 1):
         ours = min(ours, run([GENERATE, *words]))

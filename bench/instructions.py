@@ -7,7 +7,9 @@ It makes texts and files, runs the programs on them, and prints a line for each:
 
 - times the plain loop: our instructions divided by those of a loop in C that reads the same numbers from the text (text_limit.c), or
   that prints those of the file (limit.c);
-- instructions a value, and instructions a byte of the text: those of the whole program, divided by the number of values or of bytes.
+- instructions a value, and instructions a byte of the text or of the file: those of the whole program, divided by the number of values or
+  of bytes.
+- times the same list as values of a variable: our instructions for a list in an attribute, divided by those for the list in a variable.
   Where there is a known figure of an earlier program, it is the goal, so that nothing gets slower;
 - percent in the heaviest function: its part of all instructions, those of the functions that it calls left out.
 - times as fast as Unidata's (Debian's netcdf-bin): its instructions divided by ours, and its seconds divided by ours, each the least of
@@ -20,6 +22,7 @@ where one is missed. It wants valgrind, a C compiler, Unidata's ncdump, and both
 import os
 import random
 import shutil
+import subprocess
 import sys
 import tempfile
 from pathlib import Path
@@ -31,6 +34,7 @@ from run import BYTE, INT, SHORT, UBYTE, fixed, records
 
 HEAVIEST = "percent in the heaviest function"
 LOOP, VALUE, TEXT_BYTE = "times the plain loop", "instructions a value", "instructions a byte of text"
+FILE_BYTE, AS_VALUES = "instructions a byte of the file", "times the same list as values of a variable"
 FASTER, FASTER_SECONDS = "times as fast as Unidata's, in instructions", "times as fast as Unidata's, in seconds"
 SIZE = {"byte": 1, "short": 2, "int": 4, "int64": 8}
 MANY = 300_000
@@ -81,6 +85,27 @@ def rows(count, length):
     many = letters(count * length)
     lines = ",\n".join(f'  "{many[at:at + length]}"' for at in range(0, len(many), length))
     return text(f"\tr = {count} ;\n\tx = {length} ;\n", "\tchar c(r, x) ;\n", f" c =\n{lines} ;\n")
+
+
+def made(cdl):
+    """The file of a text."""
+    Path("text.cdl").write_text(cdl)
+    subprocess.run([GENERATE, "-o", "made.nc", "text.cdl"], check=True)
+    return "made.nc"
+
+
+def a_file_byte(row):
+    """Of a dump of 20,000 rows of 80 characters, each of which is this string."""
+    lines = ",\n".join([f'  "{row}"'] * 20_000)
+    file = made(text("\tr = 20000 ;\n\tx = 80 ;\n", "\tchar c(r, x) ;\n", f" c =\n{lines} ;\n"))
+    return instructions(DUMP, file) / Path(file).stat().st_size
+
+
+def attribute_as_values(ty, suffix, low, high):
+    listed_numbers = numbers(low, high, 500_000)
+    attribute = f"netcdf t {{\n\t:a = {', '.join(number + suffix for number in listed_numbers)} ;\n}}\n"
+    ours = instructions(DUMP, made(attribute))
+    return ours / instructions(DUMP, made(listed(listed_numbers, ", ", ty)))
 
 
 def in_heaviest(cdl):
@@ -140,6 +165,7 @@ ROWS = [
     Row("ncgen, fill values", VALUE, 700, lambda: a_value(["_"] * MANY)),
     Row("ncgen, a string of escapes", TEXT_BYTE, 101, lambda: a_byte(string(r"\n\t\x41\"\\\101" * 50_000, 300_000))),
     Row("ncgen, a string of letters and escapes", TEXT_BYTE, 90, lambda: a_byte(string(r"a\n" * 300_000, 600_000))),
+    Row("ncgen, a string with an escape in nine", TEXT_BYTE, 21, lambda: a_byte(string(r"abcdefgh\"ijklmnop\t" * 50_000, 900_000))),
     Row("ncgen, 20,000 dimensions", HEAVIEST, 25, lambda: in_heaviest(text(parts("\tdim_{:05} = 1 ;\n"), "", ""))),
     Row("ncgen, 20,000 variables", HEAVIEST, 25, lambda: in_heaviest(text("", parts("\tint var_{:05} ;\n"), ""))),
     Row("ncgen, 20,000 attributes", HEAVIEST, 25, lambda: in_heaviest("netcdf t {\n" + parts("\t:att_{:05} = 1 ;\n") + "}\n")),
@@ -148,6 +174,12 @@ ROWS = [
     Row("ncdump, bytes", LOOP, 2 / 3, lambda: print_to_loop(BYTE, -128, 127)),
     Row("ncdump, ubytes", LOOP, 2 / 3, lambda: print_to_loop(UBYTE, 0, 255)),
     Row("ncdump, ints below 100", LOOP, 2 / 3, lambda: print_to_loop(INT, 0, 99)),
+    Row("ncdump, full rows of 80 characters", FILE_BYTE, 12, lambda: a_file_byte(letters(80))),
+    Row("ncdump, rows of NULs", FILE_BYTE, 4, lambda: a_file_byte("")),
+    Row("ncdump, rows of ten characters and 70 NULs", FILE_BYTE, 6, lambda: a_file_byte("station_01")),
+    Row("ncdump, rows with an escape in eight", FILE_BYTE, 20, lambda: a_file_byte(r"abcdefg\n" * 10)),
+    Row("ncdump, an attribute of ints", AS_VALUES, 1.5, lambda: attribute_as_values("int", "", -(10**6), 10**6)),
+    Row("ncdump, an attribute of shorts", AS_VALUES, 2, lambda: attribute_as_values("short", "s", -(2**15), 2**15)),
     Row("ncdump, 20 interleaved variables", FASTER, 5, lambda: faster(20, 5_000)),
     Row("ncdump, 100 interleaved variables", FASTER, 5, lambda: faster(100, 1_000)),
     Row("ncdump, 20 interleaved variables", FASTER_SECONDS, 5, lambda: faster_seconds(20, 50_000)),

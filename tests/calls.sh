@@ -1,6 +1,6 @@
 #!/usr/bin/env bash
 # Runs bin/ncdump and bin/ncgen under strace on files and texts of some 100,000 bytes, and counts their calls of the system: each reads
-# and writes large parts. Without strace, nothing is tried.
+# and writes large parts. Then the system refuses calls, which aren't made again. Without strace, nothing is tried.
 set -u
 . "$(dirname "$0")/verdicts.sh"
 
@@ -32,6 +32,17 @@ dumped() {
     calls "writes_of_dump_of_$1" write 4 "$1.nc" "$ncdump" "$1.nc"
 }
 
+# refused NAME CALL FIRST LAST ERROR FILE LINE COMMAND..: the system refuses calls of this kind on the file, whose path is absolute, with this
+# error, from number FIRST on. The command says so in this line, and makes no such call after number LAST.
+refused() {
+    stderr "$7\\n"
+    run strace -qq -P "$6" -e "trace=$2" -e "inject=$2:error=$5:when=$3+" -o "$work/calls" "${@:8}"
+    : >"$work/got/stdout"
+    count=$(grep -c "^$2(" "$work/calls")
+    if [ "$count" -lt "$3" ] || [ "$count" -gt "$4" ]; then echo "$count calls of $2, where $3 to $4 are wanted" >>"$work/got/stderr"; fi
+    verdict "$1" 1
+}
+
 # tenfold COUNT: rows of ten numbers, as values of a variable.
 tenfold() {
     yes '  1, 2, 3, 4, 5, 6, 7, 8, 9, 10,' | head -n $(($1 - 1))
@@ -57,5 +68,20 @@ tenfold() {
 for name in numbers records characters attribute; do
     generated "$name"
     dumped "$name"
+done
+for error in EIO EINTR; do
+    refused "first_read_of_file_refused_with_$error" pread64 1 1 "$error" "$PWD/numbers.nc" 'ncdump: numbers.nc: read failed' \
+        "$ncdump" numbers.nc
+    refused "second_read_of_file_refused_with_$error" pread64 2 2 "$error" "$PWD/numbers.nc" 'ncdump: numbers.nc: read failed' \
+        "$ncdump" numbers.nc
+    refused "first_read_of_text_refused_with_$error" read 1 1 "$error" "$PWD/numbers.cdl" 'ncgen: numbers.cdl: read failed' \
+        "$ncgen" numbers.cdl
+done
+# What is held back is written once more by the flush, and once when the writer goes.
+for error in EIO ENOSPC; do
+    refused "writes_of_dump_refused_with_$error" write 1 3 "$error" "$work/got/stdout" 'ncdump: numbers.nc: write failed' \
+        "$ncdump" numbers.nc
+    refused "writes_of_file_refused_with_$error" write 1 3 "$error" "$PWD/made.nc" 'ncgen: made.nc: write failed' \
+        "$ncgen" -o made.nc numbers.cdl
 done
 summary

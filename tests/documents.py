@@ -9,6 +9,8 @@
 - A file of code that is named, with its folders or without, is there.
 - A definition that is named by its file, as `File.word`, stands in a file of that name in `specs/`, if there is one.
 - A function that docs/PROVED.md names with its module, as `name` (within: `module`), stands in a file of the code of that name.
+- The code at the head of a crate's `src/lib.rt` is the body of a function of the crate `uses`, which may end with `Ok(())` besides.
+- Each block of Rattle in a document stands so in a file of the code.
 - The first line of each file of `specs/` says its kind, and those for contracts are the ones in `specs/code/`.
 - docs/PROVED.md lists each file of the kind Definition and of the kind Law, under a heading for its kind and with its number of lines;
   and each word that these files use of a file for contracts.
@@ -16,11 +18,12 @@
 - Each command of a block of README.md that begins with ```console is run, with bin/ncdump and bin/ncgen, and writes what is printed
   below it, to standard output and standard error together. The commands of a block run one after the other in one empty folder, in which
   bin and samples are those of the repository. Other blocks aren't run.
-- `man`, `groff` and `mandoc` have no word to say of a manual page; one that isn't installed is skipped.
+- `man`, `groff` and `mandoc` have no word to say of a manual page; one that isn't installed is skipped. No line of a page has more than
+  PAGE_COLUMNS bytes, which of the three `mandoc` alone looks at.
 - VERSION, the newest version of CHANGELOG.md and the manual pages agree.
 
-The last line is 'N passed, M failed'; a link, a file, a definition, such a function, a file of `specs/`, a line of such a list, a command, a page under
-a tool, and a file that names the version count as one each.
+The last line is 'N passed, M failed'; a link, a file, a definition, such a function, an example, a file of `specs/`, a line of such a list, a
+command, a page by its lines and under a tool, and a file that names the version count as one each.
 """
 
 import os
@@ -37,6 +40,7 @@ README_LINES = 100
 PROVED = TOP / "docs" / "PROVED.md"
 DOCUMENTS = sorted(TOP.glob("*.md")) + sorted(TOP.glob("docs/*.md"))
 PAGES = sorted(TOP.glob("man/*.[1-8]"))
+PAGE_COLUMNS = 80
 PROGRAMS = [TOP / "bin" / "ncdump", TOP / "bin" / "ncgen"]
 # seconds that a command of README.md may take
 TIME = 60
@@ -51,6 +55,9 @@ CODE = ["crates/*/src", "crates/*/specs", "crates/*/proofs", "tests", "bench", "
 NAMED = re.compile(r"`([A-Z]\w+)\.(?!antt`)(\w+)`")
 # functions, and the module that they stand in
 WITHIN = re.compile(r"((?:`\w+(?:::\w+)?`(?:, )?)+) \(within: `(\w+)`\)")
+# an example at the head of a crate, and the body of a function
+EXAMPLE = re.compile(r"^//! ```\n((?://!.*\n)*?)//! ```\n", re.M)
+BODY = re.compile(r"^(?:pub fn .*)?\{\n((?:    .*\n|\n)*)\}\n", re.M)
 HEADING = re.compile(r"^#+ +(.+?) *$", re.M)
 # the first line of a file of `specs/`
 KIND = re.compile(r"-- (Definition|Law|For contracts)\. ")
@@ -122,6 +129,22 @@ def functions():
         for name in re.findall(r"(\w+)`", names):
             said = "" if re.search(rf"\bfn {name}\b", text) else "ISN'T THERE"
             yield f"docs/PROVED.md: {name} (within: {module})", said
+
+
+def examples():
+    """Each example at the head of a crate, and each block of Rattle in a document."""
+    bodies = [re.sub(r"^    ", "", it, flags=re.M) for path in TOP.glob("crates/uses/src/*.rt") for it in BODY.findall(path.read_text())]
+    shown = {it.removesuffix("Ok(())\n") for it in bodies}
+    for path in sorted(TOP.glob("crates/*/src/lib.rt")):
+        for block in EXAMPLE.findall(path.read_text()):
+            said = "" if re.sub(r"^//! ?", "", block, flags=re.M) in shown else "IS NO BODY OF crates/uses"
+            yield f"{path.relative_to(TOP)}: example", said
+    code = [path.read_text() for path in TOP.glob("crates/*/src/**/*.rt")]
+    for document in DOCUMENTS:
+        for kind, block in FENCED.findall(document.read_text()):
+            if kind == "rust":
+                said = "" if any(block in text for text in code) else "STANDS IN NO FILE OF CODE"
+                yield f"{document.relative_to(TOP)}: {block.splitlines()[0]}", said
 
 
 def specs():
@@ -223,7 +246,10 @@ def runs():
 
 
 def pages():
-    """Each manual page under each tool that is installed."""
+    """Each manual page: its longest line, and what each tool that is installed says of it."""
+    for page in PAGES:
+        long = [f"LINE {at} IS TOO LONG" for at, line in enumerate(page.read_bytes().splitlines(), 1) if len(line) > PAGE_COLUMNS]
+        yield f"{page.relative_to(TOP)}: lines of at most {PAGE_COLUMNS} bytes", " ".join(long)
     for words in TOOLS:
         if not shutil.which(words[0]):
             print(f"skipped: {words[0]} isn't installed")
@@ -244,7 +270,7 @@ def versions():
     """Each file that names the version."""
     version = (TOP / "VERSION").read_text().strip()
     yield "VERSION", "" if re.fullmatch(r"\d+\.\d+\.\d+", version) else f"{version} IS NO VERSION"
-    newest = re.search(r"^## (\S+)", (TOP / "CHANGELOG.md").read_text(), re.M)
+    newest = re.search(r"^## (\d\S+)", (TOP / "CHANGELOG.md").read_text(), re.M)
     yield "CHANGELOG.md: newest version", "" if newest and newest[1] == version else f"IS NOT {version}"
     for page in PAGES:
         text = page.read_text()
@@ -259,7 +285,7 @@ def main():
     if sys.argv[1:] == ["--lines"]:
         PROVED.write_text(counted(PROVED.read_text()))
         return 0
-    checks = [links, files, definitions, functions, kinds, believed, length, pages, versions]
+    checks = [links, files, definitions, functions, examples, kinds, believed, length, pages, versions]
     if sys.argv[1:] != ["--text"]:
         missing = [it for it in PROGRAMS if not os.access(it, os.X_OK)]
         if missing:

@@ -10,6 +10,7 @@ from pathlib import Path
 from prover import CRATES
 
 FUNCTION = re.compile(r"^( *)(?:pub(?:\(\w+\))? )?(?:const )?fn (\w+)", re.M)
+ONE_TYPE = re.compile(r"impl [A-Z]\w*<([A-Z]\w*)> \{")
 IMPL = re.compile(r"^impl\b(?:<[^{]*?>)? (?:(\w+)(?:<([\w:]*)[^{]*>)? for )?(\w+)", re.M)
 
 
@@ -90,7 +91,11 @@ def function_at(crate, file, place):
     indent, name = before[-1].groups()
     if indent:
         # the prover says in which module the type stands, and not where this part of it does
-        trait, of, type_name = [it for it in IMPL.finditer(text) if it.start() < before[-1].start()][-1].groups()
+        block = [it for it in IMPL.finditer(text) if it.start() < before[-1].start()][-1]
+        trait, of, type_name = block.groups()
+        # an impl of one type of a generic one is called after both
+        one = ONE_TYPE.match(text, block.start())
+        type_name += f"+{one[1]}" if one else ""
         of = "".join(it[0].upper() + it[1:] for it in (of or "").split("::") if it)
         return f"{type_name}{trait or ''}{of}::{name}"
     return "::".join([*(it for it in Path(file).with_suffix("").parts[1:] if it not in ["lib", "main"]), name])

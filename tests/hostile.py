@@ -1,5 +1,6 @@
 #!/usr/bin/env python3
-"""Gives the built programs mangled, cut and random files and texts, and asks for what has to hold of their answers whatever the input is.
+"""Gives the built programs mangled and cut files and texts, and random files, and asks for what has to hold of their answers whatever the
+input is.
 
     tests/hostile.py [CASES [SEED]]
 
@@ -8,9 +9,9 @@ Each run has 256 MiB of memory and 5 seconds. Of each answer:
 - the status is 0 and standard error is empty, or it is 1 and standard error is one line that names the file and a fault;
 - no dump begins where the header has a fault; where data are cut short the text is a prefix of that of the whole file;
 - a refused text leaves no output, and the line that its fault names is one of the text;
-- what is generated is dumped, and generated from that dump again byte for byte;
+- what is generated is dumped; what is generated from that dump is dumped and generated once more, byte for byte;
 - a text whose rows pass the limit on an array is too large, however few strings it has;
-- the same text on standard input has the same answer.
+- a refused text has the same fault on standard input.
 
 The last line is 'N passed, M failed', of seeds with 20 cases each.
 """

@@ -254,18 +254,89 @@ far() {
     printf "$(printf '%s' "$1" | sed 's/../\\x&/g')"
 }
 
-# Values past 2 and 4 GiB, in sparse files.
-for place in 3221225472:00000000c0000000 5368709120:0000000140000000; do
-    far "${place#*:}" >far.nc
-    truncate -s "${place%:*}" far.nc
+# far_values FOLDER OFFSET: in a sparse file in the folder, the values at the offset are found, and none if the file ends there.
+far_values() {
+    local file=$1/far.nc
+    far "$(printf '%016x' "$2")" >"$file"
+    truncate -s "$2" "$file"
     stdout 'netcdf far {\ndimensions:\n\tx = 3 ;\nvariables:\n\tshort s(x) ;\ndata:\n\n s ='
-    stderr 'ncdump: far.nc: variable 0: data truncated at value 0\n'
-    run "$ncdump" far.nc
-    verdict "no_value_at_${place%:*}" 1
-    printf '\022\064\126\170\232\274' >>far.nc
-    cdl "values_at_${place%:*}" far.nc 'netcdf far {\ndimensions:\n\tx = 3 ;\nvariables:\n\tshort s(x) ;\ndata:\n\n s = 4660, 22136, -25924 ;\n}\n'
-    rm far.nc
+    stderr "ncdump: $file: variable 0: data truncated at value 0\n"
+    run "$ncdump" "$file"
+    verdict "no_value_at_$2" 1
+    printf '\022\064\126\170\232\274' >>"$file"
+    cdl "values_at_$2" "$file" 'netcdf far {\ndimensions:\n\tx = 3 ;\nvariables:\n\tshort s(x) ;\ndata:\n\n s = 4660, 22136, -25924 ;\n}\n'
+    rm "$file"
+}
+
+# longest FOLDER: how many bytes the longest file can have in the folder.
+longest() {
+    local least=0 most=9223372036854775807 middle
+    while [ "$least" -lt "$most" ]; do
+        middle=$((least + (most - least) / 2 + 1))
+        if truncate -s "$middle" "$1/longest" 2>/dev/null; then least=$middle; else most=$((middle - 1)); fi
+    done
+    rm -f "$1/longest"
+    echo "$least"
+}
+
+# Values past 2 and 4 GiB and past 1 TiB, in sparse files, and the last ones of the longest file: of this folder's file system, and of that
+# in memory, where it may have 2^63 - 1 bytes.
+for place in 3221225472 4294967296 5368709120 1099511627782 $(($(longest .) - 6)); do
+    far_values "$work/files" "$place"
 done
+if memory=$(mktemp -d -p /dev/shm 2>/dev/null); then
+    far_values "$memory" $(($(longest "$memory") - 6))
+    rmdir "$memory"
+fi
+
+# ended COMMAND..: runs the command, for which each file ends at the offset in `at`, though its whole length is reported (early_end.c).
+ended() {
+    END=$at LD_PRELOAD=$work/early_end.so "$@"
+}
+
+# end_early NAME FILE AT..: where the file ends at these offsets though its whole length is reported, the run is each time that of the file
+# cut there: the same text, the same line and the same status.
+end_early() {
+    local name=$1 file=$2 at status=
+    shift 2
+    for at; do
+        head -c "$at" "$file" >early.nc
+        run "$ncdump" early.nc
+        cp "$work"/got/* "$work/want"
+        read -r _ status <"$work/want/status"
+        cp "$file" early.nc
+        run ended "$ncdump" early.nc
+        diff -r "$work/want" "$work/got" >/dev/null || break
+    done
+    verdict "$name" "$status"
+}
+
+# Files that end while they are read. That of many numbers has 80 bytes of header, and then more of `short s(x)` than one stretch that is
+# read ahead; those of two record variables have 116, and then a value of each in turn.
+${CC:-cc} -shared -fPIC -o "$work/early_end.so" "$top/tests/early_end.c" || exit 1
+{
+    head -c 24 generated.nc && printf '\000\001\206\240'
+    tail -c +29 generated.nc | head -c 52 && yes 'a number in 13' | head -c 200000
+} >many.nc
+{
+    printf 'CDF\001\000\000\041\064'
+    printf '\000\000\000\012\000\000\000\001\000\000\000\001t\000\000\000\000\000\000\000' && zeros 8
+    printf '\000\000\000\013\000\000\000\002'
+    printf '\000\000\000\001b\000\000\000\000\000\000\001' && zeros 12
+    printf '\000\000\000\001\000\000\000\004\000\000\000\164'
+    printf '\000\000\000\001s\000\000\000\000\000\000\001' && zeros 12
+    printf '\000\000\000\003\000\000\000\004\000\000\000\170'
+    yes 'a number in 13' | head -c 68000
+} >turns.nc
+# The offsets are meant to be split.
+# shellcheck disable=SC2046
+end_early sample_that_ends_at_each_offset "$samples/stations.nc" $(seq 0 504)
+# shellcheck disable=SC2046
+end_early counters_that_end_at_each_offset "$samples/counters.nc" $(seq 0 448)
+# shellcheck disable=SC2046
+end_early many_numbers_that_end_early many.nc $(seq 60 120) $(seq 4070 4120) $(seq 65520 65560) $(seq 131060 131100) $(seq 200000 200080)
+# shellcheck disable=SC2046
+end_early records_in_turn_that_end_early turns.nc $(seq 100 180) $(seq 4070 4120) $(seq 65520 65560) $(seq 68100 68116)
 
 # Options that bear on values: a width, and coordinate variables among chosen names.
 head='netcdf grid {\ndimensions:\n\tx = 3 ;\nvariables:\n\tshort x(x) ;\n\tshort s(x) ;\ndata:\n'
@@ -284,16 +355,42 @@ options coordinates_among_chosen "$head\\n x = 1, 2, 3 ;\\n}\\n" -c -v s,x grid.
 options no_coordinates_among_chosen "$head}\\n" -v s -c grid.nc
 
 # Devices that take nothing.
-stderr 'ncdump: write failed\n'
-run to_full_device "$samples/records.nc"
-verdict full_standard_output_at_the_end 1
-stderr 'ncdump: large.nc: write failed\n'
-run to_full_device large.nc
-verdict full_standard_output_on_the_way 1
+if has_full_device; then
+    stderr 'ncdump: write failed\n'
+    run to_full_device "$samples/records.nc"
+    verdict full_standard_output_at_the_end 1
+    stderr 'ncdump: large.nc: write failed\n'
+    run to_full_device large.nc
+    verdict full_standard_output_on_the_way 1
+fi
 stderr 'ncdump: write failed\n'
 run without_stdout "$samples/records.nc"
 verdict closed_standard_output 1
 run without_stderr missing.nc
 verdict closed_standard_error 1
+
+# The recipe for git of ncdump(1): changes of files are shown as changes of their text, also of a file that is cut short and of one with a
+# floating type, which can't be printed.
+changes() {
+    git init -q repository && cd repository || return
+    cp "$samples/note.nc" .
+    head -c 500 "$samples/stations.nc" >cut.nc
+    { printf 'CDF\001' && zeros 12 && printf '\000\000\000\014\000\000\000\001\000\000\000\001a\000\000\000' &&
+        printf '\000\000\000\005\000\000\000\001' && zeros 12; } >float.nc
+    echo '*.nc diff=netcdf' >>.gitattributes
+    git config diff.netcdf.textconv 'sh -c "ncdump \"\$1\" 2>&1 || :" -'
+    git add . && git -c user.name=test -c user.email=test@example.org commit -qm first
+    for file in note cut float; do
+        cp "$samples/smallest.nc" $file.nc
+    done
+    git --no-pager diff --no-color >changes && grep 'ncdump:\|:note' changes | sed 's/ncdump: [^:]*[/_]/ncdump: /'
+}
+if command -v git >/dev/null; then
+    stdout '-  -28, _ncdump: cut.nc: variable 2: data truncated at value 4\n-ncdump: float.nc: floating type\n-\t\t:note = "a\\n",\n'
+    PATH="$top/bin:$PATH" run changes
+    verdict changes_in_git 0
+else
+    echo 'skipped: git is not installed'
+fi
 
 summary

@@ -126,9 +126,11 @@ verdict output_in_no_folder 1
 stderr 'ncgen: dir: cannot open\n'
 run "$ncgen" -o dir short.cdl
 verdict folder_as_output 1
-stderr 'ncgen: /dev/full: write failed\n'
-run "$ncgen" -o /dev/full short.cdl
-verdict full_device 1
+if has_full_device; then
+    stderr 'ncgen: /dev/full: write failed\n'
+    run "$ncgen" -o /dev/full short.cdl
+    verdict full_device 1
+fi
 run "$ncgen" -o /dev/null short.cdl
 verdict device_that_takes_all 0
 

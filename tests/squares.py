@@ -136,12 +136,46 @@ def fill_values(n):
     return dataset(f"x = {n} ;", "int v(x) ;", "v = " + "_, " * (n - 1) + "_ ;")
 
 
+def numbers_and_fill_values(n):
+    return dataset(f"x = {2 * n} ;", "int v(x) ;", "v =\n" + "1, _,\n" * (n - 1) + "1, _ ;")
+
+
+def variables_with_an_attribute(n):
+    return dataset(variables=each('byte v{0} ;\nv{0}:a = "x" ;\n', n))
+
+
+def attributes_after_all_variables(n):
+    return dataset(variables=each("byte v{} ;\n", n) + each('v{}:a = "x" ;\n', n))
+
+
 def rows(n):
     return dataset(f"t = {n}, x = 3 ;", "char c(t, x) ;", "c = " + '"ab", ' * (n - 1) + '"c" ;')
 
 
 def records_of_rows(n):
     return dataset("t = UNLIMITED, x = 3 ;", "char c(t, x) ;", "c = " + '"ab", ' * (n - 1) + '"c" ;')
+
+
+def records_of_rows_beside_others(n):
+    rows = "c = " + '"ab", ' * (n - 1) + '"c" ;\n'
+    return dataset("t = UNLIMITED, x = 3 ;", "char c(t, x) ;\nint w(t) ;", rows + "w = " + "1, " * (n - 1) + "1 ;")
+
+
+def name_of_a_dimension(n):
+    return dataset("d" * n + " = 2 ;")
+
+
+def name_of_a_variable(n):
+    long = "v" * n
+    return dataset("x = 2 ;", f"int {long}(x) ;\n{long}:a = 1 ;", f"{long} = 1, 2 ;")
+
+
+def name_of_an_attribute(n):
+    return dataset(atts=":" + "a" * n + " = 1 ;")
+
+
+def name_of_escapes(n):
+    return dataset(atts=":a" + "\\ a" * (n // 3) + " = 1 ;")
 
 
 # what has many parts, n, and the seconds that generating 4n parts and dumping them may take
@@ -168,6 +202,14 @@ KINDS = {
     fill_values: (100_000, 1, 1),
     rows: (50_000, 1, 1),
     records_of_rows: (50_000, 1, 1),
+    numbers_and_fill_values: (50_000, 1, 1),
+    variables_with_an_attribute: (20_000, 5, 2),
+    attributes_after_all_variables: (20_000, 5, 2),
+    records_of_rows_beside_others: (50_000, 1, 1),
+    name_of_a_dimension: (250_000, 1, 1),
+    name_of_a_variable: (250_000, 1, 1),
+    name_of_an_attribute: (250_000, 1, 1),
+    name_of_escapes: (250_000, 1, 1),
 }
 # the words of a dump, if they are more than the path
 WORDS = {named_variables: all_names}
@@ -177,24 +219,27 @@ class Broken(Exception):
     """Something that has to hold doesn't."""
 
 
-def spent(seconds, *words):
-    """The processor time that the program takes, which is stopped once it has spent more than these seconds."""
+def usage_of(seconds, words, status=0):
+    """What the program uses, which ends with this status, and is stopped once it has spent more processor time than these seconds."""
 
     def limited():
         most = math.ceil(seconds)
         resource.setrlimit(resource.RLIMIT_CPU, (most, most + 1))
 
-    times = []
-    for _ in range(TIMES):
-        child = subprocess.Popen(words, stdout=subprocess.DEVNULL, preexec_fn=limited)
-        _, status, usage = os.wait4(child.pid, 0)
-        child.returncode = os.waitstatus_to_exitcode(status)
-        if child.returncode < 0:
-            raise Broken(f"stopped after {usage.ru_utime + usage.ru_stime:.3f} s, where {seconds} s are allowed")
-        if child.returncode > 0:
-            raise Broken(f"status {child.returncode}")
-        times.append(usage.ru_utime + usage.ru_stime)
-    return min(times)
+    child = subprocess.Popen(words, stdout=subprocess.DEVNULL, stderr=subprocess.DEVNULL if status else None, preexec_fn=limited)
+    _, ended, usage = os.wait4(child.pid, 0)
+    child.returncode = os.waitstatus_to_exitcode(ended)
+    if child.returncode < 0:
+        raise Broken(f"stopped after {usage.ru_utime + usage.ru_stime:.3f} s, where {seconds} s are allowed")
+    if child.returncode != status:
+        raise Broken(f"status {child.returncode}")
+    return usage
+
+
+def least_time(seconds, *words):
+    """The least processor time of a program that is run TIMES times."""
+    usages = [usage_of(seconds, words) for _ in range(TIMES)]
+    return min(it.ru_utime + it.ru_stime for it in usages)
 
 
 def compared(few, many, seconds):
@@ -210,13 +255,13 @@ def compared(few, many, seconds):
 def made(kind, n, seconds):
     """The time in which the text of n parts is generated."""
     Path("many.cdl").write_text(kind(n))
-    return spent(seconds, BIN / "ncgen", "-k", "nc6", "-o", "many.nc", "many.cdl")
+    return least_time(seconds, BIN / "ncgen", "-k", "nc6", "-o", "many.nc", "many.cdl")
 
 
 def dumped(kind, n, seconds):
     """The time in which the file of the last text is dumped."""
     words = WORDS[kind](n) if kind in WORDS else []
-    return spent(seconds, BIN / "ncdump", *words, "many.nc")
+    return least_time(seconds, BIN / "ncdump", *words, "many.nc")
 
 
 def times(kind):

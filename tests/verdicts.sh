@@ -52,6 +52,15 @@ verdict() {
     nothing
 }
 
+# has_full_device: whether there is /dev/full, a device that is always full. Where not, this test fails and says what is wrong: as root,
+# Unidata's `ncgen -o /dev/full` removes the device, and the next program that writes there makes a file.
+has_full_device() {
+    if [ -c /dev/full ]; then return; fi
+    failed=$((failed + 1))
+    echo "FAILED full_device_is_there: /dev/full is no character device; this makes it again: rm -f /dev/full; mknod -m 666 /dev/full c 1 7"
+    return 1
+}
+
 # zeros N: N zero bytes.
 zeros() {
     head -c "$1" /dev/zero

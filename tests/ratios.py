@@ -1,0 +1,144 @@
+#!/usr/bin/env python3
+"""Compares the time of bin/ncgen on two texts each, so that what has a quick way takes it, and nothing is gone over twice.
+
+    tests/ratios.py
+
+The quick way over a list changes no byte, and no contract says that it is taken. But it is many times as fast as the way of values with
+a suffix or an escape. So the time of plain values is compared with that of as many values that no quick way is for. One list is compared
+with the same values in many lists, so that no list is read a second time from some length on. And a text is compared with the same text
+without its closing brace, which has a fault at its end, so that nothing is looked for once more where a text has none. No file is made.
+
+The two texts are read in turn, TIMES each. The time is that which the processor spends in the program, and not in the system, which has
+as much to do for both; the least times count. The last line is 'N passed, M failed'.
+"""
+
+import os
+import sys
+import tempfile
+from pathlib import Path
+
+from squares import BIN, Broken, dataset, usage_of
+
+# how many lists have the values of one long list
+LISTS = 100
+# seconds that a text may take
+SECONDS = 20
+# how often each time is taken
+TIMES = 7
+ROW = "a" * 18
+LONG, SHORT, ROWS = 5_000_000, 10_000_000, 2_000_000
+
+
+def lists(value, count, times=1, first=""):
+    """A text with `times` lists, each of another variable: `first`, and then the value `count` times."""
+    row = len(value) if '"' in value else 0
+    ty, shape = ("char", "x, y") if row else ("int", "x")
+    variables = "".join(f"{ty} v{number}({shape}) ;\n" for number in range(times))
+    values = "".join(f"v{number} = {first}{f'{value}, ' * (count - 1)}{value} ;\n" for number in range(times))
+    return dataset(f"x = {count + bool(first)}, y = {row or 1} ;", variables, values)
+
+
+def without_brace(text):
+    return text.removesuffix("}\n")
+
+
+# two texts, what part of the time for the second one the first may take, and the status of the second
+PAIRS = {
+    "numbers, beside numbers with a suffix": (
+        lambda: lists("1234567", LONG),
+        lambda: lists("1234567L", LONG),
+        0.6,
+        0,
+    ),
+    "numbers of one digit, beside such with a suffix": (
+        lambda: lists("1", SHORT),
+        lambda: lists("1L", SHORT),
+        0.6,
+        0,
+    ),
+    "numbers after a fill value, beside numbers with a suffix": (
+        lambda: lists("1234567", LONG, first="_, "),
+        lambda: lists("1234567L", LONG, first="_, "),
+        0.6,
+        0,
+    ),
+    "strings, beside strings with an escape": (
+        lambda: lists(f'"{ROW}"', ROWS),
+        lambda: lists(rf'"{ROW}\t"', ROWS),
+        0.6,
+        0,
+    ),
+    "short strings, beside such with an escape": (
+        lambda: lists('"ab"', LONG),
+        lambda: lists(r'"a\t"', LONG),
+        0.6,
+        0,
+    ),
+    "one list of numbers, beside many": (
+        lambda: lists("1234567", LONG),
+        lambda: lists("1234567", LONG // LISTS, LISTS),
+        1.6,
+        0,
+    ),
+    "one list of fill values, beside many": (
+        lambda: lists("_", LONG),
+        lambda: lists("_", LONG // LISTS, LISTS),
+        1.6,
+        0,
+    ),
+    "one list of strings, beside many": (
+        lambda: lists(f'"{ROW}"', ROWS),
+        lambda: lists(f'"{ROW}"', ROWS // LISTS, LISTS),
+        1.6,
+        0,
+    ),
+    "one list of short strings, beside many": (
+        lambda: lists('"ab"', LONG),
+        lambda: lists('"ab"', LONG // LISTS, LISTS),
+        1.6,
+        0,
+    ),
+    "numbers, beside a text without its brace": (
+        lambda: lists("1234567", LONG),
+        lambda: without_brace(lists("1234567", LONG)),
+        1.5,
+        1,
+    ),
+    "comments, beside a text without its brace": (
+        lambda: dataset(atts="// x\n" * LONG + ":a = 1 ;"),
+        lambda: without_brace(dataset(atts="// x\n" * LONG + ":a = 1 ;")),
+        1.5,
+        1,
+    ),
+}
+
+
+def ratio(first, second, status):
+    """What part of the time for the second text the first one takes, and both times in words."""
+    Path("first.cdl").write_text(first())
+    Path("second.cdl").write_text(second())
+    both = (("first.cdl", 0), ("second.cdl", status))
+    times = [[usage_of(SECONDS, [BIN / "ncgen", path], status).ru_utime for path, status in both] for _ in range(TIMES)]
+    one, other = map(min, zip(*times))
+    return one / other, f"{one:.3f} s and {other:.3f} s"
+
+
+def main():
+    failed = 0
+    with tempfile.TemporaryDirectory() as folder:
+        os.chdir(folder)
+        for name, (first, second, most, status) in PAIRS.items():
+            try:
+                part, times = ratio(first, second, status)
+                is_well, said = part <= most, f"{times}: {part:.2f} times as long, where {most:.2f} is allowed"
+            except Broken as why:
+                is_well, said = False, str(why)
+            failed += not is_well
+            print(f"{'ok' if is_well else 'FAILED'} {name}: {said}", flush=True)
+        os.chdir("/")
+    print(f"{len(PAIRS) - failed} passed, {failed} failed")
+    return 1 if failed else 0
+
+
+if __name__ == "__main__":
+    sys.exit(main())
