@@ -9,13 +9,16 @@ with the same values in many lists, so that no list is read a second time from s
 without its closing brace, which has a fault at its end, so that nothing is looked for once more where a text has none. No file is made.
 
 The two texts are read in turn, TIMES each. The time is that which the processor spends in the program, and not in the system, which has
-as much to do for both; the least times count. The last line is 'N passed, M failed'.
+as much to do for both. The system divides a run's time into the two by samples, some of which are far off in a run this short: so the
+median counts, and a pair that misses its bound is measured again, up to TRIES times. What goes over a list twice misses it each time.
+The last line is 'N passed, M failed'.
 """
 
 import os
 import sys
 import tempfile
 from pathlib import Path
+from statistics import median
 
 from squares import BIN, Broken, dataset, usage_of
 
@@ -23,8 +26,9 @@ from squares import BIN, Broken, dataset, usage_of
 LISTS = 100
 # seconds that a text may take
 SECONDS = 20
-# how often each time is taken
+# how often each time is taken, and how often a pair is measured
 TIMES = 7
+TRIES = 3
 ROW = "a" * 18
 LONG, SHORT, ROWS = 5_000_000, 10_000_000, 2_000_000
 
@@ -113,24 +117,33 @@ PAIRS = {
 }
 
 
-def ratio(first, second, status):
+def ratio(status):
     """What part of the time for the second text the first one takes, and both times in words."""
-    Path("first.cdl").write_text(first())
-    Path("second.cdl").write_text(second())
     both = (("first.cdl", 0), ("second.cdl", status))
     times = [[usage_of(SECONDS, [BIN / "ncgen", path], status).ru_utime for path, status in both] for _ in range(TIMES)]
-    one, other = map(min, zip(*times))
+    one, other = map(median, zip(*times))
     return one / other, f"{one:.3f} s and {other:.3f} s"
+
+
+def compared(first, second, most, status):
+    """Whether the first text keeps its bound beside the second, and what was measured."""
+    Path("first.cdl").write_text(first())
+    Path("second.cdl").write_text(second())
+    for _ in range(TRIES):
+        part, times = ratio(status)
+        said = f"{times}: {part:.2f} times as long, where {most:.2f} is allowed"
+        if part <= most:
+            return True, said
+    return False, said
 
 
 def main():
     failed = 0
     with tempfile.TemporaryDirectory() as folder:
         os.chdir(folder)
-        for name, (first, second, most, status) in PAIRS.items():
+        for name, pair in PAIRS.items():
             try:
-                part, times = ratio(first, second, status)
-                is_well, said = part <= most, f"{times}: {part:.2f} times as long, where {most:.2f} is allowed"
+                is_well, said = compared(*pair)
             except Broken as why:
                 is_well, said = False, str(why)
             failed += not is_well
