@@ -3,8 +3,8 @@
 
     tests/ratios.py
 
-The quick way over a list changes no byte, and no contract says that it is taken. But it is many times as fast as the way of values with
-a suffix or an escape. So the time of plain values is compared with that of as many values that no quick way is for. One list is compared
+The quick way over a list changes no byte, and no contract says that it is taken. But it is many times as fast as the way of hexadecimal
+numbers, or of strings with an escape. So the time of plain values is compared with that of as many values that no quick way is for. One list is compared
 with the same values in many lists, so that no list is read a second time from some length on. And a text is compared with the same text
 without its closing brace, which has a fault at its end, so that nothing is looked for once more where a text has none. No file is made.
 
@@ -33,13 +33,13 @@ ROW = "a" * 18
 LONG, SHORT, ROWS = 5_000_000, 10_000_000, 2_000_000
 
 
-def lists(value, count, times=1, first=""):
-    """A text with `times` lists, each of another variable: `first`, and then the value `count` times."""
-    row = len(value) if '"' in value else 0
+def lists(values, count, times=1):
+    """A text with `times` lists, each of another variable: the values, one or more, `count` times."""
+    row = len(values) if '"' in values else 0
     ty, shape = ("char", "x, y") if row else ("int", "x")
     variables = "".join(f"{ty} v{number}({shape}) ;\n" for number in range(times))
-    values = "".join(f"v{number} = {first}{f'{value}, ' * (count - 1)}{value} ;\n" for number in range(times))
-    return dataset(f"x = {count + bool(first)}, y = {row or 1} ;", variables, values)
+    listed = "".join(f"v{number} = {f'{values}, ' * (count - 1)}{values} ;\n" for number in range(times))
+    return dataset(f"x = {count * (values.count(',') + 1)}, y = {row or 1} ;", variables, listed)
 
 
 def without_brace(text):
@@ -48,21 +48,27 @@ def without_brace(text):
 
 # two texts, what part of the time for the second one the first may take, and the status of the second
 PAIRS = {
-    "numbers, beside numbers with a suffix": (
+    "numbers, beside hexadecimal ones": (
         lambda: lists("1234567", LONG),
-        lambda: lists("1234567L", LONG),
+        lambda: lists("0x12d687", LONG),
         0.6,
         0,
     ),
-    "numbers of one digit, beside such with a suffix": (
+    "numbers of one digit, beside hexadecimal ones": (
         lambda: lists("1", SHORT),
-        lambda: lists("1L", SHORT),
+        lambda: lists("0x1", SHORT),
         0.6,
         0,
     ),
-    "numbers after a fill value, beside numbers with a suffix": (
-        lambda: lists("1234567", LONG, first="_, "),
-        lambda: lists("1234567L", LONG, first="_, "),
+    "numbers with a suffix, beside hexadecimal ones": (
+        lambda: lists("1234567L", LONG),
+        lambda: lists("0x12d687", LONG),
+        0.6,
+        0,
+    ),
+    "numbers and fill values in turn, beside hexadecimal numbers": (
+        lambda: lists("_, 1234567", LONG // 2),
+        lambda: lists("0x12d687", LONG),
         0.6,
         0,
     ),

@@ -64,6 +64,9 @@ fn put_few_escaped<W: Sink>(sink: &mut W, quoting: Quoting, bytes: &[u8]) -> Res
     requires { length bytes.now ≤ 128 }
     ensures { Wrote W.view sink.old sink.new (flat_map (escaped_in quoting) bytes.now) result }
 {
+    if bytes.is_empty() {
+        return Ok(());
+    }
     let mut plain = [false; AT_ONCE];
     if mark_plain(&mut plain, quoting, bytes) {
         return put(sink, bytes);

@@ -8,7 +8,7 @@ ghost use Rattle.cdl_statements.specs.Statements.{statements};
 
 use crate::lexeme::Lexeme;
 use crate::piece::{CutState, Role};
-use cdl_tokens::{Numeral, Scanner, Token};
+use cdl_tokens::{Scanner, Token};
 use nc_base::Version;
 use std::alloc::AllocError;
 
@@ -34,7 +34,7 @@ pub struct Cutter<'a> {
 
 impl<'a> Cutter<'a> {
     ghost use Rattle.cdl_statements.specs.code.Cutters.{BeginsWith, HandsOut, PassesToken, PassesWord, SameText, after, first_line, is_done, next_token, offset_of, pieces_left, text_of, version_of};
-    ghost use Rattle.cdl_statements.specs.code.ListedTokens.{EndsAtScanner, IsAtComma, Passes, PassesNumber, PassesString};
+    ghost use Rattle.cdl_statements.specs.code.ListedTokens.{EndsAtScanner, IsAtComma, Passes, PassesString};
     ghost use Rattle.cdl_statements.specs.code.Views.{lexeme_of};
 
     /// Creates a cutter at the start of a text, which is read for this version.
@@ -140,28 +140,11 @@ impl<'a> Cutter<'a> {
     }
 
     /// Returns true if the next token is a comma inside of a statement: neither its first token nor after the closing brace. Then
-    /// [`number_and_comma`](Cutter::number_and_comma) and the other calls that pass a comma may be called.
+    /// [`token_and_comma`](Cutter::token_and_comma) and [`string_and_comma`](Cutter::string_and_comma) may be called.
     pub fn is_at_comma(&self) -> bool
         ensures { result ≡ true → IsAtComma self.now }
     {
         !self.done && is_inside(self.state) && self.lexeme().is_mark(b',')
-    }
-
-    /// Looks, after the comma that the cutter is at, for a plain number (decimal, at most 19 digits, no suffix) and then a second comma,
-    /// with only white space between the three. If they are there, moves to the second comma, and returns the number. Otherwise returns
-    /// `None`, and the cutter stays where it is. Does not allocate. The quick pass over a list calls it for one plain number, and then
-    /// reads those that follow by a [`NumberList`](crate::NumberList).
-    #[inline(always)]
-    pub fn number_and_comma(&mut self) -> Option<Numeral>
-        requires { IsAtComma self.old }
-        ensures passes { IfSome result (λ n. PassesNumber self.old self.new n) }
-        ensures ends { IfSome result (λ n. EndsAtScanner self.new) }
-        ensures stays { result ≡ None → self.new ≡ self.old }
-    {
-        let mut scanner = self.scanner;
-        let listed = scanner.number_and_comma()?;
-        self.move_to_comma(listed.comma, scanner);
-        Some(listed.numeral)
     }
 
     /// Looks, after the comma that the cutter is at, for a string without an escape or a line feed and then a second comma, with only white
@@ -182,12 +165,13 @@ impl<'a> Cutter<'a> {
 
     /// Looks, after the comma that the cutter is at, for a token of the role `Other` (no opening, no word of a section, none of `: ; }`)
     /// and then a second comma, with only white space before it. If they are there, moves to the second comma, and returns the token.
-    /// Otherwise returns `None`, and the cutter stays where it is. Does not allocate. The quick pass over a list calls it for each token
-    /// between two commas that it takes neither as a plain number nor as a plain string.
+    /// Otherwise returns `None`, and the cutter stays where it is. Does not allocate. The quick pass over a list calls it for the first token
+    /// between two commas, and for each that it takes neither by a [`NumberList`](crate::NumberList) nor as a plain string.
     #[inline(always)]
     pub fn token_and_comma(&mut self) -> Option<Lexeme<'a>>
         requires { IsAtComma self.old }
         ensures passes { IfSome result (λ token. Passes self.old self.new (lexeme_of token)) }
+        ensures ends { IfSome result (λ token. EndsAtScanner self.new) }
         ensures stays { result ≡ None → self.new ≡ self.old }
     {
         let mut scanner = self.scanner;

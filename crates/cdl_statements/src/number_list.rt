@@ -1,15 +1,15 @@
-//! The plain numbers of a list, one after the other.
+//! The plain numbers and fill values of a list, one after the other.
 
-ghost use Rattle.std.specs.Prelude.{◌≡◌, IfSome, None};
-ghost use Rattle.cdl_statements.specs.code.ListedTokens.{EndsAtScanner, IsAtComma, PassesNumber};
+ghost use Rattle.std.specs.Prelude.{◌≡◌, IfSome, None, false, true};
+ghost use Rattle.cdl_statements.specs.code.ListedTokens.{EndsAtScanner, IsAtComma, PassesNumber, PassesUnderscore};
 ghost use Rattle.cdl_statements.specs.code.NumberLists.{SamePlace, reached};
 
 use crate::cutter::Cutter;
 use cdl_tokens::{Numeral, Scanner};
 
-/// Reads the plain numbers that come next in a list, from a comma on.
+/// Reads the plain numbers, and each `_` among them, that come next in a list, from a comma on.
 ///
-/// Only the scanner moves from number to number. The token of the last comma is made once, when the caller leaves the list by
+/// Only the scanner moves from value to value. The token of the last comma is made once, when the caller leaves the list by
 /// [`cutter`](NumberList::cutter).
 #[derive(Clone, Copy)]
 pub struct NumberList<'a> {
@@ -20,7 +20,7 @@ pub struct NumberList<'a> {
 }
 
 impl<'a> NumberList<'a> {
-    /// Creates the list of the numbers after a comma. Needs a `start` that has this comma as its next token, and whose scanner stands just
+    /// Creates the list of the values after a comma. Needs a `start` that has this comma as its next token, and whose scanner stands just
     /// after the comma.
     #[inline(always)]
     pub fn new(start: Cutter<'a>) -> NumberList<'a>
@@ -33,9 +33,9 @@ impl<'a> NumberList<'a> {
         }
     }
 
-    /// If a plain number (decimal, at most 19 digits, no suffix) and a comma come next, with only white space before each, passes both and
-    /// returns the number. Otherwise returns `None`, and the list stays where it is. Needs a list that began at a comma inside of a
-    /// statement. Does not allocate. Unlike [`Cutter::number_and_comma`], it moves only the scanner.
+    /// If a plain number (decimal, at most 19 digits, no suffix but `b`, `s` or `l`) and a comma come next, with only white space before
+    /// each, passes both and returns the number. Otherwise returns `None`, and the list stays where it is. Needs a list that began at a comma
+    /// inside of a statement. Does not allocate.
     #[inline(always)]
     pub fn number_and_comma(&mut self) -> Option<Numeral>
         requires { IsAtComma (reached self.old) }
@@ -46,7 +46,21 @@ impl<'a> NumberList<'a> {
         Some(listed.numeral)
     }
 
-    /// Returns the cutter at the comma that was read last, or at the first comma if no number was read. Needs a list that began at a comma
+    /// If a `_` and a comma come next, with only white space before each, passes both and returns true. Otherwise returns false, and the list
+    /// stays where it is. Needs a list that began at a comma inside of a statement. Does not allocate.
+    #[inline(always)]
+    pub fn underscore_and_comma(&mut self) -> bool
+        requires { IsAtComma (reached self.old) }
+        ensures passes { result ≡ true → PassesUnderscore (reached self.old) (reached self.new) }
+        ensures stays { result ≡ false → self.new ≡ self.old }
+    {
+        match self.scanner.underscore_and_comma() {
+            Some(_) => true,
+            None => false,
+        }
+    }
+
+    /// Returns the cutter at the comma that was read last, or at the first comma if no value was read. Needs a list that began at a comma
     /// inside of a statement.
     #[inline(always)]
     pub fn cutter(self) -> Cutter<'a>

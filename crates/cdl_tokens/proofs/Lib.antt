@@ -1,3 +1,4 @@
+pub mod Underscores
 pub mod Words
 pub mod Steps
 pub mod Strings

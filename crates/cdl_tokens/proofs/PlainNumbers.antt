@@ -1,89 +1,158 @@
 -- What plain numbers say.
-use Rattle.std.proofs.Common.{◌≡◌, ℕ, zero, suc, ◌+◌, ◌<◌, ◌≤◌, Bool, true, false, List, [], ◌∷◌, length, take, drop, refl, sym, ap, ◌∙◌, arith, Some, ◌==◌, nat_lt, option_map, slice_index, cond, rules}
-use Rattle.cdl_tokens.proofs.Prelude.{prefix_len, get_or-drop, Int, Version, goes_on_number, is_digit, is_sign, number_in, held, parts, type_of_suffix, with_sign, AreDigits, Begins, begins_number}
+use Rattle.std.proofs.Common.{◌≡◌, ℕ, zero, suc, ◌+◌, ◌<◌, ◌≤◌, Bool, true, false, List, [], ◌∷◌, length, take, drop, refl, sym, ap, ◌∙◌, arith, Some, ◌==◌, nat_lt, option_map, slice_index, cond, rules, subst}
+use Rattle.cdl_tokens.proofs.Prelude.{prefix_len, prefix_len-le-length, get_or-drop, length-drop, Int, NcType, Version, goes_on_number, is_digit, is_octal, is_sign, number_in, held, parts, with_sign, Begins, BeginsDecimal, BeginsUnsigned, IsLetterOf, IsSuffix, begins_number, ends_value}
 use Rattle.cdl_tokens.specs.declared.numeral.Numeral.{Numeral}
-use Rattle.cdl_tokens.proofs.Decimals.{said}
-use Rattle.cdl_tokens.proofs.PlainTokens.{digit_number}
+use Rattle.cdl_tokens.specs.declared.plain_number.Unsigned.{Unsigned}
+use Rattle.std.proofs.lemmas.List.{take-take, drop-take}
+use Rattle.cdl_tokens.proofs.Decimals.{all_read, said}
+use Rattle.cdl_tokens.proofs.PlainTokens.{digit_number, ended_low}
 use Rattle.cdl_tokens.proofs.Suffixes.{no_suffix}
 
--- a number without a suffix
-abbrev pub int : Bool → ℕ → Numeral
-int minus n = record { minus = minus; magnitude = Some n; ty = Int }
-
--- the digits end where the number token does
-pub same_prefix : (bs : List ℕ) → goes_on_number (slice_index (drop (prefix_len is_digit bs) bs) 0) ≡ false → prefix_len goes_on_number bs ≡ prefix_len is_digit bs
-same_prefix [] h = refl
-same_prefix (b ∷ bs) h = by (same_prefix bs) (is_digit b) refl h
+-- the number token goes on after its digits as far as what follows them does
+digits_go_on : (bs : List ℕ) → prefix_len goes_on_number bs ≡ prefix_len is_digit bs + prefix_len goes_on_number (drop (prefix_len is_digit bs) bs)
+digits_go_on [] = refl
+digits_go_on (b ∷ bs) = by (is_digit b) refl (digits_go_on bs)
   where
-    by : (goes_on_number (slice_index (drop (prefix_len is_digit bs) bs) 0) ≡ false → prefix_len goes_on_number bs ≡ prefix_len is_digit bs) → (d : Bool) → is_digit b ≡ d → goes_on_number (slice_index (drop (cond d (1 + prefix_len is_digit bs) 0) (b ∷ bs)) 0) ≡ false → prefix_len goes_on_number (b ∷ bs) ≡ cond d (1 + prefix_len is_digit bs) 0
-    by again true is h =
+    by : (d : Bool) → is_digit b ≡ d → prefix_len goes_on_number bs ≡ prefix_len is_digit bs + prefix_len goes_on_number (drop (prefix_len is_digit bs) bs) →
+        prefix_len goes_on_number (b ∷ bs) ≡ cond d (1 + prefix_len is_digit bs) 0 + prefix_len goes_on_number (drop (cond d (1 + prefix_len is_digit bs) 0) (b ∷ bs))
+    by true is again =
         let on : goes_on_number b ≡ true = grind (arith, is) in
-        let step : drop (1 + prefix_len is_digit bs) (b ∷ bs) ≡ drop (prefix_len is_digit bs) bs = ap (λ m. drop m (b ∷ bs)) (let e : 1 + prefix_len is_digit bs ≡ suc (prefix_len is_digit bs) = omega arith in e) in
-        rw (on) (ap (λ m. 1 + m) (again (ap (λ xs. goes_on_number (slice_index xs 0)) (sym step) ∙ h)))
-    by again false is h = rw (let off : goes_on_number b ≡ false = h in off) refl
+        let k = prefix_len is_digit bs in
+        let step : drop (1 + k) (b ∷ bs) ≡ drop k bs = ap (λ m. drop m (b ∷ bs)) (let e : 1 + k ≡ suc k = omega arith in e) in
+        rw (on) (rw (step) (omega (arith, again)))
+    by false is again = omega arith
 
--- the first n of these bytes are digits, if at least n digits come first
-taken_digits : (bs : List ℕ) (n : ℕ) → n ≤ prefix_len is_digit bs → prefix_len is_digit (take n bs) ≡ n
-taken_digits bs zero h = refl
-taken_digits [] (suc n) h = absurd (let e : suc n ≤ 0 = h in omega (arith, e))
-taken_digits (b ∷ bs) (suc n) h = search (rules, taken_digits bs n)
+-- what a number says
+abbrev pub numeral : Bool → Unsigned → Numeral
+numeral minus n = record { minus = minus; magnitude = Some n.value; ty = n.ty }
 
-taken_twice : (n : ℕ) (bs : List ℕ) → take n (take n bs) ≡ take n bs
-taken_twice (suc n) (b ∷ bs) = ap (λ xs. b ∷ xs) (taken_twice n bs)
-taken_twice _ _ = refl
-
-nothing_after : (n : ℕ) (bs : List ℕ) → drop n (take n bs) ≡ []
-nothing_after (suc n) (b ∷ bs) = nothing_after n bs
-nothing_after _ _ = refl
+-- the suffix of an int: none
+pub empty_suffix : IsSuffix [] Int
+empty_suffix = record { says = λ v. no_suffix [] v refl; no_digit = refl; no_x = refl }
 
 pub first_taken : (n : ℕ) (bs : List ℕ) → 0 < n → slice_index (take n bs) 0 ≡ slice_index bs 0
 first_taken n bs h = grind arith
 
--- a zero by itself
-zero_said : (v : Version) (minus : Bool) (bs : List ℕ) (value : ℕ) → 1 ≤ length bs → slice_index bs 0 ≡ 0x30 → number_in 10 0 (take 1 bs) ≡ value → Some (int minus value) ≡ option_map held (with_sign v minus (take 1 bs))
-zero_said v minus bs value h h2 h3 = grind (arith, no_suffix)
+-- the first n bytes are the decimal digits of this number, and don't make it octal
+record AreDigits (bs : List ℕ) (n value : ℕ) : Type 0 where
+  some : 0 < n
+  within : n ≤ length bs
+  count : prefix_len is_digit bs ≡ n
+  said : number_in 10 0 (take n bs) ≡ value
+  small : value ≤ 18446744073709551615
+  plain : slice_index bs 0 ≡ 0x30 → n ≡ 1
 
--- the digits say their number
-pub digits_said : (v : Version) (minus : Bool) (bs : List ℕ) (n value : ℕ) → AreDigits bs n value → Some (int minus value) ≡ option_map held (with_sign v minus (take n bs))
-digits_said v minus bs n value d = by (slice_index bs 0 == 0x30) refl
+-- no digit follows those that were read
+are_digits : (bs : List ℕ) (n value : ℕ) → BeginsDecimal bs n value → is_digit (slice_index (drop n bs) 0) ≡ false → AreDigits bs n value
+are_digits bs n value d off =
+    let all = all_read bs n value d.reads off in
+    record { some = d.some; within = d.reads.within; count = all.0; said = all.1; small = d.small; plain = d.plain }
+
+-- the first digit
+first_digit : (bs : List ℕ) (n value : ℕ) → AreDigits bs n value → is_digit (slice_index bs 0) ≡ true
+first_digit bs n value d = search rules
+
+-- digits and what follows them, and nothing more
+taken_digits : (bs : List ℕ) (k : ℕ) → prefix_len is_digit bs ≤ k → prefix_len is_digit (take k bs) ≡ prefix_len is_digit bs
+taken_digits [] zero h = refl
+taken_digits [] (suc k) h = refl
+taken_digits (b ∷ bs) zero h = let e : prefix_len is_digit (b ∷ bs) ≤ 0 = h in omega (arith, e)
+taken_digits (b ∷ bs) (suc k) h = search (rules, taken_digits bs k)
+
+taken : (bs : List ℕ) (n k value : ℕ) → AreDigits bs n value → n ≤ k → AreDigits (take k bs) n value
+taken bs n k value d h =
+    let count = taken_digits bs k (omega (arith, h, d.count)) ∙ d.count in
+    let within = prefix_len-le-length is_digit (take k bs) in
+    record {
+      some = d.some;
+      within = omega (arith, within, count);
+      count = count;
+      said = ap (number_in 10 0) (take-take n k bs h) ∙ d.said;
+      small = d.small;
+      plain = λ zero. d.plain (sym (first_taken k bs (omega (arith, h, d.some))) ∙ zero);
+    }
+
+-- a zero and a suffix
+no_octal : (bs : List ℕ) → is_digit (slice_index bs 0) ≡ false → prefix_len is_octal bs ≡ 0
+no_octal [] h = refl
+no_octal (b ∷ bs) h = rw (let off : is_octal b ≡ false = grind (arith, h) in off) refl
+
+zero_said : (v : Version) (minus : Bool) (bs : List ℕ) (ty : NcType) → IsSuffix bs ty → Some (record { minus = minus; magnitude = Some 0; ty = ty }) ≡ option_map held (with_sign v minus (0x30 ∷ bs))
+zero_said v minus bs ty h = rw (h.no_x) (rw (no_octal bs h.no_digit) (rw (h.says v) refl))
+
+-- digits and a suffix say their number
+digits_said : (v : Version) (minus : Bool) (bs : List ℕ) (n value : ℕ) (ty : NcType) → AreDigits bs n value → IsSuffix (drop n bs) ty → Some (record { minus = minus; magnitude = Some value; ty = ty }) ≡ option_map held (with_sign v minus bs)
+digits_said v minus [] n value ty d suffix = absurd (let e : n ≤ 0 = d.within in omega (arith, e, d.some))
+digits_said v minus (b ∷ bs) n value ty d suffix = by (b == 0x30) refl
   where
-    by : (z : Bool) → (slice_index bs 0 == 0x30) ≡ z → Some (int minus value) ≡ option_map held (with_sign v minus (take n bs))
+    by : (z : Bool) → (b == 0x30) ≡ z → Some (record { minus = minus; magnitude = Some value; ty = ty }) ≡ option_map held (with_sign v minus (b ∷ bs))
     by true is =
-        let naught : slice_index bs 0 ≡ 0x30 = grind (arith, is) in
+        let naught : b ≡ 0x30 = grind (arith, is) in
         let one : n ≡ 1 = d.plain naught in
-        rw (one) (zero_said v minus bs value (let w = d.within in omega (arith, w, one)) naught (ap (λ m. number_in 10 0 (take m bs)) (sym one) ∙ d.said))
+        let none : value ≡ 0 = sym d.said ∙ ap (λ k. number_in 10 0 (take k (b ∷ bs))) one ∙ ap (λ x. number_in 10 0 (x ∷ [])) naught in
+        let rest : IsSuffix bs ty = subst (λ k. IsSuffix (drop k (b ∷ bs)) ty) one suffix in
+        rw (none) (rw (naught) (zero_said v minus bs ty rest))
     by false is =
         let some : (n == 0) ≡ false = grind (arith, d.some) in
         let small : nat_lt 18446744073709551615 value ≡ false = grind (arith, d.small) in
-        let all : prefix_len is_digit (take n bs) ≡ n = taken_digits bs n (omega (arith, d.count)) in
-        said v minus (take n bs) n value Int all (ap (number_in 10 0) (taken_twice n bs) ∙ d.said) (ap (type_of_suffix v) (nothing_after n bs) ∙ no_suffix [] v refl) some small ∙
-        rw (first_taken n bs d.some) (rw (is) refl)
+        said v minus (b ∷ bs) n value ty d.count d.said (suffix.says v) some small ∙ rw (is) refl
 
--- after a sign
-pub sign_said : (v : Version) (bs rest : List ℕ) (n value : ℕ) → is_sign (slice_index bs 0) ≡ true → drop 1 bs ≡ rest → AreDigits rest n value →
-    Some (int (slice_index bs 0 == 0x2d) value) ≡ option_map held (parts v (take (1 + n) bs))
+is_one : (b k : ℕ) → (b == k) ≡ true → b ≡ k
+is_one b k h = grind (arith, h)
+
+-- digits and a suffix at the start of bytes
+begins_plain : (bs : List ℕ) (n m value : ℕ) (ty : NcType) (at_comma : Bool) → AreDigits bs n value → IsSuffix (take m (drop n bs)) ty → prefix_len goes_on_number (drop n bs) ≡ m → at_comma ≡ (slice_index (drop n bs) m == 0x2c) →
+    BeginsUnsigned bs (record { len = n + m; value = value; ty = ty; at_comma = at_comma })
+begins_plain bs n m value ty at_comma d suffix goes comma =
+    record {
+      digit = first_digit bs n value d;
+      len = grind (arith, digits_go_on bs, d.count, goes);
+      within = grind (arith, prefix_len-le-length goes_on_number (drop n bs), length-drop n bs, goes, d.within);
+      comma = λ here. sym (get_or-drop n bs m 0) ∙ is_one (slice_index (drop n bs) m) 0x2c (sym comma ∙ here);
+      says = λ v minus. digits_said v minus (take (n + m) bs) n value ty (taken bs n (n + m) value d (omega arith)) (subst (λ (xs : List ℕ). IsSuffix xs ty) (sym (drop-take n m bs)) suffix);
+    }
+
+-- nothing follows the digits
+ended : (b : ℕ) → ends_value b ≡ true → goes_on_number b ≡ false
+ended b h = let low = (ended_low b h).0 in grind (arith, low)
+
+no_more : (bs : List ℕ) → goes_on_number (slice_index bs 0) ≡ false → (is_digit (slice_index bs 0) ≡ false) × (prefix_len goes_on_number bs ≡ 0)
+no_more [] h = (refl, refl)
+no_more (b ∷ bs) h = (grind (arith, h), rw (h) refl)
+
+pub without_suffix : (bs : List ℕ) (n value : ℕ) (at_comma : Bool) → BeginsDecimal bs n value → ends_value (slice_index (drop n bs) 0) ≡ true → at_comma ≡ (slice_index (drop n bs) 0 == 0x2c) →
+    BeginsUnsigned bs (record { len = n; value = value; ty = Int; at_comma = at_comma })
+without_suffix bs n value at_comma d ends comma =
+    let none = no_more (drop n bs) (ended (slice_index (drop n bs) 0) ends) in
+    subst (λ k. BeginsUnsigned bs (record { len = k; value = value; ty = Int; at_comma = at_comma })) (let e : n + 0 ≡ n = omega arith in e) (begins_plain bs n 0 value Int at_comma (are_digits bs n value d none.0) empty_suffix none.1 comma)
+
+-- a letter follows them
+one_more : (bs : List ℕ) → goes_on_number (slice_index bs 0) ≡ true → goes_on_number (slice_index bs 1) ≡ false → (take 1 bs ≡ slice_index bs 0 ∷ []) × (prefix_len goes_on_number bs ≡ 1)
+one_more [] h h2 = cc
+one_more (b ∷ bs) h h2 = (refl, rw (h) (ap (λ k. 1 + k) (no_more bs h2).1))
+
+pub with_letter : (bs : List ℕ) (n value : ℕ) (ty : NcType) (at_comma : Bool) → BeginsDecimal bs n value → IsLetterOf ty (slice_index (drop n bs) 0) → ends_value (slice_index (drop n bs) 1) ≡ true → at_comma ≡ (slice_index (drop n bs) 1 == 0x2c) →
+    BeginsUnsigned bs (record { len = n + 1; value = value; ty = ty; at_comma = at_comma })
+with_letter bs n value ty at_comma d letter ends comma =
+    let one = one_more (drop n bs) letter.goes (ended (slice_index (drop n bs) 1) ends) in
+    begins_plain bs n 1 value ty at_comma (are_digits bs n value d letter.suffix.no_digit) (subst (λ (xs : List ℕ). IsSuffix xs ty) (sym one.0) letter.suffix) one.1 comma
+
+-- with a sign or without
+pub sign_said : (v : Version) (bs rest : List ℕ) (n : Unsigned) → is_sign (slice_index bs 0) ≡ true → drop 1 bs ≡ rest → BeginsUnsigned rest n →
+    Some (numeral (slice_index bs 0 == 0x2d) n) ≡ option_map held (parts v (take (1 + n.len) bs))
 unfolding parts
-sign_said v [] rest n value sign is d = cc
-sign_said v (b ∷ bs) rest n value sign is d =
-    let step : take (1 + n) (b ∷ bs) ≡ b ∷ take n bs = ap (λ m. take m (b ∷ bs)) (let e : 1 + n ≡ suc n = omega arith in e) in
-    rw (step) (rw (sign) (rw (is) (digits_said v (b == 0x2d) rest n value d)))
+sign_said v [] rest n sign is d = cc
+sign_said v (b ∷ bs) rest n sign is d =
+    let step : take (1 + n.len) (b ∷ bs) ≡ b ∷ take n.len bs = ap (λ m. take m (b ∷ bs)) (let e : 1 + n.len ≡ suc n.len = omega arith in e) in
+    rw (step) (rw (sign) (rw (is) (d.says v (b == 0x2d))))
 
--- without a sign
-pub plain_said : (v : Version) (bs : List ℕ) (n value : ℕ) → is_sign (slice_index bs 0) ≡ false → AreDigits bs n value → Some (int false value) ≡ option_map held (parts v (take n bs))
+pub plain_said : (v : Version) (bs : List ℕ) (n : Unsigned) → is_sign (slice_index bs 0) ≡ false → 0 < n.len → BeginsUnsigned bs n → Some (numeral false n) ≡ option_map held (parts v (take n.len bs))
 unfolding parts
-plain_said v bs n value sign d = grind (arith, digits_said v false bs n value d, first_taken n bs d.some, held)
+plain_said v bs n sign some d = grind (arith, d.says v false, first_taken n.len bs some, held)
 
--- the first digit
-pub first_digit : (bs : List ℕ) (n value : ℕ) → AreDigits bs n value → is_digit (slice_index bs 0) ≡ true
-first_digit bs n value d = search rules
-
--- the token goes as far as its digits do
-pub len_of_digits : (bs : List ℕ) (n value : ℕ) → AreDigits bs n value → n ≡ prefix_len goes_on_number bs
-len_of_digits bs n value d = sym (same_prefix bs (ap (λ m. goes_on_number (slice_index (drop m bs) 0)) d.count ∙ d.ends) ∙ d.count)
-
-pub len_after_first : (bs : List ℕ) (n value : ℕ) → AreDigits bs n value → n ≡ 1 + prefix_len goes_on_number (drop 1 bs)
-len_after_first [] n value d = absurd (let e : n ≤ 0 = d.within in omega (arith, e, d.some))
-len_after_first (b ∷ bs) n value d = grind (arith, first_digit (b ∷ bs) n value d, len_of_digits (b ∷ bs) n value d)
+len_after_first : (bs : List ℕ) (n : Unsigned) → BeginsUnsigned bs n → n.len ≡ 1 + prefix_len goes_on_number (drop 1 bs)
+len_after_first [] n d = absurd (let e : is_digit 0 ≡ true = d.digit in cc)
+len_after_first (b ∷ bs) n d = grind (arith, d.digit, d.len)
 
 -- a sign and digits
 sign_begins : (bs rest : List ℕ) → is_sign (slice_index bs 0) ≡ true → drop 1 bs ≡ rest → is_digit (slice_index rest 0) ≡ true → begins_number bs ≡ true
@@ -92,28 +161,26 @@ sign_begins bs rest h h2 h3 = grind arith
 sign_within : (bs rest : List ℕ) (n : ℕ) → is_sign (slice_index bs 0) ≡ true → drop 1 bs ≡ rest → n ≤ length rest → 1 + n ≤ length bs
 sign_within bs rest n h h2 h3 = grind arith
 
-is_one : (b k : ℕ) → (b == k) ≡ true → b ≡ k
-is_one b k h = grind (arith, h)
-
-pub begins_signed : (bs rest : List ℕ) (n value b : ℕ) (m : Numeral) (at_comma : Bool) → b ≡ slice_index bs 0 → is_sign b ≡ true → m ≡ int (b == 0x2d) value → drop 1 bs ≡ rest → AreDigits rest n value → at_comma ≡ (slice_index rest n == 0x2c) →
-    Begins bs (record { numeral = m; len = 1 + n; at_comma = at_comma })
-begins_signed bs rest n value b m at_comma first sign says is d comma =
+pub begins_signed : (bs rest : List ℕ) (n : Unsigned) (b : ℕ) (m : Numeral) → b ≡ slice_index bs 0 → is_sign b ≡ true → m ≡ numeral (b == 0x2d) n → drop 1 bs ≡ rest → BeginsUnsigned rest n →
+    Begins bs (record { numeral = m; len = 1 + n.len; at_comma = n.at_comma })
+begins_signed bs rest n b m first sign says is d =
     let signed : is_sign (slice_index bs 0) ≡ true = ap is_sign (sym first) ∙ sign in
     record {
-      begins = sign_begins bs rest signed is (first_digit rest n value d);
-      len = ap (λ k. 1 + k) (len_of_digits rest n value d ∙ ap (prefix_len goes_on_number) (sym is));
-      within = sign_within bs rest n signed is d.within;
-      comma = λ here. sym (get_or-drop 1 bs n 0) ∙ ap (λ (xs : List ℕ). slice_index xs n) is ∙ is_one (slice_index rest n) 0x2c (sym comma ∙ here);
-      says = λ v. ap Some (says ∙ ap (λ x. int (x == 0x2d) value) first) ∙ sign_said v bs rest n value signed is d;
+      begins = sign_begins bs rest signed is d.digit;
+      len = ap (λ k. 1 + k) (d.len ∙ ap (prefix_len goes_on_number) (sym is));
+      within = sign_within bs rest n.len signed is d.within;
+      comma = λ here. sym (get_or-drop 1 bs n.len 0) ∙ ap (λ (xs : List ℕ). slice_index xs n.len) is ∙ d.comma here;
+      says = λ v. ap Some (says ∙ ap (λ x. numeral (x == 0x2d) n) first) ∙ sign_said v bs rest n signed is d;
     }
 
-pub begins_unsigned : (bs : List ℕ) (n value b : ℕ) (m : Numeral) (at_comma : Bool) → b ≡ slice_index bs 0 → is_sign b ≡ false → m ≡ int false value → AreDigits bs n value → at_comma ≡ (slice_index bs n == 0x2c) →
-    Begins bs (record { numeral = m; len = n; at_comma = at_comma })
-begins_unsigned bs n value b m at_comma first sign says d comma =
+pub begins_unsigned : (bs : List ℕ) (n : Unsigned) (b : ℕ) (m : Numeral) → b ≡ slice_index bs 0 → is_sign b ≡ false → m ≡ numeral false n → BeginsUnsigned bs n →
+    Begins bs (record { numeral = m; len = n.len; at_comma = n.at_comma })
+begins_unsigned bs n b m first sign says d =
+    let len = len_after_first bs n d in
     record {
-      begins = digit_number bs (first_digit bs n value d);
-      len = len_after_first bs n value d;
+      begins = digit_number bs d.digit;
+      len = len;
       within = d.within;
-      comma = λ here. is_one (slice_index bs n) 0x2c (sym comma ∙ here);
-      says = λ v. ap Some says ∙ plain_said v bs n value (ap is_sign (sym first) ∙ sign) d;
+      comma = d.comma;
+      says = λ v. ap Some says ∙ plain_said v bs n (ap is_sign (sym first) ∙ sign) (omega (arith, len)) d;
     }

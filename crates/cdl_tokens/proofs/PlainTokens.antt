@@ -1,6 +1,6 @@
 -- Marks and numbers at the start of bytes: they are no other token, and have no line feed.
 use Rattle.std.proofs.Common.{◌≡◌, ℕ, zero, suc, ◌+◌, ◌<◌, ◌≤◌, Bool, true, false, cond, List, [], ◌∷◌, length, get_or, drop, take, sym, ◌∙◌, ap, refl, arith, subst, ◌==◌, ◌||◌, count_by, Some, length-drop, rules}
-use Rattle.cdl_tokens.proofs.Prelude.{prefix_len, Number, Mark, may_begin_word, goes_on_number, is_mark_byte, is_blank, is_digit, is_sign, scan, token, gap, begins_number, begins_opening, get_or-drop, sum_by-append, false≢true, TokenKind, is_token, followed, tokens_at, line_at}
+use Rattle.cdl_tokens.proofs.Prelude.{prefix_len, Number, Mark, may_begin_word, goes_on_number, is_mark_byte, is_blank, is_digit, is_sign, scan, token, gap, begins_number, begins_opening, ends_value, get_or-drop, sum_by-append, false≢true, TokenKind, is_token, followed, tokens_at, line_at}
 use Rattle.cdl_tokens.proofs.Scans.{step_gap, step_token, line_more}
 use Rattle.cdl_tokens.proofs.Words.{and_false}
 
@@ -23,6 +23,10 @@ MarkClasses b = ((b == 0x6e) ≡ false) × (may_begin_word b ≡ false) × ((b =
 
 mark_classes : (b : ℕ) → is_mark_byte b ≡ true → MarkClasses b
 mark_classes b h = search (rules, each_mark)
+
+-- a comma or white space
+pub ended_low : (b : ℕ) → ends_value b ≡ true → (b ≤ 0x2c) × ((b == 0x2b) ≡ false)
+ended_low b h = or_split (b == 0x2c) (is_blank b) h (λ comma. at_byte (λ b. (b ≤ 0x2c) × ((b == 0x2b) ≡ false)) 0x2c b (omega arith, refl) comma) (λ blank. let low : b ≤ 0x20 = grind (arith, blank) in (omega (arith, low), grind (arith, low)))
 
 -- a mark
 pub scan_mark : (at_start : Bool) (bs : List ℕ) → is_mark_byte (get_or bs 0 0) ≡ true → scan at_start bs ≡ token Mark 1

@@ -2,6 +2,7 @@
 
 ghost use Rattle.std.specs.Prelude.{◌≡◌, ◌≤◌, length, slice_index, take};
 ghost use Rattle.cdl_tokens.specs.Bytes.{may_begin_word, goes_on_number, goes_on_word, is_blank, is_digit, is_escape, is_hex, is_letter, is_mark_byte, is_octal, is_sign};
+ghost use Rattle.cdl_tokens.specs.code.PlainTokens.{ends_value};
 
 /// Returns the byte at an offset, or 0 if there is none.
 pub fn byte_at(bytes: &[u8], at: usize) -> u8
@@ -57,6 +58,13 @@ pub fn is_blank(b: u8) -> bool
     ensures { result ≡ is_blank b }
 {
     b >= 0x09 && b <= 0x0d || b == b' '
+}
+
+/// Returns true for a comma and for white space, which end a number and a word. Other bytes that end one, such as `;`, give false.
+pub fn ends_value(b: u8) -> bool
+    ensures { result ≡ ends_value b }
+{
+    b == b',' || is_blank(b)
 }
 
 /// Returns true if the byte is a sign of a number.

@@ -29,6 +29,7 @@ mod scanner;
 mod search;
 mod string;
 mod token;
+mod underscore;
 
 pub use bytes::{byte_at, first_bytes, is_escape};
 pub use escape::{character, len_before_escape};

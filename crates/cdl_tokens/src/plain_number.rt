@@ -1,10 +1,9 @@
-//! Plain numbers: an optional sign and at most 19 decimal digits, without a suffix.
+//! Plain numbers: an optional sign and at most 19 decimal digits, with no suffix or one of the suffixes that every version has.
 
-ghost use Rattle.std.specs.Prelude.{◌≡◌, ◌==◌, ◌≤◌, IfSome, false, length, slice_index, true};
-ghost use Rattle.cdl_tokens.specs.Bytes.{goes_on_number};
-ghost use Rattle.cdl_tokens.specs.code.PlainTokens.{AreDigits, Begins};
+ghost use Rattle.std.specs.Prelude.{◌≡◌, IfSome};
+ghost use Rattle.cdl_tokens.specs.code.PlainTokens.{Begins, BeginsDecimal, BeginsUnsigned, IsLetterOf};
 
-use crate::bytes::{byte_at, is_blank, is_sign};
+use crate::bytes::{byte_at, ends_value, is_sign};
 use crate::numeral::{Numeral, first_digits};
 use nc_base::NcType;
 
@@ -18,9 +17,22 @@ pub struct PlainNumber {
     pub at_comma: bool,
 }
 
-/// Returns the plain number (an optional sign and at most 19 decimal digits, without a suffix) that the bytes begin with, if a comma or
-/// white space follows it. Otherwise returns `None`, also if a zero before other digits makes the number octal. It needs no version, which
-/// decides only which suffixes there are.
+/// A plain number without its sign at the start of bytes.
+#[derive(Clone, Copy)]
+pub struct Unsigned {
+    /// The number of its bytes.
+    len: usize,
+    /// The value of its digits.
+    value: u64,
+    /// The type that its suffix says, or int if it has none.
+    ty: NcType,
+    /// True if a comma comes right after it.
+    at_comma: bool,
+}
+
+/// Returns the plain number that the bytes begin with, if a comma or white space follows it: an optional sign, at most 19 decimal digits,
+/// and nothing or one letter, `b`, `s` or `l` in either case, which says the type. Otherwise returns `None`, also if a zero before other
+/// digits makes the number octal. It needs no version, which decides only which other suffixes there are.
 #[inline(always)]
 pub fn plain_number(bytes: &[u8]) -> Option<PlainNumber>
     ensures { IfSome result (λ p. Begins bytes.now p) }
@@ -28,64 +40,96 @@ pub fn plain_number(bytes: &[u8]) -> Option<PlainNumber>
     let sign = byte_at(bytes, 0);
     if is_sign(sign) {
         let (_, rest) = bytes.split_at(1);
-        let (n, value) = plain_digits(rest)?;
+        let n = without_sign(rest)?;
         Some(PlainNumber {
-            numeral: int(sign == b'-', value),
-            len: 1 + n,
-            at_comma: is_before_comma(rest, n),
+            numeral: Numeral {
+                minus: sign == b'-',
+                magnitude: Some(n.value),
+                ty: n.ty,
+            },
+            len: 1 + n.len,
+            at_comma: n.at_comma,
         })
     } else {
-        let (n, value) = plain_digits(bytes)?;
+        let n = without_sign(bytes)?;
         Some(PlainNumber {
-            numeral: int(false, value),
-            len: n,
-            at_comma: is_before_comma(bytes, n),
+            numeral: Numeral {
+                minus: false,
+                magnitude: Some(n.value),
+                ty: n.ty,
+            },
+            len: n.len,
+            at_comma: n.at_comma,
         })
     }
 }
 
-/// Returns the numeral (sign, magnitude and type) of a number without a suffix: `value` is its magnitude, and its type is int.
-fn int(minus: bool, value: u64) -> Numeral
-    ensures { result ≡ record { minus = minus; magnitude = Some value; ty = NcType.Int } }
+/// Returns the plain number without a sign that the bytes begin with. Returns `None` if there is none, if a zero before other digits makes
+/// it octal, or if neither a comma nor white space follows.
+#[inline(always)]
+fn without_sign(bytes: &[u8]) -> Option<Unsigned>
+    ensures { IfSome result (λ n. BeginsUnsigned bytes.now n) }
 {
-    Numeral {
-        minus,
-        magnitude: Some(value),
+    let (len, value) = decimal_digits(bytes)?;
+    let (_, rest) = bytes.split_at(len);
+    let next = byte_at(rest, 0);
+    if !ends_value(next) {
+        return with_suffix(bytes, len, value);
+    }
+    Some(Unsigned {
+        len,
+        value,
         ty: NcType::Int,
-    }
+        at_comma: next == b',',
+    })
 }
 
-/// Returns how many decimal digits the bytes begin with, and their value. Returns `None` if there are none or more than 19, if
-/// a zero before other digits makes them octal, or if neither a comma nor white space follows.
+/// Returns the plain number that the bytes begin with, if a suffix of one letter follows its digits. Returns `None` if no such suffix
+/// follows them, or neither a comma nor white space follows the suffix. `len` is how many digits there are, and `value` is their value.
 #[inline(always)]
-fn plain_digits(bytes: &[u8]) -> Option<(usize, u64)>
-    ensures { IfSome result (λ r. AreDigits bytes.now r.0 r.1) }
+fn with_suffix(bytes: &[u8], len: usize, value: u64) -> Option<Unsigned>
+    requires { BeginsDecimal bytes.now len value }
+    ensures { IfSome result (λ n. BeginsUnsigned bytes.now n) }
 {
-    let (n, value) = first_digits(bytes);
-    let (_, rest) = bytes.split_at(n);
-    if n == 0 || !ends_number(byte_at(rest, 0)) {
+    let (_, rest) = bytes.split_at(len);
+    let ty = type_of_letter(byte_at(rest, 0))?;
+    let after = byte_at(rest, 1);
+    if !ends_value(after) {
         return None;
     }
-    // A zero before other digits says that they are octal.
-    if n > 1 && bytes[0] == b'0' {
+    Some(Unsigned {
+        len: len + 1,
+        value,
+        ty,
+        at_comma: after == b',',
+    })
+}
+
+/// Returns how many decimal digits the bytes begin with, at most 19, and their value. Returns `None` if there are none, or if a zero before
+/// other digits makes them octal.
+#[inline(always)]
+fn decimal_digits(bytes: &[u8]) -> Option<(usize, u64)>
+    ensures { IfSome result (λ r. BeginsDecimal bytes.now r.0 r.1) }
+{
+    let (len, value) = first_digits(bytes);
+    if len == 0 {
         return None;
     }
-    Some((n, value))
+    if len > 1 && bytes[0] == b'0' {
+        return None;
+    }
+    Some((len, value))
 }
 
-/// Returns true if a comma comes right after the first `n` bytes, those of a number, and false if nothing does. Needs at least `n` bytes.
-#[inline(always)]
-fn is_before_comma(bytes: &[u8], n: usize) -> bool
-    requires { n ≤ length bytes.now }
-    ensures { result ≡ (slice_index bytes.now n == 0x2c) }
+/// Returns the type whose suffix this letter is in every version: byte, short or int.
+#[tactic(auto, unfolding(crate::specs::Numerals::type_of_suffix))]
+fn type_of_letter(letter: u8) -> Option<NcType>
+    ensures { IfSome result (λ ty. IsLetterOf ty letter) }
 {
-    let (_, rest) = bytes.split_at(n);
-    byte_at(rest, 0) == b','
-}
-
-/// Returns true for a comma and for white space, which end a number token. Other bytes that end one, such as `;`, give false.
-fn ends_number(b: u8) -> bool
-    ensures { result ≡ true → goes_on_number b ≡ false }
-{
-    b == b',' || is_blank(b)
+    match letter {
+        b'b' | b'B' => Some(NcType::Byte),
+        b's' | b'S' => Some(NcType::Short),
+        b'l' | b'L' => Some(NcType::Int),
+        _ => None,
+    }
 }

@@ -1,7 +1,7 @@
 //! The tokens of a text, one at a time.
 
 ghost use Rattle.std.specs.Prelude.{◌≡◌, ◌+◌, ◌≤◌, ◌<◌, ◌==◌, length, IfSome, count_by, drop, slice_index, take, nat_lt, false, true, Some, None};
-ghost use Rattle.cdl_tokens.specs.code.PlainTokens.{IsComma, IsListed, IsPlainString};
+ghost use Rattle.cdl_tokens.specs.code.PlainTokens.{IsComma, IsListed, IsPlainString, IsUnderscore};
 ghost use Rattle.cdl_tokens.specs.Scan.{scan, token};
 ghost use Rattle.cdl_tokens.specs.Tokens.{line_at, raw, tokens};
 
@@ -12,6 +12,7 @@ use crate::plain_string::plain_string_len;
 use crate::scan::{begins_number, number_len, scan};
 use crate::search::count_of;
 use crate::token::{Token, TokenKind};
+use crate::underscore::begins_underscore;
 
 /// Reads the tokens of a text, from an offset on.
 #[derive(Clone, Copy)]
@@ -91,7 +92,7 @@ impl<'a> Scanner<'a> {
         }
     }
 
-    /// Reads a plain number (decimal, at most 19 digits after an optional sign, no suffix) and the comma after it, if they come next with
+    /// Reads a plain number (decimal, at most 19 digits after an optional sign, with no suffix but `b`, `s` or `l`) and the comma after it, if they come next with
     /// only white space before each. Otherwise returns `None`, and the scanner stays where it is. It is for the quick pass over a list.
     #[inline(always)]
     pub fn number_and_comma(&mut self) -> Option<ListedNumber>
@@ -137,6 +138,30 @@ impl<'a> Scanner<'a> {
         Some(ListedToken { token, comma })
     }
 
+    /// Reads a `_` and the comma after it, if they come next with only white space before each. Otherwise returns `None`, and the scanner
+    /// stays where it is. It is for the quick pass over a list.
+    #[inline(always)]
+    pub fn underscore_and_comma(&mut self) -> Option<ListedToken>
+        ensures tokens { IfSome result (λ l. left self.old ≡ l.token ∷ l.comma ∷ left self.new) }
+        ensures underscore { IfSome result (λ l. IsUnderscore (text_of self.old) l.token) }
+        ensures comma { IfSome result (λ l. IsComma (text_of self.old) l.comma) }
+        ensures before { IfSome result (λ l. l.comma ≡ comma_before self.new) }
+        ensures text { text_of self.new ≡ text_of self.old }
+        ensures moves { IfSome result (λ l. offset_of self.old < offset_of self.new) }
+        ensures stays { result ≡ None → self.new ≡ self.old }
+    {
+        let mut scanner = *self;
+        scanner.skip_to_number();
+        let (_, rest) = scanner.text.split_at(scanner.at);
+        if !begins_underscore(rest) {
+            return None;
+        }
+        let token = scanner.take(TokenKind::Word, 1);
+        let comma = scanner.comma()?;
+        *self = scanner;
+        Some(ListedToken { token, comma })
+    }
+
     /// Reads the next token and the comma after it, if only white space stands between them. Otherwise, and at the end of the text, returns
     /// `None`, and the scanner stays where it is. The quick pass over a list calls it for each token between two commas that it takes
     /// neither as a plain number nor as a plain string.
@@ -144,6 +169,7 @@ impl<'a> Scanner<'a> {
     pub fn token_and_comma(&mut self) -> Option<ListedToken>
         ensures tokens { IfSome result (λ l. left self.old ≡ l.token ∷ l.comma ∷ left self.new) }
         ensures comma { IfSome result (λ l. IsComma (text_of self.old) l.comma) }
+        ensures before { IfSome result (λ l. l.comma ≡ comma_before self.new) }
         ensures text { text_of self.new ≡ text_of self.old }
         ensures moves { IfSome result (λ l. offset_of self.old < offset_of self.new) }
         ensures stays { result ≡ None → self.new ≡ self.old }

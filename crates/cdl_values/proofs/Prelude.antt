@@ -14,7 +14,7 @@ pub use Rattle.cdl_statements.specs.code.Cutters.{first_piece, is_done, next_tok
 unfoldable pub use Rattle.cdl_statements.specs.code.Cutters.{after, pieces_left, words}
 pub use Rattle.cdl_statements.specs.code.DueTokens.{is_value_of, is_whole, only, separator}
 unfoldable pub use Rattle.cdl_statements.specs.code.DueTokens.{completes, next}
-pub use Rattle.cdl_statements.specs.code.ListedTokens.{IsAtComma, Passes, PassesNumber, PassesString}
+pub use Rattle.cdl_statements.specs.code.ListedTokens.{IsAtComma, Passes, PassesNumber, PassesString, PassesUnderscore}
 pub use Rattle.cdl_statements.specs.code.Views.{lexeme_of, lexeme_with}
 pub use Rattle.cdl_statements.specs.declared.{cutter.Cutter.Cutter, due.Due.Due, fault.CdlKind.CdlKind}
 pub use Rattle.cdl_statements.specs.declared.due.Due.TheVariants.{DataName, Equals, Separator}
@@ -39,7 +39,7 @@ unfoldable pub use Rattle.cdl_values.specs.code.NameIndices.{hash_on}
 pub use Rattle.cdl_values.specs.declared.{capacity.Capacity.Capacity, name_index.NameIndex.NameIndex, data.Given.Given, data.Target.Target, fill.Fill.Fill, filling.Filling.Filling, read_error.ReadError.ReadError}
 pub use Rattle.cdl_values.specs.code.PackedValues.{bytes_of, capacity_after, char_bytes, followed_by, greatest, held_bytes, is_full, is_exceeded_by, joined, capacity_minus, number_bytes, row_bytes, text_bytes, value_bytes}
 unfoldable pub use Rattle.cdl_values.specs.code.PackedValues.{packed}
-pub use Rattle.cdl_values.specs.code.ValueRuns.{GoesOn, Place, TakesValues, place}
+pub use Rattle.cdl_values.specs.code.ValueRuns.{GoesOn, Place, TakesOne, TakesValues, place}
 pub use Rattle.cdl_values.specs.declared.capacity.Capacity.TheVariants.{AtMost, Unlimited}
 pub use Rattle.cdl_values.specs.declared.filling.Filling.TheVariants.{Joined, Numbers, Rows}
 pub use Rattle.cdl_values.specs.declared.read_error.ReadError.TheVariants.{Fault, OutOfMemory}

@@ -1,10 +1,9 @@
 -- A run of values, one value on.
-use Rattle.std.proofs.Common.{◌≡◌, ℕ, Bool, true, false, List, ◌∷◌, sym, ap, ◌∙◌, refl, subst, None, Ok, rules}
-use Rattle.cdl_values.proofs.Prelude.{inner, string_value, value_of, values, is_done, version_of, words, completes, is_value_of, next, Lexeme, IsAtComma, Passes, PassesNumber, PassesString, Characters, token_fault, lexeme_with, Cutter, Due, Separator, at_same_comma, same_after, same_words, good_on, Capacity, bytes_of, held_bytes, is_full, joined, capacity_minus, packed, row_bytes, GoesOn, Place, TakesValues, Fill, Filling, Numbers, Rows, past_mark}
+use Rattle.std.proofs.Common.{◌≡◌, ℕ, Bool, true, false, List, [], ◌∷◌, ◌++◌, sym, ap, ◌∙◌, refl, subst, None, Ok, rules}
+use Rattle.cdl_values.proofs.Prelude.{Version, inner, string_value, value_of, values, is_done, version_of, words, completes, is_value_of, next, Lexeme, IsAtComma, Passes, PassesNumber, PassesString, PassesUnderscore, Characters, token_fault, lexeme_with, Cutter, Due, Separator, at_same_comma, same_after, same_words, good_on, Capacity, bytes_of, bytes_of_number, held_bytes, is_full, joined, capacity_minus, packed, row_bytes, GoesOn, Place, TakesValues, Fill, Filling, Numbers, Rows, past_mark}
 use Rattle.cdl_tokens.specs.declared.numeral.Numeral.{Numeral as Held}
 use Rattle.cdl_tokens.specs.declared.token.TokenKind.TheVariants as kinds
 use Rattle.cdl_statements.specs.code.NumberLists as lists
-use Rattle.cdl_statements.specs.declared.{number_list.NumberList.NumberList}
 use Rattle.cdl_values.proofs.PackedTokens.{token_packed}
 use Rattle.cdl_values.proofs.Ranges.{good_number, number_added}
 
@@ -34,6 +33,16 @@ pub value_on : (takes_fill : Bool) (filling : Filling) (start rest : Place) (l :
 unfolding completes next
 value_on takes_fill filling start rest l at passes good value packs = search (rules, words, good_on, next, joined, values, past_mark)
 
+-- the same where the version is known by another name
+pub token_on : (takes_fill : Bool) (filling : Filling) (v : Version) (start rest : Place) (l : Lexeme) → v ≡ version_of start.cutter → IsAtComma start.cutter → Passes start.cutter rest.cutter l →
+    token_fault v l.kind l.bytes ≡ None → is_value_of takes_fill l l.kind ≡ true →
+    ((ls : List Lexeme) → joined (Ok start.bytes) (packed filling start.left (values v (l ∷ ls))) ≡ joined (Ok rest.bytes) (packed filling rest.left (values v ls))) →
+    TakesValues takes_fill filling start rest
+token_on takes_fill filling v start rest l version at passes good value packs =
+    let good_there = subst (λ (v : Version). token_fault v l.kind l.bytes ≡ None) version good in
+    let packs_there = subst (λ (v : Version). (ls : List Lexeme) → joined (Ok start.bytes) (packed filling start.left (values v (l ∷ ls))) ≡ joined (Ok rest.bytes) (packed filling rest.left (values v ls))) version packs in
+    value_on takes_fill filling start rest l at passes good_there value packs_there
+
 -- a number more
 pub number_on : (takes_fill : Bool) (fill : Fill) (start rest : Place) (n : Held) → IsAtComma start.cutter → PassesNumber start.cutter rest.cutter n → is_full start.left ≡ false →
     joined (Ok start.bytes) (held_bytes fill.ty n.minus n.magnitude) ≡ Ok rest.bytes → rest.left ≡ capacity_minus 1 start.left → TakesValues takes_fill (Numbers fill) start rest
@@ -43,6 +52,16 @@ number_on takes_fill fill start rest n at passes full adds left =
     let l = lexeme_with kinds.Number passes.bytes in
     let sum : joined (Ok start.bytes) (bytes_of (Numbers fill) start.left (value_of v l kinds.Number)) ≡ Ok rest.bytes = rw (full) (number_added start.bytes rest.bytes fill.ty fill.value _ n (passes.says v) adds) in
     value_on takes_fill (Numbers fill) start rest l at passes.passes (good_number v passes.bytes n (passes.says v)) refl (λ ls. token_packed v (Numbers fill) start.left rest.left l ls start.bytes rest.bytes refl sum left)
+
+-- a `_` more
+pub fill_on : (fill : Fill) (start rest : Place) → IsAtComma start.cutter → PassesUnderscore start.cutter rest.cutter → is_full start.left ≡ false →
+    rest.bytes ≡ start.bytes ++ bytes_of_number fill.ty fill.value → rest.left ≡ capacity_minus 1 start.left → TakesValues true (Numbers fill) start rest
+unfolding value_of
+fill_on fill start rest at passes full adds left =
+    let v = version_of start.cutter in
+    let l = lexeme_with kinds.Word (0x5f ∷ []) in
+    let sum : joined (Ok start.bytes) (bytes_of (Numbers fill) start.left (value_of v l kinds.Word)) ≡ Ok rest.bytes = rw (full) (ap Ok (sym adds)) in
+    value_on true (Numbers fill) start rest l at passes refl refl (λ ls. token_packed v (Numbers fill) start.left rest.left l ls start.bytes rest.bytes refl sum left)
 
 -- a row more
 pub row_on : (takes_fill : Bool) (len fill : ℕ) (start rest : Place) (bytes : List ℕ) → IsAtComma start.cutter → PassesString start.cutter rest.cutter bytes → is_full start.left ≡ false →
@@ -64,7 +83,3 @@ ended takes_fill filling start there cutter left same_place same_left so = searc
 pub ended_at : (takes_fill : Bool) (filling : Filling) (start there : Place) (cutter : Cutter) (left : Capacity) → lists.SamePlace cutter there.cutter → left ≡ there.left → TakesValues takes_fill filling start there →
     TakesValues takes_fill filling start (reached cutter there.bytes left)
 ended_at takes_fill filling start there cutter left same same_left so = search (rules, same_words, at_same_comma, joined, values, words, same_after)
-
--- what a list of numbers was left at
-pub left_at : (r c : Cutter) (new old : NumberList) → r ≡ c → lists.SamePlace c (lists.reached new) → new ≡ old → lists.SamePlace r (lists.reached old)
-left_at r c new old same place stays = subst (λ (x : Cutter). lists.SamePlace x (lists.reached old)) (sym same) (subst (λ (l : NumberList). lists.SamePlace c (lists.reached l)) stays place)

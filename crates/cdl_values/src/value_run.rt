@@ -1,15 +1,17 @@
 //! Runs of values of a statement. A comma stands before and after each value of a run.
 
-ghost use Rattle.std.specs.Prelude.{◌≡◌, false};
+ghost use Rattle.std.specs.Prelude.{◌≡◌, IfOk, false, true};
 ghost use Rattle.cdl_statements.specs.code.Cutters.{is_done};
 ghost use Rattle.cdl_statements.specs.code.ListedTokens.{EndsAtScanner, IsAtComma};
 ghost use Rattle.cdl_values.specs.code.PackedValues.{capacity_minus};
-ghost use Rattle.cdl_values.specs.code.ValueRuns.{GoesTo, TakesPlain, TakesTo, place};
+ghost use Rattle.cdl_statements.specs.code.NumberLists.{reached};
+ghost use Rattle.cdl_values.specs.code.ValueRuns.{GoesTo, TakesOne, TakesPlain, TakesTo, place};
 
 use crate::capacity::Capacity;
 use crate::fill::Fill;
 use crate::filling::Filling;
-use crate::number::{put_numeral, put_numeral_inline};
+use crate::number::{pack_number, put_numeral_inline};
+use crate::read_error::ReadError;
 use crate::string::put_plain_row;
 use crate::value::{FastPathFault, put_checked_value};
 use cdl_statements::{Cutter, Due, Lexeme, NumberList};
@@ -65,11 +67,7 @@ fn take_values<'a>(
 {
     let version = start.cutter.version();
     let mut unread = start;
-    let mut looks = true;
     'values: loop {
-        if looks {
-            unread = take_plain_values(array, unread, filling)?;
-        }
         let Some(token) = unread.cutter.token_and_comma() else {
             return Ok(unread);
         };
@@ -77,121 +75,125 @@ fn take_values<'a>(
             return Err(FastPathFault::Unnamed);
         }
         unread.capacity = put_checked_value(array, version, filling, unread.capacity, token)?;
-        looks = plain_may_follow(token);
+        if plain_may_follow(token) {
+            unread = take_plain_values(array, unread, filling, takes_fill)?;
+        }
     }
 }
 
-/// Appends to `array` the plain numbers (decimal, at most 19 digits, no suffix) or plain strings (no escape, no line feed) that come next,
-/// and returns what is unread after them. Returns `start` if the filling is `Joined`, which has no loop for plain strings. Needs a cutter
-/// at a comma. Errs with `Unnamed` if a value has a fault, and with `OutOfMemory` if an allocation failed; the values before stay appended.
+/// Guesses if plain values come after `token`. Returns false for a hexadecimal or octal number, and for a number with a suffix of two
+/// letters or more. A wrong guess costs time, but changes no result.
+fn plain_may_follow(token: Lexeme<'_>) -> bool {
+    match (token.kind, token.bytes) {
+        (TokenKind::Number, [b'0', _, ..]) => false,
+        (TokenKind::Number, [.., before, last]) => before.is_ascii_digit() || last.is_ascii_digit(),
+        _ => true,
+    }
+}
+
+/// Appends to `array` the plain values that come next, and returns what is unread after them: plain numbers and `_`, or plain strings.
+/// Returns `start` if the filling is `Joined`, which has no loop for plain strings. Needs a cutter at a comma, with its scanner just after
+/// this comma. Errs with `Unnamed` if a value has a fault, and with `OutOfMemory` if an allocation failed; the values before stay appended.
 fn take_plain_values<'a>(
     array: &mut ListedArray,
     start: UnreadValues<'a>,
     filling: &Filling,
+    takes_fill: bool,
 ) -> Result<UnreadValues<'a>, FastPathFault>
-    requires { IsAtComma start.cutter }
-    ensures { TakesPlain filling.now (place start.entry array.old) array.new result }
+    requires at { IsAtComma start.cutter }
+    requires ends { EndsAtScanner start.cutter }
+    ensures { TakesTo takes_fill filling.now (place start.entry array.old) array.new result }
 {
     match filling {
-        Filling::Numbers(fill) => take_numbers(array, start, *fill),
+        Filling::Numbers(fill) => take_numbers(array, start, *fill, takes_fill),
         Filling::Rows { len, fill } => take_rows(array, start, *len, *fill),
         Filling::Joined => Ok(start),
     }
 }
 
-/// Guesses if plain values come after `token`, so that [`take_values`] looks for them. Returns true if `token` is a string, a number of one
-/// byte, or a longer number that doesn't begin with `0` and ends with a digit. A wrong guess costs time, but changes no result.
-fn plain_may_follow(token: Lexeme<'_>) -> bool {
-    match (token.kind, token.bytes) {
-        (TokenKind::Text, _) => true,
-        (TokenKind::Number, [first, .., last]) => *first != b'0' && last.is_ascii_digit(),
-        (TokenKind::Number, [_]) => true,
-        _ => false,
-    }
-}
-
-/// Appends to `array` the plain numbers (decimal, at most 19 digits, no suffix) that come next, the first by the cutter and the others by
-/// [`take_more_numbers`]. Returns what is unread after them, or `start` if the capacity is 0 or no plain number with a comma after it comes
-/// next. Needs a cutter at a comma. Errs with `Unnamed` if a number is out of the type's range, and with `OutOfMemory` if an allocation
-/// failed; the numbers before stay appended.
+/// Appends to `array` the plain numbers that come next and, if `takes_fill` is true, the fill value for each `_` among them. Returns what is
+/// unread after them. Stops before the first other value, before one without a comma after it, and when the capacity is used up. Needs a
+/// cutter at a comma, with its scanner just after this comma. Errs with `Unnamed` if a number is out of the type's range, and with
+/// `OutOfMemory` if an allocation failed; the values before stay appended.
 #[inline(never)]
 fn take_numbers<'a>(
     array: &mut ListedArray,
     start: UnreadValues<'a>,
     fill: Fill,
-) -> Result<UnreadValues<'a>, FastPathFault>
-    requires { IsAtComma start.cutter }
-    ensures { TakesPlain (Filling.Numbers fill) (place start.entry array.old) array.new result }
-{
-    if start.capacity.is_full() {
-        return Ok(start);
-    }
-    let mut cutter = start.cutter;
-    let Some(n) = cutter.number_and_comma() else {
-        return Ok(start);
-    };
-    put_numeral(array, fill.ty, n)?;
-    let rest = take_more_numbers(array, after_values(cutter, 1, start.capacity), fill)?;
-    Ok(rest)
-}
-
-/// Appends to `array` the plain numbers that come after the first one, which [`take_numbers`] reads. Returns what is unread after them.
-/// Stops before the first value that isn't a plain number with a comma after it, and when the capacity is used up. Needs a cutter at a
-/// comma, with its scanner just after this comma. Errs with `Unnamed` if a number is out of the type's range, and with `OutOfMemory` if an
-/// allocation failed; the numbers before stay appended.
-#[inline(always)]
-fn take_more_numbers<'a>(
-    array: &mut ListedArray,
-    start: UnreadValues<'a>,
-    fill: Fill,
+    takes_fill: bool,
 ) -> Result<UnreadValues<'a>, FastPathFault>
     requires at { IsAtComma start.cutter }
     requires ends { EndsAtScanner start.cutter }
-    ensures { TakesPlain (Filling.Numbers fill) (place start.entry array.old) array.new result }
+    ensures { TakesTo takes_fill (Filling.Numbers fill) (place start.entry array.old) array.new result }
 {
     // A loop for each type, so that the loop itself doesn't ask for it.
     match fill.ty {
-        NcType::Byte => take_numbers_of_type(array, start, fill, NcType::Byte),
-        NcType::Char => take_numbers_of_type(array, start, fill, NcType::Char),
-        NcType::Short => take_numbers_of_type(array, start, fill, NcType::Short),
-        NcType::Int => take_numbers_of_type(array, start, fill, NcType::Int),
-        NcType::Ubyte => take_numbers_of_type(array, start, fill, NcType::Ubyte),
-        NcType::Ushort => take_numbers_of_type(array, start, fill, NcType::Ushort),
-        NcType::Uint => take_numbers_of_type(array, start, fill, NcType::Uint),
-        NcType::Int64 => take_numbers_of_type(array, start, fill, NcType::Int64),
-        NcType::Uint64 => take_numbers_of_type(array, start, fill, NcType::Uint64),
+        NcType::Byte => take_numbers_of_type(array, start, fill, NcType::Byte, takes_fill),
+        NcType::Char => take_numbers_of_type(array, start, fill, NcType::Char, takes_fill),
+        NcType::Short => take_numbers_of_type(array, start, fill, NcType::Short, takes_fill),
+        NcType::Int => take_numbers_of_type(array, start, fill, NcType::Int, takes_fill),
+        NcType::Ubyte => take_numbers_of_type(array, start, fill, NcType::Ubyte, takes_fill),
+        NcType::Ushort => take_numbers_of_type(array, start, fill, NcType::Ushort, takes_fill),
+        NcType::Uint => take_numbers_of_type(array, start, fill, NcType::Uint, takes_fill),
+        NcType::Int64 => take_numbers_of_type(array, start, fill, NcType::Int64, takes_fill),
+        NcType::Uint64 => take_numbers_of_type(array, start, fill, NcType::Uint64, takes_fill),
     }
 }
 
-/// Appends to `array` the plain numbers that come next, and returns what is unread after them. Stops before the first value that isn't a
-/// plain number with a comma after it, and when the capacity is used up. [`take_more_numbers`] gives `ty`, the type of `fill`, as a
-/// constant, so that the loop doesn't ask for it. Needs a cutter at a comma, with its scanner just after this comma. Errs with `Unnamed` if
-/// a number is out of the type's range, and with `OutOfMemory` if an allocation failed; the numbers before stay appended.
+/// Appends to `array` the values that [`take_numbers`] does, with the same needs, result and errors. `ty` is the type of `fill`, given as a
+/// constant, so that the loop doesn't ask for it.
 #[inline(always)]
 fn take_numbers_of_type<'a>(
     array: &mut ListedArray,
     start: UnreadValues<'a>,
     fill: Fill,
     ty: NcType,
+    takes_fill: bool,
 ) -> Result<UnreadValues<'a>, FastPathFault>
     requires at { IsAtComma start.cutter }
     requires ends { EndsAtScanner start.cutter }
     requires ty { ty ≡ fill.ty }
-    ensures { TakesPlain (Filling.Numbers fill) (place start.entry array.old) array.new result }
+    ensures { TakesTo takes_fill (Filling.Numbers fill) (place start.entry array.old) array.new result }
 {
     let room = start.capacity.limit();
     let mut list = NumberList::new(start.cutter);
     let mut left = room;
     'numbers: while left > 0 {
-        match list.number_and_comma() {
-            Some(n) => {
-                put_numeral_inline(array, ty, n)?;
-                left -= 1;
-            }
-            None => return Ok(after_values(list.cutter(), room - left, start.capacity)),
+        if !put_next_number(array, &mut list, fill, ty, takes_fill)? {
+            break;
         }
+        left -= 1;
     }
     Ok(after_values(list.cutter(), room - left, start.capacity))
+}
+
+/// Appends to `array` the next value of `list`, and returns true. If a plain number with a comma after it comes next, the value is this
+/// number; if a `_` with a comma comes next and `takes_fill` is true, it is the fill value. Otherwise appends nothing, and returns false;
+/// `list` stays where it is. `ty` is the type of `fill`. Needs a list that began at a comma inside of a statement. Errs with `NumberRange` if
+/// the number is out of the type's range, and with `OutOfMemory` if an allocation failed.
+#[inline(always)]
+fn put_next_number(
+    array: &mut ListedArray,
+    list: &mut NumberList<'_>,
+    fill: Fill,
+    ty: NcType,
+    takes_fill: bool,
+) -> Result<bool, ReadError>
+    requires at { IsAtComma (reached list.old) }
+    requires ty { ty ≡ fill.ty }
+    ensures more { IfOk result (λ more. more ≡ true → TakesOne takes_fill fill (reached list.old) (reached list.new) array.old array.new) }
+    ensures same_list { IfOk result (λ more. more ≡ false → list.new ≡ list.old) }
+    ensures same_array { IfOk result (λ more. more ≡ false → array.new ≡ array.old) }
+{
+    if let Some(n) = list.number_and_comma() {
+        put_numeral_inline(array, ty, n)?;
+        return Ok(true);
+    }
+    if takes_fill && list.underscore_and_comma() {
+        pack_number(array, ty, fill.value)?;
+        return Ok(true);
+    }
+    Ok(false)
 }
 
 /// Appends to `array` the plain strings (no escape, no line feed) that come next, each as a row of `len` bytes filled up with `fill`, and

@@ -37,6 +37,8 @@ const FILE: &[u8] = &[
 enum Failure {
     /// The words of the command line can't be read, standard output fails, or no memory is left for either.
     Io(io::Error),
+    /// The command line has a path and no name of a variable.
+    NoName,
     /// The path can't be opened.
     Open(OpenFailed),
     /// The header can't be read, or the file has no variable of this name.
@@ -52,7 +54,7 @@ impl From<io::Error> for Failure {
 }
 
 /// Prints the values of the variable that the command line names after a path, or of the variable `v` of the bytes in `FILE` if there are
-/// no arguments.
+/// no arguments. Errs if a name is missing after a path, or if anything fails that [`Failure`] has.
 fn main(rt: HostRuntime) -> Result<(), Failure> {
     let alloc = rt.alloc();
     let mut out = BufWriter::new(alloc, io::writer(&rt))?;
@@ -62,7 +64,8 @@ fn main(rt: HostRuntime) -> Result<(), Failure> {
             let mut file = FileSource::open(&rt, path.as_str()).map_err(Failure::Open)?;
             print_values(alloc, &mut file, name.as_bytes(), &mut out)?;
         }
-        _ => print_values(alloc, &mut MemSource::new(FILE), b"v", &mut out)?,
+        (Some(_), None) => return Err(Failure::NoName),
+        (None, _) => print_values(alloc, &mut MemSource::new(FILE), b"v", &mut out)?,
     }
     out.flush()?;
     Ok(())

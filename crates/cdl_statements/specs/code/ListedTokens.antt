@@ -1,5 +1,5 @@
 -- For contracts. Tokens inside a list; a cutter passes two of them at once.
-use Rattle.std.specs.Prelude.{◌≡◌, ℕ, ◌<◌, List, ◌∷◌, true, false, Some, option_map}
+use Rattle.std.specs.Prelude.{◌≡◌, ℕ, ◌<◌, List, ◌∷◌, codes, true, false, Some, option_map}
 use Rattle.nc_base.specs.declared.version.Version.{Version}
 use Rattle.cdl_tokens.specs.Escapes.{inner, string_value}
 use Rattle.cdl_tokens.specs.code.Magnitudes.{held}
@@ -40,3 +40,7 @@ pub record PassesNumber (start rest : Cutter) (n : Numeral) : Type 0 where
 pub record PassesString (start rest : Cutter) (bytes : List ℕ) : Type 0 where
   pub plain : string_value (inner bytes) ≡ inner bytes
   pub passes : Passes start rest (lexeme_with kinds.Text bytes)
+
+-- this one is a `_`
+abbrev pub PassesUnderscore : Cutter → Cutter → Type 0
+PassesUnderscore start rest = Passes start rest (lexeme_with kinds.Word (codes "_"))

@@ -6,8 +6,8 @@ use Rattle.cdl_statements.specs.code.DueTokens.{completes}
 use Rattle.cdl_statements.specs.code.ListedTokens.{IsAtComma}
 use Rattle.cdl_statements.specs.Shapes.{first_bad}
 use Rattle.cdl_statements.specs.declared.{cutter.Cutter.Cutter, due.Due.Due, due.Due.TheVariants.Separator}
-use Rattle.cdl_values.specs.code.PackedValues.{joined, packed}
-use Rattle.cdl_values.specs.declared.{capacity.Capacity.Capacity, filling.Filling.Filling, value.FastPathFault.FastPathFault, value_run.UnreadValues.UnreadValues}
+use Rattle.cdl_values.specs.code.PackedValues.{capacity_minus, is_full, joined, packed}
+use Rattle.cdl_values.specs.declared.{capacity.Capacity.Capacity, fill.Fill.Fill, filling.Filling.Filling, filling.Filling.TheVariants.Numbers, value.FastPathFault.FastPathFault, value_run.UnreadValues.UnreadValues}
 
 -- A place among the values of a statement: the bytes of those before it, and what capacity is left.
 pub record Place : Type 0 where
@@ -40,6 +40,12 @@ GoesTo due filling start bytes result = IfOk result (λ rest. GoesOn due filling
 -- the same from comma to comma
 abbrev pub TakesTo : Bool → Filling → Place → List ℕ → Result UnreadValues FastPathFault → Type 0
 TakesTo takes_fill filling start bytes result = IfOk result (λ rest. TakesValues takes_fill filling start (place rest bytes))
+
+-- one value more, with the bytes before it and after it; a variable of numbers takes it if it takes any
+abbrev pub TakesOne : Bool → Fill → Cutter → Cutter → List ℕ → List ℕ → Type 0
+TakesOne takes_fill fill start rest before after =
+    (left : Capacity) → is_full left ≡ false →
+    TakesValues takes_fill (Numbers fill) (record { cutter = start; bytes = before; left = left }) (record { cutter = rest; bytes = after; left = capacity_minus 1 left })
 
 -- none of these values is a `_`, so that it doesn't matter if one may stand there
 abbrev pub TakesPlain : Filling → Place → List ℕ → Result UnreadValues FastPathFault → Type 0

@@ -1,4 +1,4 @@
-use Rattle.std.proofs.Common.{◌-◌, ◌≤◌, Bool}
+use Rattle.std.proofs.Common.{◌-◌, ◌≤◌}
 use Rattle.cdl_values.proofs.Prelude.{IsAtComma, capacity_minus, TakesValues, place, Numbers}
 use Rattle.cdl_statements.specs.code.NumberLists as lists
 use Rattle.cdl_values.proofs.ValueRuns.{reached}
@@ -8,7 +8,7 @@ abbrev pub invariant-numbers : goal.invariant-numbers
 invariant-numbers l = record {
   within : l.left ≤ l.room;
   at : IsAtComma (lists.reached l.list);
-  so : (takes_fill : Bool) → TakesValues takes_fill (Numbers l.fn.fill) (place l.fn.start l.fn.array) (reached (lists.reached l.list) l.array (capacity_minus (l.room - l.left) l.fn.start.capacity));
+  so : TakesValues l.takes_fill (Numbers l.fn.fill) (place l.fn.start l.fn.array) (reached (lists.reached l.list) l.array (capacity_minus (l.room - l.left) l.fn.start.capacity));
 }
 
 abbrev pub decreases-numbers : goal.decreases-numbers
