@@ -1,6 +1,6 @@
--- Definition. The header of a file, line by line as the NetCDF Classic Format Specification has it: its own line stands above each part, and
--- what it says of padding in words. The parts build on each other, from numbers to `header_part` at the end. `Name ∶` puts a part under a step,
--- and `p is f` says: to write a whole value x, write p with f x. A comment that begins with `Project` is a rule of this project.
+-- Definition. The header of a file, from its numbers to `header_part` at the end. Above each part stands the line that the NetCDF Classic
+-- Format Specification has for it, with what it says of padding in brackets. `Name ∶ p` puts a part under a step. `p is f` is one field of a
+-- whole: p spells it, and f finds it in a whole that is to be written. A sentence that begins with `Project:` is a rule of this project.
 use Rattle.std.specs.Prelude.{ℕ, zero, suc, ◌≡◌, ◌+◌, ◌*◌, ◌/◌, ◌^◌, ◌-◌, ◌==◌, ◌&&◌, ◌||◌, Bool, not, nat_lt, nat_le, if◌then◌else◌, List, [], ◌∷◌, ◌++◌, length, drop, replicate, codes, slice_index, Option, Some, None, Result, Ok, Err, ok_or}
 use Rattle.std.specs.Int.{Width, w32, to_be_bytes, from_be_bytes, byte_len}
 use Rattle.std.specs.Str.{bytes_eq}
@@ -17,12 +17,12 @@ use Rattle.nc_base.specs.Parts.{Magic, VersionByte, Records, Dims, Gatts, Vars, 
 
 -- ---- notation
 
--- a part of a B, and its value in a B
+-- a field of a B: the part that spells it, and the function that finds its value in a B
 pub record Member (B A : Type 0) : Type 1 where
   pub part : Part A
   pub value : B → Option A
 
--- a member, and what follows it (`x ← m` and the lines after it)
+-- a field, and the fields after it: `x ← m` in a `do` is this operator, and x is the value of the field
 infixl 10 ◌>>=◌
 abbrev pub ◌>>=◌ : {A B : Type 0} → Member B A → (A → Part B) → Part B
 m >>= next = chain m.value m.part next
@@ -41,7 +41,7 @@ checked test fault p = decoded (λ x. if test x then Ok x else Err fault) (λ x.
 
 -- ---- numbers
 
--- a big-endian number (a byte above 255 would count as it is; files have none)
+-- a big-endian number (a list of bytes could hold a number above 255, which would count as it is; a file holds none)
 unfoldable pub number : Width → Part ℕ
 number width = decoded (λ digits. Ok (from_be_bytes width digits)) (to_be_bytes width) (bytes (byte_len width) HeaderTruncated)
 
@@ -60,6 +60,7 @@ unfoldable pub ignored : ℕ → Part (Unit {0})
 ignored n = decoded (λ any. Ok tt) (λ nothing. replicate n 0) (bytes n HeaderTruncated)
 
 -- name = nelems namestring  (filled up to the next multiple of four)
+-- namestring = ID1 [IDN ...] padding  (`is_name` has ID1 and IDN; Project: a name need not be in normal form NFC)
 unfoldable pub name_part : Version → Part Bytes
 name_part v = do
   n ← Length ∶ count_part v is length
@@ -84,13 +85,15 @@ type_part v = decoded (type_in v) code_of (number w32)
 
 -- ---- lists
 
--- NC_DIMENSION = \x00 \x00 \x00 \x0A, and so NC_VARIABLE and NC_ATTRIBUTE
+-- NC_DIMENSION = \x00 \x00 \x00 \x0A
 abbrev pub dimension_tag : ℕ
 dimension_tag = 10
 
+-- NC_VARIABLE = \x00 \x00 \x00 \x0B
 abbrev pub variable_tag : ℕ
 variable_tag = 11
 
+-- NC_ATTRIBUTE = \x00 \x00 \x00 \x0C
 abbrev pub attribute_tag : ℕ
 attribute_tag = 12
 
@@ -99,7 +102,7 @@ abbrev pub first : {A : Type 0} → List A → Option A
 first [] = None
 first (x ∷ xs) = Some x
 
--- n more elements after `before`; the value is all of them (a rule such as "one record dimension" looks at those before)
+-- n elements after those in `before`; the value is all of them (a rule such as "one record dimension" looks at those before)
 unfoldable pub each : {A : Type 0} → (List A → Part A) → ℕ → List A → Part (List A)
 each element zero before = done before
 each element (suc n) before = do
@@ -112,8 +115,8 @@ counted v element = do
   n ← Count ∶ count_part v is length
   each element n []
 
--- what stands before the elements of a list: its tag and their number. ABSENT, a tag of 0 and the number 0, is written if there are none.
--- Project: a list without elements may have its own tag, too.
+-- what stands before the elements of a list: its tag and their number. ABSENT = ZERO ZERO, a tag of 0 and the number 0, is written if there
+-- are none; a list without elements may have its own tag, too.
 unfoldable pub list_head : Version → ℕ → Part ℕ
 list_head v tag = do
   found ← Tag ∶ checked (λ t. (t == 0) || (t == tag)) BadTag (number w32) is λ n. if n == 0 then 0 else tag
@@ -134,6 +137,7 @@ dim_part v has_record = do
   len ← Length ∶ checked (λ len. not (has_record && (len == 0))) TwoRecordDims (count_part v) is λ dim. dim.len
   done (record { name = name; len = len })
 
+-- the next one, after those in `before`
 abbrev pub dim_after : Version → List Dim → Part Dim
 dim_after v before = dim_part v (has_record_dim before)
 
@@ -151,6 +155,7 @@ att_part v = do
   padding ← Padding ∶ ignored (padding_len (length vals)) is λ att. tt
   done (record { name = name; ty = ty; vals = vals })
 
+-- the next one, after those in `before`
 abbrev pub att_after : Version → List Att → Part Att
 att_after v before = att_part v
 
@@ -160,14 +165,16 @@ att_list v = list_part v attribute_tag (att_after v)
 
 -- ---- variables
 
--- the id of a dimension; that of the record dimension only as the first of a shape
+-- whether this number is the id of a dimension; that of the record dimension may only be the first of a shape
 abbrev pub is_dimid : List Dim → Bool → ℕ → Bool
 is_dimid dims is_first id = nat_lt id (length dims) && (is_first || not (is_record_dim dims id))
 
--- dimid = NON_NEG  (Project: any other number names no dimension, also one whose top bit is 1)
+-- dimid = NON_NEG
+-- Project: a number that is the id of no dimension is a wrong shape, also if its top bit is 1.
 unfoldable pub dimid_part : Version → List Dim → Bool → Part ℕ
 dimid_part v dims is_first = checked (is_dimid dims is_first) BadShape (number (count_width v))
 
+-- the next one, after those in `before`
 abbrev pub dimid_after : Version → List Dim → List ℕ → Part ℕ
 dimid_after v dims before = dimid_part v dims (length before == 0)
 
@@ -175,11 +182,12 @@ dimid_after v dims before = dimid_part v dims (length before == 0)
 unfoldable pub shape_part : Version → List Dim → Part (List ℕ)
 shape_part v dims = counted v (dimid_after v dims)
 
--- what a variable of this shape and type adds to a record: nothing if it isn't a record variable
+-- the bytes that a variable of this shape and type adds to a record: 0 if it isn't a record variable
 abbrev pub record_bytes : List Dim → List ℕ → NcType → ℕ
 record_bytes dims ids ty = if is_record_shape dims ids then slab_of dims ids ty + padding_len (slab_of dims ids ty) else 0
 
--- Project: the limits, of the slab, and of the padded slabs in a record up to this variable; those before it have `total` bytes
+-- Project: a slab has at most `slab_limit` bytes, and the padded slabs in a record up to this variable have at most `record_limit`; those
+-- before it have `total` bytes.
 abbrev pub is_within_limits : List Dim → ℕ → List ℕ → NcType → Bool
 is_within_limits dims total ids ty = nat_le (slab_of dims ids ty) slab_limit && nat_le (total + record_bytes dims ids ty) record_limit
 
@@ -189,7 +197,7 @@ vsize_of Cdf5 size = size
 vsize_of v size = if nat_lt size (2 ^ 32) then size else (2 ^ 32 - 1)
 
 -- var = name nelems [dimid ...] vatt_list nc_type vsize begin  (begin = OFFSET)
--- Project: vsize may be any number; if a variable is too large, its type is the wrong field.
+-- Project: vsize may be any number. If a variable is too large, its type is the wrong field.
 unfoldable pub var_part : Version → List Dim → ℕ → Part Var
 var_part v dims total = do
   name ← Name ∶ name_part v is λ var. var.name
@@ -200,6 +208,7 @@ var_part v dims total = do
   begin ← Begin ∶ offset_part v is λ var. var.begin_at
   done (record { name = name; dimids = dimids; atts = atts; ty = ty; begin_at = begin })
 
+-- the next one, after those in `before`
 abbrev pub var_after : Version → List Dim → List Var → Part Var
 var_after v dims before = var_part v dims (padded_total dims (record_vars dims before))
 

@@ -1,5 +1,5 @@
--- Definition. A part of a file's header as data: which fields it has, in which order. What bytes spell, where the first wrong field lies, and
--- how a value is written are recursions on it.
+-- Definition. A part of a file's header as data: which fields it has, in which order. Three recursions on a part say what bytes spell
+-- (`Spells`), which field is the first wrong one (`Stops`), and how a value is written (`print`).
 use Rattle.std.specs.Prelude.{ℕ, ◌≡◌, ◌<◌, ◌⊎◌, List, [], ◌∷◌, ◌++◌, length, Option, Some, None, Result, Ok, Err}
 use Rattle.nc_base.specs.declared.fault.FormatFault.{FormatFault}
 use Rattle.nc_base.specs.Bytes.{Bytes}
@@ -18,15 +18,15 @@ pub data Step : Type 0 where
   Tag : Step
   Count : Step
   Item : ℕ → Step
-  -- of a name: nelems, namestring, and what fills it up (so are the values of an attribute)
+  -- the name of a dimension, an attribute or a variable; in it, nelems, namestring, and what fills it up
   Name : Step
   Length : Step
   Text : Step
   Padding : Step
-  -- of a dimension: dim_length (it is `Length`, too); of an attribute or a variable: nc_type; and the values of an attribute
+  -- of a dimension, dim_length is `Length`; of an attribute, nelems is `Count`, and what fills up its values is `Padding`
   TypeCode : Step
   Values : Step
-  -- of a variable: nelems and [dimid ...] (`Count` and items), vatt_list, vsize and begin
+  -- of a variable: its shape, which is a count and items, vatt_list, vsize and begin
   Shape : Step
   Atts : Step
   Vsize : Step
@@ -38,14 +38,15 @@ pub data Part : Type 0 → Type 1 where
   done : {A : Type 0} → A → Part A
   -- n bytes; this fault if fewer are left
   bytes : ℕ → FormatFault → Part Bytes
-  -- a part whose value is decoded, or refused with a fault; and how a value is encoded to be written
+  -- a part whose value the first function decodes, or refuses with a fault; the second one encodes a value that is to be written
   decoded : {A B : Type 0} → (A → Result B FormatFault) → (B → A) → Part A → Part B
   -- a part under this step
   under : {A : Type 0} → Step → Part A → Part A
-  -- a part, and what follows, which may depend on its value; the function finds that value in a value of the whole (none past a list's end)
+  -- a part, and what follows, which may depend on its value; the function finds this value in a value of the whole, or returns `None` if the
+  -- whole is a list that has ended
   chain : {A B : Type 0} → (B → Option A) → Part A → (A → Part B) → Part B
 
--- the bytes begin with a spelling of x, and go on with the rest
+-- the bytes `from` begin with a spelling of this value, and `rest` follows it
 unfoldable pub Spells : {A : Type 0} → Part A → Bytes → A → Bytes → Type 0
 Spells (done x) from y rest = (y ≡ x) × (rest ≡ from)
 Spells (bytes n cut) from content rest = (length content ≡ n) × (from ≡ content ++ rest)
@@ -53,7 +54,7 @@ Spells (decoded {A = A} decode encode p) from y rest = (x : A) × Spells p from 
 Spells (under step p) from x rest = Spells p from x rest
 Spells (chain {A = A} get p next) from y rest = (x : A) × (middle : Bytes) × Spells p from x middle × Spells (next x) middle y rest
 
--- the first wrong field: these steps lead to it, these are the bytes from its first byte on, it has this fault, and this is the rest after it
+-- `steps` lead to the first wrong field, `start` are the bytes from its first byte on, `fault` is its fault, and `rest` follows it
 unfoldable pub Stops : {A : Type 0} → Part A → Bytes → List Step → Bytes → FormatFault → Bytes → Type 0
 Stops (done x) from steps start fault rest = ⊥
 Stops (bytes n cut) from steps start fault rest = (length from < n) × (steps ≡ []) × (start ≡ from) × (fault ≡ cut) × (rest ≡ [])
