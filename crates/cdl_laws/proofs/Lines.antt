@@ -1,5 +1,5 @@
 -- Tokens have places and lines, and lexemes have none: what all pieces make of a state is the same.
-use Rattle.std.proofs.Common.{◌≡◌, ℕ, zero, suc, ◌+◌, ◌-◌, Bool, true, false, List, [], ◌∷◌, drop, take, map, sym, ◌∙◌, ap, refl, ◌&&◌, Option, None, Some, is_none, Result, Ok, Err, rules}
+use Rattle.std.proofs.Common.{◌≡◌, ℕ, zero, suc, ◌+◌, ◌-◌, Bool, true, false, List, [], ◌∷◌, drop, take, map, sym, ◌∙◌, ap, refl, ◌&&◌, Option, None, Some, is_none, Result, Ok, Err, rules, arith}
 use Rattle.cdl_laws.proofs.Prelude.{drop-drop, Version, CdlFault, CdlKind, TokenKind, Role, CutState, Token, scan, Lexeme, lexeme, first_role, role, run, piece_read, starting_line, statements, pieces_after, with_first, step, pieces_by_steps, cut_lexemes, lexemes_at, lexemes, with_lexeme, State, in_turn, tokens_at, tokens, with_token, token_at}
 use Rattle.cdl_tokens.specs.declared.token.TokenKind.TheVariants as kinds
 use Rattle.cdl_statements.specs.declared.piece.CutState.TheVariants as places
@@ -62,10 +62,4 @@ held s (Err e) = s
 pub run_is : (text : List ℕ) (v : Version) (s t : State) (ps : List (List Token)) → in_turn (piece_read v) s (map (map (lexeme text)) ps) ≡ Ok t → run text v s ps ≡ Ok t
 unfolding run held
 run_is text v s t [] h = ap (λ u. Ok u) (ap (held s) h)
-run_is text v s t (p ∷ ps) h =
-    elim (piece_read v s (map (lexeme text) p)) as (λ r.
-    elim r as (λ x. Result State CdlKind) [ Ok u ↦ in_turn (piece_read v) u (map (map (lexeme text)) ps) | Err e ↦ Err e ] ≡ Ok t →
-    elim r as (λ x. Result State CdlFault) [ Ok u ↦ run text v u ps | Err kind ↦ Err (record { line = starting_line p; kind = kind }) ] ≡ Ok t) [
-      | Ok u ↦ (λ k. run_is text v u t ps k)
-      | Err e ↦ (λ k. cc)
-    ] h
+run_is text v s t (p ∷ ps) h = grind (arith, (λ (u : State). run_is text v u t ps))

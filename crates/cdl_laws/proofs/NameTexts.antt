@@ -1,7 +1,6 @@
 -- A valid name, escaped, is one word that stands for it.
 use Rattle.std.proofs.Common.{◌≡◌, ℕ, Bool, true, false, List, [], ◌∷◌, ◌++◌, length, get_or, ◌∙◌, refl, arith, nat_le, ◌&&◌, ◌||◌, ◌==◌, if◌then◌else◌, not, ap}
-use Rattle.cdl_laws.proofs.Prelude.{is_ascii_digit, is_in_range, flat_map, list_all, bytes_eq, false≢true, eqb-true, bytes_eq-Decides, is_plain, is_name_mark, escaped_in_name, escaped_name, is_reserved, reserved_words, begins_with_digit_or_mark, may_begin_name, may_follow_in_name, is_beyond_ascii, is_escape, is_escapable, goes_on_word, may_begin_word, word_len, word_value, and_left, and_right, word_at_start, value_at_start}
-use Rattle.cdl_laws.proofs.Bools.{or_left, or_right, of_any}
+use Rattle.cdl_laws.proofs.Prelude.{is_ascii_digit, is_in_range, flat_map, list_all, bytes_eq, false≢true, eqb-true, bytes_eq-Decides, is_plain, is_name_mark, escaped_in_name, escaped_name, is_reserved, reserved_words, begins_with_digit_or_mark, may_begin_name, may_follow_in_name, is_beyond_ascii, is_escape, is_escapable, goes_on_word, may_begin_word, word_len, word_value, and_left, and_right, word_at_start, value_at_start, list_any, or_left, or_right}
 
 -- ---- bytes
 
@@ -46,13 +45,7 @@ rest_of name = flat_map escaped_in_name name
 pub rest_len : (name rest : List ℕ) → list_all may_follow_in_name name ≡ true → word_len rest ≡ 0 → word_len (rest_of name ++ rest) ≡ length (rest_of name)
 rest_len [] rest h e = e
 rest_len (b ∷ name) rest h e =
-    let more = and_right (may_follow_in_name b) (list_all may_follow_in_name name) h in
-    let one : is_escapable b ≡ true = escapable b (and_left (may_follow_in_name b) (list_all may_follow_in_name name) h) in
-    let ih = rest_len name rest more e in
-    elim (is_plain b) as (λ w. is_plain b ≡ w → word_len (((if w then b ∷ [] else 0x5c ∷ b ∷ []) ++ rest_of name) ++ rest) ≡ length ((if w then b ∷ [] else 0x5c ∷ b ∷ []) ++ rest_of name)) [
-      | true ↦ (λ g. word_at_start b (rest_of name ++ rest) ∙ rw (no_escape b (get_or (rest_of name ++ rest) 0 0) g) (rw (g) (omega (arith, ih))))
-      | false ↦ (λ g. word_at_start 0x5c (b ∷ rest_of name ++ rest) ∙ rw (one) (omega (arith, ih)))
-    ] refl
+    grind (arith, word_at_start, no_escape, escapable, is_plain, and_left, rest_len name rest (and_right (may_follow_in_name b) (list_all may_follow_in_name name) h) e)
 
 pub rest_value : (name : List ℕ) → list_all may_follow_in_name name ≡ true → word_value (rest_of name) ≡ name
 unfolding word_value
@@ -87,6 +80,11 @@ name_len b bs rest h h2 h3 = grind (arith, rest_len, word_at_start, no_escape, b
 
 pub name_value : (b : ℕ) (bs : List ℕ) → Begins b bs → list_all may_follow_in_name bs ≡ true → word_value (escaped_name (b ∷ bs)) ≡ b ∷ bs
 name_value b bs h h2 = grind (arith, value_at_start, rest_value, no_escape, begins_plainly)
+
+-- what holds of each word of a list holds of one that is in the list
+of_any : (p : List ℕ → Bool) (word : List ℕ) (words : List (List ℕ)) → list_all p words ≡ true → list_any (bytes_eq word) words ≡ true → p word ≡ true
+of_any p word [] all any = cc
+of_any p word (w ∷ words) all any = grind (arith, bytes_eq-Decides, and_left, and_right, of_any p word words (and_right (p w) (list_all p words) all))
 
 -- a reserved word stands for itself
 stands : List ℕ → Bool

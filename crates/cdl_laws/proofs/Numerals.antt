@@ -1,8 +1,8 @@
 -- A decimal number is read again.
-use Rattle.std.proofs.Common.{◌≡◌, ℕ, zero, suc, ◌+◌, ◌/◌, ◌%◌, ◌^◌, ◌<◌, ◌≤◌, Bool, true, false, List, [], ◌∷◌, ◌++◌, length, get_or, sym, ◌∙◌, ap, refl, arith, append-nil, ℤ, pos, unsigned_abs, decimal, ◌==◌, not, Some, nat_lt, Option, rules}
+use Rattle.std.proofs.Common.{◌≡◌, ℕ, zero, suc, ◌+◌, ◌/◌, ◌%◌, ◌^◌, ◌<◌, ◌≤◌, Bool, true, false, List, [], ◌∷◌, ◌++◌, length, get_or, sym, ◌∙◌, ap, refl, arith, append-nil, ℤ, pos, unsigned_abs, decimal, ◌==◌, not, Some, nat_lt, Option, rules, negsuc, subst}
 use Rattle.cdl_laws.proofs.Prelude.{signed_decimal, digits_onto, digits, digit_glyph, prefix_len, list_all, eqb-true, first_decimal, decimal_nonempty, drop-append_seam, take-append_seam, NcType, Int, Version, number_suffix, is_char, has_type, digit_value, is_digit, is_sign, goes_on_number, number_in, type_of_suffix, in_base, with_sign, numeral, parts, Parts, option_map, list_all-append, and_left, and_right, and_both, is_off, not_none}
 use native.Mathlib.Numerals.{unary_clauses}
-use Rattle.cdl_laws.proofs.Texts.{Reads, number, digits_read, minus_reads}
+use Rattle.cdl_laws.proofs.Texts.{IsNumber, begun_number}
 
 -- ---- the digits of a number
 
@@ -117,13 +117,19 @@ pub goes_on : (ds : List ℕ) → list_all is_digit ds ≡ true → list_all goe
 goes_on [] h = refl
 goes_on (d ∷ ds) h = grind (arith, and_both, and_left, and_right, goes_on ds (and_right (is_digit d) (list_all is_digit ds) h))
 
-unsigned_reads : (ds suf : List ℕ) → list_all is_digit ds ≡ true → 0 < length ds → list_all goes_on_number suf ≡ true → Reads (ds ++ suf) (number (ds ++ suf) ∷ [])
-unsigned_reads [] suf h some k = grind (arith, digits_read, and_left, list_all-append, and_both, goes_on, and_right)
-unsigned_reads _ suf h some k = grind (arith, digits_read, and_left, list_all-append, and_both, goes_on, and_right)
+digits_number : (ds suf : List ℕ) → list_all is_digit ds ≡ true → 0 < length ds → list_all goes_on_number suf ≡ true → IsNumber (ds ++ suf) × IsNumber (45 ∷ (ds ++ suf))
+digits_number [] suf h some k = absurd (omega (arith, some))
+digits_number (d ∷ ds) suf h some k =
+    let digit = and_left (is_digit d) (list_all is_digit ds) h in
+    let on : list_all goes_on_number (d ∷ (ds ++ suf)) ≡ true =
+    list_all-append goes_on_number (d ∷ ds) suf ∙ and_both (list_all goes_on_number (d ∷ ds)) (list_all goes_on_number suf) (goes_on (d ∷ ds) h) k in (
+      begun_number d (ds ++ suf) (λ rest. rw (digit) refl) (and_right (goes_on_number d) (list_all goes_on_number (ds ++ suf)) on),
+      begun_number 45 (d ∷ (ds ++ suf)) (λ rest. rw (digit) refl) on,
+    )
 
-signed_reads : (ds suf : List ℕ) → list_all is_digit ds ≡ true → 0 < length ds → list_all goes_on_number suf ≡ true → Reads (45 ∷ (ds ++ suf)) (number (45 ∷ (ds ++ suf)) ∷ [])
-signed_reads [] suf h some k = grind (arith, and_left, list_all-append, and_both, goes_on)
-signed_reads _ suf h some k = grind (arith, minus_reads, and_left, list_all-append, and_both, goes_on)
+pub number_is : (n : ℤ) (suf : List ℕ) → unsigned_abs n < 2 ^ 64 → list_all goes_on_number suf ≡ true → IsNumber (signed_decimal n ++ suf)
+number_is (pos n) suf h k = (digits_number (decimal n) suf (decimal_digits n) (decimal_nonempty n h) k).0
+number_is (negsuc n) suf h k = (digits_number (decimal (suc n)) suf (decimal_digits (suc n)) (decimal_nonempty (suc n) h) k).1
 
-pub number_reads : (n : ℤ) (suf : List ℕ) → unsigned_abs n < 2 ^ 64 → list_all goes_on_number suf ≡ true → Reads (signed_decimal n ++ suf) (number (signed_decimal n ++ suf) ∷ [])
-number_reads n suf h h2 = grind (arith, pos, unsigned_reads, decimal, decimal_digits, decimal_nonempty, signed_reads)
+pub value_is : (n : ℤ) → unsigned_abs n < 2 ^ 64 → IsNumber (signed_decimal n)
+value_is n h = subst IsNumber (append-nil (signed_decimal n)) (number_is n [] h refl)

@@ -100,4 +100,4 @@ pub use Rattle.nc_base.proofs.CharacterRows.{IsWide, prefix_is, pieces_are, a_ro
 unfoldable pub use Rattle.nc_base.proofs.CharacterRows.{char_pieces, printed}
 pub use Rattle.nc_base.proofs.FilePlaces.{length-numbers}
 pub use Rattle.cdl_meaning.proofs.InRange.{is_had}
-pub use Rattle.cdl_laws.proofs.Lists.{Each, all_of, each, each_map, each_of}
+pub use Rattle.cdl_laws.proofs.Lists.{Each, EachAfter, all_of, any_each, each_after, each_map, each_of, or_left, or_right}

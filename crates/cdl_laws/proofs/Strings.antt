@@ -1,8 +1,8 @@
 -- An escaped string between quotes is one token that stands for it.
-use Rattle.std.proofs.Common.{◌≡◌, ℕ, ◌+◌, ◌-◌, ◌/◌, ◌%◌, ◌<◌, true, false, List, [], ◌∷◌, ◌++◌, length, drop, take, sym, ◌∙◌, ap, refl, subst, arith, append_assoc, length-append, ◌==◌, nat_lt, map, Some, is_some, rules}
-use Rattle.cdl_laws.proofs.Prelude.{is_ascii_control, flat_map, list_all, eqb-true, take-append_seam, escaped_in_string, octal_escape, is_octal, number_in, len_until, scan, scan_text, character, up_to_255, plain_escape, unescape, unescape_at, Lexeme, until_at_start}
+use Rattle.std.proofs.Common.{◌≡◌, ℕ, ◌+◌, ◌-◌, ◌/◌, ◌%◌, ◌<◌, true, false, List, [], ◌∷◌, ◌++◌, length, drop, take, sym, ◌∙◌, ap, refl, subst, arith, append_assoc, length-append, ◌==◌, nat_lt, map, Some, is_some, rules, Bool}
+use Rattle.cdl_laws.proofs.Prelude.{is_ascii_control, flat_map, list_all, eqb-true, take-append_seam, escaped_in_string, octal_escape, is_octal, number_in, len_until, scan, scan_text, character, up_to_255, plain_escape, unescape, unescape_at, Lexeme, until_at_start, token, AreToken, and_false, escaped_text}
 use Rattle.cdl_tokens.specs.declared.token.TokenKind.TheVariants as kinds
-use Rattle.cdl_laws.proofs.Texts.{Closed, prefix_again}
+use Rattle.cdl_laws.proofs.Texts.{Closed, prefix_again, closed_both}
 
 -- ---- the characters
 
@@ -81,7 +81,7 @@ unescape_one b rest (bare h k same) = rw (same) (rw (h) refl)
 
 -- ---- strings
 
-pub until_all : (bytes rest : List ℕ) → len_until 0x22 (flat_map escaped_in_string bytes ++ 0x22 ∷ rest) ≡ length (flat_map escaped_in_string bytes)
+until_all : (bytes rest : List ℕ) → len_until 0x22 (flat_map escaped_in_string bytes ++ 0x22 ∷ rest) ≡ length (flat_map escaped_in_string bytes)
 unfolding len_until
 until_all [] [] = refl
 until_all [] (c ∷ rest) = refl
@@ -96,7 +96,7 @@ all_bytes : (bytes : List ℕ) → list_all is_some (map Some bytes) ≡ true
 all_bytes [] = refl
 all_bytes (b ∷ bytes) = all_bytes bytes
 
-pub is_string : (bytes : List ℕ) → list_all is_some (unescape (flat_map escaped_in_string bytes)) ≡ true
+is_string : (bytes : List ℕ) → list_all is_some (unescape (flat_map escaped_in_string bytes)) ≡ true
 is_string bytes = ap (list_all is_some) (unescape_all bytes) ∙ all_bytes bytes
 
 -- between quotes
@@ -106,16 +106,25 @@ quoted bytes = 0x22 ∷ (flat_map escaped_in_string bytes ++ 0x22 ∷ [])
 abbrev pub string : List ℕ → Lexeme
 string bytes = record { kind = kinds.Text; bytes = quoted bytes }
 
-pub text_len : (w rest : List ℕ) (n : ℕ) → n ≡ length w → list_all is_some (unescape w) ≡ true → scan_text (w ++ 0x22 ∷ rest) n ≡ record { kind = Some kinds.Text; len = length w + 2 }
+text_len : (w rest : List ℕ) (n : ℕ) → n ≡ length w → list_all is_some (unescape w) ≡ true → scan_text (w ++ 0x22 ∷ rest) n ≡ record { kind = Some kinds.Text; len = length w + 2 }
 text_len w rest n e h = rw (e) (let f : nat_lt (length w) (length (w ++ 0x22 ∷ rest)) ≡ true = (let g = length-append w (0x22 ∷ rest) in grind (arith, g)) in rw (f) (rw (take-append_seam w (0x22 ∷ rest)) (rw (h) refl)))
 
-quoted_prefix : (w rest : List ℕ) → len_until 0x22 (w ++ 0x22 ∷ rest) ≡ length w → list_all is_some (unescape w) ≡ true → scan false (0x22 ∷ (w ++ 0x22 ∷ rest)) ≡ record { kind = Some kinds.Text; len = length w + 2 }
+quote_token : (fresh : Bool) (w rest : List ℕ) → len_until 0x22 (w ++ 0x22 ∷ rest) ≡ length w → list_all is_some (unescape w) ≡ true → scan fresh (0x22 ∷ (w ++ 0x22 ∷ rest)) ≡ token kinds.Text (length w + 2)
 unfolding scan
-quoted_prefix w rest h k = text_len w rest (len_until 0x22 (w ++ 0x22 ∷ rest)) h k
+quote_token fresh w rest h k = rw (and_false fresh) (text_len w rest (len_until 0x22 (w ++ 0x22 ∷ rest)) h k)
+
+pub string_token : (bytes rest : List ℕ) → AreToken kinds.Text (quoted bytes) rest
+string_token bytes rest fresh = grind (arith, append_assoc, quote_token, until_all, is_string, length-append)
 
 pub string_closed : (bytes : List ℕ) → Closed (quoted bytes) (string bytes ∷ [])
-string_closed bytes rest =
-    grind (arith, prefix_again false (Some kinds.Text) 0x22, until_all bytes rest, is_string bytes, append_assoc, quoted_prefix, length-append)
+string_closed bytes rest = prefix_again false (Some kinds.Text) 0x22 (flat_map escaped_in_string bytes ++ 0x22 ∷ []) rest (string_token bytes rest false)
+
+-- a string, and what follows its quote
+pub string_then : (bytes more : List ℕ) (ls : List Lexeme) → Closed more ls → Closed (0x22 ∷ (escaped_text bytes ++ 0x22 ∷ more)) (string bytes ∷ ls)
+unfolding escaped_text
+string_then bytes more ls next =
+    subst (λ bs. Closed (0x22 ∷ bs) (string bytes ∷ ls)) (append_assoc (flat_map escaped_in_string bytes) (0x22 ∷ []) more)
+    (closed_both (quoted bytes) more (string bytes ∷ []) ls (string_closed bytes) next)
 
 -- what is between its quotes
 pub between_quotes : (w : List ℕ) → take (length (0x22 ∷ (w ++ 0x22 ∷ [])) - 2) (drop 1 (0x22 ∷ (w ++ 0x22 ∷ []))) ≡ w

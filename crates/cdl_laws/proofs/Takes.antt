@@ -25,29 +25,22 @@ is_starter roles.Colon = true
 is_starter roles.Other = true
 is_starter _ = false
 
-abbrev is_end_role : Role → Bool
-is_end_role roles.End = true
-is_end_role _ = false
+plain_goes_on : (r : Role) → is_plain r ≡ true → unless_end r Inside ≡ going_on Inside
+plain_goes_on r h = grind arith
 
-unless_going : (n : Role) → is_end_role n ≡ false → unless_end n Inside ≡ going_on Inside
-unless_going n h = grind arith
-
-plain_no_end : (r : Role) → is_plain r ≡ true → is_end_role r ≡ false
-plain_no_end r h = grind arith
-
-next_no_end : (p rest : List Lexeme) → all_plain p ≡ true → is_end_role (first_role role (p ++ semicolon ∷ rest)) ≡ false
-next_no_end [] rest h = refl
-next_no_end (t ∷ p) rest h = plain_no_end (role t) (and_left (is_plain (role t)) (all_plain p) h)
+next_goes_on : (p rest : List Lexeme) → all_plain p ≡ true → unless_end (first_role role (p ++ semicolon ∷ rest)) Inside ≡ going_on Inside
+next_goes_on [] rest h = refl
+next_goes_on (t ∷ p) rest h = plain_goes_on (role t) (and_left (is_plain (role t)) (all_plain p) h)
 
 inside_one : (p rest : List Lexeme) → all_plain p ≡ true → pieces_after role Inside (p ++ semicolon ∷ rest) ≡ (p ++ semicolon ∷ []) ∷ pieces_after role Begins rest
 unfolding pieces_after
 inside_one [] rest h = refl
-inside_one (t ∷ p) rest h = grind (arith, is_plain, and_left, and_right, semicolon, next_no_end, with_first, inside_one p rest, unless_going)
+inside_one (t ∷ p) rest h = grind (arith, is_plain, and_left, and_right, semicolon, next_goes_on, with_first, inside_one p rest)
 
 one_by_steps : (t : Lexeme) (p rest : List Lexeme) → is_starter (role t) ≡ true → all_plain p ≡ true →
     pieces_after role Begins ((t ∷ p ++ semicolon ∷ []) ++ rest) ≡ (t ∷ p ++ semicolon ∷ []) ∷ pieces_after role Begins rest
 unfolding pieces_after
-one_by_steps t p rest start h = grind (arith, append_assoc, semicolon, next_no_end, with_first, inside_one, unless_going)
+one_by_steps t p rest start h = grind (arith, append_assoc, semicolon, next_goes_on, with_first, inside_one)
 
 -- ---- what a text makes of a state
 

@@ -3,9 +3,8 @@ use Rattle.std.proofs.Common.{◌≡◌, ℕ, ◌<◌, ◌≤◌, true, List, []
 use Rattle.cdl_laws.proofs.Prelude.{DataText, list_all, map-append, AreBytes, Dataset, Att, Dim, Header, Known, Streaming, Var, Version, Options, Ending, whole, IsText, unknown, dump_text, shown_data_text, values_in_dataset, selection_of, IsGood, IsSoundVar, bare, bare_var, IsName, slab_count, slab_size, slab_limit, record_limit, record_vars, record_size_of, Ended, meaning, is_within_limits, are_within_limits, records_in, IsFull, TextReadsBack, trimmed, trimmed_att, trimmed_var, AreDistinct, IsSayable, IsSayableVar, Draft, Listing, and_both, some_count, Each, each_map, each_of}
 use Rattle.nc_base.specs.declared.header.NumRecs.{NumRecs}
 use Rattle.cdl_laws.proofs.DataTexts.{given_draft, given_drafts}
-use Rattle.cdl_laws.proofs.Datasets.{keeps_fill, are_back, listings, stand_after, AreNewVars, all_given, arrays_back, vars_back, records_back}
+use Rattle.cdl_laws.proofs.Datasets.{keeps_fill, are_back, listings, stand_after, AreNewVars, all_given, arrays_back, vars_back, records_back, all_small, same_record}
 use Rattle.cdl_laws.proofs.Dumps.{text_back}
-use Rattle.cdl_laws.proofs.Limits.{all_small, same_record}
 use Rattle.cdl_laws.proofs.Sayables.{AreFresh, fresh_more, any_map, none_before, draft_name, var_name, atts_new, atts_speak, dims_new, IsSayableHead, vars_fit}
 use Rattle.cdl_laws.proofs.Wholes.{state}
 
