@@ -41,13 +41,10 @@ numbers_bytes ty xs = flat_map (bytes_of_number ty) xs
 same_self : (ty : NcType) → same_type ty ty ≡ true
 same_self ty = grind arith
 
-number_added : (ty : NcType) (before : List ℕ) (x : ℤ) → has_number ty x ≡ true → add_constant ty before (Number (record { value = x; ty = ty })) ≡ Ok (before ++ bytes_of_number ty x)
-number_added ty before x fit = rw (same_self ty) (rw (fit) refl)
-
 pub numbers_added : (ty : NcType) (before : List ℕ) (xs : List ℤ) → Each (λ x. has_number ty x ≡ true) xs → in_turn (add_constant ty) before (numbers_said ty xs) ≡ Ok (before ++ numbers_bytes ty xs)
 numbers_added ty before [] fit = ap (λ bs. Ok bs) (sym (append-nil before))
 numbers_added ty before (x ∷ xs) fit =
-    grind (arith, turn, number_added, append_assoc, numbers_bytes, numbers_added ty (before ++ bytes_of_number ty x) xs fit.1)
+    grind (arith, turn, append_assoc, numbers_bytes, numbers_added ty (before ++ bytes_of_number ty x) xs fit.1)
 
 pub chars_added : (before : List ℕ) (all : List (List ℕ)) → in_turn (add_constant Char) before (map Characters all) ≡ Ok (before ++ flat_map (λ (b : List ℕ). b) all)
 chars_added before [] = ap (λ bs. Ok bs) (sym (append-nil before))

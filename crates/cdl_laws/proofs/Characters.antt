@@ -51,13 +51,9 @@ rows_text look done k ((x ∷ xs) ∷ rows) h len some wide all =
 
 -- ---- a variable's characters
 
-char_closing : (look : Look) → is_char look.ty ≡ true → variable_closing look ≡ closing_bytes
-unfolding variable_closing
-char_closing look h = rw (h) refl
-
 char_variable : (look : Look) (values : List ℤ) → is_char look.ty ≡ true → (0 < length values → 0 < look.row) → variable_text look values ≡ variable_opening look ++ (char_pieces look [] values ++ closing_bytes)
-unfolding variable_text
-char_variable look values h wide = grind (arith, append_assoc, variable_opening, pieces, variable_closing, prefix_is look values (λ is. wide), pieces_are, char_closing)
+unfolding variable_text variable_closing
+char_variable look values h wide = grind (arith, append_assoc, variable_opening, pieces, variable_closing, prefix_is look values (λ is. wide), pieces_are)
 
 -- what all its strings are read as
 abbrev pub strings : Look → List ℤ → List (List ℤ) → List Lexeme
@@ -108,9 +104,6 @@ map_zeros : (n : ℕ) → map pos (replicate n 0) ≡ replicate n (pos 0)
 map_zeros zero = refl
 map_zeros (suc n) = ap (λ xs. pos 0 ∷ xs) (map_zeros n)
 
-is_zero : (x : ℤ) → is_nul x ≡ true → IsCharacter x → x ≡ pos 0
-is_zero x h c = sym c ∙ ap pos (eqb-true (unsigned_abs x) 0 h)
-
 pub shown_len : (t : Bool) (n : ℕ) (xs : List ℤ) → length (printed t n xs) ≤ n + length xs
 unfolding printed
 shown_len t n [] = omega arith
@@ -125,7 +118,7 @@ pub back_trimmed : (n m : ℕ) (xs : List ℤ) → Each IsCharacter xs → lengt
 unfolding printed
 back_trimmed n m [] all len = grind (arith, append-nil)
 back_trimmed n m (x ∷ xs) all len =
-    grind (arith, is_nul, is_zero, with_first, replicate_more n (pos 0), append_assoc, length-append, length-replicate, back_trimmed (n + 1) m xs all.1, back_trimmed 0 m xs all.1)
+    grind (arith, is_nul, with_first, replicate_more n (pos 0), append_assoc, length-append, length-replicate, back_trimmed (n + 1) m xs all.1, back_trimmed 0 m xs all.1)
 
 pub back_whole : (xs : List ℤ) → Each IsCharacter xs → map pos (printed false 0 xs) ≡ xs
 unfolding printed

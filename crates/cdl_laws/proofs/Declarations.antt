@@ -265,10 +265,7 @@ shape_stops (n ∷ ns) rest = refl
 
 shape_fine : (v : Version) (names : List (List ℕ)) → list_all (is_fine v) (shape_lexemes names) ≡ true
 shape_fine v [] = refl
-shape_fine v (n ∷ ns) =
-    let inner = inner_lexemes n ns in
-    list_all-append (is_fine v) inner (mark 41 ∷ []) ∙
-    and_both (list_all (is_fine v) inner) true (and_both (is_fine v (word (escaped_name n))) (list_all (is_fine v) (commas (name_lexemes ns))) (word_fine v (escaped_name n)) (fine_commas v (name_lexemes ns) (names_fine v ns))) refl
+shape_fine v (n ∷ ns) = search (rules, list_all-append, and_both, word_fine, fine_commas, names_fine)
 
 -- ---- a declaration
 

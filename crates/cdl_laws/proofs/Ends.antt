@@ -117,16 +117,13 @@ until_rest : (bs rest : List ℕ) → len_until 0x7b (rest_of bs ++ 32 ∷ 123 �
 until_rest [] rest = until_plain 0x7b 32 (123 ∷ rest) refl refl ∙ ap (λ n. 1 + n) (until_at_start 0x7b 123 rest)
 until_rest (b ∷ bs) rest = grind (arith, is_plain, until_escape, until_rest bs rest, until_plainly)
 
-until_name : (b : ℕ) (bs rest : List ℕ) → Begins b bs → len_until 0x7b (escaped_name (b ∷ bs) ++ 32 ∷ 123 ∷ rest) ≡ length (escaped_name (b ∷ bs)) + 1
-until_name b bs rest h = grind (arith, marked, until_rest, until_escape, bare, until_plainly)
-
 -- the dataset's name, which is looked at no further
 abbrev pub opening_bytes : List ℕ → List ℕ
 opening_bytes name = codes "netcdf " ++ (escaped_name name ++ codes " {")
 
 opening_prefix_is : (name rest : List ℕ) → IsName name → scan true (opening_bytes name ++ 10 ∷ rest) ≡ record { kind = Some kinds.Opening; len = length (opening_bytes name) }
 unfolding scan
-opening_prefix_is name rest h = search (rules, append_assoc, codes, length-append, until_plain, lt-ltb, false≢true, some_name, until_name, begins, and_left)
+opening_prefix_is name rest h = search (rules, append_assoc, codes, length-append, until_plain, lt-ltb, false≢true, some_name, begins, and_left, marked, until_rest, until_escape, bare, until_plainly)
 
 pub opening_lexemes : (name rest : List ℕ) → IsName name → lexemes (opening_bytes name ++ 10 ∷ rest) ≡ record { kind = kinds.Opening; bytes = opening_bytes name } ∷ lexemes_at false 0 rest
 opening_lexemes name rest h =
@@ -137,12 +134,8 @@ pub opening_piece : (l : List ℕ) (ls : List Lexeme) → cut_lexemes (record { 
 unfolding pieces_at
 opening_piece l ls = refl
 
-opening_read : (v : Version) (l : List ℕ) → piece_read v empty (record { kind = kinds.Opening; bytes = l } ∷ []) ≡ Ok (state Globals [] [] [])
-unfolding piece_read shape act
-opening_read v l = refl
-
 -- all that stands after the opening decides
 pub opened : (v : Version) (name rest : List ℕ) → IsName name →
     in_turn (piece_read v) empty (cut_lexemes (lexemes (opening_bytes name ++ 10 ∷ rest))) ≡ in_turn (piece_read v) (state Globals [] [] []) (pieces_of rest)
-unfolding pieces_of
-opened v name rest h = grind (arith, opening_lexemes, opening_piece, turn, opening_read)
+unfolding pieces_of piece_read shape act
+opened v name rest h = grind (arith, opening_lexemes, opening_piece, turn)

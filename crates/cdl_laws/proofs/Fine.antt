@@ -245,13 +245,10 @@ grown capacity count unit k n m c l before after is len cheap wide more = grind 
 abbrev AreNumbers : Capacity → ℕ → List ℤ → Type 0
 AreNumbers capacity k values = IsRoomy capacity capacity.count 1 k (length values) (Numbers values)
 
-single : (capacity : Capacity) (k : ℕ) (before : List ℤ) (x : ℤ) → AreNumbers capacity k before → (capacity.is_open || nat_lt (length before) capacity.count) ≡ true → AreNumbers capacity (k + 1) (before ++ x ∷ [])
-single capacity k before x is test = grind (arith, length-append, grown)
-
 number_step : (capacity : Capacity) (k : ℕ) (before : List ℤ) (x : Value) → AreNumbers capacity k before → Unit {0} → OkIs (AreNumbers capacity (k + cost x)) (add_number capacity before x)
 number_step capacity k before (Characters bytes) is u = tt
-number_step capacity k before Underscore is u = search (rules, ok_unless, single)
-number_step capacity k before (Number n) is u = search (rules, ok_unless, has_number, single)
+number_step capacity k before Underscore is u = search (rules, ok_unless, length-append, grown)
+number_step capacity k before (Number n) is u = search (rules, ok_unless, has_number, length-append, grown)
 
 abbrev AreJoined : Capacity → ℕ → List ℕ → Type 0
 AreJoined capacity k bytes = IsRoomy capacity capacity.count 1 k (length bytes) (Joined bytes)

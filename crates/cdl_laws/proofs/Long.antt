@@ -60,14 +60,10 @@ constant : (bytes : List ℕ) → list_all (λ b. nat_lt b 256) bytes ≡ true �
 constant [] h = tt
 constant (b ∷ bytes) h = (grind (arith, and_left (nat_lt b 256) (list_all (λ c. nat_lt c 256) bytes) h), constant bytes (and_right (nat_lt b 256) (list_all (λ c. nat_lt c 256) bytes) h))
 
--- what follows an attribute's characters
-following : (bytes : List ℕ) → Each IsByte bytes → Each IsByte (bytes ++ codes "\"" ++ codes " ;\n" ++ [] ++ [] ++ [] ++ codes "}\n")
-following bytes h = search (rules, codes, each_more, constant)
-
 -- though it is a text of bytes
 long_bytes : (n : ℕ) → 0 < n → Each IsByte (long_text n)
 unfolding concat_parts numbers_text chars_text att_line att_lines dim_lines dims_text vars_text gatts_text head_text global_word netcdf_word data_word closing_word escaped_name is_reserved
-long_bytes n some = search (rules, no_nuls, broken_bytes, each_more, codes, constant, following)
+long_bytes n some = search (rules, no_nuls, broken_bytes, each_more, codes, constant)
 
 pub limit_is_needed : LimitIsNeeded
 limit_is_needed n big = (long_text n, trimmed (long n), are_bytes (long_text n) (long_bytes n (omega (arith, big))), long_means n, long_is_bad n big)

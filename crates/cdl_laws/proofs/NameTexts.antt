@@ -19,9 +19,6 @@ escapable b h = follows (nat_le 32 b) (nat_le b 126) (b == 47) (is_beyond_ascii 
 plain : (d u l s m x : Bool) → (((d || u) || l) || s || m || x) ≡ true → (d || m) ≡ false → ((u || l) || s || x) ≡ true
 plain d u l s m x h h2 = grind (arith, false≢true)
 
-pub bare_begins : (b : ℕ) → is_plain b ≡ true → (is_ascii_digit b || is_name_mark b) ≡ false → may_begin_word b ≡ true
-bare_begins b h k = plain (is_ascii_digit b) (is_in_range 65 90 b) (is_in_range 97 122 b) (b == 95) (is_name_mark b) (is_beyond_ascii b) h k
-
 plainly : (d u l s m x : Bool) → (d || m) ≡ true → (((d || u) || l) || s || m || x) ≡ true
 plainly d u l s m x h = grind arith
 
@@ -71,7 +68,7 @@ unfolding escaped_name
 escaped_is b bs = refl
 
 pub begins : (b : ℕ) (bs : List ℕ) → may_begin_name b ≡ true → Begins b bs
-begins b bs h = grind (arith, escapable, first_may_follow, escaped_is, is_plain, bare_begins, or_left, or_right)
+begins b bs h = grind (arith, escapable, first_may_follow, escaped_is, is_plain, or_left, or_right)
 
 -- ---- names
 

@@ -69,13 +69,9 @@ dimensions_read_back d records s k dim h = grind (arith, is_statement, dim_says)
 
 -- ---- declarations
 
-declaration_back : (v : Version) (dims : List Dim) (var : Var) → IsName var.name → AreDimids dims [] var.dimids → has_type v var.ty ≡ true → AreDistinctDims dims → HaveNames dims → DeclarationReadsBack v dims var
-declaration_back v dims var name are known distinct names =
-    grind (arith, shape, name_at, word, dimensions, lines_are, declaration_is, is_statement, typed_says, valid_names, type_is, ids_added)
-
 pub declarations_read_back : DeclarationsReadBack
 declarations_read_back d s k var h =
-    grind (arith, declaration_back d.header.version d.header.dims, each_of (λ (dim : Dim). IsName dim.name) d.header.dims)
+    grind (arith, each_of (λ (dim : Dim). IsName dim.name) d.header.dims, shape, name_at, word, dimensions, lines_are, declaration_is, is_statement, typed_says, valid_names, type_is, ids_added)
 
 -- ---- attributes
 

@@ -35,12 +35,6 @@ same_room dims var fill = ap (λ (f : ℤ). record (capacity_of dims var) { fill
 
 -- ---- rows
 
--- what gives the values of a variable gives its array
-row_of : (d : Dataset) (records width place : ℕ) (var : Var) → IsArray d.header.dims records var (slice_index_or d.arrays place []) → fill_value (trimmed_var var) ≡ fill_value var →
-    (g : Gives d.header.version d.header.dims (look_of d.header var records width) var (values_in_dataset d place var).values) → array_of d.header.dims records (given_draft var (Some g.listing)) ≡ slice_index_or d.arrays place [] →
-    RowReadsBack d records width place var
-row_of d records width place var is fill g back = grind (arith, is_statement, filled, array_len, same_room)
-
 pub rows_read_back : RowsReadBack
 rows_read_back d records width place var s known at some =
     let h = d.header in
@@ -48,7 +42,7 @@ rows_read_back d records width place var s known at some =
     let is = is_array d records place var s known at in
     let name = (all-at (λ (w : Var). IsName w.name × All (λ (att : Att). IsName att.name) w.atts) h.vars place var s.good.names.vars at).0 in
     let keeps = (all-at IsSayableVar h.vars place var s.vars at).fill in
-    search (rules, row_back h.version h records width var array is, row_of d records width place var is (same_value var keeps), same_value var keeps)
+    search (rules, row_back h.version h records width var array is, same_value var keeps, is_statement, filled, array_len, same_room)
 
 pub empty_rows_read_back : EmptyRowsReadBack
 empty_rows_read_back d records place var s known at none =

@@ -41,8 +41,7 @@ list_some P Q R x others c ls p none h f = some_both P Q R (λ a xs. a ∷ xs) x
 word_shorter : (bs : List ℕ) → length (word_value bs) ≤ length bs
 unfolding word_value
 word_shorter (b ∷ c ∷ rest) =
-    let short = word_shorter rest in let long = word_shorter (c ∷ rest) in
-    in_if (λ (w : List ℕ). length w ≤ length (b ∷ c ∷ rest)) (is_escape b c) (c ∷ word_value rest) (b ∷ word_value (c ∷ rest)) (omega (arith, short)) (omega (arith, long))
+    search (rules, in_if, word_shorter rest, word_shorter (c ∷ rest))
 word_shorter _ = omega arith
 
 pub name_short : (l : Lexeme) → SomeIs (λ name. length name ≤ length l.bytes) (name_of l)
@@ -116,14 +115,11 @@ IsFineValue v Underscore = Unit {0}
 one_fine : (v : Version) (takes_fill : Bool) (l : Lexeme) (k : TokenKind) → HasBytes l → SomeIs (IsFineValue v) (constant_of v takes_fill l k)
 one_fine v takes_fill l k h = grind (arith, some_map, numeral_has, stands_fine, each_take, each_drop, codes)
 
-blank_short : (n : ℕ) (b : Bool) → SomeIs (λ x. cost x ≤ suc n) (if_so b (Some Underscore))
-blank_short n b = some_given (λ x. cost x ≤ suc n) b (Some Underscore) (λ e. omega arith)
-
 inner_short : (bs : List ℕ) → length (inner bs) ≤ length bs
 inner_short bs = let a = length-take (length bs - 2) (drop 1 bs) in let b = length-drop 1 bs in omega (arith, a, b)
 
 one_short : (v : Version) (takes_fill : Bool) (l : Lexeme) (k : TokenKind) → SomeIs (λ x. cost x ≤ weight l) (constant_of v takes_fill l k)
-one_short v takes_fill l k = grind (arith, stands_short, inner_short, blank_short, codes)
+one_short v takes_fill l k = grind (arith, stands_short, inner_short, codes)
 
 one_good : (v : Version) (takes_fill : Bool) (l : Lexeme) → HasBytes l → SomeIs (λ x. (cost x ≤ weight l) × IsFineValue v x) (constant v takes_fill l)
 one_good v takes_fill l h = some_and (λ x. cost x ≤ weight l) (IsFineValue v) (constant v takes_fill l) (one_short v takes_fill l l.kind) (one_fine v takes_fill l l.kind h)

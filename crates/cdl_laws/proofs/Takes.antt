@@ -62,13 +62,9 @@ pub record Says (v : Version) (section : Section) (bytes : List ℕ) (statement 
   pub sound : first_bad v piece ≡ None
   pub shaped : shape v section piece ≡ Some statement
 
-piece_is : (v : Version) (s t : State) (piece : List Lexeme) (statement : Statement) → first_bad v piece ≡ None → shape v s.section piece ≡ Some statement → act v s statement ≡ Ok t → piece_read v s piece ≡ Ok t
-unfolding piece_read
-piece_is v s t piece statement h k a = ap (λ o. readings.checked v s o piece) h ∙ ap (readings.shaped v s) k ∙ a
-
 pub says_takes : (v : Version) (bytes : List ℕ) (statement : Statement) (s t : State) → Says v s.section bytes statement → act v s statement ≡ Ok t → Takes v bytes s t
-unfolding pieces_of
-says_takes v bytes statement s t says a rest = grind (arith, turn, piece_is)
+unfolding pieces_of piece_read
+says_takes v bytes statement s t says a rest = grind (arith, turn)
 
 -- ---- lexemes that are no fault and end no statement
 
@@ -83,13 +79,10 @@ fine_plain v [] h = refl
 fine_plain v (l ∷ ls) h =
     grind (arith, and_left, and_both, is_plain, is_none, and_right, fine_plain v ls (and_right (is_fine v l) (list_all (is_fine v) ls) h))
 
-none_is : (o : Option CdlKind) → is_none o ≡ true → o ≡ None
-none_is o h = grind arith
-
 fine_sound : (v : Version) (ls : List Lexeme) → list_all (is_fine v) ls ≡ true → first_bad v (ls ++ semicolon ∷ []) ≡ None
 fine_sound v [] h = refl
 fine_sound v (l ∷ ls) h =
-    grind (arith, and_left, none_is, and_right, is_plain, is_none, fine_sound v ls (and_right (is_fine v l) (list_all (is_fine v) ls) h))
+    grind (arith, and_left, and_right, is_plain, is_none, fine_sound v ls (and_right (is_fine v l) (list_all (is_fine v) ls) h))
 
 -- the sections that have statements to a semicolon
 abbrev pub is_open : Section → Bool

@@ -77,19 +77,12 @@ marks_closed (b ∷ bytes) h =
 
 -- ---- what stops a word or a number
 
-no_backslash : (b : ℕ) → is_stop b ≡ true → (b == 0x5c) ≡ false
-no_backslash b h = is_off (b == 0x5c) (and_right (not (goes_on_word b)) (not (b == 0x5c)) h)
-
 pub stop_word : (rest : List ℕ) → stops rest ≡ true → word_len rest ≡ 0
 unfolding word_len
-stop_word rest h = grind (arith, word_at_start, no_backslash, is_off, and_left)
-
--- by the tests: digit, upper, lower, `_`, point, `@ + -`, beyond
-no_number : (d u l s p a c e x : Bool) → (((d || u) || l) || s || (p || a || c || e) || x) ≡ false → ((u || l) || d || s || p) ≡ false
-no_number d u l s p a c e x h = grind arith
+stop_word rest h = grind (arith, word_at_start, is_off, and_left)
 
 pub stop_number : (rest : List ℕ) → stops rest ≡ true → prefix_len goes_on_number rest ≡ 0
-stop_number rest h = grind (arith, no_number, is_off, and_left)
+stop_number rest h = grind (arith, is_off, and_left)
 
 -- ---- names
 

@@ -181,12 +181,9 @@ cut_in o = elim o [ None ↦ false | Some att ↦ is_cut att ]
 abbrev fill_in : NcType → Option Att → ℤ
 fill_in ty o = unwrap_or (fill_of_att ty o) (default_fill_of ty)
 
-by_option : (o : Option Att) → (fill_in Char (option_map trimmed_att o) ≡ fill_in Char o) ↔ (cut_in o ≡ false)
-by_option o = grind (arith, decided, chars_kept, cut_changes)
-
 pub fill_value_survives_trim : FillValueSurvivesTrim
 unfolding fill_value
-fill_value_survives_trim var char = grind (arith, found_trimmed var.atts, by_option)
+fill_value_survives_trim var char = grind (arith, found_trimmed var.atts, decided, chars_kept, cut_changes)
 
 pub meanings_are_sayable : MeaningsAreSayable
 meanings_are_sayable text v d bytes short e =

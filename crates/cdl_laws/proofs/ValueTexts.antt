@@ -78,10 +78,6 @@ piece_reads look before i x some small fits =
     (closed_both (number_lead look i) (line_break look i end) (comma ∷ []) [] (gap_closed (number_lead look i) (gap look i some small)) (break_closed look i end))
     (text_reads look x fits)
 
-piece_stops : (look : Look) (before : List ℕ) (i : ℕ) (x : ℤ) (more : List ℕ) → 0 < i → (look.in_rows ≡ false → i < look.row) → Stops (number_piece look before i x ++ more)
-unfolding number_piece
-piece_stops look before i x more some small = grind (arith, append_assoc, gap)
-
 -- the values fit
 abbrev pub AreSmall : List ℤ → Type 0
 AreSmall xs = Each (λ x. unsigned_abs x < 2 ^ 64) xs
@@ -100,8 +96,9 @@ unfolding pieces
 pieces_none look before values = refl
 
 more_stop : (look : Look) (before : List ℕ) (values xs : List ℤ) → is_char look.ty ≡ false → 0 < length values → (look.in_rows ≡ false → length values + length xs ≤ look.row) → Stops (pieces look before values xs)
+unfolding number_piece
 more_stop look before values [] h some small = grind (arith, pieces_none, pieces_first, pieces, piece)
-more_stop look before values _ h some small = grind (arith, pieces_first, piece_stops, pieces, piece)
+more_stop look before values _ h some small = grind (arith, pieces_first, pieces, piece, append_assoc, gap)
 
 pub more_read : (look : Look) (before : List ℕ) (values xs : List ℤ) → is_char look.ty ≡ false → 0 < length values → (look.in_rows ≡ false → length values + length xs ≤ look.row) → AreSmall xs →
     Reads (pieces look before values xs) (commas (map (value_lexeme look) xs))

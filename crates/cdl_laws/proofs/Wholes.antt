@@ -30,8 +30,7 @@ all_taken : {X Y : Type 0} (v : Version) (line : X → List ℕ) (f : X → Y) (
 unfolding concat_parts
 all_taken v line f P now step done [] all = subst (λ ys. Takes v [] (now done) (now ys)) (sym (append-nil done)) (takes_nothing v (now done))
 all_taken v line f P now step done (x ∷ xs) all =
-    takes_both v (line x) (concat_parts (map line xs)) (now done) (now (done ++ f x ∷ [])) (now (done ++ map f (x ∷ xs))) (step done x all.0)
-    (subst (λ ys. Takes v (concat_parts (map line xs)) (now (done ++ f x ∷ [])) (now ys)) (append_assoc done (f x ∷ []) (map f xs)) (all_taken v line f P now step (done ++ f x ∷ []) xs all.1))
+    grind (arith, takes_both, append_assoc, all_taken v line f P now step (done ++ f x ∷ []) xs all.1)
 
 -- ---- dimensions
 
