@@ -25,22 +25,18 @@ atts_later v N n m atts f = record { count = (let a = f.count in omega (arith, a
 advanced : (v : Version) (N n m : ℕ) (s : State) (next : Section) → (late next < 3 → late s.section < 3) → IsFineState v N n s → IsFineState v N (n + m) (record s { section = next })
 advanced v N n m s next back f = grind (arith, dims_later, atts_later, all_later)
 
-type_has : (v : Version) (word : Lexeme) → OkIs (λ ty. has_type v ty ≡ true) (type_of v word)
-unfolding type_of
-type_has v word = grind (arith, in_if, codes, ok_or, and_left)
-
 none_left : (n : ℕ) (ds es : List Draft) → (n < 3 → ds ≡ []) → length es ≡ length ds → n < 3 → es ≡ []
 none_left n ds [] early len h = refl
 none_left n ds (e ∷ es) early len h = absurd (let a : length ds ≡ 0 = ap (λ (xs : List Draft). length xs) (early h) in omega (arith, a, len))
 
 act_keeps : (v : Version) (N n m : ℕ) (s : State) (st : Statement) → m ≤ N → IsFineState v N n s → IsSaid v s.section m st → OkIs (IsFineState v N (n + m)) (act v s st)
-unfolding act
+unfolding act type_of
 act_keeps v N n m s Open small f said = advanced v N n m s _ (λ h. omega (arith, said)) f
 act_keeps v N n m s (Enter next) small f said = advanced v N n m s next (λ h. omega (arith, said, h)) f
 act_keeps v N n m s (DeclareDimensions ds) small f said =
     grind (arith, dims_keep v N n m s.dims ds small said.1 f.dims, atts_later v N n m s.gatts f.gatts, ok_then)
 act_keeps v N n m s (DeclareVariables word vs) small f said =
-    grind (arith, ok_then, type_has v word, vars_keep v N n m s.dims, dims_later v N n m s.dims f.dims, atts_later v N n m s.gatts f.gatts)
+    grind (arith, ok_then, vars_keep v N n m s.dims, dims_later v N n m s.dims f.dims, atts_later v N n m s.gatts f.gatts, in_if, codes, ok_or, and_left)
 act_keeps v N n m s (Attribute None name cs) small f said =
     grind (arith, att_keeps v N n m name cs s.gatts small said f.gatts, dims_later v N n m s.dims f.dims, ok_then, all_later)
 act_keeps v N n m s (Attribute (Some variable) name cs) small f said =

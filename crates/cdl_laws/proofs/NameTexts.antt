@@ -31,9 +31,6 @@ begins_plainly d u l s m x h = grind arith
 pub begins_goes_on : (b : ℕ) → may_begin_word b ≡ true → goes_on_word b ≡ true
 begins_goes_on b h = begins_plainly (is_ascii_digit b) (is_in_range 65 90 b) (is_in_range 97 122 b) (b == 95) (is_name_mark b) (is_beyond_ascii b) h
 
-first_may_follow : (b : ℕ) → may_begin_name b ≡ true → may_follow_in_name b ≡ true
-first_may_follow b h = grind (arith, h)
-
 -- ---- the bytes after the first
 
 abbrev pub rest_of : List ℕ → List ℕ
@@ -63,12 +60,9 @@ pub data Begins (b : ℕ) (bs : List ℕ) : Type 0 where
   marked : is_escapable b ≡ true → escaped_name (b ∷ bs) ≡ 0x5c ∷ b ∷ rest_of bs → Begins b bs
   bare : may_begin_word b ≡ true → is_reserved (b ∷ bs) ≡ false → escaped_name (b ∷ bs) ≡ b ∷ rest_of bs → Begins b bs
 
-escaped_is : (b : ℕ) (bs : List ℕ) → escaped_name (b ∷ bs) ≡ (if begins_with_digit_or_mark (b ∷ bs) || is_reserved (b ∷ bs) then 92 ∷ [] else []) ++ (escaped_in_name b ++ rest_of bs)
-unfolding escaped_name
-escaped_is b bs = refl
-
 pub begins : (b : ℕ) (bs : List ℕ) → may_begin_name b ≡ true → Begins b bs
-begins b bs h = grind (arith, escapable, first_may_follow, escaped_is, is_plain, or_left, or_right)
+unfolding escaped_name
+begins b bs h = grind (arith, escapable, is_plain, or_left, or_right, h)
 
 -- ---- names
 

@@ -29,20 +29,17 @@ is_array d records place var s known at =
 same_value : (var : Var) → (is_char var.ty ≡ true → fill_value (trimmed_var var) ≡ fill_value var) → fill_value (trimmed_var var) ≡ fill_value var
 same_value var char = grind (arith, same_fill var)
 
-same_room : (dims : List Dim) (var : Var) → fill_value (trimmed_var var) ≡ fill_value var → capacity_of dims (trimmed_var var) ≡ capacity_of dims var
-unfolding capacity_of
-same_room dims var fill = ap (λ (f : ℤ). record (capacity_of dims var) { fill = f }) fill
-
 -- ---- rows
 
 pub rows_read_back : RowsReadBack
+unfolding capacity_of
 rows_read_back d records width place var s known at some =
     let h = d.header in
     let array = slice_index_or d.arrays place [] in
     let is = is_array d records place var s known at in
     let name = (all-at (λ (w : Var). IsName w.name × All (λ (att : Att). IsName att.name) w.atts) h.vars place var s.good.names.vars at).0 in
     let keeps = (all-at IsSayableVar h.vars place var s.vars at).fill in
-    search (rules, row_back h.version h records width var array is, same_value var keeps, is_statement, filled, array_len, same_room)
+    search (rules, row_back h.version h records width var array is, same_value var keeps, is_statement, filled, array_len)
 
 pub empty_rows_read_back : EmptyRowsReadBack
 empty_rows_read_back d records place var s known at none =

@@ -11,10 +11,6 @@ use Rattle.cdl_laws.proofs.Texts.{name_word, some_name}
 
 -- ---- what begins with a word or a number
 
-prefix_word : (fresh : Bool) (bs : List ℕ) → begins_opening bs ≡ false → begins_a_word bs ≡ true → scan fresh bs ≡ token Word (word_len bs)
-unfolding scan
-prefix_word fresh bs h k = rw (h) (rw (and_false fresh) (rw (k) refl))
-
 -- ---- what stops words and numbers
 
 -- a byte that goes on neither, and begins no escape
@@ -35,12 +31,12 @@ blank_stop b h = let low : b ≤ 0x20 = grind (arith, h) in record { word = grin
 mark_stop : (b : ℕ) → is_mark_byte b ≡ true → IsStop b
 mark_stop b h = grind (arith, one_of, literal)
 
+pub blanks_and_marks_stop : BlanksAndMarksStop
+blanks_and_marks_stop b rest h = grind (arith, one_of (is_blank b) (is_mark_byte b) (blank_stop b) (mark_stop b) h)
+
 -- what stands after the word of an opening
 opens_stop : (b : ℕ) → (is_blank b || b == 0x7b) ≡ true → IsStop b
 opens_stop b h = one_of (is_blank b) (b == 0x7b) (blank_stop b) (literal b 0x7b (record { word = refl; slash = refl; number = refl })) h
-
-pub blanks_and_marks_stop : BlanksAndMarksStop
-blanks_and_marks_stop b rest h = grind (arith, one_of (is_blank b) (is_mark_byte b) (blank_stop b) (mark_stop b) h)
 
 -- ---- names
 
@@ -56,10 +52,6 @@ six_letters : (bs : List ℕ) → word_len (codes "netcdf" ++ bs) ≡ 6 + word_l
 unfolding word_len
 six_letters bs = ap (λ n. 1 + (1 + (1 + (1 + (1 + n))))) (word_at_start 102 bs) ∙ omega arith
 
--- the word that an opening begins with is `netcdf`
-opening_len : (bs : List ℕ) → begins_opening bs ≡ true → word_len bs ≡ 6
-opening_len bs h = grind (arith, get_or-drop, ends_word, and_right, codes, take-append-drop, six_letters)
-
 netcdf_reserved : is_reserved (codes "netcdf") ≡ true
 unfolding is_reserved
 netcdf_reserved = refl
@@ -67,10 +59,11 @@ netcdf_reserved = refl
 -- so no other word begins one
 free_begins : (w rest : List ℕ) → is_reserved w ≡ false → word_len (w ++ rest) ≡ length w → begins_opening (w ++ rest) ≡ false
 free_begins w rest free len =
-    grind (arith, opening_len (w ++ rest), take-append_seam w rest, codes, false≢true, netcdf_reserved)
+    grind (arith, take-append_seam w rest, codes, false≢true, netcdf_reserved, get_or-drop, ends_word, and_right, take-append-drop, six_letters)
 
 name_token : (b : ℕ) (bs rest : List ℕ) → IsName (b ∷ bs) → StopsWord rest → AreToken Word (escaped_name (b ∷ bs)) rest
-name_token b bs rest h stops = grind (arith, and_left, some_name, and_right, begins, name_free, name_len, stop_word, prefix_word, free_begins)
+unfolding scan
+name_token b bs rest h stops = grind (arith, and_left, some_name, and_right, begins, name_free, name_len, stop_word, free_begins)
 
 value_back : (b : ℕ) (bs : List ℕ) → IsName (b ∷ bs) → word_value (escaped_name (b ∷ bs)) ≡ b ∷ bs
 value_back b bs h = grind (arith, and_left, some_name, and_right, begins, name_value)
