@@ -68,9 +68,6 @@ named_past name f [] ds es new h = h
 named_past name f (b ∷ before) ds es new h =
     grind (arith, or_left, or_right, named_past name f before ds es (or_right (bytes_eq b.var.name name) (list_any (λ (d : Draft). bytes_eq d.var.name name) before) new) h)
 
-same_bytes : (name : List ℕ) → bytes_eq name name ≡ true
-same_bytes name = (bytes_eq-Decides name name).1 refl
-
 -- what becomes of the variable after others
 pub variable_is : (f : Draft → Result Draft CdlKind) (before : List Draft) (d e : Draft) (after : List Draft) → IsName d.var.name → no_draft d.var.name before → f d ≡ Ok e →
     change_variable d.var.name f (before ++ d ∷ after) ≡ Ok (before ++ e ∷ after)
@@ -99,7 +96,7 @@ other_name d (e ∷ dims) (suc k) new h = other_name d dims k (or_right (bytes_e
 
 place_is : (dims : List Dim) (k : ℕ) → AreDistinctDims dims → k < length dims → position_or_len (λ (d : Dim). bytes_eq d.name (name_at dims k)) dims ≡ k
 place_is [] k distinct h = absurd (omega (arith, h))
-place_is (d ∷ dims) zero distinct h = rw (same_bytes d.name) refl
+place_is (d ∷ dims) zero distinct h = rw ((bytes_eq-Decides d.name d.name).1 refl) refl
 place_is (d ∷ dims) (suc k) distinct h = search (rules, other_name, place_is dims k distinct.1)
 
 position_is : (dims : List Dim) (k : ℕ) → AreDistinctDims dims → k < length dims → position (λ (d : Dim). bytes_eq d.name (name_at dims k)) dims ≡ Some k

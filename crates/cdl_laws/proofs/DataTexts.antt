@@ -98,20 +98,16 @@ AreGiven v h content n width place before (var ∷ vars) (o ∷ os) = IsGiven v 
 abbrev pub all_marked : List Var → List Bool
 all_marked vars = map (λ (w : Var). true) vars
 
-listed_act : (v : Version) (dims : List Dim) (gatts : List Att) (before after : List Draft) (look : Look) (var : Var) (values : List ℤ) (g : Gives v dims look var values) → IsName var.name → no_draft var.name before →
-    act v (state Values dims gatts (before ++ draft_of var ∷ after)) (Listed var.name g.said) ≡ Ok (state Values dims gatts (before ++ given_draft var (Some g.listing) ∷ after))
-unfolding act
-listed_act v dims gatts before after look var values g valid new = grind (arith, variable_is)
-
 -- one variable before others
 one_taken : (v : Version) (h : Header) (gatts : List Att) (before after : List Draft) (look : Look) (var : Var) (c : VariableValues) (o : Option Listing) (place : ℕ) (others : DataText) (t : State) (b : Bool) →
     IsName var.name → no_draft var.name before → c.missing ≡ None → IsGivenBy b v h.dims look var c.values o →
     Takes v others.text (state Values h.dims gatts (before ++ given_draft var o ∷ after)) t →
     Takes v (if b then with_variable look c.values c.missing place others else others).text (state Values h.dims gatts (before ++ draft_of var ∷ after)) t
+unfolding act
 one_taken v h gatts before after look var c o place others t true valid new all given more =
     rw (all) (takes_both v (variable_text look c.values) others.text (state Values h.dims gatts (before ++ draft_of var ∷ after)) (state Values h.dims gatts (before ++ given_draft var o ∷ after)) t
     (says_takes v (variable_text look c.values) (Listed var.name given.0.said) (state Values h.dims gatts (before ++ draft_of var ∷ after)) (state Values h.dims gatts (before ++ given_draft var o ∷ after)) given.0.says
-    (listed_act v h.dims gatts before after look var c.values given.0 valid new ∙ ap (λ p. Ok (state Values h.dims gatts (before ++ given_draft var p ∷ after))) (sym given.1)))
+    ((grind (arith, variable_is)) ∙ ap (λ p. Ok (state Values h.dims gatts (before ++ given_draft var p ∷ after))) (sym given.1)))
     more)
 one_taken v h gatts before after look var c o place others t false valid new all given more = search rules
 

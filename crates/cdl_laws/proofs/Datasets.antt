@@ -105,11 +105,8 @@ sizes_trimmed : (dims : List Dim) (vars : List Var) → map (padded_size dims) (
 sizes_trimmed dims [] = refl
 sizes_trimmed dims (var ∷ vars) = ap (λ ss. padded_size dims var ∷ ss) (sizes_trimmed dims vars)
 
-total_trimmed : (dims : List Dim) (vars : List Var) → padded_total dims (map trimmed_var vars) ≡ padded_total dims vars
-total_trimmed dims vars = ap sum (sizes_trimmed dims vars)
-
 record_size_of_trimmed : (dims : List Dim) (vars : List Var) → record_size_of dims (map trimmed_var vars) ≡ record_size_of dims vars
-record_size_of_trimmed dims (var ∷ w ∷ vars) = total_trimmed dims (var ∷ w ∷ vars)
+record_size_of_trimmed dims (var ∷ w ∷ vars) = ap sum (sizes_trimmed dims (var ∷ w ∷ vars))
 record_size_of_trimmed dims _ = refl
 
 pub same_record : (dims : List Dim) (vars : List Var) → record_size_of dims (record_vars dims (map trimmed_var vars)) ≡ record_size_of dims (record_vars dims vars)

@@ -200,20 +200,15 @@ global_says v section att said before list name =
     refl (att_fine v att said list)
     (global_in v section (word (escaped_name att.name) ∷ mark 61 ∷ list.l ∷ commas list.ls ++ semicolon ∷ []) before ∙ assigned_is v (Attribute None) att said list name)
 
--- of a variable
-owned_is : (v : Version) (owner : List ℕ) (ls : List Lexeme) → IsName owner → shape v Variables (word (escaped_name owner) ∷ mark 58 ∷ ls) ≡ assigned v false (Attribute (Some owner)) ls
-unfolding shape
-owned_is v owner ls own = rw ((name_word owner own).stands) refl
-
 pub owned_says : (v : Version) (owner : List ℕ) (att : Att) (said : List Value) → IsListOf v (att_text att.ty att.vals) said → IsName owner → IsName att.name → Says v Variables (att_line (escaped_name owner) att) (Attribute (Some owner) att.name said)
-unfolding att_line concat_parts
+unfolding att_line concat_parts shape
 owned_says v owner att said list own name =
     statement_says v Variables (codes "\t\t" ++ (escaped_name owner ++ rest_of_att att)) (word (escaped_name owner)) (mark 58 ∷ word (escaped_name att.name) ∷ mark 61 ∷ list.l ∷ commas list.ls) (Attribute (Some owner) att.name said)
     (closed_both (codes "\t\t") (escaped_name owner ++ rest_of_att att) [] (word (escaped_name owner) ∷ mark 58 ∷ word (escaped_name att.name) ∷ mark 61 ∷ (list.l ∷ commas list.ls ++ semicolon ∷ [])) (marks_closed (codes "\t\t") refl)
     (closed_by (escaped_name owner) (rest_of_att att) (word (escaped_name owner) ∷ []) (mark 58 ∷ word (escaped_name att.name) ∷ mark 61 ∷ (list.l ∷ commas list.ls ++ semicolon ∷ [])) (name_word owner own).reads (λ rest. refl) (att_closed v att said list name)))
     (name_starts owner own)
     (and_both (is_fine v (word (escaped_name owner))) (list_all (is_fine v) (mark 58 ∷ word (escaped_name att.name) ∷ mark 61 ∷ list.l ∷ commas list.ls)) (word_fine v (escaped_name owner)) (att_fine v att said list))
-    (owned_is v owner (word (escaped_name att.name) ∷ mark 61 ∷ list.l ∷ commas list.ls ++ semicolon ∷ []) own ∙ assigned_is v (Attribute (Some owner)) att said list name)
+    ((rw ((name_word owner own).stands) refl) ∙ assigned_is v (Attribute (Some owner)) att said list name)
 
 -- ---- the declaration of a variable
 

@@ -23,9 +23,6 @@ selected : (h : Header) (o : Options) (vars : List Var) → o.chosen ≡ None �
 selected h o [] c d = refl
 selected h o (var ∷ vars) c d = search (rules, selected h o vars c d)
 
-shown_is : (h : Header) (o : Options) (content : ℕ → Var → VariableValues) (n : ℕ) → IsFull o → shown_data_text h o content n (selection_of h o) ≡ variables_text (shown_data h content n o.width) 0 h.vars (all_marked h.vars)
-shown_is h o content n full = grind (arith, selected h o h.vars full.chosen full.coords)
-
 -- after the head
 data_read : (v : Version) (h : Header) (o : Options) (content : ℕ → Var → VariableValues) (n : ℕ) (gatts : List Att) (os : List (Option Listing)) → IsFull o → (vars : List Var) → h.vars ≡ vars → AreGiven v h content n o.width 0 [] vars os →
     in_turn (piece_read v) (state (after_vars (after_dims h.dims) vars) h.dims gatts (map draft_of vars)) (pieces_of (data_word h o ++ ((variables_text (shown_data h content n o.width) 0 vars (all_marked vars)).text ++ codes "}\n"))) ≡ Ok (state Ended h.dims gatts (given_drafts vars os))
@@ -66,7 +63,8 @@ unfolding closing_word
 state_read d o n os full ready section is =
     let h = d.header in
     let v = h.version in
-    let section_is : section ≡ variables_text (shown_data h (values_in_dataset d) n o.width) 0 h.vars (all_marked h.vars) = is ∙ shown_is h o (values_in_dataset d) n full in
+    let section_is : section ≡ variables_text (shown_data h (values_in_dataset d) n o.width) 0 h.vars (all_marked h.vars) = is ∙
+    (grind (arith, selected h o h.vars full.chosen full.coords)) in
     let values = (variables_text (shown_data h (values_in_dataset d) n o.width) 0 h.vars (all_marked h.vars)).text in
     let tail = data_word h o ++ (values ++ codes "}\n") in
     let closes : closing_word section.ending ≡ codes "}\n" = ap (λ (s : DataText). closing_word s.ending) section_is ∙ ap closing_word (data_whole v h (values_in_dataset d) n o.width 0 [] h.vars os ready.given) in

@@ -52,13 +52,9 @@ before_of : (dims : List Dim) → IsBeforeData (after_dims dims)
 before_of [] = globals
 before_of (d ∷ dims) = dimensions
 
-variables_shape : (v : Version) (dims : List Dim) → shape v (after_dims dims) (word (codes "variables") ∷ mark 58 ∷ []) ≡ Some (Enter Variables)
-unfolding shape
-variables_shape v dims = grind arith
-
 pub variables_says : (v : Version) (dims : List Dim) → Says v (after_dims dims) variables_word (Enter Variables)
-unfolding variables_word lexemes_at scan word_len pieces_at is_section
-variables_says v dims = record { piece = word (codes "variables") ∷ mark 58 ∷ []; reads = λ rest. refl; cut = λ rest. refl; sound = refl; shaped = variables_shape v dims }
+unfolding variables_word lexemes_at scan word_len pieces_at is_section shape
+variables_says v dims = record { piece = word (codes "variables") ∷ mark 58 ∷ []; reads = λ rest. refl; cut = λ rest. refl; sound = refl; shaped = grind arith }
 
 pub vars_part : (v : Version) (dims : List Dim) (vars : List Var) (gatts : List Att) → acts.AreDistinctDims dims → acts.HaveNames dims → AreFit v dims [] vars →
     Takes v (vars_text dims vars) (state (after_dims dims) dims gatts []) (state (after_vars (after_dims dims) vars) dims gatts (map draft_of vars))
@@ -72,9 +68,6 @@ vars_part v dims (var ∷ vars) gatts distinct names fit =
     (takes_both v variables_word (concat_parts (map (var_lines dims) (var ∷ vars))) s t u
     (says_takes v variables_word (Enter Variables) s t (variables_says v dims) (mark_act v (after_dims dims) Variables dims gatts []))
     (vars_taken v dims gatts (var ∷ vars) distinct names fit)))
-
-before_vars : (dims : List Dim) (vars : List Var) → IsBeforeData (after_vars (after_dims dims) vars)
-before_vars dims vars = grind (arith, before_of, variables)
 
 -- the line before global attributes is a comment
 pub comment_back : (rest : List ℕ) → pieces_of (global_word ++ rest) ≡ pieces_of rest
@@ -90,7 +83,7 @@ gatts_part v dims vars (a ∷ gatts) drafts speak new =
     let t = state (after_vars (after_dims dims) vars) dims (map trimmed_att (a ∷ gatts)) drafts in
     rw (not_none (length gatts)) (subst (λ bs. Takes v bs s t) (sym (two_texts global_word (concat_parts (map (att_line []) (a ∷ gatts)))))
     (takes_both v global_word (concat_parts (map (att_line []) (a ∷ gatts))) s s t (λ rest. ap (in_turn (piece_read v) s) (comment_back rest))
-    (globals_taken v (after_vars (after_dims dims) vars) dims (a ∷ gatts) drafts (before_vars dims vars) speak new)))
+    (globals_taken v (after_vars (after_dims dims) vars) dims (a ∷ gatts) drafts (grind (arith, before_of, variables)) speak new)))
 
 pub data_mark : (v : Version) (dims : List Dim) (gatts : List Att) (drafts : List Draft) → Takes v (codes "data:\n") (state Variables dims gatts drafts) (state Values dims gatts drafts)
 data_mark v dims gatts drafts = says_takes v (codes "data:\n") (Enter Values) (state Variables dims gatts drafts) (state Values dims gatts drafts) (data_says v) (mark_act v Variables Values dims gatts drafts)

@@ -51,9 +51,6 @@ number_bytes ty x = grind arith
 pub number_size : (ty : NcType) (x : ℤ) → length (bytes_of_number ty x) ≡ size_of ty
 number_size ty x = grind arith
 
-is_same_char : (ty : NcType) → same_type Char ty ≡ true → ty ≡ Char
-is_same_char ty h = grind arith
-
 pub one_times : (n m : ℕ) → suc n * m ≡ n * m + m
 one_times n m = grind arith
 
@@ -71,7 +68,7 @@ constant_step v ty k vals (Number n) part fine =
     }))
 constant_step v ty k vals (Characters bytes) part fine =
     ok_unless (IsPart ty (k + suc (length bytes))) (same_type Char ty) MixedConstants (λ u. Ok (vals ++ bytes)) (λ same.
-    let e : ty ≡ Char = is_same_char ty same in
+    let e : ty ≡ Char = grind arith in
     let one : size_of ty ≡ 1 = ap size_of e in
     record {
       count = part.count + length bytes;

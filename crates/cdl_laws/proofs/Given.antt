@@ -34,17 +34,14 @@ row_all h var n width e = rw (is_on (nat_lt (length var.dimids) 2) e) refl
 
 -- ---- numbers
 
-room_type : (dims : List Dim) (var : Var) → (capacity_of dims (trimmed_var var)).ty ≡ var.ty
-unfolding capacity_of
-room_type dims var = refl
-
 pub listed_numbers : (v : Version) (h : Header) (var : Var) (n width : ℕ) (xs : List ℤ) → 0 < length xs → length xs ≡ value_count h.dims var n → Each (IsInRange var.ty) xs → is_char var.ty ≡ false → IsName var.name →
     Gives v h.dims (look_of h var n width) var xs
+unfolding capacity_of
 listed_numbers v h var n width [] some len range other name = absurd (omega (arith, some))
 listed_numbers v h var n width (x ∷ xs) some len range other name =
     gives_numbers v h.dims (look_of h var n width) var x xs (room_is h var n width (length (x ∷ xs)) len name (same_fill var other)) (ap is_char (look-type h var n width) ∙ other)
     (λ e. let r = row_all h var n width e in omega (arith, r, len)) (all_small var.ty (x ∷ xs) range)
-    (subst (λ ty. Each (λ y. has_number ty y ≡ true) (x ∷ xs)) (sym (room_type h.dims var)) (all_fit var.ty (x ∷ xs) range))
+    (all_fit var.ty (x ∷ xs) range)
 
 -- ---- characters at rank 0 and 1
 
@@ -109,10 +106,6 @@ unfolding rows_of
 rows_are zero row xs h all = tt
 rows_are (suc k) row xs h all = grind (arith, length-take, each_take, length-drop, each_drop, rows_are k row (drop row xs))
 
-rank_two : (h : Header) (var : Var) (n width : ℕ) → (look_of h var n width).in_rows ≡ true → nat_lt (length var.dimids) 2 ≡ false
-unfolding look_of
-rank_two h var n width e = is_off (nat_lt (length var.dimids) 2) e
-
 rank_row : (h : Header) (var : Var) (n width : ℕ) → (look_of h var n width).in_rows ≡ true → (look_of h var n width).row ≡ (capacity_of h.dims (trimmed_var var)).row
 unfolding look_of capacity_of
 rank_row h var n width e = let f = is_off (nat_lt (length var.dimids) 2) e in rw (f) refl
@@ -124,31 +117,23 @@ rows_len (suc k) row xs = ap suc (rows_len k row (drop row xs))
 
 rows_within : (h : Header) (var : Var) (n width k : ℕ) → (look_of h var n width).in_rows ≡ true → suc k * (look_of h var n width).row ≡ value_count h.dims var n → 0 < (look_of h var n width).row →
     (capacity_of h.dims (trimmed_var var)).is_open ≡ false → suc k ≤ (capacity_of h.dims (trimmed_var var)).rows
-unfolding capacity_of
+unfolding capacity_of look_of
 rows_within h var n width k rank split some closed =
-    grind (arith, slab_rows h.dims var.dimids (rank_two h var n width rank), rank_row h var n width rank, lt_of_mul-lt-mul_right)
-
-look_fill : (h : Header) (var : Var) (n width : ℕ) → (look_of h var n width).fill ≡ fill_value var
-unfolding look_of
-look_fill h var n width = refl
+    let two = is_off (nat_lt (length var.dimids) 2) rank in
+    grind (arith, slab_rows h.dims var.dimids two, rank_row h var n width rank, lt_of_mul-lt-mul_right)
 
 pub listed_table : (v : Version) (h : Header) (var : Var) (n width k : ℕ) (xs : List ℤ) → length xs ≡ suc k * (look_of h var n width).row → 0 < (look_of h var n width).row → length xs ≡ value_count h.dims var n → Each (IsInRange var.ty) xs → is_char var.ty ≡ true → IsName var.name →
     fill_value (trimmed_var var) ≡ fill_value var → (look_of h var n width).in_rows ≡ true → Gives v h.dims (look_of h var n width) var xs
-unfolding rows_of
+unfolding rows_of look_of
 listed_table v h var n width k xs split some len range char name fill rank =
     let look = look_of h var n width in
     let same = flat_rows (suc k) look.row xs split in
     subst (λ ys. Gives v h.dims look var ys) same
     (gives_table v h.dims look var (take look.row xs) (rows_of k look.row (drop look.row xs)) (room_is h var n width (length (flat (rows_of (suc k) look.row xs))) (ap (λ (ys : List ℤ). length ys) same ∙ len) name fill) (ap is_char (look-type h var n width) ∙ char) rank
-    (λ e. look_fill h var n width ∙ trimmed_fill h var n width e) (rank_row h var n width rank) some
+    (trimmed_fill h var n width) (rank_row h var n width rank) some
     (λ closed. let few = rows_within h var n width k rank (sym split ∙ len) some closed in let m = rows_len k look.row (drop look.row xs) in omega (arith, few, m)) (rows_are (suc k) look.row xs split (are_characters var.ty xs char range)))
 
 -- ---- arrays
-
--- a listed variable has its array again
-pub array_valued : (v : Version) (dims : List Dim) (look : Look) (var : Var) (values : List ℤ) (n : ℕ) (array : List ℕ) (g : Gives v dims look var values) → length values ≡ value_count dims var n → flat_map (bytes_of_number var.ty) values ≡ array →
-    array_of dims n (given_draft var (Some g.listing)) ≡ array
-array_valued v dims look var values n array g len bytes = search (rules, filled)
 
 -- and one without values has none
 pub array_none : (dims : List Dim) (var : Var) (n : ℕ) → value_count dims var n ≡ 0 → array_of dims n (given_draft var None) ≡ []
@@ -189,13 +174,9 @@ look_rows : (h : Header) (var : Var) (n width : ℕ) → (look_of h var n width)
 unfolding look_of
 look_rows h var n width rank some = table_rows h.dims var.dimids (value_count h.dims var n) (if is_record_var h.dims var then n else 1) rank refl some
 
--- a record variable of rank 1 isn't trimmed
-never_trimmed : (dims : List Dim) (ids : List ℕ) (b : Bool) → not (nat_lt (length ids) 2) ≡ false → is_record_shape dims ids ≡ true → (b && not (is_record_shape dims ids && (length ids == 1))) ≡ false
-never_trimmed dims ids b h h2 = grind (arith, and_false, false≢true, is_on)
-
 line_whole : (h : Header) (var : Var) (n width : ℕ) → (look_of h var n width).in_rows ≡ false → is_record_var h.dims var ≡ true → (look_of h var n width).trimmed ≡ false
 unfolding look_of
-line_whole h var n width rank is = never_trimmed h.dims var.dimids (int_eq (fill_value var) (pos 0)) rank is
+line_whole h var n width rank is = grind (arith, and_false, false≢true, is_on)
 
 -- ---- any variable
 
@@ -231,7 +212,7 @@ row_back v h n width var array is count name fill =
       ] refl)
       | false ↦ (λ other. listed_numbers v h var n width xs some len range other name)
     ] refl in
-    (g, array_valued v h.dims look var xs n array g len (array_numbers h.dims n var array is))
+    (g, search (rules, filled, array_numbers h.dims n var array is))
 
 pub no_bytes : (array : List ℕ) (m size : ℕ) → length array ≡ m * size → m ≡ 0 → array ≡ []
 no_bytes [] m size h z = refl

@@ -62,12 +62,10 @@ fine_commas v (l ∷ ls) h = and_both (is_fine v l) (list_all (is_fine v) (comma
 
 -- ---- data
 
-value_fine : (v : Version) (look : Look) (x : ℤ) → unsigned_abs x < 2 ^ 64 → is_fine v (value_lexeme look x) ≡ true
-value_fine v look x h = grind (arith, word, codes, number, word_fine, value_again)
-
 values_fine : (v : Version) (look : Look) (xs : List ℤ) → AreSmall xs → list_all (is_fine v) (map (value_lexeme look) xs) ≡ true
 values_fine v look [] h = refl
-values_fine v look (x ∷ xs) h = and_both (is_fine v (value_lexeme look x)) (list_all (is_fine v) (map (value_lexeme look) xs)) (value_fine v look x h.0) (values_fine v look xs h.1)
+values_fine v look (x ∷ xs) h = and_both (is_fine v (value_lexeme look x)) (list_all (is_fine v) (map (value_lexeme look) xs))
+    (grind (arith, word, codes, number, word_fine, value_again, h.0)) (values_fine v look xs h.1)
 
 -- NAME = VALUE, ..
 listed_fine : (v : Version) (name : List ℕ) (l : Lexeme) (ls : List Lexeme) → list_all (is_fine v) (l ∷ ls) ≡ true → list_all (is_fine v) (word name ∷ mark 61 ∷ l ∷ commas ls) ≡ true

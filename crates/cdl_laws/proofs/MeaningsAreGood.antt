@@ -131,9 +131,6 @@ bare_same v N n dims (d ∷ ds) f = search (rules, bare_same v N n dims ds f.1)
 att_sound : (v : Version) (N : ℕ) → N < count_limit v → (a : Att) → IsFineAtt v N a → IsSoundAtt v a
 att_sound v N lim a f = grind arith
 
-atts_sound : (v : Version) (N n : ℕ) → N < count_limit v → (atts : List Att) → AreFineAtts v N n atts → All (IsSoundAtt v) atts
-atts_sound v N n lim atts f = all_of (IsSoundAtt v) atts (each_map (IsFineAtt v N) (IsSoundAtt v) atts (att_sound v N lim) f.fine)
-
 var_sound : (v : Version) (N n : ℕ) (dims : List Dim) (r : ℕ) → N < count_limit v → n ≤ N → (d : Draft) → IsFineDraft v N n dims d → IsSmall dims r d → IsSoundVar v dims d.var
 var_sound v N n dims r lim under d f small = grind (arith, shape, all_of, each_map, att_sound)
 
@@ -150,7 +147,7 @@ sound v N n s lim under f small =
       dims = all_of (IsSoundDim v) s.dims (each_map (IsFineDim v N) (IsSoundDim v) s.dims (λ d g. record { name_len = (let b = g.short in omega (arith, b, lim)); len = g.len }) f.dims.fine);
       one_record_dim = f.dims.once;
       gatt_count = (let a = f.gatts.count in omega (arith, a, lim, under));
-      gatts = atts_sound v N n lim s.gatts f.gatts;
+      gatts = all_of (IsSoundAtt v) s.gatts (each_map (IsFineAtt v N) (IsSoundAtt v) s.gatts (att_sound v N lim) f.gatts.fine);
       var_count = (let a = f.drafts.count in let b = length-map s.drafts (λ (d : Draft). d.var) in omega (arith, a, b, lim, under));
       vars = search (rules, all_of, each_of_map, each_both, var_sound);
       small_records = up_to (record_size (header_of v s)) record_limit (and_right all rec_ small);

@@ -19,11 +19,8 @@ escapable b h = follows (nat_le 32 b) (nat_le b 126) (b == 47) (is_beyond_ascii 
 plain : (d u l s m x : Bool) → (((d || u) || l) || s || m || x) ≡ true → (d || m) ≡ false → ((u || l) || s || x) ≡ true
 plain d u l s m x h h2 = grind (arith, false≢true)
 
-plainly : (d u l s m x : Bool) → (d || m) ≡ true → (((d || u) || l) || s || m || x) ≡ true
-plainly d u l s m x h = grind arith
-
 pub marked_plain : (b : ℕ) → (is_ascii_digit b || is_name_mark b) ≡ true → is_plain b ≡ true
-marked_plain b h = plainly (is_ascii_digit b) (is_in_range 65 90 b) (is_in_range 97 122 b) (b == 95) (is_name_mark b) (is_beyond_ascii b) h
+marked_plain b h = grind arith
 
 begins_plainly : (d u l s m x : Bool) → ((u || l) || s || x) ≡ true → (((d || u) || l) || s || m || x) ≡ true
 begins_plainly d u l s m x h = grind arith

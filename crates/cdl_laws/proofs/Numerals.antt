@@ -24,10 +24,6 @@ pub decimal_digits : (n : ℕ) → list_all is_digit (decimal n) ≡ true
 unfolding digits
 decimal_digits n = onto_digits 64 n [] refl
 
-pub decimal_value : (n : ℕ) → n < 2 ^ 64 → number_in 10 0 (decimal n) ≡ n
-unfolding digits
-decimal_value n h = onto_value 64 n [] (let e : 2 ^ 64 ≤ 10 ^ 64 = omega arith in omega (arith, h, e))
-
 -- ---- a decimal with a suffix
 
 -- no digit stands at the start
@@ -42,9 +38,6 @@ digits_then (d ∷ ds) suf h k = rw (and_left (is_digit d) (list_all is_digit ds
 
 not_zero : (d : ℕ) → 48 < d → (d == 48) ≡ false
 not_zero d h = grind (arith, h)
-
-no_sign : (d : ℕ) → is_digit d ≡ true → is_sign d ≡ false
-no_sign d h = grind (arith, h)
 
 -- the number with the type of its suffix
 abbrev with_suffix : Bool → ℕ → Option NcType → Option Parts
@@ -78,7 +71,8 @@ unfolding digits
 unsigned_some v minus ty zero h = zero_back v minus ty
 unsigned_some v minus ty (suc n) h =
     big_back v minus (decimal (suc n)) (number_suffix ty) (decimal_digits (suc n)) (first_decimal (suc n) (omega arith) h) (no_digit_suffix ty) ∙
-    ap (λ m. with_suffix minus m (type_of_suffix v (number_suffix ty))) (decimal_value (suc n) h)
+    ap (λ m. with_suffix minus m (type_of_suffix v (number_suffix ty)))
+    (onto_value 64 (suc n) [] (let e : 2 ^ 64 ≤ 10 ^ 64 = omega arith in omega (arith, h, e)))
 
 unsigned_again : (v : Version) (minus : Bool) (ty : NcType) (n : ℕ) → n < 2 ^ 64 → has_type v ty ≡ true → is_char ty ≡ false →
     with_sign v minus (decimal n ++ number_suffix ty) ≡ Some (record { minus = minus; magnitude = n; ty = ty })
@@ -86,7 +80,7 @@ unsigned_again v minus ty n h k l = unsigned_some v minus ty n h ∙ ap (with_su
 
 first_sign : (ds suf : List ℕ) → list_all is_digit ds ≡ true → 0 < length ds → is_sign (get_or (ds ++ suf) 0 0) ≡ false
 first_sign [] suf h k = absurd (omega (arith, k))
-first_sign (d ∷ ds) suf h k = no_sign d (and_left (is_digit d) (list_all is_digit ds) h)
+first_sign (d ∷ ds) suf h k = grind (arith, (and_left (is_digit d) (list_all is_digit ds) h))
 
 parts_positive : (v : Version) (ty : NcType) (n : ℕ) → n < 2 ^ 64 → has_type v ty ≡ true → is_char ty ≡ false →
     parts v (decimal n ++ number_suffix ty) ≡ Some (record { minus = false; magnitude = n; ty = ty })
@@ -104,12 +98,8 @@ pub numeral_again : (v : Version) (ty : NcType) (n : ℤ) → unsigned_abs n < 2
 unfolding numeral
 numeral_again v ty n h h2 h3 = grind (arith, pos, parts_positive, parts_negative)
 
--- a number as a value
-pub int_known : (v : Version) → has_type v Int ≡ true
-int_known v = grind arith
-
 pub value_again : (v : Version) (n : ℤ) → unsigned_abs n < 2 ^ 64 → numeral v (signed_decimal n) ≡ Some (record { value = n; ty = Int })
-value_again v n h = ap (numeral v) (sym (append-nil (signed_decimal n))) ∙ numeral_again v Int n h (int_known v) refl
+value_again v n h = ap (numeral v) (sym (append-nil (signed_decimal n))) ∙ numeral_again v Int n h (grind arith) refl
 
 -- ---- its token
 

@@ -32,10 +32,6 @@ opening_back name rest h =
     subst (λ l. cut_lexemes (lexemes (l ++ 10 ∷ rest)) ≡ (record { kind = kinds.Opening; bytes = l } ∷ []) ∷ pieces_of rest) (sym (line_is name))
     (ap cut_lexemes (opening_lexemes name rest h) ∙ opening_cut (codes "netcdf " ++ (escaped_name name ++ codes " {")) (lexemes_at false 0 rest))
 
-closing_back : pieces_of (codes "}\n") ≡ brace_piece ∷ end_piece ∷ []
-unfolding pieces_of lexemes_at scan pieces_at
-closing_back = refl
-
 opens : (v : Version) (name : List ℕ) → SaysStatement v Unopened (opening_piece name) Open
 unfolding shape
 opens v name = record { sound = refl; shaped = refl }
@@ -49,6 +45,7 @@ unfolding shape
 ends v = record { sound = refl; shaped = refl }
 
 pub marks_read_back : (v : Version) → MarksReadBack v
+unfolding pieces_of lexemes_at scan pieces_at
 marks_read_back v = record {
   opening = opening_back;
   opens = opens v;
@@ -57,7 +54,7 @@ marks_read_back v = record {
   variables_alone = is_statement v Globals _ _ (variables_says v []);
   values = is_statement v Variables _ _ (data_says v);
   comment = comment_back;
-  closing = closing_back;
+  closing = refl;
   closes = all_of (λ (section : Section). SaysStatement v section brace_piece Close) (Globals ∷ Dimensions ∷ Variables ∷ Values ∷ []) (closes v);
   ends = ends v;
 }

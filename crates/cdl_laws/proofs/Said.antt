@@ -80,18 +80,15 @@ ByteOrNone o = SomeIs IsByte o
 abbrev IsFine : Character → Type 0
 IsFine c = ByteOrNone c.value
 
-character_fine : (bs : List ℕ) → Each IsByte bs → IsFine (character bs)
-unfolding character
-character_fine bs h = search (rules, in_if, each_drop)
-
 zero_fine : (o : Option ℕ) → ByteOrNone o → or_zero o < 256
 zero_fine o h = grind arith
 
 stands_fine : (more : ℕ) (bs : List ℕ) → Each IsByte bs → Each IsByte (map or_zero (unescape_at more bs))
-unfolding unescape_at
+unfolding unescape_at character
 stands_fine more [] h = tt
 stands_fine (suc more) (b ∷ bs) h = stands_fine more bs h.1
-stands_fine zero (b ∷ bs) h = (zero_fine (character (b ∷ bs)).value (character_fine (b ∷ bs) h), stands_fine ((character (b ∷ bs)).len - 1) bs h.1)
+stands_fine zero (b ∷ bs) h =
+    (zero_fine (character (b ∷ bs)).value (search (rules, in_if, each_drop)), stands_fine ((character (b ∷ bs)).len - 1) bs h.1)
 
 stands_short : (more : ℕ) (bs : List ℕ) → length (map or_zero (unescape_at more bs)) ≤ length bs
 unfolding unescape_at
@@ -112,9 +109,6 @@ IsFineValue v (Number n) = HasTypeOf v n
 IsFineValue v (Characters bytes) = Each IsByte bytes
 IsFineValue v Underscore = Unit {0}
 
-one_fine : (v : Version) (takes_fill : Bool) (l : Lexeme) (k : TokenKind) → HasBytes l → SomeIs (IsFineValue v) (constant_of v takes_fill l k)
-one_fine v takes_fill l k h = grind (arith, some_map, numeral_has, stands_fine, each_take, each_drop, codes)
-
 inner_short : (bs : List ℕ) → length (inner bs) ≤ length bs
 inner_short bs = let a = length-take (length bs - 2) (drop 1 bs) in let b = length-drop 1 bs in omega (arith, a, b)
 
@@ -122,7 +116,8 @@ one_short : (v : Version) (takes_fill : Bool) (l : Lexeme) (k : TokenKind) → S
 one_short v takes_fill l k = grind (arith, stands_short, inner_short, codes)
 
 one_good : (v : Version) (takes_fill : Bool) (l : Lexeme) → HasBytes l → SomeIs (λ x. (cost x ≤ weight l) × IsFineValue v x) (constant v takes_fill l)
-one_good v takes_fill l h = some_and (λ x. cost x ≤ weight l) (IsFineValue v) (constant v takes_fill l) (one_short v takes_fill l l.kind) (one_fine v takes_fill l l.kind h)
+one_good v takes_fill l h = some_and (λ x. cost x ≤ weight l) (IsFineValue v) (constant v takes_fill l) (one_short v takes_fill l l.kind)
+    (grind (arith, some_map, numeral_has, stands_fine, each_take, each_drop, codes))
 
 constants_good : (v : Version) (takes_fill : Bool) (ls : List Lexeme) → Each HasBytes ls → SomeIs (λ xs. (total cost xs ≤ mass ls) × Each (IsFineValue v) xs) (constants v takes_fill ls)
 constants_good v takes_fill (l ∷ c ∷ ls) h =
@@ -141,12 +136,10 @@ name_cost name = suc (length name)
 abbrev pub var_cost : Variable → ℕ
 var_cost x = suc (length x.name + total name_cost x.dimensions)
 
-dimension_short : (v : Version) (n e l : Lexeme) → SomeIs (λ d. dim_cost d ≤ weight n) (dimension v n e l)
-dimension_short v n e l = grind (arith, some_given, both, some_both, name_short)
-
 pub dimensions_short : (v : Version) (ls : List Lexeme) → SomeIs (λ ds. total dim_cost ds ≤ mass ls) (dimensions v ls)
 dimensions_short v (n ∷ e ∷ l ∷ c ∷ ls) =
-    list_some (λ d. dim_cost d ≤ weight n) (λ ds. total dim_cost ds ≤ mass ls) _ (dimension v n e l) (dimensions v ls) c ls (dimension_short v n e l) (omega arith) (dimensions_short v ls) (λ d ds a b. omega (arith, a, b))
+    list_some (λ d. dim_cost d ≤ weight n) (λ ds. total dim_cost ds ≤ mass ls) _ (dimension v n e l) (dimensions v ls) c ls
+    (grind (arith, some_given, both, some_both, name_short)) (omega arith) (dimensions_short v ls) (λ d ds a b. omega (arith, a, b))
 dimensions_short v _ = tt
 
 -- the variables after this one

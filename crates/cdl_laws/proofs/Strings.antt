@@ -28,9 +28,6 @@ data IsEscapedAs (b : ℕ) : Type 0 where
 at_literal : (n b : ℕ) → (b == n) ≡ true → IsEscapedAs n → IsEscapedAs b
 at_literal n b e s = subst IsEscapedAs (sym (eqb-true b n e)) s
 
-control_byte : (b : ℕ) → is_ascii_control b ≡ true → b < 256
-control_byte b h = grind (arith, h)
-
 split : (b n : ℕ) → ((b == n) ≡ true → IsEscapedAs b) → ((b == n) ≡ false → IsEscapedAs b) → IsEscapedAs b
 split b n on other = elim (b == n) as (λ w. (b == n) ≡ w → IsEscapedAs b) [ true ↦ on | false ↦ other ] refl
 
@@ -46,13 +43,10 @@ stands b =
     split b 39 (λ e. at_literal 39 b e (letter 39 refl refl refl refl)) (λ e39.
     split b 92 (λ e. at_literal 92 b e (letter 92 refl refl refl refl)) (λ e92.
     elim (is_ascii_control b) as (λ w. is_ascii_control b ≡ w → IsEscapedAs b) [
-      | true ↦ (λ e. octal (control_byte b e) (rw (e8) (rw (e9) (rw (e10) (rw (e11) (rw (e12) (rw (e13) (rw (e34) (rw (e39) (rw (e92) (rw (e) refl)))))))))))
+      | true ↦ (λ e. octal (grind (arith, e))
+          (rw (e8) (rw (e9) (rw (e10) (rw (e11) (rw (e12) (rw (e13) (rw (e34) (rw (e39) (rw (e92) (rw (e) refl)))))))))))
       | false ↦ (λ e. bare e92 e34 (rw (e8) (rw (e9) (rw (e10) (rw (e11) (rw (e12) (rw (e13) (rw (e34) (rw (e39) (rw (e92) (rw (e) refl)))))))))))
     ] refl)))))))))
-
--- the three digits
-high_octal : (b : ℕ) → b < 256 → is_octal (48 + b / 64) ≡ true
-high_octal b h = grind arith
 
 middle_octal : (b : ℕ) → is_octal (48 + b / 8 % 8) ≡ true
 middle_octal b = grind arith
@@ -76,7 +70,8 @@ unescape_one : (b : ℕ) (rest : List ℕ) → IsEscapedAs b → unescape (escap
 unfolding unescape_at character
 unescape_one b rest (letter c o x is same) = rw (same) (letter_again c rest o x ∙ ap (λ n. Some n ∷ unescape rest) is)
 unescape_one b rest (octal small same) =
-    rw (same) (unescape_octal (48 + b / 64) (48 + b / 8 % 8) (48 + b % 8) b rest (high_octal b small) (middle_octal b) (low_octal b) (octal_value b small))
+    rw (same) (unescape_octal (48 + b / 64) (48 + b / 8 % 8) (48 + b % 8) b rest (grind arith) (middle_octal b) (low_octal b)
+    (octal_value b small))
 unescape_one b rest (bare h k same) = rw (same) (rw (h) refl)
 
 -- ---- strings

@@ -25,12 +25,9 @@ is_starter roles.Colon = true
 is_starter roles.Other = true
 is_starter _ = false
 
-plain_goes_on : (r : Role) → is_plain r ≡ true → unless_end r Inside ≡ going_on Inside
-plain_goes_on r h = grind arith
-
 next_goes_on : (p rest : List Lexeme) → all_plain p ≡ true → unless_end (first_role role (p ++ semicolon ∷ rest)) Inside ≡ going_on Inside
 next_goes_on [] rest h = refl
-next_goes_on (t ∷ p) rest h = plain_goes_on (role t) (and_left (is_plain (role t)) (all_plain p) h)
+next_goes_on (t ∷ p) rest h = grind (arith, and_left (is_plain (role t)) (all_plain p) h)
 
 inside_one : (p rest : List Lexeme) → all_plain p ≡ true → pieces_after role Inside (p ++ semicolon ∷ rest) ≡ (p ++ semicolon ∷ []) ∷ pieces_after role Begins rest
 unfolding pieces_after

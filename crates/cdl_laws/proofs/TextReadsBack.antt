@@ -70,8 +70,5 @@ ready d o s full section g is =
       back = search (rules, arrays_back);
     }) section is
 
-back_of : (d : Dataset) (o : Options) (text : List ℕ) (e : Ending) → IsSayable d → IsFull o → IsText d o text e → e ≡ whole → meaning text d.header.version ≡ Ok (trimmed d)
-back_of d o text e h h2 h3 h4 = grind (arith, unknown, number, ready)
-
 pub text_reads_back : TextReadsBack
-text_reads_back d o text s full is = back_of d o text whole s full is refl
+text_reads_back d o text s full is = grind (arith, unknown, number, ready)

@@ -23,9 +23,6 @@ either bytes b f g h h2 = grind arith
 inside : (m n : ℕ) → nat_lt m n ≡ true → m < n
 inside m n h = grind (arith, h)
 
-text_says : (bytes : List ℕ) (n : ℕ) → SaysString bytes (scan_text bytes n)
-text_says bytes n = grind (arith, inside)
-
 opening_says : (bytes bs : List ℕ) (n : ℕ) → SaysString bytes (scan_opening bs n)
 opening_says bytes bs n = either bytes (nat_lt n (length bs)) (token kinds.Opening (6 + n + 1)) (token kinds.Bad (6 + length bs)) (λ e. cc) (λ e. cc)
 
@@ -44,7 +41,7 @@ prefix_says fresh bs =
     (either bytes (begins_number bs) (token kinds.Number (1 + prefix_len goes_on_number bytes)) takes_fill (λ e. cc)
     (either bytes (is_blank (get_or bs 0 0)) (gap 1) comments (λ e. cc)
     (either bytes (begins_comment bs) (gap (prefix_len (λ b. not (b == 0x0a)) bs)) strings (λ e. cc)
-    (either bytes (get_or bs 0 0 == 0x22) (scan_text bytes (len_until 0x22 bytes)) marks (text_says bytes (len_until 0x22 bytes))
+    (either bytes (get_or bs 0 0 == 0x22) (scan_text bytes (len_until 0x22 bytes)) marks (grind (arith, inside))
     (either bytes (is_mark_byte (get_or bs 0 0)) (token kinds.Mark 1) (token kinds.Bad 1) (λ e. cc) (λ e. cc)))))))
 
 -- ---- what it stands for
@@ -53,9 +50,6 @@ all_some : (os : List (Option ℕ)) → list_all is_some os ≡ true → os ≡ 
 all_some [] h = refl
 all_some (None ∷ os) h = cc
 all_some (Some b ∷ os) h = ap (λ xs. Some b ∷ xs) (all_some os h)
-
-string_stands : (b len : ℕ) (bytes : List ℕ) → IsString bytes len → unescape (inner (take len (b ∷ bytes))) ≡ map Some (string_value (inner (take len (b ∷ bytes))))
-string_stands b len bytes s = grind (arith, inner_of, string_value, all_some)
 
 -- ---- the tokens of a text
 
@@ -74,7 +68,8 @@ strings_stand text fresh at (suc more) (b ∷ bytes) e = strings_stand text fres
 strings_stand text fresh at zero (b ∷ bytes) e =
     let f = scan fresh (b ∷ bytes) in
     with_one text at f.kind f.len (tokens_at text (fresh && is_none f.kind) (at + 1) (f.len - 1) bytes)
-    (λ is. subst (λ xs. unescape (inner xs) ≡ map Some (string_value (inner xs))) (sym (raw_is text at f.len (b ∷ bytes) e)) (string_stands b f.len bytes (prefix_says fresh (b ∷ bytes) is)))
+    (λ is. subst (λ xs. unescape (inner xs) ≡ map Some (string_value (inner xs))) (sym (raw_is text at f.len (b ∷ bytes) e))
+    (grind (arith, inner_of, string_value, all_some, prefix_says fresh (b ∷ bytes) is)))
     (strings_stand text (fresh && is_none f.kind) (at + 1) (f.len - 1) bytes (tail_at text at b bytes e))
 
 pub strings_stand_for_bytes : StringsStandForBytes

@@ -61,18 +61,15 @@ free_begins : (w rest : List ℕ) → is_reserved w ≡ false → word_len (w ++
 free_begins w rest free len =
     grind (arith, take-append_seam w rest, codes, false≢true, netcdf_reserved, get_or-drop, ends_word, and_right, take-append-drop, six_letters)
 
-name_token : (b : ℕ) (bs rest : List ℕ) → IsName (b ∷ bs) → StopsWord rest → AreToken Word (escaped_name (b ∷ bs)) rest
-unfolding scan
-name_token b bs rest h stops = grind (arith, and_left, some_name, and_right, begins, name_free, name_len, stop_word, free_begins)
-
 value_back : (b : ℕ) (bs : List ℕ) → IsName (b ∷ bs) → word_value (escaped_name (b ∷ bs)) ≡ b ∷ bs
 value_back b bs h = grind (arith, and_left, some_name, and_right, begins, name_value)
 
 name_back : (b : ℕ) (bs : List ℕ) → IsName (b ∷ bs) → NameReadsBack (b ∷ bs)
+unfolding scan
 name_back b bs h =
     let word = name_word (b ∷ bs) h in
     record {
-      token = λ rest stops. name_token b bs rest h stops;
+      token = λ rest stops. grind (arith, and_left, some_name, and_right, begins, name_free, name_len, stop_word, free_begins);
       free = word.free;
       no_section = opens_none (escaped_name (b ∷ bs)) word.free;
       value = value_back b bs h;

@@ -80,9 +80,6 @@ att_bytes att h = grind (arith, take_bytes (length att.vals - suffix_len nul att
 var_sound : (v : Version) (dims : List Dim) (var : Var) → IsSoundVar v dims var → IsSoundVar v dims (trimmed_var var)
 var_sound v dims var s = search (rules, length-map, over_map, att_sound)
 
-sound_still : (h : Header) → IsSound h → IsSound (trimmed_header h)
-sound_still h s = search (rules, length-map, over_map, att_sound, var_sound, same_record)
-
 bare_trimmed : (vars : List Var) → map trimmed_var (map bare_var vars) ≡ map bare_var (map trimmed_var vars)
 bare_trimmed [] = refl
 bare_trimmed (var ∷ vars) = ap (λ vs. bare_var (trimmed_var var) ∷ vs) (bare_trimmed vars)
@@ -99,7 +96,7 @@ good_still : (d : Dataset) → IsGood d → IsGood (trimmed d)
 good_still d g = record {
   records = g.records;
   is_bare = bare_still d.header g.records g.is_bare;
-  is_sound = sound_still d.header g.is_sound;
+  is_sound = search (rules, length-map, over_map, att_sound, var_sound, same_record, g.is_sound);
   names = record {
     dims = g.names.dims;
     gatts = over_map (λ (a : Att). IsName a.name) trimmed_att d.header.gatts (λ a n. n) g.names.gatts;

@@ -82,14 +82,11 @@ piece_reads look before i x some small fits =
 abbrev pub AreSmall : List ℤ → Type 0
 AreSmall xs = Each (λ x. unsigned_abs x < 2 ^ 64) xs
 
-is_number_piece : (look : Look) (before : List ℕ) (values : List ℤ) (x : ℤ) → is_char look.ty ≡ false → piece look before values x ≡ number_piece look before (length values) x
-unfolding piece
-is_number_piece look before values x h = rw (h) refl
-
 pieces_first : (look : Look) (before : List ℕ) (values : List ℤ) (x : ℤ) (xs : List ℤ) → is_char look.ty ≡ false →
     pieces look before values (x ∷ xs) ≡ number_piece look before (length values) x ++ pieces look (before ++ piece look before values x) (values ++ x ∷ []) xs
-unfolding pieces
-pieces_first look before values x xs h = ap (λ p. p ++ pieces look (before ++ piece look before values x) (values ++ x ∷ []) xs) (is_number_piece look before values x h)
+unfolding pieces piece
+pieces_first look before values x xs h = ap (λ p. p ++ pieces look (before ++ piece look before values x) (values ++ x ∷ []) xs)
+    (rw (h) refl)
 
 pieces_none : (look : Look) (before : List ℕ) (values : List ℤ) → pieces look before values [] ≡ []
 unfolding pieces

@@ -16,10 +16,6 @@ unfolding concat_parts
 parts_append [] b = refl
 parts_append (x ∷ a) b = ap (λ bs. x ++ bs) (parts_append a b) ∙ sym (append_assoc x (concat_parts a) (concat_parts b))
 
-parts_more : (x : List ℕ) (xs : List (List ℕ)) → concat_parts (x ∷ xs) ≡ x ++ concat_parts xs
-unfolding concat_parts
-parts_more x xs = refl
-
 parts_none : concat_parts [] ≡ []
 unfolding concat_parts
 parts_none = refl
@@ -71,33 +67,25 @@ AreNewAtts done more = EachAfter trimmed_att (λ before a. is_new_att before (tr
 att_is : (v : Version) (done : List Att) (a : Att) (s : Speaks v a) → is_new_att done (trimmed_att a) → add_att a.name s.said done ≡ Ok (done ++ trimmed_att a ∷ [])
 att_is v done a s new = att_added done (trimmed_att a) s.said s.name new s.type s.are
 
-global_act : (v : Version) (section : Section) (dims : List Dim) (done : List Att) (a : Att) (said : List Value) (drafts : List Draft) → add_att a.name said done ≡ Ok (done ++ trimmed_att a ∷ []) →
-    act v (state section dims done drafts) (Attribute None a.name said) ≡ Ok (state section dims (done ++ trimmed_att a ∷ []) drafts)
-unfolding act
-global_act v section dims done a said drafts h = ap (λ r. r >>= (λ atts. Ok (state section dims atts drafts))) h
-
 pub globals_taken : (v : Version) (section : Section) (dims : List Dim) (atts : List Att) (drafts : List Draft) → IsBeforeData section → Each (Speaks v) atts → AreNewAtts [] atts →
     Takes v (concat_parts (map (att_line []) atts)) (state section dims [] drafts) (state section dims (map trimmed_att atts) drafts)
+unfolding act
 globals_taken v section dims atts drafts before speak new =
     let now : List Att → State = λ done. state section dims done drafts in
     all_taken v (att_line []) trimmed_att (λ done a. Speaks v a × is_new_att done (trimmed_att a)) now
     (λ done a h. says_takes v (att_line [] a) (Attribute None a.name h.0.said) (now done) (now (done ++ trimmed_att a ∷ [])) (global_says v section a h.0.said before h.0.list h.0.name)
-    (global_act v section dims done a h.0.said drafts (att_is v done a h.0 h.1)))
+    (ap (λ r. r >>= (λ atts. Ok (state section dims atts drafts))) (att_is v done a h.0 h.1)))
     [] atts (each_after trimmed_att (Speaks v) (λ done a. is_new_att done (trimmed_att a)) [] atts speak new)
-
-owned_act : (v : Version) (dims : List Dim) (gatts : List Att) (before : List Draft) (name ids : List ℕ) (done : List Att) (ty : NcType) (a : Att) (said : List Value) → IsName name → no_draft name before → add_att a.name said done ≡ Ok (done ++ trimmed_att a ∷ []) →
-    act v (state Variables dims gatts (before ++ bare_draft name ids done ty ∷ [])) (Attribute (Some name) a.name said) ≡ Ok (state Variables dims gatts (before ++ bare_draft name ids (done ++ trimmed_att a ∷ []) ty ∷ []))
-unfolding act
-owned_act v dims gatts before name ids done ty a said valid new h = grind (arith, variable_is)
 
 pub owned_taken : (v : Version) (dims : List Dim) (gatts : List Att) (before : List Draft) (name ids : List ℕ) (atts : List Att) (ty : NcType) → IsName name → no_draft name before → Each (Speaks v) atts → AreNewAtts [] atts →
     Takes v (concat_parts (map (att_line (escaped_name name)) atts)) (state Variables dims gatts (before ++ bare_draft name ids [] ty ∷ [])) (state Variables dims gatts (before ++ bare_draft name ids (map trimmed_att atts) ty ∷ []))
+unfolding act
 owned_taken v dims gatts before name ids atts ty valid new speak fresh =
     let line = att_line (escaped_name name) in
     let now : List Att → State = λ done. state Variables dims gatts (before ++ bare_draft name ids done ty ∷ []) in
     all_taken v line trimmed_att (λ done a. Speaks v a × is_new_att done (trimmed_att a)) now
     (λ done a h. says_takes v (line a) (Attribute (Some name) a.name h.0.said) (now done) (now (done ++ trimmed_att a ∷ [])) (owned_says v name a h.0.said h.0.list valid h.0.name)
-    (owned_act v dims gatts before name ids done ty a h.0.said valid new (att_is v done a h.0 h.1)))
+    (grind (arith, variable_is, att_is v done a h.0 h.1)))
     [] atts (each_after trimmed_att (Speaks v) (λ done a. is_new_att done (trimmed_att a)) [] atts speak fresh)
 
 -- ---- variables
@@ -117,11 +105,6 @@ draft_of var = record { var = trimmed_var var; listed = None }
 
 abbrev pub AreFit : Version → List Dim → List Draft → List Var → Type 0
 AreFit v dims before vars = EachAfter draft_of (IsFit v dims) before vars
-
-typed_act : (v : Version) (dims : List Dim) (gatts : List Att) (before : List Draft) (var : Var) → IsFit v dims before var → AreDistinctDims dims → HaveNames dims →
-    act v (state Variables dims gatts before) (DeclareVariables (word (type_word var.ty)) (record { name = var.name; dimensions = map (name_at dims) var.dimids } ∷ [])) ≡ Ok (state Variables dims gatts (before ++ bare_draft var.name var.dimids [] var.ty ∷ []))
-unfolding act
-typed_act v dims gatts before var fit distinct names = grind (arith, name_at, type_is, turn, var_added)
 
 -- the shape's names
 known_name : (dims : List Dim) (k : ℕ) → k < length dims → dim_name dims k ≡ escaped_name (name_at dims k)
@@ -147,11 +130,11 @@ unfolding typed_line
 declaration_is dims var are = ap (λ shape. concat_parts (codes "\t" ∷ type_word var.ty ∷ codes " " ∷ escaped_name var.name ∷ shape ∷ codes " ;\n" ∷ [])) (shape_is dims var.dimids are)
 
 pub lines_are : (dims : List Dim) (var : Var) → var_lines dims var ≡ declaration dims var ++ att_lines (escaped_name var.name) var.atts
-unfolding var_lines
+unfolding var_lines concat_parts
 lines_are dims var =
     let atts = att_lines (escaped_name var.name) var.atts in
     parts_append (codes "\t" ∷ type_word var.ty ∷ codes " " ∷ escaped_name var.name ∷ shape_text dims var.dimids ∷ codes " ;\n" ∷ []) (atts ∷ []) ∙
-    ap (λ bs. declaration dims var ++ bs) (parts_more atts [] ∙ ap (λ bs. atts ++ bs) parts_none ∙ append-nil atts)
+    ap (λ bs. declaration dims var ++ bs) (ap (λ bs. atts ++ bs) parts_none ∙ append-nil atts)
 
 var_text : (dims : List Dim) (var : Var) → AreDimids dims [] var.dimids →
     var_lines dims var ≡ typed_line (type_word var.ty) var.name (shape_of (map (name_at dims) var.dimids)) ++ concat_parts (map (att_line (escaped_name var.name)) var.atts)
@@ -160,6 +143,7 @@ var_text dims var are = lines_are dims var ∙ ap (λ line. line ++ att_lines (e
 
 var_taken : (v : Version) (dims : List Dim) (gatts : List Att) (before : List Draft) (var : Var) → IsFit v dims before var → AreDistinctDims dims → HaveNames dims →
     Takes v (var_lines dims var) (state Variables dims gatts before) (state Variables dims gatts (before ++ draft_of var ∷ []))
+unfolding act
 var_taken v dims gatts before var fit distinct names =
     let line = typed_line (type_word var.ty) var.name (shape_of (map (name_at dims) var.dimids)) in
     let shown = map (att_line (escaped_name var.name)) var.atts in
@@ -167,7 +151,10 @@ var_taken v dims gatts before var fit distinct names =
     let t = state Variables dims gatts (before ++ bare_draft var.name var.dimids [] var.ty ∷ []) in
     subst (λ bs. Takes v bs s (state Variables dims gatts (before ++ draft_of var ∷ []))) (sym (var_text dims var fit.shape))
     (takes_both v line (concat_parts shown) s t (state Variables dims gatts (before ++ draft_of var ∷ []))
-    (says_takes v line (DeclareVariables (word (type_word var.ty)) (record { name = var.name; dimensions = map (name_at dims) var.dimids } ∷ [])) s t (typed_says v var.ty var.name (map (name_at dims) var.dimids) fit.name (valid_names dims [] var.dimids names fit.shape)) (typed_act v dims gatts before var fit distinct names))
+    (says_takes v line (DeclareVariables (word (type_word var.ty))
+    (record { name = var.name; dimensions = map (name_at dims) var.dimids } ∷ [])) s t
+    (typed_says v var.ty var.name (map (name_at dims) var.dimids) fit.name (valid_names dims [] var.dimids names fit.shape))
+    (grind (arith, name_at, type_is, turn, var_added)))
     (subst (λ b. Takes v (concat_parts shown) t (state Variables dims gatts (before ++ record { var = record { name = var.name; dimids = var.dimids; atts = map trimmed_att var.atts; ty = var.ty; begin_at = b }; listed = None } ∷ []))) (sym fit.bare)
     (owned_taken v dims gatts before var.name var.dimids var.atts var.ty fit.name fit.new fit.atts fit.fresh)))
 
