@@ -170,10 +170,6 @@ table_rows dims ids total m rank e some =
     subst (WholeRows total) (let same : row ≡ row_len dims ids total = rw (h) refl in same)
     (some_rows (r.rows * m) row total (e ∙ ap (λ p. p * m) r.whole ∙ (let g : r.rows * row * m ≡ r.rows * m * row = grind arith in g)) some)
 
-look_rows : (h : Header) (var : Var) (n width : ℕ) → (look_of h var n width).in_rows ≡ true → 0 < value_count h.dims var n → WholeRows (value_count h.dims var n) (look_of h var n width).row
-unfolding look_of
-look_rows h var n width rank some = table_rows h.dims var.dimids (value_count h.dims var n) (if is_record_var h.dims var then n else 1) rank refl some
-
 line_whole : (h : Header) (var : Var) (n width : ℕ) → (look_of h var n width).in_rows ≡ false → is_record_var h.dims var ≡ true → (look_of h var n width).trimmed ≡ false
 unfolding look_of
 line_whole h var n width rank is = grind (arith, and_false, false≢true, is_on)
@@ -199,6 +195,7 @@ gives_back v h n width var array is some both = record {
 -- any variable that has values is given back by their text: all of them, for every width and wherever the breaks are
 pub row_back : (v : Version) (h : Header) (n width : ℕ) (var : Var) (array : List ℕ) → IsArray h.dims n var array → 0 < value_count h.dims var n → IsName var.name → (is_char var.ty ≡ true → fill_value (trimmed_var var) ≡ fill_value var) →
     (g : Gives v h.dims (look_of h var n width) var (numbers var.ty array)) × (array_of h.dims n (given_draft var (Some g.listing)) ≡ array)
+unfolding look_of
 row_back v h n width var array is count name fill =
     let look = look_of h var n width in
     let xs = numbers var.ty array in
@@ -207,7 +204,9 @@ row_back v h n width var array is count name fill =
     let some : 0 < length xs = omega (arith, len, count) in
     let g : Gives v h.dims look var xs = elim (is_char var.ty) as (λ c. is_char var.ty ≡ c → Gives v h.dims look var xs) [
       | true ↦ (λ char. elim (look.in_rows) as (λ r. look.in_rows ≡ r → Gives v h.dims look var xs) [
-        | true ↦ (λ rank. let rows = look_rows h var n width rank count in listed_table v h var n width rows.0 xs (len ∙ rows.1) rows.2 len range char name (fill char) rank)
+        | true ↦ (λ rank.
+            let rows = table_rows h.dims var.dimids (value_count h.dims var n) (if is_record_var h.dims var then n else 1) rank refl count in
+            listed_table v h var n width rows.0 xs (len ∙ rows.1) rows.2 len range char name (fill char) rank)
         | false ↦ (λ rank. listed_line v h var n width xs some len range char name (fill char) rank (line_whole h var n width rank))
       ] refl)
       | false ↦ (λ other. listed_numbers v h var n width xs some len range other name)

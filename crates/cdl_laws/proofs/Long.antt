@@ -31,12 +31,9 @@ section n = shown_data_text (long n).header options (values_in_dataset (long n))
 abbrev long_text : ℕ → List ℕ
 long_text n = dump_text (long n).header options 0 (section n)
 
-readable : (n : ℕ) → IsReadable (long n) 0 80 []
-unfolding are_within_limits
-readable n = grind (arith, char_speaks Cdf1 (att n) refl a_name)
-
 long_means : (n : ℕ) → meaning (long_text n) Cdf1 ≡ Ok (trimmed (long n))
-long_means n = text_back (long n) options 0 [] full (readable n) (section n) refl
+unfolding are_within_limits
+long_means n = text_back (long n) options 0 [] full (grind (arith, char_speaks Cdf1 (att n) refl a_name)) (section n) refl
 
 no_nuls : (n : ℕ) → 0 < n → without_trailing_nuls (replicate n 97) ≡ replicate n 97
 no_nuls n some =

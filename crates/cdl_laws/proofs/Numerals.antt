@@ -59,9 +59,6 @@ suffix_back : (v : Version) (ty : NcType) → has_type v ty ≡ true → is_char
 unfolding type_of_suffix
 suffix_back v ty h h2 = grind arith
 
-no_digit_suffix : (ty : NcType) → no_digit (number_suffix ty) ≡ true
-no_digit_suffix ty = grind arith
-
 pub on_suffix : (ty : NcType) → list_all goes_on_number (number_suffix ty) ≡ true
 on_suffix ty = grind arith
 
@@ -70,7 +67,7 @@ unsigned_some : (v : Version) (minus : Bool) (ty : NcType) (n : ℕ) → n < 2 ^
 unfolding digits
 unsigned_some v minus ty zero h = zero_back v minus ty
 unsigned_some v minus ty (suc n) h =
-    big_back v minus (decimal (suc n)) (number_suffix ty) (decimal_digits (suc n)) (first_decimal (suc n) (omega arith) h) (no_digit_suffix ty) ∙
+    big_back v minus (decimal (suc n)) (number_suffix ty) (decimal_digits (suc n)) (first_decimal (suc n) (omega arith) h) (grind arith) ∙
     ap (λ m. with_suffix minus m (type_of_suffix v (number_suffix ty)))
     (onto_value 64 (suc n) [] (let e : 2 ^ 64 ≤ 10 ^ 64 = omega arith in omega (arith, h, e)))
 

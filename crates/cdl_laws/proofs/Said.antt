@@ -112,11 +112,9 @@ IsFineValue v Underscore = Unit {0}
 inner_short : (bs : List ℕ) → length (inner bs) ≤ length bs
 inner_short bs = let a = length-take (length bs - 2) (drop 1 bs) in let b = length-drop 1 bs in omega (arith, a, b)
 
-one_short : (v : Version) (takes_fill : Bool) (l : Lexeme) (k : TokenKind) → SomeIs (λ x. cost x ≤ weight l) (constant_of v takes_fill l k)
-one_short v takes_fill l k = grind (arith, stands_short, inner_short, codes)
-
 one_good : (v : Version) (takes_fill : Bool) (l : Lexeme) → HasBytes l → SomeIs (λ x. (cost x ≤ weight l) × IsFineValue v x) (constant v takes_fill l)
-one_good v takes_fill l h = some_and (λ x. cost x ≤ weight l) (IsFineValue v) (constant v takes_fill l) (one_short v takes_fill l l.kind)
+one_good v takes_fill l h = some_and (λ x. cost x ≤ weight l) (IsFineValue v) (constant v takes_fill l)
+    (grind (arith, stands_short, inner_short, codes))
     (grind (arith, some_map, numeral_has, stands_fine, each_take, each_drop, codes))
 
 constants_good : (v : Version) (takes_fill : Bool) (ls : List Lexeme) → Each HasBytes ls → SomeIs (λ xs. (total cost xs ≤ mass ls) × Each (IsFineValue v) xs) (constants v takes_fill ls)

@@ -62,13 +62,9 @@ until_one : (b : ℕ) (rest : List ℕ) → IsEscapedAs b → len_until 0x22 (es
 unfolding len_until
 until_one b rest h = search (rules, until_plain)
 
-letter_again : (c : ℕ) (rest : List ℕ) → is_octal c ≡ false → (c == 0x78) ≡ false → unescape (0x5c ∷ c ∷ rest) ≡ Some (plain_escape c) ∷ unescape rest
-unfolding unescape_at character
-letter_again c rest o x = rw (o) (rw (x) refl)
-
 unescape_one : (b : ℕ) (rest : List ℕ) → IsEscapedAs b → unescape (escaped_in_string b ++ rest) ≡ Some b ∷ unescape rest
 unfolding unescape_at character
-unescape_one b rest (letter c o x is same) = rw (same) (letter_again c rest o x ∙ ap (λ n. Some n ∷ unescape rest) is)
+unescape_one b rest (letter c o x is same) = rw (same) (rw (o) (rw (x) refl) ∙ ap (λ n. Some n ∷ unescape rest) is)
 unescape_one b rest (octal small same) =
     rw (same) (unescape_octal (48 + b / 64) (48 + b / 8 % 8) (48 + b % 8) b rest (grind arith) (middle_octal b) (low_octal b)
     (octal_value b small))

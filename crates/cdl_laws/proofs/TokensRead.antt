@@ -61,9 +61,6 @@ free_begins : (w rest : List ℕ) → is_reserved w ≡ false → word_len (w ++
 free_begins w rest free len =
     grind (arith, take-append_seam w rest, codes, false≢true, netcdf_reserved, get_or-drop, ends_word, and_right, take-append-drop, six_letters)
 
-value_back : (b : ℕ) (bs : List ℕ) → IsName (b ∷ bs) → word_value (escaped_name (b ∷ bs)) ≡ b ∷ bs
-value_back b bs h = grind (arith, and_left, some_name, and_right, begins, name_value)
-
 name_back : (b : ℕ) (bs : List ℕ) → IsName (b ∷ bs) → NameReadsBack (b ∷ bs)
 unfolding scan
 name_back b bs h =
@@ -72,7 +69,7 @@ name_back b bs h =
       token = λ rest stops. grind (arith, and_left, some_name, and_right, begins, name_free, name_len, stop_word, free_begins);
       free = word.free;
       no_section = opens_none (escaped_name (b ∷ bs)) word.free;
-      value = value_back b bs h;
+      value = grind (arith, and_left, some_name, and_right, begins, name_value);
       says = word.stands;
     }
 

@@ -16,10 +16,6 @@ unfolding concat_parts
 parts_append [] b = refl
 parts_append (x ∷ a) b = ap (λ bs. x ++ bs) (parts_append a b) ∙ sym (append_assoc x (concat_parts a) (concat_parts b))
 
-parts_none : concat_parts [] ≡ []
-unfolding concat_parts
-parts_none = refl
-
 -- lines after each of which one thing more stands in the state
 all_taken : {X Y : Type 0} (v : Version) (line : X → List ℕ) (f : X → Y) (P : List Y → X → Type 0) (now : List Y → State) → ((done : List Y) (x : X) → P done x → Takes v (line x) (now done) (now (done ++ f x ∷ []))) →
     (done : List Y) (xs : List X) → EachAfter f P done xs → Takes v (concat_parts (map line xs)) (now done) (now (done ++ map f xs))
@@ -134,7 +130,7 @@ unfolding var_lines concat_parts
 lines_are dims var =
     let atts = att_lines (escaped_name var.name) var.atts in
     parts_append (codes "\t" ∷ type_word var.ty ∷ codes " " ∷ escaped_name var.name ∷ shape_text dims var.dimids ∷ codes " ;\n" ∷ []) (atts ∷ []) ∙
-    ap (λ bs. declaration dims var ++ bs) (ap (λ bs. atts ++ bs) parts_none ∙ append-nil atts)
+    ap (λ bs. declaration dims var ++ bs) (append-nil atts)
 
 var_text : (dims : List Dim) (var : Var) → AreDimids dims [] var.dimids →
     var_lines dims var ≡ typed_line (type_word var.ty) var.name (shape_of (map (name_at dims) var.dimids)) ++ concat_parts (map (att_line (escaped_name var.name)) var.atts)
