@@ -76,10 +76,6 @@ variable_is f before d e after name new h = search (rules, named_past)
 
 -- ---- declarations
 
-pub type_is : (v : Version) (ty : NcType) → has_type v ty ≡ true → type_of v (word (type_word ty)) ≡ Ok ty
-unfolding type_of
-type_is v ty h = grind arith
-
 -- the name of a dimension
 abbrev pub name_at : List Dim → ℕ → List ℕ
 name_at [] k = []

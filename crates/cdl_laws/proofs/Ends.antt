@@ -102,21 +102,18 @@ other_byte b n h k = elim (b == n) as (λ w. (b == n) ≡ w → w ≡ false) [ t
 until_plainly : (b : ℕ) (rest : List ℕ) → is_plain b ≡ true → len_until 0x7b (b ∷ rest) ≡ 1 + len_until 0x7b rest
 until_plainly b rest h = until_plain 0x7b b rest (other_byte b 0x5c h refl) (other_byte b 0x7b h refl)
 
-until_escape : (b : ℕ) (rest : List ℕ) → len_until 0x7b (0x5c ∷ b ∷ rest) ≡ 2 + len_until 0x7b rest
-unfolding len_until
-until_escape b rest = refl
-
 until_rest : (bs rest : List ℕ) → len_until 0x7b (rest_of bs ++ 32 ∷ 123 ∷ rest) ≡ length (rest_of bs) + 1
+unfolding len_until
 until_rest [] rest = until_plain 0x7b 32 (123 ∷ rest) refl refl ∙ ap (λ n. 1 + n) (until_at_start 0x7b 123 rest)
-until_rest (b ∷ bs) rest = grind (arith, is_plain, until_escape, until_rest bs rest, until_plainly)
+until_rest (b ∷ bs) rest = grind (arith, is_plain, until_rest bs rest, until_plainly)
 
 -- the dataset's name, which is looked at no further
 abbrev pub opening_bytes : List ℕ → List ℕ
 opening_bytes name = codes "netcdf " ++ (escaped_name name ++ codes " {")
 
 opening_prefix_is : (name rest : List ℕ) → IsName name → scan true (opening_bytes name ++ 10 ∷ rest) ≡ record { kind = Some kinds.Opening; len = length (opening_bytes name) }
-unfolding scan
-opening_prefix_is name rest h = search (rules, append_assoc, codes, length-append, until_plain, lt-ltb, false≢true, some_name, begins, and_left, marked, until_rest, until_escape, bare, until_plainly)
+unfolding scan len_until
+opening_prefix_is name rest h = search (rules, append_assoc, codes, length-append, until_plain, lt-ltb, false≢true, some_name, begins, and_left, marked, until_rest, bare, until_plainly)
 
 pub opening_lexemes : (name rest : List ℕ) → IsName name → lexemes (opening_bytes name ++ 10 ∷ rest) ≡ record { kind = kinds.Opening; bytes = opening_bytes name } ∷ lexemes_at false 0 rest
 opening_lexemes name rest h =

@@ -1,8 +1,8 @@
 -- A dump is cut into the statements that it was put together from.
 use Rattle.std.proofs.Common.{◌≡◌, ℕ, true, false, List, [], ◌∷◌, ◌++◌, map, sym, ◌∙◌, ap, refl, subst, arith, append-nil, slice_index_or, None, Some, codes, rules}
-use Rattle.cdl_laws.proofs.Prelude.{concat_parts, Att, Dim, Var, Version, escaped_name, AreDimids, netcdf_word, global_word, var_lines, att_lines, shape_text, IsName, type_word, has_type, Section, Unopened, Globals, Dimensions, Variables, Values, Closed, scan, pieces_at, Statement, Open, Enter, Close, End, shape, SaysStatement, IsStatement, PiecesAreStatements, MarksReadBack, opening_line, opening_piece, brace_piece, end_piece, DimensionsReadBack, declaration, DeclarationReadsBack, DeclarationsReadBack, IsBeforeData, globals, dimensions, AttributeReadsBack, AttributesReadBack, GlobalAttributesReadBack, cut_lexemes, lexemes, lexemes_at, pieces_of, Each, all_of, each_map, each_of}
+use Rattle.cdl_laws.proofs.Prelude.{concat_parts, Att, Dim, Var, Version, escaped_name, AreDimids, netcdf_word, global_word, var_lines, att_lines, shape_text, IsName, type_word, has_type, Section, Unopened, Globals, Dimensions, Variables, Values, Closed, scan, pieces_at, Statement, Open, Enter, Close, End, shape, SaysStatement, IsStatement, PiecesAreStatements, MarksReadBack, opening_line, opening_piece, brace_piece, end_piece, DimensionsReadBack, declaration, DeclarationReadsBack, DeclarationsReadBack, IsBeforeData, globals, dimensions, AttributeReadsBack, AttributesReadBack, GlobalAttributesReadBack, cut_lexemes, lexemes, lexemes_at, pieces_of, Each, all_of, each_map, each_of, type_of}
 use Rattle.cdl_tokens.specs.declared.token.TokenKind.TheVariants as kinds
-use Rattle.cdl_laws.proofs.Acts.{AreDistinctDims, HaveNames, ids_added, name_at, type_is}
+use Rattle.cdl_laws.proofs.Acts.{AreDistinctDims, HaveNames, ids_added, name_at}
 use Rattle.cdl_laws.proofs.Declarations.{dim_says, global_says, owned_says, typed_line, shape_of, typed_says}
 use Rattle.cdl_laws.proofs.Ends.{dimensions_says, variables_says, data_says, opening_lexemes, opening_piece as opening_cut, comment_back}
 use Rattle.cdl_laws.proofs.Lines.{pieces_are}
@@ -67,8 +67,9 @@ dimensions_read_back d records s k dim h = grind (arith, is_statement, dim_says)
 -- ---- declarations
 
 pub declarations_read_back : DeclarationsReadBack
+unfolding type_of
 declarations_read_back d s k var h =
-    grind (arith, each_of (λ (dim : Dim). IsName dim.name) d.header.dims, shape, name_at, word, dimensions, lines_are, declaration_is, is_statement, typed_says, valid_names, type_is, ids_added)
+    grind (arith, each_of (λ (dim : Dim). IsName dim.name) d.header.dims, shape, name_at, word, dimensions, lines_are, declaration_is, is_statement, typed_says, valid_names, ids_added)
 
 -- ---- attributes
 

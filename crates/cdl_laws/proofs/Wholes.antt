@@ -1,11 +1,11 @@
 -- The head of a dump, statement after statement.
 use Rattle.std.proofs.Common.{◌≡◌, ℕ, zero, suc, ◌^◌, ◌<◌, true, false, List, [], ◌∷◌, ◌++◌, length, map, sym, ◌∙◌, ap, refl, subst, arith, append_assoc, append-nil, None, Some, Ok, codes}
-use Rattle.cdl_laws.proofs.Prelude.{list_any, bytes_eq, concat_parts, Att, Dim, Var, NcType, Version, escaped_name, AreDimids, joined, dim_line, att_line, att_lines, att_text, var_lines, shape_text, dim_name, IsName, type_word, count_limit, has_type, Section, Dimensions, Variables, trimmed_att, trimmed_var, Value, DeclareDimensions, DeclareVariables, Attribute, State, Draft, act, add_dim, add_att, add_constant, first_type, in_turn, said_dim, IsBeforeData, not_none, Each, ◌>>=◌, declaration, EachAfter, each_after}
+use Rattle.cdl_laws.proofs.Prelude.{list_any, bytes_eq, concat_parts, Att, Dim, Var, NcType, Version, escaped_name, AreDimids, joined, dim_line, att_line, att_lines, att_text, var_lines, shape_text, dim_name, IsName, type_word, count_limit, has_type, Section, Dimensions, Variables, trimmed_att, trimmed_var, Value, DeclareDimensions, DeclareVariables, Attribute, State, Draft, act, add_dim, add_att, add_constant, first_type, in_turn, said_dim, IsBeforeData, not_none, Each, ◌>>=◌, declaration, EachAfter, each_after, type_of}
 use Rattle.cdl_laws.proofs.Texts.{word}
 use Rattle.cdl_laws.proofs.ValueTexts.{turn}
 use Rattle.cdl_laws.proofs.Takes.{Takes, says_takes, takes_both, takes_nothing}
 use Rattle.cdl_laws.proofs.Declarations.{dim_says, IsListOf, global_says, owned_says, AreNames, shape_of, typed_line, typed_says}
-use Rattle.cdl_laws.proofs.Acts.{record_once, dim_added, is_new_att, att_added, no_draft, variable_is, type_is, name_at, AreDistinctDims, HaveNames, name_valid, bare_draft, var_added}
+use Rattle.cdl_laws.proofs.Acts.{record_once, dim_added, is_new_att, att_added, no_draft, variable_is, name_at, AreDistinctDims, HaveNames, name_valid, bare_draft, var_added}
 use Rattle.std.proofs.lemmas.List.{map-id}
 
 abbrev pub state : Section → List Dim → List Att → List Draft → State
@@ -139,7 +139,7 @@ var_text dims var are = lines_are dims var ∙ ap (λ line. line ++ att_lines (e
 
 var_taken : (v : Version) (dims : List Dim) (gatts : List Att) (before : List Draft) (var : Var) → IsFit v dims before var → AreDistinctDims dims → HaveNames dims →
     Takes v (var_lines dims var) (state Variables dims gatts before) (state Variables dims gatts (before ++ draft_of var ∷ []))
-unfolding act
+unfolding act type_of
 var_taken v dims gatts before var fit distinct names =
     let line = typed_line (type_word var.ty) var.name (shape_of (map (name_at dims) var.dimids)) in
     let shown = map (att_line (escaped_name var.name)) var.atts in
@@ -150,7 +150,7 @@ var_taken v dims gatts before var fit distinct names =
     (says_takes v line (DeclareVariables (word (type_word var.ty))
     (record { name = var.name; dimensions = map (name_at dims) var.dimids } ∷ [])) s t
     (typed_says v var.ty var.name (map (name_at dims) var.dimids) fit.name (valid_names dims [] var.dimids names fit.shape))
-    (grind (arith, name_at, type_is, turn, var_added)))
+    (grind (arith, name_at, turn, var_added)))
     (subst (λ b. Takes v (concat_parts shown) t (state Variables dims gatts (before ++ record { var = record { name = var.name; dimids = var.dimids; atts = map trimmed_att var.atts; ty = var.ty; begin_at = b }; listed = None } ∷ []))) (sym fit.bare)
     (owned_taken v dims gatts before var.name var.dimids var.atts var.ty fit.name fit.new fit.atts fit.fresh)))
 
