@@ -45,9 +45,6 @@ ok_unless Q b e f h = grind arith
 pub ok_when : {B : Type 0} (Q : B → Type 0) (b : Bool) (e : CdlKind) (f : ⊤ → Result B CdlKind) → (b ≡ false → OkIs Q (f tt)) → OkIs Q (when b e >>= f)
 ok_when Q b e f h = grind arith
 
-pub ok_found : {A B : Type 0} (P : A → Type 0) (Q : B → Type 0) (o : Option A) (e : CdlKind) (f : A → Result B CdlKind) → SomeIs P o → ((a : A) → P a → OkIs Q (f a)) → OkIs Q (ok_or o e >>= f)
-ok_found P Q o e f h h2 = grind arith
-
 -- ---- totals
 
 abbrev pub total : {X : Type 0} → (X → ℕ) → List X → ℕ
