@@ -52,14 +52,11 @@ six_letters : (bs : List ℕ) → word_len (codes "netcdf" ++ bs) ≡ 6 + word_l
 unfolding word_len
 six_letters bs = ap (λ n. 1 + (1 + (1 + (1 + (1 + n))))) (word_at_start 102 bs) ∙ omega arith
 
-netcdf_reserved : is_reserved (codes "netcdf") ≡ true
-unfolding is_reserved
-netcdf_reserved = refl
-
 -- so no other word begins one
 free_begins : (w rest : List ℕ) → is_reserved w ≡ false → word_len (w ++ rest) ≡ length w → begins_opening (w ++ rest) ≡ false
+unfolding is_reserved
 free_begins w rest free len =
-    grind (arith, take-append_seam w rest, codes, false≢true, netcdf_reserved, get_or-drop, ends_word, and_right, take-append-drop, six_letters)
+    grind (arith, take-append_seam w rest, codes, false≢true, get_or-drop, ends_word, and_right, take-append-drop, six_letters)
 
 name_back : (b : ℕ) (bs : List ℕ) → IsName (b ∷ bs) → NameReadsBack (b ∷ bs)
 unfolding scan
