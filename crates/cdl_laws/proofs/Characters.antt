@@ -1,9 +1,9 @@
 -- The strings of a variable of characters are read back, and what a row shows, filled up, is the row.
 use Rattle.std.proofs.Common.{◌≡◌, ℕ, suc, ◌+◌, ◌*◌, ◌<◌, ◌≤◌, true, false, List, [], ◌∷◌, ◌++◌, length, map, sym, ◌∙◌, ap, refl, subst, arith, append_assoc, append-nil, length-append, ℤ, ◌==◌, codes, zero, ◌-◌, Bool, pos, unsigned_abs, if◌then◌else◌, replicate, Some, Ok, rules}
-use Rattle.cdl_laws.proofs.Prelude.{flat_map, escaped_name, escaped_text, IsName, Look, is_char, char_lead, pieces, variable_opening, variable_closing, variable_text, Lexeme, Each, prefix_is, pieces_are, a_row, char_pieces, printed, eqb-true, map-append, length-replicate, replicate_more, Version, escaped_in_string, is_nul, string_value, stands_for, Characters, constant, constants, Capacity, Joined, Rows, add_row, filled, in_turn, listing_of, values_in, le-leb, length-map, ◌>>=◌, any_each}
+use Rattle.cdl_laws.proofs.Prelude.{flat_map, escaped_name, escaped_text, IsName, Look, is_char, char_lead, pieces, variable_opening, variable_closing, variable_text, Lexeme, Each, prefix_is, pieces_are, a_row, char_pieces, printed, eqb-true, map-append, length-replicate, replicate_more, Version, escaped_in_string, is_nul, string_value, stands_for, Characters, constant, constants, Capacity, Joined, Rows, add_row, filled, in_turn, listing_of, values_in, le-leb, length-map, ◌>>=◌, any_each, lt-ltb}
 use Rattle.cdl_laws.proofs.Texts.{Closed, closed_both, mark, marks_closed, word}
 use Rattle.cdl_laws.proofs.Strings.{string, string_then, unescape_all, between_quotes}
-use Rattle.cdl_laws.proofs.ValueTexts.{commas, comma, opening_closed, semicolon, turn, room_for, constants_say}
+use Rattle.cdl_laws.proofs.ValueTexts.{commas, comma, opening_closed, semicolon, turn, constants_say}
 
 -- ---- strings in a list
 
@@ -148,7 +148,7 @@ rows_added : (capacity : Capacity) (t : Bool) (before : List (List ℕ)) (rows :
     in_turn (add_row capacity) before (map Characters (map (printed t 0) rows)) ≡ Ok (before ++ map (printed t 0) rows)
 rows_added capacity t before [] wide all = ap Ok (sym (append-nil before))
 rows_added capacity t before (r ∷ rows) wide all =
-    grind (arith, length-append, turn, append_assoc, rows_added capacity t (before ++ printed t 0 r ∷ []) rows, room_for, le-leb, shown_len)
+    grind (arith, length-append, turn, append_assoc, rows_added capacity t (before ++ printed t 0 r ∷ []) rows, le-leb, shown_len, lt-ltb)
 
 pub rows_listed : (capacity : Capacity) (t : Bool) (rows : List (List ℤ)) → is_char capacity.ty ≡ true → capacity.in_rows ≡ true → (capacity.is_open ≡ false → length rows ≤ capacity.rows) → Each (λ (r : List ℤ). (length r ≡ capacity.row) × Each IsCharacter r) rows →
     listing_of capacity (map Characters (map (printed t 0) rows)) ≡ Ok (Rows (map (printed t 0) rows))

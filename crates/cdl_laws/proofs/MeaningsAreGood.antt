@@ -15,12 +15,9 @@ pub record IsFineState (v : Version) (N n : ℕ) (s : State) : Type 0 where
   -- no variable stands before the section of variables
   pub early : late s.section < 3 → s.drafts ≡ []
 
-dims_later : (v : Version) (N n m : ℕ) (dims : List Dim) → AreFineDims v N n dims → AreFineDims v N (n + m) dims
-dims_later v N n m dims f = record { count = (let a = f.count in omega (arith, a)); fine = f.fine; names = f.names; once = f.once }
-
 -- the same dataset in another section
 advanced : (v : Version) (N n m : ℕ) (s : State) (next : Section) → (late next < 3 → late s.section < 3) → IsFineState v N n s → IsFineState v N (n + m) (record s { section = next })
-advanced v N n m s next back f = grind (arith, dims_later, all_later)
+advanced v N n m s next back f = grind (arith, all_later)
 
 none_left : (n : ℕ) (ds es : List Draft) → (n < 3 → ds ≡ []) → length es ≡ length ds → n < 3 → es ≡ []
 none_left n ds [] early len h = refl
@@ -33,15 +30,15 @@ act_keeps v N n m s (Enter next) small f said = advanced v N n m s next (λ h. o
 act_keeps v N n m s (DeclareDimensions ds) small f said =
     grind (arith, dims_keep v N n m s.dims ds small said.1 f.dims, ok_then)
 act_keeps v N n m s (DeclareVariables word vs) small f said =
-    grind (arith, ok_then, vars_keep v N n m s.dims, dims_later v N n m s.dims f.dims, in_if, codes, ok_or, and_left)
+    grind (arith, ok_then, vars_keep v N n m s.dims, in_if, codes, ok_or, and_left)
 act_keeps v N n m s (Attribute None name cs) small f said =
-    grind (arith, att_keeps v N n m name cs s.gatts small said f.gatts, dims_later v N n m s.dims f.dims, ok_then, all_later)
+    grind (arith, att_keeps v N n m name cs s.gatts small said f.gatts, ok_then, all_later)
 act_keeps v N n m s (Attribute (Some variable) name cs) small f said =
     let kept = at_keeps v N n m s.dims variable (with_att name cs) (with_att_keeps v N n m s.dims name cs small said) s.drafts f.drafts in
-    grind (arith, kept, ok_then, dims_later v N n m s.dims f.dims, none_left (late s.section) s.drafts)
+    grind (arith, kept, ok_then, none_left (late s.section) s.drafts)
 act_keeps v N n m s (Listed variable xs) small f said =
     let kept = at_keeps v N n m s.dims variable (with_values s.dims xs) (with_values_keeps v N n m s.dims variable xs small said) s.drafts f.drafts in
-    grind (arith, kept, ok_then, dims_later v N n m s.dims f.dims, none_left (late s.section) s.drafts)
+    grind (arith, kept, ok_then, none_left (late s.section) s.drafts)
 act_keeps v N n m s _ small f said = advanced v N n m s _ (λ h. absurd (omega (arith, h))) f
 
 -- ---- the run

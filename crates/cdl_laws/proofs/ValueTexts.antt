@@ -165,9 +165,6 @@ values_said v look x xs fit = constants_say v true (value_lexeme look) (value_sa
 
 -- ---- what becomes of them
 
-pub room_for : (is_open : Bool) (m n : ℕ) → (is_open ≡ false → m < n) → (is_open || nat_lt m n) ≡ true
-room_for is_open m n h = grind (arith, lt-ltb)
-
 all_added : (look : Look) (capacity : Capacity) (before xs : List ℤ) → capacity.fill ≡ look.fill → (capacity.is_open ≡ false → length before + length xs ≤ capacity.count) → Each (λ x. has_number capacity.ty x ≡ true) xs →
     in_turn (add_number capacity) before (map (value_said look) xs) ≡ Ok (before ++ xs)
 all_added look capacity before [] same wide fit = ap Ok (sym (append-nil before))
