@@ -165,9 +165,6 @@ cut_changes vals h e =
     let b : 1 < length vals = grind (arith, and_right (length (without_trailing_nuls vals) == 1) (nat_lt 1 (length vals)) h) in
     grind (arith, lone (without_trailing_nuls vals) (none_left vals) a, none_left vals)
 
-decided : (b : Bool) (A : Type 0) → (b ≡ false → A) → (b ≡ true → A → ⊥) → A ↔ (b ≡ false)
-decided b A h h2 = grind arith
-
 found_trimmed : (atts : List Att) → find is_fill_att (map trimmed_att atts) ≡ option_map trimmed_att (find is_fill_att atts)
 found_trimmed [] = refl
 found_trimmed (a ∷ atts) = search (rules, found_trimmed atts)
@@ -180,7 +177,7 @@ fill_in ty o = unwrap_or (fill_of_att ty o) (default_fill_of ty)
 
 pub fill_value_survives_trim : FillValueSurvivesTrim
 unfolding fill_value
-fill_value_survives_trim var char = grind (arith, found_trimmed var.atts, decided, chars_kept, cut_changes)
+fill_value_survives_trim var char = grind (arith, found_trimmed var.atts, chars_kept, cut_changes)
 
 pub meanings_are_sayable : MeaningsAreSayable
 meanings_are_sayable text v d bytes short e =
