@@ -8,15 +8,10 @@ use Rattle.cdl_laws.proofs.DataTexts.{AreGiven, given_drafts, all_marked, data_t
 use Rattle.cdl_laws.proofs.Ends.{opening_bytes, opened, dims_part, vars_part, gatts_part, data_mark, end_taken, after_dims, after_vars}
 use Rattle.cdl_laws.proofs.Lines.{pieces_are, run_is}
 
--- the parts of a dump
-regroup : (e d w g m s c : List ℕ) →
-    (codes "netcdf " ++ (e ++ (codes " {\n" ++ (d ++ (w ++ (g ++ [])))))) ++ (m ++ (s ++ (c ++ []))) ≡ (codes "netcdf " ++ (e ++ codes " {")) ++ 10 ∷ (d ++ (w ++ (g ++ (m ++ (s ++ c)))))
-regroup e d w g m s c = search (rules, codes, append_assoc, append-nil)
-
 dump_is : (h : Header) (o : Options) (n : ℕ) (section : DataText) →
     dump_text h o n section ≡ opening_bytes o.name ++ 10 ∷ (dims_text n h.dims ++ (vars_text h.dims h.vars ++ (gatts_text h.gatts ++ (data_word h o ++ (section.text ++ closing_word section.ending)))))
 unfolding concat_parts head_text netcdf_word
-dump_is h o n section = regroup (escaped_name o.name) (dims_text n h.dims) (vars_text h.dims h.vars) (gatts_text h.gatts) (data_word h o) section.text (closing_word section.ending)
+dump_is h o n section = search (rules, codes, append_assoc, append-nil)
 
 -- all variables are selected
 selected : (h : Header) (o : Options) (vars : List Var) → o.chosen ≡ None → o.coords ≡ false → map (is_selected h o) vars ≡ all_marked vars

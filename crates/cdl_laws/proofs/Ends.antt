@@ -1,5 +1,5 @@
 -- The opening, the section marks and the closing brace of a dump.
-use Rattle.std.proofs.Common.{◌≡◌, ℕ, ◌+◌, true, false, List, [], ◌∷◌, ◌++◌, length, map, sym, ◌∙◌, ap, refl, subst, arith, append_assoc, append-nil, length-append, ◌==◌, Some, Ok, codes, rules}
+use Rattle.std.proofs.Common.{◌≡◌, ℕ, ◌+◌, true, false, List, [], ◌∷◌, ◌++◌, length, map, sym, ◌∙◌, ap, refl, subst, arith, append_assoc, append-nil, length-append, ◌==◌, Some, Ok, codes, rules, if◌then◌else◌, suc}
 use Rattle.cdl_laws.proofs.Prelude.{false≢true, eqb-true, concat_parts, Att, Dim, Var, Version, escaped_name, is_reserved, name_of, is_plain, dim_line, dim_lines, dims_text, att_line, att_lines, var_lines, vars_text, gatts_text, dimensions_word, variables_word, global_word, IsName, Section, Globals, Dimensions, Variables, Values, Ended, scan, word_len, len_until, Lexeme, piece_read, empty, pieces_at, is_section, cut_lexemes, lexemes_at, lexemes, pieces_of, trimmed_att, Enter, shape, State, Draft, act, in_turn, IsBeforeData, globals, dimensions, variables, and_left, until_at_start, lt-ltb, not_none, Each}
 use Rattle.cdl_tokens.specs.declared.token.TokenKind.TheVariants as kinds
 use Rattle.cdl_laws.proofs.NameTexts.{rest_of, Begins, marked, bare, begins}
@@ -34,19 +34,22 @@ abbrev pub after_vars : Section → List Var → Section
 after_vars section [] = section
 after_vars section (var ∷ vars) = Variables
 
-two_texts : (a b : List ℕ) → concat_parts (a ∷ b ∷ []) ≡ a ++ b
+-- the word of a section, and its lines
+headed : (v : Version) (head : List ℕ) (lines : List (List ℕ)) (n : ℕ) (s t u : State) → Takes v head s t → Takes v (concat_parts lines) t u →
+    Takes v (if suc n == 0 then [] else concat_parts (head ∷ concat_parts lines ∷ [])) s u
 unfolding concat_parts
-two_texts a b = ap (λ bs. a ++ bs) (append-nil b)
+headed v head lines n s t u p q =
+    rw (not_none n) (subst (λ bs. Takes v (head ++ bs) s u) (sym (append-nil (concat_parts lines))) (takes_both v head (concat_parts lines) s t u p q))
 
 pub dims_part : (v : Version) (n : ℕ) (dims : List Dim) (gatts : List Att) (drafts : List Draft) → AreNewDims v [] dims →
     Takes v (dims_text n dims) (state Globals [] gatts drafts) (state (after_dims dims) dims gatts drafts)
 unfolding dims_text dim_lines
 dims_part v n [] gatts drafts h = takes_nothing v (state Globals [] gatts drafts)
 dims_part v n (d ∷ dims) gatts drafts h =
-    rw (not_none (length dims)) (subst (λ bs. Takes v bs (state Globals [] gatts drafts) (state Dimensions (d ∷ dims) gatts drafts)) (sym (two_texts dimensions_word (concat_parts (map (dim_line n) (d ∷ dims)))))
-    (takes_both v dimensions_word (concat_parts (map (dim_line n) (d ∷ dims))) (state Globals [] gatts drafts) (state Dimensions [] gatts drafts) (state Dimensions (d ∷ dims) gatts drafts)
-    (says_takes v dimensions_word (Enter Dimensions) (state Globals [] gatts drafts) (state Dimensions [] gatts drafts) (dimensions_says v) (mark_act v Globals Dimensions [] gatts drafts))
-    (dims_taken v n (d ∷ dims) gatts drafts h)))
+    let in_dims : List Dim → State = λ done. state Dimensions done gatts drafts in
+    headed v dimensions_word (map (dim_line n) (d ∷ dims)) (length dims) (state Globals [] gatts drafts) (in_dims []) (in_dims (d ∷ dims))
+    (says_takes v dimensions_word (Enter Dimensions) (state Globals [] gatts drafts) (in_dims []) (dimensions_says v) (mark_act v Globals Dimensions [] gatts drafts))
+    (dims_taken v n (d ∷ dims) gatts drafts h)
 
 before_of : (dims : List Dim) → IsBeforeData (after_dims dims)
 before_of [] = globals
@@ -63,11 +66,9 @@ vars_part v dims [] gatts distinct names fit = takes_nothing v (state (after_dim
 vars_part v dims (var ∷ vars) gatts distinct names fit =
     let s = state (after_dims dims) dims gatts [] in
     let t = state Variables dims gatts [] in
-    let u = state Variables dims gatts (map draft_of (var ∷ vars)) in
-    rw (not_none (length vars)) (subst (λ bs. Takes v bs s u) (sym (two_texts variables_word (concat_parts (map (var_lines dims) (var ∷ vars)))))
-    (takes_both v variables_word (concat_parts (map (var_lines dims) (var ∷ vars))) s t u
+    headed v variables_word (map (var_lines dims) (var ∷ vars)) (length vars) s t (state Variables dims gatts (map draft_of (var ∷ vars)))
     (says_takes v variables_word (Enter Variables) s t (variables_says v dims) (mark_act v (after_dims dims) Variables dims gatts []))
-    (vars_taken v dims gatts (var ∷ vars) distinct names fit)))
+    (vars_taken v dims gatts (var ∷ vars) distinct names fit)
 
 -- the line before global attributes is a comment
 pub comment_back : (rest : List ℕ) → pieces_of (global_word ++ rest) ≡ pieces_of rest
@@ -80,10 +81,9 @@ unfolding gatts_text att_lines
 gatts_part v dims vars [] drafts speak new = takes_nothing v (state (after_vars (after_dims dims) vars) dims [] drafts)
 gatts_part v dims vars (a ∷ gatts) drafts speak new =
     let s = state (after_vars (after_dims dims) vars) dims [] drafts in
-    let t = state (after_vars (after_dims dims) vars) dims (map trimmed_att (a ∷ gatts)) drafts in
-    rw (not_none (length gatts)) (subst (λ bs. Takes v bs s t) (sym (two_texts global_word (concat_parts (map (att_line []) (a ∷ gatts)))))
-    (takes_both v global_word (concat_parts (map (att_line []) (a ∷ gatts))) s s t (λ rest. ap (in_turn (piece_read v) s) (comment_back rest))
-    (globals_taken v (after_vars (after_dims dims) vars) dims (a ∷ gatts) drafts (grind (arith, before_of, variables)) speak new)))
+    headed v global_word (map (att_line []) (a ∷ gatts)) (length gatts) s s (state (after_vars (after_dims dims) vars) dims (map trimmed_att (a ∷ gatts)) drafts)
+    (λ rest. ap (in_turn (piece_read v) s) (comment_back rest))
+    (globals_taken v (after_vars (after_dims dims) vars) dims (a ∷ gatts) drafts (grind (arith, before_of, variables)) speak new)
 
 pub data_mark : (v : Version) (dims : List Dim) (gatts : List Att) (drafts : List Draft) → Takes v (codes "data:\n") (state Variables dims gatts drafts) (state Values dims gatts drafts)
 data_mark v dims gatts drafts = says_takes v (codes "data:\n") (Enter Values) (state Variables dims gatts drafts) (state Values dims gatts drafts) (data_says v) (mark_act v Variables Values dims gatts drafts)

@@ -54,33 +54,22 @@ number_size ty x = grind arith
 pub one_times : (n m : ℕ) → suc n * m ≡ n * m + m
 one_times n m = grind arith
 
+-- after m values more
+grown_part : (ty : NcType) (k c m : ℕ) (vals bytes : List ℕ) → IsPart ty k vals → m ≤ c → (is_char ty ≡ false → c ≤ m) → length bytes ≡ m * size_of ty → Each IsByte bytes → IsPart ty (k + c) (vals ++ bytes)
+grown_part ty k c m vals bytes part few many whole each = record {
+  count = part.count + m;
+  few = (let a = part.few in omega (arith, a, few));
+  many = (λ e. let a = part.many e in let b = many e in omega (arith, a, b));
+  whole = (let a = length-append vals bytes in let b = part.whole in let d : (part.count + m) * size_of ty ≡ part.count * size_of ty + m * size_of ty = grind arith in omega (arith, a, b, whole, d));
+  bytes = each_more IsByte vals bytes part.bytes each;
+}
+
 constant_step : (v : Version) (ty : NcType) (k : ℕ) (vals : List ℕ) (x : Value) → IsPart ty k vals → IsFineValue v x → OkIs (IsPart ty (k + cost x)) (add_constant ty vals x)
 constant_step v ty k vals Underscore part fine = tt
 constant_step v ty k vals (Number n) part fine =
-    ok_unless (IsPart ty (k + 1)) (same_type n.ty ty) MixedConstants (λ u. unless (has_number ty n.value) NumberRange >>= (λ w. Ok (vals ++ bytes_of_number ty n.value))) (λ same.
-    ok_unless (IsPart ty (k + 1)) (has_number ty n.value) NumberRange (λ w. Ok (vals ++ bytes_of_number ty n.value)) (λ fit.
-    record {
-      count = suc part.count;
-      few = (let a = part.few in omega (arith, a));
-      many = (λ e. let a = part.many e in omega (arith, a));
-      whole = (let a = length-append vals (bytes_of_number ty n.value) in let b = number_size ty n.value in let c = part.whole in let d = one_times part.count (size_of ty) in omega (arith, a, b, c, d));
-      bytes = each_more IsByte vals (bytes_of_number ty n.value) part.bytes (number_bytes ty n.value);
-    }))
+    grind (arith, ok_unless, number_size, number_bytes, grown_part ty k 1 1 vals (bytes_of_number ty n.value) part)
 constant_step v ty k vals (Characters bytes) part fine =
-    ok_unless (IsPart ty (k + suc (length bytes))) (same_type Char ty) MixedConstants (λ u. Ok (vals ++ bytes)) (λ same.
-    let e : ty ≡ Char = grind arith in
-    let one : size_of ty ≡ 1 = ap size_of e in
-    record {
-      count = part.count + length bytes;
-      few = (let a = part.few in omega (arith, a));
-      many = (λ h. absurd (false≢true (sym h ∙ ap is_char e)));
-      whole = (
-          let a = length-append vals bytes in
-          let c : length vals ≡ part.count * 1 = part.whole ∙ ap (λ m. part.count * m) one in
-          let d : (part.count + length bytes) * size_of ty ≡ (part.count + length bytes) * 1 = ap (λ m. (part.count + length bytes) * m) one in
-          omega (arith, a, c, d));
-      bytes = each_more IsByte vals bytes part.bytes fine;
-    })
+    grind (arith, ok_unless, grown_part ty k (suc (length bytes)) (length bytes) vals bytes part)
 
 pub att_keeps : (v : Version) (N n m : ℕ) (name : List ℕ) (cs : List Value) (atts : List Att) → m ≤ N → AreFineValues v m name cs → AreFineAtts v N n atts → OkIs (AreFineAtts v N (n + m)) (add_att name cs atts)
 unfolding add_att

@@ -53,15 +53,10 @@ unfolding run
 run_keeps text v N n s [] bytes small f = let e : n ≡ n + 0 = omega arith in subst (λ m. IsFineState v N m s) e f
 run_keeps text v N n s (p ∷ ps) bytes small f =
     let m = token_mass text p in
-    let rest = total (token_mass text) ps in
-    let e : n + m + rest ≡ n + (m + rest) = omega arith in
+    let e : n + m + total (token_mass text) ps ≡ n + (m + total (token_mass text) ps) = omega arith in
     let is = mass_is text p in
-    elim (piece_read v s (map (lexeme text) p)) as (λ r. OkIs (IsFineState v N (n + m)) r →
-    OkIs (IsFineState v N (n + (m + rest))) (elim r as (λ x. Result State CdlFault) [ Ok u ↦ run text v u ps | Err kind ↦ Err (record { line = starting_line p; kind = kind }) ])) [
-      | Ok u ↦ (λ h. subst (λ k. OkIs (IsFineState v N k) (run text v u ps)) e (run_keeps text v N (n + m) u ps bytes (omega (arith, small)) h))
-      | Err kind ↦ (λ h. tt)
-    ] (subst (λ k. OkIs (IsFineState v N (n + k)) (piece_read v s (map (lexeme text) p))) is
-    (piece_keeps v N n s (map (lexeme text) p) (omega (arith, small, is)) (piece_bytes text p bytes) f))
+    let kept = piece_keeps v N n s (map (lexeme text) p) (omega (arith, small, is)) (piece_bytes text p bytes) f in
+    grind (arith, kept, (λ (u : State). run_keeps text v N (n + m) u ps bytes (omega (arith, small))))
 
 -- ---- records and arrays
 

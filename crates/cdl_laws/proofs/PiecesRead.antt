@@ -32,23 +32,15 @@ opening_back name rest h =
     subst (λ l. cut_lexemes (lexemes (l ++ 10 ∷ rest)) ≡ (record { kind = kinds.Opening; bytes = l } ∷ []) ∷ pieces_of rest) (sym (line_is name))
     (ap cut_lexemes (opening_lexemes name rest h) ∙ opening_cut (codes "netcdf " ++ (escaped_name name ++ codes " {")) (lexemes_at false 0 rest))
 
-opens : (v : Version) (name : List ℕ) → SaysStatement v Unopened (opening_piece name) Open
-unfolding shape
-opens v name = record { sound = refl; shaped = refl }
-
 closes : (v : Version) → Each (λ (section : Section). SaysStatement v section brace_piece Close) (Globals ∷ Dimensions ∷ Variables ∷ Values ∷ [])
 unfolding shape
 closes v = (record { sound = refl; shaped = refl }, (record { sound = refl; shaped = refl }, (record { sound = refl; shaped = refl }, (record { sound = refl; shaped = refl }, tt))))
 
-ends : (v : Version) → SaysStatement v Closed end_piece End
-unfolding shape
-ends v = record { sound = refl; shaped = refl }
-
 pub marks_read_back : (v : Version) → MarksReadBack v
-unfolding pieces_of lexemes_at scan pieces_at
+unfolding pieces_of lexemes_at scan pieces_at shape
 marks_read_back v = record {
   opening = opening_back;
-  opens = opens v;
+  opens = λ name. record { sound = refl; shaped = refl };
   dimensions = is_statement v Globals _ _ (dimensions_says v);
   variables = is_statement v Dimensions _ _ (variables_says v (record { name = []; len = 0 } ∷ []));
   variables_alone = is_statement v Globals _ _ (variables_says v []);
@@ -56,7 +48,7 @@ marks_read_back v = record {
   comment = comment_back;
   closing = refl;
   closes = all_of (λ (section : Section). SaysStatement v section brace_piece Close) (Globals ∷ Dimensions ∷ Variables ∷ Values ∷ []) (closes v);
-  ends = ends v;
+  ends = record { sound = refl; shaped = refl };
 }
 
 -- ---- dimensions

@@ -51,8 +51,7 @@ unfoldable pub use Rattle.nc_base.specs.Fill.{fill_value}
 unfoldable pub use Rattle.nc_base.specs.GeneratedFile.{file_of, with_begins}
 pub use Rattle.nc_base.specs.HeadText.{att_text, broken_text, dim_name, joined, without_trailing_nuls}
 unfoldable pub use Rattle.nc_base.specs.HeadText.{att_line, att_lines, chars_text, currently_word, dim_len_text, dim_line, dim_lines, dimensions_word, dims_text, gatts_text, global_word, head_text, netcdf_word, numbers_text, shape_text, string_break, unlimited_word, var_lines, variables_word, vars_text}
-pub use Rattle.nc_base.specs.Headers.{AreArrays, AreDimids, IsArray, IsGood, IsSound, IsSoundAtt, IsSoundDim, IsSoundVar, bare, bare_var}
-pub use Rattle.nc_base.specs.Headers.{IsDimid}
+pub use Rattle.nc_base.specs.Headers.{AreArrays, AreDimids, IsArray, IsDimid, IsGood, IsSound, IsSoundAtt, IsSoundDim, IsSoundVar, bare, bare_var}
 pub use Rattle.nc_base.specs.Sizes.{has_record_dim, value_count, array_limit, dim_len, is_record_shape, is_record_dim, is_record_var, padded_size, padded_total, product, record_limit, record_size, record_size_of, record_vars, slab_count, slab_lens, slab_limit, slab_size}
 pub use Rattle.nc_base.specs.Names.{IsName, ends_with_space, has_name_bytes, is_beyond_ascii, is_name, may_begin_name, may_follow_in_name}
 pub use Rattle.nc_base.specs.NumberLaws.{IsInRange}

@@ -11,11 +11,6 @@ use Rattle.std.proofs.lemmas.List.{map-id}
 abbrev pub state : Section → List Dim → List Att → List Draft → State
 state section dims gatts drafts = record { section = section; dims = dims; gatts = gatts; drafts = drafts }
 
-parts_append : (a b : List (List ℕ)) → concat_parts (a ++ b) ≡ concat_parts a ++ concat_parts b
-unfolding concat_parts
-parts_append [] b = refl
-parts_append (x ∷ a) b = ap (λ bs. x ++ bs) (parts_append a b) ∙ sym (append_assoc x (concat_parts a) (concat_parts b))
-
 -- lines after each of which one thing more stands in the state
 all_taken : {X Y : Type 0} (v : Version) (line : X → List ℕ) (f : X → Y) (P : List Y → X → Type 0) (now : List Y → State) → ((done : List Y) (x : X) → P done x → Takes v (line x) (now done) (now (done ++ f x ∷ []))) →
     (done : List Y) (xs : List X) → EachAfter f P done xs → Takes v (concat_parts (map line xs)) (now done) (now (done ++ map f xs))
@@ -127,10 +122,7 @@ declaration_is dims var are = ap (λ shape. concat_parts (codes "\t" ∷ type_wo
 
 pub lines_are : (dims : List Dim) (var : Var) → var_lines dims var ≡ declaration dims var ++ att_lines (escaped_name var.name) var.atts
 unfolding var_lines concat_parts
-lines_are dims var =
-    let atts = att_lines (escaped_name var.name) var.atts in
-    parts_append (codes "\t" ∷ type_word var.ty ∷ codes " " ∷ escaped_name var.name ∷ shape_text dims var.dimids ∷ codes " ;\n" ∷ []) (atts ∷ []) ∙
-    ap (λ bs. declaration dims var ++ bs) (append-nil atts)
+lines_are dims var = simp (append_assoc, append-nil)
 
 var_text : (dims : List Dim) (var : Var) → AreDimids dims [] var.dimids →
     var_lines dims var ≡ typed_line (type_word var.ty) var.name (shape_of (map (name_at dims) var.dimids)) ++ concat_parts (map (att_line (escaped_name var.name)) var.atts)
