@@ -48,8 +48,7 @@ numbers_added ty before (x ∷ xs) fit =
 
 pub chars_added : (before : List ℕ) (all : List (List ℕ)) → in_turn (add_constant Char) before (map Characters all) ≡ Ok (before ++ flat_map (λ (b : List ℕ). b) all)
 chars_added before [] = ap (λ bs. Ok bs) (sym (append-nil before))
-chars_added before (b ∷ all) =
-    turn (add_constant Char) before (before ++ b) (Characters b) (map Characters all) refl ∙ chars_added (before ++ b) all ∙ ap (λ bs. Ok bs) (append_assoc before b (flat_map (λ (c : List ℕ). c) all))
+chars_added before (b ∷ all) = grind (arith, turn, append_assoc, chars_added (before ++ b) all)
 
 -- an attribute that its constants give
 pub att_added : (atts : List Att) (att : Att) (said : List Value) → IsName att.name → is_new_att atts att → first_type said ≡ att.ty → in_turn (add_constant att.ty) [] said ≡ Ok att.vals →

@@ -1,5 +1,5 @@
 -- A dataset that a text can declare is read back from its full dump.
-use Rattle.std.proofs.Common.{◌≡◌, ℕ, ◌+◌, ◌*◌, ◌-◌, ◌/◌, ◌<◌, true, List, [], ◌∷◌, ◌++◌, length, map, ◌∙◌, ap, refl, arith, append_assoc, length-append, Option, slice_index_or, rules, ◌≤◌, sum}
+use Rattle.std.proofs.Common.{◌≡◌, ℕ, ◌+◌, ◌*◌, ◌-◌, ◌/◌, ◌<◌, true, List, [], ◌∷◌, ◌++◌, length, map, ◌∙◌, ap, refl, arith, append_assoc, length-append, Option, slice_index_or, rules, ◌≤◌, sum, ◌⊎◌, inl}
 use Rattle.cdl_laws.proofs.Prelude.{mul-add-div, div-eq_of_lt, Dataset, Dim, Header, Var, Version, values_in_dataset, fill_value, AreArrays, IsName, numbers, slab_count, record_vars, is_char, trimmed_var, array_of, records_in, Draft, Listing, Each, list_all, slab_size, record_size_of, padded_size, padded_total, slab_limit, is_within_limits, and_both, le-leb}
 use Rattle.cdl_laws.proofs.Given.{IsBack, is_back}
 use Rattle.cdl_laws.proofs.Acts.{no_draft}
@@ -73,20 +73,16 @@ counted : (slab n : ℕ) → 0 < slab → (slab * n + slab - 1) / slab ≡ n
 counted slab n some = grind (arith, mul-add-div, div-eq_of_lt)
 
 -- it is the dataset's, where some variable is a record variable, and 0 where none is
-data Counts (dims : List Dim) (vars : List Var) (n r : ℕ) : Type 0 where
-  none : record_vars dims vars ≡ [] → r ≡ 0 → Counts dims vars n r
-  some : r ≡ n → Counts dims vars n r
-
 count_all : (v : Version) (h : Header) (n width : ℕ) (vars : List Var) (arrays : List (List ℕ)) (backs : AreBack v h n width vars arrays) → Each (λ (var : Var). 0 < slab_count h.dims var) vars →
-    Counts h.dims vars n (records_in h.dims (given_drafts vars (listings v h n width vars arrays backs)))
-count_all v h n width [] [] backs slabs = none refl refl
+    ((record_vars h.dims vars ≡ []) × (records_in h.dims (given_drafts vars (listings v h n width vars arrays backs)) ≡ 0)) ⊎ (records_in h.dims (given_drafts vars (listings v h n width vars arrays backs)) ≡ n)
+count_all v h n width [] [] backs slabs = inl (refl, refl)
 count_all v h n width (var ∷ vars) (a ∷ arrays) backs slabs =
     grind (arith, count_all v h n width vars arrays backs.1 slabs.1, counted)
 count_all v h n width _ _ backs slabs = absurd backs
 
 pub records_back : (v : Version) (h : Header) (n width : ℕ) (vars : List Var) (arrays : List (List ℕ)) (backs : AreBack v h n width vars arrays) → Each (λ (var : Var). 0 < slab_count h.dims var) vars → (record_vars h.dims vars ≡ [] → n ≡ 0) →
     records_in h.dims (given_drafts vars (listings v h n width vars arrays backs)) ≡ n
-records_back v h n width vars arrays backs slabs none_none = search (rules, count_all)
+records_back v h n width vars arrays backs slabs none_none = grind (arith, count_all v h n width vars arrays backs slabs)
 
 -- ---- limits
 

@@ -24,11 +24,7 @@ data_read : (v : Version) (h : Header) (o : Options) (content : ℕ → Var → 
 unfolding data_word
 data_read v h o content n gatts os full [] none given =
     rw (none) (ap (λ b. in_turn (piece_read v) (state (after_dims h.dims) h.dims gatts []) (pieces_of ((if b || true then [] else codes "data:\n") ++ codes "}\n"))) full.values ∙
-    end_taken v (after_dims h.dims) h.dims gatts [] (opens h.dims))
-  where
-    opens : (dims : List Dim) → is_open (after_dims dims) ≡ true
-    opens [] = refl
-    opens (d ∷ dims) = refl
+    end_taken v (after_dims h.dims) h.dims gatts [] (grind arith))
 data_read v h o content n gatts os full (var ∷ vars) some given =
     let values = (variables_text (shown_data h content n o.width) 0 (var ∷ vars) (all_marked (var ∷ vars))).text in
     let word : data_word h o ≡ codes "data:\n" = ap (λ b. if b || (length h.vars == 0) then [] else codes "data:\n") full.values ∙ ap (λ (ws : List Var). if length ws == 0 then [] else codes "data:\n") some ∙ ap (λ b. if b then [] else codes "data:\n") (not_none (length vars)) in

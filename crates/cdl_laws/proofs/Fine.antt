@@ -60,7 +60,7 @@ grown_part ty k c m vals bytes part few many whole each = record {
   count = part.count + m;
   few = (let a = part.few in omega (arith, a, few));
   many = (λ e. let a = part.many e in let b = many e in omega (arith, a, b));
-  whole = (let a = length-append vals bytes in let b = part.whole in let d : (part.count + m) * size_of ty ≡ part.count * size_of ty + m * size_of ty = grind arith in omega (arith, a, b, whole, d));
+  whole = grind (arith, length-append vals bytes, part.whole);
   bytes = each_more IsByte vals bytes part.bytes each;
 }
 

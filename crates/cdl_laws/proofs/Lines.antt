@@ -40,11 +40,8 @@ pieces_map : {X Y : Type 0} (f : X → Y) (role : Y → Role) (place : CutState)
 unfolding pieces_after
 pieces_map f role place [] = refl
 pieces_map f role place (t ∷ ts) =
-    let rest : Role → List (List _) = λ n. with_first (step place (role (f t)) n).ends (f t) (pieces_after role (step place (role (f t)) n).state (map f ts)) in
-    let n = first_role (λ u. role (f u)) ts in
-    with_first_map f (step place (role (f t)) n).ends t (pieces_after (λ u. role (f u)) (step place (role (f t)) n).state ts) ∙
-    ap (with_first (step place (role (f t)) n).ends (f t)) (pieces_map f role (step place (role (f t)) n).state ts) ∙
-    ap rest (first_map f role ts)
+    let s = step place (role (f t)) (first_role (λ u. role (f u)) ts) in
+    grind (arith, with_first_map f, first_map f role ts, pieces_map f role s.state ts)
 
 pub pieces_are : (text : List ℕ) → map (map (lexeme text)) (statements text) ≡ cut_lexemes (lexemes text)
 pieces_are text =

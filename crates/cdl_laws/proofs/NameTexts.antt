@@ -7,13 +7,8 @@ use Rattle.cdl_laws.proofs.Prelude.{is_ascii_digit, is_in_range, flat_map, list_
 pub no_escape : (b c : ℕ) → goes_on_word b ≡ true → is_escape b c ≡ false
 no_escape b c h = grind (arith, false≢true, eqb-true)
 
--- by the tests: from 32, up to 126, `/`, beyond
-follows : (l h s x : Bool) → ((l && h && not s) || x) ≡ true → ((l && h) || x) ≡ true
-follows true false s x e = grind arith
-follows _ _ s _ e = grind arith
-
 pub escapable : (b : ℕ) → may_follow_in_name b ≡ true → is_escapable b ≡ true
-escapable b h = follows (nat_le 32 b) (nat_le b 126) (b == 47) (is_beyond_ascii b) h
+escapable b h = grind arith
 
 -- by the tests: digit, upper, lower, `_`, mark, beyond
 plain : (d u l s m x : Bool) → (((d || u) || l) || s || m || x) ≡ true → (d || m) ≡ false → ((u || l) || s || x) ≡ true
@@ -22,11 +17,8 @@ plain d u l s m x h h2 = grind (arith, false≢true)
 pub marked_plain : (b : ℕ) → (is_ascii_digit b || is_name_mark b) ≡ true → is_plain b ≡ true
 marked_plain b h = grind arith
 
-begins_plainly : (d u l s m x : Bool) → ((u || l) || s || x) ≡ true → (((d || u) || l) || s || m || x) ≡ true
-begins_plainly d u l s m x h = grind arith
-
 pub begins_goes_on : (b : ℕ) → may_begin_word b ≡ true → goes_on_word b ≡ true
-begins_goes_on b h = begins_plainly (is_ascii_digit b) (is_in_range 65 90 b) (is_in_range 97 122 b) (b == 95) (is_name_mark b) (is_beyond_ascii b) h
+begins_goes_on b h = grind arith
 
 -- ---- the bytes after the first
 
@@ -64,10 +56,10 @@ begins b bs h = grind (arith, escapable, is_plain, or_left, or_right, h)
 -- ---- names
 
 pub name_len : (b : ℕ) (bs rest : List ℕ) → Begins b bs → list_all may_follow_in_name bs ≡ true → word_len rest ≡ 0 → word_len (escaped_name (b ∷ bs) ++ rest) ≡ length (escaped_name (b ∷ bs))
-name_len b bs rest h h2 h3 = grind (arith, rest_len, word_at_start, no_escape, begins_plainly)
+name_len b bs rest h h2 h3 = grind (arith, rest_len, word_at_start, no_escape, begins_goes_on)
 
 pub name_value : (b : ℕ) (bs : List ℕ) → Begins b bs → list_all may_follow_in_name bs ≡ true → word_value (escaped_name (b ∷ bs)) ≡ b ∷ bs
-name_value b bs h h2 = grind (arith, value_at_start, rest_value, no_escape, begins_plainly)
+name_value b bs h h2 = grind (arith, value_at_start, rest_value, no_escape, begins_goes_on)
 
 -- what holds of each word of a list holds of one that is in the list
 of_any : (p : List ℕ → Bool) (word : List ℕ) (words : List (List ℕ)) → list_all p words ≡ true → list_any (bytes_eq word) words ≡ true → p word ≡ true

@@ -1,5 +1,5 @@
 -- The strings of a text stand for bytes.
-use Rattle.std.proofs.Common.{◌≡◌, ℕ, zero, suc, ◌+◌, ◌-◌, ◌<◌, Bool, true, List, [], ◌∷◌, length, get_or, take, drop, sym, ◌∙◌, ap, refl, subst, arith, ◌&&◌, ◌==◌, nat_lt, not, if◌then◌else◌, map, Option, None, Some, is_none, is_some}
+use Rattle.std.proofs.Common.{◌≡◌, ℕ, zero, suc, ◌+◌, ◌-◌, ◌<◌, Bool, true, List, [], ◌∷◌, length, get_or, take, drop, sym, ◌∙◌, ap, refl, subst, arith, ◌&&◌, ◌==◌, nat_lt, not, if◌then◌else◌, map, Option, None, Some, is_none, is_some, rules, false}
 use Rattle.cdl_laws.proofs.Prelude.{is_mark_byte, list_all, prefix_len, is_blank, goes_on_number, inner, string_value, unescape, or_zero, scan, gap, token, scan_text, scan_opening, len_until, word_len, begins_opening, begins_a_word, begins_number, begins_comment, raw, tokens_at, tokens, with_token, token_at, Scanned, Token, TokenKind, StandsForBytes, StringsStandForBytes, inner_of, Each, all_of}
 use Rattle.cdl_tokens.specs.declared.token.TokenKind.TheVariants as kinds
 use Rattle.cdl_laws.proofs.Lines.{tail_at}
@@ -23,26 +23,19 @@ either bytes b f g h h2 = grind arith
 inside : (m n : ℕ) → nat_lt m n ≡ true → m < n
 inside m n h = grind (arith, h)
 
-opening_says : (bytes bs : List ℕ) (n : ℕ) → SaysString bytes (scan_opening bs n)
-opening_says bytes bs n = either bytes (nat_lt n (length bs)) (token kinds.Opening (6 + n + 1)) (token kinds.Bad (6 + length bs)) (λ e. cc) (λ e. cc)
+text_says : (bytes : List ℕ) (n : ℕ) → SaysString bytes (scan_text bytes n)
+text_says bytes n = grind (arith, inside)
+
+abbrev is_text : Option TokenKind → Bool
+is_text (Some kinds.Text) = true
+is_text _ = false
+
+no_text : (bytes : List ℕ) (f : Scanned) → is_text f.kind ≡ false → SaysString bytes f
+no_text bytes f h = grind arith
 
 prefix_says : (fresh : Bool) (bs : List ℕ) → SaysString (drop 1 bs) (scan fresh bs)
 unfolding scan
-prefix_says fresh bs =
-    let bytes = drop 1 bs in
-    let marks = if is_mark_byte (get_or bs 0 0) then token kinds.Mark 1 else token kinds.Bad 1 in
-    let strings = if get_or bs 0 0 == 0x22 then scan_text bytes (len_until 0x22 bytes) else marks in
-    let comments = if begins_comment bs then gap (prefix_len (λ b. not (b == 0x0a)) bs) else strings in
-    let takes_fill = if is_blank (get_or bs 0 0) then gap 1 else comments in
-    let numbers = if begins_number bs then token kinds.Number (1 + prefix_len goes_on_number bytes) else takes_fill in
-    let words = if begins_a_word bs then token kinds.Word (word_len bs) else numbers in
-    either bytes (fresh && begins_opening bs) (scan_opening (drop 6 bs) (len_until 0x7b (drop 6 bs))) words (opening_says bytes (drop 6 bs) (len_until 0x7b (drop 6 bs)))
-    (either bytes (begins_a_word bs) (token kinds.Word (word_len bs)) numbers (λ e. cc)
-    (either bytes (begins_number bs) (token kinds.Number (1 + prefix_len goes_on_number bytes)) takes_fill (λ e. cc)
-    (either bytes (is_blank (get_or bs 0 0)) (gap 1) comments (λ e. cc)
-    (either bytes (begins_comment bs) (gap (prefix_len (λ b. not (b == 0x0a)) bs)) strings (λ e. cc)
-    (either bytes (get_or bs 0 0 == 0x22) (scan_text bytes (len_until 0x22 bytes)) marks (grind (arith, inside))
-    (either bytes (is_mark_byte (get_or bs 0 0)) (token kinds.Mark 1) (token kinds.Bad 1) (λ e. cc) (λ e. cc)))))))
+prefix_says fresh bs = search (rules, either, text_says, no_text) depth 12
 
 -- ---- what it stands for
 

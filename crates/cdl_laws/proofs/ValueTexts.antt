@@ -1,5 +1,5 @@
 -- The listed numbers of a variable are read back, wherever the breaks are.
-use Rattle.std.proofs.Common.{◌≡◌, ℕ, ◌+◌, ◌^◌, ◌<◌, ◌≤◌, Bool, true, false, List, [], ◌∷◌, ◌++◌, length, map, sym, ◌∙◌, ap, refl, subst, arith, append_assoc, append-nil, length-append, ℤ, unsigned_abs, ◌&&◌, ◌||◌, not, if◌then◌else◌, nat_lt, Some, Result, Ok, codes}
+use Rattle.std.proofs.Common.{◌≡◌, ℕ, ◌+◌, ◌^◌, ◌<◌, ◌≤◌, Bool, true, false, List, [], ◌∷◌, ◌++◌, length, map, sym, ◌∙◌, ap, refl, subst, arith, append_assoc, append-nil, length-append, ℤ, unsigned_abs, ◌&&◌, ◌||◌, not, if◌then◌else◌, nat_lt, Some, Result, Ok, codes, ◌⊎◌, inl, inr}
 use Rattle.cdl_laws.proofs.Prelude.{signed_decimal, flat_map, int_eq, mod-eq_of_lt, zero-mod, false≢true, concat_parts, escaped_name, Int, Version, IsName, Look, is_char, number_text, number_lead, line_break, begins_row, column, number_piece, piece, pieces, variable_opening, variable_closing, variable_text, prefix_is, CdlKind, Lexeme, lexemes_at, scan, Value, Number, Underscore, both, constant, constants, constants, Capacity, Numbers, add_number, has_number, in_turn, listing_of, word_at_start, lt-ltb, Each, ◌>>=◌}
 use Rattle.cdl_laws.proofs.Texts.{Closed, Reads, Stops, closed_both, then_reads, closed_by, reads_both, mark, word, number, name_word, word_reads, stop_word, marks_closed, number_reads}
 use Rattle.cdl_laws.proofs.Numerals.{value_again, value_is}
@@ -56,16 +56,12 @@ break_closed : (look : Look) (i end : ℕ) → Closed (line_break look i end) []
 break_closed look i end = either_closed (not (begins_row look i) && nat_lt look.width (end + 2))
 
 -- what comes before a number that isn't the first: a comma and a space, or a comma and the beginning of a row
-data Gap (lead : List ℕ) : Type 0 where
-  next : lead ≡ codes ", " → Gap lead
-  row : lead ≡ codes ",\n  " → Gap lead
-
-gap : (look : Look) (i : ℕ) → 0 < i → (look.in_rows ≡ false → i < look.row) → Gap (number_lead look i)
+gap : (look : Look) (i : ℕ) → 0 < i → (look.in_rows ≡ false → i < look.row) → (number_lead look i ≡ codes ", ") ⊎ (number_lead look i ≡ codes ",\n  ")
 gap look i some small = grind (arith, codes, false≢true, mod-eq_of_lt)
 
-gap_closed : (lead : List ℕ) → Gap lead → Closed lead (comma ∷ [])
-gap_closed lead (next is) = rw (is) (marks_closed (codes ", ") refl)
-gap_closed lead (row is) = rw (is) (marks_closed (codes ",\n  ") refl)
+gap_closed : (lead : List ℕ) → (lead ≡ codes ", ") ⊎ (lead ≡ codes ",\n  ") → Closed lead (comma ∷ [])
+gap_closed lead (inl is) = rw (is) (marks_closed (codes ", ") refl)
+gap_closed lead (inr is) = rw (is) (marks_closed (codes ",\n  ") refl)
 
 -- ---- the numbers after the first
 
