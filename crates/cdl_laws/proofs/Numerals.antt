@@ -55,10 +55,6 @@ big_back v minus (d ∷ ds) suf h big k = rw (not_zero d big) (based v minus d d
 zero_back : (v : Version) (minus : Bool) (ty : NcType) → with_sign v minus (48 ∷ number_suffix ty) ≡ with_suffix minus 0 (type_of_suffix v (number_suffix ty))
 zero_back v minus ty = search rules
 
-suffix_back : (v : Version) (ty : NcType) → has_type v ty ≡ true → is_char ty ≡ false → type_of_suffix v (number_suffix ty) ≡ Some ty
-unfolding type_of_suffix
-suffix_back v ty h h2 = grind arith
-
 pub on_suffix : (ty : NcType) → list_all goes_on_number (number_suffix ty) ≡ true
 on_suffix ty = grind arith
 
@@ -73,7 +69,8 @@ unsigned_some v minus ty (suc n) h =
 
 unsigned_again : (v : Version) (minus : Bool) (ty : NcType) (n : ℕ) → n < 2 ^ 64 → has_type v ty ≡ true → is_char ty ≡ false →
     with_sign v minus (decimal n ++ number_suffix ty) ≡ Some (record { minus = minus; magnitude = n; ty = ty })
-unsigned_again v minus ty n h k l = unsigned_some v minus ty n h ∙ ap (with_suffix minus n) (suffix_back v ty k l)
+unfolding type_of_suffix
+unsigned_again v minus ty n h k l = unsigned_some v minus ty n h ∙ ap (with_suffix minus n) (let e : type_of_suffix v (number_suffix ty) ≡ Some ty = grind arith in e)
 
 first_sign : (ds suf : List ℕ) → list_all is_digit ds ≡ true → 0 < length ds → is_sign (get_or (ds ++ suf) 0 0) ≡ false
 first_sign [] suf h k = absurd (omega (arith, k))

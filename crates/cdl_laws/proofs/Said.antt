@@ -40,8 +40,7 @@ list_some P Q R x others c ls p none h f = some_both P Q R (λ a xs. a ∷ xs) x
 
 word_shorter : (bs : List ℕ) → length (word_value bs) ≤ length bs
 unfolding word_value
-word_shorter (b ∷ c ∷ rest) =
-    search (rules, in_if, word_shorter rest, word_shorter (c ∷ rest))
+word_shorter (b ∷ c ∷ rest) = search (rules, in_if, word_shorter rest, word_shorter (c ∷ rest))
 word_shorter _ = omega arith
 
 pub name_short : (l : Lexeme) → SomeIs (λ name. length name ≤ length l.bytes) (name_of l)

@@ -9,15 +9,10 @@ use Rattle.cdl_laws.proofs.Texts.{Closed, prefix_again, closed_both}
 pub until_plain : (close b : ℕ) (rest : List ℕ) → (b == 0x5c) ≡ false → (b == close) ≡ false → len_until close (b ∷ rest) ≡ 1 + len_until close rest
 until_plain close b rest h k = until_at_start close b rest ∙ rw (h) (rw (k) refl)
 
-character_octal : (d e f : ℕ) (rest : List ℕ) → is_octal d ≡ true → is_octal e ≡ true → is_octal f ≡ true →
-    character (0x5c ∷ d ∷ e ∷ f ∷ rest) ≡ record { value = up_to_255 (number_in 8 0 (d ∷ e ∷ f ∷ [])); len = 4 }
-unfolding character
-character_octal d e f rest h k l = rw (h) (rw (k) (rw (l) refl))
-
 unescape_octal : (d e f n : ℕ) (rest : List ℕ) → is_octal d ≡ true → is_octal e ≡ true → is_octal f ≡ true → up_to_255 (number_in 8 0 (d ∷ e ∷ f ∷ [])) ≡ Some n →
     unescape (0x5c ∷ d ∷ e ∷ f ∷ rest) ≡ Some n ∷ unescape rest
-unfolding unescape_at
-unescape_octal d e f n rest h k l is = rw (character_octal d e f rest h k l) (rw (is) refl)
+unfolding unescape_at character
+unescape_octal d e f n rest h k l is = rw (h) (rw (k) (rw (l) (rw (is) refl)))
 
 -- how a byte stands in a string: as an escape of one letter, in octal, or as it is
 data IsEscapedAs (b : ℕ) : Type 0 where
@@ -48,15 +43,6 @@ stands b =
       | false ↦ (λ e. bare e92 e34 (rw (e8) (rw (e9) (rw (e10) (rw (e11) (rw (e12) (rw (e13) (rw (e34) (rw (e39) (rw (e92) (rw (e) refl)))))))))))
     ] refl)))))))))
 
-middle_octal : (b : ℕ) → is_octal (48 + b / 8 % 8) ≡ true
-middle_octal b = grind arith
-
-low_octal : (b : ℕ) → is_octal (48 + b % 8) ≡ true
-low_octal b = grind arith
-
-octal_value : (b : ℕ) → b < 256 → up_to_255 (number_in 8 0 ((48 + b / 64) ∷ (48 + b / 8 % 8) ∷ (48 + b % 8) ∷ [])) ≡ Some b
-octal_value b h = search rules
-
 -- one byte
 until_one : (b : ℕ) (rest : List ℕ) → IsEscapedAs b → len_until 0x22 (escaped_in_string b ++ rest) ≡ length (escaped_in_string b) + len_until 0x22 rest
 unfolding len_until
@@ -66,8 +52,7 @@ unescape_one : (b : ℕ) (rest : List ℕ) → IsEscapedAs b → unescape (escap
 unfolding unescape_at character
 unescape_one b rest (letter c o x is same) = rw (same) (rw (o) (rw (x) refl) ∙ ap (λ n. Some n ∷ unescape rest) is)
 unescape_one b rest (octal small same) =
-    rw (same) (unescape_octal (48 + b / 64) (48 + b / 8 % 8) (48 + b % 8) b rest (grind arith) (middle_octal b) (low_octal b)
-    (octal_value b small))
+    rw (same) (unescape_octal (48 + b / 64) (48 + b / 8 % 8) (48 + b % 8) b rest (grind arith) (grind arith) (grind arith) (search rules))
 unescape_one b rest (bare h k same) = rw (same) (rw (h) refl)
 
 -- ---- strings

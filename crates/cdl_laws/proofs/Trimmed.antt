@@ -42,9 +42,6 @@ trims_once d = search (rules, bytes_once, map_once, att_once)
 
 -- ---- still sayable
 
-shorter : (xs : List ℕ) → length (without_trailing_nuls xs) ≤ length xs
-shorter xs = let a = length-take (length xs - suffix_len nul xs) xs in omega (arith, a)
-
 char_size : (ty : NcType) → is_char ty ≡ true → size_of ty ≡ 1
 char_size ty h = grind arith
 
@@ -54,7 +51,7 @@ whole_still : (limit size : ℕ) (char : Bool) (vals : List ℕ) (n : ℕ) → (
 whole_still limit size false vals n one few whole = (n, few, whole)
 whole_still limit size true vals n one few whole =
     let m = length (without_trailing_nuls vals) in
-    let a = shorter vals in
+    let a = length-take (length vals - suffix_len nul vals) vals in
     let b : n * size ≡ n * 1 = ap (λ k. n * k) (one refl) in
     let c : m * size ≡ m * 1 = ap (λ k. m * k) (one refl) in
     (m, omega (arith, a, b, few, whole), omega (arith, c))
