@@ -153,17 +153,14 @@ pub record AreFineDrafts (v : Version) (N n : ℕ) (dims : List Dim) (drafts : L
   pub fine : Each (IsFineDraft v N n dims) drafts
   pub names : AreDistinct (map draft_name drafts)
 
-pub later : (v : Version) (N n m : ℕ) (dims : List Dim) (d : Draft) → n ≤ m → IsFineDraft v N n dims d → IsFineDraft v N m dims d
-later v N n m dims d le f = grind arith
-
 pub all_later : (v : Version) (N n m : ℕ) (dims : List Dim) (ds : List Draft) → n ≤ m → AreFineDrafts v N n dims ds → AreFineDrafts v N m dims ds
-all_later v N n m dims ds le f = grind (arith, each_map, later)
+all_later v N n m dims ds le f = grind (arith, each_map)
 
 var_step : (v : Version) (N : ℕ) (dims : List Dim) (ty : NcType) → has_type v ty ≡ true → (n : ℕ) (drafts : List Draft) (x : Variable) → AreFineDrafts v N n dims drafts → var_cost x ≤ N →
     OkIs (AreFineDrafts v N (n + var_cost x) dims) (add_var dims ty drafts x)
 unfolding add_var
 var_step v N dims ty has n drafts x fine small =
-    grind (arith, shape_fine dims x.dimensions, one_more drafts, named_more draft_name drafts, ok_unless, ok_when, ok_then, total, each_more, each_map, later)
+    grind (arith, shape_fine dims x.dimensions, one_more drafts, named_more draft_name drafts, ok_unless, ok_when, ok_then, total, each_more, each_map)
 
 pub vars_keep : (v : Version) (N n m : ℕ) (dims : List Dim) (ty : NcType) (drafts : List Draft) (xs : List Variable) → has_type v ty ≡ true → m ≤ N → total var_cost xs ≤ m → AreFineDrafts v N n dims drafts →
     OkIs (AreFineDrafts v N (n + m) dims) (in_turn (add_var dims ty) drafts xs)
@@ -194,7 +191,7 @@ pub at_keeps : (v : Version) (N n m : ℕ) (dims : List Dim) (name : List ℕ) (
     (ds : List Draft) → AreFineDrafts v N n dims ds → OkIs (λ es. AreFineDrafts v N (n + m) dims es × (length es ≡ length ds)) (change_variable name f ds)
 unfolding change_variable
 at_keeps v N n m dims name f step ds fine =
-    grind (arith, named_keeps (IsFineDraft v N n dims) (IsFineDraft v N (n + m) dims) name f, later v N n (n + m) dims, ok_unless)
+    grind (arith, named_keeps (IsFineDraft v N n dims) (IsFineDraft v N (n + m) dims) name f, ok_unless)
 
 pub with_att_keeps : (v : Version) (N n m : ℕ) (dims : List Dim) (name : List ℕ) (cs : List Value) → m ≤ N → AreFineValues v m name cs → (d : Draft) → IsFineDraft v N n dims d →
     OkIs (λ e. IsFineDraft v N (n + m) dims e × (e.var.name ≡ d.var.name)) (with_att name cs d)
@@ -297,4 +294,4 @@ pub with_values_keeps : (v : Version) (N n m : ℕ) (dims : List Dim) (name : Li
     OkIs (λ e. IsFineDraft v N (n + m) dims e × (e.var.name ≡ d.var.name)) (with_values dims xs d)
 unfolding capacity_of
 with_values_keeps v N n m dims name xs small said d f =
-    grind (arith, values_fit dims d.var N xs (some_count dims d.var.dimids f.shape), some_count dims d.var.dimids f.shape, later v N n (n + m) dims d, ok_when, ok_then)
+    grind (arith, values_fit dims d.var N xs (some_count dims d.var.dimids f.shape), some_count dims d.var.dimids f.shape, ok_when, ok_then)

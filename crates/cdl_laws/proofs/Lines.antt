@@ -32,16 +32,12 @@ with_first_map f true t ps = refl
 with_first_map f false t [] = refl
 with_first_map f false t (p ∷ ps) = refl
 
-first_map : {X Y : Type 0} (f : X → Y) (role : Y → Role) (ts : List X) → first_role (λ t. role (f t)) ts ≡ first_role role (map f ts)
-first_map f role [] = refl
-first_map f role (t ∷ ts) = refl
-
 pieces_map : {X Y : Type 0} (f : X → Y) (role : Y → Role) (place : CutState) (ts : List X) → map (map f) (pieces_after (λ t. role (f t)) place ts) ≡ pieces_after role place (map f ts)
 unfolding pieces_after
 pieces_map f role place [] = refl
 pieces_map f role place (t ∷ ts) =
     let s = step place (role (f t)) (first_role (λ u. role (f u)) ts) in
-    grind (arith, with_first_map f, first_map f role ts, pieces_map f role s.state ts)
+    grind (arith, with_first_map f, pieces_map f role s.state ts)
 
 pub pieces_are : (text : List ℕ) → map (map (lexeme text)) (statements text) ≡ cut_lexemes (lexemes text)
 pieces_are text =
