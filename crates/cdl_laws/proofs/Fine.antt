@@ -48,9 +48,6 @@ record IsPart (ty : NcType) (k : ℕ) (vals : List ℕ) : Type 0 where
 pub number_bytes : (ty : NcType) (x : ℤ) → Each IsByte (bytes_of_number ty x)
 number_bytes ty x = grind arith
 
-pub number_size : (ty : NcType) (x : ℤ) → length (bytes_of_number ty x) ≡ size_of ty
-number_size ty x = grind arith
-
 pub one_times : (n m : ℕ) → suc n * m ≡ n * m + m
 one_times n m = grind arith
 
@@ -67,7 +64,7 @@ grown_part ty k c m vals bytes part few many whole each = record {
 constant_step : (v : Version) (ty : NcType) (k : ℕ) (vals : List ℕ) (x : Value) → IsPart ty k vals → IsFineValue v x → OkIs (IsPart ty (k + cost x)) (add_constant ty vals x)
 constant_step v ty k vals Underscore part fine = tt
 constant_step v ty k vals (Number n) part fine =
-    grind (arith, ok_unless, number_size, number_bytes, grown_part ty k 1 1 vals (bytes_of_number ty n.value) part)
+    grind (arith, ok_unless, number_bytes, grown_part ty k 1 1 vals (bytes_of_number ty n.value) part)
 constant_step v ty k vals (Characters bytes) part fine =
     grind (arith, ok_unless, grown_part ty k (suc (length bytes)) (length bytes) vals bytes part)
 
