@@ -11,17 +11,20 @@ use Rattle.cdl_laws.proofs.ValueTexts.{commas, comma, opening_closed, semicolon,
 abbrev pub later_string : List ℕ → List ℕ → List ℕ
 later_string gap bytes = 34 ∷ (gap ++ 34 ∷ escaped_text bytes)
 
-pub strings_closed : (gap ending : List ℕ) (ls : List Lexeme) → Closed gap (comma ∷ []) → Closed ending ls → (s : List ℕ) (others : List (List ℕ)) →
+pub strings_closed : (gap ending : List ℕ) (ls : List Lexeme) → Closed gap (comma ∷ []) → Closed ending ls →
+    (s : List ℕ) (others : List (List ℕ)) →
     Closed (34 ∷ (escaped_text s ++ (flat_map (later_string gap) others ++ 34 ∷ ending))) (string s ∷ (commas (map string others) ++ ls))
 strings_closed gap ending ls between end s [] = string_then s ending ls end
 strings_closed gap ending ls between end s (o ∷ os) =
     let rest = flat_map (later_string gap) os in
     let after = escaped_text o ++ (rest ++ 34 ∷ ending) in
-    let same : (gap ++ 34 ∷ escaped_text o) ++ (rest ++ 34 ∷ ending) ≡ gap ++ 34 ∷ after = append_assoc gap (34 ∷ escaped_text o) (rest ++ 34 ∷ ending) in
+    let same : (gap ++ 34 ∷ escaped_text o) ++ (rest ++ 34 ∷ ending) ≡ gap ++ 34 ∷ after = append_assoc gap (34 ∷ escaped_text o)
+    (rest ++ 34 ∷ ending) in
     subst (λ bs. Closed (34 ∷ (escaped_text s ++ bs)) (string s ∷ (commas (map string (o ∷ os)) ++ ls)))
     (sym (append_assoc (later_string gap o) rest (34 ∷ ending) ∙ ap (λ bs. 34 ∷ bs) same))
     (string_then s (gap ++ 34 ∷ after) (comma ∷ string o ∷ (commas (map string os) ++ ls))
-    (closed_both gap (34 ∷ after) (comma ∷ []) (string o ∷ (commas (map string os) ++ ls)) between (strings_closed gap ending ls between end o os)))
+    (closed_both gap (34 ∷ after) (comma ∷ []) (string o ∷ (commas (map string os) ++ ls)) between
+    (strings_closed gap ending ls between end o os)))
 
 -- ---- the rows of a variable
 
@@ -35,7 +38,8 @@ later_lead : (look : Look) (n : ℕ) → look.in_rows ≡ true → 0 < n → cha
 later_lead look n h some = let z : (n == 0) ≡ false = grind (arith, some) in rw (h) (rw (z) refl)
 
 -- the rows after others
-rows_text : (look : Look) (done : List ℤ) (k : ℕ) (rows : List (List ℤ)) → look.in_rows ≡ true → length done ≡ k * look.row → 0 < length done → 0 < look.row → Each (λ (s : List ℤ). length s ≡ look.row) rows →
+rows_text : (look : Look) (done : List ℤ) (k : ℕ) (rows : List (List ℤ)) → look.in_rows ≡ true → length done ≡ k * look.row →
+    0 < length done → 0 < look.row → Each (λ (s : List ℤ). length s ≡ look.row) rows →
     char_pieces look done (flat rows) ≡ flat_map (later_string (codes ",\n  ")) (map (printed look.trimmed 0) rows)
 unfolding char_pieces
 rows_text look done k [] h len some wide all = refl
@@ -46,8 +50,10 @@ rows_text look done k ((x ∷ xs) ∷ rows) h len some wide all =
     let more = length-append done s in
     let grown : length (done ++ s) ≡ (k + 1) * look.row = more ∙ ap (λ n. n + length s) len ∙ ap (λ n. k * look.row + n) row_len ∙ (let g : k * look.row + look.row ≡ (k + 1) * look.row = grind arith in g) in
     a_row look done x xs (flat rows) k len (omega (arith, row_len)) ∙
-    ap (λ lead. lead ++ (escaped_text (printed look.trimmed 0 s) ++ char_pieces look (done ++ s) (flat rows))) (later_lead look (length done) h some) ∙
-    ap (λ bs. codes "\",\n  \"" ++ (escaped_text (printed look.trimmed 0 s) ++ bs)) (rows_text look (done ++ s) (k + 1) rows h grown (omega (arith, more, some)) wide all.1)
+    ap (λ lead. lead ++ (escaped_text (printed look.trimmed 0 s) ++ char_pieces look (done ++ s) (flat rows)))
+    (later_lead look (length done) h some) ∙
+    ap (λ bs. codes "\",\n  \"" ++ (escaped_text (printed look.trimmed 0 s) ++ bs))
+    (rows_text look (done ++ s) (k + 1) rows h grown (omega (arith, more, some)) wide all.1)
 
 -- ---- a variable's characters
 
@@ -57,11 +63,14 @@ char_variable look values h wide = grind (arith, append_assoc, variable_opening,
 
 -- what all its strings are read as
 abbrev pub strings : Look → List ℤ → List (List ℤ) → List Lexeme
-strings look r rows = word (escaped_name look.name) ∷ mark 61 ∷ string (printed look.trimmed 0 r) ∷ (commas (map string (map (printed look.trimmed 0) rows)) ++ mark 59 ∷ [])
+strings look r rows = word (escaped_name look.name) ∷ mark 61 ∷ string (printed look.trimmed 0 r) ∷
+    (commas (map string (map (printed look.trimmed 0) rows)) ++ mark 59 ∷ [])
 
 -- a first row after this blank, and the others
-all_closed : (look : Look) (x : ℤ) (xs : List ℤ) (rows : List (List ℤ)) (blank : List ℕ) → IsName look.name → is_char look.ty ≡ true → length (x ∷ xs) ≤ look.row → Closed blank [] → char_lead look 0 ≡ blank ++ 34 ∷ [] →
-    char_pieces look (x ∷ xs) (flat rows) ≡ flat_map (later_string (codes ",\n  ")) (map (printed look.trimmed 0) rows) → Closed (variable_text look (flat ((x ∷ xs) ∷ rows))) (strings look (x ∷ xs) rows)
+all_closed : (look : Look) (x : ℤ) (xs : List ℤ) (rows : List (List ℤ)) (blank : List ℕ) → IsName look.name → is_char look.ty ≡ true →
+    length (x ∷ xs) ≤ look.row → Closed blank [] → char_lead look 0 ≡ blank ++ 34 ∷ [] →
+    char_pieces look (x ∷ xs) (flat rows) ≡ flat_map (later_string (codes ",\n  ")) (map (printed look.trimmed 0) rows) → Closed
+    (variable_text look (flat ((x ∷ xs) ∷ rows))) (strings look (x ∷ xs) rows)
 all_closed look x xs rows blank name ty small closed lead more =
     let f = escaped_text (printed look.trimmed 0 (x ∷ xs)) in
     let others = flat_map (later_string (codes ",\n  ")) (map (printed look.trimmed 0) rows) in
@@ -71,11 +80,13 @@ all_closed look x xs rows blank name ty small closed lead more =
     let row = a_row look [] x xs (flat rows) 0 (let z : 0 ≡ 0 * look.row = omega arith in z) small in
     subst (λ bs. Closed bs (strings look (x ∷ xs) rows))
     (sym (char_variable look (flat ((x ∷ xs) ∷ rows)) ty (λ some. let long : suc (length xs) ≤ look.row = small in omega (arith, long)) ∙
-    ap (λ bs. variable_opening look ++ (bs ++ closing_bytes)) (row ∙ ap (λ l. l ++ (f ++ char_pieces look (x ∷ xs) (flat rows))) lead ∙ ap (λ bs. (blank ++ 34 ∷ []) ++ (f ++ bs)) more) ∙
+    ap (λ bs. variable_opening look ++ (bs ++ closing_bytes))
+    (row ∙ ap (λ l. l ++ (f ++ char_pieces look (x ∷ xs) (flat rows))) lead ∙ ap (λ bs. (blank ++ 34 ∷ []) ++ (f ++ bs)) more) ∙
     ap (λ bs. variable_opening look ++ bs) regroup))
     (closed_both (variable_opening look) (blank ++ 34 ∷ tail) (word (escaped_name look.name) ∷ mark 61 ∷ []) ls (opening_closed look name)
     (closed_both blank (34 ∷ tail) [] ls closed
-    (strings_closed (codes ",\n  ") (codes " ;\n") (mark 59 ∷ []) (marks_closed (codes ",\n  ") refl) (marks_closed (codes " ;\n") refl) (printed look.trimmed 0 (x ∷ xs)) (map (printed look.trimmed 0) rows))))
+    (strings_closed (codes ",\n  ") (codes " ;\n") (mark 59 ∷ []) (marks_closed (codes ",\n  ") refl) (marks_closed (codes " ;\n") refl)
+    (printed look.trimmed 0 (x ∷ xs)) (map (printed look.trimmed 0) rows))))
 
 -- at rank 2 and up
 pub table_closed : (look : Look) (r : List ℤ) (rows : List (List ℤ)) → IsName look.name → is_char look.ty ≡ true → look.in_rows ≡ true → 0 < look.row → Each (λ (s : List ℤ). length s ≡ look.row) (r ∷ rows) →
@@ -140,7 +151,8 @@ string_said : (v : Version) (takes_fill : Bool) (bytes : List ℕ) → constant 
 string_said v takes_fill bytes = ap (λ (bs : List ℕ). Some (Characters (string_value bs))) (between_quotes (flat_map escaped_in_string bytes)) ∙ ap (λ (bs : List ℕ). Some (Characters bs)) (stands_for (flat_map escaped_in_string bytes) bytes (unescape_all bytes))
 
 pub strings_said : (v : Version) (takes_fill : Bool) (bytes : List ℕ) (all : List (List ℕ)) → constants v takes_fill (string bytes ∷ commas (map string all) ++ semicolon ∷ []) ≡ Some (map Characters (bytes ∷ all))
-strings_said v takes_fill bytes all = constants_say v takes_fill string Characters (λ b. Unit {0}) (λ b u. string_said v takes_fill b) bytes all (any_each (bytes ∷ all))
+strings_said v takes_fill bytes all = constants_say v takes_fill string Characters (λ b. Unit {0})
+    (λ b u. string_said v takes_fill b) bytes all (any_each (bytes ∷ all))
 
 -- ---- what becomes of them
 

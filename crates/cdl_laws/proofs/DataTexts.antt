@@ -44,7 +44,11 @@ pub gives_table : (v : Version) (dims : List Dim) (look : Look) (var : Var) (r :
     (look.trimmed ≡ true → look.fill ≡ pos 0) → look.row ≡ (capacity_of dims (trimmed_var var)).row → 0 < look.row → ((capacity_of dims (trimmed_var var)).is_open ≡ false → length (r ∷ rows) ≤ (capacity_of dims (trimmed_var var)).rows) → Each (λ (s : List ℤ). (length s ≡ look.row) × Each IsCharacter s) (r ∷ rows) → Gives v dims look var (flat (r ∷ rows))
 gives_table v dims look var r rows capacity ty h fill row some few all = record {
   said = map Characters (map (printed look.trimmed 0) (r ∷ rows));
-  says = subst (λ n. Says v Values (variable_text look (flat (r ∷ rows))) (Listed n (map Characters (map (printed look.trimmed 0) (r ∷ rows))))) capacity.name (table_says v look r rows capacity.valid ty h some (each_map (λ (s : List ℤ). (length s ≡ look.row) × Each IsCharacter s) (λ (s : List ℤ). length s ≡ look.row) (r ∷ rows) (λ s e. e.0) all));
+  says = subst (λ n. Says v Values (variable_text look (flat (r ∷ rows)))
+      (Listed n (map Characters (map (printed look.trimmed 0) (r ∷ rows))))) capacity.name
+      (table_says v look r rows capacity.valid ty h some
+      (each_map (λ (s : List ℤ). (length s ≡ look.row) × Each IsCharacter s) (λ (s : List ℤ). length s ≡ look.row) (r ∷ rows)
+      (λ s e. e.0) all));
   listing = Rows (map (printed look.trimmed 0) (r ∷ rows));
   added = rows_listed (capacity_of dims (trimmed_var var)) look.trimmed (r ∷ rows) (ap is_char capacity.ty ∙ ty) (capacity.rows ∙ h) few are;
   full = ap (filled (length (flat (r ∷ rows))) (fill_value (trimmed_var var))) back ∙ filled_whole (length (flat (r ∷ rows))) (fill_value (trimmed_var var)) (flat (r ∷ rows)) refl;

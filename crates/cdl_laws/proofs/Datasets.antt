@@ -4,6 +4,7 @@ use Rattle.cdl_laws.proofs.Prelude.{mul-add-div, div-eq_of_lt, Dataset, Dim, Hea
 use Rattle.cdl_laws.proofs.Given.{IsBack, is_back}
 use Rattle.cdl_laws.proofs.Acts.{no_draft}
 use Rattle.cdl_laws.proofs.DataTexts.{AreGiven, given_draft, given_drafts}
+use Rattle.std.proofs.Math.Seq.{get_or-append_seam}
 
 -- ---- one array for each variable
 
@@ -33,13 +34,9 @@ abbrev pub StandAt : List (List ℕ) → ℕ → List (List ℕ) → Type 0
 StandAt all place [] = Unit {0}
 StandAt all place (a ∷ arrays) = (slice_index_or all place [] ≡ a) × StandAt all (place + 1) arrays
 
-index_past : (before : List (List ℕ)) (a : List ℕ) (arrays : List (List ℕ)) → slice_index_or (before ++ a ∷ arrays) (length before) [] ≡ a
-index_past [] a arrays = refl
-index_past (b ∷ before) a arrays = index_past before a arrays
-
 pub stand_after : (before arrays : List (List ℕ)) → StandAt (before ++ arrays) (length before) arrays
 stand_after before [] = tt
-stand_after before (a ∷ arrays) = grind (arith, index_past, append_assoc, length-append, stand_after (before ++ a ∷ []) arrays)
+stand_after before (a ∷ arrays) = grind (arith, get_or-append_seam, append_assoc, length-append, stand_after (before ++ a ∷ []) arrays)
 
 -- no variable before or in the list has another's name
 abbrev pub AreNewVars : List Draft → List Var → List (Option Listing) → Type 0
@@ -74,7 +71,8 @@ counted slab n some = grind (arith, mul-add-div, div-eq_of_lt)
 
 -- it is the dataset's, where some variable is a record variable, and 0 where none is
 count_all : (v : Version) (h : Header) (n width : ℕ) (vars : List Var) (arrays : List (List ℕ)) (backs : AreBack v h n width vars arrays) → Each (λ (var : Var). 0 < slab_count h.dims var) vars →
-    ((record_vars h.dims vars ≡ []) × (records_in h.dims (given_drafts vars (listings v h n width vars arrays backs)) ≡ 0)) ⊎ (records_in h.dims (given_drafts vars (listings v h n width vars arrays backs)) ≡ n)
+    ((record_vars h.dims vars ≡ []) × (records_in h.dims (given_drafts vars (listings v h n width vars arrays backs)) ≡ 0)) ⊎
+    (records_in h.dims (given_drafts vars (listings v h n width vars arrays backs)) ≡ n)
 count_all v h n width [] [] backs slabs = inl (refl, refl)
 count_all v h n width (var ∷ vars) (a ∷ arrays) backs slabs =
     grind (arith, count_all v h n width vars arrays backs.1 slabs.1, counted)

@@ -4,13 +4,11 @@ use Rattle.cdl_laws.proofs.Prelude.{signed_decimal, flat_map, list_all, option_m
 use Rattle.cdl_laws.proofs.Texts.{Closed, Reads, closed_both, closed_by, mark, word, number, name_word, marks_closed, number_reads, stops}
 use Rattle.cdl_laws.proofs.Numerals.{numeral_again, value_again, decimal_digits, on_suffix, number_is, value_is}
 use Rattle.cdl_laws.proofs.Strings.{string}
-use Rattle.cdl_laws.proofs.ValueTexts.{comma, commas, constants_say}
+use Rattle.cdl_laws.proofs.ValueTexts.{comma, commas, constants_say, AreSmall}
 use Rattle.cdl_laws.proofs.Characters.{strings_said, later_string, strings_closed}
 use Rattle.cdl_laws.proofs.Takes.{Says, statement_says, semicolon, is_fine, word_fine}
 use Rattle.cdl_statements.specs.Shapes as shapes
-use Rattle.cdl_statements.proofs.Dues.{name_is}
-use Rattle.cdl_statements.proofs.Sections.{section_no_name}
-use Rattle.cdl_laws.proofs.Heads.{name_starts, bare_word, comment_closed, joined_reads, fine_commas, strings_fine, type_reads, type_starts}
+use Rattle.cdl_laws.proofs.Heads.{name_starts, bare_word, comment_closed, joined_reads, fine_commas, strings_fine, type_reads, type_starts, opens_none}
 
 -- ---- dimensions
 
@@ -24,7 +22,8 @@ records_comment n = list_all-append (λ b. not (b == 10)) (decimal n) (codes " c
 unlimited_rest : (n : ℕ) → Closed (codes " ; // (" ++ (decimal n ++ (codes " currently)\n" ++ []))) (semicolon ∷ [])
 unlimited_rest n =
     subst (λ bs. Closed bs (semicolon ∷ [])) (ap (λ bs. codes " ; // (" ++ bs) (append_assoc (decimal n) (codes " currently)") (10 ∷ [])))
-    (closed_both (codes " ; ") (47 ∷ 47 ∷ ((codes " (" ++ (decimal n ++ codes " currently)")) ++ 10 ∷ [])) (semicolon ∷ []) [] (marks_closed (codes " ; ") refl)
+    (closed_both (codes " ; ") (47 ∷ 47 ∷ ((codes " (" ++ (decimal n ++ codes " currently)")) ++ 10 ∷ [])) (semicolon ∷ []) []
+    (marks_closed (codes " ; ") refl)
     (comment_closed (codes " (" ++ (decimal n ++ codes " currently)")) (records_comment n)))
 
 -- the length as a lexeme
@@ -46,16 +45,14 @@ extent_closed n len h =
 dim_closed : (n : ℕ) (dim : Dim) → IsName dim.name → dim.len < 2 ^ 64 → Closed (dim_line n dim) (word (escaped_name dim.name) ∷ mark 61 ∷ extent_lexeme dim.len ∷ semicolon ∷ [])
 unfolding dim_line concat_parts
 dim_closed n dim name h =
-    closed_both (codes "\t") (escaped_name dim.name ++ (codes " = " ++ (dim_len_text n dim.len ++ []))) [] (word (escaped_name dim.name) ∷ mark 61 ∷ extent_lexeme dim.len ∷ semicolon ∷ []) (marks_closed (codes "\t") refl)
+    closed_both (codes "\t") (escaped_name dim.name ++ (codes " = " ++ (dim_len_text n dim.len ++ []))) []
+    (word (escaped_name dim.name) ∷ mark 61 ∷ extent_lexeme dim.len ∷ semicolon ∷ []) (marks_closed (codes "\t") refl)
     (closed_by (escaped_name dim.name) (codes " = " ++ (dim_len_text n dim.len ++ [])) (word (escaped_name dim.name) ∷ []) (mark 61 ∷ extent_lexeme dim.len ∷ semicolon ∷ []) (name_word dim.name name).reads (λ rest. refl)
-    (closed_both (codes " = ") (dim_len_text n dim.len ++ []) (mark 61 ∷ []) (extent_lexeme dim.len ∷ semicolon ∷ []) (marks_closed (codes " = ") refl) (extent_closed n dim.len h)))
+    (closed_both (codes " = ") (dim_len_text n dim.len ++ []) (mark 61 ∷ []) (extent_lexeme dim.len ∷ semicolon ∷ [])
+    (marks_closed (codes " = ") refl) (extent_closed n dim.len h)))
 
 extent_fine : (v : Version) (len : ℕ) → len < 2 ^ 64 → is_fine v (extent_lexeme len) ≡ true
 extent_fine v len h = grind (arith, codes "UNLIMITED", decimal len, word_fine v (codes "UNLIMITED"), value_again v (pos len) h, pos len, word, number)
-
--- a name is the word of no section
-no_section : (l : Lexeme) (name : List ℕ) → name_of l ≡ Some name → is_some (section_of l) ≡ false
-no_section l name h = grind (arith, name_is l, section_no_name l)
 
 dim_listed : (v : Version) (dim : Dim) → IsName dim.name → dim.len < 2 ^ 64 → shapes.dimensions v (word (escaped_name dim.name) ∷ mark 61 ∷ extent_lexeme dim.len ∷ semicolon ∷ []) ≡ Some (said_dim dim ∷ [])
 dim_listed v dim name h =
@@ -63,7 +60,7 @@ dim_listed v dim name h =
 
 dim_is : (v : Version) (dim : Dim) → IsName dim.name → dim.len < 2 ^ 64 → shape v Dimensions (word (escaped_name dim.name) ∷ mark 61 ∷ extent_lexeme dim.len ∷ semicolon ∷ []) ≡ Some (DeclareDimensions (said_dim dim ∷ []))
 unfolding shape
-dim_is v dim name h = rw (no_section (word (escaped_name dim.name)) dim.name (name_word dim.name name).stands) (ap (option_map DeclareDimensions) (dim_listed v dim name h))
+dim_is v dim name h = rw (opens_none (escaped_name dim.name) (name_word dim.name name).free) (ap (option_map DeclareDimensions) (dim_listed v dim name h))
 
 pub dim_says : (v : Version) (n : ℕ) (dim : Dim) → IsName dim.name → dim.len < 2 ^ 64 → Says v Dimensions (dim_line n dim) (DeclareDimensions (said_dim dim ∷ []))
 dim_says v n dim name h =
@@ -78,9 +75,6 @@ dim_says v n dim name h =
 abbrev pub suffixed : NcType → ℤ → List ℕ
 suffixed ty n = signed_decimal n ++ number_suffix ty
 
-abbrev pub AreSmall : List ℤ → Type 0
-AreSmall xs = Each (λ x. unsigned_abs x < 2 ^ 64) xs
-
 suffixed_read : (ty : NcType) (xs : List ℤ) → AreSmall xs → Each (λ x. Reads (suffixed ty x) (number (suffixed ty x) ∷ [])) xs
 suffixed_read ty [] h = tt
 suffixed_read ty (x ∷ xs) h = (number_reads (suffixed ty x) (number_is x (number_suffix ty) h.0 (on_suffix ty)), suffixed_read ty xs h.1)
@@ -94,7 +88,8 @@ numbers_said ty xs = map (λ x. Number (record { value = x; ty = ty })) xs
 numbers_are : (v : Version) (ty : NcType) (x : ℤ) (xs : List ℤ) → AreSmall (x ∷ xs) → has_type v ty ≡ true → is_char ty ≡ false →
     constants v false (number (suffixed ty x) ∷ commas (number_lexemes ty xs) ++ semicolon ∷ []) ≡ Some (numbers_said ty (x ∷ xs))
 numbers_are v ty x xs fit h k =
-    constants_say v false (λ y. number (suffixed ty y)) (λ y. Number (record { value = y; ty = ty })) (λ y. unsigned_abs y < 2 ^ 64) (λ y small. rw (numeral_again v ty y small h k) refl) x xs fit
+    constants_say v false (λ y. number (suffixed ty y)) (λ y. Number (record { value = y; ty = ty })) (λ y. unsigned_abs y < 2 ^ 64)
+    (λ y small. rw (numeral_again v ty y small h k) refl) x xs fit
 
 numbers_fine : (v : Version) (ty : NcType) (xs : List ℤ) → AreSmall xs → has_type v ty ≡ true → is_char ty ≡ false → list_all (is_fine v) (number_lexemes ty xs) ≡ true
 numbers_fine v ty [] fit h k = refl
@@ -131,7 +126,8 @@ broken_closed bytes =
     let f = escaped_text (first bytes) in
     let more = flat_map (later_string gap) (others bytes) in
     subst (λ ls. Closed (34 ∷ (broken_text bytes ++ 34 ∷ [])) (string (first bytes) ∷ ls)) (append-nil (commas (map string (others bytes))))
-    (subst (λ bs. Closed (34 ∷ bs) (string (first bytes) ∷ (commas (map string (others bytes)) ++ []))) (sym (append_assoc f more (34 ∷ [])) ∙ ap (λ bs. bs ++ 34 ∷ []) (sym (broken_is bytes)))
+    (subst (λ bs. Closed (34 ∷ bs) (string (first bytes) ∷ (commas (map string (others bytes)) ++ [])))
+    (sym (append_assoc f more (34 ∷ [])) ∙ ap (λ bs. bs ++ 34 ∷ []) (sym (broken_is bytes)))
     (strings_closed gap [] [] (marks_closed gap refl) (λ rest. refl) (first bytes) (others bytes)))
 
 -- ---- attributes
@@ -173,10 +169,12 @@ att_closed : (v : Version) (att : Att) (said : List Value) (list : IsListOf v (a
     Closed (rest_of_att att) (mark 58 ∷ word (escaped_name att.name) ∷ mark 61 ∷ (list.l ∷ commas list.ls ++ semicolon ∷ []))
 att_closed v att said list name =
     let tail = list.l ∷ commas list.ls ++ semicolon ∷ [] in
-    closed_both (codes ":") (escaped_name att.name ++ (codes " = " ++ (att_text att.ty att.vals ++ (codes " ;\n" ++ [])))) (mark 58 ∷ []) (word (escaped_name att.name) ∷ mark 61 ∷ tail) (marks_closed (codes ":") refl)
+    closed_both (codes ":") (escaped_name att.name ++ (codes " = " ++ (att_text att.ty att.vals ++ (codes " ;\n" ++ [])))) (mark 58 ∷ [])
+    (word (escaped_name att.name) ∷ mark 61 ∷ tail) (marks_closed (codes ":") refl)
     (closed_by (escaped_name att.name) (codes " = " ++ (att_text att.ty att.vals ++ (codes " ;\n" ++ []))) (word (escaped_name att.name) ∷ []) (mark 61 ∷ tail) (name_word att.name name).reads (λ rest. refl)
     (closed_both (codes " = ") (att_text att.ty att.vals ++ (codes " ;\n" ++ [])) (mark 61 ∷ []) tail (marks_closed (codes " = ") refl)
-    (closed_by (att_text att.ty att.vals) (codes " ;\n" ++ []) (list.l ∷ commas list.ls) (semicolon ∷ []) list.reads (λ rest. refl) (marks_closed (codes " ;\n") refl))))
+    (closed_by (att_text att.ty att.vals) (codes " ;\n" ++ []) (list.l ∷ commas list.ls) (semicolon ∷ []) list.reads (λ rest. refl)
+    (marks_closed (codes " ;\n") refl))))
 
 att_fine : (v : Version) (att : Att) (said : List Value) (list : IsListOf v (att_text att.ty att.vals) said) → list_all (is_fine v) (mark 58 ∷ word (escaped_name att.name) ∷ mark 61 ∷ list.l ∷ commas list.ls) ≡ true
 att_fine v att said list = grind (arith, and_both, word, word_fine, and_left, fine_commas, and_right)
@@ -196,7 +194,9 @@ pub global_says : (v : Version) (section : Section) (att : Att) (said : List Val
 unfolding att_line concat_parts
 global_says v section att said before list name =
     statement_says v section (codes "\t\t" ++ rest_of_att att) (mark 58) (word (escaped_name att.name) ∷ mark 61 ∷ list.l ∷ commas list.ls) (Attribute None att.name said)
-    (closed_both (codes "\t\t") (rest_of_att att) [] (mark 58 ∷ word (escaped_name att.name) ∷ mark 61 ∷ (list.l ∷ commas list.ls ++ semicolon ∷ [])) (marks_closed (codes "\t\t") refl) (att_closed v att said list name))
+    (closed_both (codes "\t\t") (rest_of_att att) []
+    (mark 58 ∷ word (escaped_name att.name) ∷ mark 61 ∷ (list.l ∷ commas list.ls ++ semicolon ∷ [])) (marks_closed (codes "\t\t") refl)
+    (att_closed v att said list name))
     refl (att_fine v att said list)
     (global_in v section (word (escaped_name att.name) ∷ mark 61 ∷ list.l ∷ commas list.ls ++ semicolon ∷ []) before ∙ assigned_is v (Attribute None) att said list name)
 
@@ -204,7 +204,9 @@ pub owned_says : (v : Version) (owner : List ℕ) (att : Att) (said : List Value
 unfolding att_line concat_parts shape
 owned_says v owner att said list own name =
     statement_says v Variables (codes "\t\t" ++ (escaped_name owner ++ rest_of_att att)) (word (escaped_name owner)) (mark 58 ∷ word (escaped_name att.name) ∷ mark 61 ∷ list.l ∷ commas list.ls) (Attribute (Some owner) att.name said)
-    (closed_both (codes "\t\t") (escaped_name owner ++ rest_of_att att) [] (word (escaped_name owner) ∷ mark 58 ∷ word (escaped_name att.name) ∷ mark 61 ∷ (list.l ∷ commas list.ls ++ semicolon ∷ [])) (marks_closed (codes "\t\t") refl)
+    (closed_both (codes "\t\t") (escaped_name owner ++ rest_of_att att) []
+    (word (escaped_name owner) ∷ mark 58 ∷ word (escaped_name att.name) ∷ mark 61 ∷ (list.l ∷ commas list.ls ++ semicolon ∷ []))
+    (marks_closed (codes "\t\t") refl)
     (closed_by (escaped_name owner) (rest_of_att att) (word (escaped_name owner) ∷ []) (mark 58 ∷ word (escaped_name att.name) ∷ mark 61 ∷ (list.l ∷ commas list.ls ++ semicolon ∷ [])) (name_word owner own).reads (λ rest. refl) (att_closed v att said list name)))
     (name_starts owner own)
     (and_both (is_fine v (word (escaped_name owner))) (list_all (is_fine v) (mark 58 ∷ word (escaped_name att.name) ∷ mark 61 ∷ list.l ∷ commas list.ls)) (word_fine v (escaped_name owner)) (att_fine v att said list))
@@ -250,7 +252,8 @@ shape_closed [] all = λ rest. refl
 shape_closed (n ∷ ns) all =
     let inner = joined (map escaped_name (n ∷ ns)) in
     closed_both (codes "(") (inner ++ (codes ")" ++ [])) (mark 40 ∷ []) (inner_lexemes n ns ++ mark 41 ∷ []) (marks_closed (codes "(") refl)
-    (closed_by inner (codes ")" ++ []) (inner_lexemes n ns) (mark 41 ∷ []) (joined_reads escaped_name (λ m. word (escaped_name m)) n ns (names_read (n ∷ ns) all))
+    (closed_by inner (codes ")" ++ []) (inner_lexemes n ns) (mark 41 ∷ [])
+    (joined_reads escaped_name (λ m. word (escaped_name m)) n ns (names_read (n ∷ ns) all))
     (λ rest. refl) (marks_closed (codes ")") refl))
 
 shape_stops : (names : List (List ℕ)) (rest : List ℕ) → stops ((shape_of names ++ (codes " ;\n" ++ [])) ++ rest) ≡ true
@@ -265,15 +268,18 @@ shape_fine v (n ∷ ns) = search (rules, list_all-append, and_both, word_fine, f
 -- ---- a declaration
 
 line_closed : (ty : NcType) (name : List ℕ) (names : List (List ℕ)) → IsName name → AreNames names →
-    Closed (typed_line (type_word ty) name (shape_of names)) (word (type_word ty) ∷ word (escaped_name name) ∷ (shape_lexemes names ++ semicolon ∷ []))
+    Closed (typed_line (type_word ty) name (shape_of names))
+    (word (type_word ty) ∷ word (escaped_name name) ∷ (shape_lexemes names ++ semicolon ∷ []))
 unfolding typed_line concat_parts
 line_closed ty name names h all =
     let end = codes " ;\n" ++ [] in
     let shape = shape_of names in
     let ls = shape_lexemes names ++ semicolon ∷ [] in
     let named = word (escaped_name name) ∷ ls in
-    closed_both (codes "\t") (type_word ty ++ (codes " " ++ (escaped_name name ++ (shape ++ end)))) [] (word (type_word ty) ∷ named) (marks_closed (codes "\t") refl)
-    (closed_by (type_word ty) (codes " " ++ (escaped_name name ++ (shape ++ end))) (word (type_word ty) ∷ []) named (type_reads ty) (λ rest. refl)
+    closed_both (codes "\t") (type_word ty ++ (codes " " ++ (escaped_name name ++ (shape ++ end)))) [] (word (type_word ty) ∷ named)
+    (marks_closed (codes "\t") refl)
+    (closed_by (type_word ty) (codes " " ++ (escaped_name name ++ (shape ++ end))) (word (type_word ty) ∷ []) named (type_reads ty)
+    (λ rest. refl)
     (closed_both (codes " ") (escaped_name name ++ (shape ++ end)) [] named (marks_closed (codes " ") refl)
     (closed_by (escaped_name name) (shape ++ end) (word (escaped_name name) ∷ []) ls (name_word name h).reads (shape_stops names)
     (closed_both shape end (shape_lexemes names) (semicolon ∷ []) (shape_closed names all) (marks_closed (codes " ;\n") refl)))))
@@ -281,18 +287,24 @@ line_closed ty name names h all =
 two_fine : (v : Version) (a b : List ℕ) (ls : List Lexeme) → list_all (is_fine v) ls ≡ true → list_all (is_fine v) (word a ∷ word b ∷ ls) ≡ true
 two_fine v a b ls h = and_both (is_fine v (word a)) (list_all (is_fine v) (word b ∷ ls)) (word_fine v a) (and_both (is_fine v (word b)) (list_all (is_fine v) ls) (word_fine v b) h)
 
-names_in : (f : List (List ℕ) → Variable) (n : List ℕ) (ns : List (List ℕ)) → AreNames (n ∷ ns) → in_parentheses f ((inner_lexemes n ns ++ mark 41 ∷ []) ++ semicolon ∷ []) ≡ Some (f (n ∷ ns) ∷ [])
+names_in : (f : List (List ℕ) → Variable) (n : List ℕ) (ns : List (List ℕ)) → AreNames (n ∷ ns) →
+    in_parentheses f ((inner_lexemes n ns ++ mark 41 ∷ []) ++ semicolon ∷ []) ≡ Some (f (n ∷ ns) ∷ [])
 names_in f n [] h = rw ((name_word n h.0).stands) refl
 names_in f n (m ∷ ns) h = rw ((name_word n h.0).stands) (names_in (λ ds. f (n ∷ ds)) m ns h.1)
 
 line_is : (v : Version) (ty : NcType) (name : List ℕ) (names : List (List ℕ)) → IsName name → AreNames names →
-    shape v Variables (word (type_word ty) ∷ word (escaped_name name) ∷ (shape_lexemes names ++ semicolon ∷ [])) ≡ Some (DeclareVariables (word (type_word ty)) (record { name = name; dimensions = names } ∷ []))
+    shape v Variables (word (type_word ty) ∷ word (escaped_name name) ∷ (shape_lexemes names ++ semicolon ∷ [])) ≡ Some
+    (DeclareVariables (word (type_word ty)) (record { name = name; dimensions = names } ∷ []))
 unfolding shape
 line_is v ty name [] h all = rw ((name_word name h).stands) refl
-line_is v ty name (n ∷ ns) h all = rw ((name_word name h).stands) (ap (option_map (DeclareVariables (word (type_word ty)))) (names_in (λ ds. record { name = name; dimensions = ds }) n ns all))
+line_is v ty name (n ∷ ns) h all = rw ((name_word name h).stands)
+    (ap (option_map (DeclareVariables (word (type_word ty)))) (names_in (λ ds. record { name = name; dimensions = ds }) n ns all))
 
 pub typed_says : (v : Version) (ty : NcType) (name : List ℕ) (names : List (List ℕ)) → IsName name → AreNames names →
     Says v Variables (typed_line (type_word ty) name (shape_of names)) (DeclareVariables (word (type_word ty)) (record { name = name; dimensions = names } ∷ []))
 typed_says v ty name names h all =
-    statement_says v Variables (typed_line (type_word ty) name (shape_of names)) (word (type_word ty)) (word (escaped_name name) ∷ shape_lexemes names) (DeclareVariables (word (type_word ty)) (record { name = name; dimensions = names } ∷ []))
-    (line_closed ty name names h all) (type_starts ty) (two_fine v (type_word ty) (escaped_name name) (shape_lexemes names) (shape_fine v names)) (line_is v ty name names h all)
+    statement_says v Variables (typed_line (type_word ty) name (shape_of names)) (word (type_word ty))
+    (word (escaped_name name) ∷ shape_lexemes names)
+    (DeclareVariables (word (type_word ty)) (record { name = name; dimensions = names } ∷ []))
+    (line_closed ty name names h all) (type_starts ty)
+    (two_fine v (type_word ty) (escaped_name name) (shape_lexemes names) (shape_fine v names)) (line_is v ty name names h all)

@@ -35,11 +35,13 @@ after_vars section [] = section
 after_vars section (var ∷ vars) = Variables
 
 -- the word of a section, and its lines
-headed : (v : Version) (head : List ℕ) (lines : List (List ℕ)) (n : ℕ) (s t u : State) → Takes v head s t → Takes v (concat_parts lines) t u →
+headed : (v : Version) (head : List ℕ) (lines : List (List ℕ)) (n : ℕ) (s t u : State) → Takes v head s t →
+    Takes v (concat_parts lines) t u →
     Takes v (if suc n == 0 then [] else concat_parts (head ∷ concat_parts lines ∷ [])) s u
 unfolding concat_parts
 headed v head lines n s t u p q =
-    rw (not_none n) (subst (λ bs. Takes v (head ++ bs) s u) (sym (append-nil (concat_parts lines))) (takes_both v head (concat_parts lines) s t u p q))
+    rw (not_none n) (subst (λ bs. Takes v (head ++ bs) s u) (sym (append-nil (concat_parts lines)))
+    (takes_both v head (concat_parts lines) s t u p q))
 
 pub dims_part : (v : Version) (n : ℕ) (dims : List Dim) (gatts : List Att) (drafts : List Draft) → AreNewDims v [] dims →
     Takes v (dims_text n dims) (state Globals [] gatts drafts) (state (after_dims dims) dims gatts drafts)
@@ -48,7 +50,8 @@ dims_part v n [] gatts drafts h = takes_nothing v (state Globals [] gatts drafts
 dims_part v n (d ∷ dims) gatts drafts h =
     let in_dims : List Dim → State = λ done. state Dimensions done gatts drafts in
     headed v dimensions_word (map (dim_line n) (d ∷ dims)) (length dims) (state Globals [] gatts drafts) (in_dims []) (in_dims (d ∷ dims))
-    (says_takes v dimensions_word (Enter Dimensions) (state Globals [] gatts drafts) (in_dims []) (dimensions_says v) (mark_act v Globals Dimensions [] gatts drafts))
+    (says_takes v dimensions_word (Enter Dimensions) (state Globals [] gatts drafts) (in_dims []) (dimensions_says v)
+    (mark_act v Globals Dimensions [] gatts drafts))
     (dims_taken v n (d ∷ dims) gatts drafts h)
 
 before_of : (dims : List Dim) → IsBeforeData (after_dims dims)
@@ -81,7 +84,8 @@ unfolding gatts_text att_lines
 gatts_part v dims vars [] drafts speak new = takes_nothing v (state (after_vars (after_dims dims) vars) dims [] drafts)
 gatts_part v dims vars (a ∷ gatts) drafts speak new =
     let s = state (after_vars (after_dims dims) vars) dims [] drafts in
-    headed v global_word (map (att_line []) (a ∷ gatts)) (length gatts) s s (state (after_vars (after_dims dims) vars) dims (map trimmed_att (a ∷ gatts)) drafts)
+    headed v global_word (map (att_line []) (a ∷ gatts)) (length gatts) s s
+    (state (after_vars (after_dims dims) vars) dims (map trimmed_att (a ∷ gatts)) drafts)
     (λ rest. ap (in_turn (piece_read v) s) (comment_back rest))
     (globals_taken v (after_vars (after_dims dims) vars) dims (a ∷ gatts) drafts (grind (arith, before_of, variables)) speak new)
 
@@ -97,7 +101,7 @@ end_taken v section dims gatts drafts h = grind arith
 -- ---- the opening
 
 other_byte : (b n : ℕ) → is_plain b ≡ true → is_plain n ≡ false → (b == n) ≡ false
-other_byte b n h k = elim (b == n) as (λ w. (b == n) ≡ w → w ≡ false) [ true ↦ (λ e. absurd (false≢true (sym k ∙ subst (λ m. is_plain m ≡ true) (eqb-true b n e) h))) | false ↦ (λ e. refl) ] refl
+other_byte b n h k = grind (arith, false≢true, eqb-true b n)
 
 until_plainly : (b : ℕ) (rest : List ℕ) → is_plain b ≡ true → len_until 0x7b (b ∷ rest) ≡ 1 + len_until 0x7b rest
 until_plainly b rest h = until_plain 0x7b b rest (other_byte b 0x5c h refl) (other_byte b 0x7b h refl)

@@ -52,7 +52,8 @@ pub one_times : (n m : ℕ) → suc n * m ≡ n * m + m
 one_times n m = grind arith
 
 -- after m values more
-grown_part : (ty : NcType) (k c m : ℕ) (vals bytes : List ℕ) → IsPart ty k vals → m ≤ c → (is_char ty ≡ false → c ≤ m) → length bytes ≡ m * size_of ty → Each IsByte bytes → IsPart ty (k + c) (vals ++ bytes)
+grown_part : (ty : NcType) (k c m : ℕ) (vals bytes : List ℕ) → IsPart ty k vals → m ≤ c → (is_char ty ≡ false → c ≤ m) →
+    length bytes ≡ m * size_of ty → Each IsByte bytes → IsPart ty (k + c) (vals ++ bytes)
 grown_part ty k c m vals bytes part few many whole each = record {
   count = part.count + m;
   few = (let a = part.few in omega (arith, a, few));

@@ -34,7 +34,8 @@ row_all h var n width e = rw (is_on (nat_lt (length var.dimids) 2) e) refl
 
 -- ---- numbers
 
-pub listed_numbers : (v : Version) (h : Header) (var : Var) (n width : ℕ) (xs : List ℤ) → 0 < length xs → length xs ≡ value_count h.dims var n → Each (IsInRange var.ty) xs → is_char var.ty ≡ false → IsName var.name →
+pub listed_numbers : (v : Version) (h : Header) (var : Var) (n width : ℕ) (xs : List ℤ) → 0 < length xs →
+    length xs ≡ value_count h.dims var n → Each (IsInRange var.ty) xs → is_char var.ty ≡ false → IsName var.name →
     Gives v h.dims (look_of h var n width) var xs
 unfolding capacity_of
 listed_numbers v h var n width [] some len range other name = absurd (omega (arith, some))
@@ -52,7 +53,8 @@ trimmed_fill : (h : Header) (var : Var) (n width : ℕ) → (look_of h var n wid
 unfolding look_of
 trimmed_fill h var n width e = (Decides-int_eq (fill_value var) (pos 0)).0 (and_left (int_eq (fill_value var) (pos 0)) (not (is_record_var h.dims var && (length var.dimids == 1))) e)
 
-pub listed_line : (v : Version) (h : Header) (var : Var) (n width : ℕ) (xs : List ℤ) → 0 < length xs → length xs ≡ value_count h.dims var n → Each (IsInRange var.ty) xs → is_char var.ty ≡ true → IsName var.name →
+pub listed_line : (v : Version) (h : Header) (var : Var) (n width : ℕ) (xs : List ℤ) → 0 < length xs →
+    length xs ≡ value_count h.dims var n → Each (IsInRange var.ty) xs → is_char var.ty ≡ true → IsName var.name →
     fill_value (trimmed_var var) ≡ fill_value var → (look_of h var n width).in_rows ≡ false → (is_record_var h.dims var ≡ true → (look_of h var n width).trimmed ≡ false) → Gives v h.dims (look_of h var n width) var xs
 listed_line v h var n width [] some len range char name fill rank whole = grind (arith, room_is, look-type)
 listed_line v h var n width _ some len range char name fill rank whole = grind (arith, gives_line, room_is, look-type, row_all, trimmed_fill, are_characters)
@@ -122,7 +124,9 @@ rows_within h var n width k rank split some closed =
     let two = is_off (nat_lt (length var.dimids) 2) rank in
     grind (arith, slab_rows h.dims var.dimids two, rank_row h var n width rank, lt_of_mul-lt-mul_right)
 
-pub listed_table : (v : Version) (h : Header) (var : Var) (n width k : ℕ) (xs : List ℤ) → length xs ≡ suc k * (look_of h var n width).row → 0 < (look_of h var n width).row → length xs ≡ value_count h.dims var n → Each (IsInRange var.ty) xs → is_char var.ty ≡ true → IsName var.name →
+pub listed_table : (v : Version) (h : Header) (var : Var) (n width k : ℕ) (xs : List ℤ) →
+    length xs ≡ suc k * (look_of h var n width).row → 0 < (look_of h var n width).row → length xs ≡ value_count h.dims var n →
+    Each (IsInRange var.ty) xs → is_char var.ty ≡ true → IsName var.name →
     fill_value (trimmed_var var) ≡ fill_value var → (look_of h var n width).in_rows ≡ true → Gives v h.dims (look_of h var n width) var xs
 unfolding rows_of look_of
 listed_table v h var n width k xs split some len range char name fill rank =
@@ -140,7 +144,8 @@ pub array_none : (dims : List Dim) (var : Var) (n : ℕ) → value_count dims va
 array_none dims var n none = ap (λ m. flat_map (bytes_of_number var.ty) (filled m (fill_value (trimmed_var var)) [])) none
 
 -- an array's numbers
-pub array_numbers : (dims : List Dim) (n : ℕ) (var : Var) (array : List ℕ) → IsArray dims n var array → flat_map (bytes_of_number var.ty) (numbers var.ty array) ≡ array
+pub array_numbers : (dims : List Dim) (n : ℕ) (var : Var) (array : List ℕ) → IsArray dims n var array →
+    flat_map (bytes_of_number var.ty) (numbers var.ty array) ≡ array
 array_numbers dims n var array is =
     ap (flat_map (bytes_of_number var.ty)) (count_is var.ty (value_count dims var n) array is.whole) ∙ numbers_back var.ty (value_count dims var n) array is.bytes is.whole
 
@@ -148,7 +153,8 @@ pub array_len : (dims : List Dim) (n : ℕ) (var : Var) (array : List ℕ) → I
 array_len dims n var array is =
     ap (λ (xs : List ℤ). length xs) (count_is var.ty (value_count dims var n) array is.whole) ∙ length-numbers_from var.ty (value_count dims var n) array
 
-pub array_range : (dims : List Dim) (n : ℕ) (var : Var) (array : List ℕ) → IsArray dims n var array → Each (IsInRange var.ty) (numbers var.ty array)
+pub array_range : (dims : List Dim) (n : ℕ) (var : Var) (array : List ℕ) → IsArray dims n var array →
+    Each (IsInRange var.ty) (numbers var.ty array)
 array_range dims n var array is =
     subst (λ xs. Each (IsInRange var.ty) xs) (sym (count_is var.ty (value_count dims var n) array is.whole)) (numbers_range var.ty (value_count dims var n) array is.bytes is.whole)
 
@@ -205,7 +211,8 @@ row_back v h n width var array is count name fill =
     let g : Gives v h.dims look var xs = elim (is_char var.ty) as (λ c. is_char var.ty ≡ c → Gives v h.dims look var xs) [
       | true ↦ (λ char. elim (look.in_rows) as (λ r. look.in_rows ≡ r → Gives v h.dims look var xs) [
         | true ↦ (λ rank.
-            let rows = table_rows h.dims var.dimids (value_count h.dims var n) (if is_record_var h.dims var then n else 1) rank refl count in
+            let rows = table_rows h.dims var.dimids (value_count h.dims var n)
+            (if is_record_var h.dims var then n else 1) rank refl count in
             listed_table v h var n width rows.0 xs (len ∙ rows.1) rows.2 len range char name (fill char) rank)
         | false ↦ (λ rank. listed_line v h var n width xs some len range char name (fill char) rank (line_whole h var n width rank))
       ] refl)

@@ -54,7 +54,8 @@ pub joined_reads : {A : Type 0} (bytes : A → List ℕ) (lex : A → Lexeme) (x
 joined_reads bytes lex x [] all = all.0
 joined_reads bytes lex x (y ∷ ys) all =
     reads_both (bytes x) (codes ", " ++ joined (map bytes (y ∷ ys))) (lex x ∷ []) (commas (map lex (y ∷ ys))) all.0 (λ rest h. refl)
-    (then_reads (codes ", ") (joined (map bytes (y ∷ ys))) (comma ∷ []) (lex y ∷ commas (map lex ys)) (marks_closed (codes ", ") refl) (joined_reads bytes lex y ys all.1))
+    (then_reads (codes ", ") (joined (map bytes (y ∷ ys))) (comma ∷ []) (lex y ∷ commas (map lex ys)) (marks_closed (codes ", ") refl)
+    (joined_reads bytes lex y ys all.1))
 
 pub fine_commas : (v : Version) (ls : List Lexeme) → list_all (is_fine v) ls ≡ true → list_all (is_fine v) (commas ls) ≡ true
 fine_commas v [] h = refl

@@ -37,7 +37,8 @@ act_keeps v N n m s (Attribute (Some variable) name cs) small f said =
     let kept = at_keeps v N n m s.dims variable (with_att name cs) (with_att_keeps v N n m s.dims name cs small said) s.drafts f.drafts in
     grind (arith, kept, ok_then, none_left (late s.section) s.drafts)
 act_keeps v N n m s (Listed variable xs) small f said =
-    let kept = at_keeps v N n m s.dims variable (with_values s.dims xs) (with_values_keeps v N n m s.dims variable xs small said) s.drafts f.drafts in
+    let kept = at_keeps v N n m s.dims variable (with_values s.dims xs)
+    (with_values_keeps v N n m s.dims variable xs small said) s.drafts f.drafts in
     grind (arith, kept, ok_then, none_left (late s.section) s.drafts)
 act_keeps v N n m s _ small f said = advanced v N n m s _ (λ h. absurd (omega (arith, h))) f
 

@@ -62,7 +62,8 @@ pub name_value : (b : ℕ) (bs : List ℕ) → Begins b bs → list_all may_foll
 name_value b bs h h2 = grind (arith, value_at_start, rest_value, no_escape, begins_goes_on)
 
 -- what holds of each word of a list holds of one that is in the list
-of_any : (p : List ℕ → Bool) (word : List ℕ) (words : List (List ℕ)) → list_all p words ≡ true → list_any (bytes_eq word) words ≡ true → p word ≡ true
+of_any : (p : List ℕ → Bool) (word : List ℕ) (words : List (List ℕ)) → list_all p words ≡ true → list_any (bytes_eq word) words ≡ true →
+    p word ≡ true
 of_any p word [] all any = cc
 of_any p word (w ∷ words) all any = grind (arith, bytes_eq-Decides, and_left, and_right, of_any p word words (and_right (p w) (list_all p words) all))
 

@@ -70,7 +70,8 @@ unsigned_some v minus ty (suc n) h =
 unsigned_again : (v : Version) (minus : Bool) (ty : NcType) (n : ℕ) → n < 2 ^ 64 → has_type v ty ≡ true → is_char ty ≡ false →
     with_sign v minus (decimal n ++ number_suffix ty) ≡ Some (record { minus = minus; magnitude = n; ty = ty })
 unfolding type_of_suffix
-unsigned_again v minus ty n h k l = unsigned_some v minus ty n h ∙ ap (with_suffix minus n) (let e : type_of_suffix v (number_suffix ty) ≡ Some ty = grind arith in e)
+unsigned_again v minus ty n h k l = unsigned_some v minus ty n h ∙
+    ap (with_suffix minus n) (let e : type_of_suffix v (number_suffix ty) ≡ Some ty = grind arith in e)
 
 first_sign : (ds suf : List ℕ) → list_all is_digit ds ≡ true → 0 < length ds → is_sign (get_or (ds ++ suf) 0 0) ≡ false
 first_sign [] suf h k = absurd (omega (arith, k))
@@ -101,12 +102,14 @@ pub goes_on : (ds : List ℕ) → list_all is_digit ds ≡ true → list_all goe
 goes_on [] h = refl
 goes_on (d ∷ ds) h = grind (arith, and_both, and_left, and_right, goes_on ds (and_right (is_digit d) (list_all is_digit ds) h))
 
-digits_number : (ds suf : List ℕ) → list_all is_digit ds ≡ true → 0 < length ds → list_all goes_on_number suf ≡ true → IsNumber (ds ++ suf) × IsNumber (45 ∷ (ds ++ suf))
+digits_number : (ds suf : List ℕ) → list_all is_digit ds ≡ true → 0 < length ds → list_all goes_on_number suf ≡ true →
+    IsNumber (ds ++ suf) × IsNumber (45 ∷ (ds ++ suf))
 digits_number [] suf h some k = absurd (omega (arith, some))
 digits_number (d ∷ ds) suf h some k =
     let digit = and_left (is_digit d) (list_all is_digit ds) h in
     let on : list_all goes_on_number (d ∷ (ds ++ suf)) ≡ true =
-    list_all-append goes_on_number (d ∷ ds) suf ∙ and_both (list_all goes_on_number (d ∷ ds)) (list_all goes_on_number suf) (goes_on (d ∷ ds) h) k in (
+    list_all-append goes_on_number (d ∷ ds) suf ∙ and_both (list_all goes_on_number (d ∷ ds)) (list_all goes_on_number suf)
+    (goes_on (d ∷ ds) h) k in (
       begun_number d (ds ++ suf) (λ rest. rw (digit) refl) (and_right (goes_on_number d) (list_all goes_on_number (ds ++ suf)) on),
       begun_number 45 (d ∷ (ds ++ suf)) (λ rest. rw (digit) refl) on,
     )

@@ -111,15 +111,19 @@ IsFineValue v Underscore = Unit {0}
 inner_short : (bs : List ℕ) → length (inner bs) ≤ length bs
 inner_short bs = let a = length-take (length bs - 2) (drop 1 bs) in let b = length-drop 1 bs in omega (arith, a, b)
 
-one_good : (v : Version) (takes_fill : Bool) (l : Lexeme) → HasBytes l → SomeIs (λ x. (cost x ≤ weight l) × IsFineValue v x) (constant v takes_fill l)
+one_good : (v : Version) (takes_fill : Bool) (l : Lexeme) → HasBytes l →
+    SomeIs (λ x. (cost x ≤ weight l) × IsFineValue v x) (constant v takes_fill l)
 one_good v takes_fill l h = some_and (λ x. cost x ≤ weight l) (IsFineValue v) (constant v takes_fill l)
     (grind (arith, stands_short, inner_short, codes))
     (grind (arith, some_map, numeral_has, stands_fine, each_take, each_drop, codes))
 
-constants_good : (v : Version) (takes_fill : Bool) (ls : List Lexeme) → Each HasBytes ls → SomeIs (λ xs. (total cost xs ≤ mass ls) × Each (IsFineValue v) xs) (constants v takes_fill ls)
+constants_good : (v : Version) (takes_fill : Bool) (ls : List Lexeme) → Each HasBytes ls →
+    SomeIs (λ xs. (total cost xs ≤ mass ls) × Each (IsFineValue v) xs) (constants v takes_fill ls)
 constants_good v takes_fill (l ∷ c ∷ ls) h =
-    list_some (λ x. (cost x ≤ weight l) × IsFineValue v x) (λ xs. (total cost xs ≤ mass ls) × Each (IsFineValue v) xs) _ (constant v takes_fill l) (constants v takes_fill ls) c ls
-    (one_good v takes_fill l h.0) (omega arith, tt) (constants_good v takes_fill ls h.1.1) (λ x xs a b. let d = a.0 in let e = b.0 in (omega (arith, d, e), (a.1, b.1)))
+    list_some (λ x. (cost x ≤ weight l) × IsFineValue v x) (λ xs. (total cost xs ≤ mass ls) × Each (IsFineValue v) xs) _
+    (constant v takes_fill l) (constants v takes_fill ls) c ls
+    (one_good v takes_fill l h.0) (omega arith, tt) (constants_good v takes_fill ls h.1.1)
+    (λ x xs a b. let d = a.0 in let e = b.0 in (omega (arith, d, e), (a.1, b.1)))
 constants_good v takes_fill _ h = tt
 
 -- ---- dimensions and variables
@@ -193,7 +197,8 @@ assigned_says : {A : Type 0} (P : A → Type 0) (v : Version) (takes_fill : Bool
     ((name : List ℕ) (cs : List Value) → AreFineValues v (mass ls) name cs → P (f name cs)) → SomeIs P (assigned v takes_fill f ls)
 assigned_says P v takes_fill f (n ∷ e ∷ ls) h g =
     some_given P (is_mark 0x3d e) (shapes.both f (name_of n) (constants v takes_fill ls)) (λ q.
-    some_both (λ (name : List ℕ). length name ≤ length n.bytes) (λ cs. (total cost cs ≤ mass ls) × Each (IsFineValue v) cs) P f (name_of n) (constants v takes_fill ls) (name_short n) (constants_good v takes_fill ls h.1.1)
+    some_both (λ (name : List ℕ). length name ≤ length n.bytes) (λ cs. (total cost cs ≤ mass ls) × Each (IsFineValue v) cs) P f
+    (name_of n) (constants v takes_fill ls) (name_short n) (constants_good v takes_fill ls h.1.1)
     (λ name cs short fine. let a = short in let b = fine.0 in g name cs (omega (arith, a), omega (arith, b), fine.1)))
 assigned_says P v takes_fill f _ h g = tt
 

@@ -27,14 +27,17 @@ none_before [] = tt
 none_before (n ∷ names) = (refl, none_before names)
 
 -- what is good, and has no name of another, is new after what is made of the others
-new_after : {X Y : Type 0} (name : X → List ℕ) (made : Y → List ℕ) (f : X → Y) (P : List Y → X → Type 0) (Q : X → Type 0) → ((x : X) → made (f x) ≡ name x) →
+new_after : {X Y : Type 0} (name : X → List ℕ) (made : Y → List ℕ) (f : X → Y) (P : List Y → X → Type 0) (Q : X → Type 0) →
+    ((x : X) → made (f x) ≡ name x) →
     ((done : List Y) (x : X) → Q x → list_any (λ y. bytes_eq (made y) (name x)) done ≡ false → P done x) →
     (done : List Y) (xs : List X) → AreFresh (map made done) (map name xs) → AreDistinct (map name xs) → Each Q xs → EachAfter f P done xs
 new_after name made f P Q same step done [] fresh distinct all = tt
 new_after name made f P Q same step done (x ∷ xs) fresh distinct all = (
   step done x all.0 (any_map made (name x) done ∙ fresh.0),
   new_after name made f P Q same step (done ++ f x ∷ []) xs
-      (subst (λ names. AreFresh names (map name xs)) (ap (λ n. map made done ++ n ∷ []) (sym (same x)) ∙ sym (map-append made done (f x ∷ []))) (fresh_more (map made done) (name x) (map name xs) fresh.1 distinct.0))
+      (subst (λ names. AreFresh names (map name xs))
+      (ap (λ n. map made done ++ n ∷ []) (sym (same x)) ∙ sym (map-append made done (f x ∷ [])))
+      (fresh_more (map made done) (name x) (map name xs) fresh.1 distinct.0))
       distinct.1 all.1,
 )
 
@@ -45,7 +48,8 @@ att_name a = a.name
 
 pub atts_new : (atts : List Att) → AreDistinct (map att_name atts) → AreNewAtts [] atts
 atts_new atts distinct =
-    new_after att_name att_name trimmed_att (λ done a. is_new_att done (trimmed_att a)) (λ a. Unit {0}) (λ a. refl) (λ done a u new. new) [] atts (none_before (map att_name atts)) distinct (any_each atts)
+    new_after att_name att_name trimmed_att (λ done a. is_new_att done (trimmed_att a)) (λ a. Unit {0}) (λ a. refl)
+    (λ done a u new. new) [] atts (none_before (map att_name atts)) distinct (any_each atts)
 
 pub atts_speak : (v : Version) (atts : List Att) → All (IsSoundAtt v) atts → All (λ (a : Att). AreBytes a.vals) atts → All HasSomeNumber atts → All (λ (a : Att). IsName a.name) atts → Each (Speaks v) atts
 atts_speak v atts sound small some names = search (rules, each_of, speaks)
@@ -103,4 +107,5 @@ fit v dims before var head new = grind (arith, atts_speak, atts_new)
 
 pub vars_fit : (v : Version) (dims : List Dim) (vars : List Var) → AreDistinct (map var_name vars) → Each (IsSayableHead v dims) vars → AreFit v dims [] vars
 vars_fit v dims vars distinct heads =
-    new_after var_name draft_name draft_of (IsFit v dims) (IsSayableHead v dims) (λ var. refl) (fit v dims) [] vars (none_before (map var_name vars)) distinct heads
+    new_after var_name draft_name draft_of (IsFit v dims) (IsSayableHead v dims) (λ var. refl) (fit v dims) [] vars
+    (none_before (map var_name vars)) distinct heads

@@ -82,10 +82,12 @@ quoted bytes = 0x22 ∷ (flat_map escaped_in_string bytes ++ 0x22 ∷ [])
 abbrev pub string : List ℕ → Lexeme
 string bytes = record { kind = kinds.Text; bytes = quoted bytes }
 
-text_len : (w rest : List ℕ) (n : ℕ) → n ≡ length w → list_all is_some (unescape w) ≡ true → scan_text (w ++ 0x22 ∷ rest) n ≡ record { kind = Some kinds.Text; len = length w + 2 }
+text_len : (w rest : List ℕ) (n : ℕ) → n ≡ length w → list_all is_some (unescape w) ≡ true →
+    scan_text (w ++ 0x22 ∷ rest) n ≡ record { kind = Some kinds.Text; len = length w + 2 }
 text_len w rest n e h = rw (e) (let f : nat_lt (length w) (length (w ++ 0x22 ∷ rest)) ≡ true = (let g = length-append w (0x22 ∷ rest) in grind (arith, g)) in rw (f) (rw (take-append_seam w (0x22 ∷ rest)) (rw (h) refl)))
 
-quote_token : (fresh : Bool) (w rest : List ℕ) → len_until 0x22 (w ++ 0x22 ∷ rest) ≡ length w → list_all is_some (unescape w) ≡ true → scan fresh (0x22 ∷ (w ++ 0x22 ∷ rest)) ≡ token kinds.Text (length w + 2)
+quote_token : (fresh : Bool) (w rest : List ℕ) → len_until 0x22 (w ++ 0x22 ∷ rest) ≡ length w → list_all is_some (unescape w) ≡ true →
+    scan fresh (0x22 ∷ (w ++ 0x22 ∷ rest)) ≡ token kinds.Text (length w + 2)
 unfolding scan
 quote_token fresh w rest h k = rw (and_false fresh) (text_len w rest (len_until 0x22 (w ++ 0x22 ∷ rest)) h k)
 
@@ -93,10 +95,12 @@ pub string_token : (bytes rest : List ℕ) → AreToken kinds.Text (quoted bytes
 string_token bytes rest fresh = grind (arith, append_assoc, quote_token, until_all, is_string, length-append)
 
 pub string_closed : (bytes : List ℕ) → Closed (quoted bytes) (string bytes ∷ [])
-string_closed bytes rest = prefix_again false (Some kinds.Text) 0x22 (flat_map escaped_in_string bytes ++ 0x22 ∷ []) rest (string_token bytes rest false)
+string_closed bytes rest = prefix_again false (Some kinds.Text) 0x22 (flat_map escaped_in_string bytes ++ 0x22 ∷ []) rest
+    (string_token bytes rest false)
 
 -- a string, and what follows its quote
-pub string_then : (bytes more : List ℕ) (ls : List Lexeme) → Closed more ls → Closed (0x22 ∷ (escaped_text bytes ++ 0x22 ∷ more)) (string bytes ∷ ls)
+pub string_then : (bytes more : List ℕ) (ls : List Lexeme) → Closed more ls →
+    Closed (0x22 ∷ (escaped_text bytes ++ 0x22 ∷ more)) (string bytes ∷ ls)
 unfolding escaped_text
 string_then bytes more ls next =
     subst (λ bs. Closed (0x22 ∷ bs) (string bytes ∷ ls)) (append_assoc (flat_map escaped_in_string bytes) (0x22 ∷ []) more)

@@ -26,7 +26,8 @@ literal : (b n : ℕ) → IsStop n → (b == n) ≡ true → IsStop b
 literal b n stop h = subst IsStop (sym (eqb-true b n h)) stop
 
 blank_stop : (b : ℕ) → is_blank b ≡ true → IsStop b
-blank_stop b h = let low : b ≤ 0x20 = grind (arith, h) in record { word = grind (arith, low); slash = grind (arith, low); number = grind (arith, low) }
+blank_stop b h = let low : b ≤ 0x20 = grind (arith, h) in
+    record { word = grind (arith, low); slash = grind (arith, low); number = grind (arith, low) }
 
 mark_stop : (b : ℕ) → is_mark_byte b ≡ true → IsStop b
 mark_stop b h = grind (arith, one_of, literal)

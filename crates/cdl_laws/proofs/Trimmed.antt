@@ -12,14 +12,16 @@ use Rattle.std.specs.Prelude.{unwrap_or}
 abbrev nul : ℕ → Bool
 nul b = b == 0
 
-one_more : (f : ℕ → ℕ) (is_nul : Bool) (m : ℕ) → (is_nul ≡ true → f (suc m) ≡ 1 + f (suc m - 1)) → (is_nul ≡ false → f (suc m) ≡ 0) → f (m - f m) ≡ 0 → f (suc m - f (suc m)) ≡ 0
+one_more : (f : ℕ → ℕ) (is_nul : Bool) (m : ℕ) → (is_nul ≡ true → f (suc m) ≡ 1 + f (suc m - 1)) → (is_nul ≡ false → f (suc m) ≡ 0) →
+    f (m - f m) ≡ 0 → f (suc m - f (suc m)) ≡ 0
 one_more f is_nul m more none before = grind arith
 
 stripped : (xs : List ℕ) (n : ℕ) → n ≤ length xs → suffix_len nul (take (n - suffix_len nul (take n xs)) xs) ≡ 0
 stripped xs zero h = refl
 stripped xs (suc m) h =
     one_more (λ n. suffix_len nul (take n xs)) (nul (get_or xs (suc m - 1) 0)) m
-    (suffix_len-take_yes nul xs (suc m) 0 (omega arith) h) (suffix_len-take_no nul xs (suc m) 0 (omega arith) h) (stripped xs m (omega (arith, h)))
+    (suffix_len-take_yes nul xs (suc m) 0 (omega arith) h) (suffix_len-take_no nul xs (suc m) 0 (omega arith) h)
+    (stripped xs m (omega (arith, h)))
 
 pub none_left : (xs : List ℕ) → suffix_len nul (without_trailing_nuls xs) ≡ 0
 none_left xs = grind (arith, take-length xs, stripped xs)

@@ -21,8 +21,10 @@ abbrev pub commas : List Lexeme → List Lexeme
 commas ls = flat_map (λ l. comma ∷ l ∷ []) ls
 
 -- constants that each say something, with their semicolon
-pub constants_say : {A : Type 0} (v : Version) (takes_fill : Bool) (lex : A → Lexeme) (say : A → Value) (P : A → Type 0) → ((x : A) → P x → constant v takes_fill (lex x) ≡ Some (say x)) →
-    (x : A) (xs : List A) → Each P (x ∷ xs) → constants v takes_fill (lex x ∷ commas (map lex xs) ++ semicolon ∷ []) ≡ Some (map say (x ∷ xs))
+pub constants_say : {A : Type 0} (v : Version) (takes_fill : Bool) (lex : A → Lexeme) (say : A → Value) (P : A → Type 0) →
+    ((x : A) → P x → constant v takes_fill (lex x) ≡ Some (say x)) →
+    (x : A) (xs : List A) → Each P (x ∷ xs) → constants v takes_fill (lex x ∷ commas (map lex xs) ++ semicolon ∷ []) ≡ Some
+    (map say (x ∷ xs))
 constants_say v takes_fill lex say P is x [] all = ap (λ o. both (λ y ys. y ∷ ys) o (Some [])) (is x all.0)
 constants_say v takes_fill lex say P is x (y ∷ ys) all =
     ap (both (λ y ys. y ∷ ys) (constant v takes_fill (lex x))) (constants_say v takes_fill lex say P is y ys all.1) ∙
@@ -56,7 +58,8 @@ break_closed : (look : Look) (i end : ℕ) → Closed (line_break look i end) []
 break_closed look i end = either_closed (not (begins_row look i) && nat_lt look.width (end + 2))
 
 -- what comes before a number that isn't the first: a comma and a space, or a comma and the beginning of a row
-gap : (look : Look) (i : ℕ) → 0 < i → (look.in_rows ≡ false → i < look.row) → (number_lead look i ≡ codes ", ") ⊎ (number_lead look i ≡ codes ",\n  ")
+gap : (look : Look) (i : ℕ) → 0 < i → (look.in_rows ≡ false → i < look.row) →
+    (number_lead look i ≡ codes ", ") ⊎ (number_lead look i ≡ codes ",\n  ")
 gap look i some small = grind (arith, codes, false≢true, mod-eq_of_lt)
 
 gap_closed : (lead : List ℕ) → (lead ≡ codes ", ") ⊎ (lead ≡ codes ",\n  ") → Closed lead (comma ∷ [])
@@ -110,7 +113,12 @@ more_read look before values (x ∷ xs) h some small fit =
 -- ---- a variable's numbers
 
 first_lead : (look : Look) → Closed (number_lead look 0) []
-first_lead look = rw (zero-mod look.row) (elim (look.in_rows) as (λ w. Closed (if w then codes "\n  " else codes " ") []) [ true ↦ marks_closed (codes "\n  ") refl | false ↦ marks_closed (codes " ") refl ])
+first_lead look = rw (zero-mod look.row) (elim (look.in_rows) as
+    (λ w. Closed (if w then codes "\n  " else codes " ") []) [
+      | true ↦ marks_closed (codes "\n  ") refl
+      | false ↦ marks_closed
+          (codes " ") refl
+    ])
 
 first_reads : (look : Look) (before : List ℕ) (x : ℤ) → unsigned_abs x < 2 ^ 64 → Reads (number_piece look before 0 x) (value_lexeme look x ∷ [])
 unfolding number_piece
@@ -129,8 +137,10 @@ all_read look before x xs h small fit =
 pub opening_closed : (look : Look) → IsName look.name → Closed (variable_opening look) (word (escaped_name look.name) ∷ mark 61 ∷ [])
 unfolding variable_opening concat_parts
 opening_closed look h =
-    closed_both (codes "\n ") (escaped_name look.name ++ (codes " =" ++ [])) [] (word (escaped_name look.name) ∷ mark 61 ∷ []) (marks_closed (codes "\n ") refl)
-    (closed_by (escaped_name look.name) (codes " =" ++ []) (word (escaped_name look.name) ∷ []) (mark 61 ∷ []) (name_word look.name h).reads (λ rest. refl) (marks_closed (codes " =") refl))
+    closed_both (codes "\n ") (escaped_name look.name ++ (codes " =" ++ [])) [] (word (escaped_name look.name) ∷ mark 61 ∷ [])
+    (marks_closed (codes "\n ") refl)
+    (closed_by (escaped_name look.name) (codes " =" ++ []) (word (escaped_name look.name) ∷ []) (mark 61 ∷ [])
+    (name_word look.name h).reads (λ rest. refl) (marks_closed (codes " =") refl))
 
 number_closing : (look : Look) → is_char look.ty ≡ false → variable_closing look ≡ codes " ;\n"
 unfolding variable_closing
@@ -153,11 +163,13 @@ numbers_closed look x xs name h small fit =
 
 -- ---- what they say
 
-value_is_said : (v : Version) (look : Look) (x : ℤ) → unsigned_abs x < 2 ^ 64 → constant v true (value_lexeme look x) ≡ Some (value_said look x)
+value_is_said : (v : Version) (look : Look) (x : ℤ) → unsigned_abs x < 2 ^ 64 →
+    constant v true (value_lexeme look x) ≡ Some (value_said look x)
 value_is_said v look x h = grind (arith, constant, word, codes, number, value_again)
 
 pub values_said : (v : Version) (look : Look) (x : ℤ) (xs : List ℤ) → AreSmall (x ∷ xs) → constants v true (value_lexeme look x ∷ commas (map (value_lexeme look) xs) ++ semicolon ∷ []) ≡ Some (map (value_said look) (x ∷ xs))
-values_said v look x xs fit = constants_say v true (value_lexeme look) (value_said look) (λ y. unsigned_abs y < 2 ^ 64) (value_is_said v look) x xs fit
+values_said v look x xs fit = constants_say v true (value_lexeme look) (value_said look) (λ y. unsigned_abs y < 2 ^ 64)
+    (value_is_said v look) x xs fit
 
 -- ---- what becomes of them
 

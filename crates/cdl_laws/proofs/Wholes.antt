@@ -12,10 +12,12 @@ abbrev pub state : Section → List Dim → List Att → List Draft → State
 state section dims gatts drafts = record { section = section; dims = dims; gatts = gatts; drafts = drafts }
 
 -- lines after each of which one thing more stands in the state
-all_taken : {X Y : Type 0} (v : Version) (line : X → List ℕ) (f : X → Y) (P : List Y → X → Type 0) (now : List Y → State) → ((done : List Y) (x : X) → P done x → Takes v (line x) (now done) (now (done ++ f x ∷ []))) →
+all_taken : {X Y : Type 0} (v : Version) (line : X → List ℕ) (f : X → Y) (P : List Y → X → Type 0) (now : List Y → State) →
+    ((done : List Y) (x : X) → P done x → Takes v (line x) (now done) (now (done ++ f x ∷ []))) →
     (done : List Y) (xs : List X) → EachAfter f P done xs → Takes v (concat_parts (map line xs)) (now done) (now (done ++ map f xs))
 unfolding concat_parts
-all_taken v line f P now step done [] all = subst (λ ys. Takes v [] (now done) (now ys)) (sym (append-nil done)) (takes_nothing v (now done))
+all_taken v line f P now step done [] all = subst (λ ys. Takes v [] (now done) (now ys)) (sym (append-nil done))
+    (takes_nothing v (now done))
 all_taken v line f P now step done (x ∷ xs) all =
     grind (arith, takes_both, append_assoc, all_taken v line f P now step (done ++ f x ∷ []) xs all.1)
 
@@ -24,23 +26,22 @@ all_taken v line f P now step done (x ∷ xs) all =
 -- dimensions that can stand after these
 abbrev pub IsNewDim : Version → List Dim → Dim → Type 0
 IsNewDim v done d =
-    IsName d.name × (list_any (λ (e : Dim). bytes_eq e.name d.name) done ≡ false) × (d.len < count_limit v) × (d.len < 2 ^ 64) × record_once done d.len
+    IsName d.name × (list_any (λ (e : Dim). bytes_eq e.name d.name) done ≡ false) × (d.len < count_limit v) ×
+    (d.len < 2 ^ 64) × record_once done d.len
 
 abbrev pub AreNewDims : Version → List Dim → List Dim → Type 0
 AreNewDims v done ds = EachAfter (λ d. d) (IsNewDim v) done ds
 
-dim_act : (v : Version) (done : List Dim) (d : Dim) (gatts : List Att) (drafts : List Draft) → add_dim v done (said_dim d) ≡ Ok (done ++ d ∷ []) →
-    act v (state Dimensions done gatts drafts) (DeclareDimensions (said_dim d ∷ [])) ≡ Ok (state Dimensions (done ++ d ∷ []) gatts drafts)
-unfolding act
-dim_act v done d gatts drafts h = ap (λ r. r >>= (λ dims. Ok (state Dimensions dims gatts drafts))) (turn (add_dim v) done (done ++ d ∷ []) (said_dim d) [] h)
-
 pub dims_taken : (v : Version) (n : ℕ) (ds : List Dim) (gatts : List Att) (drafts : List Draft) → AreNewDims v [] ds →
     Takes v (concat_parts (map (dim_line n) ds)) (state Dimensions [] gatts drafts) (state Dimensions ds gatts drafts)
+unfolding act
 dims_taken v n ds gatts drafts h =
     let now : List Dim → State = λ dims. state Dimensions dims gatts drafts in
     subst (λ dims. Takes v (concat_parts (map (dim_line n) ds)) (now []) (now dims)) (map-id ds)
-    (all_taken v (dim_line n) (λ d. d) (IsNewDim v) now (λ done d new. says_takes v (dim_line n d) (DeclareDimensions (said_dim d ∷ [])) (now done) (now (done ++ d ∷ [])) (dim_says v n d new.0 new.3)
-    (dim_act v done d gatts drafts (dim_added v done d new.0 new.1 new.2 new.4))) [] ds h)
+    (all_taken v (dim_line n) (λ d. d) (IsNewDim v) now
+    (λ done d new. says_takes v (dim_line n d) (DeclareDimensions (said_dim d ∷ [])) (now done) (now (done ++ d ∷ []))
+    (dim_says v n d new.0 new.3)
+    (ap (λ r. r >>= (λ dims. Ok (now dims))) (turn (add_dim v) done (done ++ d ∷ []) (said_dim d) [] (dim_added v done d new.0 new.1 new.2 new.4)))) [] ds h)
 
 -- ---- attributes
 
@@ -58,24 +59,29 @@ AreNewAtts done more = EachAfter trimmed_att (λ before a. is_new_att before (tr
 att_is : (v : Version) (done : List Att) (a : Att) (s : Speaks v a) → is_new_att done (trimmed_att a) → add_att a.name s.said done ≡ Ok (done ++ trimmed_att a ∷ [])
 att_is v done a s new = att_added done (trimmed_att a) s.said s.name new s.type s.are
 
-pub globals_taken : (v : Version) (section : Section) (dims : List Dim) (atts : List Att) (drafts : List Draft) → IsBeforeData section → Each (Speaks v) atts → AreNewAtts [] atts →
+pub globals_taken : (v : Version) (section : Section) (dims : List Dim) (atts : List Att) (drafts : List Draft) → IsBeforeData section →
+    Each (Speaks v) atts → AreNewAtts [] atts →
     Takes v (concat_parts (map (att_line []) atts)) (state section dims [] drafts) (state section dims (map trimmed_att atts) drafts)
 unfolding act
 globals_taken v section dims atts drafts before speak new =
     let now : List Att → State = λ done. state section dims done drafts in
     all_taken v (att_line []) trimmed_att (λ done a. Speaks v a × is_new_att done (trimmed_att a)) now
-    (λ done a h. says_takes v (att_line [] a) (Attribute None a.name h.0.said) (now done) (now (done ++ trimmed_att a ∷ [])) (global_says v section a h.0.said before h.0.list h.0.name)
+    (λ done a h. says_takes v (att_line [] a) (Attribute None a.name h.0.said) (now done) (now (done ++ trimmed_att a ∷ []))
+    (global_says v section a h.0.said before h.0.list h.0.name)
     (ap (λ r. r >>= (λ atts. Ok (state section dims atts drafts))) (att_is v done a h.0 h.1)))
     [] atts (each_after trimmed_att (Speaks v) (λ done a. is_new_att done (trimmed_att a)) [] atts speak new)
 
 pub owned_taken : (v : Version) (dims : List Dim) (gatts : List Att) (before : List Draft) (name ids : List ℕ) (atts : List Att) (ty : NcType) → IsName name → no_draft name before → Each (Speaks v) atts → AreNewAtts [] atts →
-    Takes v (concat_parts (map (att_line (escaped_name name)) atts)) (state Variables dims gatts (before ++ bare_draft name ids [] ty ∷ [])) (state Variables dims gatts (before ++ bare_draft name ids (map trimmed_att atts) ty ∷ []))
+    Takes v (concat_parts (map (att_line (escaped_name name)) atts))
+    (state Variables dims gatts (before ++ bare_draft name ids [] ty ∷ []))
+    (state Variables dims gatts (before ++ bare_draft name ids (map trimmed_att atts) ty ∷ []))
 unfolding act
 owned_taken v dims gatts before name ids atts ty valid new speak fresh =
     let line = att_line (escaped_name name) in
     let now : List Att → State = λ done. state Variables dims gatts (before ++ bare_draft name ids done ty ∷ []) in
     all_taken v line trimmed_att (λ done a. Speaks v a × is_new_att done (trimmed_att a)) now
-    (λ done a h. says_takes v (line a) (Attribute (Some name) a.name h.0.said) (now done) (now (done ++ trimmed_att a ∷ [])) (owned_says v name a h.0.said h.0.list valid h.0.name)
+    (λ done a h. says_takes v (line a) (Attribute (Some name) a.name h.0.said) (now done) (now (done ++ trimmed_att a ∷ []))
+    (owned_says v name a h.0.said h.0.list valid h.0.name)
     (grind (arith, variable_is, att_is v done a h.0 h.1)))
     [] atts (each_after trimmed_att (Speaks v) (λ done a. is_new_att done (trimmed_att a)) [] atts speak fresh)
 
@@ -116,7 +122,8 @@ pub valid_names : (dims : List Dim) (before ids : List ℕ) → HaveNames dims �
 valid_names dims before [] names are = tt
 valid_names dims before (k ∷ ids) names are = (name_valid dims k names are.0.known, valid_names dims (before ++ k ∷ []) ids names are.1)
 
-pub declaration_is : (dims : List Dim) (var : Var) → AreDimids dims [] var.dimids → declaration dims var ≡ typed_line (type_word var.ty) var.name (shape_of (map (name_at dims) var.dimids))
+pub declaration_is : (dims : List Dim) (var : Var) → AreDimids dims [] var.dimids →
+    declaration dims var ≡ typed_line (type_word var.ty) var.name (shape_of (map (name_at dims) var.dimids))
 unfolding typed_line
 declaration_is dims var are = ap (λ shape. concat_parts (codes "\t" ∷ type_word var.ty ∷ codes " " ∷ escaped_name var.name ∷ shape ∷ codes " ;\n" ∷ [])) (shape_is dims var.dimids are)
 
@@ -125,7 +132,8 @@ unfolding var_lines concat_parts
 lines_are dims var = simp (append_assoc, append-nil)
 
 var_text : (dims : List Dim) (var : Var) → AreDimids dims [] var.dimids →
-    var_lines dims var ≡ typed_line (type_word var.ty) var.name (shape_of (map (name_at dims) var.dimids)) ++ concat_parts (map (att_line (escaped_name var.name)) var.atts)
+    var_lines dims var ≡ typed_line (type_word var.ty) var.name (shape_of (map (name_at dims) var.dimids)) ++ concat_parts
+    (map (att_line (escaped_name var.name)) var.atts)
 unfolding att_lines
 var_text dims var are = lines_are dims var ∙ ap (λ line. line ++ att_lines (escaped_name var.name) var.atts) (declaration_is dims var are)
 
@@ -146,7 +154,9 @@ var_taken v dims gatts before var fit distinct names =
     (subst (λ b. Takes v (concat_parts shown) t (state Variables dims gatts (before ++ record { var = record { name = var.name; dimids = var.dimids; atts = map trimmed_att var.atts; ty = var.ty; begin_at = b }; listed = None } ∷ []))) (sym fit.bare)
     (owned_taken v dims gatts before var.name var.dimids var.atts var.ty fit.name fit.new fit.atts fit.fresh)))
 
-pub vars_taken : (v : Version) (dims : List Dim) (gatts : List Att) (vars : List Var) → AreDistinctDims dims → HaveNames dims → AreFit v dims [] vars →
+pub vars_taken : (v : Version) (dims : List Dim) (gatts : List Att) (vars : List Var) → AreDistinctDims dims → HaveNames dims →
+    AreFit v dims [] vars →
     Takes v (concat_parts (map (var_lines dims) vars)) (state Variables dims gatts []) (state Variables dims gatts (map draft_of vars))
 vars_taken v dims gatts vars distinct names all =
-    all_taken v (var_lines dims) draft_of (IsFit v dims) (λ drafts. state Variables dims gatts drafts) (λ before var fit. var_taken v dims gatts before var fit distinct names) [] vars all
+    all_taken v (var_lines dims) draft_of (IsFit v dims) (λ drafts. state Variables dims gatts drafts)
+    (λ before var fit. var_taken v dims gatts before var fit distinct names) [] vars all
