@@ -1,12 +1,12 @@
 -- The statements of a head, and what they say.
 use Rattle.std.proofs.Common.{◌≡◌, ℕ, ◌^◌, ◌<◌, true, false, List, [], ◌∷◌, ◌++◌, map, sym, ◌∙◌, ap, refl, subst, arith, append_assoc, append-nil, ℤ, pos, unsigned_abs, decimal, ◌==◌, not, if◌then◌else◌, None, Some, is_some, codes, rules}
-use Rattle.cdl_laws.proofs.Prelude.{signed_decimal, flat_map, list_all, option_map, list_all-append, concat_parts, Att, Dim, NcType, Version, escaped_name, escaped_in_string, joined, dim_len_text, dim_line, unlimited_word, currently_word, att_line, att_text, chars_text, broken_text, string_break, without_trailing_nuls, IsName, number_suffix, is_char, has_type, Section, Dimensions, Variables, is_digit, scan, Lexeme, said_dim, IsBeforeData, globals, dimensions, variables, lexemes_at, Value, Number, Characters, DeclareDimensions, Attribute, both, constant, constants, assigned, shape, section_of, name_of, and_left, and_right, and_both, Each, escaped_text, type_word, DeclareVariables, Variable, in_parentheses}
+use Rattle.cdl_laws.proofs.Prelude.{signed_decimal, flat_map, list_all, option_map, list_all-append, concat_parts, Att, Dim, NcType, Version, escaped_name, escaped_in_string, joined, dim_len_text, dim_line, unlimited_word, currently_word, att_line, att_text, chars_text, broken_text, string_break, without_trailing_nuls, IsName, number_suffix, is_char, has_type, Section, Dimensions, Variables, is_digit, scan, Lexeme, said_dim, IsBeforeData, globals, dimensions, variables, lexemes_at, Value, Number, Characters, DeclareDimensions, Attribute, both, constant, constants, assigned, shape, section_of, name_of, and_left, and_right, and_both, Each, escaped_text, type_word, DeclareVariables, Variable, in_parentheses, any_each}
 use Rattle.cdl_laws.proofs.Texts.{Closed, Reads, closed_both, closed_by, mark, word, number, name_word, marks_closed, number_reads, stops}
 use Rattle.cdl_laws.proofs.Numerals.{numeral_again, value_again, decimal_digits, on_suffix, number_is, value_is}
 use Rattle.cdl_laws.proofs.Strings.{string}
 use Rattle.cdl_laws.proofs.ValueTexts.{comma, commas, constants_say, AreSmall}
 use Rattle.cdl_laws.proofs.Characters.{strings_said, later_string, strings_closed}
-use Rattle.cdl_laws.proofs.Takes.{Says, statement_says, semicolon, is_fine, word_fine}
+use Rattle.cdl_laws.proofs.Takes.{Says, statement_says, semicolon, is_fine, word_fine, all_fine}
 use Rattle.cdl_statements.specs.Shapes as shapes
 use Rattle.cdl_laws.proofs.Heads.{name_starts, bare_word, comment_closed, joined_reads, fine_commas, strings_fine, type_reads, type_starts, opens_none}
 
@@ -58,16 +58,12 @@ dim_listed : (v : Version) (dim : Dim) → IsName dim.name → dim.len < 2 ^ 64 
 dim_listed v dim name h =
     grind (arith, word (escaped_name dim.name), codes "UNLIMITED", decimal dim.len, pos dim.len, name_word dim.name name, value_again v (pos dim.len) h, number)
 
-dim_is : (v : Version) (dim : Dim) → IsName dim.name → dim.len < 2 ^ 64 → shape v Dimensions (word (escaped_name dim.name) ∷ mark 61 ∷ extent_lexeme dim.len ∷ semicolon ∷ []) ≡ Some (DeclareDimensions (said_dim dim ∷ []))
-unfolding shape
-dim_is v dim name h = rw (opens_none (escaped_name dim.name) (name_word dim.name name).free) (ap (option_map DeclareDimensions) (dim_listed v dim name h))
-
 pub dim_says : (v : Version) (n : ℕ) (dim : Dim) → IsName dim.name → dim.len < 2 ^ 64 → Says v Dimensions (dim_line n dim) (DeclareDimensions (said_dim dim ∷ []))
+unfolding shape
 dim_says v n dim name h =
     statement_says v Dimensions (dim_line n dim) (word (escaped_name dim.name)) (mark 61 ∷ extent_lexeme dim.len ∷ []) (DeclareDimensions (said_dim dim ∷ []))
-    (dim_closed n dim name h) (name_starts dim.name name)
-    (and_both (is_fine v (word (escaped_name dim.name))) (list_all (is_fine v) (mark 61 ∷ extent_lexeme dim.len ∷ [])) (word_fine v (escaped_name dim.name)) (and_both (is_fine v (extent_lexeme dim.len)) true (extent_fine v dim.len h) refl))
-    (dim_is v dim name h)
+    (dim_closed n dim name h) (name_starts dim.name name) (grind (arith, and_both, word, word_fine, extent_fine v dim.len h))
+    (rw (opens_none (escaped_name dim.name) (name_word dim.name name).free) (ap (option_map DeclareDimensions) (dim_listed v dim name h)))
 
 -- ---- constants
 
@@ -90,10 +86,6 @@ numbers_are : (v : Version) (ty : NcType) (x : ℤ) (xs : List ℤ) → AreSmall
 numbers_are v ty x xs fit h k =
     constants_say v false (λ y. number (suffixed ty y)) (λ y. Number (record { value = y; ty = ty })) (λ y. unsigned_abs y < 2 ^ 64)
     (λ y small. rw (numeral_again v ty y small h k) refl) x xs fit
-
-numbers_fine : (v : Version) (ty : NcType) (xs : List ℤ) → AreSmall xs → has_type v ty ≡ true → is_char ty ≡ false → list_all (is_fine v) (number_lexemes ty xs) ≡ true
-numbers_fine v ty [] fit h k = refl
-numbers_fine v ty (x ∷ xs) fit h k = rw (numeral_again v ty x fit.0 h k) (numbers_fine v ty xs fit.1 h k)
 
 -- ---- strings that are broken after line feeds
 
@@ -157,7 +149,7 @@ numbers_list v ty x xs fit h k = record {
   l = number (suffixed ty x);
   ls = number_lexemes ty xs;
   reads = joined_reads (suffixed ty) (λ y. number (suffixed ty y)) x xs (suffixed_read ty (x ∷ xs) fit);
-  fine = numbers_fine v ty (x ∷ xs) fit h k;
+  fine = all_fine v (λ y. number (suffixed ty y)) (λ y. unsigned_abs y < 2 ^ 64) (λ y small. rw (numeral_again v ty y small h k) refl) (x ∷ xs) fit;
   are = numbers_are v ty x xs fit h k;
 }
 
@@ -233,10 +225,6 @@ names_read : (names : List (List ℕ)) → AreNames names → Each (λ name. Rea
 names_read [] h = tt
 names_read (name ∷ names) h = ((name_word name h.0).reads, names_read names h.1)
 
-names_fine : (v : Version) (names : List (List ℕ)) → list_all (is_fine v) (name_lexemes names) ≡ true
-names_fine v [] = refl
-names_fine v (name ∷ names) = and_both (is_fine v (word (escaped_name name))) (list_all (is_fine v) (name_lexemes names)) (word_fine v (escaped_name name)) (names_fine v names)
-
 -- ---- the shape
 
 abbrev inner_lexemes : List ℕ → List (List ℕ) → List Lexeme
@@ -263,7 +251,9 @@ shape_stops (n ∷ ns) rest = refl
 
 shape_fine : (v : Version) (names : List (List ℕ)) → list_all (is_fine v) (shape_lexemes names) ≡ true
 shape_fine v [] = refl
-shape_fine v (n ∷ ns) = search (rules, list_all-append, and_both, word_fine, fine_commas, names_fine)
+shape_fine v (n ∷ ns) =
+    let others = all_fine v (λ name. word (escaped_name name)) (λ name. Unit {0}) (λ name u. word_fine v (escaped_name name)) ns (any_each ns) in
+    search (rules, list_all-append, and_both, word_fine, fine_commas, others)
 
 -- ---- a declaration
 

@@ -20,10 +20,6 @@ pub data_says : (v : Version) → Says v Variables (codes "data:\n") (Enter Valu
 unfolding name_of is_reserved lexemes_at scan word_len pieces_at is_section shape
 data_says v = record { piece = word (codes "data") ∷ mark 58 ∷ []; reads = λ rest. refl; cut = λ rest. refl; sound = refl; shaped = refl }
 
-mark_act : (v : Version) (from to : Section) (dims : List Dim) (gatts : List Att) (drafts : List Draft) → act v (state from dims gatts drafts) (Enter to) ≡ Ok (state to dims gatts drafts)
-unfolding act
-mark_act v from to dims gatts drafts = refl
-
 -- ---- the head's parts
 
 abbrev pub after_dims : List Dim → Section
@@ -45,13 +41,12 @@ headed v head lines n s t u p q =
 
 pub dims_part : (v : Version) (n : ℕ) (dims : List Dim) (gatts : List Att) (drafts : List Draft) → AreNewDims v [] dims →
     Takes v (dims_text n dims) (state Globals [] gatts drafts) (state (after_dims dims) dims gatts drafts)
-unfolding dims_text dim_lines
+unfolding dims_text dim_lines act
 dims_part v n [] gatts drafts h = takes_nothing v (state Globals [] gatts drafts)
 dims_part v n (d ∷ dims) gatts drafts h =
     let in_dims : List Dim → State = λ done. state Dimensions done gatts drafts in
     headed v dimensions_word (map (dim_line n) (d ∷ dims)) (length dims) (state Globals [] gatts drafts) (in_dims []) (in_dims (d ∷ dims))
-    (says_takes v dimensions_word (Enter Dimensions) (state Globals [] gatts drafts) (in_dims []) (dimensions_says v)
-    (mark_act v Globals Dimensions [] gatts drafts))
+    (says_takes v dimensions_word (Enter Dimensions) (state Globals [] gatts drafts) (in_dims []) (dimensions_says v) refl)
     (dims_taken v n (d ∷ dims) gatts drafts h)
 
 before_of : (dims : List Dim) → IsBeforeData (after_dims dims)
@@ -64,13 +59,13 @@ variables_says v dims = record { piece = word (codes "variables") ∷ mark 58 �
 
 pub vars_part : (v : Version) (dims : List Dim) (vars : List Var) (gatts : List Att) → acts.AreDistinctDims dims → acts.HaveNames dims → AreFit v dims [] vars →
     Takes v (vars_text dims vars) (state (after_dims dims) dims gatts []) (state (after_vars (after_dims dims) vars) dims gatts (map draft_of vars))
-unfolding vars_text
+unfolding vars_text act
 vars_part v dims [] gatts distinct names fit = takes_nothing v (state (after_dims dims) dims gatts [])
 vars_part v dims (var ∷ vars) gatts distinct names fit =
     let s = state (after_dims dims) dims gatts [] in
     let t = state Variables dims gatts [] in
     headed v variables_word (map (var_lines dims) (var ∷ vars)) (length vars) s t (state Variables dims gatts (map draft_of (var ∷ vars)))
-    (says_takes v variables_word (Enter Variables) s t (variables_says v dims) (mark_act v (after_dims dims) Variables dims gatts []))
+    (says_takes v variables_word (Enter Variables) s t (variables_says v dims) refl)
     (vars_taken v dims gatts (var ∷ vars) distinct names fit)
 
 -- the line before global attributes is a comment
@@ -90,7 +85,8 @@ gatts_part v dims vars (a ∷ gatts) drafts speak new =
     (globals_taken v (after_vars (after_dims dims) vars) dims (a ∷ gatts) drafts (grind (arith, before_of, variables)) speak new)
 
 pub data_mark : (v : Version) (dims : List Dim) (gatts : List Att) (drafts : List Draft) → Takes v (codes "data:\n") (state Variables dims gatts drafts) (state Values dims gatts drafts)
-data_mark v dims gatts drafts = says_takes v (codes "data:\n") (Enter Values) (state Variables dims gatts drafts) (state Values dims gatts drafts) (data_says v) (mark_act v Variables Values dims gatts drafts)
+unfolding act
+data_mark v dims gatts drafts = says_takes v (codes "data:\n") (Enter Values) (state Variables dims gatts drafts) (state Values dims gatts drafts) (data_says v) refl
 
 -- ---- the end
 

@@ -7,7 +7,7 @@ use Rattle.cdl_laws.proofs.Numerals.{value_again}
 use Rattle.cdl_laws.proofs.Strings.{string}
 use Rattle.cdl_laws.proofs.ValueTexts.{comma, commas, AreSmall, value_lexeme, value_said, numbers_closed, values_said}
 use Rattle.cdl_laws.proofs.Characters.{flat, table_closed, line_closed, strings_said}
-use Rattle.cdl_laws.proofs.Takes.{Says, statement_says, semicolon, is_fine, word_fine, is_starter}
+use Rattle.cdl_laws.proofs.Takes.{Says, statement_says, semicolon, is_fine, word_fine, is_starter, all_fine}
 
 -- ---- words
 
@@ -63,11 +63,6 @@ fine_commas v (l ∷ ls) h = and_both (is_fine v l) (list_all (is_fine v) (comma
 
 -- ---- data
 
-values_fine : (v : Version) (look : Look) (xs : List ℤ) → AreSmall xs → list_all (is_fine v) (map (value_lexeme look) xs) ≡ true
-values_fine v look [] h = refl
-values_fine v look (x ∷ xs) h = and_both (is_fine v (value_lexeme look x)) (list_all (is_fine v) (map (value_lexeme look) xs))
-    (grind (arith, word, codes, number, word_fine, value_again, h.0)) (values_fine v look xs h.1)
-
 -- NAME = VALUE, ..
 listed_fine : (v : Version) (name : List ℕ) (l : Lexeme) (ls : List Lexeme) → list_all (is_fine v) (l ∷ ls) ≡ true → list_all (is_fine v) (word name ∷ mark 61 ∷ l ∷ commas ls) ≡ true
 listed_fine v name l ls h = grind (arith, and_both, word, word_fine, and_left, fine_commas, and_right)
@@ -83,7 +78,8 @@ numbers_say v look x xs name ty small fit =
     let ls = value_lexeme look x ∷ commas (map (value_lexeme look) xs) in
     statement_says v Values (variable_text look (x ∷ xs)) (word (escaped_name look.name)) (mark 61 ∷ ls) (Listed look.name (map (value_said look) (x ∷ xs)))
     (numbers_closed look x xs name ty small fit) (name_starts look.name name)
-    (listed_fine v (escaped_name look.name) (value_lexeme look x) (map (value_lexeme look) xs) (values_fine v look (x ∷ xs) fit))
+    (listed_fine v (escaped_name look.name) (value_lexeme look x) (map (value_lexeme look) xs)
+    (all_fine v (value_lexeme look) (λ y. unsigned_abs y < 2 ^ 64) (λ y h. grind (arith, word, codes, number, word_fine, value_again)) (x ∷ xs) fit))
     (listed_is v look.name (ls ++ semicolon ∷ []) (map (value_said look) (x ∷ xs)) name (values_said v look x xs fit))
 
 pub strings_fine : (v : Version) (all : List (List ℕ)) → list_all (is_fine v) (map string all) ≡ true

@@ -22,11 +22,6 @@ is_array d records place var s known at =
     let same : s.good.records ≡ records = cc in
     array_in_place d.header.dims records d.header.vars d.arrays place var (subst (λ n. AreArrays d.header.dims n d.header.vars d.arrays) same s.good.arrays) at
 
--- ---- the fill value
-
-same_value : (var : Var) → (is_char var.ty ≡ true → fill_value (trimmed_var var) ≡ fill_value var) → fill_value (trimmed_var var) ≡ fill_value var
-same_value var char = grind (arith, same_fill var)
-
 -- ---- rows
 
 pub rows_read_back : RowsReadBack
@@ -37,7 +32,8 @@ rows_read_back d records width place var s known at some =
     let is = is_array d records place var s known at in
     let name = (all-at (λ (w : Var). IsName w.name × All (λ (att : Att). IsName att.name) w.atts) h.vars place var s.good.names.vars at).0 in
     let keeps = (all-at IsSayableVar h.vars place var s.vars at).fill in
-    search (rules, row_back h.version h records width var array is, same_value var keeps, is_statement, filled, array_len)
+    let same : fill_value (trimmed_var var) ≡ fill_value var = grind (arith, same_fill var, keeps) in
+    search (rules, row_back h.version h records width var array is, same, is_statement, filled, array_len)
 
 pub empty_rows_read_back : EmptyRowsReadBack
 empty_rows_read_back d records place var s known at none =

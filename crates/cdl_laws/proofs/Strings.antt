@@ -20,23 +20,21 @@ data IsEscapedAs (b : ℕ) : Type 0 where
   octal : b < 256 → escaped_in_string b ≡ octal_escape b → IsEscapedAs b
   bare : (b == 0x5c) ≡ false → (b == 0x22) ≡ false → escaped_in_string b ≡ b ∷ [] → IsEscapedAs b
 
-at_literal : (n b : ℕ) → (b == n) ≡ true → IsEscapedAs n → IsEscapedAs b
-at_literal n b e s = subst IsEscapedAs (sym (eqb-true b n e)) s
-
-split : (b n : ℕ) → ((b == n) ≡ true → IsEscapedAs b) → ((b == n) ≡ false → IsEscapedAs b) → IsEscapedAs b
-split b n on other = elim (b == n) as (λ w. (b == n) ≡ w → IsEscapedAs b) [ true ↦ on | false ↦ other ] refl
+-- a byte that is this one, or another
+literal : (b n : ℕ) → IsEscapedAs n → ((b == n) ≡ false → IsEscapedAs b) → IsEscapedAs b
+literal b n is other = elim (b == n) as (λ w. (b == n) ≡ w → IsEscapedAs b) [ true ↦ (λ e. subst IsEscapedAs (sym (eqb-true b n e)) is) | false ↦ other ] refl
 
 stands : (b : ℕ) → IsEscapedAs b
 stands b =
-    split b 8 (λ e. at_literal 8 b e (letter 98 refl refl refl refl)) (λ e8.
-    split b 9 (λ e. at_literal 9 b e (letter 116 refl refl refl refl)) (λ e9.
-    split b 10 (λ e. at_literal 10 b e (letter 110 refl refl refl refl)) (λ e10.
-    split b 11 (λ e. at_literal 11 b e (letter 118 refl refl refl refl)) (λ e11.
-    split b 12 (λ e. at_literal 12 b e (letter 102 refl refl refl refl)) (λ e12.
-    split b 13 (λ e. at_literal 13 b e (letter 114 refl refl refl refl)) (λ e13.
-    split b 34 (λ e. at_literal 34 b e (letter 34 refl refl refl refl)) (λ e34.
-    split b 39 (λ e. at_literal 39 b e (letter 39 refl refl refl refl)) (λ e39.
-    split b 92 (λ e. at_literal 92 b e (letter 92 refl refl refl refl)) (λ e92.
+    literal b 8 (letter 98 refl refl refl refl) (λ e8.
+    literal b 9 (letter 116 refl refl refl refl) (λ e9.
+    literal b 10 (letter 110 refl refl refl refl) (λ e10.
+    literal b 11 (letter 118 refl refl refl refl) (λ e11.
+    literal b 12 (letter 102 refl refl refl refl) (λ e12.
+    literal b 13 (letter 114 refl refl refl refl) (λ e13.
+    literal b 34 (letter 34 refl refl refl refl) (λ e34.
+    literal b 39 (letter 39 refl refl refl refl) (λ e39.
+    literal b 92 (letter 92 refl refl refl refl) (λ e92.
     elim (is_ascii_control b) as (λ w. is_ascii_control b ≡ w → IsEscapedAs b) [
       | true ↦ (λ e. octal (grind (arith, e))
           (rw (e8) (rw (e9) (rw (e10) (rw (e11) (rw (e12) (rw (e13) (rw (e34) (rw (e39) (rw (e92) (rw (e) refl)))))))))))

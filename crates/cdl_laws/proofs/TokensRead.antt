@@ -59,9 +59,10 @@ unfolding is_reserved
 free_begins w rest free len =
     grind (arith, take-append_seam w rest, codes, false≢true, get_or-drop, ends_word, and_right, take-append-drop, six_letters)
 
-name_back : (b : ℕ) (bs : List ℕ) → IsName (b ∷ bs) → NameReadsBack (b ∷ bs)
+pub names_read_back : NamesReadBack
 unfolding scan
-name_back b bs h =
+names_read_back [] h = absurd (false≢true (some_name [] h))
+names_read_back (b ∷ bs) h =
     let word = name_word (b ∷ bs) h in
     record {
       token = λ rest stops. grind (arith, and_left, some_name, and_right, begins, name_free, name_len, stop_word, free_begins);
@@ -70,10 +71,6 @@ name_back b bs h =
       value = grind (arith, and_left, some_name, and_right, begins, name_value);
       says = word.stands;
     }
-
-pub names_read_back : NamesReadBack
-names_read_back [] h = absurd (false≢true (some_name [] h))
-names_read_back (b ∷ bs) h = name_back b bs h
 
 -- ---- strings
 
