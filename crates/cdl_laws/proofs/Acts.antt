@@ -38,9 +38,6 @@ is_new_att atts att = list_any (λ (a : Att). bytes_eq a.name att.name) atts ≡
 abbrev pub numbers_bytes : NcType → List ℤ → List ℕ
 numbers_bytes ty xs = flat_map (bytes_of_number ty) xs
 
-same_self : (ty : NcType) → same_type ty ty ≡ true
-same_self ty = grind arith
-
 pub numbers_added : (ty : NcType) (before : List ℕ) (xs : List ℤ) → Each (λ x. has_number ty x ≡ true) xs → in_turn (add_constant ty) before (numbers_said ty xs) ≡ Ok (before ++ numbers_bytes ty xs)
 numbers_added ty before [] fit = ap (λ bs. Ok bs) (sym (append-nil before))
 numbers_added ty before (x ∷ xs) fit =

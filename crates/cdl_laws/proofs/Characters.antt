@@ -59,7 +59,8 @@ rows_text look done k ((x ∷ xs) ∷ rows) h len some wide all =
 
 char_variable : (look : Look) (values : List ℤ) → is_char look.ty ≡ true → (0 < length values → 0 < look.row) → variable_text look values ≡ variable_opening look ++ (char_pieces look [] values ++ closing_bytes)
 unfolding variable_text variable_closing
-char_variable look values h wide = grind (arith, append_assoc, variable_opening, pieces, variable_closing, prefix_is look values (λ is. wide), pieces_are)
+char_variable look values h wide =
+    grind (arith, append_assoc, variable_opening, pieces, variable_closing, prefix_is look values (λ is. wide), pieces_are)
 
 -- what all its strings are read as
 abbrev pub strings : Look → List ℤ → List (List ℤ) → List Lexeme
@@ -129,7 +130,9 @@ pub back_trimmed : (n m : ℕ) (xs : List ℤ) → Each IsCharacter xs → lengt
 unfolding printed
 back_trimmed n m [] all len = grind (arith, append-nil)
 back_trimmed n m (x ∷ xs) all len =
-    grind (arith, is_nul, with_first, replicate_more n (pos 0), append_assoc, length-append, length-replicate, back_trimmed (n + 1) m xs all.1, back_trimmed 0 m xs all.1)
+    let nul = back_trimmed (n + 1) m xs all.1 in
+    let other = back_trimmed 0 m xs all.1 in
+    grind (arith, is_nul, with_first, replicate_more n (pos 0), append_assoc, length-append, length-replicate, nul, other)
 
 pub back_whole : (xs : List ℤ) → Each IsCharacter xs → map pos (printed false 0 xs) ≡ xs
 unfolding printed
@@ -142,7 +145,8 @@ filled_whole n fill xs h = ap (λ m. xs ++ replicate m fill) (let e : n - length
 -- what a row shows, filled up: the fill value is NUL where it is trimmed
 pub row_back : (t : Bool) (n : ℕ) (fill : ℤ) (xs : List ℤ) → (t ≡ true → fill ≡ pos 0) → length xs ≡ n → Each IsCharacter xs → filled n fill (map pos (printed t 0 xs)) ≡ xs
 row_back true n fill xs h len all =
-    grind (arith, filled n, pos 0, length-map (printed true 0 xs) pos, shown_len true 0 xs, back_trimmed 0 (n - length (printed true 0 xs)) xs all)
+    let m = n - length (printed true 0 xs) in
+    grind (arith, filled n, pos 0, length-map (printed true 0 xs) pos, shown_len true 0 xs, back_trimmed 0 m xs all)
 row_back false n fill xs h len all = ap (filled n fill) (back_whole xs all) ∙ filled_whole n fill xs len
 
 -- ---- what the strings say

@@ -149,7 +149,8 @@ numbers_list v ty x xs fit h k = record {
   l = number (suffixed ty x);
   ls = number_lexemes ty xs;
   reads = joined_reads (suffixed ty) (λ y. number (suffixed ty y)) x xs (suffixed_read ty (x ∷ xs) fit);
-  fine = all_fine v (λ y. number (suffixed ty y)) (λ y. unsigned_abs y < 2 ^ 64) (λ y small. rw (numeral_again v ty y small h k) refl) (x ∷ xs) fit;
+  fine = all_fine v (λ y. number (suffixed ty y)) (λ y. unsigned_abs y < 2 ^ 64)
+      (λ y small. rw (numeral_again v ty y small h k) refl) (x ∷ xs) fit;
   are = numbers_are v ty x xs fit h k;
 }
 
@@ -252,7 +253,7 @@ shape_stops (n ∷ ns) rest = refl
 shape_fine : (v : Version) (names : List (List ℕ)) → list_all (is_fine v) (shape_lexemes names) ≡ true
 shape_fine v [] = refl
 shape_fine v (n ∷ ns) =
-    let others = all_fine v (λ name. word (escaped_name name)) (λ name. Unit {0}) (λ name u. word_fine v (escaped_name name)) ns (any_each ns) in
+    let others = all_fine v (λ m. word (escaped_name m)) (λ m. Unit {0}) (λ m u. word_fine v (escaped_name m)) ns (any_each ns) in
     search (rules, list_all-append, and_both, word_fine, fine_commas, others)
 
 -- ---- a declaration

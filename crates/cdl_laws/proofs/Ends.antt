@@ -55,7 +55,8 @@ before_of (d ∷ dims) = dimensions
 
 pub variables_says : (v : Version) (dims : List Dim) → Says v (after_dims dims) variables_word (Enter Variables)
 unfolding variables_word lexemes_at scan word_len pieces_at is_section shape
-variables_says v dims = record { piece = word (codes "variables") ∷ mark 58 ∷ []; reads = λ rest. refl; cut = λ rest. refl; sound = refl; shaped = grind arith }
+variables_says v dims =
+    record { piece = word (codes "variables") ∷ mark 58 ∷ []; reads = λ rest. refl; cut = λ rest. refl; sound = refl; shaped = grind arith }
 
 pub vars_part : (v : Version) (dims : List Dim) (vars : List Var) (gatts : List Att) → acts.AreDistinctDims dims → acts.HaveNames dims → AreFit v dims [] vars →
     Takes v (vars_text dims vars) (state (after_dims dims) dims gatts []) (state (after_vars (after_dims dims) vars) dims gatts (map draft_of vars))
@@ -86,7 +87,8 @@ gatts_part v dims vars (a ∷ gatts) drafts speak new =
 
 pub data_mark : (v : Version) (dims : List Dim) (gatts : List Att) (drafts : List Draft) → Takes v (codes "data:\n") (state Variables dims gatts drafts) (state Values dims gatts drafts)
 unfolding act
-data_mark v dims gatts drafts = says_takes v (codes "data:\n") (Enter Values) (state Variables dims gatts drafts) (state Values dims gatts drafts) (data_says v) refl
+data_mark v dims gatts drafts =
+    says_takes v (codes "data:\n") (Enter Values) (state Variables dims gatts drafts) (state Values dims gatts drafts) (data_says v) refl
 
 -- ---- the end
 
@@ -113,7 +115,8 @@ opening_bytes name = codes "netcdf " ++ (escaped_name name ++ codes " {")
 
 opening_prefix_is : (name rest : List ℕ) → IsName name → scan true (opening_bytes name ++ 10 ∷ rest) ≡ record { kind = Some kinds.Opening; len = length (opening_bytes name) }
 unfolding scan len_until
-opening_prefix_is name rest h = search (rules, append_assoc, codes, length-append, until_plain, lt-ltb, false≢true, some_name, begins, and_left, marked, until_rest, bare, until_plainly)
+opening_prefix_is name rest h =
+    search (rules, append_assoc, length-append, until_plain, lt-ltb, false≢true, some_name, begins, and_left, marked, until_rest, bare, until_plainly)
 
 pub opening_lexemes : (name rest : List ℕ) → IsName name → lexemes (opening_bytes name ++ 10 ∷ rest) ≡ record { kind = kinds.Opening; bytes = opening_bytes name } ∷ lexemes_at false 0 rest
 opening_lexemes name rest h =

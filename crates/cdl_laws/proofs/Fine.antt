@@ -1,4 +1,4 @@
--- What holds of the dataset so far: of its attributes, dimensions and declarations, and that no more is listed of a variable than it has values.
+-- What holds of the dataset so far, of its attributes, dimensions and declarations, and how much is listed of a variable.
 use Rattle.std.proofs.Common.{◌≡◌, ℕ, ◌+◌, ◌-◌, ◌*◌, ◌≤◌, ◌<◌, Bool, true, false, List, [], ◌∷◌, ◌++◌, length, map, sym, ◌∙◌, ap, refl, subst, arith, suc, append_assoc, append-nil, ℤ, pos, Option, Result, Ok, Err, filter, unsigned_abs, rules, replicate, zero, if◌then◌else◌, ◌||◌, not, nat_lt, nat_le}
 use Rattle.cdl_laws.proofs.Prelude.{false≢true, eqb-true, length-append, map-append, list_any-append, list_any, position, bytes_eq, Att, Dim, NcType, Char, Version, has_name, has_record_dim, IsDimid, AreDimids, value_count, IsName, is_name, bytes_of_number, size_of, is_char, count_limit, has_type, AreDistinct, Value, Number, Characters, Underscore, Dimension, Variable, Draft, in_turn, when, ok_or, int_within, has_number, same_type, dim_len_of, add_dim, add_dimid, add_var, change_named, change_variable, add_constant, first_type, add_att, with_att, listed_values, CdlKind, BadName, DuplicateName, MixedConstants, and_left, and_right, some_product, some_size, some-limit, none_before, unless, NumberRange, Each, each_map, ◌>>=◌, any_each, or_left, or_right, length-replicate, length-map, flat_map-append, mul-le-mul_right, mul_comm, mul-le-mul, Var, Listing, Numbers, Joined, Rows, Capacity, capacity_of, filled, add_number, add_characters, add_row, listed_by, listing_of, values_in, with_values, is_off, or_second, some_count}
 use Rattle.cdl_laws.proofs.Outcomes.{SomeIs, OkIs, ok_then, ok_unless, ok_when, total, each_under, turns, each_more}
@@ -158,7 +158,7 @@ var_step : (v : Version) (N : ℕ) (dims : List Dim) (ty : NcType) → has_type 
     OkIs (AreFineDrafts v N (n + var_cost x) dims) (add_var dims ty drafts x)
 unfolding add_var
 var_step v N dims ty has n drafts x fine small =
-    grind (arith, shape_fine dims x.dimensions, one_more drafts, named_more draft_name drafts, ok_unless, ok_when, ok_then, total, each_more, each_map)
+    grind (arith, shape_fine dims x.dimensions, one_more drafts, named_more draft_name drafts, ok_unless, ok_when, ok_then, each_more, each_map)
 
 pub vars_keep : (v : Version) (N n m : ℕ) (dims : List Dim) (ty : NcType) (drafts : List Draft) (xs : List Variable) → has_type v ty ≡ true → m ≤ N → total var_cost xs ≤ m → AreFineDrafts v N n dims drafts →
     OkIs (AreFineDrafts v N (n + m) dims) (in_turn (add_var dims ty) drafts xs)

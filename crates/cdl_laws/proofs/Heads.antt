@@ -79,7 +79,8 @@ numbers_say v look x xs name ty small fit =
     statement_says v Values (variable_text look (x ∷ xs)) (word (escaped_name look.name)) (mark 61 ∷ ls) (Listed look.name (map (value_said look) (x ∷ xs)))
     (numbers_closed look x xs name ty small fit) (name_starts look.name name)
     (listed_fine v (escaped_name look.name) (value_lexeme look x) (map (value_lexeme look) xs)
-    (all_fine v (value_lexeme look) (λ y. unsigned_abs y < 2 ^ 64) (λ y h. grind (arith, word, codes, number, word_fine, value_again)) (x ∷ xs) fit))
+    (all_fine v (value_lexeme look) (λ y. unsigned_abs y < 2 ^ 64) (λ y h. grind (arith, word, codes, number, word_fine, value_again))
+    (x ∷ xs) fit))
     (listed_is v look.name (ls ++ semicolon ∷ []) (map (value_said look) (x ∷ xs)) name (values_said v look x xs fit))
 
 pub strings_fine : (v : Version) (all : List (List ℕ)) → list_all (is_fine v) (map string all) ≡ true
@@ -116,4 +117,5 @@ no_feed (b ∷ w) rest h = rw (and_left (not (b == 10)) (list_all (λ c. not (c 
 pub comment_closed : (w : List ℕ) → list_all (λ b. not (b == 10)) w ≡ true → Closed (47 ∷ 47 ∷ (w ++ 10 ∷ [])) []
 unfolding scan
 comment_closed w h rest =
-    grind (arith, append_assoc w (10 ∷ []) rest, prefix_again false None 47 (47 ∷ w) (10 ∷ rest), no_feed w rest h, marks_closed (codes "\n") refl rest)
+    let comment = prefix_again false None 47 (47 ∷ w) (10 ∷ rest) in
+    grind (arith, append_assoc w (10 ∷ []) rest, comment, no_feed w rest h, marks_closed (codes "\n") refl rest)

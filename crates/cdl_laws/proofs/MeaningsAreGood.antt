@@ -64,7 +64,9 @@ run_keeps text v N n s (p ∷ ps) bytes small f =
 all_records_small : (v : Version) (N n : ℕ) (dims : List Dim) (ds : List Draft) → Each (IsFineDraft v N n dims) ds → records_in dims ds ≤ N
 all_records_small v N n dims [] f = omega arith
 all_records_small v N n dims (d ∷ ds) f = let a : records_of dims d ≤ N =
-    grind (arith, f.0.listed d.var.atts, some_count dims d.var.dimids f.0.shape, one_times N (slab_count dims d.var), div-lt_iff_lt-mul) in let b = all_records_small v N n dims ds f.1 in omega (arith, a, b)
+    grind (arith, f.0.listed d.var.atts, some_count dims d.var.dimids f.0.shape, one_times N (slab_count dims d.var), div-lt_iff_lt-mul) in
+    let b = all_records_small v N n dims ds f.1 in
+    omega (arith, a, b)
 
 -- what is listed has capacity over the records
 listed_fits : (v : Version) (N n : ℕ) (dims : List Dim) (r : ℕ) (d : Draft) → IsFineDraft v N n dims d → records_of dims d ≤ r → length (listed_values dims d) ≤ value_count dims d.var r

@@ -10,13 +10,6 @@ no_escape b c h = grind (arith, false≢true, eqb-true)
 pub escapable : (b : ℕ) → may_follow_in_name b ≡ true → is_escapable b ≡ true
 escapable b h = grind arith
 
--- by the tests: digit, upper, lower, `_`, mark, beyond
-plain : (d u l s m x : Bool) → (((d || u) || l) || s || m || x) ≡ true → (d || m) ≡ false → ((u || l) || s || x) ≡ true
-plain d u l s m x h h2 = grind (arith, false≢true)
-
-pub marked_plain : (b : ℕ) → (is_ascii_digit b || is_name_mark b) ≡ true → is_plain b ≡ true
-marked_plain b h = grind arith
-
 pub begins_goes_on : (b : ℕ) → may_begin_word b ≡ true → goes_on_word b ≡ true
 begins_goes_on b h = grind arith
 
@@ -28,7 +21,8 @@ rest_of name = flat_map escaped_in_name name
 pub rest_len : (name rest : List ℕ) → list_all may_follow_in_name name ≡ true → word_len rest ≡ 0 → word_len (rest_of name ++ rest) ≡ length (rest_of name)
 rest_len [] rest h e = e
 rest_len (b ∷ name) rest h e =
-    grind (arith, word_at_start, no_escape, escapable, is_plain, and_left, rest_len name rest (and_right (may_follow_in_name b) (list_all may_follow_in_name name) h) e)
+    let ih = rest_len name rest (and_right (may_follow_in_name b) (list_all may_follow_in_name name) h) e in
+    grind (arith, word_at_start, no_escape, escapable, is_plain, and_left, ih)
 
 pub rest_value : (name : List ℕ) → list_all may_follow_in_name name ≡ true → word_value (rest_of name) ≡ name
 unfolding word_value

@@ -61,7 +61,8 @@ dimensions_read_back d records s k dim h = grind (arith, is_statement, dim_says)
 pub declarations_read_back : DeclarationsReadBack
 unfolding type_of
 declarations_read_back d s k var h =
-    grind (arith, each_of (λ (dim : Dim). IsName dim.name) d.header.dims, shape, name_at, word, dimensions, lines_are, declaration_is, is_statement, typed_says, valid_names, ids_added)
+    let names = each_of (λ (dim : Dim). IsName dim.name) d.header.dims in
+    grind (arith, names, shape, name_at, word, dimensions, lines_are, declaration_is, is_statement, typed_says, valid_names, ids_added)
 
 -- ---- attributes
 

@@ -15,12 +15,13 @@ array_in_place dims n (w ∷ vars) (a ∷ arrays) zero var are at = let e : w �
 array_in_place dims n (w ∷ vars) (a ∷ arrays) (suc k) var are at = array_in_place dims n vars arrays k var are.1 at
 
 -- a dataset has one number of records
-is_array : (d : Dataset) (records place : ℕ) (var : Var) → IsSayable d → d.header.numrecs ≡ Known records → slice_get d.header.vars place ≡ Some var →
-    IsArray d.header.dims records var (slice_index_or d.arrays place [])
+is_array : (d : Dataset) (records place : ℕ) (var : Var) → IsSayable d → d.header.numrecs ≡ Known records →
+    slice_get d.header.vars place ≡ Some var → IsArray d.header.dims records var (slice_index_or d.arrays place [])
 is_array d records place var s known at =
     let e : Known s.good.records ≡ Known records = sym (ap (λ (h : Header). h.numrecs) s.good.is_bare) ∙ known in
     let same : s.good.records ≡ records = cc in
-    array_in_place d.header.dims records d.header.vars d.arrays place var (subst (λ n. AreArrays d.header.dims n d.header.vars d.arrays) same s.good.arrays) at
+    array_in_place d.header.dims records d.header.vars d.arrays place var
+    (subst (λ n. AreArrays d.header.dims n d.header.vars d.arrays) same s.good.arrays) at
 
 -- ---- rows
 

@@ -75,12 +75,15 @@ dim_name d = d.name
 
 new_dims : (v : Version) (done ds : List Dim) → AreFresh (map dim_name done) (map dim_name ds) → AreDistinct (map dim_name ds) → Each (IsSoundDim v) ds → Each (λ (d : Dim). IsName d.name) ds → length (filter is_record (done ++ ds)) ≤ 1 → AreNewDims v done ds
 new_dims v done [] fresh distinct sound names few = tt
-new_dims v done (d ∷ ds) fresh distinct sound names few = (
-  (names.0, any_map dim_name d.name done ∙ fresh.0, sound.0.len, (let a : count_limit v < 2 ^ 64 = grind arith in let b = sound.0.len in omega (arith, a, b)), once done d ds few),
-  new_dims v (done ++ d ∷ []) ds
-      (subst (λ ns. AreFresh ns (map dim_name ds)) (sym (map-append dim_name done (d ∷ []))) (fresh_more (map dim_name done) d.name (map dim_name ds) fresh.1 distinct.0))
-      distinct.1 sound.1 names.1 (subst (λ xs. length (filter is_record xs) ≤ 1) (sym (append_assoc done (d ∷ []) ds)) few),
-)
+new_dims v done (d ∷ ds) fresh distinct sound names few =
+    let a : count_limit v < 2 ^ 64 = grind arith in
+    let b = sound.0.len in
+    let short : d.len < 2 ^ 64 = omega (arith, a, b) in (
+      (names.0, any_map dim_name d.name done ∙ fresh.0, sound.0.len, short, once done d ds few),
+      new_dims v (done ++ d ∷ []) ds
+          (subst (λ ns. AreFresh ns (map dim_name ds)) (sym (map-append dim_name done (d ∷ []))) (fresh_more (map dim_name done) d.name (map dim_name ds) fresh.1 distinct.0))
+          distinct.1 sound.1 names.1 (subst (λ xs. length (filter is_record xs) ≤ 1) (sym (append_assoc done (d ∷ []) ds)) few),
+    )
 
 pub dims_new : (v : Version) (ds : List Dim) → AreDistinct (map dim_name ds) → All (IsSoundDim v) ds → All (λ (d : Dim). IsName d.name) ds → length (filter is_record ds) ≤ 1 → AreNewDims v [] ds
 dims_new v ds distinct sound names few = search (rules, new_dims, none_before, each_of)

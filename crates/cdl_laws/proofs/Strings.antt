@@ -22,7 +22,8 @@ data IsEscapedAs (b : ℕ) : Type 0 where
 
 -- a byte that is this one, or another
 literal : (b n : ℕ) → IsEscapedAs n → ((b == n) ≡ false → IsEscapedAs b) → IsEscapedAs b
-literal b n is other = elim (b == n) as (λ w. (b == n) ≡ w → IsEscapedAs b) [ true ↦ (λ e. subst IsEscapedAs (sym (eqb-true b n e)) is) | false ↦ other ] refl
+literal b n is other =
+    elim (b == n) as (λ w. (b == n) ≡ w → IsEscapedAs b) [ true ↦ (λ e. subst IsEscapedAs (sym (eqb-true b n e)) is) | false ↦ other ] refl
 
 stands : (b : ℕ) → IsEscapedAs b
 stands b =
@@ -55,7 +56,8 @@ unescape_one b rest (bare h k same) = rw (same) (rw (h) refl)
 
 -- ---- strings
 
-until_all : (bytes rest : List ℕ) → len_until 0x22 (flat_map escaped_in_string bytes ++ 0x22 ∷ rest) ≡ length (flat_map escaped_in_string bytes)
+until_all : (bytes rest : List ℕ) →
+    len_until 0x22 (flat_map escaped_in_string bytes ++ 0x22 ∷ rest) ≡ length (flat_map escaped_in_string bytes)
 unfolding len_until
 until_all [] [] = refl
 until_all [] (c ∷ rest) = refl

@@ -66,7 +66,9 @@ marks_in bytes = flat_map mark_of bytes
 one_closed : (b : ℕ) (rest : List ℕ) → (is_mark_byte b || is_blank b) ≡ true →
     lexemes_at false 0 (b ∷ rest) ≡ mark_of b ++ lexemes_at false 0 rest
 one_closed b rest h =
-    grind (arith, or_second, scan_mark false (b ∷ rest), scan_blank false (b ∷ rest), prefix_again false (Some kinds.Mark) b [] rest, prefix_again false None b [] rest)
+    let marks = prefix_again false (Some kinds.Mark) b [] rest in
+    let blanks = prefix_again false None b [] rest in
+    grind (arith, or_second, scan_mark false (b ∷ rest), scan_blank false (b ∷ rest), marks, blanks)
 
 -- marks and white space are read as marks
 pub marks_closed : (bytes : List ℕ) → list_all (λ b. is_mark_byte b || is_blank b) bytes ≡ true → Closed bytes (marks_in bytes)
@@ -134,8 +136,8 @@ number_reads bytes is rest stop = (is rest (stop_number rest stop)).1
 -- what begins a number, and bytes that go on it
 pub begun_number : (b : ℕ) (w : List ℕ) → ((rest : List ℕ) → begins_number (b ∷ (w ++ rest)) ≡ true) → list_all goes_on_number w ≡ true →
     IsNumber (b ∷ w)
-begun_number b w begins all rest stop =
+begun_number b w at_start all rest stop =
     let len : 1 + prefix_len goes_on_number (w ++ rest) ≡ length (b ∷ w) = (let e = all_on w rest all stop in omega (arith, e)) in
-    let one : AreToken kinds.Number (b ∷ w) rest = λ fresh. scan_number fresh (b ∷ (w ++ rest)) (begins rest) ∙
+    let one : AreToken kinds.Number (b ∷ w) rest = λ fresh. scan_number fresh (b ∷ (w ++ rest)) (at_start rest) ∙
     ap (token kinds.Number) len in
     (one, prefix_again false (Some kinds.Number) b w rest (one false))

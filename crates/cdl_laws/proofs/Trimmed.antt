@@ -161,12 +161,6 @@ found_trimmed : (atts : List Att) → find is_fill_att (map trimmed_att atts) �
 found_trimmed [] = refl
 found_trimmed (a ∷ atts) = search (rules, found_trimmed atts)
 
-abbrev cut_in : Option Att → Bool
-cut_in o = elim o [ None ↦ false | Some att ↦ is_cut att ]
-
-abbrev fill_in : NcType → Option Att → ℤ
-fill_in ty o = unwrap_or (fill_of_att ty o) (default_fill_of ty)
-
 pub fill_value_survives_trim : FillValueSurvivesTrim
 unfolding fill_value
 fill_value_survives_trim var char = grind (arith, found_trimmed var.atts, chars_kept, cut_changes)
