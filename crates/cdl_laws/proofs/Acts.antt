@@ -5,12 +5,10 @@ use Rattle.cdl_laws.proofs.Texts.{word}
 use Rattle.cdl_laws.proofs.ValueTexts.{turn}
 use Rattle.cdl_laws.proofs.Declarations.{numbers_said}
 
--- ---- names that don't stand before
+-- ---- dimensions
 
 abbrev pub dim_names : List Dim → List (List ℕ)
 dim_names dims = map (λ (d : Dim). d.name) dims
-
--- ---- dimensions
 
 abbrev pub record_once : List Dim → ℕ → Type 0
 record_once dims len = len ≡ 0 → has_record_dim dims ≡ false
@@ -34,14 +32,10 @@ dim_added v dims dim name new small once = grind (arith, pos, eqb-true, not_zero
 abbrev pub is_new_att : List Att → Att → Type 0
 is_new_att atts att = list_any (λ (a : Att). bytes_eq a.name att.name) atts ≡ false
 
--- each value fits, and its bytes are these
-abbrev pub numbers_bytes : NcType → List ℤ → List ℕ
-numbers_bytes ty xs = flat_map (bytes_of_number ty) xs
-
-pub numbers_added : (ty : NcType) (before : List ℕ) (xs : List ℤ) → Each (λ x. has_number ty x ≡ true) xs → in_turn (add_constant ty) before (numbers_said ty xs) ≡ Ok (before ++ numbers_bytes ty xs)
+pub numbers_added : (ty : NcType) (before : List ℕ) (xs : List ℤ) → Each (λ x. has_number ty x ≡ true) xs → in_turn (add_constant ty) before (numbers_said ty xs) ≡ Ok (before ++ flat_map (bytes_of_number ty) xs)
 numbers_added ty before [] fit = ap (λ bs. Ok bs) (sym (append-nil before))
 numbers_added ty before (x ∷ xs) fit =
-    grind (arith, turn, append_assoc, numbers_bytes, numbers_added ty (before ++ bytes_of_number ty x) xs fit.1)
+    grind (arith, turn, append_assoc, numbers_added ty (before ++ bytes_of_number ty x) xs fit.1)
 
 pub chars_added : (before : List ℕ) (all : List (List ℕ)) → in_turn (add_constant Char) before (map Characters all) ≡ Ok (before ++ flat_map (λ (b : List ℕ). b) all)
 chars_added before [] = ap (λ bs. Ok bs) (sym (append-nil before))

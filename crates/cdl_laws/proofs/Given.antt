@@ -1,6 +1,6 @@
 -- The array of a variable is given back by the text of its values.
 use Rattle.std.proofs.Common.{◌≡◌, ℕ, zero, suc, ◌*◌, ◌-◌, ◌<◌, ◌≤◌, Bool, true, false, List, [], ◌∷◌, length, drop, take, map, sym, ◌∙◌, ap, refl, subst, arith, length-take, length-drop, ℤ, pos, ◌&&◌, ◌==◌, not, nat_lt, slice_index, find, None, Some, rules, if◌then◌else◌, Option}
-use Rattle.cdl_laws.proofs.Prelude.{default_fill_of, flat_map, int_eq, lt_of_mul-lt-mul_right, false≢true, Decides-int_eq, take-append-drop, Att, Dim, Header, Var, NcType, Version, fill_value, fill_of_att, is_fill_att, value_count, IsArray, IsName, numbers, bytes_of_number, IsInRange, dim_len, is_record_shape, is_record_var, product, slab_lens, Look, look_of, is_char, row_len, trimmed_att, trimmed_var, capacity_of, filled, has_number, array_of, and_left, is_off, is_on, look-type, length-numbers_from, Each, each_map, has_values, listed_values, Listing, and_false}
+use Rattle.cdl_laws.proofs.Prelude.{default_fill_of, flat_map, int_eq, lt_of_mul-lt-mul_right, false≢true, Decides-int_eq, take-append-drop, Att, Dim, Header, Var, NcType, Version, fill_value, fill_of_att, is_fill_att, value_count, IsArray, IsName, numbers, bytes_of_number, IsInRange, dim_len, is_record_shape, is_record_var, product, slab_lens, Look, look_of, is_char, row_len, trimmed_att, trimmed_var, capacity_of, filled, has_number, array_of, and_left, is_off, is_on, look-type, length-numbers_from, Each, each_map, has_values, listed_values, Listing, and_false, option_map}
 use Rattle.std.specs.Prelude.{unwrap_or}
 use Rattle.cdl_laws.proofs.Attributes.{numbers_back, numbers_range, all_fit, all_small, count_is}
 use Rattle.cdl_laws.proofs.Characters.{flat, IsCharacter}
@@ -10,17 +10,18 @@ use Rattle.cdl_laws.proofs.Outcomes.{each_take, each_drop}
 -- ---- the fill value
 
 -- what a number type takes from an attribute is the same of a trimmed one
-same_of_type : (ty : NcType) (name : List ℕ) (att_ty : NcType) (vals : List ℕ) → is_char ty ≡ false →
-    fill_of_att ty (Some (trimmed_att (record { name = name; ty = att_ty; vals = vals }))) ≡ fill_of_att ty (Some (record { name = name; ty = att_ty; vals = vals }))
-same_of_type ty name att_ty vals h = grind arith
+pub found_trimmed : (atts : List Att) → find is_fill_att (map trimmed_att atts) ≡ option_map trimmed_att (find is_fill_att atts)
+found_trimmed [] = refl
+found_trimmed (a ∷ atts) = search (rules, found_trimmed atts)
 
-same_own : (ty : NcType) (atts : List Att) → is_char ty ≡ false → fill_of_att ty (find is_fill_att (map trimmed_att atts)) ≡ fill_of_att ty (find is_fill_att atts)
-same_own ty [] h = refl
-same_own ty (a ∷ atts) h = grind (arith, same_of_type ty a.name a.ty a.vals h, same_own ty atts h)
+-- what a number type takes from an attribute is the same of a trimmed one
+same_of_type : (ty : NcType) (o : Option Att) → is_char ty ≡ false → fill_of_att ty (option_map trimmed_att o) ≡ fill_of_att ty o
+same_of_type ty o h = grind arith
 
 pub same_fill : (var : Var) → is_char var.ty ≡ false → fill_value (trimmed_var var) ≡ fill_value var
 unfolding fill_value
-same_fill var h = ap (λ own. unwrap_or own (default_fill_of var.ty)) (same_own var.ty var.atts h)
+same_fill var h =
+    ap (λ own. unwrap_or own (default_fill_of var.ty)) (ap (fill_of_att var.ty) (found_trimmed var.atts) ∙ same_of_type var.ty (find is_fill_att var.atts) h)
 
 -- ---- rooms
 

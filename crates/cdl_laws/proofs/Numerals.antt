@@ -36,9 +36,6 @@ digits_then [] [] h k = refl
 digits_then [] (b ∷ suf) h k = rw (is_off (is_digit b) k) refl
 digits_then (d ∷ ds) suf h k = rw (and_left (is_digit d) (list_all is_digit ds) h) (let ih = digits_then ds suf (and_right (is_digit d) (list_all is_digit ds) h) k in omega (arith, ih))
 
-not_zero : (d : ℕ) → 48 < d → (d == 48) ≡ false
-not_zero d h = grind (arith, h)
-
 -- the number with the type of its suffix
 abbrev with_suffix : Bool → ℕ → Option NcType → Option Parts
 with_suffix minus n suf = option_map (λ ty. record { minus = minus; magnitude = n; ty = ty }) suf
@@ -50,7 +47,9 @@ based v minus d ds suf n e = grind (arith, not_none, take-append_seam, drop-appe
 big_back : (v : Version) (minus : Bool) (ds suf : List ℕ) → list_all is_digit ds ≡ true → 48 < get_or ds 0 0 → no_digit suf ≡ true →
     with_sign v minus (ds ++ suf) ≡ with_suffix minus (number_in 10 0 ds) (type_of_suffix v suf)
 big_back v minus [] suf h big k = absurd (omega (arith, big))
-big_back v minus (d ∷ ds) suf h big k = rw (not_zero d big) (based v minus d ds suf (prefix_len is_digit ((d ∷ ds) ++ suf)) (digits_then (d ∷ ds) suf h k))
+big_back v minus (d ∷ ds) suf h big k =
+    let other : (d == 48) ≡ false = grind (arith, big) in
+    rw (other) (based v minus d ds suf (prefix_len is_digit ((d ∷ ds) ++ suf)) (digits_then (d ∷ ds) suf h k))
 
 zero_back : (v : Version) (minus : Bool) (ty : NcType) → with_sign v minus (48 ∷ number_suffix ty) ≡ with_suffix minus 0 (type_of_suffix v (number_suffix ty))
 zero_back v minus ty = search rules

@@ -9,8 +9,6 @@ use Rattle.cdl_laws.proofs.Numerals.{numeral_again, value_again, number_is, valu
 use Rattle.cdl_laws.proofs.Strings.{unescape_all, between_quotes, string_token}
 use Rattle.cdl_laws.proofs.Texts.{name_word, some_name}
 
--- ---- what begins with a word or a number
-
 -- ---- what stops words and numbers
 
 -- a byte that goes on neither, and begins no escape
@@ -53,7 +51,7 @@ six_letters : (bs : List ℕ) → word_len (codes "netcdf" ++ bs) ≡ 6 + word_l
 unfolding word_len
 six_letters bs = ap (λ n. 1 + (1 + (1 + (1 + (1 + n))))) (word_at_start 102 bs) ∙ omega arith
 
--- so no other word begins one
+-- a word that is not reserved begins no opening, whose word is `netcdf`
 free_begins : (w rest : List ℕ) → is_reserved w ≡ false → word_len (w ++ rest) ≡ length w → begins_opening (w ++ rest) ≡ false
 unfolding is_reserved
 free_begins w rest free len =

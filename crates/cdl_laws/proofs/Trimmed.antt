@@ -6,6 +6,7 @@ use Rattle.cdl_laws.proofs.Datasets.{same_record, record_trimmed}
 use Rattle.cdl_laws.proofs.MeaningsAreGood.{each_of_map, meanings_are_good, meanings_are_nearly_sayable, nearly_is_sayable}
 use Rattle.cdl_laws.proofs.TextReadsBack.{text_reads_back}
 use Rattle.std.specs.Prelude.{unwrap_or}
+use Rattle.cdl_laws.proofs.Given.{found_trimmed}
 
 -- ---- once
 
@@ -156,10 +157,6 @@ cut_changes vals h e =
     let a : (length (without_trailing_nuls vals) == 1) ≡ true = and_left (length (without_trailing_nuls vals) == 1) (nat_lt 1 (length vals)) h in
     let b : 1 < length vals = grind (arith, and_right (length (without_trailing_nuls vals) == 1) (nat_lt 1 (length vals)) h) in
     grind (arith, lone (without_trailing_nuls vals) (none_left vals) a, none_left vals)
-
-found_trimmed : (atts : List Att) → find is_fill_att (map trimmed_att atts) ≡ option_map trimmed_att (find is_fill_att atts)
-found_trimmed [] = refl
-found_trimmed (a ∷ atts) = search (rules, found_trimmed atts)
 
 pub fill_value_survives_trim : FillValueSurvivesTrim
 unfolding fill_value
