@@ -1,6 +1,6 @@
 -- The strings of a variable of characters are read back, and what a row shows, filled up, is the row.
-use Rattle.std.proofs.Common.{◌≡◌, ℕ, suc, ◌+◌, ◌*◌, ◌<◌, ◌≤◌, true, false, List, [], ◌∷◌, ◌++◌, length, map, sym, ◌∙◌, ap, refl, subst, arith, append_assoc, append-nil, length-append, ℤ, ◌==◌, codes, zero, ◌-◌, Bool, pos, unsigned_abs, if◌then◌else◌, replicate, Some, Ok, rules}
-use Rattle.cdl_laws.proofs.Prelude.{flat_map, escaped_name, escaped_text, IsName, Look, is_char, char_lead, pieces, variable_opening, variable_closing, variable_text, Lexeme, Each, prefix_is, pieces_are, a_row, char_pieces, printed, eqb-true, map-append, length-replicate, replicate_more, Version, escaped_in_string, is_nul, string_value, stands_for, Characters, constant, constants, Capacity, Joined, Rows, add_row, filled, in_turn, listing_of, values_in, le-leb, length-map, ◌>>=◌, any_each, lt-ltb}
+use Rattle.std.proofs.Common.{◌≡◌, ℕ, suc, ◌+◌, ◌*◌, ◌<◌, ◌≤◌, true, false, List, [], ◌∷◌, ◌++◌, length, map, sym, ◌∙◌, ap, refl, subst, arith, append_assoc, append-nil, length-append, ℤ, ◌==◌, codes, zero, ◌-◌, Bool, pos, unsigned_abs, replicate, Some, Ok, rules}
+use Rattle.cdl_laws.proofs.Prelude.{flat_map, escaped_name, escaped_text, IsName, Look, is_char, char_lead, pieces, variable_opening, variable_closing, variable_text, Lexeme, Each, prefix_is, pieces_are, a_row, char_pieces, printed, map-append, length-replicate, replicate_more, Version, escaped_in_string, is_nul, string_value, stands_for, Characters, constant, constants, Capacity, Joined, Rows, add_row, filled, in_turn, listing_of, values_in, le-leb, length-map, ◌>>=◌, any_each, lt-ltb}
 use Rattle.cdl_laws.proofs.Texts.{Closed, closed_both, mark, marks_closed, word}
 use Rattle.cdl_laws.proofs.Strings.{string, string_then, unescape_all, between_quotes}
 use Rattle.cdl_laws.proofs.ValueTexts.{commas, comma, opening_closed, semicolon, turn, constants_say}

@@ -1,6 +1,6 @@
 -- What holds of the dataset so far, of its attributes, dimensions and declarations, and how much is listed of a variable.
-use Rattle.std.proofs.Common.{◌≡◌, ℕ, ◌+◌, ◌-◌, ◌*◌, ◌≤◌, ◌<◌, Bool, true, false, List, [], ◌∷◌, ◌++◌, length, map, sym, ◌∙◌, ap, refl, subst, arith, suc, append_assoc, append-nil, ℤ, pos, Option, Result, Ok, Err, filter, unsigned_abs, rules, replicate, zero, if◌then◌else◌, ◌||◌, not, nat_lt, nat_le}
-use Rattle.cdl_laws.proofs.Prelude.{false≢true, eqb-true, length-append, map-append, list_any-append, list_any, position, bytes_eq, Att, Dim, NcType, Char, Version, has_name, has_record_dim, IsDimid, AreDimids, value_count, IsName, is_name, bytes_of_number, size_of, is_char, count_limit, has_type, AreDistinct, Value, Number, Characters, Underscore, Dimension, Variable, Draft, in_turn, when, ok_or, int_within, has_number, same_type, dim_len_of, add_dim, add_dimid, add_var, change_named, change_variable, add_constant, first_type, add_att, with_att, listed_values, CdlKind, BadName, DuplicateName, MixedConstants, and_left, and_right, some_product, some_size, some-limit, none_before, unless, NumberRange, Each, each_map, ◌>>=◌, any_each, or_left, or_right, length-replicate, length-map, flat_map-append, mul-le-mul_right, mul_comm, mul-le-mul, Var, Listing, Numbers, Joined, Rows, Capacity, capacity_of, filled, add_number, add_characters, add_row, listed_by, listing_of, values_in, with_values, is_off, or_second, some_count}
+use Rattle.std.proofs.Common.{◌≡◌, ℕ, ◌+◌, ◌-◌, ◌*◌, ◌≤◌, ◌<◌, Bool, true, false, List, [], ◌∷◌, ◌++◌, length, map, sym, ◌∙◌, ap, refl, subst, arith, suc, append_assoc, append-nil, ℤ, pos, Option, Result, Ok, Err, filter, unsigned_abs, rules, replicate, zero, if◌then◌else◌, not, nat_lt, nat_le}
+use Rattle.cdl_laws.proofs.Prelude.{eqb-true, length-append, map-append, list_any-append, list_any, position, bytes_eq, Att, Dim, NcType, Version, has_name, has_record_dim, IsDimid, AreDimids, value_count, IsName, bytes_of_number, size_of, is_char, count_limit, has_type, AreDistinct, Value, Number, Characters, Underscore, Dimension, Variable, Draft, in_turn, ok_or, int_within, has_number, dim_len_of, add_dim, add_dimid, add_var, change_named, change_variable, add_constant, first_type, add_att, with_att, listed_values, CdlKind, and_left, and_right, some_product, some_size, some-limit, none_before, Each, each_map, any_each, or_left, or_right, length-replicate, length-map, flat_map-append, mul-le-mul_right, mul_comm, mul-le-mul, Var, Listing, Numbers, Joined, Rows, Capacity, capacity_of, filled, add_number, add_characters, add_row, listed_by, listing_of, values_in, with_values, is_off, or_second, some_count}
 use Rattle.cdl_laws.proofs.Outcomes.{SomeIs, OkIs, ok_then, ok_unless, ok_when, total, each_under, turns, each_more}
 use Rattle.cdl_laws.proofs.Said.{IsByte, cost, IsFineValue, dim_cost, name_cost, var_cost, AreFineValues}
 use Rattle.cdl_laws.proofs.Sayables.{swapped, any_map, att_name, dim_name, draft_name, is_record, filter_append}

@@ -1,6 +1,6 @@
 -- Tokens have places and lines, and lexemes have none: what all pieces make of a state is the same.
 use Rattle.std.proofs.Common.{◌≡◌, ℕ, zero, suc, ◌+◌, ◌-◌, Bool, true, false, List, [], ◌∷◌, drop, take, map, sym, ◌∙◌, ap, refl, ◌&&◌, Option, None, Some, is_none, Result, Ok, Err, rules, arith}
-use Rattle.cdl_laws.proofs.Prelude.{drop-drop, Version, CdlFault, CdlKind, TokenKind, Role, CutState, Token, scan, Lexeme, lexeme, first_role, role, run, piece_read, starting_line, statements, pieces_after, with_first, step, pieces_by_steps, cut_lexemes, lexemes_at, lexemes, with_lexeme, State, in_turn, tokens_at, tokens, with_token, token_at}
+use Rattle.cdl_laws.proofs.Prelude.{drop-drop, Version, CdlKind, TokenKind, Role, CutState, Token, scan, Lexeme, lexeme, first_role, role, run, piece_read, statements, pieces_after, with_first, step, pieces_by_steps, cut_lexemes, lexemes_at, lexemes, with_lexeme, State, in_turn, tokens_at, tokens, with_token, token_at}
 use Rattle.cdl_tokens.specs.declared.token.TokenKind.TheVariants as kinds
 use Rattle.cdl_statements.specs.declared.piece.CutState.TheVariants as places
 

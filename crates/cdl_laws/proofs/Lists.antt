@@ -1,5 +1,5 @@
 -- Two tests in one, and lists, one element at a time.
-use Rattle.std.proofs.Common.{zero, suc, List, [], ◌∷◌, arith, All, ◌++◌, ◌≡◌, Bool, true, false, ◌||◌}
+use Rattle.std.proofs.Common.{zero, suc, List, [], ◌∷◌, arith, All, ◌++◌, ◌≡◌, Bool, false, ◌||◌}
 
 pub or_left : (a b : Bool) → (a || b) ≡ false → a ≡ false
 or_left a b h = grind arith

@@ -1,12 +1,12 @@
 -- The limit is needed: a text with an attribute of 2^31 characters has a meaning in the first version, which no file can hold.
-use Rattle.std.proofs.Common.{◌≡◌, ℕ, ◌-◌, ◌^◌, ◌≤◌, ◌<◌, false, List, [], ◌∷◌, ◌++◌, length, ◌∙◌, ap, refl, arith, zero, suc, get_or, replicate, codes, None, Ok, ◌==◌, nat_lt, true, rules}
+use Rattle.std.proofs.Common.{◌≡◌, ℕ, ◌-◌, ◌^◌, ◌≤◌, ◌<◌, false, List, [], ◌∷◌, length, ◌∙◌, ap, refl, arith, zero, suc, get_or, replicate, codes, None, Ok, ◌==◌, nat_lt, true, rules}
 use Rattle.cdl_laws.proofs.Prelude.{DataText, take-length, length-replicate, get_or-replicate, suffix_len-take_no, list_all, is_utf8, chars, Dataset, Att, Known, Char, Cdf1, Options, shown_data_text, values_in_dataset, selection_of, dump_text, IsGood, without_trailing_nuls, IsName, meaning, are_within_limits, IsFull, trimmed, concat_parts, is_reserved, escaped_name, netcdf_word, global_word, numbers_text, chars_text, att_line, att_lines, dim_lines, dims_text, vars_text, gatts_text, head_text, broken_text, data_word, closing_word, LimitIsNeeded, and_left, and_right, Each}
 use lib.Utf8.{encode}
 use Rattle.cdl_laws.proofs.MeaningsAreGood.{are_bytes}
 use Rattle.cdl_laws.proofs.Outcomes.{each_more}
 use Rattle.cdl_laws.proofs.Said.{IsByte}
 use Rattle.cdl_laws.proofs.Attributes.{char_speaks}
-use Rattle.cdl_laws.proofs.Dumps.{IsReadable, text_back}
+use Rattle.cdl_laws.proofs.Dumps.{text_back}
 
 abbrev att : ℕ → Att
 att n = record { name = codes "a"; ty = Char; vals = replicate n 97 }

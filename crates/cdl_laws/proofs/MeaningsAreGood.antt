@@ -1,7 +1,7 @@
 -- What a text means is good.
-use Rattle.std.proofs.Common.{◌≡◌, ℕ, ◌+◌, ◌-◌, ◌*◌, ◌/◌, ◌≤◌, ◌<◌, true, false, List, [], ◌∷◌, length, map, ap, refl, subst, arith, zero, suc, ℤ, if◌then◌else◌, Option, None, Some, Result, Ok, Err, nat_le, codes, All, rules}
-use Rattle.cdl_laws.proofs.Prelude.{length-map, div-lt_iff_lt-mul, lt-div-mul-add, mul_comm, mul-le-mul_left, flat_map, list_all, AreBytes, Dataset, Att, Dim, Known, Var, NcType, Version, IsGood, IsSound, IsSoundAtt, IsSoundVar, IsSoundDim, IsArray, AreArrays, bare_var, value_count, IsName, bytes_of_number, is_record_var, record_vars, slab_count, slab_size, record_size, slab_limit, array_limit, record_limit, size_of, count_limit, has_type, MeaningsAreGood, MeaningsAreNearlySayable, IsNearlySayable, NearlyIsSayable, text_limit, Lexeme, lexeme, statements, shaped, checked, piece_read, starting_line, run, empty, listed_values, records_of, records_in, array_of, header_of, dataset_of, is_within_limits, are_within_limits, closing_line, finished, meaning, AreDistinct, AreSayableAtts, HasSomeNumber, Statement, Open, Enter, DeclareDimensions, DeclareVariables, Attribute, Listed, shape, first_bad, State, Draft, act, add_var, change_variable, with_att, with_values, type_of, ok_or, in_turn, filled, CdlFault, CdlKind, Section, Token, and_left, and_right, some_count, length-numbers, Each, each_map, ◌>>=◌, all_of}
-use Rattle.cdl_laws.proofs.Outcomes.{SomeIs, OkIs, ok_then, in_if, total, each_more}
+use Rattle.std.proofs.Common.{◌≡◌, ℕ, ◌+◌, ◌*◌, ◌≤◌, ◌<◌, true, List, [], ◌∷◌, length, map, ap, refl, subst, arith, zero, suc, ℤ, None, Some, Result, Ok, Err, nat_le, codes, All, rules}
+use Rattle.cdl_laws.proofs.Prelude.{length-map, div-lt_iff_lt-mul, lt-div-mul-add, mul_comm, mul-le-mul_left, flat_map, list_all, AreBytes, Dataset, Att, Dim, Known, Var, NcType, Version, IsGood, IsSound, IsSoundAtt, IsSoundVar, IsSoundDim, IsArray, AreArrays, bare_var, value_count, IsName, bytes_of_number, record_vars, slab_count, slab_size, record_size, slab_limit, array_limit, record_limit, size_of, count_limit, MeaningsAreGood, MeaningsAreNearlySayable, IsNearlySayable, NearlyIsSayable, text_limit, Lexeme, lexeme, statements, piece_read, run, empty, listed_values, records_of, records_in, array_of, header_of, dataset_of, is_within_limits, are_within_limits, closing_line, finished, meaning, AreDistinct, AreSayableAtts, HasSomeNumber, Statement, Open, Enter, DeclareDimensions, DeclareVariables, Attribute, Listed, shape, State, Draft, act, with_att, with_values, type_of, ok_or, filled, CdlFault, Section, Token, and_left, and_right, some_count, length-numbers, Each, each_map, all_of}
+use Rattle.cdl_laws.proofs.Outcomes.{OkIs, ok_then, in_if, total, each_more}
 use Rattle.cdl_laws.proofs.Sayables.{draft_name}
 use Rattle.cdl_laws.proofs.Said.{IsByte, HasBytes, mass, late, IsSaid, shape_says, token_mass, all_mass, mass_is, piece_bytes}
 use Rattle.cdl_laws.proofs.Fine.{IsFineAtt, AreFineAtts, IsFineDim, AreFineDims, IsFineDraft, AreFineDrafts, att_keeps, dims_keep, vars_keep, at_keeps, with_att_keeps, all_later, number_bytes, one_times, with_values_keeps, filled_len, up_to}

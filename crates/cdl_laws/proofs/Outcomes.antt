@@ -1,7 +1,7 @@
 -- What holds of what an option or a result has, and of lists by totals.
 use Rattle.std.proofs.Common.{◌≡◌, ℕ, ◌+◌, ◌≤◌, Bool, true, false, List, [], ◌∷◌, ◌++◌, subst, arith, zero, suc, if◌then◌else◌, Option, None, Some, Result, Ok, Err, take, drop}
 use Rattle.std.specs.Prelude.{⊤}
-use Rattle.cdl_laws.proofs.Prelude.{option_map, option_and_then, in_turn, unless, when, ok_or, both, if_so, CdlKind, Each, ◌>>=◌}
+use Rattle.cdl_laws.proofs.Prelude.{option_map, option_and_then, in_turn, unless, when, both, if_so, CdlKind, Each, ◌>>=◌}
 
 -- ---- options
 

@@ -1,9 +1,9 @@
 -- A dump is cut into the statements that it was put together from.
-use Rattle.std.proofs.Common.{◌≡◌, ℕ, true, false, List, [], ◌∷◌, ◌++◌, map, sym, ◌∙◌, ap, refl, subst, arith, append-nil, slice_index_or, None, Some, codes, rules}
-use Rattle.cdl_laws.proofs.Prelude.{concat_parts, Att, Dim, Var, Version, escaped_name, AreDimids, netcdf_word, global_word, var_lines, att_lines, shape_text, IsName, type_word, has_type, Section, Unopened, Globals, Dimensions, Variables, Values, Closed, scan, pieces_at, Statement, Open, Enter, Close, End, shape, SaysStatement, IsStatement, PiecesAreStatements, MarksReadBack, opening_line, opening_piece, brace_piece, end_piece, DimensionsReadBack, declaration, DeclarationReadsBack, DeclarationsReadBack, IsBeforeData, globals, dimensions, AttributeReadsBack, AttributesReadBack, GlobalAttributesReadBack, cut_lexemes, lexemes, lexemes_at, pieces_of, Each, all_of, each_map, each_of, type_of}
+use Rattle.std.proofs.Common.{◌≡◌, ℕ, false, List, [], ◌∷◌, ◌++◌, sym, ◌∙◌, ap, refl, subst, arith, append-nil, slice_index_or, None, Some, codes, rules}
+use Rattle.cdl_laws.proofs.Prelude.{concat_parts, Att, Dim, Version, escaped_name, netcdf_word, IsName, Section, Globals, Dimensions, Variables, Values, scan, pieces_at, Statement, Close, shape, SaysStatement, IsStatement, PiecesAreStatements, MarksReadBack, opening_line, opening_piece, brace_piece, DimensionsReadBack, DeclarationsReadBack, IsBeforeData, dimensions, AttributeReadsBack, AttributesReadBack, GlobalAttributesReadBack, cut_lexemes, lexemes, lexemes_at, pieces_of, Each, all_of, each_map, each_of, type_of}
 use Rattle.cdl_tokens.specs.declared.token.TokenKind.TheVariants as kinds
-use Rattle.cdl_laws.proofs.Acts.{AreDistinctDims, HaveNames, ids_added, name_at}
-use Rattle.cdl_laws.proofs.Declarations.{dim_says, global_says, owned_says, typed_line, shape_of, typed_says}
+use Rattle.cdl_laws.proofs.Acts.{ids_added, name_at}
+use Rattle.cdl_laws.proofs.Declarations.{dim_says, global_says, owned_says, typed_says}
 use Rattle.cdl_laws.proofs.Ends.{dimensions_says, variables_says, data_says, opening_lexemes, opening_piece as opening_cut, comment_back}
 use Rattle.cdl_laws.proofs.Lines.{pieces_are}
 use Rattle.cdl_laws.proofs.Sayables.{atts_speak}

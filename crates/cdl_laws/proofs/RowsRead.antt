@@ -1,9 +1,8 @@
 -- The values that the text of a variable lists give its array.
-use Rattle.std.proofs.Common.{◌≡◌, ℕ, zero, suc, true, List, [], ◌∷◌, sym, ◌∙◌, ap, subst, arith, ℤ, All, Some, slice_get, slice_index_or, rules}
-use Rattle.cdl_laws.proofs.Prelude.{Dataset, Att, Dim, Header, Known, Var, values_in_dataset, fill_value, IsArray, AreArrays, value_count, IsName, IsSayable, IsSayableVar, trimmed_var, is_char, look_of, array_of, capacity_of, filled, DataReadsBack, all-at}
-use Rattle.cdl_laws.specs.RowLaws.{RowReadsBack, RowsReadBack, EmptyRowsReadBack}
+use Rattle.std.proofs.Common.{◌≡◌, ℕ, zero, suc, List, [], ◌∷◌, sym, ◌∙◌, ap, subst, arith, All, Some, slice_get, slice_index_or, rules}
+use Rattle.cdl_laws.proofs.Prelude.{Dataset, Att, Dim, Header, Known, Var, fill_value, IsArray, AreArrays, value_count, IsName, IsSayable, IsSayableVar, trimmed_var, capacity_of, filled, DataReadsBack, all-at}
+use Rattle.cdl_laws.specs.RowLaws.{RowsReadBack, EmptyRowsReadBack}
 use Rattle.cdl_laws.proofs.Given.{row_back, no_bytes, same_fill, array_len}
-use Rattle.cdl_laws.proofs.DataTexts.{Gives, given_draft}
 use Rattle.cdl_laws.proofs.PiecesRead.{is_statement}
 
 -- ---- the parts of a dataset

@@ -1,7 +1,6 @@
 -- Names, strings and numbers are read back, each as one token.
-use Rattle.std.proofs.Common.{◌≡◌, ℕ, ◌+◌, ◌<◌, Bool, true, false, List, [], ◌∷◌, ◌++◌, length, get_or, take, drop, sym, ◌∙◌, ap, refl, subst, arith, append_assoc, length-append, append-nil, pos, decimal, ◌||◌, ◌==◌, codes, is_some, rules, ◌≤◌}
-use Rattle.cdl_laws.proofs.Prelude.{is_mark_byte, signed_decimal, prefix_len, list_all, false≢true, eqb-true, decimal_nonempty, take-append-drop, get_or-drop, list_all-append, take-append_seam, escaped_name, escaped_text, is_reserved, IsName, word_value, is_in_range, is_digit, is_blank, goes_on_word, goes_on_number, unescape, word_len, len_until, scan, token, begins_opening, begins_a_word, begins_number, Word, Text, stands_for, AreToken, BlanksAndMarksStop, StopsWord, NameReadsBack, NamesReadBack, quoted, StringsReadBack, StopsNumber, ConstantsReadBack, ValuesReadBack, and_left, and_right, and_both, word_at_start, and_false, number_suffix}
-use Rattle.cdl_tokens.specs.declared.token.TokenKind.TheVariants.{Number}
+use Rattle.std.proofs.Common.{◌≡◌, ℕ, ◌+◌, Bool, true, false, List, [], ◌∷◌, ◌++◌, length, get_or, sym, ◌∙◌, ap, refl, subst, arith, ◌||◌, ◌==◌, codes, ◌≤◌}
+use Rattle.cdl_laws.proofs.Prelude.{is_mark_byte, prefix_len, false≢true, eqb-true, take-append-drop, get_or-drop, take-append_seam, escaped_name, escaped_text, is_reserved, is_blank, goes_on_word, goes_on_number, word_len, scan, begins_opening, stands_for, BlanksAndMarksStop, StopsWord, NamesReadBack, StringsReadBack, StopsNumber, ConstantsReadBack, ValuesReadBack, and_left, and_right, word_at_start, number_suffix}
 use Rattle.cdl_laws.proofs.Attributes.{small_is}
 use Rattle.cdl_laws.proofs.Heads.{opens_none}
 use Rattle.cdl_laws.proofs.NameTexts.{begins, name_len, name_value, name_free}

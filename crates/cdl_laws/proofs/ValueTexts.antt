@@ -1,6 +1,6 @@
 -- The listed numbers of a variable are read back, wherever the breaks are.
-use Rattle.std.proofs.Common.{◌≡◌, ℕ, ◌+◌, ◌^◌, ◌<◌, ◌≤◌, Bool, true, false, List, [], ◌∷◌, ◌++◌, length, map, sym, ◌∙◌, ap, refl, subst, arith, append_assoc, append-nil, length-append, ℤ, unsigned_abs, ◌&&◌, ◌||◌, not, if◌then◌else◌, nat_lt, Some, Result, Ok, codes, ◌⊎◌, inl, inr}
-use Rattle.cdl_laws.proofs.Prelude.{signed_decimal, flat_map, int_eq, mod-eq_of_lt, zero-mod, false≢true, concat_parts, escaped_name, Int, Version, IsName, Look, is_char, number_text, number_lead, line_break, begins_row, column, number_piece, piece, pieces, variable_opening, variable_closing, variable_text, prefix_is, CdlKind, Lexeme, lexemes_at, scan, Value, Number, Underscore, both, constant, constants, constants, Capacity, Numbers, add_number, has_number, in_turn, listing_of, word_at_start, lt-ltb, Each, ◌>>=◌}
+use Rattle.std.proofs.Common.{◌≡◌, ℕ, ◌+◌, ◌^◌, ◌<◌, ◌≤◌, Bool, true, false, List, [], ◌∷◌, ◌++◌, length, map, sym, ◌∙◌, ap, refl, subst, arith, append_assoc, append-nil, length-append, ℤ, unsigned_abs, ◌&&◌, not, if◌then◌else◌, nat_lt, Some, Result, Ok, codes, ◌⊎◌, inl, inr}
+use Rattle.cdl_laws.proofs.Prelude.{signed_decimal, flat_map, int_eq, mod-eq_of_lt, zero-mod, false≢true, concat_parts, escaped_name, Int, Version, IsName, Look, is_char, number_text, number_lead, line_break, begins_row, column, number_piece, piece, pieces, variable_opening, variable_closing, variable_text, prefix_is, CdlKind, Lexeme, Value, Number, Underscore, both, constant, constants, constants, Capacity, Numbers, add_number, has_number, in_turn, listing_of, word_at_start, Each, ◌>>=◌}
 use Rattle.cdl_laws.proofs.Texts.{Closed, Reads, Stops, closed_both, then_reads, closed_by, reads_both, mark, word, number, name_word, word_reads, stop_word, marks_closed, number_reads}
 use Rattle.cdl_laws.proofs.Numerals.{value_again, value_is}
 
