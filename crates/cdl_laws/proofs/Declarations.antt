@@ -193,6 +193,7 @@ global_says v section att said before list name =
     refl (att_fine v att said list)
     (global_in v section (word (escaped_name att.name) ∷ mark 61 ∷ list.l ∷ commas list.ls ++ semicolon ∷ []) before ∙ assigned_is v (Attribute None) att said list name)
 
+-- of a variable
 pub owned_says : (v : Version) (owner : List ℕ) (att : Att) (said : List Value) → IsListOf v (att_text att.ty att.vals) said → IsName owner → IsName att.name → Says v Variables (att_line (escaped_name owner) att) (Attribute (Some owner) att.name said)
 unfolding att_line concat_parts shape
 owned_says v owner att said list own name =

@@ -116,7 +116,7 @@ opening_bytes name = codes "netcdf " ++ (escaped_name name ++ codes " {")
 opening_prefix_is : (name rest : List ℕ) → IsName name → scan true (opening_bytes name ++ 10 ∷ rest) ≡ record { kind = Some kinds.Opening; len = length (opening_bytes name) }
 unfolding scan len_until
 opening_prefix_is name rest h =
-    search (rules, append_assoc, length-append, until_plain, lt-ltb, false≢true, some_name, begins, and_left, marked, until_rest, bare, until_plainly)
+    search (rules, append_assoc, length-append, lt-ltb, false≢true, some_name, begins, and_left, marked, until_rest, bare, until_plainly)
 
 pub opening_lexemes : (name rest : List ℕ) → IsName name → lexemes (opening_bytes name ++ 10 ∷ rest) ≡ record { kind = kinds.Opening; bytes = opening_bytes name } ∷ lexemes_at false 0 rest
 opening_lexemes name rest h =

@@ -158,7 +158,7 @@ var_step : (v : Version) (N : ℕ) (dims : List Dim) (ty : NcType) → has_type 
     OkIs (AreFineDrafts v N (n + var_cost x) dims) (add_var dims ty drafts x)
 unfolding add_var
 var_step v N dims ty has n drafts x fine small =
-    grind (arith, shape_fine dims x.dimensions, one_more drafts, named_more draft_name drafts, ok_unless, ok_when, ok_then, each_more, each_map)
+    grind (arith, shape_fine dims x.dimensions, one_more, named_more draft_name drafts, ok_unless, ok_when, ok_then, each_more, each_map)
 
 pub vars_keep : (v : Version) (N n m : ℕ) (dims : List Dim) (ty : NcType) (drafts : List Draft) (xs : List Variable) → has_type v ty ≡ true → m ≤ N → total var_cost xs ≤ m → AreFineDrafts v N n dims drafts →
     OkIs (AreFineDrafts v N (n + m) dims) (in_turn (add_var dims ty) drafts xs)
@@ -195,7 +195,7 @@ pub with_att_keeps : (v : Version) (N n m : ℕ) (dims : List Dim) (name : List 
     OkIs (λ e. IsFineDraft v N (n + m) dims e × (e.var.name ≡ d.var.name)) (with_att name cs d)
 with_att_keeps v N n m dims name cs small said d f = grind (arith, att_keeps v N n m name cs d.var.atts small said f.atts, ok_then)
 
--- ---- how much is listed
+-- ---- no more is listed of a variable than it has values, over as many records as the text has bytes
 
 -- with another fill value
 abbrev by : ℤ → Capacity → Capacity

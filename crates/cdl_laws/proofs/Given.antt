@@ -9,7 +9,7 @@ use Rattle.cdl_laws.proofs.Outcomes.{each_take, each_drop}
 
 -- ---- the fill value
 
--- what a number type takes from an attribute is the same of a trimmed one
+-- trimming doesn't change which attribute has the fill value
 pub found_trimmed : (atts : List Att) → find is_fill_att (map trimmed_att atts) ≡ option_map trimmed_att (find is_fill_att atts)
 found_trimmed [] = refl
 found_trimmed (a ∷ atts) = search (rules, found_trimmed atts)
@@ -20,8 +20,7 @@ same_of_type ty o h = grind arith
 
 pub same_fill : (var : Var) → is_char var.ty ≡ false → fill_value (trimmed_var var) ≡ fill_value var
 unfolding fill_value
-same_fill var h =
-    ap (λ own. unwrap_or own (default_fill_of var.ty)) (ap (fill_of_att var.ty) (found_trimmed var.atts) ∙ same_of_type var.ty (find is_fill_att var.atts) h)
+same_fill var h = grind (arith, found_trimmed var.atts, same_of_type var.ty (find is_fill_att var.atts) h)
 
 -- ---- rooms
 
@@ -140,7 +139,7 @@ listed_table v h var n width k xs split some len range char name fill rank =
 
 -- ---- arrays
 
--- and one without values has none
+-- a variable without values has no byte
 pub array_none : (dims : List Dim) (var : Var) (n : ℕ) → value_count dims var n ≡ 0 → array_of dims n (given_draft var None) ≡ []
 array_none dims var n none = ap (λ m. flat_map (bytes_of_number var.ty) (filled m (fill_value (trimmed_var var)) [])) none
 
@@ -177,6 +176,7 @@ table_rows dims ids total m rank e some =
     subst (WholeRows total) (let same : row ≡ row_len dims ids total = rw (h) refl in same)
     (some_rows (r.rows * m) row total (e ∙ ap (λ p. p * m) r.whole ∙ (let g : r.rows * row * m ≡ r.rows * m * row = grind arith in g)) some)
 
+-- a record variable of rank 1 isn't trimmed
 line_whole : (h : Header) (var : Var) (n width : ℕ) → (look_of h var n width).in_rows ≡ false → is_record_var h.dims var ≡ true → (look_of h var n width).trimmed ≡ false
 unfolding look_of
 line_whole h var n width rank is = grind (arith, and_false, false≢true, is_on)

@@ -92,6 +92,7 @@ pub numeral_again : (v : Version) (ty : NcType) (n : ℤ) → unsigned_abs n < 2
 unfolding numeral
 numeral_again v ty n h h2 h3 = grind (arith, pos, parts_positive, parts_negative)
 
+-- a number as a value
 pub value_again : (v : Version) (n : ℤ) → unsigned_abs n < 2 ^ 64 → numeral v (signed_decimal n) ≡ Some (record { value = n; ty = Int })
 value_again v n h = ap (numeral v) (sym (append-nil (signed_decimal n))) ∙ numeral_again v Int n h (grind arith) refl
 

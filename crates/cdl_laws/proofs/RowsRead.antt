@@ -13,7 +13,7 @@ array_in_place dims n (w ∷ vars) [] k var are at = absurd are
 array_in_place dims n (w ∷ vars) (a ∷ arrays) zero var are at = let e : w ≡ var = cc in subst (λ u. IsArray dims n u a) e are.0
 array_in_place dims n (w ∷ vars) (a ∷ arrays) (suc k) var are at = array_in_place dims n vars arrays k var are.1 at
 
--- a dataset has one number of records
+-- a dataset has one number of records, and an array of them for each variable
 is_array : (d : Dataset) (records place : ℕ) (var : Var) → IsSayable d → d.header.numrecs ≡ Known records →
     slice_get d.header.vars place ≡ Some var → IsArray d.header.dims records var (slice_index_or d.arrays place [])
 is_array d records place var s known at =

@@ -72,8 +72,8 @@ globals_taken v section dims atts drafts before speak new =
     (ap (λ r. r >>= (λ atts. Ok (state section dims atts drafts))) (att_is v done a h.0 h.1)))
     [] atts (each_after trimmed_att (Speaks v) (λ done a. is_new_att done (trimmed_att a)) [] atts speak new)
 
-pub owned_taken : (v : Version) (dims : List Dim) (gatts : List Att) (before : List Draft) (name ids : List ℕ) (atts : List Att) (ty : NcType) →
-    IsName name → no_draft name before → Each (Speaks v) atts → AreNewAtts [] atts →
+pub owned_taken : (v : Version) (dims : List Dim) (gatts : List Att) (before : List Draft) (name ids : List ℕ)
+    (atts : List Att) (ty : NcType) → IsName name → no_draft name before → Each (Speaks v) atts → AreNewAtts [] atts →
     Takes v (concat_parts (map (att_line (escaped_name name)) atts))
     (state Variables dims gatts (before ++ bare_draft name ids [] ty ∷ []))
     (state Variables dims gatts (before ++ bare_draft name ids (map trimmed_att atts) ty ∷ []))
