@@ -184,15 +184,19 @@ named_keeps : (P P' : Draft → Type 0) (name : List ℕ) (f : Draft → Result 
 named_keeps P P' name f more step [] h = tt
 named_keeps P P' name f more step (d ∷ ds) h = grind (arith, ok_then, each_map, named_keeps P P' name f more step ds h.1)
 
+-- a fine draft stays fine, under its name
+abbrev pub KeepsFine : Version → ℕ → ℕ → ℕ → List Dim → (Draft → Result Draft CdlKind) → Type 0
+KeepsFine v N n m dims f = (d : Draft) → IsFineDraft v N n dims d → OkIs (Renewed (IsFineDraft v N (n + m) dims) d) (f d)
+
 -- what keeps its draft fine keeps all, and adds none
-pub at_keeps : (v : Version) (N n m : ℕ) (dims : List Dim) (name : List ℕ) (f : Draft → Result Draft CdlKind) → ((d : Draft) → IsFineDraft v N n dims d → OkIs (λ e. IsFineDraft v N (n + m) dims e × (e.var.name ≡ d.var.name)) (f d)) →
+pub at_keeps : (v : Version) (N n m : ℕ) (dims : List Dim) (name : List ℕ) (f : Draft → Result Draft CdlKind) → KeepsFine v N n m dims f →
     (ds : List Draft) → AreFineDrafts v N n dims ds → OkIs (λ es. AreFineDrafts v N (n + m) dims es × (length es ≡ length ds)) (change_variable name f ds)
 unfolding change_variable
 at_keeps v N n m dims name f step ds fine =
     grind (arith, named_keeps (IsFineDraft v N n dims) (IsFineDraft v N (n + m) dims) name f, ok_unless)
 
-pub with_att_keeps : (v : Version) (N n m : ℕ) (dims : List Dim) (name : List ℕ) (cs : List Value) → m ≤ N → AreFineValues v m name cs → (d : Draft) → IsFineDraft v N n dims d →
-    OkIs (λ e. IsFineDraft v N (n + m) dims e × (e.var.name ≡ d.var.name)) (with_att name cs d)
+pub with_att_keeps : (v : Version) (N n m : ℕ) (dims : List Dim) (name : List ℕ) (cs : List Value) → m ≤ N → AreFineValues v m name cs →
+    KeepsFine v N n m dims (with_att name cs)
 with_att_keeps v N n m dims name cs small said d f = grind (arith, att_keeps v N n m name cs d.var.atts small said f.atts, ok_then)
 
 -- ---- no more is listed of a variable than it has values, over as many records as the text has bytes
@@ -288,8 +292,8 @@ values_fit dims var records xs some le = of_type (is_char var.ty)
     of_type true = of_rank r.in_rows refl
     of_type false = all_listed r r.count 1 records (add_number r) Numbers xs some one le (λ fill. refl) (number_step r)
 
-pub with_values_keeps : (v : Version) (N n m : ℕ) (dims : List Dim) (name : List ℕ) (xs : List Value) → m ≤ N → AreFineValues v m name xs → (d : Draft) → IsFineDraft v N n dims d →
-    OkIs (λ e. IsFineDraft v N (n + m) dims e × (e.var.name ≡ d.var.name)) (with_values dims xs d)
+pub with_values_keeps : (v : Version) (N n m : ℕ) (dims : List Dim) (name : List ℕ) (xs : List Value) → m ≤ N → AreFineValues v m name xs →
+    KeepsFine v N n m dims (with_values dims xs)
 unfolding capacity_of
 with_values_keeps v N n m dims name xs small said d f =
     grind (arith, values_fit dims d.var N xs (some_count dims d.var.dimids f.shape), some_count dims d.var.dimids f.shape, ok_when, ok_then)

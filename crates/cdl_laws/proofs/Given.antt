@@ -53,8 +53,8 @@ trimmed_fill : (h : Header) (var : Var) (n width : ℕ) → (look_of h var n wid
 unfolding look_of
 trimmed_fill h var n width e = (Decides-int_eq (fill_value var) (pos 0)).0 (and_left (int_eq (fill_value var) (pos 0)) (not (is_record_var h.dims var && (length var.dimids == 1))) e)
 
-pub listed_line : (v : Version) (h : Header) (var : Var) (n width : ℕ) (xs : List ℤ) → 0 < length xs →
-    length xs ≡ value_count h.dims var n → Each (IsInRange var.ty) xs → is_char var.ty ≡ true → IsName var.name →
+pub listed_line : (v : Version) (h : Header) (var : Var) (n width : ℕ) (xs : List ℤ) →
+    0 < length xs → length xs ≡ value_count h.dims var n → Each (IsInRange var.ty) xs → is_char var.ty ≡ true → IsName var.name →
     fill_value (trimmed_var var) ≡ fill_value var → (look_of h var n width).in_rows ≡ false → (is_record_var h.dims var ≡ true → (look_of h var n width).trimmed ≡ false) → Gives v h.dims (look_of h var n width) var xs
 listed_line v h var n width [] some len range char name fill rank whole = grind (arith, room_is, look-type)
 listed_line v h var n width _ some len range char name fill rank whole = grind (arith, gives_line, room_is, look-type, row_all, trimmed_fill, are_characters)

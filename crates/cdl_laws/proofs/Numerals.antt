@@ -1,6 +1,6 @@
 -- A decimal number is read again.
 use Rattle.std.proofs.Common.{◌≡◌, ℕ, zero, suc, ◌+◌, ◌/◌, ◌%◌, ◌^◌, ◌<◌, ◌≤◌, Bool, true, false, List, [], ◌∷◌, ◌++◌, length, get_or, sym, ◌∙◌, ap, refl, arith, append-nil, ℤ, pos, unsigned_abs, decimal, ◌==◌, not, Some, nat_lt, Option, rules, negsuc, subst}
-use Rattle.cdl_laws.proofs.Prelude.{signed_decimal, digits_onto, digits, digit_glyph, prefix_len, list_all, eqb-true, first_decimal, decimal_nonempty, drop-append_seam, take-append_seam, NcType, Int, Version, number_suffix, is_char, has_type, digit_value, is_digit, is_sign, goes_on_number, number_in, type_of_suffix, in_base, with_sign, numeral, parts, Parts, option_map, list_all-append, and_left, and_right, and_both, is_off, not_none}
+use Rattle.cdl_laws.proofs.Prelude.{signed_decimal, digits_onto, digits, digit_glyph, prefix_len, list_all, eqb-true, first_decimal, decimal_nonempty, drop-append_seam, take-append_seam, NcType, Int, Version, number_suffix, is_char, has_type, digit_value, is_digit, is_sign, goes_on_number, number_in, type_of_suffix, in_base, with_sign, numeral, parts, Parts, option_map, list_all-append, and_left, and_right, and_both, is_off, not_none, number}
 use native.Mathlib.Numerals.{unary_clauses}
 use Rattle.cdl_laws.proofs.Texts.{IsNumber, begun_number}
 
@@ -76,21 +76,14 @@ first_sign : (ds suf : List ℕ) → list_all is_digit ds ≡ true → 0 < lengt
 first_sign [] suf h k = absurd (omega (arith, k))
 first_sign (d ∷ ds) suf h k = grind (arith, (and_left (is_digit d) (list_all is_digit ds) h))
 
-parts_positive : (v : Version) (ty : NcType) (n : ℕ) → n < 2 ^ 64 → has_type v ty ≡ true → is_char ty ≡ false →
-    parts v (decimal n ++ number_suffix ty) ≡ Some (record { minus = false; magnitude = n; ty = ty })
-unfolding parts
-parts_positive v ty n h k l = rw (first_sign (decimal n) (number_suffix ty) (decimal_digits n) (decimal_nonempty n h)) (unsigned_again v false ty n h k l)
-
-parts_negative : (v : Version) (ty : NcType) (n : ℕ) → n < 2 ^ 64 → has_type v ty ≡ true → is_char ty ≡ false →
-    parts v (45 ∷ (decimal n ++ number_suffix ty)) ≡ Some (record { minus = true; magnitude = n; ty = ty })
-unfolding parts
-parts_negative v ty n h k l = unsigned_again v true ty n h k l
-
 -- a number of a type with the type's suffix
 pub numeral_again : (v : Version) (ty : NcType) (n : ℤ) → unsigned_abs n < 2 ^ 64 → has_type v ty ≡ true → is_char ty ≡ false →
     numeral v (signed_decimal n ++ number_suffix ty) ≡ Some (record { value = n; ty = ty })
-unfolding numeral
-numeral_again v ty n h h2 h3 = grind (arith, pos, parts_positive, parts_negative)
+unfolding numeral parts
+numeral_again v ty (pos n) h k l =
+    rw (first_sign (decimal n) (number_suffix ty) (decimal_digits n) (decimal_nonempty n h))
+    (ap (option_map number) (unsigned_again v false ty n h k l))
+numeral_again v ty (negsuc n) h k l = ap (option_map number) (unsigned_again v true ty (suc n) h k l)
 
 -- a number as a value
 pub value_again : (v : Version) (n : ℤ) → unsigned_abs n < 2 ^ 64 → numeral v (signed_decimal n) ≡ Some (record { value = n; ty = Int })
