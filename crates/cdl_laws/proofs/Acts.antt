@@ -1,17 +1,13 @@
 -- What the statements of a dump make of a state.
-use Rattle.std.proofs.Common.{◌≡◌, ℕ, zero, suc, ◌<◌, ◌≤◌, true, false, List, [], ◌∷◌, ◌++◌, length, map, sym, ◌∙◌, ap, refl, arith, append_assoc, append-nil, ℤ, pos, ◌==◌, nat_lt, nat_le, None, Some, Result, Ok, rules}
-use Rattle.cdl_laws.proofs.Prelude.{flat_map, list_any, position, position_or_len, int_eq, bytes_eq, false≢true, eqb-true, bytes_eq-Decides, Att, Dim, NcType, Char, Version, has_name, has_record_dim, IsDimid, AreDimids, IsName, type_word, count_limit, has_type, CdlKind, Value, Number, Characters, Draft, add_dim, add_dimid, add_var, type_of, add_att, add_constant, first_type, same_type, change_named, change_variable, in_turn, ok_or, int_within, has_number, said_dim, AreDistinct, bytes_of_number, and_both, Each}
-use Rattle.cdl_laws.proofs.Bools.{or_left, or_right}
-use Rattle.cdl_laws.proofs.Texts.{word}
+use Rattle.std.proofs.Common.{◌≡◌, ℕ, zero, suc, ◌<◌, ◌≤◌, true, false, List, [], ◌∷◌, ◌++◌, length, map, sym, ap, refl, arith, append_assoc, append-nil, ℤ, pos, ◌==◌, nat_lt, nat_le, None, Some, Result, Ok, rules}
+use Rattle.cdl_laws.proofs.Prelude.{flat_map, list_any, position, position_or_len, int_eq, bytes_eq, false≢true, eqb-true, bytes_eq-Decides, Att, Dim, NcType, Char, Version, has_name, has_record_dim, IsDimid, AreDimids, IsName, count_limit, CdlKind, Value, Characters, Draft, add_dim, add_dimid, add_var, add_att, add_constant, first_type, change_named, change_variable, in_turn, ok_or, int_within, has_number, said_dim, AreDistinct, bytes_of_number, and_both, Each, or_left, or_right}
 use Rattle.cdl_laws.proofs.ValueTexts.{turn}
 use Rattle.cdl_laws.proofs.Declarations.{numbers_said}
 
--- ---- names that don't stand before
+-- ---- dimensions
 
 abbrev pub dim_names : List Dim → List (List ℕ)
 dim_names dims = map (λ (d : Dim). d.name) dims
-
--- ---- dimensions
 
 abbrev pub record_once : List Dim → ℕ → Type 0
 record_once dims len = len ≡ 0 → has_record_dim dims ≡ false
@@ -35,25 +31,14 @@ dim_added v dims dim name new small once = grind (arith, pos, eqb-true, not_zero
 abbrev pub is_new_att : List Att → Att → Type 0
 is_new_att atts att = list_any (λ (a : Att). bytes_eq a.name att.name) atts ≡ false
 
--- each value fits, and its bytes are these
-abbrev pub numbers_bytes : NcType → List ℤ → List ℕ
-numbers_bytes ty xs = flat_map (bytes_of_number ty) xs
-
-same_self : (ty : NcType) → same_type ty ty ≡ true
-same_self ty = grind arith
-
-number_added : (ty : NcType) (before : List ℕ) (x : ℤ) → has_number ty x ≡ true → add_constant ty before (Number (record { value = x; ty = ty })) ≡ Ok (before ++ bytes_of_number ty x)
-number_added ty before x fit = rw (same_self ty) (rw (fit) refl)
-
-pub numbers_added : (ty : NcType) (before : List ℕ) (xs : List ℤ) → Each (λ x. has_number ty x ≡ true) xs → in_turn (add_constant ty) before (numbers_said ty xs) ≡ Ok (before ++ numbers_bytes ty xs)
+pub numbers_added : (ty : NcType) (before : List ℕ) (xs : List ℤ) → Each (λ x. has_number ty x ≡ true) xs → in_turn (add_constant ty) before (numbers_said ty xs) ≡ Ok (before ++ flat_map (bytes_of_number ty) xs)
 numbers_added ty before [] fit = ap (λ bs. Ok bs) (sym (append-nil before))
 numbers_added ty before (x ∷ xs) fit =
-    grind (arith, turn, number_added, append_assoc, numbers_bytes, numbers_added ty (before ++ bytes_of_number ty x) xs fit.1)
+    grind (arith, turn, append_assoc, numbers_added ty (before ++ bytes_of_number ty x) xs fit.1)
 
 pub chars_added : (before : List ℕ) (all : List (List ℕ)) → in_turn (add_constant Char) before (map Characters all) ≡ Ok (before ++ flat_map (λ (b : List ℕ). b) all)
 chars_added before [] = ap (λ bs. Ok bs) (sym (append-nil before))
-chars_added before (b ∷ all) =
-    turn (add_constant Char) before (before ++ b) (Characters b) (map Characters all) refl ∙ chars_added (before ++ b) all ∙ ap (λ bs. Ok bs) (append_assoc before b (flat_map (λ (c : List ℕ). c) all))
+chars_added before (b ∷ all) = grind (arith, turn, append_assoc, chars_added (before ++ b) all)
 
 -- an attribute that its constants give
 pub att_added : (atts : List Att) (att : Att) (said : List Value) → IsName att.name → is_new_att atts att → first_type said ≡ att.ty → in_turn (add_constant att.ty) [] said ≡ Ok att.vals →
@@ -72,9 +57,6 @@ named_past name f [] ds es new h = h
 named_past name f (b ∷ before) ds es new h =
     grind (arith, or_left, or_right, named_past name f before ds es (or_right (bytes_eq b.var.name name) (list_any (λ (d : Draft). bytes_eq d.var.name name) before) new) h)
 
-same_bytes : (name : List ℕ) → bytes_eq name name ≡ true
-same_bytes name = (bytes_eq-Decides name name).1 refl
-
 -- what becomes of the variable after others
 pub variable_is : (f : Draft → Result Draft CdlKind) (before : List Draft) (d e : Draft) (after : List Draft) → IsName d.var.name → no_draft d.var.name before → f d ≡ Ok e →
     change_variable d.var.name f (before ++ d ∷ after) ≡ Ok (before ++ e ∷ after)
@@ -82,10 +64,6 @@ unfolding change_variable
 variable_is f before d e after name new h = search (rules, named_past)
 
 -- ---- declarations
-
-pub type_is : (v : Version) (ty : NcType) → has_type v ty ≡ true → type_of v (word (type_word ty)) ≡ Ok ty
-unfolding type_of
-type_is v ty h = grind arith
 
 -- the name of a dimension
 abbrev pub name_at : List Dim → ℕ → List ℕ
@@ -103,7 +81,7 @@ other_name d (e ∷ dims) (suc k) new h = other_name d dims k (or_right (bytes_e
 
 place_is : (dims : List Dim) (k : ℕ) → AreDistinctDims dims → k < length dims → position_or_len (λ (d : Dim). bytes_eq d.name (name_at dims k)) dims ≡ k
 place_is [] k distinct h = absurd (omega (arith, h))
-place_is (d ∷ dims) zero distinct h = rw (same_bytes d.name) refl
+place_is (d ∷ dims) zero distinct h = rw ((bytes_eq-Decides d.name d.name).1 refl) refl
 place_is (d ∷ dims) (suc k) distinct h = search (rules, other_name, place_is dims k distinct.1)
 
 position_is : (dims : List Dim) (k : ℕ) → AreDistinctDims dims → k < length dims → position (λ (d : Dim). bytes_eq d.name (name_at dims k)) dims ≡ Some k

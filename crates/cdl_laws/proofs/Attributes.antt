@@ -79,13 +79,10 @@ number_speaks : (v : Version) (att : Att) (n : ℕ) → AreBytes att.vals → le
 number_speaks v att n small len other known name =
     grind (arith, count_is att.ty (suc n) att.vals len, numbers_range att.ty (suc n) att.vals small len, numbers_back att.ty (suc n) att.vals small len, some_speak)
 
-is_char_type : (ty : NcType) → is_char ty ≡ true → ty ≡ Char
-is_char_type ty h = grind arith
-
 pub speaks : (v : Version) (att : Att) → IsSoundAtt v att → AreBytes att.vals → HasSomeNumber att → IsName att.name → Speaks v att
 speaks v att sound small some name =
     elim (is_char att.ty) as (λ b. is_char att.ty ≡ b → Speaks v att) [
-      | true ↦ (λ e. char_speaks v att (is_char_type att.ty e) name)
+      | true ↦ (λ e. char_speaks v att (grind arith) name)
       | false ↦ (λ e. counted e sound.values.count sound.values.whole)
     ] refl
   where

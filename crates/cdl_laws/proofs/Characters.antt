@@ -1,18 +1,35 @@
--- The strings of a variable of characters are read back.
-use Rattle.std.proofs.Common.{◌≡◌, ℕ, suc, ◌+◌, ◌*◌, ◌<◌, ◌≤◌, true, false, List, [], ◌∷◌, ◌++◌, length, map, sym, ◌∙◌, ap, refl, subst, arith, append_assoc, append-nil, length-append, ℤ, ◌==◌, codes}
-use Rattle.cdl_laws.proofs.Prelude.{flat_map, escaped_name, escaped_in_string, escaped_text, IsName, Look, is_char, char_lead, pieces, variable_opening, variable_closing, variable_text, Lexeme, lexemes_at, scan, Each, prefix_is, pieces_are, a_row, char_pieces, printed}
-use Rattle.cdl_laws.proofs.Texts.{Closed, closed_both, mark, word}
-use Rattle.cdl_laws.proofs.Strings.{quoted, string, string_closed}
-use Rattle.cdl_laws.proofs.ValueTexts.{commas, comma, opening_closed, row_closed, semicolon_closed}
+-- The strings of a variable of characters are read back, and what a row shows, filled up, is the row.
+use Rattle.std.proofs.Common.{◌≡◌, ℕ, suc, ◌+◌, ◌*◌, ◌<◌, ◌≤◌, true, false, List, [], ◌∷◌, ◌++◌, length, map, sym, ◌∙◌, ap, refl, subst, arith, append_assoc, append-nil, length-append, ℤ, ◌==◌, codes, zero, ◌-◌, Bool, pos, unsigned_abs, replicate, Some, Ok, rules}
+use Rattle.cdl_laws.proofs.Prelude.{flat_map, escaped_name, escaped_text, IsName, Look, is_char, char_lead, pieces, variable_opening, variable_closing, variable_text, Lexeme, Each, prefix_is, pieces_are, a_row, char_pieces, printed, map-append, length-replicate, replicate_more, Version, escaped_in_string, is_nul, string_value, stands_for, Characters, constant, constants, Capacity, Joined, Rows, add_row, filled, in_turn, listing_of, values_in, le-leb, length-map, ◌>>=◌, any_each, lt-ltb}
+use Rattle.cdl_laws.proofs.Texts.{Closed, closed_both, mark, marks_closed, word}
+use Rattle.cdl_laws.proofs.Strings.{string, string_then, unescape_all, between_quotes}
+use Rattle.cdl_laws.proofs.ValueTexts.{commas, comma, opening_closed, semicolon, turn, constants_say}
+
+-- ---- strings in a list
+
+-- the end of a string, what stands between it and the next, and the next one's bytes
+abbrev pub later_string : List ℕ → List ℕ → List ℕ
+later_string gap bytes = 34 ∷ (gap ++ 34 ∷ escaped_text bytes)
+
+pub strings_closed : (gap ending : List ℕ) (ls : List Lexeme) → Closed gap (comma ∷ []) → Closed ending ls →
+    (s : List ℕ) (others : List (List ℕ)) →
+    Closed (34 ∷ (escaped_text s ++ (flat_map (later_string gap) others ++ 34 ∷ ending))) (string s ∷ (commas (map string others) ++ ls))
+strings_closed gap ending ls between end s [] = string_then s ending ls end
+strings_closed gap ending ls between end s (o ∷ os) =
+    let rest = flat_map (later_string gap) os in
+    let after = escaped_text o ++ (rest ++ 34 ∷ ending) in
+    let same : (gap ++ 34 ∷ escaped_text o) ++ (rest ++ 34 ∷ ending) ≡ gap ++ 34 ∷ after = append_assoc gap (34 ∷ escaped_text o)
+    (rest ++ 34 ∷ ending) in
+    subst (λ bs. Closed (34 ∷ (escaped_text s ++ bs)) (string s ∷ (commas (map string (o ∷ os)) ++ ls)))
+    (sym (append_assoc (later_string gap o) rest (34 ∷ ending) ∙ ap (λ bs. 34 ∷ bs) same))
+    (string_then s (gap ++ 34 ∷ after) (comma ∷ string o ∷ (commas (map string os) ++ ls))
+    (closed_both gap (34 ∷ after) (comma ∷ []) (string o ∷ (commas (map string os) ++ ls)) between
+    (strings_closed gap ending ls between end o os)))
 
 -- ---- the rows of a variable
 
 abbrev pub flat : List (List ℤ) → List ℤ
 flat rows = flat_map (λ (r : List ℤ). r) rows
-
--- the string of a row
-abbrev pub row_string : Look → List ℤ → Lexeme
-row_string look r = string (printed look.trimmed 0 r)
 
 abbrev closing_bytes : List ℕ
 closing_bytes = codes "\" ;\n"
@@ -20,93 +37,145 @@ closing_bytes = codes "\" ;\n"
 later_lead : (look : Look) (n : ℕ) → look.in_rows ≡ true → 0 < n → char_lead look n ≡ codes "\",\n  \""
 later_lead look n h some = let z : (n == 0) ≡ false = grind (arith, some) in rw (h) (rw (z) refl)
 
-first_lead : (look : Look) → look.in_rows ≡ true → char_lead look 0 ≡ codes "\n  \""
-first_lead look h = rw (h) refl
-
-alone_lead : (look : Look) → look.in_rows ≡ false → char_lead look 0 ≡ codes " \""
-alone_lead look h = rw (h) refl
-
-space_closed : Closed (codes " ") []
-unfolding lexemes_at scan
-space_closed rest = refl
-
-row_blank_closed : Closed (codes "\n  ") []
-unfolding lexemes_at scan
-row_blank_closed rest = refl
-
--- a string that is closed at once
-last_closed : (r : List ℕ) → Closed (34 ∷ (escaped_text r ++ closing_bytes)) (string r ∷ mark 59 ∷ [])
-unfolding escaped_text
-last_closed r =
-    subst (λ bs. Closed (34 ∷ bs) (string r ∷ mark 59 ∷ [])) (append_assoc (flat_map escaped_in_string r) (34 ∷ []) (codes " ;\n"))
-    (closed_both (quoted r) (codes " ;\n") (string r ∷ []) (mark 59 ∷ []) (string_closed r) semicolon_closed)
-
--- the bytes of a string, its end and another row
-regroup : (e lead f c q : List ℕ) → lead ≡ codes "\",\n  \"" →
-    (e ++ 34 ∷ []) ++ (codes ",\n  " ++ 34 ∷ (f ++ (c ++ q))) ≡ e ++ ((lead ++ (f ++ c)) ++ q)
-regroup e lead f c q h = grind (arith, append_assoc, codes)
-
-pub rows_closed : (look : Look) (done : List ℤ) (k : ℕ) (r : List ℕ) (rows : List (List ℤ)) → look.in_rows ≡ true → length done ≡ k * look.row → 0 < length done → 0 < look.row → Each (λ (s : List ℤ). length s ≡ look.row) rows →
-    Closed (34 ∷ (escaped_text r ++ (char_pieces look done (flat rows) ++ closing_bytes))) (string r ∷ (commas (map (row_string look) rows) ++ mark 59 ∷ []))
-unfolding char_pieces escaped_text
-rows_closed look done k r [] h len some wide all = last_closed r
-rows_closed look done k r ([] ∷ rows) h len some wide all = absurd (let e : 0 ≡ look.row = all.0 in omega (arith, e, wide))
-rows_closed look done k r ((x ∷ xs) ∷ rows) h len some wide all =
-    let e = escaped_text r in
+-- the rows after others
+rows_text : (look : Look) (done : List ℤ) (k : ℕ) (rows : List (List ℤ)) → look.in_rows ≡ true → length done ≡ k * look.row →
+    0 < length done → 0 < look.row → Each (λ (s : List ℤ). length s ≡ look.row) rows →
+    char_pieces look done (flat rows) ≡ flat_map (later_string (codes ",\n  ")) (map (printed look.trimmed 0) rows)
+unfolding char_pieces
+rows_text look done k [] h len some wide all = refl
+rows_text look done k ([] ∷ rows) h len some wide all = absurd (let e : 0 ≡ look.row = all.0 in omega (arith, e, wide))
+rows_text look done k ((x ∷ xs) ∷ rows) h len some wide all =
     let s = x ∷ xs in
-    let f = escaped_text (printed look.trimmed 0 s) in
-    let c = char_pieces look (done ++ s) (flat rows) in
     let row_len : length s ≡ look.row = all.0 in
     let more = length-append done s in
     let grown : length (done ++ s) ≡ (k + 1) * look.row = more ∙ ap (λ n. n + length s) len ∙ ap (λ n. k * look.row + n) row_len ∙ (let g : k * look.row + look.row ≡ (k + 1) * look.row = grind arith in g) in
-    subst (λ bs. Closed (34 ∷ bs) (string r ∷ (commas (map (row_string look) (s ∷ rows)) ++ mark 59 ∷ [])))
-    (regroup e (char_lead look (length done)) f c closing_bytes (later_lead look (length done) h some) ∙
-    ap (λ bs. e ++ (bs ++ closing_bytes)) (sym (a_row look done x xs (flat rows) k len (omega (arith, row_len)))))
-    (closed_both (quoted r) (codes ",\n  " ++ 34 ∷ (f ++ (c ++ closing_bytes))) (string r ∷ []) (commas (map (row_string look) (s ∷ rows)) ++ mark 59 ∷ []) (string_closed r)
-    (closed_both (codes ",\n  ") (34 ∷ (f ++ (c ++ closing_bytes))) (comma ∷ []) (row_string look s ∷ (commas (map (row_string look) rows) ++ mark 59 ∷ [])) row_closed
-    (rows_closed look (done ++ s) (k + 1) (printed look.trimmed 0 s) rows h grown (omega (arith, more, some)) wide all.1)))
+    a_row look done x xs (flat rows) k len (omega (arith, row_len)) ∙
+    ap (λ lead. lead ++ (escaped_text (printed look.trimmed 0 s) ++ char_pieces look (done ++ s) (flat rows)))
+    (later_lead look (length done) h some) ∙
+    ap (λ bs. codes "\",\n  \"" ++ (escaped_text (printed look.trimmed 0 s) ++ bs))
+    (rows_text look (done ++ s) (k + 1) rows h grown (omega (arith, more, some)) wide all.1)
 
 -- ---- a variable's characters
 
-char_closing : (look : Look) → is_char look.ty ≡ true → variable_closing look ≡ closing_bytes
-unfolding variable_closing
-char_closing look h = rw (h) refl
-
 char_variable : (look : Look) (values : List ℤ) → is_char look.ty ≡ true → (0 < length values → 0 < look.row) → variable_text look values ≡ variable_opening look ++ (char_pieces look [] values ++ closing_bytes)
-unfolding variable_text
-char_variable look values h wide = grind (arith, append_assoc, variable_opening, pieces, variable_closing, prefix_is look values (λ is. wide), pieces_are, char_closing)
+unfolding variable_text variable_closing
+char_variable look values h wide =
+    grind (arith, append_assoc, variable_opening, pieces, variable_closing, prefix_is look values (λ is. wide), pieces_are)
 
--- the lexemes of its strings
+-- what all its strings are read as
 abbrev pub strings : Look → List ℤ → List (List ℤ) → List Lexeme
-strings look r rows = row_string look r ∷ commas (map (row_string look) rows)
+strings look r rows = word (escaped_name look.name) ∷ mark 61 ∷ string (printed look.trimmed 0 r) ∷
+    (commas (map string (map (printed look.trimmed 0) rows)) ++ mark 59 ∷ [])
+
+-- a first row after this blank, and the others
+all_closed : (look : Look) (x : ℤ) (xs : List ℤ) (rows : List (List ℤ)) (blank : List ℕ) → IsName look.name → is_char look.ty ≡ true →
+    length (x ∷ xs) ≤ look.row → Closed blank [] → char_lead look 0 ≡ blank ++ 34 ∷ [] →
+    char_pieces look (x ∷ xs) (flat rows) ≡ flat_map (later_string (codes ",\n  ")) (map (printed look.trimmed 0) rows) → Closed
+    (variable_text look (flat ((x ∷ xs) ∷ rows))) (strings look (x ∷ xs) rows)
+all_closed look x xs rows blank name ty small closed lead more =
+    let f = escaped_text (printed look.trimmed 0 (x ∷ xs)) in
+    let others = flat_map (later_string (codes ",\n  ")) (map (printed look.trimmed 0) rows) in
+    let tail = f ++ (others ++ closing_bytes) in
+    let regroup : ((blank ++ 34 ∷ []) ++ (f ++ others)) ++ closing_bytes ≡ blank ++ 34 ∷ tail = simp append_assoc in
+    let ls = string (printed look.trimmed 0 (x ∷ xs)) ∷ (commas (map string (map (printed look.trimmed 0) rows)) ++ mark 59 ∷ []) in
+    let row = a_row look [] x xs (flat rows) 0 (let z : 0 ≡ 0 * look.row = omega arith in z) small in
+    subst (λ bs. Closed bs (strings look (x ∷ xs) rows))
+    (sym (char_variable look (flat ((x ∷ xs) ∷ rows)) ty (λ some. let long : suc (length xs) ≤ look.row = small in omega (arith, long)) ∙
+    ap (λ bs. variable_opening look ++ (bs ++ closing_bytes))
+    (row ∙ ap (λ l. l ++ (f ++ char_pieces look (x ∷ xs) (flat rows))) lead ∙ ap (λ bs. (blank ++ 34 ∷ []) ++ (f ++ bs)) more) ∙
+    ap (λ bs. variable_opening look ++ bs) regroup))
+    (closed_both (variable_opening look) (blank ++ 34 ∷ tail) (word (escaped_name look.name) ∷ mark 61 ∷ []) ls (opening_closed look name)
+    (closed_both blank (34 ∷ tail) [] ls closed
+    (strings_closed (codes ",\n  ") (codes " ;\n") (mark 59 ∷ []) (marks_closed (codes ",\n  ") refl) (marks_closed (codes " ;\n") refl)
+    (printed look.trimmed 0 (x ∷ xs)) (map (printed look.trimmed 0) rows))))
 
 -- at rank 2 and up
 pub table_closed : (look : Look) (r : List ℤ) (rows : List (List ℤ)) → IsName look.name → is_char look.ty ≡ true → look.in_rows ≡ true → 0 < look.row → Each (λ (s : List ℤ). length s ≡ look.row) (r ∷ rows) →
-    Closed (variable_text look (flat (r ∷ rows))) (word (escaped_name look.name) ∷ mark 61 ∷ (strings look r rows ++ mark 59 ∷ []))
+    Closed (variable_text look (flat (r ∷ rows))) (strings look r rows)
 table_closed look [] rows name ty h wide all = absurd (let e : 0 ≡ look.row = all.0 in omega (arith, e, wide))
 table_closed look (x ∷ xs) rows name ty h wide all =
-    let r = x ∷ xs in
-    let f = escaped_text (printed look.trimmed 0 r) in
-    let c = char_pieces look r (flat rows) in
-    let row_len : length r ≡ look.row = all.0 in
-    subst (λ bs. Closed bs (word (escaped_name look.name) ∷ mark 61 ∷ (strings look r rows ++ mark 59 ∷ [])))
-    (ap (λ bs. variable_opening look ++ bs) (sym (append_assoc (codes "\n  \"") (f ++ c) closing_bytes ∙ ap (λ bs. codes "\n  \"" ++ bs) (append_assoc f c closing_bytes)) ∙ ap (λ bs. bs ++ closing_bytes)
-    (ap (λ l. l ++ (f ++ c)) (sym (first_lead look h)) ∙ sym (a_row look [] x xs (flat rows) 0 (let z : 0 ≡ 0 * look.row = omega arith in z) (omega (arith, row_len))))) ∙
-    sym (char_variable look (flat (r ∷ rows)) ty (λ some. wide)))
-    (closed_both (variable_opening look) (codes "\n  " ++ 34 ∷ (f ++ (c ++ closing_bytes))) (word (escaped_name look.name) ∷ mark 61 ∷ []) (strings look r rows ++ mark 59 ∷ []) (opening_closed look name)
-    (closed_both (codes "\n  ") (34 ∷ (f ++ (c ++ closing_bytes))) [] (strings look r rows ++ mark 59 ∷ []) row_blank_closed
-    (rows_closed look r 1 (printed look.trimmed 0 r) rows h (row_len ∙ (let z : look.row ≡ 1 * look.row = omega arith in z)) (omega arith) wide all.1)))
+    let len : suc (length xs) ≡ look.row = all.0 in
+    all_closed look x xs rows (codes "\n  ") name ty (omega (arith, len)) (marks_closed (codes "\n  ") refl) (rw (h) refl)
+    (rows_text look (x ∷ xs) 1 rows h (let one : suc (length xs) ≡ 1 * look.row = omega (arith, len) in one) (omega arith) wide all.1)
 
 -- at rank 0 and 1
 pub line_closed : (look : Look) (x : ℤ) (xs : List ℤ) → IsName look.name → is_char look.ty ≡ true → look.in_rows ≡ false → length (x ∷ xs) ≤ look.row →
-    Closed (variable_text look (x ∷ xs)) (word (escaped_name look.name) ∷ mark 61 ∷ row_string look (x ∷ xs) ∷ mark 59 ∷ [])
+    Closed (variable_text look (x ∷ xs)) (strings look (x ∷ xs) [])
 unfolding char_pieces
 line_closed look x xs name ty h small =
-    let r = x ∷ xs in
-    let f = escaped_text (printed look.trimmed 0 r) in
-    subst (λ bs. Closed bs (word (escaped_name look.name) ∷ mark 61 ∷ row_string look r ∷ mark 59 ∷ []))
-    (ap (λ bs. variable_opening look ++ bs) (ap (λ g. codes " \"" ++ (g ++ closing_bytes)) (sym (append-nil f)) ∙ ap (λ bs. bs ++ closing_bytes)
-    (ap (λ l. l ++ (f ++ [])) (sym (alone_lead look h)) ∙ sym (a_row look [] x xs [] 0 (let z : 0 ≡ 0 * look.row = omega arith in z) small) ∙ ap (char_pieces look []) (append-nil r))) ∙
-    sym (char_variable look r ty (λ some. let long : suc (length xs) ≤ look.row = small in omega (arith, long))))
-    (closed_both (variable_opening look) (codes " " ++ 34 ∷ (f ++ closing_bytes)) (word (escaped_name look.name) ∷ mark 61 ∷ []) (row_string look r ∷ mark 59 ∷ []) (opening_closed look name)
-    (closed_both (codes " ") (34 ∷ (f ++ closing_bytes)) [] (row_string look r ∷ mark 59 ∷ []) space_closed (last_closed (printed look.trimmed 0 r))))
+    subst (λ ys. Closed (variable_text look ys) (strings look (x ∷ xs) [])) (append-nil (x ∷ xs))
+    (all_closed look x xs [] (codes " ") name ty small (marks_closed (codes " ") refl) (rw (h) refl) refl)
+
+-- ---- rows that are filled up
+
+-- a value of a character
+abbrev pub IsCharacter : ℤ → Type 0
+IsCharacter x = pos (unsigned_abs x) ≡ x
+
+map_zeros : (n : ℕ) → map pos (replicate n 0) ≡ replicate n (pos 0)
+map_zeros zero = refl
+map_zeros (suc n) = ap (λ xs. pos 0 ∷ xs) (map_zeros n)
+
+pub shown_len : (t : Bool) (n : ℕ) (xs : List ℤ) → length (printed t n xs) ≤ n + length xs
+unfolding printed
+shown_len t n [] = omega arith
+shown_len t n (x ∷ xs) = grind (arith, length-append, length-replicate, shown_len t (n + 1) xs, shown_len t 0 xs)
+
+-- before a character
+with_first : (n : ℕ) (x : ℤ) (bs : List ℕ) → IsCharacter x → map pos ((replicate n 0 ++ unsigned_abs x ∷ []) ++ bs) ≡ (replicate n (pos 0) ++ x ∷ []) ++ map pos bs
+with_first n x bs c = grind (arith, map-append, pos, map_zeros)
+
+pub back_trimmed : (n m : ℕ) (xs : List ℤ) → Each IsCharacter xs → length (printed true n xs) + m ≡ n + length xs →
+    map pos (printed true n xs) ++ replicate m (pos 0) ≡ replicate n (pos 0) ++ xs
+unfolding printed
+back_trimmed n m [] all len = grind (arith, append-nil)
+back_trimmed n m (x ∷ xs) all len =
+    let nul = back_trimmed (n + 1) m xs all.1 in
+    let other = back_trimmed 0 m xs all.1 in
+    grind (arith, is_nul, with_first, replicate_more n (pos 0), append_assoc, length-append, length-replicate, nul, other)
+
+pub back_whole : (xs : List ℤ) → Each IsCharacter xs → map pos (printed false 0 xs) ≡ xs
+unfolding printed
+back_whole [] all = refl
+back_whole (x ∷ xs) all = with_first 0 x (printed false 0 xs) all.0 ∙ ap (λ ys. x ∷ ys) (back_whole xs all.1)
+
+pub filled_whole : (n : ℕ) (fill : ℤ) (xs : List ℤ) → length xs ≡ n → filled n fill xs ≡ xs
+filled_whole n fill xs h = ap (λ m. xs ++ replicate m fill) (let e : n - length xs ≡ 0 = omega (arith, h) in e) ∙ append-nil xs
+
+-- what a row shows, filled up: the fill value is NUL where it is trimmed
+pub row_back : (t : Bool) (n : ℕ) (fill : ℤ) (xs : List ℤ) → (t ≡ true → fill ≡ pos 0) → length xs ≡ n → Each IsCharacter xs → filled n fill (map pos (printed t 0 xs)) ≡ xs
+row_back true n fill xs h len all =
+    let m = n - length (printed true 0 xs) in
+    grind (arith, filled n, pos 0, length-map (printed true 0 xs) pos, shown_len true 0 xs, back_trimmed 0 m xs all)
+row_back false n fill xs h len all = ap (filled n fill) (back_whole xs all) ∙ filled_whole n fill xs len
+
+-- ---- what the strings say
+
+string_said : (v : Version) (takes_fill : Bool) (bytes : List ℕ) → constant v takes_fill (string bytes) ≡ Some (Characters bytes)
+string_said v takes_fill bytes = ap (λ (bs : List ℕ). Some (Characters (string_value bs))) (between_quotes (flat_map escaped_in_string bytes)) ∙ ap (λ (bs : List ℕ). Some (Characters bs)) (stands_for (flat_map escaped_in_string bytes) bytes (unescape_all bytes))
+
+pub strings_said : (v : Version) (takes_fill : Bool) (bytes : List ℕ) (all : List (List ℕ)) → constants v takes_fill (string bytes ∷ commas (map string all) ++ semicolon ∷ []) ≡ Some (map Characters (bytes ∷ all))
+strings_said v takes_fill bytes all = constants_say v takes_fill string Characters (λ b. Unit {0})
+    (λ b u. string_said v takes_fill b) bytes all (any_each (bytes ∷ all))
+
+-- ---- what becomes of them
+
+rows_added : (capacity : Capacity) (t : Bool) (before : List (List ℕ)) (rows : List (List ℤ)) → (capacity.is_open ≡ false → length before + length rows ≤ capacity.rows) → Each (λ (r : List ℤ). (length r ≡ capacity.row) × Each IsCharacter r) rows →
+    in_turn (add_row capacity) before (map Characters (map (printed t 0) rows)) ≡ Ok (before ++ map (printed t 0) rows)
+rows_added capacity t before [] wide all = ap Ok (sym (append-nil before))
+rows_added capacity t before (r ∷ rows) wide all =
+    grind (arith, length-append, turn, append_assoc, rows_added capacity t (before ++ printed t 0 r ∷ []) rows, le-leb, shown_len, lt-ltb)
+
+pub rows_listed : (capacity : Capacity) (t : Bool) (rows : List (List ℤ)) → is_char capacity.ty ≡ true → capacity.in_rows ≡ true → (capacity.is_open ≡ false → length rows ≤ capacity.rows) → Each (λ (r : List ℤ). (length r ≡ capacity.row) × Each IsCharacter r) rows →
+    listing_of capacity (map Characters (map (printed t 0) rows)) ≡ Ok (Rows (map (printed t 0) rows))
+unfolding listing_of
+rows_listed capacity t rows ty h wide all = rw (ty) (rw (h) (ap (λ items. items >>= (λ bytes. Ok (Rows bytes))) (rows_added capacity t [] rows (λ e. let f = wide e in omega (arith, f)) all)))
+
+-- and the rows filled up are the rows that were printed
+pub rows_full : (capacity : Capacity) (t : Bool) (rows : List (List ℤ)) → (t ≡ true → capacity.fill ≡ pos 0) → Each (λ (r : List ℤ). (length r ≡ capacity.row) × Each IsCharacter r) rows → values_in capacity (Rows (map (printed t 0) rows)) ≡ flat rows
+rows_full capacity t [] fill all = refl
+rows_full capacity t (r ∷ rows) fill all = search (rules, row_back, rows_full capacity t rows fill all.1)
+
+pub line_listed : (capacity : Capacity) (t : Bool) (r : List ℤ) → is_char capacity.ty ≡ true → capacity.in_rows ≡ false → (capacity.is_open ≡ false → length r ≤ capacity.count) → listing_of capacity (Characters (printed t 0 r) ∷ []) ≡ Ok (Joined (printed t 0 r))
+unfolding listing_of
+line_listed capacity t r ty h wide = grind (arith, turn, shown_len)

@@ -1,9 +1,8 @@
 -- The data section of a dump, variable after variable.
 use Rattle.std.proofs.Common.{◌≡◌, ℕ, ◌+◌, ◌<◌, ◌≤◌, Bool, true, false, List, [], ◌∷◌, ◌++◌, length, map, sym, ◌∙◌, ap, refl, subst, append_assoc, ℤ, pos, if◌then◌else◌, Option, None, Some, Ok, arith, rules}
-use Rattle.cdl_laws.proofs.Prelude.{DataText, variables_text, printed, Att, Dim, Header, Var, Version, VariableValues, whole, shown_data, with_variable, has_values, fill_value, IsName, is_record_var, Look, look_of, is_char, variable_text, Values, trimmed_var, Value, Characters, Listed, State, Draft, Listing, Numbers, Joined, Rows, Capacity, capacity_of, act, listing_of, values_in, filled, has_number, Each}
+use Rattle.cdl_laws.proofs.Prelude.{DataText, variables_text, printed, Att, Dim, Header, Var, Version, VariableValues, whole, shown_data, with_variable, has_values, fill_value, IsName, is_record_var, Look, look_of, is_char, variable_text, Values, trimmed_var, Value, Characters, Listed, State, Draft, Listing, Numbers, Joined, Rows, Capacity, capacity_of, act, listing_of, values_in, filled, has_number, Each, each_map}
 use Rattle.cdl_laws.proofs.ValueTexts.{AreSmall, value_said, numbers_listed}
-use Rattle.cdl_laws.proofs.Characters.{flat}
-use Rattle.cdl_laws.proofs.Filled.{IsCharacter, row_back, rows_listed, rows_full, line_listed, back_whole, filled_whole}
+use Rattle.cdl_laws.proofs.Characters.{flat, IsCharacter, row_back, rows_listed, rows_full, line_listed, back_whole, filled_whole}
 use Rattle.cdl_laws.proofs.Takes.{Takes, Says, says_takes, takes_both, takes_nothing}
 use Rattle.cdl_laws.proofs.Heads.{numbers_say, table_says, line_says}
 use Rattle.cdl_laws.proofs.Acts.{no_draft, variable_is}
@@ -45,7 +44,11 @@ pub gives_table : (v : Version) (dims : List Dim) (look : Look) (var : Var) (r :
     (look.trimmed ≡ true → look.fill ≡ pos 0) → look.row ≡ (capacity_of dims (trimmed_var var)).row → 0 < look.row → ((capacity_of dims (trimmed_var var)).is_open ≡ false → length (r ∷ rows) ≤ (capacity_of dims (trimmed_var var)).rows) → Each (λ (s : List ℤ). (length s ≡ look.row) × Each IsCharacter s) (r ∷ rows) → Gives v dims look var (flat (r ∷ rows))
 gives_table v dims look var r rows capacity ty h fill row some few all = record {
   said = map Characters (map (printed look.trimmed 0) (r ∷ rows));
-  says = subst (λ n. Says v Values (variable_text look (flat (r ∷ rows))) (Listed n (map Characters (map (printed look.trimmed 0) (r ∷ rows))))) capacity.name (table_says v look r rows capacity.valid ty h some (lens look.row (r ∷ rows) all));
+  says = subst (λ n. Says v Values (variable_text look (flat (r ∷ rows)))
+      (Listed n (map Characters (map (printed look.trimmed 0) (r ∷ rows))))) capacity.name
+      (table_says v look r rows capacity.valid ty h some
+      (each_map (λ (s : List ℤ). (length s ≡ look.row) × Each IsCharacter s) (λ (s : List ℤ). length s ≡ look.row) (r ∷ rows)
+      (λ s e. e.0) all));
   listing = Rows (map (printed look.trimmed 0) (r ∷ rows));
   added = rows_listed (capacity_of dims (trimmed_var var)) look.trimmed (r ∷ rows) (ap is_char capacity.ty ∙ ty) (capacity.rows ∙ h) few are;
   full = ap (filled (length (flat (r ∷ rows))) (fill_value (trimmed_var var))) back ∙ filled_whole (length (flat (r ∷ rows))) (fill_value (trimmed_var var)) (flat (r ∷ rows)) refl;
@@ -57,10 +60,6 @@ gives_table v dims look var r rows capacity ty h fill row some few all = record 
 
     back : values_in (capacity_of dims (trimmed_var var)) (Rows (map (printed look.trimmed 0) (r ∷ rows))) ≡ flat (r ∷ rows)
     back = rows_full (capacity_of dims (trimmed_var var)) look.trimmed (r ∷ rows) (λ e. capacity.fill ∙ fill e) are
-
-    lens : (n : ℕ) (all : List (List ℤ)) → Each (λ (s : List ℤ). (length s ≡ n) × Each IsCharacter s) all → Each (λ (s : List ℤ). length s ≡ n) all
-    lens n [] e = tt
-    lens n (s ∷ all) e = (e.0.0, lens n all e.1)
 
 pub gives_line : (v : Version) (dims : List Dim) (look : Look) (var : Var) (x : ℤ) (xs : List ℤ) → IsRoomFor look (capacity_of dims (trimmed_var var)) var (length (x ∷ xs)) → is_char look.ty ≡ true → look.in_rows ≡ false → length (x ∷ xs) ≤ look.row →
     (look.trimmed ≡ true → fill_value (trimmed_var var) ≡ pos 0) → (is_record_var dims var ≡ true → look.trimmed ≡ false) → Each IsCharacter (x ∷ xs) → Gives v dims look var (x ∷ xs)
@@ -103,20 +102,16 @@ AreGiven v h content n width place before (var ∷ vars) (o ∷ os) = IsGiven v 
 abbrev pub all_marked : List Var → List Bool
 all_marked vars = map (λ (w : Var). true) vars
 
-listed_act : (v : Version) (dims : List Dim) (gatts : List Att) (before after : List Draft) (look : Look) (var : Var) (values : List ℤ) (g : Gives v dims look var values) → IsName var.name → no_draft var.name before →
-    act v (state Values dims gatts (before ++ draft_of var ∷ after)) (Listed var.name g.said) ≡ Ok (state Values dims gatts (before ++ given_draft var (Some g.listing) ∷ after))
-unfolding act
-listed_act v dims gatts before after look var values g valid new = grind (arith, variable_is)
-
 -- one variable before others
 one_taken : (v : Version) (h : Header) (gatts : List Att) (before after : List Draft) (look : Look) (var : Var) (c : VariableValues) (o : Option Listing) (place : ℕ) (others : DataText) (t : State) (b : Bool) →
     IsName var.name → no_draft var.name before → c.missing ≡ None → IsGivenBy b v h.dims look var c.values o →
     Takes v others.text (state Values h.dims gatts (before ++ given_draft var o ∷ after)) t →
     Takes v (if b then with_variable look c.values c.missing place others else others).text (state Values h.dims gatts (before ++ draft_of var ∷ after)) t
+unfolding act
 one_taken v h gatts before after look var c o place others t true valid new all given more =
     rw (all) (takes_both v (variable_text look c.values) others.text (state Values h.dims gatts (before ++ draft_of var ∷ after)) (state Values h.dims gatts (before ++ given_draft var o ∷ after)) t
     (says_takes v (variable_text look c.values) (Listed var.name given.0.said) (state Values h.dims gatts (before ++ draft_of var ∷ after)) (state Values h.dims gatts (before ++ given_draft var o ∷ after)) given.0.says
-    (listed_act v h.dims gatts before after look var c.values given.0 valid new ∙ ap (λ p. Ok (state Values h.dims gatts (before ++ given_draft var p ∷ after))) (sym given.1)))
+    ((grind (arith, variable_is)) ∙ ap (λ p. Ok (state Values h.dims gatts (before ++ given_draft var p ∷ after))) (sym given.1)))
     more)
 one_taken v h gatts before after look var c o place others t false valid new all given more = search rules
 

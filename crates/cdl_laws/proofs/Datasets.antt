@@ -1,9 +1,10 @@
 -- A dataset that a text can declare is read back from its full dump.
-use Rattle.std.proofs.Common.{◌≡◌, ℕ, ◌+◌, ◌*◌, ◌-◌, ◌/◌, ◌<◌, true, List, [], ◌∷◌, ◌++◌, length, map, ◌∙◌, ap, refl, arith, append_assoc, length-append, Option, slice_index_or, rules}
-use Rattle.cdl_laws.proofs.Prelude.{mul-add-div, div-eq_of_lt, Dataset, Dim, Header, Var, Version, values_in_dataset, fill_value, AreArrays, IsName, numbers, slab_count, record_vars, is_char, trimmed_var, array_of, records_in, Draft, Listing, Each}
-use Rattle.cdl_laws.proofs.Arrays.{IsBack, is_back}
+use Rattle.std.proofs.Common.{◌≡◌, ℕ, ◌+◌, ◌*◌, ◌-◌, ◌/◌, ◌<◌, true, List, [], ◌∷◌, ◌++◌, length, map, ◌∙◌, ap, refl, arith, append_assoc, length-append, Option, slice_index_or, ◌≤◌, sum, ◌⊎◌, inl}
+use Rattle.cdl_laws.proofs.Prelude.{mul-add-div, div-eq_of_lt, Dataset, Dim, Header, Var, Version, values_in_dataset, fill_value, AreArrays, IsName, numbers, slab_count, record_vars, is_char, trimmed_var, array_of, records_in, Draft, Listing, Each, list_all, slab_size, record_size_of, padded_size, slab_limit, is_within_limits, and_both, le-leb}
+use Rattle.cdl_laws.proofs.Given.{IsBack, is_back}
 use Rattle.cdl_laws.proofs.Acts.{no_draft}
 use Rattle.cdl_laws.proofs.DataTexts.{AreGiven, given_draft, given_drafts}
+use Rattle.std.proofs.Math.Seq.{get_or-append_seam}
 
 -- ---- one array for each variable
 
@@ -33,13 +34,9 @@ abbrev pub StandAt : List (List ℕ) → ℕ → List (List ℕ) → Type 0
 StandAt all place [] = Unit {0}
 StandAt all place (a ∷ arrays) = (slice_index_or all place [] ≡ a) × StandAt all (place + 1) arrays
 
-index_past : (before : List (List ℕ)) (a : List ℕ) (arrays : List (List ℕ)) → slice_index_or (before ++ a ∷ arrays) (length before) [] ≡ a
-index_past [] a arrays = refl
-index_past (b ∷ before) a arrays = index_past before a arrays
-
 pub stand_after : (before arrays : List (List ℕ)) → StandAt (before ++ arrays) (length before) arrays
 stand_after before [] = tt
-stand_after before (a ∷ arrays) = grind (arith, index_past, append_assoc, length-append, stand_after (before ++ a ∷ []) arrays)
+stand_after before (a ∷ arrays) = grind (arith, get_or-append_seam, append_assoc, length-append, stand_after (before ++ a ∷ []) arrays)
 
 -- no variable before or in the list has another's name
 abbrev pub AreNewVars : List Draft → List Var → List (Option Listing) → Type 0
@@ -73,17 +70,38 @@ counted : (slab n : ℕ) → 0 < slab → (slab * n + slab - 1) / slab ≡ n
 counted slab n some = grind (arith, mul-add-div, div-eq_of_lt)
 
 -- it is the dataset's, where some variable is a record variable, and 0 where none is
-data Counts (dims : List Dim) (vars : List Var) (n r : ℕ) : Type 0 where
-  none : record_vars dims vars ≡ [] → r ≡ 0 → Counts dims vars n r
-  some : r ≡ n → Counts dims vars n r
-
 count_all : (v : Version) (h : Header) (n width : ℕ) (vars : List Var) (arrays : List (List ℕ)) (backs : AreBack v h n width vars arrays) → Each (λ (var : Var). 0 < slab_count h.dims var) vars →
-    Counts h.dims vars n (records_in h.dims (given_drafts vars (listings v h n width vars arrays backs)))
-count_all v h n width [] [] backs slabs = none refl refl
+    ((record_vars h.dims vars ≡ []) × (records_in h.dims (given_drafts vars (listings v h n width vars arrays backs)) ≡ 0)) ⊎
+    (records_in h.dims (given_drafts vars (listings v h n width vars arrays backs)) ≡ n)
+count_all v h n width [] [] backs slabs = inl (refl, refl)
 count_all v h n width (var ∷ vars) (a ∷ arrays) backs slabs =
     grind (arith, count_all v h n width vars arrays backs.1 slabs.1, counted)
 count_all v h n width _ _ backs slabs = absurd backs
 
 pub records_back : (v : Version) (h : Header) (n width : ℕ) (vars : List Var) (arrays : List (List ℕ)) (backs : AreBack v h n width vars arrays) → Each (λ (var : Var). 0 < slab_count h.dims var) vars → (record_vars h.dims vars ≡ [] → n ≡ 0) →
     records_in h.dims (given_drafts vars (listings v h n width vars arrays backs)) ≡ n
-records_back v h n width vars arrays backs slabs none_none = search (rules, count_all)
+records_back v h n width vars arrays backs slabs none_none = grind (arith, count_all v h n width vars arrays backs slabs)
+
+-- ---- limits
+
+pub all_small : (v : Version) (h : Header) (n width : ℕ) (vars : List Var) (arrays : List (List ℕ)) (backs : AreBack v h n width vars arrays) → AreArrays h.dims n vars arrays → Each (λ (var : Var). slab_size h.dims var ≤ slab_limit) vars →
+    list_all (is_within_limits h.dims n) (given_drafts vars (listings v h n width vars arrays backs)) ≡ true
+all_small v h n width [] [] backs are slabs = refl
+all_small v h n width (var ∷ vars) (a ∷ arrays) backs are slabs =
+    grind (arith, and_both, le-leb, all_small v h n width vars arrays backs.1 are.1 slabs.1)
+all_small v h n width _ _ backs are slabs = absurd are
+
+pub record_trimmed : (dims : List Dim) (vars : List Var) → record_vars dims (map trimmed_var vars) ≡ map trimmed_var (record_vars dims vars)
+record_trimmed dims [] = refl
+record_trimmed dims (var ∷ vars) = grind (arith, record_trimmed dims vars)
+
+sizes_trimmed : (dims : List Dim) (vars : List Var) → map (padded_size dims) (map trimmed_var vars) ≡ map (padded_size dims) vars
+sizes_trimmed dims [] = refl
+sizes_trimmed dims (var ∷ vars) = ap (λ ss. padded_size dims var ∷ ss) (sizes_trimmed dims vars)
+
+record_size_of_trimmed : (dims : List Dim) (vars : List Var) → record_size_of dims (map trimmed_var vars) ≡ record_size_of dims vars
+record_size_of_trimmed dims (var ∷ w ∷ vars) = ap sum (sizes_trimmed dims (var ∷ w ∷ vars))
+record_size_of_trimmed dims _ = refl
+
+pub same_record : (dims : List Dim) (vars : List Var) → record_size_of dims (record_vars dims (map trimmed_var vars)) ≡ record_size_of dims (record_vars dims vars)
+same_record dims vars = ap (record_size_of dims) (record_trimmed dims vars) ∙ record_size_of_trimmed dims (record_vars dims vars)

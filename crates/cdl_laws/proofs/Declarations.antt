@@ -1,16 +1,14 @@
 -- The statements of a head, and what they say.
-use Rattle.std.proofs.Common.{◌≡◌, ℕ, ◌^◌, ◌<◌, true, false, List, [], ◌∷◌, ◌++◌, map, sym, ◌∙◌, ap, refl, subst, arith, append_assoc, append-nil, ℤ, pos, unsigned_abs, decimal, ◌==◌, not, if◌then◌else◌, None, Some, is_some, codes, rules}
-use Rattle.cdl_laws.proofs.Prelude.{signed_decimal, flat_map, list_all, option_map, flat_map-append, list_all-append, concat_parts, Att, Dim, NcType, Version, escaped_name, escaped_in_string, joined, dim_len_text, dim_line, unlimited_word, currently_word, att_line, att_text, chars_text, broken_text, string_break, without_trailing_nuls, IsName, number_suffix, is_char, has_type, Section, Dimensions, Variables, is_digit, scan, Lexeme, said_dim, IsBeforeData, globals, dimensions, variables, lexemes_at, Value, Number, Characters, DeclareDimensions, Attribute, each, both, constant, constants, assigned, shape, section_of, name_of, and_left, and_right, and_both, Each}
-use Rattle.cdl_laws.proofs.Texts.{Closed, Reads, closed_both, closed_by, mark, word, number, name_word}
-use Rattle.cdl_laws.proofs.Numerals.{number_reads, numeral_again, value_again, decimal_digits, on_suffix}
-use Rattle.cdl_laws.proofs.Strings.{quoted, string, string_closed}
-use Rattle.cdl_laws.proofs.ValueTexts.{comma, commas, constants_all, semicolon_closed}
-use Rattle.cdl_laws.proofs.Filled.{strings_said}
-use Rattle.cdl_laws.proofs.Takes.{Says, statement_says, semicolon, is_fine, word_fine}
+use Rattle.std.proofs.Common.{◌≡◌, ℕ, ◌^◌, ◌<◌, true, false, List, [], ◌∷◌, ◌++◌, map, sym, ◌∙◌, ap, refl, subst, arith, append_assoc, append-nil, ℤ, pos, unsigned_abs, decimal, ◌==◌, not, if◌then◌else◌, None, Some, codes, rules}
+use Rattle.cdl_laws.proofs.Prelude.{signed_decimal, flat_map, list_all, option_map, list_all-append, concat_parts, Att, Dim, NcType, Version, escaped_name, escaped_in_string, joined, dim_len_text, dim_line, unlimited_word, currently_word, att_line, att_text, chars_text, broken_text, string_break, without_trailing_nuls, IsName, number_suffix, is_char, has_type, Section, Dimensions, Variables, is_digit, Lexeme, said_dim, IsBeforeData, globals, dimensions, variables, Value, Number, Characters, DeclareDimensions, Attribute, both, constants, assigned, shape, and_left, and_right, and_both, Each, escaped_text, type_word, DeclareVariables, Variable, in_parentheses, any_each}
+use Rattle.cdl_laws.proofs.Texts.{Closed, Reads, closed_both, closed_by, mark, word, number, name_word, marks_closed, number_reads, stops}
+use Rattle.cdl_laws.proofs.Numerals.{numeral_again, value_again, decimal_digits, on_suffix, number_is, value_is}
+use Rattle.cdl_laws.proofs.Strings.{string}
+use Rattle.cdl_laws.proofs.ValueTexts.{commas, constants_say, AreSmall}
+use Rattle.cdl_laws.proofs.Characters.{strings_said, later_string, strings_closed}
+use Rattle.cdl_laws.proofs.Takes.{Says, statement_says, semicolon, is_fine, word_fine, all_fine}
 use Rattle.cdl_statements.specs.Shapes as shapes
-use Rattle.cdl_statements.proofs.Dues.{name_is}
-use Rattle.cdl_statements.proofs.Sections.{section_no_name}
-use Rattle.cdl_laws.proofs.Heads.{name_starts, bare_word, tab_closed, tabs_closed, is_closed, colon_closed, stop_closed, comment_closed, joined_reads, fine_commas, strings_fine}
+use Rattle.cdl_laws.proofs.Heads.{name_starts, bare_word, comment_closed, joined_reads, fine_commas, strings_fine, type_reads, type_starts, opens_none}
 
 -- ---- dimensions
 
@@ -24,7 +22,8 @@ records_comment n = list_all-append (λ b. not (b == 10)) (decimal n) (codes " c
 unlimited_rest : (n : ℕ) → Closed (codes " ; // (" ++ (decimal n ++ (codes " currently)\n" ++ []))) (semicolon ∷ [])
 unlimited_rest n =
     subst (λ bs. Closed bs (semicolon ∷ [])) (ap (λ bs. codes " ; // (" ++ bs) (append_assoc (decimal n) (codes " currently)") (10 ∷ [])))
-    (closed_both (codes " ; ") (47 ∷ 47 ∷ ((codes " (" ++ (decimal n ++ codes " currently)")) ++ 10 ∷ [])) (semicolon ∷ []) [] stop_closed
+    (closed_both (codes " ; ") (47 ∷ 47 ∷ ((codes " (" ++ (decimal n ++ codes " currently)")) ++ 10 ∷ [])) (semicolon ∷ []) []
+    (marks_closed (codes " ; ") refl)
     (comment_closed (codes " (" ++ (decimal n ++ codes " currently)")) (records_comment n)))
 
 -- the length as a lexeme
@@ -40,37 +39,31 @@ extent_closed n len h =
           (bare_word 85 (codes "NLIMITED") refl refl) (λ rest. refl) (unlimited_rest n))
       | false ↦ subst (λ bs. Closed bs (number (decimal len) ∷ semicolon ∷ [])) (sym (append-nil (decimal len ++ codes " ;\n")))
           (closed_by (decimal len) (codes " ;\n") (number (decimal len) ∷ []) (semicolon ∷ [])
-          (subst (λ bs. Reads bs (number bs ∷ [])) (append-nil (decimal len)) (number_reads (pos len) [] h refl)) (λ rest. refl) semicolon_closed)
+          (number_reads (decimal len) (value_is (pos len) h)) (λ rest. refl) (marks_closed (codes " ;\n") refl))
     ]
 
 dim_closed : (n : ℕ) (dim : Dim) → IsName dim.name → dim.len < 2 ^ 64 → Closed (dim_line n dim) (word (escaped_name dim.name) ∷ mark 61 ∷ extent_lexeme dim.len ∷ semicolon ∷ [])
 unfolding dim_line concat_parts
 dim_closed n dim name h =
-    closed_both (codes "\t") (escaped_name dim.name ++ (codes " = " ++ (dim_len_text n dim.len ++ []))) [] (word (escaped_name dim.name) ∷ mark 61 ∷ extent_lexeme dim.len ∷ semicolon ∷ []) tab_closed
+    closed_both (codes "\t") (escaped_name dim.name ++ (codes " = " ++ (dim_len_text n dim.len ++ []))) []
+    (word (escaped_name dim.name) ∷ mark 61 ∷ extent_lexeme dim.len ∷ semicolon ∷ []) (marks_closed (codes "\t") refl)
     (closed_by (escaped_name dim.name) (codes " = " ++ (dim_len_text n dim.len ++ [])) (word (escaped_name dim.name) ∷ []) (mark 61 ∷ extent_lexeme dim.len ∷ semicolon ∷ []) (name_word dim.name name).reads (λ rest. refl)
-    (closed_both (codes " = ") (dim_len_text n dim.len ++ []) (mark 61 ∷ []) (extent_lexeme dim.len ∷ semicolon ∷ []) is_closed (extent_closed n dim.len h)))
+    (closed_both (codes " = ") (dim_len_text n dim.len ++ []) (mark 61 ∷ []) (extent_lexeme dim.len ∷ semicolon ∷ [])
+    (marks_closed (codes " = ") refl) (extent_closed n dim.len h)))
 
 extent_fine : (v : Version) (len : ℕ) → len < 2 ^ 64 → is_fine v (extent_lexeme len) ≡ true
 extent_fine v len h = grind (arith, codes "UNLIMITED", decimal len, word_fine v (codes "UNLIMITED"), value_again v (pos len) h, pos len, word, number)
-
--- a name is the word of no section
-no_section : (l : Lexeme) (name : List ℕ) → name_of l ≡ Some name → is_some (section_of l) ≡ false
-no_section l name h = grind (arith, name_is l, section_no_name l)
 
 dim_listed : (v : Version) (dim : Dim) → IsName dim.name → dim.len < 2 ^ 64 → shapes.dimensions v (word (escaped_name dim.name) ∷ mark 61 ∷ extent_lexeme dim.len ∷ semicolon ∷ []) ≡ Some (said_dim dim ∷ [])
 dim_listed v dim name h =
     grind (arith, word (escaped_name dim.name), codes "UNLIMITED", decimal dim.len, pos dim.len, name_word dim.name name, value_again v (pos dim.len) h, number)
 
-dim_is : (v : Version) (dim : Dim) → IsName dim.name → dim.len < 2 ^ 64 → shape v Dimensions (word (escaped_name dim.name) ∷ mark 61 ∷ extent_lexeme dim.len ∷ semicolon ∷ []) ≡ Some (DeclareDimensions (said_dim dim ∷ []))
-unfolding shape
-dim_is v dim name h = rw (no_section (word (escaped_name dim.name)) dim.name (name_word dim.name name).stands) (ap (option_map DeclareDimensions) (dim_listed v dim name h))
-
 pub dim_says : (v : Version) (n : ℕ) (dim : Dim) → IsName dim.name → dim.len < 2 ^ 64 → Says v Dimensions (dim_line n dim) (DeclareDimensions (said_dim dim ∷ []))
+unfolding shape
 dim_says v n dim name h =
     statement_says v Dimensions (dim_line n dim) (word (escaped_name dim.name)) (mark 61 ∷ extent_lexeme dim.len ∷ []) (DeclareDimensions (said_dim dim ∷ []))
-    (dim_closed n dim name h) (name_starts dim.name name)
-    (and_both (is_fine v (word (escaped_name dim.name))) (list_all (is_fine v) (mark 61 ∷ extent_lexeme dim.len ∷ [])) (word_fine v (escaped_name dim.name)) (and_both (is_fine v (extent_lexeme dim.len)) true (extent_fine v dim.len h) refl))
-    (dim_is v dim name h)
+    (dim_closed n dim name h) (name_starts dim.name name) (grind (arith, and_both, word, word_fine, extent_fine v dim.len h))
+    (rw (opens_none (escaped_name dim.name) (name_word dim.name name).free) (ap (option_map DeclareDimensions) (dim_listed v dim name h)))
 
 -- ---- constants
 
@@ -78,12 +71,9 @@ dim_says v n dim name h =
 abbrev pub suffixed : NcType → ℤ → List ℕ
 suffixed ty n = signed_decimal n ++ number_suffix ty
 
-abbrev pub AreSmall : List ℤ → Type 0
-AreSmall xs = Each (λ x. unsigned_abs x < 2 ^ 64) xs
-
 suffixed_read : (ty : NcType) (xs : List ℤ) → AreSmall xs → Each (λ x. Reads (suffixed ty x) (number (suffixed ty x) ∷ [])) xs
 suffixed_read ty [] h = tt
-suffixed_read ty (x ∷ xs) h = (number_reads x (number_suffix ty) h.0 (on_suffix ty), suffixed_read ty xs h.1)
+suffixed_read ty (x ∷ xs) h = (number_reads (suffixed ty x) (number_is x (number_suffix ty) h.0 (on_suffix ty)), suffixed_read ty xs h.1)
 
 abbrev pub number_lexemes : NcType → List ℤ → List Lexeme
 number_lexemes ty xs = map (λ x. number (suffixed ty x)) xs
@@ -91,17 +81,11 @@ number_lexemes ty xs = map (λ x. number (suffixed ty x)) xs
 abbrev pub numbers_said : NcType → List ℤ → List Value
 numbers_said ty xs = map (λ x. Number (record { value = x; ty = ty })) xs
 
-numbers_each : (v : Version) (ty : NcType) (xs : List ℤ) → AreSmall xs → has_type v ty ≡ true → is_char ty ≡ false → each (constant v false) (number_lexemes ty xs) ≡ Some (numbers_said ty xs)
-numbers_each v ty [] fit h k = refl
-numbers_each v ty (x ∷ xs) fit h k = rw (numeral_again v ty x fit.0 h k) (ap (both (λ y ys. y ∷ ys) (Some (Number (record { value = x; ty = ty })))) (numbers_each v ty xs fit.1 h k))
-
 numbers_are : (v : Version) (ty : NcType) (x : ℤ) (xs : List ℤ) → AreSmall (x ∷ xs) → has_type v ty ≡ true → is_char ty ≡ false →
     constants v false (number (suffixed ty x) ∷ commas (number_lexemes ty xs) ++ semicolon ∷ []) ≡ Some (numbers_said ty (x ∷ xs))
-numbers_are v ty x xs fit h k = constants_all v false (number (suffixed ty x)) (number_lexemes ty xs) ∙ numbers_each v ty (x ∷ xs) fit h k
-
-numbers_fine : (v : Version) (ty : NcType) (xs : List ℤ) → AreSmall xs → has_type v ty ≡ true → is_char ty ≡ false → list_all (is_fine v) (number_lexemes ty xs) ≡ true
-numbers_fine v ty [] fit h k = refl
-numbers_fine v ty (x ∷ xs) fit h k = rw (numeral_again v ty x fit.0 h k) (numbers_fine v ty xs fit.1 h k)
+numbers_are v ty x xs fit h k =
+    constants_say v false (λ y. number (suffixed ty y)) (λ y. Number (record { value = y; ty = ty })) (λ y. unsigned_abs y < 2 ^ 64)
+    (λ y small. rw (numeral_again v ty y small h k) refl) x xs fit
 
 -- ---- strings that are broken after line feeds
 
@@ -122,43 +106,21 @@ unfolding first others
 all_bytes (b ∷ c ∷ bytes) = grind (arith, first, others, all_bytes (c ∷ bytes))
 all_bytes _ = refl
 
-abbrev esc : List ℕ → List ℕ
-esc bytes = flat_map escaped_in_string bytes
+broken_is : (bytes : List ℕ) → broken_text bytes ≡ escaped_text (first bytes) ++ flat_map (later_string (codes ",\n\t\t\t")) (others bytes)
+unfolding first others string_break escaped_text
+broken_is [] = refl
+broken_is (b ∷ []) = sym (append-nil (escaped_in_string b ++ []) ∙ append-nil (escaped_in_string b))
+broken_is (b ∷ c ∷ bytes) = grind (arith, first, others, append_assoc, append-nil, broken_is (c ∷ bytes))
 
-esc_more : (pre : List ℕ) (b : ℕ) → esc (pre ++ b ∷ []) ≡ esc pre ++ escaped_in_string b
-esc_more pre b = flat_map-append escaped_in_string pre (b ∷ []) ∙ ap (λ bs. esc pre ++ bs) (append-nil (escaped_in_string b))
-
-break_closed : Closed (codes ",\n\t\t\t") (comma ∷ [])
-unfolding lexemes_at scan
-break_closed rest = refl
-
-broken_here : (pre : List ℕ) (b : ℕ) (bytes : List ℕ) (l : Lexeme) (ls : List Lexeme) → Closed (34 ∷ (broken_text bytes ++ 34 ∷ [])) (l ∷ ls) →
-    Closed (34 ∷ (esc pre ++ ((escaped_in_string b ++ (string_break ++ broken_text bytes)) ++ 34 ∷ []))) (string (pre ++ b ∷ []) ∷ comma ∷ l ∷ ls)
-unfolding string_break
-broken_here pre b bytes l ls ih =
-    let e = escaped_in_string b in
-    let t = broken_text bytes in
-    let x = codes ",\n\t\t\t" ++ 34 ∷ (t ++ 34 ∷ []) in
-    subst (λ bs. Closed (34 ∷ bs) (string (pre ++ b ∷ []) ∷ comma ∷ l ∷ ls))
-    (append_assoc (esc (pre ++ b ∷ [])) (34 ∷ []) x ∙ ap (λ bs. bs ++ 34 ∷ x) (esc_more pre b) ∙ append_assoc (esc pre) e (34 ∷ x) ∙
-    ap (λ bs. esc pre ++ bs) (sym (append_assoc e (string_break ++ t) (34 ∷ []))))
-    (closed_both (quoted (pre ++ b ∷ [])) x (string (pre ++ b ∷ []) ∷ []) (comma ∷ l ∷ ls) (string_closed (pre ++ b ∷ []))
-    (closed_both (codes ",\n\t\t\t") (34 ∷ (t ++ 34 ∷ [])) (comma ∷ []) (l ∷ ls) break_closed ih))
-
--- after the bytes of a string that is open
-broken_closed : (pre bytes : List ℕ) → Closed (34 ∷ (esc pre ++ (broken_text bytes ++ 34 ∷ []))) (string (pre ++ first bytes) ∷ commas (map string (others bytes)))
-unfolding first others
-broken_closed pre [] = subst (λ bs. Closed (quoted pre) (string bs ∷ [])) (sym (append-nil pre)) (string_closed pre)
-broken_closed pre (b ∷ []) = search (rules, append_assoc, string_closed, flat_map-append, append-nil)
-broken_closed pre (b ∷ c ∷ bytes) =
-    let e = escaped_in_string b in
-    let t = broken_text (c ∷ bytes) in
-    elim (b == 10) as (λ w. (b == 10) ≡ w → Closed (34 ∷ (esc pre ++ ((e ++ ((if w then string_break else []) ++ t)) ++ 34 ∷ []))) (string (pre ++ (if w then b ∷ [] else b ∷ first (c ∷ bytes))) ∷ commas (map string (if w then first (c ∷ bytes) ∷ others (c ∷ bytes) else others (c ∷ bytes))))) [
-      | true ↦ (λ h. broken_here pre b (c ∷ bytes) (string (first (c ∷ bytes))) (commas (map string (others (c ∷ bytes)))) (broken_closed [] (c ∷ bytes)))
-      | false ↦ (λ h. subst (λ bs. Closed (34 ∷ bs) (string (pre ++ b ∷ first (c ∷ bytes)) ∷ commas (map string (others (c ∷ bytes)))))
-          (ap (λ bs. bs ++ (t ++ 34 ∷ [])) (esc_more pre b) ∙ append_assoc (esc pre) e (t ++ 34 ∷ []) ∙ ap (λ bs. esc pre ++ bs) (sym (append_assoc e t (34 ∷ []))))
-          (subst (λ bs. Closed (34 ∷ (esc (pre ++ b ∷ []) ++ (t ++ 34 ∷ []))) (string bs ∷ commas (map string (others (c ∷ bytes))))) (append_assoc pre (b ∷ []) (first (c ∷ bytes))) (broken_closed (pre ++ b ∷ []) (c ∷ bytes))))
-    ] refl
+broken_closed : (bytes : List ℕ) → Closed (34 ∷ (broken_text bytes ++ 34 ∷ [])) (string (first bytes) ∷ commas (map string (others bytes)))
+broken_closed bytes =
+    let gap = codes ",\n\t\t\t" in
+    let f = escaped_text (first bytes) in
+    let more = flat_map (later_string gap) (others bytes) in
+    subst (λ ls. Closed (34 ∷ (broken_text bytes ++ 34 ∷ [])) (string (first bytes) ∷ ls)) (append-nil (commas (map string (others bytes))))
+    (subst (λ bs. Closed (34 ∷ bs) (string (first bytes) ∷ (commas (map string (others bytes)) ++ [])))
+    (sym (append_assoc f more (34 ∷ [])) ∙ ap (λ bs. bs ++ 34 ∷ []) (sym (broken_is bytes)))
+    (strings_closed gap [] [] (marks_closed gap refl) (λ rest. refl) (first bytes) (others bytes)))
 
 -- ---- attributes
 
@@ -177,7 +139,7 @@ chars_list v vals =
     record {
       l = string (first bytes);
       ls = map string (others bytes);
-      reads = λ rest h. broken_closed [] bytes rest;
+      reads = λ rest h. broken_closed bytes rest;
       fine = strings_fine v (first bytes ∷ others bytes);
       are = strings_said v false (first bytes) (others bytes);
     }
@@ -187,7 +149,8 @@ numbers_list v ty x xs fit h k = record {
   l = number (suffixed ty x);
   ls = number_lexemes ty xs;
   reads = joined_reads (suffixed ty) (λ y. number (suffixed ty y)) x xs (suffixed_read ty (x ∷ xs) fit);
-  fine = numbers_fine v ty (x ∷ xs) fit h k;
+  fine = all_fine v (λ y. number (suffixed ty y)) (λ y. unsigned_abs y < 2 ^ 64)
+      (λ y small. rw (numeral_again v ty y small h k) refl) (x ∷ xs) fit;
   are = numbers_are v ty x xs fit h k;
 }
 
@@ -199,10 +162,12 @@ att_closed : (v : Version) (att : Att) (said : List Value) (list : IsListOf v (a
     Closed (rest_of_att att) (mark 58 ∷ word (escaped_name att.name) ∷ mark 61 ∷ (list.l ∷ commas list.ls ++ semicolon ∷ []))
 att_closed v att said list name =
     let tail = list.l ∷ commas list.ls ++ semicolon ∷ [] in
-    closed_both (codes ":") (escaped_name att.name ++ (codes " = " ++ (att_text att.ty att.vals ++ (codes " ;\n" ++ [])))) (mark 58 ∷ []) (word (escaped_name att.name) ∷ mark 61 ∷ tail) colon_closed
+    closed_both (codes ":") (escaped_name att.name ++ (codes " = " ++ (att_text att.ty att.vals ++ (codes " ;\n" ++ [])))) (mark 58 ∷ [])
+    (word (escaped_name att.name) ∷ mark 61 ∷ tail) (marks_closed (codes ":") refl)
     (closed_by (escaped_name att.name) (codes " = " ++ (att_text att.ty att.vals ++ (codes " ;\n" ++ []))) (word (escaped_name att.name) ∷ []) (mark 61 ∷ tail) (name_word att.name name).reads (λ rest. refl)
-    (closed_both (codes " = ") (att_text att.ty att.vals ++ (codes " ;\n" ++ [])) (mark 61 ∷ []) tail is_closed
-    (closed_by (att_text att.ty att.vals) (codes " ;\n" ++ []) (list.l ∷ commas list.ls) (semicolon ∷ []) list.reads (λ rest. refl) semicolon_closed)))
+    (closed_both (codes " = ") (att_text att.ty att.vals ++ (codes " ;\n" ++ [])) (mark 61 ∷ []) tail (marks_closed (codes " = ") refl)
+    (closed_by (att_text att.ty att.vals) (codes " ;\n" ++ []) (list.l ∷ commas list.ls) (semicolon ∷ []) list.reads (λ rest. refl)
+    (marks_closed (codes " ;\n") refl))))
 
 att_fine : (v : Version) (att : Att) (said : List Value) (list : IsListOf v (att_text att.ty att.vals) said) → list_all (is_fine v) (mark 58 ∷ word (escaped_name att.name) ∷ mark 61 ∷ list.l ∷ commas list.ls) ≡ true
 att_fine v att said list = grind (arith, and_both, word, word_fine, and_left, fine_commas, and_right)
@@ -222,21 +187,116 @@ pub global_says : (v : Version) (section : Section) (att : Att) (said : List Val
 unfolding att_line concat_parts
 global_says v section att said before list name =
     statement_says v section (codes "\t\t" ++ rest_of_att att) (mark 58) (word (escaped_name att.name) ∷ mark 61 ∷ list.l ∷ commas list.ls) (Attribute None att.name said)
-    (closed_both (codes "\t\t") (rest_of_att att) [] (mark 58 ∷ word (escaped_name att.name) ∷ mark 61 ∷ (list.l ∷ commas list.ls ++ semicolon ∷ [])) tabs_closed (att_closed v att said list name))
+    (closed_both (codes "\t\t") (rest_of_att att) []
+    (mark 58 ∷ word (escaped_name att.name) ∷ mark 61 ∷ (list.l ∷ commas list.ls ++ semicolon ∷ [])) (marks_closed (codes "\t\t") refl)
+    (att_closed v att said list name))
     refl (att_fine v att said list)
     (global_in v section (word (escaped_name att.name) ∷ mark 61 ∷ list.l ∷ commas list.ls ++ semicolon ∷ []) before ∙ assigned_is v (Attribute None) att said list name)
 
 -- of a variable
-owned_is : (v : Version) (owner : List ℕ) (ls : List Lexeme) → IsName owner → shape v Variables (word (escaped_name owner) ∷ mark 58 ∷ ls) ≡ assigned v false (Attribute (Some owner)) ls
-unfolding shape
-owned_is v owner ls own = rw ((name_word owner own).stands) refl
-
 pub owned_says : (v : Version) (owner : List ℕ) (att : Att) (said : List Value) → IsListOf v (att_text att.ty att.vals) said → IsName owner → IsName att.name → Says v Variables (att_line (escaped_name owner) att) (Attribute (Some owner) att.name said)
-unfolding att_line concat_parts
+unfolding att_line concat_parts shape
 owned_says v owner att said list own name =
     statement_says v Variables (codes "\t\t" ++ (escaped_name owner ++ rest_of_att att)) (word (escaped_name owner)) (mark 58 ∷ word (escaped_name att.name) ∷ mark 61 ∷ list.l ∷ commas list.ls) (Attribute (Some owner) att.name said)
-    (closed_both (codes "\t\t") (escaped_name owner ++ rest_of_att att) [] (word (escaped_name owner) ∷ mark 58 ∷ word (escaped_name att.name) ∷ mark 61 ∷ (list.l ∷ commas list.ls ++ semicolon ∷ [])) tabs_closed
+    (closed_both (codes "\t\t") (escaped_name owner ++ rest_of_att att) []
+    (word (escaped_name owner) ∷ mark 58 ∷ word (escaped_name att.name) ∷ mark 61 ∷ (list.l ∷ commas list.ls ++ semicolon ∷ []))
+    (marks_closed (codes "\t\t") refl)
     (closed_by (escaped_name owner) (rest_of_att att) (word (escaped_name owner) ∷ []) (mark 58 ∷ word (escaped_name att.name) ∷ mark 61 ∷ (list.l ∷ commas list.ls ++ semicolon ∷ [])) (name_word owner own).reads (λ rest. refl) (att_closed v att said list name)))
     (name_starts owner own)
     (and_both (is_fine v (word (escaped_name owner))) (list_all (is_fine v) (mark 58 ∷ word (escaped_name att.name) ∷ mark 61 ∷ list.l ∷ commas list.ls)) (word_fine v (escaped_name owner)) (att_fine v att said list))
-    (owned_is v owner (word (escaped_name att.name) ∷ mark 61 ∷ list.l ∷ commas list.ls ++ semicolon ∷ []) own ∙ assigned_is v (Attribute (Some owner)) att said list name)
+    ((rw ((name_word owner own).stands) refl) ∙ assigned_is v (Attribute (Some owner)) att said list name)
+
+-- ---- the declaration of a variable
+
+abbrev pub AreNames : List (List ℕ) → Type 0
+AreNames names = Each IsName names
+
+-- the text of a shape of dimensions with these names
+unfoldable pub shape_of : List (List ℕ) → List ℕ
+shape_of [] = []
+shape_of (n ∷ ns) = concat_parts (codes "(" ∷ joined (map escaped_name (n ∷ ns)) ∷ codes ")" ∷ [])
+
+-- the line of a declaration
+unfoldable pub typed_line : List ℕ → List ℕ → List ℕ → List ℕ
+typed_line ty name shape = concat_parts (codes "\t" ∷ ty ∷ codes " " ∷ escaped_name name ∷ shape ∷ codes " ;\n" ∷ [])
+
+abbrev pub name_lexemes : List (List ℕ) → List Lexeme
+name_lexemes names = map (λ name. word (escaped_name name)) names
+
+names_read : (names : List (List ℕ)) → AreNames names → Each (λ name. Reads (escaped_name name) (word (escaped_name name) ∷ [])) names
+names_read [] h = tt
+names_read (name ∷ names) h = ((name_word name h.0).reads, names_read names h.1)
+
+-- ---- the shape
+
+abbrev inner_lexemes : List ℕ → List (List ℕ) → List Lexeme
+inner_lexemes n ns = word (escaped_name n) ∷ commas (name_lexemes ns)
+
+abbrev shape_lexemes : List (List ℕ) → List Lexeme
+shape_lexemes [] = []
+shape_lexemes (n ∷ ns) = mark 40 ∷ (inner_lexemes n ns ++ mark 41 ∷ [])
+
+shape_closed : (names : List (List ℕ)) → AreNames names → Closed (shape_of names) (shape_lexemes names)
+unfolding shape_of concat_parts
+shape_closed [] all = λ rest. refl
+shape_closed (n ∷ ns) all =
+    let inner = joined (map escaped_name (n ∷ ns)) in
+    closed_both (codes "(") (inner ++ (codes ")" ++ [])) (mark 40 ∷ []) (inner_lexemes n ns ++ mark 41 ∷ []) (marks_closed (codes "(") refl)
+    (closed_by inner (codes ")" ++ []) (inner_lexemes n ns) (mark 41 ∷ [])
+    (joined_reads escaped_name (λ m. word (escaped_name m)) n ns (names_read (n ∷ ns) all))
+    (λ rest. refl) (marks_closed (codes ")") refl))
+
+shape_stops : (names : List (List ℕ)) (rest : List ℕ) → stops ((shape_of names ++ (codes " ;\n" ++ [])) ++ rest) ≡ true
+unfolding shape_of concat_parts
+shape_stops [] rest = refl
+shape_stops (n ∷ ns) rest = refl
+
+shape_fine : (v : Version) (names : List (List ℕ)) → list_all (is_fine v) (shape_lexemes names) ≡ true
+shape_fine v [] = refl
+shape_fine v (n ∷ ns) =
+    let others = all_fine v (λ m. word (escaped_name m)) (λ m. Unit {0}) (λ m u. word_fine v (escaped_name m)) ns (any_each ns) in
+    search (rules, list_all-append, and_both, word_fine, fine_commas, others)
+
+-- ---- a declaration
+
+line_closed : (ty : NcType) (name : List ℕ) (names : List (List ℕ)) → IsName name → AreNames names →
+    Closed (typed_line (type_word ty) name (shape_of names))
+    (word (type_word ty) ∷ word (escaped_name name) ∷ (shape_lexemes names ++ semicolon ∷ []))
+unfolding typed_line concat_parts
+line_closed ty name names h all =
+    let end = codes " ;\n" ++ [] in
+    let shape = shape_of names in
+    let ls = shape_lexemes names ++ semicolon ∷ [] in
+    let named = word (escaped_name name) ∷ ls in
+    closed_both (codes "\t") (type_word ty ++ (codes " " ++ (escaped_name name ++ (shape ++ end)))) [] (word (type_word ty) ∷ named)
+    (marks_closed (codes "\t") refl)
+    (closed_by (type_word ty) (codes " " ++ (escaped_name name ++ (shape ++ end))) (word (type_word ty) ∷ []) named (type_reads ty)
+    (λ rest. refl)
+    (closed_both (codes " ") (escaped_name name ++ (shape ++ end)) [] named (marks_closed (codes " ") refl)
+    (closed_by (escaped_name name) (shape ++ end) (word (escaped_name name) ∷ []) ls (name_word name h).reads (shape_stops names)
+    (closed_both shape end (shape_lexemes names) (semicolon ∷ []) (shape_closed names all) (marks_closed (codes " ;\n") refl)))))
+
+two_fine : (v : Version) (a b : List ℕ) (ls : List Lexeme) → list_all (is_fine v) ls ≡ true → list_all (is_fine v) (word a ∷ word b ∷ ls) ≡ true
+two_fine v a b ls h = and_both (is_fine v (word a)) (list_all (is_fine v) (word b ∷ ls)) (word_fine v a) (and_both (is_fine v (word b)) (list_all (is_fine v) ls) (word_fine v b) h)
+
+names_in : (f : List (List ℕ) → Variable) (n : List ℕ) (ns : List (List ℕ)) → AreNames (n ∷ ns) →
+    in_parentheses f ((inner_lexemes n ns ++ mark 41 ∷ []) ++ semicolon ∷ []) ≡ Some (f (n ∷ ns) ∷ [])
+names_in f n [] h = rw ((name_word n h.0).stands) refl
+names_in f n (m ∷ ns) h = rw ((name_word n h.0).stands) (names_in (λ ds. f (n ∷ ds)) m ns h.1)
+
+line_is : (v : Version) (ty : NcType) (name : List ℕ) (names : List (List ℕ)) → IsName name → AreNames names →
+    shape v Variables (word (type_word ty) ∷ word (escaped_name name) ∷ (shape_lexemes names ++ semicolon ∷ [])) ≡ Some
+    (DeclareVariables (word (type_word ty)) (record { name = name; dimensions = names } ∷ []))
+unfolding shape
+line_is v ty name [] h all = rw ((name_word name h).stands) refl
+line_is v ty name (n ∷ ns) h all = rw ((name_word name h).stands)
+    (ap (option_map (DeclareVariables (word (type_word ty)))) (names_in (λ ds. record { name = name; dimensions = ds }) n ns all))
+
+pub typed_says : (v : Version) (ty : NcType) (name : List ℕ) (names : List (List ℕ)) → IsName name → AreNames names →
+    Says v Variables (typed_line (type_word ty) name (shape_of names)) (DeclareVariables (word (type_word ty)) (record { name = name; dimensions = names } ∷ []))
+typed_says v ty name names h all =
+    statement_says v Variables (typed_line (type_word ty) name (shape_of names)) (word (type_word ty))
+    (word (escaped_name name) ∷ shape_lexemes names)
+    (DeclareVariables (word (type_word ty)) (record { name = name; dimensions = names } ∷ []))
+    (line_closed ty name names h all) (type_starts ty)
+    (two_fine v (type_word ty) (escaped_name name) (shape_lexemes names) (shape_fine v names)) (line_is v ty name names h all)

@@ -1,30 +1,21 @@
 -- A full dump is read back.
 use Rattle.std.proofs.Common.{◌≡◌, ℕ, true, false, List, [], ◌∷◌, ◌++◌, length, map, ◌∙◌, ap, refl, append_assoc, append-nil, ◌||◌, ◌==◌, if◌then◌else◌, Option, None, Ok, codes, arith, rules}
-use Rattle.cdl_laws.proofs.Prelude.{DataText, variables_text, concat_parts, Dataset, Att, Dim, Header, Var, Version, Options, VariableValues, dump_text, shown_data_text, values_in_dataset, shown_data, selection_of, is_selected, data_word, closing_word, escaped_name, head_text, netcdf_word, dims_text, vars_text, gatts_text, Globals, Variables, Values, Ended, meaning, piece_read, empty, finished, are_within_limits, dataset_of, cut_lexemes, lexemes, pieces_of, IsFull, trimmed, trimmed_att, Listing, in_turn, not_none, Each}
-use Rattle.cdl_laws.proofs.Takes.{is_open}
+use Rattle.cdl_laws.proofs.Prelude.{DataText, variables_text, concat_parts, Dataset, Att, Header, Var, Version, Options, VariableValues, dump_text, shown_data_text, values_in_dataset, shown_data, selection_of, is_selected, data_word, closing_word, head_text, netcdf_word, dims_text, vars_text, gatts_text, Globals, Variables, Values, Ended, meaning, piece_read, empty, finished, are_within_limits, dataset_of, cut_lexemes, lexemes, pieces_of, IsFull, trimmed, trimmed_att, Listing, in_turn, not_none, Each}
 use Rattle.cdl_laws.proofs.Acts.{AreDistinctDims, HaveNames}
 use Rattle.cdl_laws.proofs.Wholes.{state, AreNewDims, Speaks, AreNewAtts, AreFit, draft_of}
 use Rattle.cdl_laws.proofs.DataTexts.{AreGiven, given_drafts, all_marked, data_taken, data_whole}
 use Rattle.cdl_laws.proofs.Ends.{opening_bytes, opened, dims_part, vars_part, gatts_part, data_mark, end_taken, after_dims, after_vars}
 use Rattle.cdl_laws.proofs.Lines.{pieces_are, run_is}
 
--- the parts of a dump
-regroup : (e d w g m s c : List ℕ) →
-    (codes "netcdf " ++ (e ++ (codes " {\n" ++ (d ++ (w ++ (g ++ [])))))) ++ (m ++ (s ++ (c ++ []))) ≡ (codes "netcdf " ++ (e ++ codes " {")) ++ 10 ∷ (d ++ (w ++ (g ++ (m ++ (s ++ c)))))
-regroup e d w g m s c = search (rules, codes, append_assoc, append-nil)
-
 dump_is : (h : Header) (o : Options) (n : ℕ) (section : DataText) →
     dump_text h o n section ≡ opening_bytes o.name ++ 10 ∷ (dims_text n h.dims ++ (vars_text h.dims h.vars ++ (gatts_text h.gatts ++ (data_word h o ++ (section.text ++ closing_word section.ending)))))
 unfolding concat_parts head_text netcdf_word
-dump_is h o n section = regroup (escaped_name o.name) (dims_text n h.dims) (vars_text h.dims h.vars) (gatts_text h.gatts) (data_word h o) section.text (closing_word section.ending)
+dump_is h o n section = search (rules, codes, append_assoc, append-nil)
 
 -- all variables are selected
 selected : (h : Header) (o : Options) (vars : List Var) → o.chosen ≡ None → o.coords ≡ false → map (is_selected h o) vars ≡ all_marked vars
 selected h o [] c d = refl
 selected h o (var ∷ vars) c d = search (rules, selected h o vars c d)
-
-shown_is : (h : Header) (o : Options) (content : ℕ → Var → VariableValues) (n : ℕ) → IsFull o → shown_data_text h o content n (selection_of h o) ≡ variables_text (shown_data h content n o.width) 0 h.vars (all_marked h.vars)
-shown_is h o content n full = grind (arith, selected h o h.vars full.chosen full.coords)
 
 -- after the head
 data_read : (v : Version) (h : Header) (o : Options) (content : ℕ → Var → VariableValues) (n : ℕ) (gatts : List Att) (os : List (Option Listing)) → IsFull o → (vars : List Var) → h.vars ≡ vars → AreGiven v h content n o.width 0 [] vars os →
@@ -32,11 +23,7 @@ data_read : (v : Version) (h : Header) (o : Options) (content : ℕ → Var → 
 unfolding data_word
 data_read v h o content n gatts os full [] none given =
     rw (none) (ap (λ b. in_turn (piece_read v) (state (after_dims h.dims) h.dims gatts []) (pieces_of ((if b || true then [] else codes "data:\n") ++ codes "}\n"))) full.values ∙
-    end_taken v (after_dims h.dims) h.dims gatts [] (opens h.dims))
-  where
-    opens : (dims : List Dim) → is_open (after_dims dims) ≡ true
-    opens [] = refl
-    opens (d ∷ dims) = refl
+    end_taken v (after_dims h.dims) h.dims gatts [] (grind arith))
 data_read v h o content n gatts os full (var ∷ vars) some given =
     let values = (variables_text (shown_data h content n o.width) 0 (var ∷ vars) (all_marked (var ∷ vars))).text in
     let word : data_word h o ≡ codes "data:\n" = ap (λ b. if b || (length h.vars == 0) then [] else codes "data:\n") full.values ∙ ap (λ (ws : List Var). if length ws == 0 then [] else codes "data:\n") some ∙ ap (λ b. if b then [] else codes "data:\n") (not_none (length vars)) in
@@ -66,7 +53,8 @@ unfolding closing_word
 state_read d o n os full ready section is =
     let h = d.header in
     let v = h.version in
-    let section_is : section ≡ variables_text (shown_data h (values_in_dataset d) n o.width) 0 h.vars (all_marked h.vars) = is ∙ shown_is h o (values_in_dataset d) n full in
+    let section_is : section ≡ variables_text (shown_data h (values_in_dataset d) n o.width) 0 h.vars (all_marked h.vars) = is ∙
+    (grind (arith, selected h o h.vars full.chosen full.coords)) in
     let values = (variables_text (shown_data h (values_in_dataset d) n o.width) 0 h.vars (all_marked h.vars)).text in
     let tail = data_word h o ++ (values ++ codes "}\n") in
     let closes : closing_word section.ending ≡ codes "}\n" = ap (λ (s : DataText). closing_word s.ending) section_is ∙ ap closing_word (data_whole v h (values_in_dataset d) n o.width 0 [] h.vars os ready.given) in

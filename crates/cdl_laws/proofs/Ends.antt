@@ -1,11 +1,10 @@
 -- The opening, the section marks and the closing brace of a dump.
-use Rattle.std.proofs.Common.{◌≡◌, ℕ, ◌+◌, true, false, List, [], ◌∷◌, ◌++◌, length, map, sym, ◌∙◌, ap, refl, subst, arith, append_assoc, append-nil, length-append, ◌==◌, Some, Ok, codes, rules}
+use Rattle.std.proofs.Common.{◌≡◌, ℕ, ◌+◌, true, false, List, [], ◌∷◌, ◌++◌, length, map, sym, ◌∙◌, ap, refl, subst, arith, append_assoc, append-nil, length-append, ◌==◌, Some, Ok, codes, rules, if◌then◌else◌, suc}
 use Rattle.cdl_laws.proofs.Prelude.{false≢true, eqb-true, concat_parts, Att, Dim, Var, Version, escaped_name, is_reserved, name_of, is_plain, dim_line, dim_lines, dims_text, att_line, att_lines, var_lines, vars_text, gatts_text, dimensions_word, variables_word, global_word, IsName, Section, Globals, Dimensions, Variables, Values, Ended, scan, word_len, len_until, Lexeme, piece_read, empty, pieces_at, is_section, cut_lexemes, lexemes_at, lexemes, pieces_of, trimmed_att, Enter, shape, State, Draft, act, in_turn, IsBeforeData, globals, dimensions, variables, and_left, until_at_start, lt-ltb, not_none, Each}
 use Rattle.cdl_tokens.specs.declared.token.TokenKind.TheVariants as kinds
-use Rattle.cdl_laws.proofs.NameTexts.{rest_of, Begins, marked, bare, begins}
-use Rattle.cdl_laws.proofs.Texts.{mark, word, prefix_again, some_name}
+use Rattle.cdl_laws.proofs.NameTexts.{rest_of, marked, bare, begins}
+use Rattle.cdl_laws.proofs.Texts.{mark, word, prefix_again, some_name, marks_closed}
 use Rattle.cdl_laws.proofs.ValueTexts.{turn}
-use Rattle.cdl_laws.proofs.Heads.{feed_closed}
 use Rattle.cdl_laws.proofs.Strings.{until_plain}
 use Rattle.cdl_laws.proofs.Takes.{Takes, Says, says_takes, takes_both, takes_nothing, is_open}
 use Rattle.cdl_laws.proofs.Acts as acts
@@ -17,17 +16,9 @@ pub dimensions_says : (v : Version) → Says v Globals dimensions_word (Enter Di
 unfolding dimensions_word lexemes_at scan word_len pieces_at is_section shape
 dimensions_says v = record { piece = word (codes "dimensions") ∷ mark 58 ∷ []; reads = λ rest. refl; cut = λ rest. refl; sound = refl; shaped = refl }
 
-pub variables_says : (v : Version) (section : Section) → IsBeforeData section → shape v section (word (codes "variables") ∷ mark 58 ∷ []) ≡ Some (Enter Variables) → Says v section variables_word (Enter Variables)
-unfolding variables_word lexemes_at scan word_len pieces_at is_section shape
-variables_says v section before h = record { piece = word (codes "variables") ∷ mark 58 ∷ []; reads = λ rest. refl; cut = λ rest. refl; sound = refl; shaped = h }
-
 pub data_says : (v : Version) → Says v Variables (codes "data:\n") (Enter Values)
 unfolding name_of is_reserved lexemes_at scan word_len pieces_at is_section shape
 data_says v = record { piece = word (codes "data") ∷ mark 58 ∷ []; reads = λ rest. refl; cut = λ rest. refl; sound = refl; shaped = refl }
-
-mark_act : (v : Version) (from to : Section) (dims : List Dim) (gatts : List Att) (drafts : List Draft) → act v (state from dims gatts drafts) (Enter to) ≡ Ok (state to dims gatts drafts)
-unfolding act
-mark_act v from to dims gatts drafts = refl
 
 -- ---- the head's parts
 
@@ -39,48 +30,49 @@ abbrev pub after_vars : Section → List Var → Section
 after_vars section [] = section
 after_vars section (var ∷ vars) = Variables
 
-two_texts : (a b : List ℕ) → concat_parts (a ∷ b ∷ []) ≡ a ++ b
+-- the word of a section, and its lines
+headed : (v : Version) (head : List ℕ) (lines : List (List ℕ)) (n : ℕ) (s t u : State) → Takes v head s t →
+    Takes v (concat_parts lines) t u →
+    Takes v (if suc n == 0 then [] else concat_parts (head ∷ concat_parts lines ∷ [])) s u
 unfolding concat_parts
-two_texts a b = ap (λ bs. a ++ bs) (append-nil b)
+headed v head lines n s t u p q =
+    rw (not_none n) (subst (λ bs. Takes v (head ++ bs) s u) (sym (append-nil (concat_parts lines)))
+    (takes_both v head (concat_parts lines) s t u p q))
 
 pub dims_part : (v : Version) (n : ℕ) (dims : List Dim) (gatts : List Att) (drafts : List Draft) → AreNewDims v [] dims →
     Takes v (dims_text n dims) (state Globals [] gatts drafts) (state (after_dims dims) dims gatts drafts)
-unfolding dims_text dim_lines
+unfolding dims_text dim_lines act
 dims_part v n [] gatts drafts h = takes_nothing v (state Globals [] gatts drafts)
 dims_part v n (d ∷ dims) gatts drafts h =
-    rw (not_none (length dims)) (subst (λ bs. Takes v bs (state Globals [] gatts drafts) (state Dimensions (d ∷ dims) gatts drafts)) (sym (two_texts dimensions_word (concat_parts (map (dim_line n) (d ∷ dims)))))
-    (takes_both v dimensions_word (concat_parts (map (dim_line n) (d ∷ dims))) (state Globals [] gatts drafts) (state Dimensions [] gatts drafts) (state Dimensions (d ∷ dims) gatts drafts)
-    (says_takes v dimensions_word (Enter Dimensions) (state Globals [] gatts drafts) (state Dimensions [] gatts drafts) (dimensions_says v) (mark_act v Globals Dimensions [] gatts drafts))
-    (dims_taken v n [] (d ∷ dims) gatts drafts h)))
+    let in_dims : List Dim → State = λ done. state Dimensions done gatts drafts in
+    headed v dimensions_word (map (dim_line n) (d ∷ dims)) (length dims) (state Globals [] gatts drafts) (in_dims []) (in_dims (d ∷ dims))
+    (says_takes v dimensions_word (Enter Dimensions) (state Globals [] gatts drafts) (in_dims []) (dimensions_says v) refl)
+    (dims_taken v n (d ∷ dims) gatts drafts h)
 
 before_of : (dims : List Dim) → IsBeforeData (after_dims dims)
 before_of [] = globals
 before_of (d ∷ dims) = dimensions
 
-variables_shape : (v : Version) (dims : List Dim) → shape v (after_dims dims) (word (codes "variables") ∷ mark 58 ∷ []) ≡ Some (Enter Variables)
-unfolding shape
-variables_shape v dims = grind arith
+pub variables_says : (v : Version) (dims : List Dim) → Says v (after_dims dims) variables_word (Enter Variables)
+unfolding variables_word lexemes_at scan word_len pieces_at is_section shape
+variables_says v dims =
+    record { piece = word (codes "variables") ∷ mark 58 ∷ []; reads = λ rest. refl; cut = λ rest. refl; sound = refl; shaped = grind arith }
 
 pub vars_part : (v : Version) (dims : List Dim) (vars : List Var) (gatts : List Att) → acts.AreDistinctDims dims → acts.HaveNames dims → AreFit v dims [] vars →
     Takes v (vars_text dims vars) (state (after_dims dims) dims gatts []) (state (after_vars (after_dims dims) vars) dims gatts (map draft_of vars))
-unfolding vars_text
+unfolding vars_text act
 vars_part v dims [] gatts distinct names fit = takes_nothing v (state (after_dims dims) dims gatts [])
 vars_part v dims (var ∷ vars) gatts distinct names fit =
     let s = state (after_dims dims) dims gatts [] in
     let t = state Variables dims gatts [] in
-    let u = state Variables dims gatts (map draft_of (var ∷ vars)) in
-    rw (not_none (length vars)) (subst (λ bs. Takes v bs s u) (sym (two_texts variables_word (concat_parts (map (var_lines dims) (var ∷ vars)))))
-    (takes_both v variables_word (concat_parts (map (var_lines dims) (var ∷ vars))) s t u
-    (says_takes v variables_word (Enter Variables) s t (variables_says v (after_dims dims) (before_of dims) (variables_shape v dims)) (mark_act v (after_dims dims) Variables dims gatts []))
-    (vars_taken v dims gatts [] (var ∷ vars) distinct names fit)))
-
-before_vars : (dims : List Dim) (vars : List Var) → IsBeforeData (after_vars (after_dims dims) vars)
-before_vars dims vars = grind (arith, before_of, variables)
+    headed v variables_word (map (var_lines dims) (var ∷ vars)) (length vars) s t (state Variables dims gatts (map draft_of (var ∷ vars)))
+    (says_takes v variables_word (Enter Variables) s t (variables_says v dims) refl)
+    (vars_taken v dims gatts (var ∷ vars) distinct names fit)
 
 -- the line before global attributes is a comment
-global_word_taken : (v : Version) (s : State) → Takes v global_word s s
+pub comment_back : (rest : List ℕ) → pieces_of (global_word ++ rest) ≡ pieces_of rest
 unfolding pieces_of global_word lexemes_at scan
-global_word_taken v s rest = refl
+comment_back rest = refl
 
 pub gatts_part : (v : Version) (dims : List Dim) (vars : List Var) (gatts : List Att) (drafts : List Draft) → Each (Speaks v) gatts → AreNewAtts [] gatts →
     Takes v (gatts_text gatts) (state (after_vars (after_dims dims) vars) dims [] drafts) (state (after_vars (after_dims dims) vars) dims (map trimmed_att gatts) drafts)
@@ -88,13 +80,15 @@ unfolding gatts_text att_lines
 gatts_part v dims vars [] drafts speak new = takes_nothing v (state (after_vars (after_dims dims) vars) dims [] drafts)
 gatts_part v dims vars (a ∷ gatts) drafts speak new =
     let s = state (after_vars (after_dims dims) vars) dims [] drafts in
-    let t = state (after_vars (after_dims dims) vars) dims (map trimmed_att (a ∷ gatts)) drafts in
-    rw (not_none (length gatts)) (subst (λ bs. Takes v bs s t) (sym (two_texts global_word (concat_parts (map (att_line []) (a ∷ gatts)))))
-    (takes_both v global_word (concat_parts (map (att_line []) (a ∷ gatts))) s s t (global_word_taken v s)
-    (globals_taken v (after_vars (after_dims dims) vars) dims [] (a ∷ gatts) drafts (before_vars dims vars) speak new)))
+    headed v global_word (map (att_line []) (a ∷ gatts)) (length gatts) s s
+    (state (after_vars (after_dims dims) vars) dims (map trimmed_att (a ∷ gatts)) drafts)
+    (λ rest. ap (in_turn (piece_read v) s) (comment_back rest))
+    (globals_taken v (after_vars (after_dims dims) vars) dims (a ∷ gatts) drafts (grind (arith, before_of, variables)) speak new)
 
 pub data_mark : (v : Version) (dims : List Dim) (gatts : List Att) (drafts : List Draft) → Takes v (codes "data:\n") (state Variables dims gatts drafts) (state Values dims gatts drafts)
-data_mark v dims gatts drafts = says_takes v (codes "data:\n") (Enter Values) (state Variables dims gatts drafts) (state Values dims gatts drafts) (data_says v) (mark_act v Variables Values dims gatts drafts)
+unfolding act
+data_mark v dims gatts drafts =
+    says_takes v (codes "data:\n") (Enter Values) (state Variables dims gatts drafts) (state Values dims gatts drafts) (data_says v) refl
 
 -- ---- the end
 
@@ -104,49 +98,37 @@ end_taken v section dims gatts drafts h = grind arith
 
 -- ---- the opening
 
-no_brace : (b : ℕ) → is_plain b ≡ true → (b == 0x7b) ≡ false
-no_brace b h = elim (b == 0x7b) as (λ w. (b == 0x7b) ≡ w → w ≡ false) [ true ↦ (λ e. absurd (false≢true (subst (λ n. is_plain n ≡ true) (eqb-true b 0x7b e) h))) | false ↦ (λ e. refl) ] refl
-
-no_backslash : (b : ℕ) → is_plain b ≡ true → (b == 0x5c) ≡ false
-no_backslash b h = elim (b == 0x5c) as (λ w. (b == 0x5c) ≡ w → w ≡ false) [ true ↦ (λ e. absurd (false≢true (subst (λ n. is_plain n ≡ true) (eqb-true b 0x5c e) h))) | false ↦ (λ e. refl) ] refl
+other_byte : (b n : ℕ) → is_plain b ≡ true → is_plain n ≡ false → (b == n) ≡ false
+other_byte b n h k = grind (arith, false≢true, eqb-true b n)
 
 until_plainly : (b : ℕ) (rest : List ℕ) → is_plain b ≡ true → len_until 0x7b (b ∷ rest) ≡ 1 + len_until 0x7b rest
-until_plainly b rest h = until_plain 0x7b b rest (no_backslash b h) (no_brace b h)
-
-until_escape : (b : ℕ) (rest : List ℕ) → len_until 0x7b (0x5c ∷ b ∷ rest) ≡ 2 + len_until 0x7b rest
-unfolding len_until
-until_escape b rest = refl
+until_plainly b rest h = until_plain 0x7b b rest (other_byte b 0x5c h refl) (other_byte b 0x7b h refl)
 
 until_rest : (bs rest : List ℕ) → len_until 0x7b (rest_of bs ++ 32 ∷ 123 ∷ rest) ≡ length (rest_of bs) + 1
+unfolding len_until
 until_rest [] rest = until_plain 0x7b 32 (123 ∷ rest) refl refl ∙ ap (λ n. 1 + n) (until_at_start 0x7b 123 rest)
-until_rest (b ∷ bs) rest = grind (arith, is_plain, until_escape, until_rest bs rest, until_plain, no_backslash, no_brace)
-
-until_name : (b : ℕ) (bs rest : List ℕ) → Begins b bs → len_until 0x7b (escaped_name (b ∷ bs) ++ 32 ∷ 123 ∷ rest) ≡ length (escaped_name (b ∷ bs)) + 1
-until_name b bs rest h = grind (arith, marked, until_rest, until_escape, bare, until_plainly)
+until_rest (b ∷ bs) rest = grind (arith, is_plain, until_rest bs rest, until_plainly)
 
 -- the dataset's name, which is looked at no further
 abbrev pub opening_bytes : List ℕ → List ℕ
 opening_bytes name = codes "netcdf " ++ (escaped_name name ++ codes " {")
 
 opening_prefix_is : (name rest : List ℕ) → IsName name → scan true (opening_bytes name ++ 10 ∷ rest) ≡ record { kind = Some kinds.Opening; len = length (opening_bytes name) }
-unfolding scan
-opening_prefix_is name rest h = search (rules, append_assoc, codes, length-append, until_plain, lt-ltb, false≢true, some_name, until_name, begins, and_left)
+unfolding scan len_until
+opening_prefix_is name rest h =
+    search (rules, append_assoc, length-append, lt-ltb, false≢true, some_name, begins, and_left, marked, until_rest, bare, until_plainly)
 
 pub opening_lexemes : (name rest : List ℕ) → IsName name → lexemes (opening_bytes name ++ 10 ∷ rest) ≡ record { kind = kinds.Opening; bytes = opening_bytes name } ∷ lexemes_at false 0 rest
 opening_lexemes name rest h =
     prefix_again true (Some kinds.Opening) 110 (codes "etcdf " ++ (escaped_name name ++ codes " {")) (10 ∷ rest) (opening_prefix_is name rest h) ∙
-    ap (λ ls. record { kind = kinds.Opening; bytes = opening_bytes name } ∷ ls) (feed_closed rest)
+    ap (λ ls. record { kind = kinds.Opening; bytes = opening_bytes name } ∷ ls) (marks_closed (codes "\n") refl rest)
 
 pub opening_piece : (l : List ℕ) (ls : List Lexeme) → cut_lexemes (record { kind = kinds.Opening; bytes = l } ∷ ls) ≡ (record { kind = kinds.Opening; bytes = l } ∷ []) ∷ cut_lexemes ls
 unfolding pieces_at
 opening_piece l ls = refl
 
-opening_read : (v : Version) (l : List ℕ) → piece_read v empty (record { kind = kinds.Opening; bytes = l } ∷ []) ≡ Ok (state Globals [] [] [])
-unfolding piece_read shape act
-opening_read v l = refl
-
 -- all that stands after the opening decides
 pub opened : (v : Version) (name rest : List ℕ) → IsName name →
     in_turn (piece_read v) empty (cut_lexemes (lexemes (opening_bytes name ++ 10 ∷ rest))) ≡ in_turn (piece_read v) (state Globals [] [] []) (pieces_of rest)
-unfolding pieces_of
-opened v name rest h = grind (arith, opening_lexemes, opening_piece, turn, opening_read)
+unfolding pieces_of piece_read shape act
+opened v name rest h = grind (arith, opening_lexemes, opening_piece, turn)

@@ -1,11 +1,10 @@
--- What holds of the dataset so far, of its attributes, dimensions and declarations.
-use Rattle.std.proofs.Common.{◌≡◌, ℕ, ◌+◌, ◌-◌, ◌*◌, ◌≤◌, ◌<◌, Bool, true, false, List, [], ◌∷◌, ◌++◌, length, map, sym, ◌∙◌, ap, refl, subst, arith, suc, append_assoc, append-nil, ℤ, pos, Option, Result, Ok, Err, filter, unsigned_abs, rules}
-use Rattle.cdl_laws.proofs.Prelude.{false≢true, eqb-true, length-append, map-append, list_any-append, list_any, position, bytes_eq, Att, Dim, NcType, Char, Version, has_name, has_record_dim, IsDimid, AreDimids, value_count, IsName, is_name, bytes_of_number, size_of, is_char, count_limit, has_type, AreDistinct, Value, Number, Characters, Underscore, Dimension, Variable, Draft, in_turn, when, ok_or, int_within, has_number, same_type, dim_len_of, add_dim, add_dimid, add_var, change_named, change_variable, add_constant, first_type, add_att, with_att, listed_values, CdlKind, BadName, DuplicateName, MixedConstants, and_left, and_right, some_product, some_size, some-limit, none_before, unless, NumberRange, Each, each_map, ◌>>=◌}
-use Rattle.cdl_laws.proofs.Bools.{or_left, or_right}
-use Rattle.cdl_laws.proofs.Outcomes.{SomeIs, OkIs, ok_then, ok_unless, ok_when, ok_found, total, each_under, turns, each_more}
-use Rattle.cdl_laws.proofs.Said.{IsByte, cost, IsFineValue, dim_cost, name_cost, var_cost}
+-- What holds of the dataset so far, of its attributes, dimensions and declarations, and how much is listed of a variable.
+use Rattle.std.proofs.Common.{◌≡◌, ℕ, ◌+◌, ◌-◌, ◌*◌, ◌≤◌, ◌<◌, Bool, true, false, List, [], ◌∷◌, ◌++◌, length, map, sym, ◌∙◌, ap, refl, subst, arith, suc, append_assoc, append-nil, ℤ, pos, Option, Result, Ok, Err, filter, unsigned_abs, rules, replicate, zero, if◌then◌else◌, not, nat_lt, nat_le}
+use Rattle.cdl_laws.proofs.Prelude.{eqb-true, length-append, map-append, list_any-append, list_any, position, bytes_eq, Att, Dim, NcType, Version, has_name, has_record_dim, IsDimid, AreDimids, value_count, IsName, bytes_of_number, size_of, is_char, count_limit, has_type, AreDistinct, Value, Number, Characters, Underscore, Dimension, Variable, Draft, in_turn, ok_or, int_within, has_number, dim_len_of, add_dim, add_dimid, add_var, change_named, change_variable, add_constant, first_type, add_att, with_att, listed_values, CdlKind, and_left, and_right, some_product, some_size, some-limit, none_before, Each, each_map, any_each, or_left, or_right, length-replicate, length-map, flat_map-append, mul-le-mul_right, mul_comm, mul-le-mul, Var, Listing, Numbers, Joined, Rows, Capacity, capacity_of, filled, add_number, add_characters, add_row, listed_by, listing_of, values_in, with_values, is_off, or_second, some_count}
+use Rattle.cdl_laws.proofs.Outcomes.{SomeIs, OkIs, ok_then, ok_unless, ok_when, total, each_under, turns, each_more}
+use Rattle.cdl_laws.proofs.Said.{IsByte, cost, IsFineValue, dim_cost, name_cost, var_cost, AreFineValues}
 use Rattle.cdl_laws.proofs.Sayables.{swapped, any_map, att_name, dim_name, draft_name, is_record, filter_append}
-use Rattle.cdl_laws.proofs.Uttered.{AreFineValues}
+use Rattle.cdl_laws.proofs.Given.{slab_rows}
 
 -- ---- names
 
@@ -49,59 +48,34 @@ record IsPart (ty : NcType) (k : ℕ) (vals : List ℕ) : Type 0 where
 pub number_bytes : (ty : NcType) (x : ℤ) → Each IsByte (bytes_of_number ty x)
 number_bytes ty x = grind arith
 
-pub number_size : (ty : NcType) (x : ℤ) → length (bytes_of_number ty x) ≡ size_of ty
-number_size ty x = grind arith
-
-is_same_char : (ty : NcType) → same_type Char ty ≡ true → ty ≡ Char
-is_same_char ty h = grind arith
-
 pub one_times : (n m : ℕ) → suc n * m ≡ n * m + m
 one_times n m = grind arith
+
+-- after m values more
+grown_part : (ty : NcType) (k c m : ℕ) (vals bytes : List ℕ) → IsPart ty k vals → m ≤ c → (is_char ty ≡ false → c ≤ m) →
+    length bytes ≡ m * size_of ty → Each IsByte bytes → IsPart ty (k + c) (vals ++ bytes)
+grown_part ty k c m vals bytes part few many whole each = record {
+  count = part.count + m;
+  few = (let a = part.few in omega (arith, a, few));
+  many = (λ e. let a = part.many e in let b = many e in omega (arith, a, b));
+  whole = grind (arith, length-append vals bytes, part.whole);
+  bytes = each_more IsByte vals bytes part.bytes each;
+}
 
 constant_step : (v : Version) (ty : NcType) (k : ℕ) (vals : List ℕ) (x : Value) → IsPart ty k vals → IsFineValue v x → OkIs (IsPart ty (k + cost x)) (add_constant ty vals x)
 constant_step v ty k vals Underscore part fine = tt
 constant_step v ty k vals (Number n) part fine =
-    ok_unless (IsPart ty (k + 1)) (same_type n.ty ty) MixedConstants (λ u. unless (has_number ty n.value) NumberRange >>= (λ w. Ok (vals ++ bytes_of_number ty n.value))) (λ same.
-    ok_unless (IsPart ty (k + 1)) (has_number ty n.value) NumberRange (λ w. Ok (vals ++ bytes_of_number ty n.value)) (λ fit.
-    record {
-      count = suc part.count;
-      few = (let a = part.few in omega (arith, a));
-      many = (λ e. let a = part.many e in omega (arith, a));
-      whole = (let a = length-append vals (bytes_of_number ty n.value) in let b = number_size ty n.value in let c = part.whole in let d = one_times part.count (size_of ty) in omega (arith, a, b, c, d));
-      bytes = each_more IsByte vals (bytes_of_number ty n.value) part.bytes (number_bytes ty n.value);
-    }))
+    grind (arith, ok_unless, number_bytes, grown_part ty k 1 1 vals (bytes_of_number ty n.value) part)
 constant_step v ty k vals (Characters bytes) part fine =
-    ok_unless (IsPart ty (k + suc (length bytes))) (same_type Char ty) MixedConstants (λ u. Ok (vals ++ bytes)) (λ same.
-    let e : ty ≡ Char = is_same_char ty same in
-    let one : size_of ty ≡ 1 = ap size_of e in
-    record {
-      count = part.count + length bytes;
-      few = (let a = part.few in omega (arith, a));
-      many = (λ h. absurd (false≢true (sym h ∙ ap is_char e)));
-      whole = (
-          let a = length-append vals bytes in
-          let c : length vals ≡ part.count * 1 = part.whole ∙ ap (λ m. part.count * m) one in
-          let d : (part.count + length bytes) * size_of ty ≡ (part.count + length bytes) * 1 = ap (λ m. (part.count + length bytes) * m) one in
-          omega (arith, a, c, d));
-      bytes = each_more IsByte vals bytes part.bytes fine;
-    })
+    grind (arith, ok_unless, grown_part ty k (suc (length bytes)) (length bytes) vals bytes part)
 
 pub att_keeps : (v : Version) (N n m : ℕ) (name : List ℕ) (cs : List Value) (atts : List Att) → m ≤ N → AreFineValues v m name cs → AreFineAtts v N n atts → OkIs (AreFineAtts v N (n + m)) (add_att name cs atts)
 unfolding add_att
 att_keeps v N n m name cs atts small said fine =
-    let Q : List Att → Type 0 = AreFineAtts v N (n + m) in
     let ty = first_type cs in
-    let made : List ℕ → Att = λ vals. record { name = name; ty = ty; vals = vals } in
-    let last : List ℕ → Result (List Att) CdlKind = λ vals. Ok (atts ++ made vals ∷ []) in
-    ok_unless Q (is_name name) BadName (λ u. when (list_any (λ (a : Att). bytes_eq a.name name) atts) DuplicateName >>= (λ w. in_turn (add_constant ty) [] cs >>= last)) (λ named.
-    ok_when Q (list_any (λ (a : Att). bytes_eq a.name name) atts) DuplicateName (λ w. in_turn (add_constant ty) [] cs >>= last) (λ new.
-    ok_then (IsPart ty (0 + total cost cs)) Q (in_turn (add_constant ty) [] cs) last
-    (turns (add_constant ty) (IsPart ty) cost (IsFineValue v) (constant_step v ty) 0 [] cs (record { count = 0; few = omega arith; many = (λ e. omega arith); whole = omega arith; bytes = tt }) said.2)
-    (λ vals part. record {
-      count = (let a = one_more atts (made vals) in let b = fine.count in let c = said.0 in omega (arith, a, b, c));
-      fine = search (rules, each_more, some_product, some_size);
-      names = named_more att_name atts (made vals) fine.names new;
-    })))
+    let none : IsPart ty 0 [] = record { count = 0; few = omega arith; many = (λ e. omega arith); whole = omega arith; bytes = tt } in
+    let part = turns (add_constant ty) (IsPart ty) cost (IsFineValue v) (constant_step v ty) 0 [] cs none said.2 in
+    grind (arith, ok_unless, ok_when, ok_then, one_more atts, each_more, some_product, some_size, named_more att_name atts)
 
 -- ---- dimensions
 
@@ -154,11 +128,7 @@ IsShape dims n ids = AreDimids dims [] ids × (length ids ≤ n)
 
 id_step : (dims : List Dim) (n : ℕ) (ids name : List ℕ) → IsShape dims n ids → Unit {0} → OkIs (IsShape dims (n + name_cost name)) (add_dimid dims ids name)
 unfolding add_dimid
-id_step dims n ids name shape u = grind (arith, ok_unless, ok_or, ok_found, position_under, ok_when, dimids_more, none_before, one_more)
-
-pub any_each : {X : Type 0} (xs : List X) → Each (λ x. Unit {0}) xs
-any_each [] = tt
-any_each (x ∷ xs) = (tt, any_each xs)
+id_step dims n ids name shape u = grind (arith, ok_unless, ok_or, position_under, ok_when, dimids_more, none_before, one_more)
 
 shape_fine : (dims : List Dim) (names : List (List ℕ)) → OkIs (IsShape dims (0 + total name_cost names)) (in_turn (add_dimid dims) [] names)
 shape_fine dims names = turns (add_dimid dims) (IsShape dims) name_cost (λ name. Unit {0}) (id_step dims) 0 [] names (tt, omega arith) (any_each names)
@@ -181,17 +151,14 @@ pub record AreFineDrafts (v : Version) (N n : ℕ) (dims : List Dim) (drafts : L
   pub fine : Each (IsFineDraft v N n dims) drafts
   pub names : AreDistinct (map draft_name drafts)
 
-pub later : (v : Version) (N n m : ℕ) (dims : List Dim) (d : Draft) → n ≤ m → IsFineDraft v N n dims d → IsFineDraft v N m dims d
-later v N n m dims d le f = grind arith
-
 pub all_later : (v : Version) (N n m : ℕ) (dims : List Dim) (ds : List Draft) → n ≤ m → AreFineDrafts v N n dims ds → AreFineDrafts v N m dims ds
-all_later v N n m dims ds le f = grind (arith, each_map, later)
+all_later v N n m dims ds le f = grind (arith, each_map)
 
 var_step : (v : Version) (N : ℕ) (dims : List Dim) (ty : NcType) → has_type v ty ≡ true → (n : ℕ) (drafts : List Draft) (x : Variable) → AreFineDrafts v N n dims drafts → var_cost x ≤ N →
     OkIs (AreFineDrafts v N (n + var_cost x) dims) (add_var dims ty drafts x)
 unfolding add_var
 var_step v N dims ty has n drafts x fine small =
-    grind (arith, shape_fine dims x.dimensions, one_more drafts, named_more draft_name drafts, ok_unless, ok_when, ok_then, total, each_more, each_map, later)
+    grind (arith, shape_fine dims x.dimensions, one_more, named_more draft_name drafts, ok_unless, ok_when, ok_then, each_more, each_map)
 
 pub vars_keep : (v : Version) (N n m : ℕ) (dims : List Dim) (ty : NcType) (drafts : List Draft) (xs : List Variable) → has_type v ty ≡ true → m ≤ N → total var_cost xs ≤ m → AreFineDrafts v N n dims drafts →
     OkIs (AreFineDrafts v N (n + m) dims) (in_turn (add_var dims ty) drafts xs)
@@ -217,13 +184,116 @@ named_keeps : (P P' : Draft → Type 0) (name : List ℕ) (f : Draft → Result 
 named_keeps P P' name f more step [] h = tt
 named_keeps P P' name f more step (d ∷ ds) h = grind (arith, ok_then, each_map, named_keeps P P' name f more step ds h.1)
 
+-- a fine draft stays fine, under its name
+abbrev pub KeepsFine : Version → ℕ → ℕ → ℕ → List Dim → (Draft → Result Draft CdlKind) → Type 0
+KeepsFine v N n m dims f = (d : Draft) → IsFineDraft v N n dims d → OkIs (Renewed (IsFineDraft v N (n + m) dims) d) (f d)
+
 -- what keeps its draft fine keeps all, and adds none
-pub at_keeps : (v : Version) (N n m : ℕ) (dims : List Dim) (name : List ℕ) (f : Draft → Result Draft CdlKind) → ((d : Draft) → IsFineDraft v N n dims d → OkIs (λ e. IsFineDraft v N (n + m) dims e × (e.var.name ≡ d.var.name)) (f d)) →
+pub at_keeps : (v : Version) (N n m : ℕ) (dims : List Dim) (name : List ℕ) (f : Draft → Result Draft CdlKind) → KeepsFine v N n m dims f →
     (ds : List Draft) → AreFineDrafts v N n dims ds → OkIs (λ es. AreFineDrafts v N (n + m) dims es × (length es ≡ length ds)) (change_variable name f ds)
 unfolding change_variable
 at_keeps v N n m dims name f step ds fine =
-    grind (arith, named_keeps (IsFineDraft v N n dims) (IsFineDraft v N (n + m) dims) name f, later v N n (n + m) dims, ok_unless)
+    grind (arith, named_keeps (IsFineDraft v N n dims) (IsFineDraft v N (n + m) dims) name f, ok_unless)
 
-pub with_att_keeps : (v : Version) (N n m : ℕ) (dims : List Dim) (name : List ℕ) (cs : List Value) → m ≤ N → AreFineValues v m name cs → (d : Draft) → IsFineDraft v N n dims d →
-    OkIs (λ e. IsFineDraft v N (n + m) dims e × (e.var.name ≡ d.var.name)) (with_att name cs d)
+pub with_att_keeps : (v : Version) (N n m : ℕ) (dims : List Dim) (name : List ℕ) (cs : List Value) → m ≤ N → AreFineValues v m name cs →
+    KeepsFine v N n m dims (with_att name cs)
 with_att_keeps v N n m dims name cs small said d f = grind (arith, att_keeps v N n m name cs d.var.atts small said f.atts, ok_then)
+
+-- ---- no more is listed of a variable than it has values, over as many records as the text has bytes
+
+-- with another fill value
+abbrev by : ℤ → Capacity → Capacity
+by fill capacity = record capacity { fill = fill }
+
+-- what is listed so far, of values of cost k, has n of `count` positions, with `unit` values in each
+record IsRoomy (capacity : Capacity) (count unit k n : ℕ) (listing : Listing) : Type 0 where
+  few : n ≤ k
+  within : capacity.is_open ≡ false → n ≤ count
+  whole : (fill : ℤ) → length (values_in (by fill capacity) listing) ≡ n * unit
+
+under : (a b : ℕ) → nat_lt a b ≡ true → a + 1 ≤ b
+under a b h = grind (arith, h)
+
+pub up_to : (a b : ℕ) → nat_le a b ≡ true → a ≤ b
+up_to a b h = grind (arith, h)
+
+pub filled_len : (n : ℕ) (fill : ℤ) (xs : List ℤ) → length xs ≤ n → length (filled n fill xs) ≡ n
+filled_len n fill xs h = let a = length-append xs (replicate (n - length xs) fill) in let b = length-replicate (n - length xs) fill in omega (arith, a, b, h)
+
+-- m positions more, which cost c
+grown : (capacity : Capacity) (count unit k n m c l : ℕ) (before after : Listing) → IsRoomy capacity count unit k n before → l ≡ n + m → m ≤ c → (capacity.is_open ≡ false → n + m ≤ count) →
+    ((fill : ℤ) → length (values_in (by fill capacity) after) ≡ length (values_in (by fill capacity) before) + m * unit) → IsRoomy capacity count unit (k + c) l after
+grown capacity count unit k n m c l before after is len cheap wide more = grind arith
+
+-- ---- each kind of listing
+
+abbrev AreNumbers : Capacity → ℕ → List ℤ → Type 0
+AreNumbers capacity k values = IsRoomy capacity capacity.count 1 k (length values) (Numbers values)
+
+number_step : (capacity : Capacity) (k : ℕ) (before : List ℤ) (x : Value) → AreNumbers capacity k before → Unit {0} → OkIs (AreNumbers capacity (k + cost x)) (add_number capacity before x)
+number_step capacity k before (Characters bytes) is u = tt
+number_step capacity k before Underscore is u = search (rules, ok_unless, length-append, grown)
+number_step capacity k before (Number n) is u = search (rules, ok_unless, has_number, length-append, grown)
+
+abbrev AreJoined : Capacity → ℕ → List ℕ → Type 0
+AreJoined capacity k bytes = IsRoomy capacity capacity.count 1 k (length bytes) (Joined bytes)
+
+joined_step : (capacity : Capacity) (k : ℕ) (before : List ℕ) (x : Value) → AreJoined capacity k before → Unit {0} → OkIs (AreJoined capacity (k + cost x)) (add_characters capacity before x)
+joined_step capacity k before x h h2 = grind (arith, ok_unless, length-append, length-map, pos, grown, up_to, or_second)
+
+abbrev AreRows : Capacity → ℕ → List (List ℕ) → Type 0
+AreRows capacity k rows = IsRoomy capacity capacity.rows capacity.row k (length rows) (Rows rows)
+
+row_step : (capacity : Capacity) (k : ℕ) (before : List (List ℕ)) (x : Value) → AreRows capacity k before → Unit {0} → OkIs (AreRows capacity (k + cost x)) (add_row capacity before x)
+row_step capacity k before x h h2 = search (rules, ok_unless, grown, length-append, up_to, under, or_second, filled, pos, length-map, flat_map-append, by, filled_len)
+
+-- ---- what is listed
+
+-- no more than over this many records
+abbrev Fits : Capacity → ℕ → Listing → Type 0
+Fits capacity records listing = (fill : ℤ) → length (values_in (by fill capacity) listing) ≤ capacity.count * (if capacity.is_open then records else 1)
+
+bounded : (capacity : Capacity) (count unit k n records : ℕ) (listing : Listing) → unit ≤ capacity.count → (capacity.is_open ≡ false → count * unit ≡ capacity.count) → k ≤ records → IsRoomy capacity count unit k n listing → Fits capacity records listing
+bounded capacity count unit k n records listing small all le is fill = grind (arith, by, mul-le-mul, mul_comm, mul-le-mul_right)
+
+-- all values in turn
+all_listed : {A : Type 0} (capacity : Capacity) (count unit records : ℕ) (add : List A → Value → Result (List A) CdlKind) (listing : List A → Listing) (xs : List Value) → unit ≤ capacity.count → (capacity.is_open ≡ false → count * unit ≡ capacity.count) → total cost xs ≤ records →
+    ((fill : ℤ) → values_in (by fill capacity) (listing []) ≡ []) → ((k : ℕ) (before : List A) (x : Value) → IsRoomy capacity count unit k (length before) (listing before) → Unit {0} → OkIs (λ after. IsRoomy capacity count unit (k + cost x) (length after) (listing after)) (add before x)) →
+    OkIs (Fits capacity records) (listed_by add listing xs)
+all_listed {A} capacity count unit records add listing xs small all le none step =
+    ok_then (IsKept (0 + total cost xs)) (Fits capacity records) (in_turn add [] xs) (λ items. Ok (listing items))
+    (turns add IsKept cost (λ x. Unit {0}) step 0 [] xs (record { few = omega arith; within = (λ e. omega arith); whole = λ fill. ap (λ (ys : List ℤ). length ys) (none fill) ∙ (let z : 0 ≡ 0 * unit = omega arith in z) }) (any_each xs))
+    (λ items is. bounded capacity count unit (0 + total cost xs) (length items) records (listing items) small all (omega (arith, le)) is)
+  where
+    IsKept : ℕ → List A → Type 0
+    IsKept k items = IsRoomy capacity count unit k (length items) (listing items)
+
+values_fit : (dims : List Dim) (var : Var) (records : ℕ) (xs : List Value) → 0 < (capacity_of dims var).count → total cost xs ≤ records → OkIs (Fits (capacity_of dims var) records) (listing_of (capacity_of dims var) xs)
+unfolding capacity_of listing_of
+values_fit dims var records xs some le = of_type (is_char var.ty)
+  where
+    r : Capacity
+    r = capacity_of dims var
+
+    one : r.is_open ≡ false → r.count * 1 ≡ r.count
+    one e = omega arith
+
+    row_small : (n row count : ℕ) → count ≡ n * row → 0 < count → row ≤ count
+    row_small zero row count h some = let z : 0 * row ≡ 0 = grind arith in absurd (omega (arith, h, z, some))
+    row_small (suc n) row count h some = let a = one_times n row in omega (arith, a, h)
+
+    of_rank : (deep : Bool) → not (nat_lt (length var.dimids) 2) ≡ deep → OkIs (Fits r records) (if deep then listed_by (add_row r) Rows xs else listed_by (add_characters r) Joined xs)
+    of_rank true deep =
+        let s = slab_rows dims var.dimids (is_off (nat_lt (length var.dimids) 2) deep) in
+        all_listed r r.rows r.row records (add_row r) Rows xs (row_small s.rows r.row r.count s.whole some) (λ e. let a = s.whole in let b = s.all e in ap (λ n. n * r.row) (sym b) ∙ sym a) le (λ fill. refl) (row_step r)
+    of_rank false flat = all_listed r r.count 1 records (add_characters r) Joined xs some one le (λ fill. refl) (joined_step r)
+
+    of_type : (char : Bool) → OkIs (Fits r records) (if char then (if r.in_rows then listed_by (add_row r) Rows xs else listed_by (add_characters r) Joined xs) else listed_by (add_number r) Numbers xs)
+    of_type true = of_rank r.in_rows refl
+    of_type false = all_listed r r.count 1 records (add_number r) Numbers xs some one le (λ fill. refl) (number_step r)
+
+pub with_values_keeps : (v : Version) (N n m : ℕ) (dims : List Dim) (name : List ℕ) (xs : List Value) → m ≤ N → AreFineValues v m name xs →
+    KeepsFine v N n m dims (with_values dims xs)
+unfolding capacity_of
+with_values_keeps v N n m dims name xs small said d f =
+    grind (arith, values_fit dims d.var N xs (some_count dims d.var.dimids f.shape), some_count dims d.var.dimids f.shape, ok_when, ok_then)

@@ -1,26 +1,26 @@
 -- The array of a variable is given back by the text of its values.
-use Rattle.std.proofs.Common.{◌≡◌, ℕ, zero, suc, ◌*◌, ◌-◌, ◌<◌, ◌≤◌, Bool, true, false, List, [], ◌∷◌, length, drop, take, map, sym, ◌∙◌, ap, refl, subst, arith, length-take, length-drop, ℤ, pos, ◌&&◌, ◌==◌, not, nat_lt, slice_index, find, None, Some, rules}
-use Rattle.cdl_laws.proofs.Prelude.{default_fill_of, flat_map, int_eq, lt_of_mul-lt-mul_right, false≢true, Decides-int_eq, take-append-drop, Att, Dim, Header, Var, NcType, Version, fill_value, fill_of_att, is_fill_att, value_count, IsArray, IsName, numbers, bytes_of_number, IsInRange, dim_len, is_record_shape, is_record_var, product, slab_lens, Look, look_of, is_char, row_len, trimmed_att, trimmed_var, capacity_of, filled, has_number, array_of, and_left, is_off, is_on, look-type, length-numbers_from, Each, each_map}
+use Rattle.std.proofs.Common.{◌≡◌, ℕ, zero, suc, ◌*◌, ◌-◌, ◌<◌, ◌≤◌, Bool, true, false, List, [], ◌∷◌, length, drop, take, map, sym, ◌∙◌, ap, refl, subst, arith, length-take, length-drop, ℤ, pos, ◌&&◌, ◌==◌, not, nat_lt, slice_index, find, None, Some, rules, if◌then◌else◌, Option}
+use Rattle.cdl_laws.proofs.Prelude.{default_fill_of, flat_map, int_eq, lt_of_mul-lt-mul_right, false≢true, Decides-int_eq, take-append-drop, Att, Dim, Header, Var, NcType, Version, fill_value, fill_of_att, is_fill_att, value_count, IsArray, IsName, numbers, bytes_of_number, IsInRange, dim_len, is_record_shape, is_record_var, product, slab_lens, look_of, is_char, row_len, trimmed_att, trimmed_var, capacity_of, filled, array_of, and_left, is_off, is_on, look-type, length-numbers_from, Each, each_map, has_values, listed_values, Listing, and_false, option_map}
 use Rattle.std.specs.Prelude.{unwrap_or}
 use Rattle.cdl_laws.proofs.Attributes.{numbers_back, numbers_range, all_fit, all_small, count_is}
-use Rattle.cdl_laws.proofs.Characters.{flat}
-use Rattle.cdl_laws.proofs.DataTexts.{Gives, IsRoomFor, gives_numbers, gives_table, gives_line, given_draft}
-use Rattle.cdl_laws.proofs.Filled.{IsCharacter}
+use Rattle.cdl_laws.proofs.Characters.{flat, IsCharacter}
+use Rattle.cdl_laws.proofs.DataTexts.{Gives, IsRoomFor, gives_numbers, gives_table, gives_line, given_draft, IsGivenBy}
+use Rattle.cdl_laws.proofs.Outcomes.{each_take, each_drop}
 
 -- ---- the fill value
 
--- what a number type takes from an attribute is the same of a trimmed one
-same_of_type : (ty : NcType) (name : List ℕ) (att_ty : NcType) (vals : List ℕ) → is_char ty ≡ false →
-    fill_of_att ty (Some (trimmed_att (record { name = name; ty = att_ty; vals = vals }))) ≡ fill_of_att ty (Some (record { name = name; ty = att_ty; vals = vals }))
-same_of_type ty name att_ty vals h = grind arith
+-- trimming doesn't change which attribute has the fill value
+pub found_trimmed : (atts : List Att) → find is_fill_att (map trimmed_att atts) ≡ option_map trimmed_att (find is_fill_att atts)
+found_trimmed [] = refl
+found_trimmed (a ∷ atts) = search (rules, found_trimmed atts)
 
-same_own : (ty : NcType) (atts : List Att) → is_char ty ≡ false → fill_of_att ty (find is_fill_att (map trimmed_att atts)) ≡ fill_of_att ty (find is_fill_att atts)
-same_own ty [] h = refl
-same_own ty (a ∷ atts) h = grind (arith, same_of_type ty a.name a.ty a.vals h, same_own ty atts h)
+-- what a number type takes from an attribute is the same of a trimmed one
+same_of_type : (ty : NcType) (o : Option Att) → is_char ty ≡ false → fill_of_att ty (option_map trimmed_att o) ≡ fill_of_att ty o
+same_of_type ty o h = grind arith
 
 pub same_fill : (var : Var) → is_char var.ty ≡ false → fill_value (trimmed_var var) ≡ fill_value var
 unfolding fill_value
-same_fill var h = ap (λ own. unwrap_or own (default_fill_of var.ty)) (same_own var.ty var.atts h)
+same_fill var h = grind (arith, found_trimmed var.atts, same_of_type var.ty (find is_fill_att var.atts) h)
 
 -- ---- rooms
 
@@ -34,17 +34,15 @@ row_all h var n width e = rw (is_on (nat_lt (length var.dimids) 2) e) refl
 
 -- ---- numbers
 
-room_type : (dims : List Dim) (var : Var) → (capacity_of dims (trimmed_var var)).ty ≡ var.ty
-unfolding capacity_of
-room_type dims var = refl
-
-listed_numbers : (v : Version) (h : Header) (var : Var) (n width : ℕ) (xs : List ℤ) → 0 < length xs → length xs ≡ value_count h.dims var n → Each (IsInRange var.ty) xs → is_char var.ty ≡ false → IsName var.name →
+pub listed_numbers : (v : Version) (h : Header) (var : Var) (n width : ℕ) (xs : List ℤ) → 0 < length xs →
+    length xs ≡ value_count h.dims var n → Each (IsInRange var.ty) xs → is_char var.ty ≡ false → IsName var.name →
     Gives v h.dims (look_of h var n width) var xs
+unfolding capacity_of
 listed_numbers v h var n width [] some len range other name = absurd (omega (arith, some))
 listed_numbers v h var n width (x ∷ xs) some len range other name =
     gives_numbers v h.dims (look_of h var n width) var x xs (room_is h var n width (length (x ∷ xs)) len name (same_fill var other)) (ap is_char (look-type h var n width) ∙ other)
     (λ e. let r = row_all h var n width e in omega (arith, r, len)) (all_small var.ty (x ∷ xs) range)
-    (subst (λ ty. Each (λ y. has_number ty y ≡ true) (x ∷ xs)) (sym (room_type h.dims var)) (all_fit var.ty (x ∷ xs) range))
+    (all_fit var.ty (x ∷ xs) range)
 
 -- ---- characters at rank 0 and 1
 
@@ -55,7 +53,8 @@ trimmed_fill : (h : Header) (var : Var) (n width : ℕ) → (look_of h var n wid
 unfolding look_of
 trimmed_fill h var n width e = (Decides-int_eq (fill_value var) (pos 0)).0 (and_left (int_eq (fill_value var) (pos 0)) (not (is_record_var h.dims var && (length var.dimids == 1))) e)
 
-listed_line : (v : Version) (h : Header) (var : Var) (n width : ℕ) (xs : List ℤ) → 0 < length xs → length xs ≡ value_count h.dims var n → Each (IsInRange var.ty) xs → is_char var.ty ≡ true → IsName var.name →
+pub listed_line : (v : Version) (h : Header) (var : Var) (n width : ℕ) (xs : List ℤ) →
+    0 < length xs → length xs ≡ value_count h.dims var n → Each (IsInRange var.ty) xs → is_char var.ty ≡ true → IsName var.name →
     fill_value (trimmed_var var) ≡ fill_value var → (look_of h var n width).in_rows ≡ false → (is_record_var h.dims var ≡ true → (look_of h var n width).trimmed ≡ false) → Gives v h.dims (look_of h var n width) var xs
 listed_line v h var n width [] some len range char name fill rank whole = grind (arith, room_is, look-type)
 listed_line v h var n width _ some len range char name fill rank whole = grind (arith, gives_line, room_is, look-type, row_all, trimmed_fill, are_characters)
@@ -104,23 +103,10 @@ flat_rows zero row [] h = refl
 flat_rows zero row (x ∷ xs) h = absurd (let e : suc (length xs) ≡ 0 * row = h in omega (arith, e))
 flat_rows (suc k) row xs h = search (rules, length-drop, take-append-drop, flat_rows k row (drop row xs))
 
-each_take : (P : ℤ → Type 0) (n : ℕ) (xs : List ℤ) → Each P xs → Each P (take n xs)
-each_take P (suc n) (x ∷ xs) h = (h.0, each_take P n xs h.1)
-each_take P _ _ h = tt
-
-each_drop : (P : ℤ → Type 0) (n : ℕ) (xs : List ℤ) → Each P xs → Each P (drop n xs)
-each_drop P zero xs h = h
-each_drop P (suc n) [] h = tt
-each_drop P (suc n) (x ∷ xs) h = each_drop P n xs h.1
-
 rows_are : (k row : ℕ) (xs : List ℤ) → length xs ≡ k * row → Each IsCharacter xs → Each (λ (s : List ℤ). (length s ≡ row) × Each IsCharacter s) (rows_of k row xs)
 unfolding rows_of
 rows_are zero row xs h all = tt
 rows_are (suc k) row xs h all = grind (arith, length-take, each_take, length-drop, each_drop, rows_are k row (drop row xs))
-
-rank_two : (h : Header) (var : Var) (n width : ℕ) → (look_of h var n width).in_rows ≡ true → nat_lt (length var.dimids) 2 ≡ false
-unfolding look_of
-rank_two h var n width e = is_off (nat_lt (length var.dimids) 2) e
 
 rank_row : (h : Header) (var : Var) (n width : ℕ) → (look_of h var n width).in_rows ≡ true → (look_of h var n width).row ≡ (capacity_of h.dims (trimmed_var var)).row
 unfolding look_of capacity_of
@@ -133,38 +119,33 @@ rows_len (suc k) row xs = ap suc (rows_len k row (drop row xs))
 
 rows_within : (h : Header) (var : Var) (n width k : ℕ) → (look_of h var n width).in_rows ≡ true → suc k * (look_of h var n width).row ≡ value_count h.dims var n → 0 < (look_of h var n width).row →
     (capacity_of h.dims (trimmed_var var)).is_open ≡ false → suc k ≤ (capacity_of h.dims (trimmed_var var)).rows
-unfolding capacity_of
+unfolding capacity_of look_of
 rows_within h var n width k rank split some closed =
-    grind (arith, slab_rows h.dims var.dimids (rank_two h var n width rank), rank_row h var n width rank, lt_of_mul-lt-mul_right)
+    let two = is_off (nat_lt (length var.dimids) 2) rank in
+    grind (arith, slab_rows h.dims var.dimids two, rank_row h var n width rank, lt_of_mul-lt-mul_right)
 
-look_fill : (h : Header) (var : Var) (n width : ℕ) → (look_of h var n width).fill ≡ fill_value var
-unfolding look_of
-look_fill h var n width = refl
-
-listed_table : (v : Version) (h : Header) (var : Var) (n width k : ℕ) (xs : List ℤ) → length xs ≡ suc k * (look_of h var n width).row → 0 < (look_of h var n width).row → length xs ≡ value_count h.dims var n → Each (IsInRange var.ty) xs → is_char var.ty ≡ true → IsName var.name →
+pub listed_table : (v : Version) (h : Header) (var : Var) (n width k : ℕ) (xs : List ℤ) →
+    length xs ≡ suc k * (look_of h var n width).row → 0 < (look_of h var n width).row → length xs ≡ value_count h.dims var n →
+    Each (IsInRange var.ty) xs → is_char var.ty ≡ true → IsName var.name →
     fill_value (trimmed_var var) ≡ fill_value var → (look_of h var n width).in_rows ≡ true → Gives v h.dims (look_of h var n width) var xs
-unfolding rows_of
+unfolding rows_of look_of
 listed_table v h var n width k xs split some len range char name fill rank =
     let look = look_of h var n width in
     let same = flat_rows (suc k) look.row xs split in
     subst (λ ys. Gives v h.dims look var ys) same
     (gives_table v h.dims look var (take look.row xs) (rows_of k look.row (drop look.row xs)) (room_is h var n width (length (flat (rows_of (suc k) look.row xs))) (ap (λ (ys : List ℤ). length ys) same ∙ len) name fill) (ap is_char (look-type h var n width) ∙ char) rank
-    (λ e. look_fill h var n width ∙ trimmed_fill h var n width e) (rank_row h var n width rank) some
+    (trimmed_fill h var n width) (rank_row h var n width rank) some
     (λ closed. let few = rows_within h var n width k rank (sym split ∙ len) some closed in let m = rows_len k look.row (drop look.row xs) in omega (arith, few, m)) (rows_are (suc k) look.row xs split (are_characters var.ty xs char range)))
 
 -- ---- arrays
 
--- a listed variable has its array again
-array_valued : (v : Version) (dims : List Dim) (look : Look) (var : Var) (values : List ℤ) (n : ℕ) (array : List ℕ) (g : Gives v dims look var values) → length values ≡ value_count dims var n → flat_map (bytes_of_number var.ty) values ≡ array →
-    array_of dims n (given_draft var (Some g.listing)) ≡ array
-array_valued v dims look var values n array g len bytes = search (rules, filled)
-
--- and one without values has none
+-- a variable without values has no byte
 pub array_none : (dims : List Dim) (var : Var) (n : ℕ) → value_count dims var n ≡ 0 → array_of dims n (given_draft var None) ≡ []
 array_none dims var n none = ap (λ m. flat_map (bytes_of_number var.ty) (filled m (fill_value (trimmed_var var)) [])) none
 
 -- an array's numbers
-array_numbers : (dims : List Dim) (n : ℕ) (var : Var) (array : List ℕ) → IsArray dims n var array → flat_map (bytes_of_number var.ty) (numbers var.ty array) ≡ array
+pub array_numbers : (dims : List Dim) (n : ℕ) (var : Var) (array : List ℕ) → IsArray dims n var array →
+    flat_map (bytes_of_number var.ty) (numbers var.ty array) ≡ array
 array_numbers dims n var array is =
     ap (flat_map (bytes_of_number var.ty)) (count_is var.ty (value_count dims var n) array is.whole) ∙ numbers_back var.ty (value_count dims var n) array is.bytes is.whole
 
@@ -172,32 +153,88 @@ pub array_len : (dims : List Dim) (n : ℕ) (var : Var) (array : List ℕ) → I
 array_len dims n var array is =
     ap (λ (xs : List ℤ). length xs) (count_is var.ty (value_count dims var n) array is.whole) ∙ length-numbers_from var.ty (value_count dims var n) array
 
-array_range : (dims : List Dim) (n : ℕ) (var : Var) (array : List ℕ) → IsArray dims n var array → Each (IsInRange var.ty) (numbers var.ty array)
+pub array_range : (dims : List Dim) (n : ℕ) (var : Var) (array : List ℕ) → IsArray dims n var array →
+    Each (IsInRange var.ty) (numbers var.ty array)
 array_range dims n var array is =
     subst (λ xs. Each (IsInRange var.ty) xs) (sym (count_is var.ty (value_count dims var n) array is.whole)) (numbers_range var.ty (value_count dims var n) array is.bytes is.whole)
 
--- the array of a number variable is read back: all of it, for every width and wherever the breaks are
-pub number_row_reads_back : (v : Version) (h : Header) (var : Var) (n width : ℕ) (array : List ℕ) → IsArray h.dims n var array → 0 < value_count h.dims var n → is_char var.ty ≡ false → IsName var.name →
-    (g : Gives v h.dims (look_of h var n width) var (numbers var.ty array)) × (array_of h.dims n (given_draft var (Some g.listing)) ≡ array)
-number_row_reads_back v h var n width array is some other name =
-    let len = array_len h.dims n var array is in
-    let g = listed_numbers v h var n width (numbers var.ty array) (omega (arith, len, some)) len (array_range h.dims n var array is) other name in
-    (g, array_valued v h.dims (look_of h var n width) var (numbers var.ty array) n array g len (array_numbers h.dims n var array is))
+-- ---- rows of a variable
 
--- that of a variable of characters at rank 0 or 1
-pub line_reads_back : (v : Version) (h : Header) (var : Var) (n width : ℕ) (array : List ℕ) → IsArray h.dims n var array → 0 < value_count h.dims var n → is_char var.ty ≡ true → IsName var.name → fill_value (trimmed_var var) ≡ fill_value var →
-    (look_of h var n width).in_rows ≡ false → (is_record_var h.dims var ≡ true → (look_of h var n width).trimmed ≡ false) →
-    (g : Gives v h.dims (look_of h var n width) var (numbers var.ty array)) × (array_of h.dims n (given_draft var (Some g.listing)) ≡ array)
-line_reads_back v h var n width array is some char name fill rank whole =
-    let len = array_len h.dims n var array is in
-    let g = listed_line v h var n width (numbers var.ty array) (omega (arith, len, some)) len (array_range h.dims n var array is) char name fill rank whole in
-    (g, array_valued v h.dims (look_of h var n width) var (numbers var.ty array) n array g len (array_numbers h.dims n var array is))
+-- one whole row or more
+abbrev WholeRows : ℕ → ℕ → Type 0
+WholeRows total row = (k : ℕ) × (total ≡ suc k * row) × (0 < row)
 
--- and that of one at rank 2 and up, where the rows divide it
-pub table_reads_back : (v : Version) (h : Header) (var : Var) (n width k : ℕ) (array : List ℕ) → IsArray h.dims n var array → value_count h.dims var n ≡ suc k * (look_of h var n width).row → 0 < (look_of h var n width).row → is_char var.ty ≡ true → IsName var.name →
-    fill_value (trimmed_var var) ≡ fill_value var → (look_of h var n width).in_rows ≡ true →
+some_rows : (k row total : ℕ) → total ≡ k * row → 0 < total → WholeRows total row
+some_rows zero row total e some = grind arith
+some_rows _ _ total e some = grind arith
+
+table_rows : (dims : List Dim) (ids : List ℕ) (total m : ℕ) → not (nat_lt (length ids) 2) ≡ true → total ≡ product (slab_lens dims ids) * m → 0 < total → WholeRows total (row_len dims ids total)
+table_rows dims ids total m rank e some =
+    let h = is_off (nat_lt (length ids) 2) rank in
+    let r = slab_rows dims ids h in
+    let row = row_len dims ids 0 in
+    subst (WholeRows total) (let same : row ≡ row_len dims ids total = rw (h) refl in same)
+    (some_rows (r.rows * m) row total (e ∙ ap (λ p. p * m) r.whole ∙ (let g : r.rows * row * m ≡ r.rows * m * row = grind arith in g)) some)
+
+-- a record variable of rank 1 isn't trimmed
+line_whole : (h : Header) (var : Var) (n width : ℕ) → (look_of h var n width).in_rows ≡ false → is_record_var h.dims var ≡ true → (look_of h var n width).trimmed ≡ false
+unfolding look_of
+line_whole h var n width rank is = grind (arith, and_false, false≢true, is_on)
+
+-- ---- any variable
+
+-- the text of its values, if it has any, gives back its array
+pub record IsBack (v : Version) (h : Header) (n width : ℕ) (var : Var) (array : List ℕ) : Type 0 where
+  pub o : Option Listing
+  pub given : IsGivenBy (has_values h.dims n var) v h.dims (look_of h var n width) var (numbers var.ty array) o
+  pub back : array_of h.dims n (given_draft var o) ≡ array
+  pub exact : is_record_var h.dims var ≡ true → length (listed_values h.dims (given_draft var o)) ≡ value_count h.dims var n
+
+gives_back : (v : Version) (h : Header) (n width : ℕ) (var : Var) (array : List ℕ) → IsArray h.dims n var array → has_values h.dims n var ≡ true →
+    (g : Gives v h.dims (look_of h var n width) var (numbers var.ty array)) × (array_of h.dims n (given_draft var (Some g.listing)) ≡ array) → IsBack v h n width var array
+gives_back v h n width var array is some both = record {
+  o = Some both.0.listing;
+  given = subst (λ b. IsGivenBy b v h.dims (look_of h var n width) var (numbers var.ty array) (Some both.0.listing)) (sym some) (both.0, refl);
+  back = both.1;
+  exact = λ e. ap (λ (ys : List ℤ). length ys) (both.0.exact e) ∙ array_len h.dims n var array is;
+}
+
+-- any variable that has values is given back by their text: all of them, for every width and wherever the breaks are
+pub row_back : (v : Version) (h : Header) (n width : ℕ) (var : Var) (array : List ℕ) → IsArray h.dims n var array → 0 < value_count h.dims var n → IsName var.name → (is_char var.ty ≡ true → fill_value (trimmed_var var) ≡ fill_value var) →
     (g : Gives v h.dims (look_of h var n width) var (numbers var.ty array)) × (array_of h.dims n (given_draft var (Some g.listing)) ≡ array)
-table_reads_back v h var n width k array is split some char name fill rank =
+unfolding look_of
+row_back v h n width var array is count name fill =
+    let look = look_of h var n width in
+    let xs = numbers var.ty array in
     let len = array_len h.dims n var array is in
-    let g = listed_table v h var n width k (numbers var.ty array) (len ∙ split) some len (array_range h.dims n var array is) char name fill rank in
-    (g, array_valued v h.dims (look_of h var n width) var (numbers var.ty array) n array g len (array_numbers h.dims n var array is))
+    let range = array_range h.dims n var array is in
+    let some : 0 < length xs = omega (arith, len, count) in
+    let g : Gives v h.dims look var xs = elim (is_char var.ty) as (λ c. is_char var.ty ≡ c → Gives v h.dims look var xs) [
+      | true ↦ (λ char. elim (look.in_rows) as (λ r. look.in_rows ≡ r → Gives v h.dims look var xs) [
+        | true ↦ (λ rank.
+            let rows = table_rows h.dims var.dimids (value_count h.dims var n)
+            (if is_record_var h.dims var then n else 1) rank refl count in
+            listed_table v h var n width rows.0 xs (len ∙ rows.1) rows.2 len range char name (fill char) rank)
+        | false ↦ (λ rank. listed_line v h var n width xs some len range char name (fill char) rank (line_whole h var n width rank))
+      ] refl)
+      | false ↦ (λ other. listed_numbers v h var n width xs some len range other name)
+    ] refl in
+    (g, search (rules, filled, array_numbers h.dims n var array is))
+
+pub no_bytes : (array : List ℕ) (m size : ℕ) → length array ≡ m * size → m ≡ 0 → array ≡ []
+no_bytes [] m size h z = refl
+no_bytes (b ∷ array) m size h z = absurd (let e : m * size ≡ 0 = rw (z) (omega arith) in omega (arith, h, e))
+
+pub is_back : (v : Version) (h : Header) (n width : ℕ) (var : Var) (array : List ℕ) → IsArray h.dims n var array → IsName var.name → (is_char var.ty ≡ true → fill_value (trimmed_var var) ≡ fill_value var) → IsBack v h n width var array
+is_back v h n width var array is name fill =
+    elim (has_values h.dims n var) as (λ b. has_values h.dims n var ≡ b → IsBack v h n width var array) [
+      | true ↦ (λ e. gives_back v h n width var array is e (row_back v h n width var array is (grind (arith, e)) name fill))
+      | false ↦ (λ e.
+          let z : value_count h.dims var n ≡ 0 = grind (arith, e) in
+          record {
+            o = None;
+            given = subst (λ b. IsGivenBy b v h.dims (look_of h var n width) var (numbers var.ty array) None) (sym e) refl;
+            back = array_none h.dims var n z ∙ sym (no_bytes array (value_count h.dims var n) _ is.whole z);
+            exact = λ r. sym z;
+          })
+    ] refl

@@ -1,14 +1,13 @@
 -- The statements of a dump, and what they say.
-use Rattle.std.proofs.Common.{◌≡◌, ℕ, ◌^◌, ◌<◌, ◌≤◌, Bool, true, false, List, [], ◌∷◌, ◌++◌, length, map, ◌∙◌, ap, refl, subst, arith, append_assoc, ℤ, unsigned_abs, ◌==◌, not, None, Some, codes, rules}
-use Rattle.cdl_laws.proofs.Prelude.{printed, list_all, prefix_len, NcType, Byte, Char, Short, Int, Ubyte, Ushort, Uint, Int64, Uint64, Version, escaped_name, is_plain, is_reserved, joined, IsName, type_word, Look, is_char, variable_text, Values, may_begin_word, scan, word_len, Lexeme, role, is_section, section_of, lexemes_at, Value, Characters, Listed, both, constants, shape, and_left, and_right, and_both, word_at_start, Each}
+use Rattle.std.proofs.Common.{◌≡◌, ℕ, ◌^◌, ◌<◌, ◌≤◌, true, false, List, [], ◌∷◌, ◌++◌, length, map, ◌∙◌, ap, refl, arith, append_assoc, ℤ, unsigned_abs, ◌==◌, not, None, Some, codes, rules}
+use Rattle.cdl_laws.proofs.Prelude.{printed, list_all, prefix_len, NcType, Byte, Char, Short, Int, Ubyte, Ushort, Uint, Int64, Uint64, Version, escaped_name, is_plain, is_reserved, joined, IsName, type_word, Look, is_char, variable_text, Values, may_begin_word, scan, word_len, Lexeme, role, is_section, section_of, Value, Characters, Listed, both, constants, shape, and_left, and_right, and_both, word_at_start, Each}
 use Rattle.cdl_laws.proofs.NameTexts.{no_escape}
-use Rattle.cdl_laws.proofs.Texts.{Closed, Reads, stops, then_reads, reads_both, mark, word, number, name_word, word_reads, stop_word, prefix_again}
+use Rattle.cdl_laws.proofs.Texts.{Closed, Reads, stops, then_reads, reads_both, mark, word, number, name_word, word_reads, stop_word, prefix_again, marks_closed}
 use Rattle.cdl_laws.proofs.Numerals.{value_again}
 use Rattle.cdl_laws.proofs.Strings.{string}
 use Rattle.cdl_laws.proofs.ValueTexts.{comma, commas, AreSmall, value_lexeme, value_said, numbers_closed, values_said}
-use Rattle.cdl_laws.proofs.Characters.{flat, table_closed, line_closed}
-use Rattle.cdl_laws.proofs.Filled.{strings_said}
-use Rattle.cdl_laws.proofs.Takes.{Says, statement_says, semicolon, is_fine, word_fine, is_starter}
+use Rattle.cdl_laws.proofs.Characters.{flat, table_closed, line_closed, strings_said}
+use Rattle.cdl_laws.proofs.Takes.{Says, statement_says, semicolon, is_fine, word_fine, is_starter, all_fine}
 
 -- ---- words
 
@@ -47,48 +46,6 @@ pub type_starts : (ty : NcType) → is_starter (role (word (type_word ty))) ≡ 
 unfolding is_section
 type_starts ty = grind arith
 
--- ---- fixed bytes
-
-pub tab_closed : Closed (codes "\t") []
-unfolding lexemes_at scan
-tab_closed rest = refl
-
-pub tabs_closed : Closed (codes "\t\t") []
-unfolding lexemes_at scan
-tabs_closed rest = refl
-
-pub is_closed : Closed (codes " = ") (mark 61 ∷ [])
-unfolding lexemes_at scan
-is_closed rest = refl
-
-pub blank_closed : Closed (codes " ") []
-unfolding lexemes_at scan
-blank_closed rest = refl
-
-pub colon_closed : Closed (codes ":") (mark 58 ∷ [])
-unfolding lexemes_at scan
-colon_closed rest = refl
-
-pub paren_closed : Closed (codes "(") (mark 40 ∷ [])
-unfolding lexemes_at scan
-paren_closed rest = refl
-
-pub end_closed : Closed (codes ")") (mark 41 ∷ [])
-unfolding lexemes_at scan
-end_closed rest = refl
-
-next_closed : Closed (codes ", ") (comma ∷ [])
-unfolding lexemes_at scan
-next_closed rest = refl
-
-pub stop_closed : Closed (codes " ; ") (semicolon ∷ [])
-unfolding lexemes_at scan
-stop_closed rest = refl
-
-pub feed_closed : Closed (codes "\n") []
-unfolding lexemes_at scan
-feed_closed rest = refl
-
 -- ---- lists
 
 -- pieces that are one lexeme each, joined
@@ -97,20 +54,14 @@ pub joined_reads : {A : Type 0} (bytes : A → List ℕ) (lex : A → Lexeme) (x
 joined_reads bytes lex x [] all = all.0
 joined_reads bytes lex x (y ∷ ys) all =
     reads_both (bytes x) (codes ", " ++ joined (map bytes (y ∷ ys))) (lex x ∷ []) (commas (map lex (y ∷ ys))) all.0 (λ rest h. refl)
-    (then_reads (codes ", ") (joined (map bytes (y ∷ ys))) (comma ∷ []) (lex y ∷ commas (map lex ys)) next_closed (joined_reads bytes lex y ys all.1))
+    (then_reads (codes ", ") (joined (map bytes (y ∷ ys))) (comma ∷ []) (lex y ∷ commas (map lex ys)) (marks_closed (codes ", ") refl)
+    (joined_reads bytes lex y ys all.1))
 
 pub fine_commas : (v : Version) (ls : List Lexeme) → list_all (is_fine v) ls ≡ true → list_all (is_fine v) (commas ls) ≡ true
 fine_commas v [] h = refl
 fine_commas v (l ∷ ls) h = and_both (is_fine v l) (list_all (is_fine v) (commas ls)) (and_left (is_fine v l) (list_all (is_fine v) ls) h) (fine_commas v ls (and_right (is_fine v l) (list_all (is_fine v) ls) h))
 
 -- ---- data
-
-value_fine : (v : Version) (look : Look) (x : ℤ) → unsigned_abs x < 2 ^ 64 → is_fine v (value_lexeme look x) ≡ true
-value_fine v look x h = grind (arith, word, codes, number, word_fine, value_again)
-
-values_fine : (v : Version) (look : Look) (xs : List ℤ) → AreSmall xs → list_all (is_fine v) (map (value_lexeme look) xs) ≡ true
-values_fine v look [] h = refl
-values_fine v look (x ∷ xs) h = and_both (is_fine v (value_lexeme look x)) (list_all (is_fine v) (map (value_lexeme look) xs)) (value_fine v look x h.0) (values_fine v look xs h.1)
 
 -- NAME = VALUE, ..
 listed_fine : (v : Version) (name : List ℕ) (l : Lexeme) (ls : List Lexeme) → list_all (is_fine v) (l ∷ ls) ≡ true → list_all (is_fine v) (word name ∷ mark 61 ∷ l ∷ commas ls) ≡ true
@@ -127,16 +78,14 @@ numbers_say v look x xs name ty small fit =
     let ls = value_lexeme look x ∷ commas (map (value_lexeme look) xs) in
     statement_says v Values (variable_text look (x ∷ xs)) (word (escaped_name look.name)) (mark 61 ∷ ls) (Listed look.name (map (value_said look) (x ∷ xs)))
     (numbers_closed look x xs name ty small fit) (name_starts look.name name)
-    (listed_fine v (escaped_name look.name) (value_lexeme look x) (map (value_lexeme look) xs) (values_fine v look (x ∷ xs) fit))
+    (listed_fine v (escaped_name look.name) (value_lexeme look x) (map (value_lexeme look) xs)
+    (all_fine v (value_lexeme look) (λ y. unsigned_abs y < 2 ^ 64) (λ y h. grind (arith, word, codes, number, word_fine, value_again))
+    (x ∷ xs) fit))
     (listed_is v look.name (ls ++ semicolon ∷ []) (map (value_said look) (x ∷ xs)) name (values_said v look x xs fit))
 
 pub strings_fine : (v : Version) (all : List (List ℕ)) → list_all (is_fine v) (map string all) ≡ true
 strings_fine v [] = refl
 strings_fine v (bytes ∷ all) = strings_fine v all
-
-map_map : (t : Bool) (rows : List (List ℤ)) → map (λ (r : List ℤ). string (printed t 0 r)) rows ≡ map string (map (printed t 0) rows)
-map_map t [] = refl
-map_map t (r ∷ rows) = ap (λ ls. string (printed t 0 r) ∷ ls) (map_map t rows)
 
 pub table_says : (v : Version) (look : Look) (r : List ℤ) (rows : List (List ℤ)) → IsName look.name → is_char look.ty ≡ true → look.in_rows ≡ true → 0 < look.row → Each (λ (s : List ℤ). length s ≡ look.row) (r ∷ rows) →
     Says v Values (variable_text look (flat (r ∷ rows))) (Listed look.name (map Characters (map (printed look.trimmed 0) (r ∷ rows))))
@@ -144,7 +93,7 @@ table_says v look r rows name ty h wide all =
     let shows = map (printed look.trimmed 0) rows in
     let ls = string (printed look.trimmed 0 r) ∷ commas (map string shows) in
     statement_says v Values (variable_text look (flat (r ∷ rows))) (word (escaped_name look.name)) (mark 61 ∷ ls) (Listed look.name (map Characters (printed look.trimmed 0 r ∷ shows)))
-    (subst (λ l. Closed (variable_text look (flat (r ∷ rows))) (word (escaped_name look.name) ∷ mark 61 ∷ (string (printed look.trimmed 0 r) ∷ commas l ++ semicolon ∷ []))) (map_map look.trimmed rows) (table_closed look r rows name ty h wide all))
+    (table_closed look r rows name ty h wide all)
     (name_starts look.name name)
     (listed_fine v (escaped_name look.name) (string (printed look.trimmed 0 r)) (map string shows) (strings_fine v shows))
     (listed_is v look.name (ls ++ semicolon ∷ []) (map Characters (printed look.trimmed 0 r ∷ shows)) name (strings_said v true (printed look.trimmed 0 r) shows))
@@ -168,4 +117,5 @@ no_feed (b ∷ w) rest h = rw (and_left (not (b == 10)) (list_all (λ c. not (c 
 pub comment_closed : (w : List ℕ) → list_all (λ b. not (b == 10)) w ≡ true → Closed (47 ∷ 47 ∷ (w ++ 10 ∷ [])) []
 unfolding scan
 comment_closed w h rest =
-    grind (arith, append_assoc w (10 ∷ []) rest, prefix_again false None 47 (47 ∷ w) (10 ∷ rest), no_feed w rest h, feed_closed rest)
+    let comment = prefix_again false None 47 (47 ∷ w) (10 ∷ rest) in
+    grind (arith, append_assoc w (10 ∷ []) rest, comment, no_feed w rest h, marks_closed (codes "\n") refl rest)

@@ -1,6 +1,6 @@
 -- Tokens have places and lines, and lexemes have none: what all pieces make of a state is the same.
-use Rattle.std.proofs.Common.{◌≡◌, ℕ, zero, suc, ◌+◌, ◌-◌, Bool, true, false, List, [], ◌∷◌, drop, take, map, sym, ◌∙◌, ap, refl, ◌&&◌, Option, None, Some, is_none, Result, Ok, Err, rules}
-use Rattle.cdl_laws.proofs.Prelude.{drop-drop, Version, CdlFault, CdlKind, TokenKind, Role, CutState, Token, scan, Lexeme, lexeme, first_role, role, run, piece_read, starting_line, statements, pieces_after, with_first, step, pieces_by_steps, cut_lexemes, lexemes_at, lexemes, with_lexeme, State, in_turn, tokens_at, tokens, with_token, token_at}
+use Rattle.std.proofs.Common.{◌≡◌, ℕ, zero, suc, ◌+◌, ◌-◌, Bool, true, false, List, [], ◌∷◌, drop, take, map, sym, ◌∙◌, ap, refl, ◌&&◌, Option, None, Some, is_none, Result, Ok, Err, rules, arith}
+use Rattle.cdl_laws.proofs.Prelude.{drop-drop, Version, CdlKind, TokenKind, Role, CutState, Token, scan, Lexeme, lexeme, first_role, role, run, piece_read, statements, pieces_after, with_first, step, pieces_by_steps, cut_lexemes, lexemes_at, lexemes, with_lexeme, State, in_turn, tokens_at, tokens, with_token, token_at}
 use Rattle.cdl_tokens.specs.declared.token.TokenKind.TheVariants as kinds
 use Rattle.cdl_statements.specs.declared.piece.CutState.TheVariants as places
 
@@ -32,19 +32,12 @@ with_first_map f true t ps = refl
 with_first_map f false t [] = refl
 with_first_map f false t (p ∷ ps) = refl
 
-first_map : {X Y : Type 0} (f : X → Y) (role : Y → Role) (ts : List X) → first_role (λ t. role (f t)) ts ≡ first_role role (map f ts)
-first_map f role [] = refl
-first_map f role (t ∷ ts) = refl
-
 pieces_map : {X Y : Type 0} (f : X → Y) (role : Y → Role) (place : CutState) (ts : List X) → map (map f) (pieces_after (λ t. role (f t)) place ts) ≡ pieces_after role place (map f ts)
 unfolding pieces_after
 pieces_map f role place [] = refl
 pieces_map f role place (t ∷ ts) =
-    let rest : Role → List (List _) = λ n. with_first (step place (role (f t)) n).ends (f t) (pieces_after role (step place (role (f t)) n).state (map f ts)) in
-    let n = first_role (λ u. role (f u)) ts in
-    with_first_map f (step place (role (f t)) n).ends t (pieces_after (λ u. role (f u)) (step place (role (f t)) n).state ts) ∙
-    ap (with_first (step place (role (f t)) n).ends (f t)) (pieces_map f role (step place (role (f t)) n).state ts) ∙
-    ap rest (first_map f role ts)
+    let s = step place (role (f t)) (first_role (λ u. role (f u)) ts) in
+    grind (arith, with_first_map f, pieces_map f role s.state ts)
 
 pub pieces_are : (text : List ℕ) → map (map (lexeme text)) (statements text) ≡ cut_lexemes (lexemes text)
 pieces_are text =
@@ -62,10 +55,4 @@ held s (Err e) = s
 pub run_is : (text : List ℕ) (v : Version) (s t : State) (ps : List (List Token)) → in_turn (piece_read v) s (map (map (lexeme text)) ps) ≡ Ok t → run text v s ps ≡ Ok t
 unfolding run held
 run_is text v s t [] h = ap (λ u. Ok u) (ap (held s) h)
-run_is text v s t (p ∷ ps) h =
-    elim (piece_read v s (map (lexeme text) p)) as (λ r.
-    elim r as (λ x. Result State CdlKind) [ Ok u ↦ in_turn (piece_read v) u (map (map (lexeme text)) ps) | Err e ↦ Err e ] ≡ Ok t →
-    elim r as (λ x. Result State CdlFault) [ Ok u ↦ run text v u ps | Err kind ↦ Err (record { line = starting_line p; kind = kind }) ] ≡ Ok t) [
-      | Ok u ↦ (λ k. run_is text v u t ps k)
-      | Err e ↦ (λ k. cc)
-    ] h
+run_is text v s t (p ∷ ps) h = grind (arith, (λ (u : State). run_is text v u t ps))

@@ -1,12 +1,12 @@
 -- The limit is needed: a text with an attribute of 2^31 characters has a meaning in the first version, which no file can hold.
-use Rattle.std.proofs.Common.{◌≡◌, ℕ, ◌-◌, ◌^◌, ◌≤◌, ◌<◌, false, List, [], ◌∷◌, ◌++◌, length, ◌∙◌, ap, refl, arith, zero, suc, get_or, replicate, codes, None, Ok, ◌==◌, nat_lt, true, rules}
+use Rattle.std.proofs.Common.{◌≡◌, ℕ, ◌-◌, ◌^◌, ◌≤◌, ◌<◌, false, List, [], ◌∷◌, length, ◌∙◌, ap, refl, arith, zero, suc, get_or, replicate, codes, None, Ok, ◌==◌, nat_lt, true, rules}
 use Rattle.cdl_laws.proofs.Prelude.{DataText, take-length, length-replicate, get_or-replicate, suffix_len-take_no, list_all, is_utf8, chars, Dataset, Att, Known, Char, Cdf1, Options, shown_data_text, values_in_dataset, selection_of, dump_text, IsGood, without_trailing_nuls, IsName, meaning, are_within_limits, IsFull, trimmed, concat_parts, is_reserved, escaped_name, netcdf_word, global_word, numbers_text, chars_text, att_line, att_lines, dim_lines, dims_text, vars_text, gatts_text, head_text, broken_text, data_word, closing_word, LimitIsNeeded, and_left, and_right, Each}
 use lib.Utf8.{encode}
 use Rattle.cdl_laws.proofs.MeaningsAreGood.{are_bytes}
 use Rattle.cdl_laws.proofs.Outcomes.{each_more}
 use Rattle.cdl_laws.proofs.Said.{IsByte}
 use Rattle.cdl_laws.proofs.Attributes.{char_speaks}
-use Rattle.cdl_laws.proofs.Dumps.{IsReadable, text_back}
+use Rattle.cdl_laws.proofs.Dumps.{text_back}
 
 abbrev att : ℕ → Att
 att n = record { name = codes "a"; ty = Char; vals = replicate n 97 }
@@ -31,12 +31,9 @@ section n = shown_data_text (long n).header options (values_in_dataset (long n))
 abbrev long_text : ℕ → List ℕ
 long_text n = dump_text (long n).header options 0 (section n)
 
-readable : (n : ℕ) → IsReadable (long n) 0 80 []
-unfolding are_within_limits
-readable n = grind (arith, char_speaks Cdf1 (att n) refl a_name)
-
 long_means : (n : ℕ) → meaning (long_text n) Cdf1 ≡ Ok (trimmed (long n))
-long_means n = text_back (long n) options 0 [] full (readable n) (section n) refl
+unfolding are_within_limits
+long_means n = text_back (long n) options 0 [] full (grind (arith, char_speaks Cdf1 (att n) refl a_name)) (section n) refl
 
 no_nuls : (n : ℕ) → 0 < n → without_trailing_nuls (replicate n 97) ≡ replicate n 97
 no_nuls n some =
@@ -60,14 +57,10 @@ constant : (bytes : List ℕ) → list_all (λ b. nat_lt b 256) bytes ≡ true �
 constant [] h = tt
 constant (b ∷ bytes) h = (grind (arith, and_left (nat_lt b 256) (list_all (λ c. nat_lt c 256) bytes) h), constant bytes (and_right (nat_lt b 256) (list_all (λ c. nat_lt c 256) bytes) h))
 
--- what follows an attribute's characters
-following : (bytes : List ℕ) → Each IsByte bytes → Each IsByte (bytes ++ codes "\"" ++ codes " ;\n" ++ [] ++ [] ++ [] ++ codes "}\n")
-following bytes h = search (rules, codes, each_more, constant)
-
 -- though it is a text of bytes
 long_bytes : (n : ℕ) → 0 < n → Each IsByte (long_text n)
 unfolding concat_parts numbers_text chars_text att_line att_lines dim_lines dims_text vars_text gatts_text head_text global_word netcdf_word data_word closing_word escaped_name is_reserved
-long_bytes n some = search (rules, no_nuls, broken_bytes, each_more, codes, constant, following)
+long_bytes n some = search (rules, no_nuls, broken_bytes, each_more, codes, constant)
 
 pub limit_is_needed : LimitIsNeeded
 limit_is_needed n big = (long_text n, trimmed (long n), are_bytes (long_text n) (long_bytes n (omega (arith, big))), long_means n, long_is_bad n big)

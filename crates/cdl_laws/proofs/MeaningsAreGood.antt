@@ -1,12 +1,10 @@
 -- What a text means is good.
-use Rattle.std.proofs.Common.{◌≡◌, ℕ, ◌+◌, ◌-◌, ◌*◌, ◌/◌, ◌≤◌, ◌<◌, true, false, List, [], ◌∷◌, length, map, ap, refl, subst, arith, zero, suc, ℤ, if◌then◌else◌, Option, None, Some, Result, Ok, Err, nat_le, codes, All, rules}
-use Rattle.cdl_laws.proofs.Prelude.{length-map, div-lt_iff_lt-mul, lt-div-mul-add, mul_comm, mul-le-mul_left, flat_map, list_all, AreBytes, Dataset, Att, Dim, Known, Var, NcType, Version, IsGood, IsSound, IsSoundAtt, IsSoundVar, IsSoundDim, IsArray, AreArrays, bare_var, value_count, IsName, bytes_of_number, is_record_var, record_vars, slab_count, slab_size, record_size, slab_limit, array_limit, record_limit, size_of, count_limit, has_type, MeaningsAreGood, MeaningsAreNearlySayable, IsNearlySayable, NearlyIsSayable, text_limit, Lexeme, lexeme, statements, shaped, checked, piece_read, starting_line, run, empty, listed_values, records_of, records_in, array_of, header_of, dataset_of, is_within_limits, are_within_limits, closing_line, finished, meaning, AreDistinct, AreSayableAtts, HasSomeNumber, Statement, Open, Enter, DeclareDimensions, DeclareVariables, Attribute, Listed, shape, first_bad, State, Draft, act, add_var, change_variable, with_att, with_values, type_of, ok_or, in_turn, filled, CdlFault, CdlKind, Section, Token, and_left, and_right, some_count, length-numbers, Each, each_map, ◌>>=◌}
-use Rattle.cdl_laws.proofs.Outcomes.{SomeIs, OkIs, ok_then, in_if, total, each_more, all_of}
+use Rattle.std.proofs.Common.{◌≡◌, ℕ, ◌+◌, ◌*◌, ◌≤◌, ◌<◌, true, List, [], ◌∷◌, length, map, ap, refl, subst, arith, zero, suc, ℤ, None, Some, Result, Ok, Err, nat_le, codes, All, rules}
+use Rattle.cdl_laws.proofs.Prelude.{length-map, div-lt_iff_lt-mul, lt-div-mul-add, mul_comm, mul-le-mul_left, flat_map, list_all, AreBytes, Dataset, Att, Dim, Known, Var, NcType, Version, IsGood, IsSound, IsSoundAtt, IsSoundVar, IsSoundDim, IsArray, AreArrays, bare_var, value_count, IsName, bytes_of_number, record_vars, slab_count, slab_size, record_size, slab_limit, array_limit, record_limit, size_of, count_limit, MeaningsAreGood, MeaningsAreNearlySayable, IsNearlySayable, NearlyIsSayable, text_limit, Lexeme, lexeme, statements, piece_read, run, empty, listed_values, records_of, records_in, array_of, header_of, dataset_of, is_within_limits, are_within_limits, closing_line, finished, meaning, AreDistinct, AreSayableAtts, HasSomeNumber, Statement, Open, Enter, DeclareDimensions, DeclareVariables, Attribute, Listed, shape, State, Draft, act, with_att, with_values, type_of, ok_or, filled, CdlFault, Section, Token, and_left, and_right, some_count, length-numbers, Each, each_map, all_of}
+use Rattle.cdl_laws.proofs.Outcomes.{OkIs, ok_then, in_if, total, each_more}
 use Rattle.cdl_laws.proofs.Sayables.{draft_name}
-use Rattle.cdl_laws.proofs.Said.{IsByte, HasBytes, mass}
-use Rattle.cdl_laws.proofs.Uttered.{late, IsSaid, shape_says, token_mass, all_mass, mass_is, piece_bytes}
-use Rattle.cdl_laws.proofs.Fine.{IsFineAtt, AreFineAtts, IsFineDim, AreFineDims, IsFineDraft, AreFineDrafts, att_keeps, dims_keep, vars_keep, at_keeps, with_att_keeps, all_later, number_bytes, one_times}
-use Rattle.cdl_laws.proofs.Roomy.{with_values_keeps, filled_len, up_to}
+use Rattle.cdl_laws.proofs.Said.{IsByte, HasBytes, mass, late, IsSaid, shape_says, token_mass, all_mass, mass_is, piece_bytes}
+use Rattle.cdl_laws.proofs.Fine.{IsFineAtt, AreFineAtts, IsFineDim, AreFineDims, IsFineDraft, AreFineDrafts, att_keeps, dims_keep, vars_keep, at_keeps, with_att_keeps, all_later, number_bytes, one_times, with_values_keeps, filled_len, up_to}
 
 -- ---- states
 
@@ -17,64 +15,38 @@ pub record IsFineState (v : Version) (N n : ℕ) (s : State) : Type 0 where
   -- no variable stands before the section of variables
   pub early : late s.section < 3 → s.drafts ≡ []
 
-dims_later : (v : Version) (N n m : ℕ) (dims : List Dim) → AreFineDims v N n dims → AreFineDims v N (n + m) dims
-dims_later v N n m dims f = record { count = (let a = f.count in omega (arith, a)); fine = f.fine; names = f.names; once = f.once }
-
-atts_later : (v : Version) (N n m : ℕ) (atts : List Att) → AreFineAtts v N n atts → AreFineAtts v N (n + m) atts
-atts_later v N n m atts f = record { count = (let a = f.count in omega (arith, a)); fine = f.fine; names = f.names }
-
 -- the same dataset in another section
 advanced : (v : Version) (N n m : ℕ) (s : State) (next : Section) → (late next < 3 → late s.section < 3) → IsFineState v N n s → IsFineState v N (n + m) (record s { section = next })
-advanced v N n m s next back f = grind (arith, dims_later, atts_later, all_later)
-
-type_has : (v : Version) (word : Lexeme) → OkIs (λ ty. has_type v ty ≡ true) (type_of v word)
-unfolding type_of
-type_has v word = grind (arith, in_if, codes, ok_or, and_left)
+advanced v N n m s next back f = grind (arith, all_later)
 
 none_left : (n : ℕ) (ds es : List Draft) → (n < 3 → ds ≡ []) → length es ≡ length ds → n < 3 → es ≡ []
 none_left n ds [] early len h = refl
 none_left n ds (e ∷ es) early len h = absurd (let a : length ds ≡ 0 = ap (λ (xs : List Draft). length xs) (early h) in omega (arith, a, len))
 
 act_keeps : (v : Version) (N n m : ℕ) (s : State) (st : Statement) → m ≤ N → IsFineState v N n s → IsSaid v s.section m st → OkIs (IsFineState v N (n + m)) (act v s st)
-unfolding act
+unfolding act type_of
 act_keeps v N n m s Open small f said = advanced v N n m s _ (λ h. omega (arith, said)) f
 act_keeps v N n m s (Enter next) small f said = advanced v N n m s next (λ h. omega (arith, said, h)) f
 act_keeps v N n m s (DeclareDimensions ds) small f said =
-    grind (arith, dims_keep v N n m s.dims ds small said.1 f.dims, atts_later v N n m s.gatts f.gatts, ok_then)
+    grind (arith, dims_keep v N n m s.dims ds small said.1 f.dims, ok_then)
 act_keeps v N n m s (DeclareVariables word vs) small f said =
-    ok_then (λ ty. has_type v ty ≡ true) (IsFineState v N (n + m)) (type_of v word) (λ ty. in_turn (add_var s.dims ty) s.drafts vs >>= (λ drafts. Ok (record s { drafts = drafts }))) (type_has v word) (λ ty has.
-    ok_then (AreFineDrafts v N (n + m) s.dims) (IsFineState v N (n + m)) (in_turn (add_var s.dims ty) s.drafts vs) (λ drafts. Ok (record s { drafts = drafts })) (vars_keep v N n m s.dims ty s.drafts vs has small said.1 f.drafts) (λ drafts fine.
-    record {
-      dims = dims_later v N n m s.dims f.dims;
-      gatts = atts_later v N n m s.gatts f.gatts;
-      drafts = fine;
-      early = λ h. absurd (let a = said.0 in omega (arith, a, h));
-    }))
+    grind (arith, ok_then, vars_keep v N n m s.dims, in_if, codes, ok_or, and_left)
 act_keeps v N n m s (Attribute None name cs) small f said =
-    grind (arith, att_keeps v N n m name cs s.gatts small said f.gatts, dims_later v N n m s.dims f.dims, ok_then, all_later)
+    grind (arith, att_keeps v N n m name cs s.gatts small said f.gatts, ok_then, all_later)
 act_keeps v N n m s (Attribute (Some variable) name cs) small f said =
-    ok_then (λ es. AreFineDrafts v N (n + m) s.dims es × (length es ≡ length s.drafts)) (IsFineState v N (n + m)) (change_variable variable (with_att name cs) s.drafts) (λ drafts. Ok (record s { drafts = drafts }))
-    (at_keeps v N n m s.dims variable (with_att name cs) (with_att_keeps v N n m s.dims name cs small said) s.drafts f.drafts) (λ es h.
-    record { dims = dims_later v N n m s.dims f.dims; gatts = atts_later v N n m s.gatts f.gatts; drafts = h.0; early = none_left (late s.section) s.drafts es f.early h.1 })
+    let kept = at_keeps v N n m s.dims variable (with_att name cs) (with_att_keeps v N n m s.dims name cs small said) s.drafts f.drafts in
+    grind (arith, kept, ok_then, none_left (late s.section) s.drafts)
 act_keeps v N n m s (Listed variable xs) small f said =
-    ok_then (λ es. AreFineDrafts v N (n + m) s.dims es × (length es ≡ length s.drafts)) (IsFineState v N (n + m)) (change_variable variable (with_values s.dims xs) s.drafts) (λ drafts. Ok (record s { drafts = drafts }))
-    (at_keeps v N n m s.dims variable (with_values s.dims xs) (with_values_keeps v N n m s.dims variable xs small said) s.drafts f.drafts) (λ es h.
-    record { dims = dims_later v N n m s.dims f.dims; gatts = atts_later v N n m s.gatts f.gatts; drafts = h.0; early = none_left (late s.section) s.drafts es f.early h.1 })
+    let kept = at_keeps v N n m s.dims variable (with_values s.dims xs)
+    (with_values_keeps v N n m s.dims variable xs small said) s.drafts f.drafts in
+    grind (arith, kept, ok_then, none_left (late s.section) s.drafts)
 act_keeps v N n m s _ small f said = advanced v N n m s _ (λ h. absurd (omega (arith, h))) f
 
 -- ---- the run
 
 piece_keeps : (v : Version) (N n : ℕ) (s : State) (piece : List Lexeme) → mass piece ≤ N → Each HasBytes piece → IsFineState v N n s → OkIs (IsFineState v N (n + mass piece)) (piece_read v s piece)
 unfolding piece_read
-piece_keeps v N n s piece small bytes f = of_bad (first_bad v piece)
-  where
-    of_shape : (o : Option Statement) → SomeIs (IsSaid v s.section (mass piece)) o → OkIs (IsFineState v N (n + mass piece)) (shaped v s o)
-    of_shape None h = tt
-    of_shape (Some st) h = act_keeps v N n (mass piece) s st small f h
-
-    of_bad : (o : Option CdlKind) → OkIs (IsFineState v N (n + mass piece)) (checked v s o piece)
-    of_bad (Some bad) = tt
-    of_bad None = of_shape (shape v s.section piece) (shape_says v s.section piece bytes)
+piece_keeps v N n s piece small bytes f = grind (arith, shape_says v s.section piece bytes, act_keeps v N n (mass piece) s)
 
 run_keeps : (text : List ℕ) (v : Version) (N n : ℕ) (s : State) (ps : List (List Token)) → Each IsByte text → total (token_mass text) ps ≤ N → IsFineState v N n s →
     OkIs (IsFineState v N (n + total (token_mass text) ps)) (run text v s ps)
@@ -82,49 +54,24 @@ unfolding run
 run_keeps text v N n s [] bytes small f = let e : n ≡ n + 0 = omega arith in subst (λ m. IsFineState v N m s) e f
 run_keeps text v N n s (p ∷ ps) bytes small f =
     let m = token_mass text p in
-    let rest = total (token_mass text) ps in
-    let e : n + m + rest ≡ n + (m + rest) = omega arith in
+    let e : n + m + total (token_mass text) ps ≡ n + (m + total (token_mass text) ps) = omega arith in
     let is = mass_is text p in
-    elim (piece_read v s (map (lexeme text) p)) as (λ r. OkIs (IsFineState v N (n + m)) r →
-    OkIs (IsFineState v N (n + (m + rest))) (elim r as (λ x. Result State CdlFault) [ Ok u ↦ run text v u ps | Err kind ↦ Err (record { line = starting_line p; kind = kind }) ])) [
-      | Ok u ↦ (λ h. subst (λ k. OkIs (IsFineState v N k) (run text v u ps)) e (run_keeps text v N (n + m) u ps bytes (omega (arith, small)) h))
-      | Err kind ↦ (λ h. tt)
-    ] (subst (λ k. OkIs (IsFineState v N (n + k)) (piece_read v s (map (lexeme text) p))) is
-    (piece_keeps v N n s (map (lexeme text) p) (omega (arith, small, is)) (piece_bytes text p bytes) f))
+    let kept = piece_keeps v N n s (map (lexeme text) p) (omega (arith, small, is)) (piece_bytes text p bytes) f in
+    grind (arith, kept, (λ (u : State). run_keeps text v N (n + m) u ps bytes (omega (arith, small))))
 
 -- ---- records and arrays
 
-records_small : (v : Version) (N n : ℕ) (dims : List Dim) (d : Draft) → IsFineDraft v N n dims d → records_of dims d ≤ N
-records_small v N n dims d f =
-    let slab = slab_count dims d.var in
-    let some = some_count dims d.var.dimids f.shape in
-    elim (is_record_var dims d.var) as (λ b. length (listed_values dims d) ≤ slab * (if b then N else 1) → (if b then (length (listed_values dims d) + slab - 1) / slab else 0) ≤ N) [
-      | true ↦ (λ h.
-          let a = one_times N slab in
-          let c = mul_comm slab N in
-          let e = (div-lt_iff_lt-mul {k = slab} {x = length (listed_values dims d) + slab - 1} {y = suc N} some).1 (omega (arith, a, c, h, some)) in
-          omega (arith, e))
-      | false ↦ (λ h. omega arith)
-    ] (f.listed d.var.atts)
-
 all_records_small : (v : Version) (N n : ℕ) (dims : List Dim) (ds : List Draft) → Each (IsFineDraft v N n dims) ds → records_in dims ds ≤ N
 all_records_small v N n dims [] f = omega arith
-all_records_small v N n dims (d ∷ ds) f = let a = records_small v N n dims d f.0 in let b = all_records_small v N n dims ds f.1 in omega (arith, a, b)
+all_records_small v N n dims (d ∷ ds) f = let a : records_of dims d ≤ N =
+    grind (arith, f.0.listed d.var.atts, some_count dims d.var.dimids f.0.shape, one_times N (slab_count dims d.var), div-lt_iff_lt-mul) in
+    let b = all_records_small v N n dims ds f.1 in
+    omega (arith, a, b)
 
 -- what is listed has capacity over the records
 listed_fits : (v : Version) (N n : ℕ) (dims : List Dim) (r : ℕ) (d : Draft) → IsFineDraft v N n dims d → records_of dims d ≤ r → length (listed_values dims d) ≤ value_count dims d.var r
 listed_fits v N n dims r d f h =
-    let slab = slab_count dims d.var in
-    let some = some_count dims d.var.dimids f.shape in
-    elim (is_record_var dims d.var) as (λ b. length (listed_values dims d) ≤ slab * (if b then N else 1) → (if b then (length (listed_values dims d) + slab - 1) / slab else 0) ≤ r → length (listed_values dims d) ≤ slab * (if b then r else 1)) [
-      | true ↦ (λ l k.
-          let q = (length (listed_values dims d) + slab - 1) / slab in
-          let a = lt-div-mul-add {a = length (listed_values dims d) + slab - 1} {b = slab} some in
-          let b = mul-le-mul_left slab k in
-          let c = mul_comm slab q in
-          omega (arith, a, b, c, some))
-      | false ↦ (λ l k. l)
-    ] (f.listed d.var.atts) h
+    grind (arith, f.listed d.var.atts, some_count dims d.var.dimids f.shape, lt-div-mul-add, mul-le-mul_left, mul_comm)
 
 bytes_each : (bs : List ℕ) → AreBytes bs → Each IsByte bs
 bytes_each [] h = tt
@@ -173,9 +120,6 @@ bare_same v N n dims (d ∷ ds) f = search (rules, bare_same v N n dims ds f.1)
 att_sound : (v : Version) (N : ℕ) → N < count_limit v → (a : Att) → IsFineAtt v N a → IsSoundAtt v a
 att_sound v N lim a f = grind arith
 
-atts_sound : (v : Version) (N n : ℕ) → N < count_limit v → (atts : List Att) → AreFineAtts v N n atts → All (IsSoundAtt v) atts
-atts_sound v N n lim atts f = all_of (IsSoundAtt v) atts (each_map (IsFineAtt v N) (IsSoundAtt v) atts (att_sound v N lim) f.fine)
-
 var_sound : (v : Version) (N n : ℕ) (dims : List Dim) (r : ℕ) → N < count_limit v → n ≤ N → (d : Draft) → IsFineDraft v N n dims d → IsSmall dims r d → IsSoundVar v dims d.var
 var_sound v N n dims r lim under d f small = grind (arith, shape, all_of, each_map, att_sound)
 
@@ -192,7 +136,7 @@ sound v N n s lim under f small =
       dims = all_of (IsSoundDim v) s.dims (each_map (IsFineDim v N) (IsSoundDim v) s.dims (λ d g. record { name_len = (let b = g.short in omega (arith, b, lim)); len = g.len }) f.dims.fine);
       one_record_dim = f.dims.once;
       gatt_count = (let a = f.gatts.count in omega (arith, a, lim, under));
-      gatts = atts_sound v N n lim s.gatts f.gatts;
+      gatts = all_of (IsSoundAtt v) s.gatts (each_map (IsFineAtt v N) (IsSoundAtt v) s.gatts (att_sound v N lim) f.gatts.fine);
       var_count = (let a = f.drafts.count in let b = length-map s.drafts (λ (d : Draft). d.var) in omega (arith, a, b, lim, under));
       vars = search (rules, all_of, each_of_map, each_both, var_sound);
       small_records = up_to (record_size (header_of v s)) record_limit (and_right all rec_ small);

@@ -1,42 +1,17 @@
 -- A valid name, escaped, is one word that stands for it.
-use Rattle.std.proofs.Common.{◌≡◌, ℕ, Bool, true, false, List, [], ◌∷◌, ◌++◌, length, get_or, ◌∙◌, refl, arith, nat_le, ◌&&◌, ◌||◌, ◌==◌, if◌then◌else◌, not, ap}
-use Rattle.cdl_laws.proofs.Prelude.{is_ascii_digit, is_in_range, flat_map, list_all, bytes_eq, false≢true, eqb-true, bytes_eq-Decides, is_plain, is_name_mark, escaped_in_name, escaped_name, is_reserved, reserved_words, begins_with_digit_or_mark, may_begin_name, may_follow_in_name, is_beyond_ascii, is_escape, is_escapable, goes_on_word, may_begin_word, word_len, word_value, and_left, and_right, word_at_start, value_at_start}
-use Rattle.cdl_laws.proofs.Bools.{or_left, or_right, of_any}
+use Rattle.std.proofs.Common.{◌≡◌, ℕ, Bool, true, false, List, [], ◌∷◌, ◌++◌, length, get_or, ◌∙◌, refl, arith, if◌then◌else◌, ap}
+use Rattle.cdl_laws.proofs.Prelude.{flat_map, list_all, bytes_eq, false≢true, eqb-true, bytes_eq-Decides, is_plain, escaped_in_name, escaped_name, is_reserved, reserved_words, may_begin_name, may_follow_in_name, is_escape, is_escapable, goes_on_word, may_begin_word, word_len, word_value, and_left, and_right, word_at_start, value_at_start, list_any, or_left, or_right}
 
 -- ---- bytes
 
 pub no_escape : (b c : ℕ) → goes_on_word b ≡ true → is_escape b c ≡ false
 no_escape b c h = grind (arith, false≢true, eqb-true)
 
--- by the tests: from 32, up to 126, `/`, beyond
-follows : (l h s x : Bool) → ((l && h && not s) || x) ≡ true → ((l && h) || x) ≡ true
-follows true false s x e = grind arith
-follows _ _ s _ e = grind arith
-
 pub escapable : (b : ℕ) → may_follow_in_name b ≡ true → is_escapable b ≡ true
-escapable b h = follows (nat_le 32 b) (nat_le b 126) (b == 47) (is_beyond_ascii b) h
-
--- by the tests: digit, upper, lower, `_`, mark, beyond
-plain : (d u l s m x : Bool) → (((d || u) || l) || s || m || x) ≡ true → (d || m) ≡ false → ((u || l) || s || x) ≡ true
-plain d u l s m x h h2 = grind (arith, false≢true)
-
-pub bare_begins : (b : ℕ) → is_plain b ≡ true → (is_ascii_digit b || is_name_mark b) ≡ false → may_begin_word b ≡ true
-bare_begins b h k = plain (is_ascii_digit b) (is_in_range 65 90 b) (is_in_range 97 122 b) (b == 95) (is_name_mark b) (is_beyond_ascii b) h k
-
-plainly : (d u l s m x : Bool) → (d || m) ≡ true → (((d || u) || l) || s || m || x) ≡ true
-plainly d u l s m x h = grind arith
-
-pub marked_plain : (b : ℕ) → (is_ascii_digit b || is_name_mark b) ≡ true → is_plain b ≡ true
-marked_plain b h = plainly (is_ascii_digit b) (is_in_range 65 90 b) (is_in_range 97 122 b) (b == 95) (is_name_mark b) (is_beyond_ascii b) h
-
-begins_plainly : (d u l s m x : Bool) → ((u || l) || s || x) ≡ true → (((d || u) || l) || s || m || x) ≡ true
-begins_plainly d u l s m x h = grind arith
+escapable b h = grind arith
 
 pub begins_goes_on : (b : ℕ) → may_begin_word b ≡ true → goes_on_word b ≡ true
-begins_goes_on b h = begins_plainly (is_ascii_digit b) (is_in_range 65 90 b) (is_in_range 97 122 b) (b == 95) (is_name_mark b) (is_beyond_ascii b) h
-
-first_may_follow : (b : ℕ) → may_begin_name b ≡ true → may_follow_in_name b ≡ true
-first_may_follow b h = grind (arith, h)
+begins_goes_on b h = grind arith
 
 -- ---- the bytes after the first
 
@@ -46,13 +21,8 @@ rest_of name = flat_map escaped_in_name name
 pub rest_len : (name rest : List ℕ) → list_all may_follow_in_name name ≡ true → word_len rest ≡ 0 → word_len (rest_of name ++ rest) ≡ length (rest_of name)
 rest_len [] rest h e = e
 rest_len (b ∷ name) rest h e =
-    let more = and_right (may_follow_in_name b) (list_all may_follow_in_name name) h in
-    let one : is_escapable b ≡ true = escapable b (and_left (may_follow_in_name b) (list_all may_follow_in_name name) h) in
-    let ih = rest_len name rest more e in
-    elim (is_plain b) as (λ w. is_plain b ≡ w → word_len (((if w then b ∷ [] else 0x5c ∷ b ∷ []) ++ rest_of name) ++ rest) ≡ length ((if w then b ∷ [] else 0x5c ∷ b ∷ []) ++ rest_of name)) [
-      | true ↦ (λ g. word_at_start b (rest_of name ++ rest) ∙ rw (no_escape b (get_or (rest_of name ++ rest) 0 0) g) (rw (g) (omega (arith, ih))))
-      | false ↦ (λ g. word_at_start 0x5c (b ∷ rest_of name ++ rest) ∙ rw (one) (omega (arith, ih)))
-    ] refl
+    let ih = rest_len name rest (and_right (may_follow_in_name b) (list_all may_follow_in_name name) h) e in
+    grind (arith, word_at_start, no_escape, escapable, is_plain, and_left, ih)
 
 pub rest_value : (name : List ℕ) → list_all may_follow_in_name name ≡ true → word_value (rest_of name) ≡ name
 unfolding word_value
@@ -73,20 +43,23 @@ pub data Begins (b : ℕ) (bs : List ℕ) : Type 0 where
   marked : is_escapable b ≡ true → escaped_name (b ∷ bs) ≡ 0x5c ∷ b ∷ rest_of bs → Begins b bs
   bare : may_begin_word b ≡ true → is_reserved (b ∷ bs) ≡ false → escaped_name (b ∷ bs) ≡ b ∷ rest_of bs → Begins b bs
 
-escaped_is : (b : ℕ) (bs : List ℕ) → escaped_name (b ∷ bs) ≡ (if begins_with_digit_or_mark (b ∷ bs) || is_reserved (b ∷ bs) then 92 ∷ [] else []) ++ (escaped_in_name b ++ rest_of bs)
-unfolding escaped_name
-escaped_is b bs = refl
-
 pub begins : (b : ℕ) (bs : List ℕ) → may_begin_name b ≡ true → Begins b bs
-begins b bs h = grind (arith, escapable, first_may_follow, escaped_is, is_plain, bare_begins, or_left, or_right)
+unfolding escaped_name
+begins b bs h = grind (arith, escapable, is_plain, or_left, or_right, h)
 
 -- ---- names
 
 pub name_len : (b : ℕ) (bs rest : List ℕ) → Begins b bs → list_all may_follow_in_name bs ≡ true → word_len rest ≡ 0 → word_len (escaped_name (b ∷ bs) ++ rest) ≡ length (escaped_name (b ∷ bs))
-name_len b bs rest h h2 h3 = grind (arith, rest_len, word_at_start, no_escape, begins_plainly)
+name_len b bs rest h h2 h3 = grind (arith, rest_len, word_at_start, no_escape, begins_goes_on)
 
 pub name_value : (b : ℕ) (bs : List ℕ) → Begins b bs → list_all may_follow_in_name bs ≡ true → word_value (escaped_name (b ∷ bs)) ≡ b ∷ bs
-name_value b bs h h2 = grind (arith, value_at_start, rest_value, no_escape, begins_plainly)
+name_value b bs h h2 = grind (arith, value_at_start, rest_value, no_escape, begins_goes_on)
+
+-- what holds of each word of a list holds of one that is in the list
+of_any : (p : List ℕ → Bool) (word : List ℕ) (words : List (List ℕ)) → list_all p words ≡ true → list_any (bytes_eq word) words ≡ true →
+    p word ≡ true
+of_any p word [] all any = cc
+of_any p word (w ∷ words) all any = grind (arith, bytes_eq-Decides, and_left, and_right, of_any p word words (and_right (p w) (list_all p words) all))
 
 -- a reserved word stands for itself
 stands : List ℕ → Bool

@@ -1,8 +1,8 @@
 -- A decimal number is read again.
-use Rattle.std.proofs.Common.{◌≡◌, ℕ, zero, suc, ◌+◌, ◌/◌, ◌%◌, ◌^◌, ◌<◌, ◌≤◌, Bool, true, false, List, [], ◌∷◌, ◌++◌, length, get_or, sym, ◌∙◌, ap, refl, arith, append-nil, ℤ, pos, unsigned_abs, decimal, ◌==◌, not, Some, nat_lt, Option, rules}
-use Rattle.cdl_laws.proofs.Prelude.{signed_decimal, digits_onto, digits, digit_glyph, prefix_len, list_all, eqb-true, first_decimal, decimal_nonempty, drop-append_seam, take-append_seam, NcType, Int, Version, number_suffix, is_char, has_type, digit_value, is_digit, is_sign, goes_on_number, number_in, type_of_suffix, in_base, with_sign, numeral, parts, Parts, option_map, list_all-append, and_left, and_right, and_both, is_off, not_none}
+use Rattle.std.proofs.Common.{◌≡◌, ℕ, zero, suc, ◌+◌, ◌/◌, ◌%◌, ◌^◌, ◌<◌, ◌≤◌, Bool, true, false, List, [], ◌∷◌, ◌++◌, length, get_or, sym, ◌∙◌, ap, refl, arith, append-nil, ℤ, pos, unsigned_abs, decimal, ◌==◌, not, Some, nat_lt, Option, rules, negsuc, subst}
+use Rattle.cdl_laws.proofs.Prelude.{signed_decimal, digits_onto, digits, digit_glyph, prefix_len, list_all, eqb-true, first_decimal, decimal_nonempty, drop-append_seam, take-append_seam, NcType, Int, Version, number_suffix, is_char, has_type, digit_value, is_digit, is_sign, goes_on_number, number_in, type_of_suffix, in_base, with_sign, numeral, parts, Parts, option_map, list_all-append, and_left, and_right, and_both, is_off, not_none, number}
 use native.Mathlib.Numerals.{unary_clauses}
-use Rattle.cdl_laws.proofs.Texts.{Reads, number, digits_read, minus_reads}
+use Rattle.cdl_laws.proofs.Texts.{IsNumber, begun_number}
 
 -- ---- the digits of a number
 
@@ -24,10 +24,6 @@ pub decimal_digits : (n : ℕ) → list_all is_digit (decimal n) ≡ true
 unfolding digits
 decimal_digits n = onto_digits 64 n [] refl
 
-pub decimal_value : (n : ℕ) → n < 2 ^ 64 → number_in 10 0 (decimal n) ≡ n
-unfolding digits
-decimal_value n h = onto_value 64 n [] (let e : 2 ^ 64 ≤ 10 ^ 64 = omega arith in omega (arith, h, e))
-
 -- ---- a decimal with a suffix
 
 -- no digit stands at the start
@@ -40,12 +36,6 @@ digits_then [] [] h k = refl
 digits_then [] (b ∷ suf) h k = rw (is_off (is_digit b) k) refl
 digits_then (d ∷ ds) suf h k = rw (and_left (is_digit d) (list_all is_digit ds) h) (let ih = digits_then ds suf (and_right (is_digit d) (list_all is_digit ds) h) k in omega (arith, ih))
 
-not_zero : (d : ℕ) → 48 < d → (d == 48) ≡ false
-not_zero d h = grind (arith, h)
-
-no_sign : (d : ℕ) → is_digit d ≡ true → is_sign d ≡ false
-no_sign d h = grind (arith, h)
-
 -- the number with the type of its suffix
 abbrev with_suffix : Bool → ℕ → Option NcType → Option Parts
 with_suffix minus n suf = option_map (λ ty. record { minus = minus; magnitude = n; ty = ty }) suf
@@ -57,17 +47,12 @@ based v minus d ds suf n e = grind (arith, not_none, take-append_seam, drop-appe
 big_back : (v : Version) (minus : Bool) (ds suf : List ℕ) → list_all is_digit ds ≡ true → 48 < get_or ds 0 0 → no_digit suf ≡ true →
     with_sign v minus (ds ++ suf) ≡ with_suffix minus (number_in 10 0 ds) (type_of_suffix v suf)
 big_back v minus [] suf h big k = absurd (omega (arith, big))
-big_back v minus (d ∷ ds) suf h big k = rw (not_zero d big) (based v minus d ds suf (prefix_len is_digit ((d ∷ ds) ++ suf)) (digits_then (d ∷ ds) suf h k))
+big_back v minus (d ∷ ds) suf h big k =
+    let other : (d == 48) ≡ false = grind (arith, big) in
+    rw (other) (based v minus d ds suf (prefix_len is_digit ((d ∷ ds) ++ suf)) (digits_then (d ∷ ds) suf h k))
 
 zero_back : (v : Version) (minus : Bool) (ty : NcType) → with_sign v minus (48 ∷ number_suffix ty) ≡ with_suffix minus 0 (type_of_suffix v (number_suffix ty))
 zero_back v minus ty = search rules
-
-suffix_back : (v : Version) (ty : NcType) → has_type v ty ≡ true → is_char ty ≡ false → type_of_suffix v (number_suffix ty) ≡ Some ty
-unfolding type_of_suffix
-suffix_back v ty h h2 = grind arith
-
-no_digit_suffix : (ty : NcType) → no_digit (number_suffix ty) ≡ true
-no_digit_suffix ty = grind arith
 
 pub on_suffix : (ty : NcType) → list_all goes_on_number (number_suffix ty) ≡ true
 on_suffix ty = grind arith
@@ -77,39 +62,32 @@ unsigned_some : (v : Version) (minus : Bool) (ty : NcType) (n : ℕ) → n < 2 ^
 unfolding digits
 unsigned_some v minus ty zero h = zero_back v minus ty
 unsigned_some v minus ty (suc n) h =
-    big_back v minus (decimal (suc n)) (number_suffix ty) (decimal_digits (suc n)) (first_decimal (suc n) (omega arith) h) (no_digit_suffix ty) ∙
-    ap (λ m. with_suffix minus m (type_of_suffix v (number_suffix ty))) (decimal_value (suc n) h)
+    big_back v minus (decimal (suc n)) (number_suffix ty) (decimal_digits (suc n)) (first_decimal (suc n) (omega arith) h) (grind arith) ∙
+    ap (λ m. with_suffix minus m (type_of_suffix v (number_suffix ty)))
+    (onto_value 64 (suc n) [] (let e : 2 ^ 64 ≤ 10 ^ 64 = omega arith in omega (arith, h, e)))
 
 unsigned_again : (v : Version) (minus : Bool) (ty : NcType) (n : ℕ) → n < 2 ^ 64 → has_type v ty ≡ true → is_char ty ≡ false →
     with_sign v minus (decimal n ++ number_suffix ty) ≡ Some (record { minus = minus; magnitude = n; ty = ty })
-unsigned_again v minus ty n h k l = unsigned_some v minus ty n h ∙ ap (with_suffix minus n) (suffix_back v ty k l)
+unfolding type_of_suffix
+unsigned_again v minus ty n h k l = unsigned_some v minus ty n h ∙
+    ap (with_suffix minus n) (let e : type_of_suffix v (number_suffix ty) ≡ Some ty = grind arith in e)
 
 first_sign : (ds suf : List ℕ) → list_all is_digit ds ≡ true → 0 < length ds → is_sign (get_or (ds ++ suf) 0 0) ≡ false
 first_sign [] suf h k = absurd (omega (arith, k))
-first_sign (d ∷ ds) suf h k = no_sign d (and_left (is_digit d) (list_all is_digit ds) h)
-
-parts_positive : (v : Version) (ty : NcType) (n : ℕ) → n < 2 ^ 64 → has_type v ty ≡ true → is_char ty ≡ false →
-    parts v (decimal n ++ number_suffix ty) ≡ Some (record { minus = false; magnitude = n; ty = ty })
-unfolding parts
-parts_positive v ty n h k l = rw (first_sign (decimal n) (number_suffix ty) (decimal_digits n) (decimal_nonempty n h)) (unsigned_again v false ty n h k l)
-
-parts_negative : (v : Version) (ty : NcType) (n : ℕ) → n < 2 ^ 64 → has_type v ty ≡ true → is_char ty ≡ false →
-    parts v (45 ∷ (decimal n ++ number_suffix ty)) ≡ Some (record { minus = true; magnitude = n; ty = ty })
-unfolding parts
-parts_negative v ty n h k l = unsigned_again v true ty n h k l
+first_sign (d ∷ ds) suf h k = grind (arith, (and_left (is_digit d) (list_all is_digit ds) h))
 
 -- a number of a type with the type's suffix
 pub numeral_again : (v : Version) (ty : NcType) (n : ℤ) → unsigned_abs n < 2 ^ 64 → has_type v ty ≡ true → is_char ty ≡ false →
     numeral v (signed_decimal n ++ number_suffix ty) ≡ Some (record { value = n; ty = ty })
-unfolding numeral
-numeral_again v ty n h h2 h3 = grind (arith, pos, parts_positive, parts_negative)
+unfolding numeral parts
+numeral_again v ty (pos n) h k l =
+    rw (first_sign (decimal n) (number_suffix ty) (decimal_digits n) (decimal_nonempty n h))
+    (ap (option_map number) (unsigned_again v false ty n h k l))
+numeral_again v ty (negsuc n) h k l = ap (option_map number) (unsigned_again v true ty (suc n) h k l)
 
 -- a number as a value
-pub int_known : (v : Version) → has_type v Int ≡ true
-int_known v = grind arith
-
 pub value_again : (v : Version) (n : ℤ) → unsigned_abs n < 2 ^ 64 → numeral v (signed_decimal n) ≡ Some (record { value = n; ty = Int })
-value_again v n h = ap (numeral v) (sym (append-nil (signed_decimal n))) ∙ numeral_again v Int n h (int_known v) refl
+value_again v n h = ap (numeral v) (sym (append-nil (signed_decimal n))) ∙ numeral_again v Int n h (grind arith) refl
 
 -- ---- its token
 
@@ -117,13 +95,21 @@ pub goes_on : (ds : List ℕ) → list_all is_digit ds ≡ true → list_all goe
 goes_on [] h = refl
 goes_on (d ∷ ds) h = grind (arith, and_both, and_left, and_right, goes_on ds (and_right (is_digit d) (list_all is_digit ds) h))
 
-unsigned_reads : (ds suf : List ℕ) → list_all is_digit ds ≡ true → 0 < length ds → list_all goes_on_number suf ≡ true → Reads (ds ++ suf) (number (ds ++ suf) ∷ [])
-unsigned_reads [] suf h some k = grind (arith, digits_read, and_left, list_all-append, and_both, goes_on, and_right)
-unsigned_reads _ suf h some k = grind (arith, digits_read, and_left, list_all-append, and_both, goes_on, and_right)
+digits_number : (ds suf : List ℕ) → list_all is_digit ds ≡ true → 0 < length ds → list_all goes_on_number suf ≡ true →
+    IsNumber (ds ++ suf) × IsNumber (45 ∷ (ds ++ suf))
+digits_number [] suf h some k = absurd (omega (arith, some))
+digits_number (d ∷ ds) suf h some k =
+    let digit = and_left (is_digit d) (list_all is_digit ds) h in
+    let on : list_all goes_on_number (d ∷ (ds ++ suf)) ≡ true =
+    list_all-append goes_on_number (d ∷ ds) suf ∙ and_both (list_all goes_on_number (d ∷ ds)) (list_all goes_on_number suf)
+    (goes_on (d ∷ ds) h) k in (
+      begun_number d (ds ++ suf) (λ rest. rw (digit) refl) (and_right (goes_on_number d) (list_all goes_on_number (ds ++ suf)) on),
+      begun_number 45 (d ∷ (ds ++ suf)) (λ rest. rw (digit) refl) on,
+    )
 
-signed_reads : (ds suf : List ℕ) → list_all is_digit ds ≡ true → 0 < length ds → list_all goes_on_number suf ≡ true → Reads (45 ∷ (ds ++ suf)) (number (45 ∷ (ds ++ suf)) ∷ [])
-signed_reads [] suf h some k = grind (arith, and_left, list_all-append, and_both, goes_on)
-signed_reads _ suf h some k = grind (arith, minus_reads, and_left, list_all-append, and_both, goes_on)
+pub number_is : (n : ℤ) (suf : List ℕ) → unsigned_abs n < 2 ^ 64 → list_all goes_on_number suf ≡ true → IsNumber (signed_decimal n ++ suf)
+number_is (pos n) suf h k = (digits_number (decimal n) suf (decimal_digits n) (decimal_nonempty n h) k).0
+number_is (negsuc n) suf h k = (digits_number (decimal (suc n)) suf (decimal_digits (suc n)) (decimal_nonempty (suc n) h) k).1
 
-pub number_reads : (n : ℤ) (suf : List ℕ) → unsigned_abs n < 2 ^ 64 → list_all goes_on_number suf ≡ true → Reads (signed_decimal n ++ suf) (number (signed_decimal n ++ suf) ∷ [])
-number_reads n suf h h2 = grind (arith, pos, unsigned_reads, decimal, decimal_digits, decimal_nonempty, signed_reads)
+pub value_is : (n : ℤ) → unsigned_abs n < 2 ^ 64 → IsNumber (signed_decimal n)
+value_is n h = subst IsNumber (append-nil (signed_decimal n)) (number_is n [] h refl)

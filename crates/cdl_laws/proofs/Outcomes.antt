@@ -1,7 +1,7 @@
 -- What holds of what an option or a result has, and of lists by totals.
-use Rattle.std.proofs.Common.{◌≡◌, ℕ, ◌+◌, ◌≤◌, Bool, true, false, List, [], ◌∷◌, ◌++◌, subst, arith, zero, suc, All, if◌then◌else◌, Option, None, Some, Result, Ok, Err, take, drop}
+use Rattle.std.proofs.Common.{◌≡◌, ℕ, ◌+◌, ◌≤◌, Bool, true, false, List, [], ◌∷◌, ◌++◌, subst, arith, zero, suc, if◌then◌else◌, Option, None, Some, Result, Ok, Err, take, drop}
 use Rattle.std.specs.Prelude.{⊤}
-use Rattle.cdl_laws.proofs.Prelude.{option_map, option_and_then, in_turn, unless, when, ok_or, both, if_so, CdlKind, Each, ◌>>=◌}
+use Rattle.cdl_laws.proofs.Prelude.{option_map, option_and_then, in_turn, unless, when, both, if_so, CdlKind, Each, ◌>>=◌}
 
 -- ---- options
 
@@ -45,9 +45,6 @@ ok_unless Q b e f h = grind arith
 pub ok_when : {B : Type 0} (Q : B → Type 0) (b : Bool) (e : CdlKind) (f : ⊤ → Result B CdlKind) → (b ≡ false → OkIs Q (f tt)) → OkIs Q (when b e >>= f)
 ok_when Q b e f h = grind arith
 
-pub ok_found : {A B : Type 0} (P : A → Type 0) (Q : B → Type 0) (o : Option A) (e : CdlKind) (f : A → Result B CdlKind) → SomeIs P o → ((a : A) → P a → OkIs Q (f a)) → OkIs Q (ok_or o e >>= f)
-ok_found P Q o e f h h2 = grind arith
-
 -- ---- totals
 
 abbrev pub total : {X : Type 0} → (X → ℕ) → List X → ℕ
@@ -63,11 +60,7 @@ pub turns : {S A : Type 0} (f : S → A → Result S CdlKind) (P : ℕ → S →
     ((n : ℕ) (s : S) (x : A) → P n s → Q x → OkIs (P (n + cost x)) (f s x)) →
     (n : ℕ) (s : S) (xs : List A) → P n s → Each Q xs → OkIs (P (n + total cost xs)) (in_turn f s xs)
 turns f P cost Q step n s [] p q = let e : n ≡ n + 0 = omega arith in subst (λ m. P m s) e p
-turns {S = S} f P cost Q step n s (x ∷ xs) p q =
-    elim (f s x) as (λ r. OkIs (P (n + cost x)) r → OkIs (P (n + (cost x + total cost xs))) (elim r as (λ z. Result S CdlKind) [ Ok t ↦ in_turn f t xs | Err e ↦ Err e ])) [
-      | Ok t ↦ (λ h. let e : n + cost x + total cost xs ≡ n + (cost x + total cost xs) = omega arith in subst (λ m. OkIs (P m) (in_turn f t xs)) e (turns f P cost Q step (n + cost x) t xs h q.1))
-      | Err e ↦ (λ h. tt)
-    ] (step n s x p q.0)
+turns {S = S} f P cost Q step n s (x ∷ xs) p q = grind (arith, step n s x p q.0, (λ (t : S). turns f P cost Q step (n + cost x) t xs))
 
 -- ---- lists
 
@@ -83,8 +76,3 @@ pub each_drop : {X : Type 0} (P : X → Type 0) (n : ℕ) (xs : List X) → Each
 each_drop P zero xs p = p
 each_drop P (suc n) [] p = tt
 each_drop P (suc n) (x ∷ xs) p = each_drop P n xs p.1
-
-pub all_of : {X : Type 0} (P : X → Type 0) (xs : List X) → Each P xs → All P xs
-all_of P [] e k d h = absurd (omega (arith, h))
-all_of P (x ∷ xs) e zero d h = e.0
-all_of P (x ∷ xs) e (suc k) d h = all_of P xs e.1 k d (omega (arith, h))

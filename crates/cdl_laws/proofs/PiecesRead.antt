@@ -1,16 +1,15 @@
 -- A dump is cut into the statements that it was put together from.
-use Rattle.std.proofs.Common.{◌≡◌, ℕ, true, false, List, [], ◌∷◌, ◌++◌, map, sym, ◌∙◌, ap, refl, subst, arith, append-nil, slice_index_or, None, Some, codes, rules}
-use Rattle.cdl_laws.proofs.Prelude.{concat_parts, Att, Dim, Var, Version, escaped_name, AreDimids, netcdf_word, global_word, var_lines, att_lines, shape_text, IsName, type_word, has_type, Section, Unopened, Globals, Dimensions, Variables, Values, Closed, scan, pieces_at, Statement, Open, Enter, Close, End, shape, SaysStatement, IsStatement, PiecesAreStatements, MarksReadBack, opening_line, opening_piece, brace_piece, end_piece, DimensionsReadBack, declaration, DeclarationReadsBack, DeclarationsReadBack, IsBeforeData, globals, dimensions, AttributeReadsBack, AttributesReadBack, GlobalAttributesReadBack, cut_lexemes, lexemes, lexemes_at, pieces_of, Each, all_of, each_map, each_of}
+use Rattle.std.proofs.Common.{◌≡◌, ℕ, false, List, [], ◌∷◌, ◌++◌, sym, ◌∙◌, ap, refl, subst, arith, append-nil, slice_index_or, None, Some, codes, rules}
+use Rattle.cdl_laws.proofs.Prelude.{concat_parts, Att, Dim, Version, escaped_name, netcdf_word, IsName, Section, Globals, Dimensions, Variables, Values, scan, pieces_at, Statement, Close, shape, SaysStatement, IsStatement, PiecesAreStatements, MarksReadBack, opening_line, opening_piece, brace_piece, DimensionsReadBack, DeclarationsReadBack, IsBeforeData, dimensions, AttributeReadsBack, AttributesReadBack, GlobalAttributesReadBack, cut_lexemes, lexemes, lexemes_at, pieces_of, Each, all_of, each_map, each_of, type_of}
 use Rattle.cdl_tokens.specs.declared.token.TokenKind.TheVariants as kinds
-use Rattle.cdl_laws.proofs.Acts.{AreDistinctDims, HaveNames, ids_added, name_at, type_is}
-use Rattle.cdl_laws.proofs.Declarations.{dim_says, global_says, owned_says}
-use Rattle.cdl_laws.proofs.Ends.{dimensions_says, variables_says, data_says, opening_lexemes, opening_piece as opening_cut}
+use Rattle.cdl_laws.proofs.Acts.{ids_added, name_at}
+use Rattle.cdl_laws.proofs.Declarations.{dim_says, global_says, owned_says, typed_says}
+use Rattle.cdl_laws.proofs.Ends.{dimensions_says, variables_says, data_says, opening_lexemes, opening_piece as opening_cut, comment_back}
 use Rattle.cdl_laws.proofs.Lines.{pieces_are}
 use Rattle.cdl_laws.proofs.Sayables.{atts_speak}
 use Rattle.cdl_laws.proofs.Takes.{Says}
 use Rattle.cdl_laws.proofs.Texts.{word}
-use Rattle.cdl_laws.proofs.Typings.{typed_line, shape_of, typed_says}
-use Rattle.cdl_laws.proofs.Wholes.{Speaks, shape_is, parts_append, parts_more, parts_none, valid_names}
+use Rattle.cdl_laws.proofs.Wholes.{Speaks, valid_names, declaration_is, lines_are}
 
 -- what says a statement is one
 pub is_statement : (v : Version) (section : Section) (bytes : List ℕ) (statement : Statement) → Says v section bytes statement → IsStatement v section bytes statement
@@ -33,46 +32,23 @@ opening_back name rest h =
     subst (λ l. cut_lexemes (lexemes (l ++ 10 ∷ rest)) ≡ (record { kind = kinds.Opening; bytes = l } ∷ []) ∷ pieces_of rest) (sym (line_is name))
     (ap cut_lexemes (opening_lexemes name rest h) ∙ opening_cut (codes "netcdf " ++ (escaped_name name ++ codes " {")) (lexemes_at false 0 rest))
 
-after_globals : (v : Version) → shape v Globals (record { kind = kinds.Word; bytes = codes "variables" } ∷ record { kind = kinds.Mark; bytes = codes ":" } ∷ []) ≡ Some (Enter Variables)
-unfolding shape
-after_globals v = refl
-
-after_dimensions : (v : Version) → shape v Dimensions (record { kind = kinds.Word; bytes = codes "variables" } ∷ record { kind = kinds.Mark; bytes = codes ":" } ∷ []) ≡ Some (Enter Variables)
-unfolding shape
-after_dimensions v = refl
-
-comment_back : (rest : List ℕ) → pieces_of (global_word ++ rest) ≡ pieces_of rest
-unfolding pieces_of global_word lexemes_at scan
-comment_back rest = refl
-
-closing_back : pieces_of (codes "}\n") ≡ brace_piece ∷ end_piece ∷ []
-unfolding pieces_of lexemes_at scan pieces_at
-closing_back = refl
-
-opens : (v : Version) (name : List ℕ) → SaysStatement v Unopened (opening_piece name) Open
-unfolding shape
-opens v name = record { sound = refl; shaped = refl }
-
 closes : (v : Version) → Each (λ (section : Section). SaysStatement v section brace_piece Close) (Globals ∷ Dimensions ∷ Variables ∷ Values ∷ [])
 unfolding shape
 closes v = (record { sound = refl; shaped = refl }, (record { sound = refl; shaped = refl }, (record { sound = refl; shaped = refl }, (record { sound = refl; shaped = refl }, tt))))
 
-ends : (v : Version) → SaysStatement v Closed end_piece End
-unfolding shape
-ends v = record { sound = refl; shaped = refl }
-
 pub marks_read_back : (v : Version) → MarksReadBack v
+unfolding pieces_of lexemes_at scan pieces_at shape
 marks_read_back v = record {
   opening = opening_back;
-  opens = opens v;
+  opens = λ name. record { sound = refl; shaped = refl };
   dimensions = is_statement v Globals _ _ (dimensions_says v);
-  variables = is_statement v Dimensions _ _ (variables_says v Dimensions dimensions (after_dimensions v));
-  variables_alone = is_statement v Globals _ _ (variables_says v Globals globals (after_globals v));
+  variables = is_statement v Dimensions _ _ (variables_says v (record { name = []; len = 0 } ∷ []));
+  variables_alone = is_statement v Globals _ _ (variables_says v []);
   values = is_statement v Variables _ _ (data_says v);
   comment = comment_back;
-  closing = closing_back;
+  closing = refl;
   closes = all_of (λ (section : Section). SaysStatement v section brace_piece Close) (Globals ∷ Dimensions ∷ Variables ∷ Values ∷ []) (closes v);
-  ends = ends v;
+  ends = record { sound = refl; shaped = refl };
 }
 
 -- ---- dimensions
@@ -82,24 +58,11 @@ dimensions_read_back d records s k dim h = grind (arith, is_statement, dim_says)
 
 -- ---- declarations
 
-declaration_is : (dims : List Dim) (var : Var) → AreDimids dims [] var.dimids → declaration dims var ≡ typed_line (type_word var.ty) var.name (shape_of (map (name_at dims) var.dimids))
-unfolding typed_line
-declaration_is dims var are = ap (λ shape. concat_parts (codes "\t" ∷ type_word var.ty ∷ codes " " ∷ escaped_name var.name ∷ shape ∷ codes " ;\n" ∷ [])) (shape_is dims var.dimids are)
-
-lines_are : (dims : List Dim) (var : Var) → var_lines dims var ≡ declaration dims var ++ att_lines (escaped_name var.name) var.atts
-unfolding var_lines
-lines_are dims var =
-    let atts = att_lines (escaped_name var.name) var.atts in
-    parts_append (codes "\t" ∷ type_word var.ty ∷ codes " " ∷ escaped_name var.name ∷ shape_text dims var.dimids ∷ codes " ;\n" ∷ []) (atts ∷ []) ∙
-    ap (λ bs. declaration dims var ++ bs) (parts_more atts [] ∙ ap (λ bs. atts ++ bs) parts_none ∙ append-nil atts)
-
-declaration_back : (v : Version) (dims : List Dim) (var : Var) → IsName var.name → AreDimids dims [] var.dimids → has_type v var.ty ≡ true → AreDistinctDims dims → HaveNames dims → DeclarationReadsBack v dims var
-declaration_back v dims var name are known distinct names =
-    grind (arith, shape, name_at, word, dimensions, lines_are, declaration_is, is_statement, typed_says, valid_names, type_is, ids_added)
-
 pub declarations_read_back : DeclarationsReadBack
+unfolding type_of
 declarations_read_back d s k var h =
-    grind (arith, declaration_back d.header.version d.header.dims, each_of (λ (dim : Dim). IsName dim.name) d.header.dims)
+    let names = each_of (λ (dim : Dim). IsName dim.name) d.header.dims in
+    grind (arith, names, shape, name_at, word, dimensions, lines_are, declaration_is, is_statement, typed_says, valid_names, ids_added)
 
 -- ---- attributes
 

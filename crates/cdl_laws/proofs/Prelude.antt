@@ -1,23 +1,22 @@
 -- The names that proofs of this crate cite from elsewhere, passed on from one place.
 pub use Rattle.cdl_laws.specs.Goods.{IsNearlySayable, LimitIsNeeded, MeaningsAreGood, MeaningsAreNearlySayable, NearlyIsSayable}
-pub use Rattle.cdl_laws.specs.PieceLaws.{AttributeReadsBack, AttributesReadBack, DataReadsBack, DeclarationReadsBack, DeclarationsReadBack, DimensionsReadBack, GlobalAttributesReadBack, IsBeforeData, IsStatement, MarksReadBack, PiecesAreStatements, SaysStatement, brace_piece, declaration, dimensions, end_piece, extent_said, globals, opening_line, opening_piece, said_dim, variables}
+pub use Rattle.cdl_laws.specs.PieceLaws.{AttributeReadsBack, AttributesReadBack, DataReadsBack, DeclarationsReadBack, DimensionsReadBack, GlobalAttributesReadBack, IsBeforeData, IsStatement, MarksReadBack, PiecesAreStatements, SaysStatement, brace_piece, declaration, dimensions, globals, opening_line, opening_piece, said_dim, variables}
 pub use Rattle.cdl_laws.specs.Reading.{cut_lexemes, lexemes, with_lexeme}
 unfoldable pub use Rattle.cdl_laws.specs.Reading.{lexemes_at, pieces_of}
 pub use Rattle.cdl_laws.specs.RoundTrip.{IsFull, TextReadsBack}
-pub use Rattle.cdl_laws.specs.TokenLaws.{AreToken, BlanksAndMarksStop, ConstantsReadBack, NameReadsBack, NamesReadBack, StandsForBytes, StopsNumber, StopsWord, StringsReadBack, StringsStandForBytes, ValuesReadBack, quoted}
-pub use Rattle.cdl_laws.specs.Trims.{FillValueSurvivesTrim, MeaningsAreSayable, MeaningsComeBack, SecondTripIsSame, TrimmedIsSayable, TrimsOnce, has_cut_fill, is_cut}
-pub use Rattle.cdl_meaning.specs.Meaning.{array_of, closing_line, dataset_of, empty, header_of, is_within_limits, starting_line, meaning, records_in, records_of, listed_values}
+pub use Rattle.cdl_laws.specs.TokenLaws.{AreToken, BlanksAndMarksStop, ConstantsReadBack, NamesReadBack, StandsForBytes, StopsNumber, StopsWord, StringsReadBack, StringsStandForBytes, ValuesReadBack}
+pub use Rattle.cdl_laws.specs.Trims.{FillValueSurvivesTrim, MeaningsAreSayable, MeaningsComeBack, SecondTripIsSame, TrimmedIsSayable, TrimsOnce, has_cut_fill}
+pub use Rattle.cdl_meaning.specs.Meaning.{array_of, closing_line, dataset_of, empty, header_of, is_within_limits, meaning, records_in, records_of, listed_values}
 pub use Rattle.cdl_meaning.specs.Bounds.{text_limit}
-pub use Rattle.cdl_meaning.proofs.Readings.{checked, shaped}
 unfoldable pub use Rattle.cdl_meaning.specs.Meaning.{finished, are_within_limits, piece_read, run}
-pub use Rattle.cdl_meaning.specs.State.{Capacity, Draft, Joined, Listing, Numbers, Rows, State, add_characters, add_constant, add_number, add_row, change_named, int_within, dim_len_of, filled, first_type, in_turn, listed_by, same_type, unless, values_in, when, with_att, with_values, ◌>>=◌}
+pub use Rattle.cdl_meaning.specs.State.{Capacity, Draft, Joined, Listing, Numbers, Rows, State, add_characters, add_constant, add_number, add_row, change_named, int_within, dim_len_of, filled, first_type, in_turn, listed_by, unless, values_in, when, with_att, with_values, ◌>>=◌}
 unfoldable pub use Rattle.cdl_meaning.specs.State.{act, add_att, add_dim, add_dimid, add_var, change_variable, capacity_of, has_number, listing_of, type_of}
 pub use Rattle.cdl_statements.proofs.PieceLengths.{pieces_by_steps}
 pub use Rattle.cdl_statements.specs.Lexemes.{Lexeme, is_end_kind, is_mark, is_opening_kind, is_word, is_word_kind, lexeme}
 unfoldable pub use Rattle.cdl_statements.specs.Lexemes.{name_of}
 pub use Rattle.cdl_statements.specs.Pieces.{section_of}
 unfoldable pub use Rattle.cdl_statements.specs.Pieces.{pieces_at}
-pub use Rattle.cdl_statements.specs.Shapes.{Attribute, Close, Characters, DeclareDimensions, Dimension, End, Listed, Enter, Number, Open, Statement, DeclareVariables, Underscore, Value, Variable, after_member, assigned, at_end, attribute_or_mark, both, constant, constant_of, constants, dimension, first_bad, if_so, in_parentheses, length_of, other_statement, section_mark, section_number, token_fault}
+pub use Rattle.cdl_statements.specs.Shapes.{Attribute, Close, Characters, DeclareDimensions, Dimension, End, Listed, Enter, Number, Open, Statement, DeclareVariables, Underscore, Value, Variable, after_member, assigned, at_end, attribute_or_mark, both, constant, constants, dimension, first_bad, if_so, in_parentheses, other_statement, section_mark, section_number, token_fault}
 unfoldable pub use Rattle.cdl_statements.specs.Shapes.{shape}
 pub use Rattle.cdl_statements.specs.Statements.{statements}
 pub use Rattle.cdl_statements.specs.code.CutSteps.{going_on, step, unless_end, with_first}
@@ -27,13 +26,13 @@ unfoldable pub use Rattle.cdl_statements.specs.code.Roles.{is_section}
 pub use Rattle.cdl_statements.specs.declared.{fault.CdlFault.CdlFault, fault.CdlKind.CdlKind, piece.CutState.CutState, piece.Role.Role, section.Section.Section}
 pub use Rattle.cdl_statements.specs.declared.fault.CdlKind.TheVariants.{BadName, BadNumber, BadShape, BadToken, DuplicateData, DuplicateName, FloatingType, MixedConstants, NumberRange, StringTooLong, Syntax, TooLarge, TooManyValues, TwoRecordDims, UnknownDimension, UnknownType, UnknownVariable, WrongKind, ZeroDimension}
 pub use Rattle.cdl_statements.specs.declared.section.Section.TheVariants.{Closed, Dimensions, Ended, Globals, Unopened, Values, Variables}
-pub use Rattle.cdl_tokens.proofs.Strings.{or_zero, stands_for, plain_small}
+pub use Rattle.cdl_tokens.proofs.Strings.{or_zero, stands_for}
 pub use Rattle.cdl_tokens.specs.Bytes.{is_mark_byte, may_begin_word, digit_value, goes_on_number, goes_on_word, is_blank, is_digit, is_escapable, is_escape, is_hex, is_octal, is_sign, number_in}
-pub use Rattle.cdl_tokens.specs.Escapes.{up_to_255, escaped_character, inner, number_escape, plain_escape, string_value, unescape}
+pub use Rattle.cdl_tokens.specs.Escapes.{up_to_255, inner, plain_escape, string_value, unescape}
 unfoldable pub use Rattle.cdl_tokens.specs.Escapes.{character, unescape_at, word_value}
-pub use Rattle.cdl_tokens.specs.Numerals.{Numeral, Parts, has_suffix, in_base, number, with_sign}
+pub use Rattle.cdl_tokens.specs.Numerals.{Numeral, Parts, in_base, number, with_sign}
 unfoldable pub use Rattle.cdl_tokens.specs.Numerals.{numeral, parts, type_of_suffix}
-pub use Rattle.cdl_tokens.specs.Scan.{begins_a_word, begins_comment, begins_number, begins_opening, gap, scan_opening, scan_text, token}
+pub use Rattle.cdl_tokens.specs.Scan.{begins_a_word, begins_number, begins_opening, scan_text, token}
 unfoldable pub use Rattle.cdl_tokens.specs.Scan.{scan, len_until, word_len}
 pub use Rattle.cdl_tokens.specs.Tokens.{raw, token_at, tokens, with_token}
 unfoldable pub use Rattle.cdl_tokens.specs.Tokens.{tokens_at}
@@ -41,27 +40,26 @@ pub use Rattle.cdl_tokens.specs.declared.{scan.Scanned.Scanned, token.Token.Toke
 pub use Rattle.cdl_tokens.specs.declared.token.TokenKind.TheVariants.{Bad, Text, Word}
 pub use Rattle.nc_base.specs.Bytes.{AreBytes}
 unfoldable pub use Rattle.nc_base.specs.Bytes.{concat_parts}
-pub use Rattle.nc_base.specs.Dump.{DataText, variables_text, VariableValues, Ending, Options, shown_data, dump_text, has_dimension, has_name, has_values, is_chosen, is_selected, selection_of, shown, shown_data_text, unknown, with_variable, whole}
-pub use Rattle.nc_base.specs.Datasets.{IsText, values_in_dataset}
+pub use Rattle.nc_base.specs.Dump.{DataText, variables_text, VariableValues, Options, shown_data, dump_text, has_name, has_values, is_selected, selection_of, shown_data_text, unknown, with_variable, whole}
+pub use Rattle.nc_base.specs.Datasets.{values_in_dataset}
 unfoldable pub use Rattle.nc_base.specs.Dump.{closing_word, data_word}
-pub use Rattle.nc_base.specs.Escapes.{begins_with_digit_or_mark, escaped_in_name, escaped_in_string, is_name_mark, is_plain, octal_escape, reserved_words}
+pub use Rattle.nc_base.specs.Escapes.{escaped_in_name, escaped_in_string, is_plain, octal_escape, reserved_words}
 unfoldable pub use Rattle.nc_base.specs.Escapes.{escaped_name, escaped_text, is_reserved}
 pub use Rattle.nc_base.specs.Fill.{fill_of_att, is_fill_att}
 unfoldable pub use Rattle.nc_base.specs.Fill.{fill_value}
 unfoldable pub use Rattle.nc_base.specs.GeneratedFile.{file_of, with_begins}
 pub use Rattle.nc_base.specs.HeadText.{att_text, broken_text, dim_name, joined, without_trailing_nuls}
 unfoldable pub use Rattle.nc_base.specs.HeadText.{att_line, att_lines, chars_text, currently_word, dim_len_text, dim_line, dim_lines, dimensions_word, dims_text, gatts_text, global_word, head_text, netcdf_word, numbers_text, shape_text, string_break, unlimited_word, var_lines, variables_word, vars_text}
-pub use Rattle.nc_base.specs.Headers.{AreArrays, AreDimids, IsArray, IsGood, IsSound, IsSoundAtt, IsSoundDim, IsSoundVar, bare, bare_var}
-pub use Rattle.nc_base.specs.Headers.{IsDimid}
-pub use Rattle.nc_base.specs.Sizes.{has_record_dim, value_count, array_limit, dim_len, is_record_shape, is_record_dim, is_record_var, padded_size, padded_total, product, record_limit, record_size, record_size_of, record_vars, slab_count, slab_lens, slab_limit, slab_size}
-pub use Rattle.nc_base.specs.Names.{IsName, ends_with_space, has_name_bytes, is_beyond_ascii, is_name, may_begin_name, may_follow_in_name}
+pub use Rattle.nc_base.specs.Headers.{AreArrays, AreDimids, IsArray, IsDimid, IsGood, IsSound, IsSoundAtt, IsSoundDim, IsSoundVar, bare, bare_var}
+pub use Rattle.nc_base.specs.Sizes.{has_record_dim, value_count, array_limit, dim_len, is_record_shape, is_record_var, padded_size, product, record_limit, record_size, record_size_of, record_vars, slab_count, slab_lens, slab_limit, slab_size}
+pub use Rattle.nc_base.specs.Names.{IsName, ends_with_space, has_name_bytes, may_begin_name, may_follow_in_name}
 pub use Rattle.nc_base.specs.NumberLaws.{IsInRange}
 pub use Rattle.nc_base.specs.Numbers.{bytes_of_number, number_of, numbers_from}
 unfoldable pub use Rattle.nc_base.specs.Numbers.{numbers}
 pub use Rattle.nc_base.specs.Sayable.{AreDistinct, AreSayableAtts, HasSomeNumber, IsSayable, IsSayableVar, trimmed, trimmed_att, trimmed_header, trimmed_var}
-pub use Rattle.nc_base.specs.Types.{default_fill_of, all_types, code_of, number_suffix, size_of, type_word}
+pub use Rattle.nc_base.specs.Types.{default_fill_of, code_of, number_suffix, size_of, type_word}
 pub use Rattle.nc_base.specs.ValueText.{Look, begins_row, char_lead, column, is_char, line_break, number_lead, number_text, row_len}
-unfoldable pub use Rattle.nc_base.specs.ValueText.{variable_closing, look_of, number_piece, variable_opening, variable_prefix, variable_text}
+unfoldable pub use Rattle.nc_base.specs.ValueText.{variable_closing, look_of, number_piece, variable_opening, variable_text}
 pub use Rattle.nc_base.specs.code.LaterPieces.{is_nul}
 unfoldable pub use Rattle.nc_base.specs.code.LaterPieces.{piece, pieces}
 pub use Rattle.nc_base.specs.Versions.{count_limit, has_type, offset_limit}
@@ -69,23 +67,22 @@ pub use Rattle.nc_base.specs.declared.{dataset.Dataset.Dataset, header.Att.Att, 
 pub use Rattle.nc_base.specs.declared.header.NumRecs.TheVariants.{Known, Streaming}
 pub use Rattle.nc_base.specs.declared.nc_type.NcType.TheVariants.{Byte, Char, Int, Int64, Short, Ubyte, Uint, Uint64, Ushort}
 pub use Rattle.nc_base.specs.declared.version.Version.TheVariants.{Cdf1, Cdf2, Cdf5}
-pub use Rattle.std.proofs.Math.Nat.{div-eq_of_lt, div-lt_iff_lt-mul, lt-div-mul-add, lt_of_mul-lt-mul_right, mod-eq_of_lt, mul-add-div, mul-div_cancel, mul-le-mul, mul-le-mul_left, mul-le-mul_right, mul-mod_left, mul_comm, zero-mod}
+pub use Rattle.std.proofs.Math.Nat.{div-eq_of_lt, div-lt_iff_lt-mul, lt-div-mul-add, lt_of_mul-lt-mul_right, mod-eq_of_lt, mul-add-div, mul-div_cancel, mul-le-mul, mul-le-mul_left, mul-le-mul_right, mul_comm, zero-mod}
 pub use Rattle.std.proofs.Math.Seq.{drop-append_seam, take-append_seam, take-length}
-pub use Rattle.std.proofs.lemmas.Bool.{cases_lt, eqb-true, false≢true, le-leb, lt-ltb}
+pub use Rattle.std.proofs.lemmas.Bool.{eqb-true, false≢true, le-leb, lt-ltb}
 pub use Rattle.std.proofs.lemmas.Bool.Decides.{Decides-int_eq}
 pub use Rattle.std.proofs.lemmas.Fmt.{decimal_nonempty, first_decimal}
 pub use Rattle.std.proofs.lemmas.Grind.{flat_map-append}
 pub use Rattle.std.proofs.lemmas.Int.{ints}
-pub use Rattle.std.proofs.lemmas.List.{at_drop_all, at_drop_more, drop-drop, drop_all, get_or-drop, get_or-replicate, get_or_past, length-append, length-drop, length-map, length-replicate, length-take, map-append, replicate_more, reverse-append, take-append-drop}
+pub use Rattle.std.proofs.lemmas.List.{drop-drop, get_or-drop, get_or-replicate, length-append, length-drop, length-map, length-replicate, length-take, map-append, replicate_more, take-append-drop}
 pub use Rattle.std.proofs.lemmas.List.Folds.{list_all-append, list_any-append}
 pub use Rattle.std.proofs.lemmas.List.Sums.{suffix_len-take_no, suffix_len-take_yes}
 pub use Rattle.std.proofs.lemmas.Slice.Eq.{bytes_eq-Decides}
-pub use Rattle.std.specs.Char.{is_ascii_control, is_ascii_digit, to_ascii_lowercase}
+pub use Rattle.std.specs.Char.{is_ascii_control, to_ascii_lowercase}
 pub use Rattle.std.specs.Fmt.{digit_glyph, digits_onto, signed_decimal}
 unfoldable pub use Rattle.std.specs.Fmt.{digits}
-pub use Rattle.std.specs.Int.{cast_unsigned, is_in_range, to_be_bytes, w16, w32, w64, w8}
-pub use Rattle.std.specs.List.{flat_map, list_all, list_any, position, position_or_len, prefix_len, range_with_len, starts_with, suffix_len, take_while}
-pub use Rattle.std.specs.Option.{ok_or, option_and_then, option_map, option_or}
+pub use Rattle.std.specs.List.{flat_map, list_all, list_any, position, position_or_len, prefix_len, range_with_len, suffix_len}
+pub use Rattle.std.specs.Option.{ok_or, option_and_then, option_map}
 pub use Rattle.std.specs.Ordering.{int_eq}
 pub use Rattle.std.specs.Str.{bytes_eq}
 unfoldable pub use Rattle.std.specs.Str.{chars, is_utf8}
@@ -96,8 +93,8 @@ pub use Rattle.nc_base.proofs.Printable.{some-limit}
 pub use Rattle.nc_base.proofs.Found.{all-at}
 pub use Rattle.cdl_tokens.proofs.PlainStrings.{inner_of}
 pub use Rattle.nc_base.proofs.ValueLaws.{look-type, length-numbers_from}
-pub use Rattle.nc_base.proofs.CharacterRows.{IsWide, prefix_is, pieces_are, a_row, printed_more}
+pub use Rattle.nc_base.proofs.CharacterRows.{prefix_is, pieces_are, a_row}
 unfoldable pub use Rattle.nc_base.proofs.CharacterRows.{char_pieces, printed}
 pub use Rattle.nc_base.proofs.FilePlaces.{length-numbers}
 pub use Rattle.cdl_meaning.proofs.InRange.{is_had}
-pub use Rattle.cdl_laws.proofs.Lists.{Each, all_of, each, each_map, each_of}
+pub use Rattle.cdl_laws.proofs.Lists.{Each, EachAfter, all_of, any_each, each_after, each_map, each_of, or_left, or_right}

@@ -1,10 +1,8 @@
 -- The values that the text of a variable lists give its array.
-use Rattle.std.proofs.Common.{◌≡◌, ℕ, zero, suc, true, List, [], ◌∷◌, sym, ◌∙◌, ap, subst, arith, ℤ, All, Some, slice_get, slice_index_or, rules}
-use Rattle.cdl_laws.proofs.Prelude.{Dataset, Att, Dim, Header, Known, Var, values_in_dataset, fill_value, IsArray, AreArrays, value_count, IsName, IsSayable, IsSayableVar, trimmed_var, is_char, look_of, array_of, capacity_of, filled, DataReadsBack, all-at}
-use Rattle.cdl_laws.specs.RowLaws.{RowReadsBack, RowsReadBack, EmptyRowsReadBack}
-use Rattle.cdl_laws.proofs.Arrays.{row_back, no_bytes}
-use Rattle.cdl_laws.proofs.DataTexts.{Gives, given_draft}
-use Rattle.cdl_laws.proofs.Given.{same_fill, array_len}
+use Rattle.std.proofs.Common.{◌≡◌, ℕ, zero, suc, List, [], ◌∷◌, sym, ◌∙◌, ap, subst, arith, All, Some, slice_get, slice_index_or, rules}
+use Rattle.cdl_laws.proofs.Prelude.{Dataset, Att, Dim, Header, Known, Var, fill_value, IsArray, AreArrays, value_count, IsName, IsSayable, IsSayableVar, trimmed_var, capacity_of, filled, DataReadsBack, all-at}
+use Rattle.cdl_laws.specs.RowLaws.{RowsReadBack, EmptyRowsReadBack}
+use Rattle.cdl_laws.proofs.Given.{row_back, no_bytes, same_fill, array_len}
 use Rattle.cdl_laws.proofs.PiecesRead.{is_statement}
 
 -- ---- the parts of a dataset
@@ -15,41 +13,27 @@ array_in_place dims n (w ∷ vars) [] k var are at = absurd are
 array_in_place dims n (w ∷ vars) (a ∷ arrays) zero var are at = let e : w ≡ var = cc in subst (λ u. IsArray dims n u a) e are.0
 array_in_place dims n (w ∷ vars) (a ∷ arrays) (suc k) var are at = array_in_place dims n vars arrays k var are.1 at
 
--- a dataset has one number of records
-records_are : (d : Dataset) (records : ℕ) (s : IsSayable d) → d.header.numrecs ≡ Known records → s.good.records ≡ records
-records_are d records s known =
-    let e : Known s.good.records ≡ Known records = sym (ap (λ (h : Header). h.numrecs) s.good.is_bare) ∙ known in cc
-
-is_array : (d : Dataset) (records place : ℕ) (var : Var) → IsSayable d → d.header.numrecs ≡ Known records → slice_get d.header.vars place ≡ Some var → IsArray d.header.dims records var (slice_index_or d.arrays place [])
+-- a dataset has one number of records, and an array of them for each variable
+is_array : (d : Dataset) (records place : ℕ) (var : Var) → IsSayable d → d.header.numrecs ≡ Known records →
+    slice_get d.header.vars place ≡ Some var → IsArray d.header.dims records var (slice_index_or d.arrays place [])
 is_array d records place var s known at =
+    let e : Known s.good.records ≡ Known records = sym (ap (λ (h : Header). h.numrecs) s.good.is_bare) ∙ known in
+    let same : s.good.records ≡ records = cc in
     array_in_place d.header.dims records d.header.vars d.arrays place var
-    (subst (λ n. AreArrays d.header.dims n d.header.vars d.arrays) (records_are d records s known) s.good.arrays) at
-
--- ---- the fill value
-
-same_value : (var : Var) → (is_char var.ty ≡ true → fill_value (trimmed_var var) ≡ fill_value var) → fill_value (trimmed_var var) ≡ fill_value var
-same_value var char = grind (arith, same_fill var)
-
-same_room : (dims : List Dim) (var : Var) → fill_value (trimmed_var var) ≡ fill_value var → capacity_of dims (trimmed_var var) ≡ capacity_of dims var
-unfolding capacity_of
-same_room dims var fill = ap (λ (f : ℤ). record (capacity_of dims var) { fill = f }) fill
+    (subst (λ n. AreArrays d.header.dims n d.header.vars d.arrays) same s.good.arrays) at
 
 -- ---- rows
 
--- what gives the values of a variable gives its array
-row_of : (d : Dataset) (records width place : ℕ) (var : Var) → IsArray d.header.dims records var (slice_index_or d.arrays place []) → fill_value (trimmed_var var) ≡ fill_value var →
-    (g : Gives d.header.version d.header.dims (look_of d.header var records width) var (values_in_dataset d place var).values) → array_of d.header.dims records (given_draft var (Some g.listing)) ≡ slice_index_or d.arrays place [] →
-    RowReadsBack d records width place var
-row_of d records width place var is fill g back = grind (arith, is_statement, filled, array_len, same_room)
-
 pub rows_read_back : RowsReadBack
+unfolding capacity_of
 rows_read_back d records width place var s known at some =
     let h = d.header in
     let array = slice_index_or d.arrays place [] in
     let is = is_array d records place var s known at in
     let name = (all-at (λ (w : Var). IsName w.name × All (λ (att : Att). IsName att.name) w.atts) h.vars place var s.good.names.vars at).0 in
     let keeps = (all-at IsSayableVar h.vars place var s.vars at).fill in
-    search (rules, row_back h.version h records width var array is, row_of d records width place var is (same_value var keeps), same_value var keeps)
+    let same : fill_value (trimmed_var var) ≡ fill_value var = grind (arith, same_fill var, keeps) in
+    search (rules, row_back h.version h records width var array is, same, is_statement, filled, array_len)
 
 pub empty_rows_read_back : EmptyRowsReadBack
 empty_rows_read_back d records place var s known at none =

@@ -1,9 +1,8 @@
 -- What a dataset that a text can declare gives for each of its parts.
 use Rattle.std.proofs.Common.{◌≡◌, ℕ, ◌+◌, ◌^◌, ◌<◌, ◌≤◌, Bool, true, false, List, [], ◌∷◌, ◌++◌, length, map, sym, ◌∙◌, ap, refl, subst, arith, append_assoc, ◌||◌, ◌==◌, All, filter, rules}
-use Rattle.cdl_laws.proofs.Prelude.{list_any, bytes_eq, false≢true, map-append, list_any-append, bytes_eq-Decides, AreBytes, Att, Dim, Var, Version, has_name, has_record_dim, IsSoundAtt, IsSoundVar, IsSoundDim, IsName, count_limit, AreDistinct, IsSayableVar, HasSomeNumber, trimmed_att, Draft, Each, each_of}
-use Rattle.cdl_laws.proofs.Acts.{record_once, no_draft}
+use Rattle.cdl_laws.proofs.Prelude.{list_any, bytes_eq, false≢true, map-append, list_any-append, bytes_eq-Decides, AreBytes, Att, Dim, Var, Version, has_name, has_record_dim, IsSoundAtt, IsSoundVar, IsSoundDim, IsName, count_limit, AreDistinct, IsSayableVar, HasSomeNumber, trimmed_att, Draft, Each, each_of, EachAfter, any_each, or_left, or_right}
+use Rattle.cdl_laws.proofs.Acts.{record_once, no_draft, is_new_att}
 use Rattle.cdl_laws.proofs.Attributes.{speaks}
-use Rattle.cdl_laws.proofs.Bools.{or_left, or_right}
 use Rattle.cdl_laws.proofs.Wholes.{AreNewDims, AreNewAtts, Speaks, IsFit, AreFit, draft_of}
 
 -- ---- names
@@ -27,22 +26,30 @@ pub none_before : (names : List (List ℕ)) → AreFresh [] names
 none_before [] = tt
 none_before (n ∷ names) = (refl, none_before names)
 
+-- what is good, and has no name of another, is new after what is made of the others
+new_after : {X Y : Type 0} (name : X → List ℕ) (made : Y → List ℕ) (f : X → Y) (P : List Y → X → Type 0) (Q : X → Type 0) →
+    ((x : X) → made (f x) ≡ name x) →
+    ((done : List Y) (x : X) → Q x → list_any (λ y. bytes_eq (made y) (name x)) done ≡ false → P done x) →
+    (done : List Y) (xs : List X) → AreFresh (map made done) (map name xs) → AreDistinct (map name xs) → Each Q xs → EachAfter f P done xs
+new_after name made f P Q same step done [] fresh distinct all = tt
+new_after name made f P Q same step done (x ∷ xs) fresh distinct all = (
+  step done x all.0 (any_map made (name x) done ∙ fresh.0),
+  new_after name made f P Q same step (done ++ f x ∷ []) xs
+      (subst (λ names. AreFresh names (map name xs))
+      (ap (λ n. map made done ++ n ∷ []) (sym (same x)) ∙ sym (map-append made done (f x ∷ [])))
+      (fresh_more (map made done) (name x) (map name xs) fresh.1 distinct.0))
+      distinct.1 all.1,
+)
+
 -- ---- attributes
 
 abbrev pub att_name : Att → List ℕ
 att_name a = a.name
 
-new_atts : (done atts : List Att) → AreFresh (map att_name done) (map att_name atts) → AreDistinct (map att_name atts) → AreNewAtts done atts
-new_atts done [] fresh distinct = tt
-new_atts done (a ∷ atts) fresh distinct = (
-  any_map att_name a.name done ∙ fresh.0,
-  new_atts (done ++ trimmed_att a ∷ []) atts
-      (subst (λ names. AreFresh names (map att_name atts)) (sym (map-append att_name done (trimmed_att a ∷ []))) (fresh_more (map att_name done) a.name (map att_name atts) fresh.1 distinct.0))
-      distinct.1,
-)
-
 pub atts_new : (atts : List Att) → AreDistinct (map att_name atts) → AreNewAtts [] atts
-atts_new atts distinct = new_atts [] atts (none_before (map att_name atts)) distinct
+atts_new atts distinct =
+    new_after att_name att_name trimmed_att (λ done a. is_new_att done (trimmed_att a)) (λ a. Unit {0}) (λ a. refl)
+    (λ done a u new. new) [] atts (none_before (map att_name atts)) distinct (any_each atts)
 
 pub atts_speak : (v : Version) (atts : List Att) → All (IsSoundAtt v) atts → All (λ (a : Att). AreBytes a.vals) atts → All HasSomeNumber atts → All (λ (a : Att). IsName a.name) atts → Each (Speaks v) atts
 atts_speak v atts sound small some names = search (rules, each_of, speaks)
@@ -63,24 +70,20 @@ filter_append (d ∷ a) b = grind (arith, filter_append a b)
 once : (done : List Dim) (d : Dim) (ds : List Dim) → length (filter is_record (done ++ d ∷ ds)) ≤ 1 → record_once done d.len
 once done d ds h zero_len = grind (arith, some_record, filter_append)
 
-pub limit_small : (v : Version) → count_limit v < 2 ^ 64
-limit_small v = grind arith
-
 abbrev pub dim_name : Dim → List ℕ
 dim_name d = d.name
 
 new_dims : (v : Version) (done ds : List Dim) → AreFresh (map dim_name done) (map dim_name ds) → AreDistinct (map dim_name ds) → Each (IsSoundDim v) ds → Each (λ (d : Dim). IsName d.name) ds → length (filter is_record (done ++ ds)) ≤ 1 → AreNewDims v done ds
 new_dims v done [] fresh distinct sound names few = tt
-new_dims v done (d ∷ ds) fresh distinct sound names few = (
-  names.0,
-  any_map dim_name d.name done ∙ fresh.0,
-  sound.0.len,
-  (let a = limit_small v in let b = sound.0.len in omega (arith, a, b)),
-  once done d ds few,
-  new_dims v (done ++ d ∷ []) ds
-      (subst (λ ns. AreFresh ns (map dim_name ds)) (sym (map-append dim_name done (d ∷ []))) (fresh_more (map dim_name done) d.name (map dim_name ds) fresh.1 distinct.0))
-      distinct.1 sound.1 names.1 (subst (λ xs. length (filter is_record xs) ≤ 1) (sym (append_assoc done (d ∷ []) ds)) few),
-)
+new_dims v done (d ∷ ds) fresh distinct sound names few =
+    let a : count_limit v < 2 ^ 64 = grind arith in
+    let b = sound.0.len in
+    let short : d.len < 2 ^ 64 = omega (arith, a, b) in (
+      (names.0, any_map dim_name d.name done ∙ fresh.0, sound.0.len, short, once done d ds few),
+      new_dims v (done ++ d ∷ []) ds
+          (subst (λ ns. AreFresh ns (map dim_name ds)) (sym (map-append dim_name done (d ∷ []))) (fresh_more (map dim_name done) d.name (map dim_name ds) fresh.1 distinct.0))
+          distinct.1 sound.1 names.1 (subst (λ xs. length (filter is_record xs) ≤ 1) (sym (append_assoc done (d ∷ []) ds)) few),
+    )
 
 pub dims_new : (v : Version) (ds : List Dim) → AreDistinct (map dim_name ds) → All (IsSoundDim v) ds → All (λ (d : Dim). IsName d.name) ds → length (filter is_record ds) ≤ 1 → AreNewDims v [] ds
 dims_new v ds distinct sound names few = search (rules, new_dims, none_before, each_of)
@@ -103,16 +106,9 @@ pub record IsSayableHead (v : Version) (dims : List Dim) (var : Var) : Type 0 wh
   pub bare : var.begin_at ≡ 0
 
 fit : (v : Version) (dims : List Dim) (before : List Draft) (var : Var) → IsSayableHead v dims var → no_draft var.name before → IsFit v dims before var
-fit v dims before var head new = grind (arith, atts_speak, new_atts, none_before)
-
-fits_all : (v : Version) (dims : List Dim) (before : List Draft) (vars : List Var) → AreFresh (map draft_name before) (map var_name vars) → AreDistinct (map var_name vars) → Each (IsSayableHead v dims) vars → AreFit v dims before vars
-fits_all v dims before [] fresh distinct heads = tt
-fits_all v dims before (var ∷ vars) fresh distinct heads = (
-  fit v dims before var heads.0 (any_map draft_name var.name before ∙ fresh.0),
-  fits_all v dims (before ++ draft_of var ∷ []) vars
-      (subst (λ ns. AreFresh ns (map var_name vars)) (sym (map-append draft_name before (draft_of var ∷ []))) (fresh_more (map draft_name before) var.name (map var_name vars) fresh.1 distinct.0))
-      distinct.1 heads.1,
-)
+fit v dims before var head new = grind (arith, atts_speak, atts_new)
 
 pub vars_fit : (v : Version) (dims : List Dim) (vars : List Var) → AreDistinct (map var_name vars) → Each (IsSayableHead v dims) vars → AreFit v dims [] vars
-vars_fit v dims vars distinct heads = fits_all v dims [] vars (none_before (map var_name vars)) distinct heads
+vars_fit v dims vars distinct heads =
+    new_after var_name draft_name draft_of (IsFit v dims) (IsSayableHead v dims) (λ var. refl) (fit v dims) [] vars
+    (none_before (map var_name vars)) distinct heads

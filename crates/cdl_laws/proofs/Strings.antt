@@ -1,23 +1,18 @@
 -- An escaped string between quotes is one token that stands for it.
-use Rattle.std.proofs.Common.{◌≡◌, ℕ, ◌+◌, ◌-◌, ◌/◌, ◌%◌, ◌<◌, true, false, List, [], ◌∷◌, ◌++◌, length, drop, take, sym, ◌∙◌, ap, refl, subst, arith, append_assoc, length-append, ◌==◌, nat_lt, map, Some, is_some, rules}
-use Rattle.cdl_laws.proofs.Prelude.{is_ascii_control, flat_map, list_all, eqb-true, take-append_seam, escaped_in_string, octal_escape, is_octal, number_in, len_until, scan, scan_text, character, up_to_255, plain_escape, unescape, unescape_at, Lexeme, until_at_start}
+use Rattle.std.proofs.Common.{◌≡◌, ℕ, ◌+◌, ◌-◌, ◌/◌, ◌%◌, ◌<◌, true, false, List, [], ◌∷◌, ◌++◌, length, drop, take, sym, ◌∙◌, ap, refl, subst, arith, append_assoc, length-append, ◌==◌, nat_lt, map, Some, is_some, rules, Bool}
+use Rattle.cdl_laws.proofs.Prelude.{is_ascii_control, flat_map, list_all, eqb-true, take-append_seam, escaped_in_string, octal_escape, is_octal, number_in, len_until, scan, scan_text, character, up_to_255, plain_escape, unescape, unescape_at, Lexeme, until_at_start, token, AreToken, and_false, escaped_text}
 use Rattle.cdl_tokens.specs.declared.token.TokenKind.TheVariants as kinds
-use Rattle.cdl_laws.proofs.Texts.{Closed, prefix_again}
+use Rattle.cdl_laws.proofs.Texts.{Closed, prefix_again, closed_both}
 
 -- ---- the characters
 
 pub until_plain : (close b : ℕ) (rest : List ℕ) → (b == 0x5c) ≡ false → (b == close) ≡ false → len_until close (b ∷ rest) ≡ 1 + len_until close rest
 until_plain close b rest h k = until_at_start close b rest ∙ rw (h) (rw (k) refl)
 
-character_octal : (d e f : ℕ) (rest : List ℕ) → is_octal d ≡ true → is_octal e ≡ true → is_octal f ≡ true →
-    character (0x5c ∷ d ∷ e ∷ f ∷ rest) ≡ record { value = up_to_255 (number_in 8 0 (d ∷ e ∷ f ∷ [])); len = 4 }
-unfolding character
-character_octal d e f rest h k l = rw (h) (rw (k) (rw (l) refl))
-
 unescape_octal : (d e f n : ℕ) (rest : List ℕ) → is_octal d ≡ true → is_octal e ≡ true → is_octal f ≡ true → up_to_255 (number_in 8 0 (d ∷ e ∷ f ∷ [])) ≡ Some n →
     unescape (0x5c ∷ d ∷ e ∷ f ∷ rest) ≡ Some n ∷ unescape rest
-unfolding unescape_at
-unescape_octal d e f n rest h k l is = rw (character_octal d e f rest h k l) (rw (is) refl)
+unfolding unescape_at character
+unescape_octal d e f n rest h k l is = rw (h) (rw (k) (rw (l) (rw (is) refl)))
 
 -- how a byte stands in a string: as an escape of one letter, in octal, or as it is
 data IsEscapedAs (b : ℕ) : Type 0 where
@@ -25,63 +20,44 @@ data IsEscapedAs (b : ℕ) : Type 0 where
   octal : b < 256 → escaped_in_string b ≡ octal_escape b → IsEscapedAs b
   bare : (b == 0x5c) ≡ false → (b == 0x22) ≡ false → escaped_in_string b ≡ b ∷ [] → IsEscapedAs b
 
-at_literal : (n b : ℕ) → (b == n) ≡ true → IsEscapedAs n → IsEscapedAs b
-at_literal n b e s = subst IsEscapedAs (sym (eqb-true b n e)) s
-
-control_byte : (b : ℕ) → is_ascii_control b ≡ true → b < 256
-control_byte b h = grind (arith, h)
-
-split : (b n : ℕ) → ((b == n) ≡ true → IsEscapedAs b) → ((b == n) ≡ false → IsEscapedAs b) → IsEscapedAs b
-split b n on other = elim (b == n) as (λ w. (b == n) ≡ w → IsEscapedAs b) [ true ↦ on | false ↦ other ] refl
+-- a byte that is this one, or another
+literal : (b n : ℕ) → IsEscapedAs n → ((b == n) ≡ false → IsEscapedAs b) → IsEscapedAs b
+literal b n is other =
+    elim (b == n) as (λ w. (b == n) ≡ w → IsEscapedAs b) [ true ↦ (λ e. subst IsEscapedAs (sym (eqb-true b n e)) is) | false ↦ other ] refl
 
 stands : (b : ℕ) → IsEscapedAs b
 stands b =
-    split b 8 (λ e. at_literal 8 b e (letter 98 refl refl refl refl)) (λ e8.
-    split b 9 (λ e. at_literal 9 b e (letter 116 refl refl refl refl)) (λ e9.
-    split b 10 (λ e. at_literal 10 b e (letter 110 refl refl refl refl)) (λ e10.
-    split b 11 (λ e. at_literal 11 b e (letter 118 refl refl refl refl)) (λ e11.
-    split b 12 (λ e. at_literal 12 b e (letter 102 refl refl refl refl)) (λ e12.
-    split b 13 (λ e. at_literal 13 b e (letter 114 refl refl refl refl)) (λ e13.
-    split b 34 (λ e. at_literal 34 b e (letter 34 refl refl refl refl)) (λ e34.
-    split b 39 (λ e. at_literal 39 b e (letter 39 refl refl refl refl)) (λ e39.
-    split b 92 (λ e. at_literal 92 b e (letter 92 refl refl refl refl)) (λ e92.
+    literal b 8 (letter 98 refl refl refl refl) (λ e8.
+    literal b 9 (letter 116 refl refl refl refl) (λ e9.
+    literal b 10 (letter 110 refl refl refl refl) (λ e10.
+    literal b 11 (letter 118 refl refl refl refl) (λ e11.
+    literal b 12 (letter 102 refl refl refl refl) (λ e12.
+    literal b 13 (letter 114 refl refl refl refl) (λ e13.
+    literal b 34 (letter 34 refl refl refl refl) (λ e34.
+    literal b 39 (letter 39 refl refl refl refl) (λ e39.
+    literal b 92 (letter 92 refl refl refl refl) (λ e92.
     elim (is_ascii_control b) as (λ w. is_ascii_control b ≡ w → IsEscapedAs b) [
-      | true ↦ (λ e. octal (control_byte b e) (rw (e8) (rw (e9) (rw (e10) (rw (e11) (rw (e12) (rw (e13) (rw (e34) (rw (e39) (rw (e92) (rw (e) refl)))))))))))
+      | true ↦ (λ e. octal (grind (arith, e))
+          (rw (e8) (rw (e9) (rw (e10) (rw (e11) (rw (e12) (rw (e13) (rw (e34) (rw (e39) (rw (e92) (rw (e) refl)))))))))))
       | false ↦ (λ e. bare e92 e34 (rw (e8) (rw (e9) (rw (e10) (rw (e11) (rw (e12) (rw (e13) (rw (e34) (rw (e39) (rw (e92) (rw (e) refl)))))))))))
     ] refl)))))))))
-
--- the three digits
-high_octal : (b : ℕ) → b < 256 → is_octal (48 + b / 64) ≡ true
-high_octal b h = grind arith
-
-middle_octal : (b : ℕ) → is_octal (48 + b / 8 % 8) ≡ true
-middle_octal b = grind arith
-
-low_octal : (b : ℕ) → is_octal (48 + b % 8) ≡ true
-low_octal b = grind arith
-
-octal_value : (b : ℕ) → b < 256 → up_to_255 (number_in 8 0 ((48 + b / 64) ∷ (48 + b / 8 % 8) ∷ (48 + b % 8) ∷ [])) ≡ Some b
-octal_value b h = search rules
 
 -- one byte
 until_one : (b : ℕ) (rest : List ℕ) → IsEscapedAs b → len_until 0x22 (escaped_in_string b ++ rest) ≡ length (escaped_in_string b) + len_until 0x22 rest
 unfolding len_until
 until_one b rest h = search (rules, until_plain)
 
-letter_again : (c : ℕ) (rest : List ℕ) → is_octal c ≡ false → (c == 0x78) ≡ false → unescape (0x5c ∷ c ∷ rest) ≡ Some (plain_escape c) ∷ unescape rest
-unfolding unescape_at character
-letter_again c rest o x = rw (o) (rw (x) refl)
-
 unescape_one : (b : ℕ) (rest : List ℕ) → IsEscapedAs b → unescape (escaped_in_string b ++ rest) ≡ Some b ∷ unescape rest
 unfolding unescape_at character
-unescape_one b rest (letter c o x is same) = rw (same) (letter_again c rest o x ∙ ap (λ n. Some n ∷ unescape rest) is)
+unescape_one b rest (letter c o x is same) = rw (same) (rw (o) (rw (x) refl) ∙ ap (λ n. Some n ∷ unescape rest) is)
 unescape_one b rest (octal small same) =
-    rw (same) (unescape_octal (48 + b / 64) (48 + b / 8 % 8) (48 + b % 8) b rest (high_octal b small) (middle_octal b) (low_octal b) (octal_value b small))
+    rw (same) (unescape_octal (48 + b / 64) (48 + b / 8 % 8) (48 + b % 8) b rest (grind arith) (grind arith) (grind arith) (search rules))
 unescape_one b rest (bare h k same) = rw (same) (rw (h) refl)
 
 -- ---- strings
 
-pub until_all : (bytes rest : List ℕ) → len_until 0x22 (flat_map escaped_in_string bytes ++ 0x22 ∷ rest) ≡ length (flat_map escaped_in_string bytes)
+until_all : (bytes rest : List ℕ) →
+    len_until 0x22 (flat_map escaped_in_string bytes ++ 0x22 ∷ rest) ≡ length (flat_map escaped_in_string bytes)
 unfolding len_until
 until_all [] [] = refl
 until_all [] (c ∷ rest) = refl
@@ -96,7 +72,7 @@ all_bytes : (bytes : List ℕ) → list_all is_some (map Some bytes) ≡ true
 all_bytes [] = refl
 all_bytes (b ∷ bytes) = all_bytes bytes
 
-pub is_string : (bytes : List ℕ) → list_all is_some (unescape (flat_map escaped_in_string bytes)) ≡ true
+is_string : (bytes : List ℕ) → list_all is_some (unescape (flat_map escaped_in_string bytes)) ≡ true
 is_string bytes = ap (list_all is_some) (unescape_all bytes) ∙ all_bytes bytes
 
 -- between quotes
@@ -106,16 +82,29 @@ quoted bytes = 0x22 ∷ (flat_map escaped_in_string bytes ++ 0x22 ∷ [])
 abbrev pub string : List ℕ → Lexeme
 string bytes = record { kind = kinds.Text; bytes = quoted bytes }
 
-pub text_len : (w rest : List ℕ) (n : ℕ) → n ≡ length w → list_all is_some (unescape w) ≡ true → scan_text (w ++ 0x22 ∷ rest) n ≡ record { kind = Some kinds.Text; len = length w + 2 }
+text_len : (w rest : List ℕ) (n : ℕ) → n ≡ length w → list_all is_some (unescape w) ≡ true →
+    scan_text (w ++ 0x22 ∷ rest) n ≡ record { kind = Some kinds.Text; len = length w + 2 }
 text_len w rest n e h = rw (e) (let f : nat_lt (length w) (length (w ++ 0x22 ∷ rest)) ≡ true = (let g = length-append w (0x22 ∷ rest) in grind (arith, g)) in rw (f) (rw (take-append_seam w (0x22 ∷ rest)) (rw (h) refl)))
 
-quoted_prefix : (w rest : List ℕ) → len_until 0x22 (w ++ 0x22 ∷ rest) ≡ length w → list_all is_some (unescape w) ≡ true → scan false (0x22 ∷ (w ++ 0x22 ∷ rest)) ≡ record { kind = Some kinds.Text; len = length w + 2 }
+quote_token : (fresh : Bool) (w rest : List ℕ) → len_until 0x22 (w ++ 0x22 ∷ rest) ≡ length w → list_all is_some (unescape w) ≡ true →
+    scan fresh (0x22 ∷ (w ++ 0x22 ∷ rest)) ≡ token kinds.Text (length w + 2)
 unfolding scan
-quoted_prefix w rest h k = text_len w rest (len_until 0x22 (w ++ 0x22 ∷ rest)) h k
+quote_token fresh w rest h k = rw (and_false fresh) (text_len w rest (len_until 0x22 (w ++ 0x22 ∷ rest)) h k)
+
+pub string_token : (bytes rest : List ℕ) → AreToken kinds.Text (quoted bytes) rest
+string_token bytes rest fresh = grind (arith, append_assoc, quote_token, until_all, is_string, length-append)
 
 pub string_closed : (bytes : List ℕ) → Closed (quoted bytes) (string bytes ∷ [])
-string_closed bytes rest =
-    grind (arith, prefix_again false (Some kinds.Text) 0x22, until_all bytes rest, is_string bytes, append_assoc, quoted_prefix, length-append)
+string_closed bytes rest = prefix_again false (Some kinds.Text) 0x22 (flat_map escaped_in_string bytes ++ 0x22 ∷ []) rest
+    (string_token bytes rest false)
+
+-- a string, and what follows its quote
+pub string_then : (bytes more : List ℕ) (ls : List Lexeme) → Closed more ls →
+    Closed (0x22 ∷ (escaped_text bytes ++ 0x22 ∷ more)) (string bytes ∷ ls)
+unfolding escaped_text
+string_then bytes more ls next =
+    subst (λ bs. Closed (0x22 ∷ bs) (string bytes ∷ ls)) (append_assoc (flat_map escaped_in_string bytes) (0x22 ∷ []) more)
+    (closed_both (quoted bytes) more (string bytes ∷ []) ls (string_closed bytes) next)
 
 -- what is between its quotes
 pub between_quotes : (w : List ℕ) → take (length (0x22 ∷ (w ++ 0x22 ∷ [])) - 2) (drop 1 (0x22 ∷ (w ++ 0x22 ∷ []))) ≡ w

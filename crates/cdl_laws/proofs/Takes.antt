@@ -1,12 +1,11 @@
 -- What a text makes of a state, statement by statement.
-use Rattle.std.proofs.Common.{◌≡◌, ℕ, Bool, true, false, List, [], ◌∷◌, ◌++◌, ◌∙◌, ap, refl, append_assoc, ◌&&◌, if◌then◌else◌, Option, None, Some, is_none, Ok, arith, rules}
-use Rattle.cdl_laws.proofs.Prelude.{list_all, Version, CdlKind, Section, Globals, Dimensions, Variables, Values, Role, Lexeme, first_role, role, piece_read, pieces_after, going_on, unless_end, with_first, is_section, pieces_by_steps, cut_lexemes, pieces_of, Statement, first_bad, token_fault, shape, State, act, in_turn, and_left, and_right, and_both}
+use Rattle.std.proofs.Common.{◌≡◌, ℕ, Bool, true, false, List, [], ◌∷◌, ◌++◌, ◌∙◌, ap, refl, append_assoc, ◌&&◌, if◌then◌else◌, None, Some, is_none, Ok, arith, rules, map}
+use Rattle.cdl_laws.proofs.Prelude.{list_all, Version, Section, Globals, Dimensions, Variables, Values, Role, Lexeme, first_role, role, piece_read, pieces_after, going_on, unless_end, with_first, is_section, pieces_by_steps, cut_lexemes, pieces_of, Statement, first_bad, token_fault, shape, State, act, in_turn, and_left, and_right, and_both, Each}
 use Rattle.cdl_statements.specs.declared.piece.Role.TheVariants as roles
 use Rattle.cdl_statements.specs.declared.piece.CutState.TheVariants.{Begins, Inside}
 use Rattle.cdl_laws.proofs.Texts as texts
 use Rattle.cdl_laws.proofs.Texts.{mark, word, number}
 pub use Rattle.cdl_laws.proofs.ValueTexts.{semicolon, turn}
-use Rattle.cdl_meaning.proofs.Readings as readings
 
 -- ---- a statement is one piece, whatever follows
 
@@ -25,29 +24,19 @@ is_starter roles.Colon = true
 is_starter roles.Other = true
 is_starter _ = false
 
-abbrev is_end_role : Role → Bool
-is_end_role roles.End = true
-is_end_role _ = false
-
-unless_going : (n : Role) → is_end_role n ≡ false → unless_end n Inside ≡ going_on Inside
-unless_going n h = grind arith
-
-plain_no_end : (r : Role) → is_plain r ≡ true → is_end_role r ≡ false
-plain_no_end r h = grind arith
-
-next_no_end : (p rest : List Lexeme) → all_plain p ≡ true → is_end_role (first_role role (p ++ semicolon ∷ rest)) ≡ false
-next_no_end [] rest h = refl
-next_no_end (t ∷ p) rest h = plain_no_end (role t) (and_left (is_plain (role t)) (all_plain p) h)
+next_goes_on : (p rest : List Lexeme) → all_plain p ≡ true → unless_end (first_role role (p ++ semicolon ∷ rest)) Inside ≡ going_on Inside
+next_goes_on [] rest h = refl
+next_goes_on (t ∷ p) rest h = grind (arith, and_left (is_plain (role t)) (all_plain p) h)
 
 inside_one : (p rest : List Lexeme) → all_plain p ≡ true → pieces_after role Inside (p ++ semicolon ∷ rest) ≡ (p ++ semicolon ∷ []) ∷ pieces_after role Begins rest
 unfolding pieces_after
 inside_one [] rest h = refl
-inside_one (t ∷ p) rest h = grind (arith, is_plain, and_left, and_right, semicolon, next_no_end, with_first, inside_one p rest, unless_going)
+inside_one (t ∷ p) rest h = grind (arith, is_plain, and_left, and_right, semicolon, next_goes_on, with_first, inside_one p rest)
 
 one_by_steps : (t : Lexeme) (p rest : List Lexeme) → is_starter (role t) ≡ true → all_plain p ≡ true →
     pieces_after role Begins ((t ∷ p ++ semicolon ∷ []) ++ rest) ≡ (t ∷ p ++ semicolon ∷ []) ∷ pieces_after role Begins rest
 unfolding pieces_after
-one_by_steps t p rest start h = grind (arith, append_assoc, semicolon, next_no_end, with_first, inside_one, unless_going)
+one_by_steps t p rest start h = grind (arith, append_assoc, semicolon, next_goes_on, with_first, inside_one)
 
 -- ---- what a text makes of a state
 
@@ -69,13 +58,9 @@ pub record Says (v : Version) (section : Section) (bytes : List ℕ) (statement 
   pub sound : first_bad v piece ≡ None
   pub shaped : shape v section piece ≡ Some statement
 
-piece_is : (v : Version) (s t : State) (piece : List Lexeme) (statement : Statement) → first_bad v piece ≡ None → shape v s.section piece ≡ Some statement → act v s statement ≡ Ok t → piece_read v s piece ≡ Ok t
-unfolding piece_read
-piece_is v s t piece statement h k a = ap (λ o. readings.checked v s o piece) h ∙ ap (readings.shaped v s) k ∙ a
-
 pub says_takes : (v : Version) (bytes : List ℕ) (statement : Statement) (s t : State) → Says v s.section bytes statement → act v s statement ≡ Ok t → Takes v bytes s t
-unfolding pieces_of
-says_takes v bytes statement s t says a rest = grind (arith, turn, piece_is)
+unfolding pieces_of piece_read
+says_takes v bytes statement s t says a rest = grind (arith, turn)
 
 -- ---- lexemes that are no fault and end no statement
 
@@ -85,18 +70,21 @@ is_fine v l = is_plain (role l) && is_none (token_fault v l.kind l.bytes)
 pub word_fine : (v : Version) (bytes : List ℕ) → is_fine v (word bytes) ≡ true
 word_fine v bytes = elim (is_section bytes) as (λ b. is_plain (if b then roles.Section else roles.Other) && true ≡ true) [ true ↦ refl | false ↦ refl ]
 
+pub all_fine : {A : Type 0} (v : Version) (lex : A → Lexeme) (P : A → Type 0) → ((x : A) → P x → is_fine v (lex x) ≡ true) →
+    (xs : List A) → Each P xs → list_all (is_fine v) (map lex xs) ≡ true
+all_fine v lex P fine [] all = refl
+all_fine v lex P fine (x ∷ xs) all =
+    and_both (is_fine v (lex x)) (list_all (is_fine v) (map lex xs)) (fine x all.0) (all_fine v lex P fine xs all.1)
+
 fine_plain : (v : Version) (ls : List Lexeme) → list_all (is_fine v) ls ≡ true → all_plain ls ≡ true
 fine_plain v [] h = refl
 fine_plain v (l ∷ ls) h =
     grind (arith, and_left, and_both, is_plain, is_none, and_right, fine_plain v ls (and_right (is_fine v l) (list_all (is_fine v) ls) h))
 
-none_is : (o : Option CdlKind) → is_none o ≡ true → o ≡ None
-none_is o h = grind arith
-
 fine_sound : (v : Version) (ls : List Lexeme) → list_all (is_fine v) ls ≡ true → first_bad v (ls ++ semicolon ∷ []) ≡ None
 fine_sound v [] h = refl
 fine_sound v (l ∷ ls) h =
-    grind (arith, and_left, none_is, and_right, is_plain, is_none, fine_sound v ls (and_right (is_fine v l) (list_all (is_fine v) ls) h))
+    grind (arith, and_left, and_right, is_plain, is_none, fine_sound v ls (and_right (is_fine v l) (list_all (is_fine v) ls) h))
 
 -- the sections that have statements to a semicolon
 abbrev pub is_open : Section → Bool

@@ -1,11 +1,10 @@
 -- The full dump of a dataset that a text can declare means that dataset, trimmed.
 use Rattle.std.proofs.Common.{◌≡◌, ℕ, ◌<◌, ◌≤◌, true, List, [], ◌∷◌, ◌++◌, map, sym, ◌∙◌, ap, refl, subst, arith, All, Option, Ok, rules}
-use Rattle.cdl_laws.proofs.Prelude.{DataText, list_all, map-append, AreBytes, Dataset, Att, Dim, Header, Known, Streaming, Var, Version, Options, Ending, whole, IsText, unknown, dump_text, shown_data_text, values_in_dataset, selection_of, IsGood, IsSoundVar, bare, bare_var, IsName, slab_count, slab_size, slab_limit, record_limit, record_vars, record_size_of, Ended, meaning, is_within_limits, are_within_limits, records_in, IsFull, TextReadsBack, trimmed, trimmed_att, trimmed_var, AreDistinct, IsSayable, IsSayableVar, Draft, Listing, and_both, some_count, Each, each_map, each_of}
+use Rattle.cdl_laws.proofs.Prelude.{DataText, list_all, map-append, AreBytes, Dataset, Att, Dim, Header, Known, Streaming, Var, Version, Options, unknown, dump_text, shown_data_text, values_in_dataset, selection_of, IsGood, IsSoundVar, bare, bare_var, IsName, slab_count, slab_size, slab_limit, record_limit, record_vars, record_size_of, Ended, meaning, is_within_limits, are_within_limits, records_in, IsFull, TextReadsBack, trimmed, trimmed_att, trimmed_var, AreDistinct, IsSayable, IsSayableVar, Draft, Listing, and_both, some_count, Each, each_map, each_of}
 use Rattle.nc_base.specs.declared.header.NumRecs.{NumRecs}
 use Rattle.cdl_laws.proofs.DataTexts.{given_draft, given_drafts}
-use Rattle.cdl_laws.proofs.Datasets.{keeps_fill, are_back, listings, stand_after, AreNewVars, all_given, arrays_back, vars_back, records_back}
+use Rattle.cdl_laws.proofs.Datasets.{keeps_fill, are_back, listings, stand_after, AreNewVars, all_given, arrays_back, vars_back, records_back, all_small, same_record}
 use Rattle.cdl_laws.proofs.Dumps.{text_back}
-use Rattle.cdl_laws.proofs.Limits.{all_small, same_record}
 use Rattle.cdl_laws.proofs.Sayables.{AreFresh, fresh_more, any_map, none_before, draft_name, var_name, atts_new, atts_speak, dims_new, IsSayableHead, vars_fit}
 use Rattle.cdl_laws.proofs.Wholes.{state}
 
@@ -71,8 +70,5 @@ ready d o s full section g is =
       back = search (rules, arrays_back);
     }) section is
 
-back_of : (d : Dataset) (o : Options) (text : List ℕ) (e : Ending) → IsSayable d → IsFull o → IsText d o text e → e ≡ whole → meaning text d.header.version ≡ Ok (trimmed d)
-back_of d o text e h h2 h3 h4 = grind (arith, unknown, number, ready)
-
 pub text_reads_back : TextReadsBack
-text_reads_back d o text s full is = back_of d o text whole s full is refl
+text_reads_back d o text s full is = grind (arith, unknown, number, ready)

@@ -1,6 +1,6 @@
 -- The strings of a text stand for bytes.
-use Rattle.std.proofs.Common.{◌≡◌, ℕ, zero, suc, ◌+◌, ◌-◌, ◌<◌, Bool, true, List, [], ◌∷◌, length, get_or, take, drop, sym, ◌∙◌, ap, refl, subst, arith, ◌&&◌, ◌==◌, nat_lt, not, if◌then◌else◌, map, Option, None, Some, is_none, is_some}
-use Rattle.cdl_laws.proofs.Prelude.{is_mark_byte, list_all, prefix_len, is_blank, goes_on_number, inner, string_value, unescape, or_zero, scan, gap, token, scan_text, scan_opening, len_until, word_len, begins_opening, begins_a_word, begins_number, begins_comment, raw, tokens_at, tokens, with_token, token_at, Scanned, Token, TokenKind, StandsForBytes, StringsStandForBytes, inner_of, Each, all_of}
+use Rattle.std.proofs.Common.{◌≡◌, ℕ, zero, suc, ◌+◌, ◌-◌, ◌<◌, Bool, true, List, [], ◌∷◌, length, take, drop, sym, ◌∙◌, ap, refl, subst, arith, ◌&&◌, nat_lt, if◌then◌else◌, map, Option, None, Some, is_none, is_some, rules, false}
+use Rattle.cdl_laws.proofs.Prelude.{list_all, inner, string_value, unescape, or_zero, scan, scan_text, raw, tokens_at, tokens, with_token, token_at, Scanned, Token, TokenKind, StandsForBytes, StringsStandForBytes, inner_of, Each, all_of}
 use Rattle.cdl_tokens.specs.declared.token.TokenKind.TheVariants as kinds
 use Rattle.cdl_laws.proofs.Lines.{tail_at}
 
@@ -26,26 +26,16 @@ inside m n h = grind (arith, h)
 text_says : (bytes : List ℕ) (n : ℕ) → SaysString bytes (scan_text bytes n)
 text_says bytes n = grind (arith, inside)
 
-opening_says : (bytes bs : List ℕ) (n : ℕ) → SaysString bytes (scan_opening bs n)
-opening_says bytes bs n = either bytes (nat_lt n (length bs)) (token kinds.Opening (6 + n + 1)) (token kinds.Bad (6 + length bs)) (λ e. cc) (λ e. cc)
+abbrev is_text : Option TokenKind → Bool
+is_text (Some kinds.Text) = true
+is_text _ = false
+
+no_text : (bytes : List ℕ) (f : Scanned) → is_text f.kind ≡ false → SaysString bytes f
+no_text bytes f h = grind arith
 
 prefix_says : (fresh : Bool) (bs : List ℕ) → SaysString (drop 1 bs) (scan fresh bs)
 unfolding scan
-prefix_says fresh bs =
-    let bytes = drop 1 bs in
-    let marks = if is_mark_byte (get_or bs 0 0) then token kinds.Mark 1 else token kinds.Bad 1 in
-    let strings = if get_or bs 0 0 == 0x22 then scan_text bytes (len_until 0x22 bytes) else marks in
-    let comments = if begins_comment bs then gap (prefix_len (λ b. not (b == 0x0a)) bs) else strings in
-    let takes_fill = if is_blank (get_or bs 0 0) then gap 1 else comments in
-    let numbers = if begins_number bs then token kinds.Number (1 + prefix_len goes_on_number bytes) else takes_fill in
-    let words = if begins_a_word bs then token kinds.Word (word_len bs) else numbers in
-    either bytes (fresh && begins_opening bs) (scan_opening (drop 6 bs) (len_until 0x7b (drop 6 bs))) words (opening_says bytes (drop 6 bs) (len_until 0x7b (drop 6 bs)))
-    (either bytes (begins_a_word bs) (token kinds.Word (word_len bs)) numbers (λ e. cc)
-    (either bytes (begins_number bs) (token kinds.Number (1 + prefix_len goes_on_number bytes)) takes_fill (λ e. cc)
-    (either bytes (is_blank (get_or bs 0 0)) (gap 1) comments (λ e. cc)
-    (either bytes (begins_comment bs) (gap (prefix_len (λ b. not (b == 0x0a)) bs)) strings (λ e. cc)
-    (either bytes (get_or bs 0 0 == 0x22) (scan_text bytes (len_until 0x22 bytes)) marks (text_says bytes (len_until 0x22 bytes))
-    (either bytes (is_mark_byte (get_or bs 0 0)) (token kinds.Mark 1) (token kinds.Bad 1) (λ e. cc) (λ e. cc)))))))
+prefix_says fresh bs = search (rules, either, text_says, no_text) depth 12
 
 -- ---- what it stands for
 
@@ -53,9 +43,6 @@ all_some : (os : List (Option ℕ)) → list_all is_some os ≡ true → os ≡ 
 all_some [] h = refl
 all_some (None ∷ os) h = cc
 all_some (Some b ∷ os) h = ap (λ xs. Some b ∷ xs) (all_some os h)
-
-string_stands : (b len : ℕ) (bytes : List ℕ) → IsString bytes len → unescape (inner (take len (b ∷ bytes))) ≡ map Some (string_value (inner (take len (b ∷ bytes))))
-string_stands b len bytes s = grind (arith, inner_of, string_value, all_some)
 
 -- ---- the tokens of a text
 
@@ -74,7 +61,8 @@ strings_stand text fresh at (suc more) (b ∷ bytes) e = strings_stand text fres
 strings_stand text fresh at zero (b ∷ bytes) e =
     let f = scan fresh (b ∷ bytes) in
     with_one text at f.kind f.len (tokens_at text (fresh && is_none f.kind) (at + 1) (f.len - 1) bytes)
-    (λ is. subst (λ xs. unescape (inner xs) ≡ map Some (string_value (inner xs))) (sym (raw_is text at f.len (b ∷ bytes) e)) (string_stands b f.len bytes (prefix_says fresh (b ∷ bytes) is)))
+    (λ is. subst (λ xs. unescape (inner xs) ≡ map Some (string_value (inner xs))) (sym (raw_is text at f.len (b ∷ bytes) e))
+    (grind (arith, inner_of, string_value, all_some, prefix_says fresh (b ∷ bytes) is)))
     (strings_stand text (fresh && is_none f.kind) (at + 1) (f.len - 1) bytes (tail_at text at b bytes e))
 
 pub strings_stand_for_bytes : StringsStandForBytes

@@ -1,8 +1,9 @@
 -- Texts that are put together are read apart again, token by token.
-use Rattle.std.proofs.Common.{◌≡◌, ℕ, suc, Bool, true, false, List, [], ◌∷◌, ◌++◌, length, drop, ap, refl, arith, append_assoc, ◌&&◌, ◌||◌, ◌==◌, not, Option, Some, is_none, rules}
-use Rattle.cdl_laws.proofs.Prelude.{prefix_len, list_all, false≢true, drop-append_seam, take-append_seam, escaped_name, is_reserved, IsName, has_name_bytes, ends_with_space, is_utf8, is_digit, is_escape, goes_on_word, goes_on_number, may_begin_word, word_len, scan, begins_a_word, token, Lexeme, name_of, lexemes_at, with_lexeme, TokenKind, and_left, and_right, is_off, word_at_start}
+use Rattle.std.proofs.Common.{◌≡◌, ℕ, suc, Bool, true, false, List, [], ◌∷◌, ◌++◌, length, drop, ap, refl, arith, append_assoc, ◌&&◌, ◌||◌, ◌==◌, not, Option, Some, is_none, rules, ◌+◌, None, if◌then◌else◌, ◌∙◌}
+use Rattle.cdl_laws.proofs.Prelude.{prefix_len, list_all, false≢true, drop-append_seam, take-append_seam, escaped_name, is_reserved, IsName, has_name_bytes, ends_with_space, is_utf8, goes_on_word, goes_on_number, word_len, scan, begins_a_word, token, Lexeme, name_of, lexemes_at, with_lexeme, TokenKind, and_left, and_right, is_off, word_at_start, is_mark_byte, is_blank, flat_map, or_second, begins_number, AreToken}
 use Rattle.cdl_tokens.specs.declared.token.TokenKind.TheVariants as kinds
-use Rattle.cdl_laws.proofs.NameTexts.{rest_of, marked_plain, no_escape, Begins, marked, bare, begins, name_len, name_value, name_free}
+use Rattle.cdl_laws.proofs.NameTexts.{rest_of, Begins, marked, bare, begins, name_len, name_value, name_free}
+use Rattle.cdl_tokens.proofs.PlainTokens.{scan_blank, scan_mark, scan_number}
 
 -- ---- one token, whatever follows
 
@@ -56,21 +57,35 @@ reads_both a b la lb p s q rest h = search (rules, append_assoc)
 abbrev pub mark : ℕ → Lexeme
 mark b = record { kind = kinds.Mark; bytes = b ∷ [] }
 
--- ---- what stops a word or a number
+abbrev mark_of : ℕ → List Lexeme
+mark_of b = if is_mark_byte b then mark b ∷ [] else []
 
-no_backslash : (b : ℕ) → is_stop b ≡ true → (b == 0x5c) ≡ false
-no_backslash b h = is_off (b == 0x5c) (and_right (not (goes_on_word b)) (not (b == 0x5c)) h)
+abbrev pub marks_in : List ℕ → List Lexeme
+marks_in bytes = flat_map mark_of bytes
+
+one_closed : (b : ℕ) (rest : List ℕ) → (is_mark_byte b || is_blank b) ≡ true →
+    lexemes_at false 0 (b ∷ rest) ≡ mark_of b ++ lexemes_at false 0 rest
+one_closed b rest h =
+    let marks = prefix_again false (Some kinds.Mark) b [] rest in
+    let blanks = prefix_again false None b [] rest in
+    grind (arith, or_second, scan_mark false (b ∷ rest), scan_blank false (b ∷ rest), marks, blanks)
+
+-- marks and white space are read as marks
+pub marks_closed : (bytes : List ℕ) → list_all (λ b. is_mark_byte b || is_blank b) bytes ≡ true → Closed bytes (marks_in bytes)
+marks_closed [] h = λ rest. refl
+marks_closed (b ∷ bytes) h =
+    let is = λ (c : ℕ). is_mark_byte c || is_blank c in
+    closed_both (b ∷ []) bytes (mark_of b) (marks_in bytes) (λ rest. one_closed b rest (and_left (is b) (list_all is bytes) h))
+    (marks_closed bytes (and_right (is b) (list_all is bytes) h))
+
+-- ---- what stops a word or a number
 
 pub stop_word : (rest : List ℕ) → stops rest ≡ true → word_len rest ≡ 0
 unfolding word_len
-stop_word rest h = grind (arith, word_at_start, no_backslash, is_off, and_left)
-
--- by the tests: digit, upper, lower, `_`, point, `@ + -`, beyond
-no_number : (d u l s p a c e x : Bool) → (((d || u) || l) || s || (p || a || c || e) || x) ≡ false → ((u || l) || d || s || p) ≡ false
-no_number d u l s p a c e x h = grind arith
+stop_word rest h = grind (arith, word_at_start, is_off, and_left)
 
 pub stop_number : (rest : List ℕ) → stops rest ≡ true → prefix_len goes_on_number rest ≡ 0
-stop_number rest h = grind (arith, no_number, is_off, and_left)
+stop_number rest h = grind (arith, is_off, and_left)
 
 -- ---- names
 
@@ -110,20 +125,19 @@ pub all_on : (w rest : List ℕ) → list_all goes_on_number w ≡ true → pref
 all_on [] rest all h = h
 all_on (b ∷ w) rest all h = rw (and_left (goes_on_number b) (list_all goes_on_number w) all) (let ih = all_on w rest (and_right (goes_on_number b) (list_all goes_on_number w) all) h in omega (arith, ih))
 
-pub digit_no_word : (b : ℕ) → is_digit b ≡ true → may_begin_word b ≡ false
-digit_no_word b h = grind (arith, h)
+-- these bytes are one number, where what follows goes on no number
+abbrev pub IsNumber : List ℕ → Type 0
+IsNumber bytes = (rest : List ℕ) → prefix_len goes_on_number rest ≡ 0 →
+    AreToken kinds.Number bytes rest × (lexemes_at false 0 (bytes ++ rest) ≡ number bytes ∷ lexemes_at false 0 rest)
 
-pub digit_no_escape : (b c : ℕ) → is_digit b ≡ true → is_escape b c ≡ false
-digit_no_escape b c h = no_escape b c (marked_plain b (rw (h) refl))
+pub number_reads : (bytes : List ℕ) → IsNumber bytes → Reads bytes (number bytes ∷ [])
+number_reads bytes is rest stop = (is rest (stop_number rest stop)).1
 
--- a digit and what goes on a number
-pub digits_read : (b : ℕ) (w : List ℕ) → is_digit b ≡ true → list_all goes_on_number w ≡ true → Reads (b ∷ w) (number (b ∷ w) ∷ [])
-unfolding scan
-digits_read b w h all rest stop =
-    grind (arith, prefix_again false (Some kinds.Number) b w rest, all_on w rest all (stop_number rest stop), stop_number rest stop)
-
--- the same after a minus
-pub minus_reads : (b : ℕ) (w : List ℕ) → is_digit b ≡ true → list_all goes_on_number (b ∷ w) ≡ true → Reads (45 ∷ b ∷ w) (number (45 ∷ b ∷ w) ∷ [])
-unfolding scan
-minus_reads b w h all rest stop =
-    grind (arith, prefix_again false (Some kinds.Number) 45 (b ∷ w) rest, all_on (b ∷ w) rest all (stop_number rest stop), stop_number rest stop)
+-- what begins a number, and bytes that go on it
+pub begun_number : (b : ℕ) (w : List ℕ) → ((rest : List ℕ) → begins_number (b ∷ (w ++ rest)) ≡ true) → list_all goes_on_number w ≡ true →
+    IsNumber (b ∷ w)
+begun_number b w at_start all rest stop =
+    let len : 1 + prefix_len goes_on_number (w ++ rest) ≡ length (b ∷ w) = (let e = all_on w rest all stop in omega (arith, e)) in
+    let one : AreToken kinds.Number (b ∷ w) rest = λ fresh. scan_number fresh (b ∷ (w ++ rest)) (at_start rest) ∙
+    ap (token kinds.Number) len in
+    (one, prefix_again false (Some kinds.Number) b w rest (one false))

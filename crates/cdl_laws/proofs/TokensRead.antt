@@ -1,31 +1,12 @@
 -- Names, strings and numbers are read back, each as one token.
-use Rattle.std.proofs.Common.{◌≡◌, ℕ, ◌+◌, ◌<◌, Bool, true, false, List, [], ◌∷◌, ◌++◌, length, get_or, take, drop, sym, ◌∙◌, ap, refl, subst, arith, append_assoc, length-append, append-nil, pos, decimal, ◌||◌, ◌==◌, codes, is_some, rules}
-use Rattle.cdl_laws.proofs.Prelude.{is_mark_byte, signed_decimal, prefix_len, list_all, false≢true, eqb-true, decimal_nonempty, take-append-drop, get_or-drop, list_all-append, take-append_seam, escaped_name, escaped_text, is_reserved, IsName, word_value, is_in_range, is_digit, is_blank, goes_on_word, goes_on_number, unescape, word_len, len_until, scan, token, begins_opening, begins_a_word, begins_number, Word, Text, stands_for, AreToken, BlanksAndMarksStop, StopsWord, NameReadsBack, NamesReadBack, quoted, StringsReadBack, StopsNumber, ConstantsReadBack, ValuesReadBack, and_left, and_right, and_both, word_at_start, and_false}
-use Rattle.cdl_tokens.specs.declared.token.TokenKind.TheVariants.{Number}
+use Rattle.std.proofs.Common.{◌≡◌, ℕ, ◌+◌, Bool, true, false, List, [], ◌∷◌, ◌++◌, length, get_or, sym, ◌∙◌, ap, refl, subst, arith, ◌||◌, ◌==◌, codes, ◌≤◌}
+use Rattle.cdl_laws.proofs.Prelude.{is_mark_byte, prefix_len, false≢true, eqb-true, take-append-drop, get_or-drop, take-append_seam, escaped_name, escaped_text, is_reserved, is_blank, goes_on_word, goes_on_number, word_len, scan, begins_opening, stands_for, BlanksAndMarksStop, StopsWord, NamesReadBack, StringsReadBack, StopsNumber, ConstantsReadBack, ValuesReadBack, and_left, and_right, word_at_start, number_suffix}
 use Rattle.cdl_laws.proofs.Attributes.{small_is}
 use Rattle.cdl_laws.proofs.Heads.{opens_none}
 use Rattle.cdl_laws.proofs.NameTexts.{begins, name_len, name_value, name_free}
-use Rattle.cdl_laws.proofs.Numerals.{decimal_digits, goes_on, numeral_again, value_again}
-use Rattle.cdl_laws.proofs.Strings.{is_string, until_all, unescape_all, text_len, between_quotes}
-use Rattle.cdl_laws.proofs.Texts.{all_on, digit_no_word, digit_no_escape, name_word, some_name}
-
--- ---- what begins with a word or a number
-
-prefix_word : (fresh : Bool) (bs : List ℕ) → begins_opening bs ≡ false → begins_a_word bs ≡ true → scan fresh bs ≡ token Word (word_len bs)
-unfolding scan
-prefix_word fresh bs h k = rw (h) (rw (and_false fresh) (rw (k) refl))
-
-prefix_number : (fresh : Bool) (bs : List ℕ) → begins_opening bs ≡ false → begins_a_word bs ≡ false → begins_number bs ≡ true →
-    scan fresh bs ≡ token Number (1 + prefix_len goes_on_number (drop 1 bs))
-unfolding scan
-prefix_number fresh bs h k l = rw (h) (rw (and_false fresh) (rw (k) (rw (l) refl)))
-
-first_taken : (bs : List ℕ) → get_or (take 6 bs) 0 0 ≡ get_or bs 0 0
-first_taken bs = grind arith
-
--- bytes that don't begin with an `n` don't begin an opening
-other_begins : (bs : List ℕ) → (get_or bs 0 0 == 110) ≡ false → begins_opening bs ≡ false
-other_begins bs h = grind (arith, false≢true, first_taken)
+use Rattle.cdl_laws.proofs.Numerals.{numeral_again, value_again, number_is, value_is, on_suffix}
+use Rattle.cdl_laws.proofs.Strings.{unescape_all, between_quotes, string_token}
+use Rattle.cdl_laws.proofs.Texts.{name_word, some_name}
 
 -- ---- what stops words and numbers
 
@@ -41,21 +22,19 @@ one_of a b h h2 h3 = grind arith
 literal : (b n : ℕ) → IsStop n → (b == n) ≡ true → IsStop b
 literal b n stop h = subst IsStop (sym (eqb-true b n h)) stop
 
-low_stop : (b : ℕ) → is_in_range 0x09 0x0d b ≡ true → IsStop b
-low_stop b h = record { word = grind (arith, h); slash = grind (arith, h); number = grind (arith, h) }
-
 blank_stop : (b : ℕ) → is_blank b ≡ true → IsStop b
-blank_stop b h = one_of (is_in_range 0x09 0x0d b) (b == 0x20) (low_stop b) (literal b 0x20 (record { word = refl; slash = refl; number = refl })) h
+blank_stop b h = let low : b ≤ 0x20 = grind (arith, h) in
+    record { word = grind (arith, low); slash = grind (arith, low); number = grind (arith, low) }
 
 mark_stop : (b : ℕ) → is_mark_byte b ≡ true → IsStop b
 mark_stop b h = grind (arith, one_of, literal)
 
+pub blanks_and_marks_stop : BlanksAndMarksStop
+blanks_and_marks_stop b rest h = grind (arith, one_of (is_blank b) (is_mark_byte b) (blank_stop b) (mark_stop b) h)
+
 -- what stands after the word of an opening
 opens_stop : (b : ℕ) → (is_blank b || b == 0x7b) ≡ true → IsStop b
 opens_stop b h = one_of (is_blank b) (b == 0x7b) (blank_stop b) (literal b 0x7b (record { word = refl; slash = refl; number = refl })) h
-
-pub blanks_and_marks_stop : BlanksAndMarksStop
-blanks_and_marks_stop b rest h = grind (arith, one_of (is_blank b) (is_mark_byte b) (blank_stop b) (mark_stop b) h)
 
 -- ---- names
 
@@ -71,49 +50,26 @@ six_letters : (bs : List ℕ) → word_len (codes "netcdf" ++ bs) ≡ 6 + word_l
 unfolding word_len
 six_letters bs = ap (λ n. 1 + (1 + (1 + (1 + (1 + n))))) (word_at_start 102 bs) ∙ omega arith
 
--- the word that an opening begins with is `netcdf`
-opening_len : (bs : List ℕ) → begins_opening bs ≡ true → word_len bs ≡ 6
-opening_len bs h = grind (arith, get_or-drop, ends_word, and_right, codes, take-append-drop, six_letters)
-
-netcdf_reserved : is_reserved (codes "netcdf") ≡ true
-unfolding is_reserved
-netcdf_reserved = refl
-
--- so no other word begins one
+-- a word that is not reserved begins no opening, whose word is `netcdf`
 free_begins : (w rest : List ℕ) → is_reserved w ≡ false → word_len (w ++ rest) ≡ length w → begins_opening (w ++ rest) ≡ false
+unfolding is_reserved
 free_begins w rest free len =
-    grind (arith, opening_len (w ++ rest), take-append_seam w rest, codes, false≢true, netcdf_reserved)
+    grind (arith, take-append_seam w rest, codes, false≢true, get_or-drop, ends_word, and_right, take-append-drop, six_letters)
 
-name_token : (b : ℕ) (bs rest : List ℕ) → IsName (b ∷ bs) → StopsWord rest → AreToken Word (escaped_name (b ∷ bs)) rest
-name_token b bs rest h stops = grind (arith, and_left, some_name, and_right, begins, name_free, name_len, stop_word, prefix_word, free_begins)
-
-value_back : (b : ℕ) (bs : List ℕ) → IsName (b ∷ bs) → word_value (escaped_name (b ∷ bs)) ≡ b ∷ bs
-value_back b bs h = grind (arith, and_left, some_name, and_right, begins, name_value)
-
-name_back : (b : ℕ) (bs : List ℕ) → IsName (b ∷ bs) → NameReadsBack (b ∷ bs)
-name_back b bs h =
+pub names_read_back : NamesReadBack
+unfolding scan
+names_read_back [] h = absurd (false≢true (some_name [] h))
+names_read_back (b ∷ bs) h =
     let word = name_word (b ∷ bs) h in
     record {
-      token = λ rest stops. name_token b bs rest h stops;
+      token = λ rest stops. grind (arith, and_left, some_name, and_right, begins, name_free, name_len, stop_word, free_begins);
       free = word.free;
       no_section = opens_none (escaped_name (b ∷ bs)) word.free;
-      value = value_back b bs h;
+      value = grind (arith, and_left, some_name, and_right, begins, name_value);
       says = word.stands;
     }
 
-pub names_read_back : NamesReadBack
-names_read_back [] h = absurd (false≢true (some_name [] h))
-names_read_back (b ∷ bs) h = name_back b bs h
-
 -- ---- strings
-
-quote_prefix : (fresh : Bool) (w rest : List ℕ) → len_until 0x22 (w ++ 0x22 ∷ rest) ≡ length w → list_all is_some (unescape w) ≡ true → scan fresh (0x22 ∷ (w ++ 0x22 ∷ rest)) ≡ token Text (length w + 2)
-unfolding scan
-quote_prefix fresh w rest h k = rw (and_false fresh) (text_len w rest (len_until 0x22 (w ++ 0x22 ∷ rest)) h k)
-
-string_token : (bytes rest : List ℕ) → AreToken Text (quoted bytes) rest
-unfolding escaped_text
-string_token bytes rest fresh = grind (arith, append_assoc, quote_prefix, until_all, is_string, length-append)
 
 pub strings_read_back : StringsReadBack
 unfolding escaped_text
@@ -125,21 +81,14 @@ stop_number : (rest : List ℕ) → StopsNumber rest → prefix_len goes_on_numb
 stop_number [] h = refl
 stop_number (b ∷ rest) h = rw (h) refl
 
-digits_token : (b : ℕ) (w rest : List ℕ) → is_digit b ≡ true → list_all goes_on_number w ≡ true → StopsNumber rest → AreToken Number (b ∷ w) rest
-digits_token b w rest h all stop fresh =
-    search (rules, prefix_number, other_begins, digit_no_word, digit_no_escape, all_on, stop_number)
-
-unsigned_token : (ds suf rest : List ℕ) → list_all is_digit ds ≡ true → 0 < length ds → list_all goes_on_number suf ≡ true → StopsNumber rest → AreToken Number (ds ++ suf) rest
-unsigned_token [] suf rest h some k stop = grind (arith, and_left, list_all-append, and_both, goes_on, and_right)
-unsigned_token _ suf rest h some k stop = grind (arith, digits_token, and_left, list_all-append, and_both, goes_on, and_right)
-
-signed_token : (ds suf rest : List ℕ) → list_all is_digit ds ≡ true → 0 < length ds → list_all goes_on_number suf ≡ true → StopsNumber rest → AreToken Number (45 ∷ (ds ++ suf)) rest
-signed_token [] suf rest h some k stop = grind (arith, and_left, list_all-append, and_both, goes_on)
-signed_token _ suf rest h some k stop = grind (arith, and_left, list_all-append, and_both, goes_on, prefix_number, other_begins, all_on, stop_number)
-
 pub constants_read_back : ConstantsReadBack
-constants_read_back v ty n other known range = grind (arith, small_is, numeral_again, pos, unsigned_token, decimal, decimal_digits, decimal_nonempty, signed_token)
+constants_read_back v ty n other known range = record {
+  token = λ rest stop fresh. (number_is n (number_suffix ty) (small_is ty n range) (on_suffix ty) rest (stop_number rest stop)).0 fresh;
+  value = numeral_again v ty n (small_is ty n range) known other;
+}
 
 pub values_read_back : ValuesReadBack
-values_read_back v ty n other known range =
-    grind (arith, append-nil (signed_decimal n), small_is ty n range, value_again v n (small_is ty n range), pos, unsigned_token, decimal, decimal_digits, decimal_nonempty, signed_token)
+values_read_back v ty n other known range = record {
+  token = λ rest stop fresh. (value_is n (small_is ty n range) rest (stop_number rest stop)).0 fresh;
+  value = value_again v n (small_is ty n range);
+}

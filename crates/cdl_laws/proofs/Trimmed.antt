@@ -1,32 +1,28 @@
--- A dataset without the NULs at the end of its attributes.
-use Rattle.std.proofs.Common.{◌≡◌, ℕ, ◌+◌, ◌-◌, ◌*◌, ◌≤◌, ◌<◌, Bool, true, false, List, [], ◌∷◌, length, map, sym, ◌∙◌, ap, refl, subst, arith, zero, suc, take, get_or, if◌then◌else◌, ◌==◌, All, rules}
-use Rattle.cdl_laws.proofs.Prelude.{take-length, length-take, length-map, suffix_len-take_yes, suffix_len-take_no, suffix_len, AreBytes, Dataset, Att, Dim, Header, Known, Var, NcType, Version, fill_value, IsGood, IsSound, IsSoundAtt, IsSoundVar, AreArrays, bare, bare_var, without_trailing_nuls, IsName, record_vars, size_of, is_char, count_limit, TrimsOnce, TrimmedIsSayable, SecondTripIsSame, AreDistinct, AreSayableAtts, IsSayableVar, HasSomeNumber, trimmed, trimmed_att, trimmed_var, trimmed_header, each_map, each_of}
+-- A dataset without the NULs at the end of its attributes, and the fill values of its characters.
+use Rattle.std.proofs.Common.{◌≡◌, ℕ, ◌+◌, ◌-◌, ◌*◌, ◌≤◌, ◌<◌, Bool, true, false, List, [], ◌∷◌, length, map, sym, ◌∙◌, ap, refl, subst, arith, zero, suc, take, get_or, if◌then◌else◌, ◌==◌, All, rules, ℤ, pos, ◌&&◌, nat_lt, None, Some}
+use Rattle.cdl_laws.proofs.Prelude.{take-length, length-take, length-map, suffix_len-take_yes, suffix_len-take_no, suffix_len, AreBytes, Dataset, Att, Dim, Header, Known, Var, NcType, Version, fill_value, IsGood, IsSoundAtt, IsSoundVar, AreArrays, bare, bare_var, without_trailing_nuls, IsName, record_vars, size_of, is_char, count_limit, TrimsOnce, TrimmedIsSayable, SecondTripIsSame, AreDistinct, AreSayableAtts, IsSayableVar, HasSomeNumber, trimmed, trimmed_att, trimmed_var, trimmed_header, each_map, each_of, all_of, default_fill_of, false≢true, eqb-true, Char, number_of, code_of, FillValueSurvivesTrim, MeaningsAreSayable, MeaningsComeBack, and_left, and_right}
 use Rattle.cdl_laws.proofs.Attributes.{take_bytes}
-use Rattle.cdl_laws.proofs.Limits.{same_record, record_trimmed}
-use Rattle.cdl_laws.proofs.MeaningsAreGood.{each_of_map}
-use Rattle.cdl_laws.proofs.Outcomes.{all_of}
+use Rattle.cdl_laws.proofs.Datasets.{same_record, record_trimmed}
+use Rattle.cdl_laws.proofs.MeaningsAreGood.{each_of_map, meanings_are_good, meanings_are_nearly_sayable, nearly_is_sayable}
 use Rattle.cdl_laws.proofs.TextReadsBack.{text_reads_back}
+use Rattle.std.specs.Prelude.{unwrap_or}
+use Rattle.cdl_laws.proofs.Given.{found_trimmed}
 
 -- ---- once
 
 abbrev nul : ℕ → Bool
 nul b = b == 0
 
+one_more : (f : ℕ → ℕ) (is_nul : Bool) (m : ℕ) → (is_nul ≡ true → f (suc m) ≡ 1 + f (suc m - 1)) → (is_nul ≡ false → f (suc m) ≡ 0) →
+    f (m - f m) ≡ 0 → f (suc m - f (suc m)) ≡ 0
+one_more f is_nul m more none before = grind arith
+
 stripped : (xs : List ℕ) (n : ℕ) → n ≤ length xs → suffix_len nul (take (n - suffix_len nul (take n xs)) xs) ≡ 0
 stripped xs zero h = refl
 stripped xs (suc m) h =
-    let e : suc m - 1 ≡ m = omega arith in
-    elim (nul (get_or xs m 0)) as (λ b. nul (get_or xs m 0) ≡ b → suffix_len nul (take (suc m - suffix_len nul (take (suc m) xs)) xs) ≡ 0) [
-      | true ↦ (λ t.
-          let s = suffix_len nul (take m xs) in
-          let a : suffix_len nul (take (suc m) xs) ≡ 1 + s = suffix_len-take_yes nul xs (suc m) 0 (omega arith) h (ap (λ k. nul (get_or xs k 0)) e ∙ t) ∙ ap (λ k. 1 + suffix_len nul (take k xs)) e in
-          let b : suc m - suffix_len nul (take (suc m) xs) ≡ m - s = omega (arith, a) in
-          ap (λ k. suffix_len nul (take k xs)) b ∙ stripped xs m (omega (arith, h)))
-      | false ↦ (λ f.
-          let a : suffix_len nul (take (suc m) xs) ≡ 0 = suffix_len-take_no nul xs (suc m) 0 (omega arith) h (ap (λ k. nul (get_or xs k 0)) e ∙ f) in
-          let b : suc m - suffix_len nul (take (suc m) xs) ≡ suc m = omega (arith, a) in
-          ap (λ k. suffix_len nul (take k xs)) b ∙ a)
-    ] refl
+    one_more (λ n. suffix_len nul (take n xs)) (nul (get_or xs (suc m - 1) 0)) m
+    (suffix_len-take_yes nul xs (suc m) 0 (omega arith) h) (suffix_len-take_no nul xs (suc m) 0 (omega arith) h)
+    (stripped xs m (omega (arith, h)))
 
 pub none_left : (xs : List ℕ) → suffix_len nul (without_trailing_nuls xs) ≡ 0
 none_left xs = grind (arith, take-length xs, stripped xs)
@@ -49,9 +45,6 @@ trims_once d = search (rules, bytes_once, map_once, att_once)
 
 -- ---- still sayable
 
-shorter : (xs : List ℕ) → length (without_trailing_nuls xs) ≤ length xs
-shorter xs = let a = length-take (length xs - suffix_len nul xs) xs in omega (arith, a)
-
 char_size : (ty : NcType) → is_char ty ≡ true → size_of ty ≡ 1
 char_size ty h = grind arith
 
@@ -61,7 +54,7 @@ whole_still : (limit size : ℕ) (char : Bool) (vals : List ℕ) (n : ℕ) → (
 whole_still limit size false vals n one few whole = (n, few, whole)
 whole_still limit size true vals n one few whole =
     let m = length (without_trailing_nuls vals) in
-    let a = shorter vals in
+    let a = length-take (length vals - suffix_len nul vals) vals in
     let b : n * size ≡ n * 1 = ap (λ k. n * k) (one refl) in
     let c : m * size ≡ m * 1 = ap (λ k. m * k) (one refl) in
     (m, omega (arith, a, b, few, whole), omega (arith, c))
@@ -80,9 +73,6 @@ att_bytes att h = grind (arith, take_bytes (length att.vals - suffix_len nul att
 var_sound : (v : Version) (dims : List Dim) (var : Var) → IsSoundVar v dims var → IsSoundVar v dims (trimmed_var var)
 var_sound v dims var s = search (rules, length-map, over_map, att_sound)
 
-sound_still : (h : Header) → IsSound h → IsSound (trimmed_header h)
-sound_still h s = search (rules, length-map, over_map, att_sound, var_sound, same_record)
-
 bare_trimmed : (vars : List Var) → map trimmed_var (map bare_var vars) ≡ map bare_var (map trimmed_var vars)
 bare_trimmed [] = refl
 bare_trimmed (var ∷ vars) = ap (λ vs. bare_var (trimmed_var var) ∷ vs) (bare_trimmed vars)
@@ -99,7 +89,7 @@ good_still : (d : Dataset) → IsGood d → IsGood (trimmed d)
 good_still d g = record {
   records = g.records;
   is_bare = bare_still d.header g.records g.is_bare;
-  is_sound = sound_still d.header g.is_sound;
+  is_sound = search (rules, length-map, over_map, att_sound, var_sound, same_record, g.is_sound);
   names = record {
     dims = g.names.dims;
     gatts = over_map (λ (a : Att). IsName a.name) trimmed_att d.header.gatts (λ a n. n) g.names.gatts;
@@ -141,3 +131,41 @@ trimmed_is_sayable d s = record {
 
 pub second_trip_is_same : SecondTripIsSame
 second_trip_is_same d o p first second s full full_again text text_again = search (rules, text_reads_back, trimmed_is_sayable, map_once, att_once, var_once)
+
+-- ---- fill values of characters
+
+-- what an attribute of this type and these values makes the fill value of characters
+abbrev fill_by : NcType → List ℕ → ℤ
+fill_by ty vals = unwrap_or (if (code_of ty == code_of Char) && (length vals == size_of Char) then Some (number_of Char vals) else None) (default_fill_of Char)
+
+abbrev cut_by : List ℕ → Bool
+cut_by vals = (length (without_trailing_nuls vals) == 1) && nat_lt 1 (length vals)
+
+chars_kept : (vals : List ℕ) → cut_by vals ≡ false → fill_by Char (without_trailing_nuls vals) ≡ fill_by Char vals
+chars_kept [] h = refl
+chars_kept (b ∷ []) h = grind (arith, eqb-true b 0, pos)
+chars_kept (b ∷ c ∷ vals) h = search (rules, false≢true)
+
+-- a character alone is no NUL
+lone : (ys : List ℕ) → suffix_len (λ b. b == 0) ys ≡ 0 → (length ys == 1) ≡ true → fill_by Char ys ≡ pos 0 → ⊥
+lone [] s l e = false≢true l
+lone (b ∷ []) s l e = grind arith
+lone (b ∷ c ∷ ys) s l e = let f : (length (b ∷ c ∷ ys) == 1) ≡ false = grind arith in false≢true (sym f ∙ l)
+
+cut_changes : (vals : List ℕ) → cut_by vals ≡ true → fill_by Char (without_trailing_nuls vals) ≡ fill_by Char vals → ⊥
+cut_changes vals h e =
+    let a : (length (without_trailing_nuls vals) == 1) ≡ true = and_left (length (without_trailing_nuls vals) == 1) (nat_lt 1 (length vals)) h in
+    let b : 1 < length vals = grind (arith, and_right (length (without_trailing_nuls vals) == 1) (nat_lt 1 (length vals)) h) in
+    grind (arith, lone (without_trailing_nuls vals) (none_left vals) a, none_left vals)
+
+pub fill_value_survives_trim : FillValueSurvivesTrim
+unfolding fill_value
+fill_value_survives_trim var char = grind (arith, found_trimmed var.atts, chars_kept, cut_changes)
+
+pub meanings_are_sayable : MeaningsAreSayable
+meanings_are_sayable text v d bytes short e =
+    grind (arith, meanings_are_nearly_sayable text v d bytes short e, fill_value_survives_trim)
+
+pub meanings_come_back : MeaningsComeBack
+meanings_come_back text v d o p first second bytes short e plain full full_again text_first text_second =
+    grind (arith, meanings_are_good text v d bytes short e, second_trip_is_same d o p first second, nearly_is_sayable, meanings_are_nearly_sayable, fill_value_survives_trim)

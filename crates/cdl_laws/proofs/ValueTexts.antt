@@ -1,8 +1,8 @@
 -- The listed numbers of a variable are read back, wherever the breaks are.
-use Rattle.std.proofs.Common.{◌≡◌, ℕ, ◌+◌, ◌^◌, ◌<◌, ◌≤◌, Bool, true, false, List, [], ◌∷◌, ◌++◌, length, map, sym, ◌∙◌, ap, refl, subst, arith, append_assoc, append-nil, length-append, ℤ, unsigned_abs, ◌&&◌, ◌||◌, not, if◌then◌else◌, nat_lt, Some, Result, Ok, codes}
-use Rattle.cdl_laws.proofs.Prelude.{signed_decimal, flat_map, int_eq, mod-eq_of_lt, zero-mod, false≢true, concat_parts, escaped_name, Int, Version, IsName, Look, is_char, number_text, number_lead, line_break, begins_row, column, number_piece, piece, pieces, variable_opening, variable_closing, variable_text, prefix_is, CdlKind, Lexeme, lexemes_at, scan, Value, Number, Underscore, each, both, constant, constants, constants, Capacity, Numbers, add_number, has_number, in_turn, listing_of, word_at_start, lt-ltb, Each, ◌>>=◌}
-use Rattle.cdl_laws.proofs.Texts.{Closed, Reads, Stops, closed_both, then_reads, closed_by, reads_both, mark, word, number, name_word, word_reads, stop_word}
-use Rattle.cdl_laws.proofs.Numerals.{number_reads, value_again}
+use Rattle.std.proofs.Common.{◌≡◌, ℕ, ◌+◌, ◌^◌, ◌<◌, ◌≤◌, Bool, true, false, List, [], ◌∷◌, ◌++◌, length, map, sym, ◌∙◌, ap, refl, subst, arith, append_assoc, append-nil, length-append, ℤ, unsigned_abs, ◌&&◌, not, if◌then◌else◌, nat_lt, Some, Result, Ok, codes, ◌⊎◌, inl, inr}
+use Rattle.cdl_laws.proofs.Prelude.{signed_decimal, flat_map, int_eq, mod-eq_of_lt, zero-mod, false≢true, concat_parts, escaped_name, Int, Version, IsName, Look, is_char, number_text, number_lead, line_break, begins_row, column, number_piece, piece, pieces, variable_opening, variable_closing, variable_text, prefix_is, CdlKind, Lexeme, Value, Number, Underscore, both, constant, constants, constants, Capacity, Numbers, add_number, has_number, in_turn, listing_of, word_at_start, Each, ◌>>=◌}
+use Rattle.cdl_laws.proofs.Texts.{Closed, Reads, Stops, closed_both, then_reads, closed_by, reads_both, mark, word, number, name_word, word_reads, stop_word, marks_closed, number_reads}
+use Rattle.cdl_laws.proofs.Numerals.{value_again, value_is}
 
 -- one turn
 pub turn : {S A : Type 0} (f : S → A → Result S CdlKind) (s t : S) (x : A) (xs : List A) → f s x ≡ Ok t → in_turn f s (x ∷ xs) ≡ in_turn f t xs
@@ -20,10 +20,15 @@ semicolon = mark 59
 abbrev pub commas : List Lexeme → List Lexeme
 commas ls = flat_map (λ l. comma ∷ l ∷ []) ls
 
--- a list of constants, with its semicolon
-pub constants_all : (v : Version) (takes_fill : Bool) (l : Lexeme) (ls : List Lexeme) → constants v takes_fill (l ∷ commas ls ++ semicolon ∷ []) ≡ each (constant v takes_fill) (l ∷ ls)
-constants_all v takes_fill l [] = refl
-constants_all v takes_fill l (m ∷ ls) = ap (both (λ x xs. x ∷ xs) (constant v takes_fill l)) (constants_all v takes_fill m ls)
+-- constants that each say something, with their semicolon
+pub constants_say : {A : Type 0} (v : Version) (takes_fill : Bool) (lex : A → Lexeme) (say : A → Value) (P : A → Type 0) →
+    ((x : A) → P x → constant v takes_fill (lex x) ≡ Some (say x)) →
+    (x : A) (xs : List A) → Each P (x ∷ xs) → constants v takes_fill (lex x ∷ commas (map lex xs) ++ semicolon ∷ []) ≡ Some
+    (map say (x ∷ xs))
+constants_say v takes_fill lex say P is x [] all = ap (λ o. both (λ y ys. y ∷ ys) o (Some [])) (is x all.0)
+constants_say v takes_fill lex say P is x (y ∷ ys) all =
+    ap (both (λ y ys. y ∷ ys) (constant v takes_fill (lex x))) (constants_say v takes_fill lex say P is y ys all.1) ∙
+    ap (λ o. both (λ y ys. y ∷ ys) o (Some (map say (y ∷ ys)))) (is x all.0)
 
 -- ---- the text of numbers
 
@@ -41,38 +46,25 @@ blank_reads : Reads (codes "_") (word (codes "_") ∷ [])
 blank_reads = word_reads 95 [] (λ rest. refl) (λ rest stop. word_at_start 95 rest ∙ ap (λ n. 1 + n) (stop_word rest stop))
 
 text_reads : (look : Look) (x : ℤ) → unsigned_abs x < 2 ^ 64 → Reads (number_text look x) (value_lexeme look x ∷ [])
-text_reads look x h = grind (arith, codes "_", append-nil (signed_decimal x), number_reads x [] h refl, word, number, blank_reads)
+text_reads look x h = grind (arith, codes "_", number_reads (signed_decimal x) (value_is x h), word, number, blank_reads)
 
 -- ---- what stands before a number
 
-broken : Closed (codes "\n    ") []
-unfolding lexemes_at scan
-broken rest = refl
-
 either_closed : (b : Bool) → Closed (if b then codes "\n    " else []) []
-either_closed b = grind (arith, broken)
+either_closed true = marks_closed (codes "\n    ") refl
+either_closed false = λ rest. refl
 
 break_closed : (look : Look) (i end : ℕ) → Closed (line_break look i end) []
 break_closed look i end = either_closed (not (begins_row look i) && nat_lt look.width (end + 2))
 
 -- what comes before a number that isn't the first: a comma and a space, or a comma and the beginning of a row
-data Gap (lead : List ℕ) : Type 0 where
-  next : lead ≡ codes ", " → Gap lead
-  row : lead ≡ codes ",\n  " → Gap lead
-
-gap : (look : Look) (i : ℕ) → 0 < i → (look.in_rows ≡ false → i < look.row) → Gap (number_lead look i)
+gap : (look : Look) (i : ℕ) → 0 < i → (look.in_rows ≡ false → i < look.row) →
+    (number_lead look i ≡ codes ", ") ⊎ (number_lead look i ≡ codes ",\n  ")
 gap look i some small = grind (arith, codes, false≢true, mod-eq_of_lt)
 
-next_closed : Closed (codes ", ") (comma ∷ [])
-unfolding lexemes_at scan
-next_closed rest = refl
-
-pub row_closed : Closed (codes ",\n  ") (comma ∷ [])
-unfolding lexemes_at scan
-row_closed rest = refl
-
-gap_closed : (lead : List ℕ) → Gap lead → Closed lead (comma ∷ [])
-gap_closed lead h = grind (arith, next_closed, row_closed)
+gap_closed : (lead : List ℕ) → (lead ≡ codes ", ") ⊎ (lead ≡ codes ",\n  ") → Closed lead (comma ∷ [])
+gap_closed lead (inl is) = rw (is) (marks_closed (codes ", ") refl)
+gap_closed lead (inr is) = rw (is) (marks_closed (codes ",\n  ") refl)
 
 -- ---- the numbers after the first
 
@@ -85,30 +77,24 @@ piece_reads look before i x some small fits =
     (closed_both (number_lead look i) (line_break look i end) (comma ∷ []) [] (gap_closed (number_lead look i) (gap look i some small)) (break_closed look i end))
     (text_reads look x fits)
 
-piece_stops : (look : Look) (before : List ℕ) (i : ℕ) (x : ℤ) (more : List ℕ) → 0 < i → (look.in_rows ≡ false → i < look.row) → Stops (number_piece look before i x ++ more)
-unfolding number_piece
-piece_stops look before i x more some small = grind (arith, append_assoc, gap)
-
 -- the values fit
 abbrev pub AreSmall : List ℤ → Type 0
 AreSmall xs = Each (λ x. unsigned_abs x < 2 ^ 64) xs
 
-is_number_piece : (look : Look) (before : List ℕ) (values : List ℤ) (x : ℤ) → is_char look.ty ≡ false → piece look before values x ≡ number_piece look before (length values) x
-unfolding piece
-is_number_piece look before values x h = rw (h) refl
-
 pieces_first : (look : Look) (before : List ℕ) (values : List ℤ) (x : ℤ) (xs : List ℤ) → is_char look.ty ≡ false →
     pieces look before values (x ∷ xs) ≡ number_piece look before (length values) x ++ pieces look (before ++ piece look before values x) (values ++ x ∷ []) xs
-unfolding pieces
-pieces_first look before values x xs h = ap (λ p. p ++ pieces look (before ++ piece look before values x) (values ++ x ∷ []) xs) (is_number_piece look before values x h)
+unfolding pieces piece
+pieces_first look before values x xs h = ap (λ p. p ++ pieces look (before ++ piece look before values x) (values ++ x ∷ []) xs)
+    (rw (h) refl)
 
 pieces_none : (look : Look) (before : List ℕ) (values : List ℤ) → pieces look before values [] ≡ []
 unfolding pieces
 pieces_none look before values = refl
 
 more_stop : (look : Look) (before : List ℕ) (values xs : List ℤ) → is_char look.ty ≡ false → 0 < length values → (look.in_rows ≡ false → length values + length xs ≤ look.row) → Stops (pieces look before values xs)
+unfolding number_piece
 more_stop look before values [] h some small = grind (arith, pieces_none, pieces_first, pieces, piece)
-more_stop look before values _ h some small = grind (arith, pieces_first, piece_stops, pieces, piece)
+more_stop look before values _ h some small = grind (arith, pieces_first, pieces, piece, append_assoc, gap)
 
 pub more_read : (look : Look) (before : List ℕ) (values xs : List ℤ) → is_char look.ty ≡ false → 0 < length values → (look.in_rows ≡ false → length values + length xs ≤ look.row) → AreSmall xs →
     Reads (pieces look before values xs) (commas (map (value_lexeme look) xs))
@@ -127,8 +113,12 @@ more_read look before values (x ∷ xs) h some small fit =
 -- ---- a variable's numbers
 
 first_lead : (look : Look) → Closed (number_lead look 0) []
-unfolding lexemes_at scan
-first_lead look = rw (zero-mod look.row) (elim (look.in_rows) as (λ w. Closed (if w then codes "\n  " else codes " ") []) [ true ↦ (λ rest. refl) | false ↦ (λ rest. refl) ])
+first_lead look = rw (zero-mod look.row) (elim (look.in_rows) as
+    (λ w. Closed (if w then codes "\n  " else codes " ") []) [
+      | true ↦ marks_closed (codes "\n  ") refl
+      | false ↦ marks_closed
+          (codes " ") refl
+    ])
 
 first_reads : (look : Look) (before : List ℕ) (x : ℤ) → unsigned_abs x < 2 ^ 64 → Reads (number_piece look before 0 x) (value_lexeme look x ∷ [])
 unfolding number_piece
@@ -144,23 +134,13 @@ all_read look before x xs h small fit =
     (reads_both (number_piece look before 0 x) (pieces look after (x ∷ []) xs) (value_lexeme look x ∷ []) (commas (map (value_lexeme look) xs))
     (first_reads look before x fit.0) (more_stop look after (x ∷ []) xs h (omega arith) small2) (more_read look after (x ∷ []) xs h (omega arith) small2 fit.1))
 
-pub equals_closed : Closed (codes " =") (mark 61 ∷ [])
-unfolding lexemes_at scan
-equals_closed rest = refl
-
-pub feed_closed : Closed (codes "\n ") []
-unfolding lexemes_at scan
-feed_closed rest = refl
-
-pub semicolon_closed : Closed (codes " ;\n") (mark 59 ∷ [])
-unfolding lexemes_at scan
-semicolon_closed rest = refl
-
 pub opening_closed : (look : Look) → IsName look.name → Closed (variable_opening look) (word (escaped_name look.name) ∷ mark 61 ∷ [])
 unfolding variable_opening concat_parts
 opening_closed look h =
-    closed_both (codes "\n ") (escaped_name look.name ++ (codes " =" ++ [])) [] (word (escaped_name look.name) ∷ mark 61 ∷ []) feed_closed
-    (closed_by (escaped_name look.name) (codes " =" ++ []) (word (escaped_name look.name) ∷ []) (mark 61 ∷ []) (name_word look.name h).reads (λ rest. refl) equals_closed)
+    closed_both (codes "\n ") (escaped_name look.name ++ (codes " =" ++ [])) [] (word (escaped_name look.name) ∷ mark 61 ∷ [])
+    (marks_closed (codes "\n ") refl)
+    (closed_by (escaped_name look.name) (codes " =" ++ []) (word (escaped_name look.name) ∷ []) (mark 61 ∷ [])
+    (name_word look.name h).reads (λ rest. refl) (marks_closed (codes " =") refl))
 
 number_closing : (look : Look) → is_char look.ty ≡ false → variable_closing look ≡ codes " ;\n"
 unfolding variable_closing
@@ -179,21 +159,19 @@ numbers_closed look x xs name h small fit =
     (then_reads (variable_opening look) (pieces look (variable_opening look) [] (x ∷ xs)) (word (escaped_name look.name) ∷ mark 61 ∷ []) (value_lexeme look x ∷ commas (map (value_lexeme look) xs))
     (opening_closed look name) (all_read look (variable_opening look) x xs h small fit))
     (rw (number_closing look h) (λ rest. refl))
-    (rw (number_closing look h) semicolon_closed))
+    (rw (number_closing look h) (marks_closed (codes " ;\n") refl)))
 
 -- ---- what they say
 
-values_all : (v : Version) (look : Look) (xs : List ℤ) → AreSmall xs → each (constant v true) (map (value_lexeme look) xs) ≡ Some (map (value_said look) xs)
-values_all v look [] fit = refl
-values_all v look (x ∷ xs) fit = grind (arith, both, constant, word, codes, number, value_again, values_all v look xs fit.1)
+value_is_said : (v : Version) (look : Look) (x : ℤ) → unsigned_abs x < 2 ^ 64 →
+    constant v true (value_lexeme look x) ≡ Some (value_said look x)
+value_is_said v look x h = grind (arith, constant, word, codes, number, value_again)
 
 pub values_said : (v : Version) (look : Look) (x : ℤ) (xs : List ℤ) → AreSmall (x ∷ xs) → constants v true (value_lexeme look x ∷ commas (map (value_lexeme look) xs) ++ semicolon ∷ []) ≡ Some (map (value_said look) (x ∷ xs))
-values_said v look x xs fit = grind (arith, constants_all v true (value_lexeme look x) (map (value_lexeme look) xs), values_all v look (x ∷ xs) fit)
+values_said v look x xs fit = constants_say v true (value_lexeme look) (value_said look) (λ y. unsigned_abs y < 2 ^ 64)
+    (value_is_said v look) x xs fit
 
 -- ---- what becomes of them
-
-pub room_for : (is_open : Bool) (m n : ℕ) → (is_open ≡ false → m < n) → (is_open || nat_lt m n) ≡ true
-room_for is_open m n h = grind (arith, lt-ltb)
 
 all_added : (look : Look) (capacity : Capacity) (before xs : List ℤ) → capacity.fill ≡ look.fill → (capacity.is_open ≡ false → length before + length xs ≤ capacity.count) → Each (λ x. has_number capacity.ty x ≡ true) xs →
     in_turn (add_number capacity) before (map (value_said look) xs) ≡ Ok (before ++ xs)

@@ -1,57 +1,48 @@
 -- The head of a dump, statement after statement.
 use Rattle.std.proofs.Common.{◌≡◌, ℕ, zero, suc, ◌^◌, ◌<◌, true, false, List, [], ◌∷◌, ◌++◌, length, map, sym, ◌∙◌, ap, refl, subst, arith, append_assoc, append-nil, None, Some, Ok, codes}
-use Rattle.cdl_laws.proofs.Prelude.{list_any, bytes_eq, concat_parts, Att, Dim, Var, NcType, Version, escaped_name, AreDimids, joined, dim_line, att_line, att_lines, att_text, var_lines, shape_text, dim_name, IsName, type_word, count_limit, has_type, Section, Dimensions, Variables, trimmed_att, trimmed_var, Value, DeclareDimensions, DeclareVariables, Attribute, State, Draft, act, add_dim, add_att, add_constant, first_type, in_turn, said_dim, IsBeforeData, not_none, Each, ◌>>=◌}
+use Rattle.cdl_laws.proofs.Prelude.{list_any, bytes_eq, concat_parts, Att, Dim, Var, NcType, Version, escaped_name, AreDimids, joined, dim_line, att_line, att_lines, att_text, var_lines, shape_text, dim_name, IsName, type_word, count_limit, has_type, Section, Dimensions, Variables, trimmed_att, trimmed_var, Value, DeclareDimensions, DeclareVariables, Attribute, State, Draft, act, add_dim, add_att, add_constant, first_type, in_turn, said_dim, IsBeforeData, not_none, Each, ◌>>=◌, declaration, EachAfter, each_after, type_of}
 use Rattle.cdl_laws.proofs.Texts.{word}
 use Rattle.cdl_laws.proofs.ValueTexts.{turn}
 use Rattle.cdl_laws.proofs.Takes.{Takes, says_takes, takes_both, takes_nothing}
-use Rattle.cdl_laws.proofs.Declarations.{dim_says, IsListOf, global_says, owned_says}
-use Rattle.cdl_laws.proofs.Typings.{AreNames, shape_of, typed_line, typed_says}
-use Rattle.cdl_laws.proofs.Acts.{record_once, dim_added, is_new_att, att_added, no_draft, variable_is, type_is, name_at, AreDistinctDims, HaveNames, name_valid, bare_draft, var_added}
+use Rattle.cdl_laws.proofs.Declarations.{dim_says, IsListOf, global_says, owned_says, AreNames, shape_of, typed_line, typed_says}
+use Rattle.cdl_laws.proofs.Acts.{record_once, dim_added, is_new_att, att_added, no_draft, variable_is, name_at, AreDistinctDims, HaveNames, name_valid, bare_draft, var_added}
+use Rattle.std.proofs.lemmas.List.{map-id}
 
 abbrev pub state : Section → List Dim → List Att → List Draft → State
 state section dims gatts drafts = record { section = section; dims = dims; gatts = gatts; drafts = drafts }
 
-pub parts_append : (a b : List (List ℕ)) → concat_parts (a ++ b) ≡ concat_parts a ++ concat_parts b
+-- lines after each of which one thing more stands in the state
+all_taken : {X Y : Type 0} (v : Version) (line : X → List ℕ) (f : X → Y) (P : List Y → X → Type 0) (now : List Y → State) →
+    ((done : List Y) (x : X) → P done x → Takes v (line x) (now done) (now (done ++ f x ∷ []))) →
+    (done : List Y) (xs : List X) → EachAfter f P done xs → Takes v (concat_parts (map line xs)) (now done) (now (done ++ map f xs))
 unfolding concat_parts
-parts_append [] b = refl
-parts_append (x ∷ a) b = ap (λ bs. x ++ bs) (parts_append a b) ∙ sym (append_assoc x (concat_parts a) (concat_parts b))
-
-pub parts_more : (x : List ℕ) (xs : List (List ℕ)) → concat_parts (x ∷ xs) ≡ x ++ concat_parts xs
-unfolding concat_parts
-parts_more x xs = refl
-
-pub parts_none : concat_parts [] ≡ []
-unfolding concat_parts
-parts_none = refl
-
--- lines one after the other
-lines_taken : (v : Version) (line : List ℕ) (lines : List (List ℕ)) (s t u : State) → Takes v line s t → Takes v (concat_parts lines) t u → Takes v (concat_parts (line ∷ lines)) s u
-lines_taken v line lines s t u p q = subst (λ bs. Takes v bs s u) (sym (parts_more line lines)) (takes_both v line (concat_parts lines) s t u p q)
-
-none_taken : (v : Version) (s t : State) → s ≡ t → Takes v (concat_parts []) s t
-none_taken v s t e = subst (λ bs. Takes v bs s t) (sym parts_none) (subst (Takes v [] s) e (takes_nothing v s))
+all_taken v line f P now step done [] all = subst (λ ys. Takes v [] (now done) (now ys)) (sym (append-nil done))
+    (takes_nothing v (now done))
+all_taken v line f P now step done (x ∷ xs) all =
+    grind (arith, takes_both, append_assoc, all_taken v line f P now step (done ++ f x ∷ []) xs all.1)
 
 -- ---- dimensions
 
 -- dimensions that can stand after these
+abbrev pub IsNewDim : Version → List Dim → Dim → Type 0
+IsNewDim v done d =
+    IsName d.name × (list_any (λ (e : Dim). bytes_eq e.name d.name) done ≡ false) × (d.len < count_limit v) ×
+    (d.len < 2 ^ 64) × record_once done d.len
+
 abbrev pub AreNewDims : Version → List Dim → List Dim → Type 0
-AreNewDims v done [] = Unit {0}
-AreNewDims v done (d ∷ ds) =
-    IsName d.name × (list_any (λ (e : Dim). bytes_eq e.name d.name) done ≡ false) × (d.len < count_limit v) × (d.len < 2 ^ 64) × record_once done d.len × AreNewDims v (done ++ d ∷ []) ds
+AreNewDims v done ds = EachAfter (λ d. d) (IsNewDim v) done ds
 
-dim_act : (v : Version) (done : List Dim) (d : Dim) (gatts : List Att) (drafts : List Draft) → add_dim v done (said_dim d) ≡ Ok (done ++ d ∷ []) →
-    act v (state Dimensions done gatts drafts) (DeclareDimensions (said_dim d ∷ [])) ≡ Ok (state Dimensions (done ++ d ∷ []) gatts drafts)
+pub dims_taken : (v : Version) (n : ℕ) (ds : List Dim) (gatts : List Att) (drafts : List Draft) → AreNewDims v [] ds →
+    Takes v (concat_parts (map (dim_line n) ds)) (state Dimensions [] gatts drafts) (state Dimensions ds gatts drafts)
 unfolding act
-dim_act v done d gatts drafts h = ap (λ r. r >>= (λ dims. Ok (state Dimensions dims gatts drafts))) (turn (add_dim v) done (done ++ d ∷ []) (said_dim d) [] h)
-
-pub dims_taken : (v : Version) (n : ℕ) (done ds : List Dim) (gatts : List Att) (drafts : List Draft) → AreNewDims v done ds →
-    Takes v (concat_parts (map (dim_line n) ds)) (state Dimensions done gatts drafts) (state Dimensions (done ++ ds) gatts drafts)
-dims_taken v n done [] gatts drafts h = none_taken v (state Dimensions done gatts drafts) (state Dimensions (done ++ []) gatts drafts) (ap (λ dims. state Dimensions dims gatts drafts) (sym (append-nil done)))
-dims_taken v n done (d ∷ ds) gatts drafts h =
-    lines_taken v (dim_line n d) (map (dim_line n) ds) (state Dimensions done gatts drafts) (state Dimensions (done ++ d ∷ []) gatts drafts) (state Dimensions (done ++ d ∷ ds) gatts drafts)
-    (says_takes v (dim_line n d) (DeclareDimensions (said_dim d ∷ [])) (state Dimensions done gatts drafts) (state Dimensions (done ++ d ∷ []) gatts drafts) (dim_says v n d h.0 h.3)
-    (dim_act v done d gatts drafts (dim_added v done d h.0 h.1 h.2 h.4)))
-    (subst (λ dims. Takes v (concat_parts (map (dim_line n) ds)) (state Dimensions (done ++ d ∷ []) gatts drafts) (state Dimensions dims gatts drafts)) (append_assoc done (d ∷ []) ds) (dims_taken v n (done ++ d ∷ []) ds gatts drafts h.5))
+dims_taken v n ds gatts drafts h =
+    let now : List Dim → State = λ dims. state Dimensions dims gatts drafts in
+    subst (λ dims. Takes v (concat_parts (map (dim_line n) ds)) (now []) (now dims)) (map-id ds)
+    (all_taken v (dim_line n) (λ d. d) (IsNewDim v) now
+    (λ done d new. says_takes v (dim_line n d) (DeclareDimensions (said_dim d ∷ [])) (now done) (now (done ++ d ∷ []))
+    (dim_says v n d new.0 new.3)
+    (ap (λ r. r >>= (λ dims. Ok (now dims)))
+    (turn (add_dim v) done (done ++ d ∷ []) (said_dim d) [] (dim_added v done d new.0 new.1 new.2 new.4)))) [] ds h)
 
 -- ---- attributes
 
@@ -64,42 +55,37 @@ pub record Speaks (v : Version) (att : Att) : Type 0 where
   pub are : in_turn (add_constant att.ty) [] said ≡ Ok (trimmed_att att).vals
 
 abbrev pub AreNewAtts : List Att → List Att → Type 0
-AreNewAtts done [] = Unit {0}
-AreNewAtts done (a ∷ more) = is_new_att done (trimmed_att a) × AreNewAtts (done ++ trimmed_att a ∷ []) more
+AreNewAtts done more = EachAfter trimmed_att (λ before a. is_new_att before (trimmed_att a)) done more
 
 att_is : (v : Version) (done : List Att) (a : Att) (s : Speaks v a) → is_new_att done (trimmed_att a) → add_att a.name s.said done ≡ Ok (done ++ trimmed_att a ∷ [])
 att_is v done a s new = att_added done (trimmed_att a) s.said s.name new s.type s.are
 
-global_act : (v : Version) (section : Section) (dims : List Dim) (done : List Att) (a : Att) (said : List Value) (drafts : List Draft) → add_att a.name said done ≡ Ok (done ++ trimmed_att a ∷ []) →
-    act v (state section dims done drafts) (Attribute None a.name said) ≡ Ok (state section dims (done ++ trimmed_att a ∷ []) drafts)
+pub globals_taken : (v : Version) (section : Section) (dims : List Dim) (atts : List Att) (drafts : List Draft) → IsBeforeData section →
+    Each (Speaks v) atts → AreNewAtts [] atts →
+    Takes v (concat_parts (map (att_line []) atts)) (state section dims [] drafts) (state section dims (map trimmed_att atts) drafts)
 unfolding act
-global_act v section dims done a said drafts h = ap (λ r. r >>= (λ atts. Ok (state section dims atts drafts))) h
+globals_taken v section dims atts drafts before speak new =
+    let now : List Att → State = λ done. state section dims done drafts in
+    all_taken v (att_line []) trimmed_att (λ done a. Speaks v a × is_new_att done (trimmed_att a)) now
+    (λ done a h. says_takes v (att_line [] a) (Attribute None a.name h.0.said) (now done) (now (done ++ trimmed_att a ∷ []))
+    (global_says v section a h.0.said before h.0.list h.0.name)
+    (ap (λ r. r >>= (λ atts. Ok (state section dims atts drafts))) (att_is v done a h.0 h.1)))
+    [] atts (each_after trimmed_att (Speaks v) (λ done a. is_new_att done (trimmed_att a)) [] atts speak new)
 
-pub globals_taken : (v : Version) (section : Section) (dims : List Dim) (done more : List Att) (drafts : List Draft) → IsBeforeData section → Each (Speaks v) more → AreNewAtts done more →
-    Takes v (concat_parts (map (att_line []) more)) (state section dims done drafts) (state section dims (done ++ map trimmed_att more) drafts)
-globals_taken v section dims done [] drafts before speak new = none_taken v (state section dims done drafts) (state section dims (done ++ []) drafts) (ap (λ atts. state section dims atts drafts) (sym (append-nil done)))
-globals_taken v section dims done (a ∷ more) drafts before speak new =
-    lines_taken v (att_line [] a) (map (att_line []) more) (state section dims done drafts) (state section dims (done ++ trimmed_att a ∷ []) drafts) (state section dims (done ++ map trimmed_att (a ∷ more)) drafts)
-    (says_takes v (att_line [] a) (Attribute None a.name speak.0.said) (state section dims done drafts) (state section dims (done ++ trimmed_att a ∷ []) drafts) (global_says v section a speak.0.said before speak.0.list speak.0.name)
-    (global_act v section dims done a speak.0.said drafts (att_is v done a speak.0 new.0)))
-    (subst (λ atts. Takes v (concat_parts (map (att_line []) more)) (state section dims (done ++ trimmed_att a ∷ []) drafts) (state section dims atts drafts)) (append_assoc done (trimmed_att a ∷ []) (map trimmed_att more))
-    (globals_taken v section dims (done ++ trimmed_att a ∷ []) more drafts before speak.1 new.1))
-
-owned_act : (v : Version) (dims : List Dim) (gatts : List Att) (before : List Draft) (name ids : List ℕ) (done : List Att) (ty : NcType) (a : Att) (said : List Value) → IsName name → no_draft name before → add_att a.name said done ≡ Ok (done ++ trimmed_att a ∷ []) →
-    act v (state Variables dims gatts (before ++ bare_draft name ids done ty ∷ [])) (Attribute (Some name) a.name said) ≡ Ok (state Variables dims gatts (before ++ bare_draft name ids (done ++ trimmed_att a ∷ []) ty ∷ []))
+pub owned_taken : (v : Version) (dims : List Dim) (gatts : List Att) (before : List Draft) (name ids : List ℕ)
+    (atts : List Att) (ty : NcType) → IsName name → no_draft name before → Each (Speaks v) atts → AreNewAtts [] atts →
+    Takes v (concat_parts (map (att_line (escaped_name name)) atts))
+    (state Variables dims gatts (before ++ bare_draft name ids [] ty ∷ []))
+    (state Variables dims gatts (before ++ bare_draft name ids (map trimmed_att atts) ty ∷ []))
 unfolding act
-owned_act v dims gatts before name ids done ty a said valid new h = grind (arith, variable_is)
-
-pub owned_taken : (v : Version) (dims : List Dim) (gatts : List Att) (before : List Draft) (name ids : List ℕ) (done more : List Att) (ty : NcType) → IsName name → no_draft name before → Each (Speaks v) more → AreNewAtts done more →
-    Takes v (concat_parts (map (att_line (escaped_name name)) more)) (state Variables dims gatts (before ++ bare_draft name ids done ty ∷ [])) (state Variables dims gatts (before ++ bare_draft name ids (done ++ map trimmed_att more) ty ∷ []))
-owned_taken v dims gatts before name ids done [] ty valid new speak fresh = grind (arith, append-nil done, none_taken)
-owned_taken v dims gatts before name ids done (a ∷ more) ty valid new speak fresh =
-    let now : List Att → State = λ atts. state Variables dims gatts (before ++ bare_draft name ids atts ty ∷ []) in
-    lines_taken v (att_line (escaped_name name) a) (map (att_line (escaped_name name)) more) (now done) (now (done ++ trimmed_att a ∷ [])) (now (done ++ map trimmed_att (a ∷ more)))
-    (says_takes v (att_line (escaped_name name) a) (Attribute (Some name) a.name speak.0.said) (now done) (now (done ++ trimmed_att a ∷ [])) (owned_says v name a speak.0.said speak.0.list valid speak.0.name)
-    (owned_act v dims gatts before name ids done ty a speak.0.said valid new (att_is v done a speak.0 fresh.0)))
-    (subst (λ atts. Takes v (concat_parts (map (att_line (escaped_name name)) more)) (now (done ++ trimmed_att a ∷ [])) (now atts)) (append_assoc done (trimmed_att a ∷ []) (map trimmed_att more))
-    (owned_taken v dims gatts before name ids (done ++ trimmed_att a ∷ []) more ty valid new speak.1 fresh.1))
+owned_taken v dims gatts before name ids atts ty valid new speak fresh =
+    let line = att_line (escaped_name name) in
+    let now : List Att → State = λ done. state Variables dims gatts (before ++ bare_draft name ids done ty ∷ []) in
+    all_taken v line trimmed_att (λ done a. Speaks v a × is_new_att done (trimmed_att a)) now
+    (λ done a h. says_takes v (line a) (Attribute (Some name) a.name h.0.said) (now done) (now (done ++ trimmed_att a ∷ []))
+    (owned_says v name a h.0.said h.0.list valid h.0.name)
+    (grind (arith, variable_is, att_is v done a h.0 h.1)))
+    [] atts (each_after trimmed_att (Speaks v) (λ done a. is_new_att done (trimmed_att a)) [] atts speak fresh)
 
 -- ---- variables
 
@@ -117,13 +103,7 @@ abbrev pub draft_of : Var → Draft
 draft_of var = record { var = trimmed_var var; listed = None }
 
 abbrev pub AreFit : Version → List Dim → List Draft → List Var → Type 0
-AreFit v dims before [] = Unit {0}
-AreFit v dims before (var ∷ vars) = IsFit v dims before var × AreFit v dims (before ++ draft_of var ∷ []) vars
-
-typed_act : (v : Version) (dims : List Dim) (gatts : List Att) (before : List Draft) (var : Var) → IsFit v dims before var → AreDistinctDims dims → HaveNames dims →
-    act v (state Variables dims gatts before) (DeclareVariables (word (type_word var.ty)) (record { name = var.name; dimensions = map (name_at dims) var.dimids } ∷ [])) ≡ Ok (state Variables dims gatts (before ++ bare_draft var.name var.dimids [] var.ty ∷ []))
-unfolding act
-typed_act v dims gatts before var fit distinct names = grind (arith, name_at, type_is, turn, var_added)
+AreFit v dims before vars = EachAfter draft_of (IsFit v dims) before vars
 
 -- the shape's names
 known_name : (dims : List Dim) (k : ℕ) → k < length dims → dim_name dims k ≡ escaped_name (name_at dims k)
@@ -135,7 +115,7 @@ known_names : (dims : List Dim) (before ids : List ℕ) → AreDimids dims befor
 known_names dims before [] are = refl
 known_names dims before (k ∷ ids) are = ap (λ n. n ∷ map (dim_name dims) ids) (known_name dims k are.0.known) ∙ ap (λ ns. escaped_name (name_at dims k) ∷ ns) (known_names dims (before ++ k ∷ []) ids are.1)
 
-pub shape_is : (dims : List Dim) (ids : List ℕ) → AreDimids dims [] ids → shape_text dims ids ≡ shape_of (map (name_at dims) ids)
+shape_is : (dims : List Dim) (ids : List ℕ) → AreDimids dims [] ids → shape_text dims ids ≡ shape_of (map (name_at dims) ids)
 unfolding shape_text shape_of
 shape_is dims [] are = refl
 shape_is dims (k ∷ ids) are = rw (not_none (length ids)) (ap (λ ns. concat_parts (codes "(" ∷ joined ns ∷ codes ")" ∷ [])) (known_names dims [] (k ∷ ids) are))
@@ -144,15 +124,24 @@ pub valid_names : (dims : List Dim) (before ids : List ℕ) → HaveNames dims �
 valid_names dims before [] names are = tt
 valid_names dims before (k ∷ ids) names are = (name_valid dims k names are.0.known, valid_names dims (before ++ k ∷ []) ids names are.1)
 
-var_text : (dims : List Dim) (var : Var) → AreDimids dims [] var.dimids → var_lines dims var ≡ typed_line (type_word var.ty) var.name (shape_of (map (name_at dims) var.dimids)) ++ concat_parts (map (att_line (escaped_name var.name)) var.atts)
-unfolding var_lines typed_line att_lines
-var_text dims var are =
-    parts_append (codes "\t" ∷ type_word var.ty ∷ codes " " ∷ escaped_name var.name ∷ shape_text dims var.dimids ∷ codes " ;\n" ∷ []) (concat_parts (map (att_line (escaped_name var.name)) var.atts) ∷ []) ∙
-    ap (λ bs. concat_parts (codes "\t" ∷ type_word var.ty ∷ codes " " ∷ escaped_name var.name ∷ shape_text dims var.dimids ∷ codes " ;\n" ∷ []) ++ bs) (parts_more (concat_parts (map (att_line (escaped_name var.name)) var.atts)) [] ∙ ap (λ bs. concat_parts (map (att_line (escaped_name var.name)) var.atts) ++ bs) parts_none ∙ append-nil (concat_parts (map (att_line (escaped_name var.name)) var.atts))) ∙
-    ap (λ shape. concat_parts (codes "\t" ∷ type_word var.ty ∷ codes " " ∷ escaped_name var.name ∷ shape ∷ codes " ;\n" ∷ []) ++ concat_parts (map (att_line (escaped_name var.name)) var.atts)) (shape_is dims var.dimids are)
+pub declaration_is : (dims : List Dim) (var : Var) → AreDimids dims [] var.dimids →
+    declaration dims var ≡ typed_line (type_word var.ty) var.name (shape_of (map (name_at dims) var.dimids))
+unfolding typed_line
+declaration_is dims var are = ap (λ shape. concat_parts (codes "\t" ∷ type_word var.ty ∷ codes " " ∷ escaped_name var.name ∷ shape ∷ codes " ;\n" ∷ [])) (shape_is dims var.dimids are)
+
+pub lines_are : (dims : List Dim) (var : Var) → var_lines dims var ≡ declaration dims var ++ att_lines (escaped_name var.name) var.atts
+unfolding var_lines concat_parts
+lines_are dims var = simp (append_assoc, append-nil)
+
+var_text : (dims : List Dim) (var : Var) → AreDimids dims [] var.dimids →
+    var_lines dims var ≡ typed_line (type_word var.ty) var.name (shape_of (map (name_at dims) var.dimids)) ++ concat_parts
+    (map (att_line (escaped_name var.name)) var.atts)
+unfolding att_lines
+var_text dims var are = lines_are dims var ∙ ap (λ line. line ++ att_lines (escaped_name var.name) var.atts) (declaration_is dims var are)
 
 var_taken : (v : Version) (dims : List Dim) (gatts : List Att) (before : List Draft) (var : Var) → IsFit v dims before var → AreDistinctDims dims → HaveNames dims →
     Takes v (var_lines dims var) (state Variables dims gatts before) (state Variables dims gatts (before ++ draft_of var ∷ []))
+unfolding act type_of
 var_taken v dims gatts before var fit distinct names =
     let line = typed_line (type_word var.ty) var.name (shape_of (map (name_at dims) var.dimids)) in
     let shown = map (att_line (escaped_name var.name)) var.atts in
@@ -160,15 +149,16 @@ var_taken v dims gatts before var fit distinct names =
     let t = state Variables dims gatts (before ++ bare_draft var.name var.dimids [] var.ty ∷ []) in
     subst (λ bs. Takes v bs s (state Variables dims gatts (before ++ draft_of var ∷ []))) (sym (var_text dims var fit.shape))
     (takes_both v line (concat_parts shown) s t (state Variables dims gatts (before ++ draft_of var ∷ []))
-    (says_takes v line (DeclareVariables (word (type_word var.ty)) (record { name = var.name; dimensions = map (name_at dims) var.dimids } ∷ [])) s t (typed_says v var.ty var.name (map (name_at dims) var.dimids) fit.name (valid_names dims [] var.dimids names fit.shape)) (typed_act v dims gatts before var fit distinct names))
+    (says_takes v line (DeclareVariables (word (type_word var.ty))
+    (record { name = var.name; dimensions = map (name_at dims) var.dimids } ∷ [])) s t
+    (typed_says v var.ty var.name (map (name_at dims) var.dimids) fit.name (valid_names dims [] var.dimids names fit.shape))
+    (grind (arith, name_at, turn, var_added)))
     (subst (λ b. Takes v (concat_parts shown) t (state Variables dims gatts (before ++ record { var = record { name = var.name; dimids = var.dimids; atts = map trimmed_att var.atts; ty = var.ty; begin_at = b }; listed = None } ∷ []))) (sym fit.bare)
-    (owned_taken v dims gatts before var.name var.dimids [] var.atts var.ty fit.name fit.new fit.atts fit.fresh)))
+    (owned_taken v dims gatts before var.name var.dimids var.atts var.ty fit.name fit.new fit.atts fit.fresh)))
 
-pub vars_taken : (v : Version) (dims : List Dim) (gatts : List Att) (before : List Draft) (vars : List Var) → AreDistinctDims dims → HaveNames dims → AreFit v dims before vars →
-    Takes v (concat_parts (map (var_lines dims) vars)) (state Variables dims gatts before) (state Variables dims gatts (before ++ map draft_of vars))
-vars_taken v dims gatts before [] distinct names fit = none_taken v (state Variables dims gatts before) (state Variables dims gatts (before ++ [])) (ap (λ ds. state Variables dims gatts ds) (sym (append-nil before)))
-vars_taken v dims gatts before (var ∷ vars) distinct names fit =
-    lines_taken v (var_lines dims var) (map (var_lines dims) vars) (state Variables dims gatts before) (state Variables dims gatts (before ++ draft_of var ∷ [])) (state Variables dims gatts (before ++ map draft_of (var ∷ vars)))
-    (var_taken v dims gatts before var fit.0 distinct names)
-    (subst (λ ds. Takes v (concat_parts (map (var_lines dims) vars)) (state Variables dims gatts (before ++ draft_of var ∷ [])) (state Variables dims gatts ds)) (append_assoc before (draft_of var ∷ []) (map draft_of vars))
-    (vars_taken v dims gatts (before ++ draft_of var ∷ []) vars distinct names fit.1))
+pub vars_taken : (v : Version) (dims : List Dim) (gatts : List Att) (vars : List Var) → AreDistinctDims dims → HaveNames dims →
+    AreFit v dims [] vars →
+    Takes v (concat_parts (map (var_lines dims) vars)) (state Variables dims gatts []) (state Variables dims gatts (map draft_of vars))
+vars_taken v dims gatts vars distinct names all =
+    all_taken v (var_lines dims) draft_of (IsFit v dims) (λ drafts. state Variables dims gatts drafts)
+    (λ before var fit. var_taken v dims gatts before var fit distinct names) [] vars all

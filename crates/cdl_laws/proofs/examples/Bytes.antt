@@ -1,5 +1,5 @@
 -- Which bytes belong to each class, and what each escape of a string stands for, over all bytes, by computation.
-use Rattle.std.proofs.Common.{◌≡◌, ℕ, List, [], ◌∷◌, ◌++◌, refl, codes, filter, map, not, ◌==◌, if◌then◌else◌, None, Some, Option, is_some}
+use Rattle.std.proofs.Common.{◌≡◌, ℕ, Bool, List, [], ◌∷◌, ◌++◌, refl, codes, filter, map, not, ◌==◌, if◌then◌else◌, None, Some, Option, is_some}
 use Rattle.cdl_laws.proofs.Prelude.{is_mark_byte, to_ascii_lowercase, list_all, range_with_len, digit_value, is_blank, is_digit, is_octal, is_hex, may_begin_word, goes_on_word, goes_on_number, is_sign, is_escape, plain_escape, unescape, unescape_at, string_value, character}
 
 abbrev all_bytes : List ℕ
@@ -11,48 +11,35 @@ from first n = range_with_len first n
 
 -- ---- classes
 
-white_spaces : filter is_blank all_bytes ≡ 9 ∷ 10 ∷ 11 ∷ 12 ∷ 13 ∷ 32 ∷ []
-white_spaces = refl
+-- each class has these bytes, and no others
+abbrev HaveBytes : List ((ℕ → Bool) × List ℕ) → Type 0
+HaveBytes rows = map (λ (row : (ℕ → Bool) × List ℕ). filter row.0 all_bytes) rows ≡ map (λ (row : (ℕ → Bool) × List ℕ). row.1) rows
 
-decimal_digits : filter is_digit all_bytes ≡ codes "0123456789"
-decimal_digits = refl
-
-octal_digits : filter is_octal all_bytes ≡ codes "01234567"
-octal_digits = refl
-
-hexadecimal_digits : filter is_hex all_bytes ≡ codes "0123456789ABCDEFabcdef"
-hexadecimal_digits = refl
-
-first_of_words : filter may_begin_word all_bytes ≡ codes "ABCDEFGHIJKLMNOPQRSTUVWXYZ_abcdefghijklmnopqrstuvwxyz" ++ from 128 128
-first_of_words = refl
-
-later_in_words : filter goes_on_word all_bytes ≡ codes "+-.0123456789@ABCDEFGHIJKLMNOPQRSTUVWXYZ_abcdefghijklmnopqrstuvwxyz" ++ from 128 128
-later_in_words = refl
-
-later_in_numbers : filter goes_on_number all_bytes ≡ codes ".0123456789ABCDEFGHIJKLMNOPQRSTUVWXYZ_abcdefghijklmnopqrstuvwxyz"
-later_in_numbers = refl
-
-signs : filter is_sign all_bytes ≡ codes "+-"
-signs = refl
-
-marks : filter is_mark_byte all_bytes ≡ codes "(),:;=}"
-marks = refl
-
--- in a word, after a backslash
-escapable : filter (is_escape 92) all_bytes ≡ from 32 95 ++ from 128 128
-escapable = refl
-
--- and only after one
-backslash : filter (λ b. is_escape b 32) all_bytes ≡ 92 ∷ []
-backslash = refl
+classes : HaveBytes (
+    (is_blank, 9 ∷ 10 ∷ 11 ∷ 12 ∷ 13 ∷ 32 ∷ [])
+    ∷ (is_digit, codes "0123456789")
+    ∷ (is_octal, codes "01234567")
+    ∷ (is_hex, codes "0123456789ABCDEFabcdef")
+    ∷ (may_begin_word, codes "ABCDEFGHIJKLMNOPQRSTUVWXYZ_abcdefghijklmnopqrstuvwxyz" ++ from 128 128)
+    ∷ (goes_on_word, codes "+-.0123456789@ABCDEFGHIJKLMNOPQRSTUVWXYZ_abcdefghijklmnopqrstuvwxyz" ++ from 128 128)
+    ∷ (goes_on_number, codes ".0123456789ABCDEFGHIJKLMNOPQRSTUVWXYZ_abcdefghijklmnopqrstuvwxyz")
+    ∷ (is_sign, codes "+-")
+    ∷ (is_mark_byte, codes "(),:;=}")
+    -- in a word, after a backslash
+    ∷ (is_escape 92, from 32 95 ++ from 128 128)
+    -- and only after one
+    ∷ (λ b. is_escape b 32, 92 ∷ [])
+    -- that are other letters in lower case
+    ∷ (λ b. not (to_ascii_lowercase b == b), codes "ABCDEFGHIJKLMNOPQRSTUVWXYZ")
+    -- that stand for another byte after a backslash
+    ∷ (λ b. not (plain_escape b == b), codes "abfnrtv")
+    ∷ [])
+classes = refl
 
 -- ---- digits and letters
 
 digits_of_base_16 : map digit_value (codes "0123456789ABCDEFabcdef") ≡ from 0 16 ++ from 10 6
 digits_of_base_16 = refl
-
-upper_case : filter (λ b. not (to_ascii_lowercase b == b)) all_bytes ≡ codes "ABCDEFGHIJKLMNOPQRSTUVWXYZ"
-upper_case = refl
 
 lower_case : map to_ascii_lowercase (codes "ABCDEFGHIJKLMNOPQRSTUVWXYZ") ≡ codes "abcdefghijklmnopqrstuvwxyz"
 lower_case = refl
@@ -62,10 +49,6 @@ lower_case = refl
 -- those of one letter
 letters : map plain_escape (codes "abfnrtv") ≡ 7 ∷ 8 ∷ 12 ∷ 10 ∷ 13 ∷ 9 ∷ 11 ∷ []
 letters = refl
-
--- any other byte stands for itself
-itself : filter (λ b. not (plain_escape b == b)) all_bytes ≡ codes "abfnrtv"
-itself = refl
 
 -- the bytes that texts between quotes stand for
 abbrev bytes_of : List (List ℕ) → List (Option (List ℕ))

@@ -2,6 +2,7 @@
 use Rattle.std.proofs.Common.{zero, suc, [], ◌∷◌, refl, arith, All, codes}
 use Rattle.cdl_laws.proofs.Prelude.{is_utf8, chars, AreBytes, Dataset, Att, Dim, Known, Var, Short, Cdf1, IsGood, IsSoundVar, IsSoundDim, IsName, IsSayable, IsSayableVar}
 use lib.Utf8.{encode}
+use Rattle.cdl_laws.proofs.MeaningsAreGood.{are_bytes}
 
 abbrev dim : Dim
 dim = record { name = codes "x"; len = 2 }
@@ -19,21 +20,6 @@ one : {X : Type 0} (P : X → Type 0) (x : X) → P x → All P (x ∷ [])
 one P x p zero d h = p
 one P x p (suc k) d h = absurd (omega (arith, h))
 
-x_name : IsName (codes "x")
-unfolding is_utf8 chars encode
-x_name = refl
-
-data_name : IsName (codes "data")
-unfolding is_utf8 chars encode
-data_name = refl
-
-bytes_small : AreBytes (128 ∷ 1 ∷ 0 ∷ 7 ∷ [])
-bytes_small zero = omega arith
-bytes_small (suc zero) = omega arith
-bytes_small (suc (suc zero)) = omega arith
-bytes_small (suc (suc (suc zero))) = omega arith
-bytes_small (suc (suc (suc (suc k)))) = omega arith
-
 sound_var : IsSoundVar Cdf1 (dim ∷ []) var
 sound_var = record {
   name_len = omega arith;
@@ -46,6 +32,7 @@ sound_var = record {
 }
 
 good : IsGood small
+unfolding is_utf8 chars encode
 good = record {
   records = 0;
   is_bare = refl;
@@ -60,9 +47,9 @@ good = record {
     vars = one (IsSoundVar Cdf1 (dim ∷ [])) var sound_var;
     small_records = omega arith;
   };
-  names = record { dims = one (λ (d : Dim). IsName d.name) dim x_name; gatts = none _; vars = one (λ (w : Var). IsName w.name × All (λ (a : Att). IsName a.name) w.atts) var (data_name, none (λ (a : Att). IsName a.name)) };
+  names = record { dims = one (λ (d : Dim). IsName d.name) dim refl; gatts = none _; vars = one (λ (w : Var). IsName w.name × All (λ (a : Att). IsName a.name) w.atts) var (refl, none (λ (a : Att). IsName a.name)) };
   values = record { gatts = none (λ (a : Att). AreBytes a.vals); vars = one (λ (w : Var). All (λ (a : Att). AreBytes a.vals) w.atts) var (none (λ (a : Att). AreBytes a.vals)) };
-  arrays = (record { bytes = bytes_small; whole = refl; small = omega arith }, tt);
+  arrays = (record { bytes = are_bytes (128 ∷ 1 ∷ 0 ∷ 7 ∷ []) (omega arith); whole = refl; small = omega arith }, tt);
 }
 
 sayable : IsSayable small

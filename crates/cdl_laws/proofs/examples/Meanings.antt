@@ -1,59 +1,53 @@
 -- The datasets of a few texts, and sizes at their limits, by computation.
+use Prim.Native.String.{String}
 use Rattle.std.proofs.Common.{◌≡◌, ℕ, List, [], ◌∷◌, ◌^◌, refl, Bool, true, false, ℤ, pos, codes, map, Some, Ok}
-use Rattle.cdl_laws.proofs.Prelude.{NcType, Byte, Char, Short, Int, Ubyte, Cdf1, Cdf5, Ended, State, Draft, Numbers, text_limit, meaning, are_within_limits}
+use Rattle.cdl_laws.proofs.Prelude.{Dataset, NcType, Byte, Char, Short, Int, Ubyte, Cdf1, Cdf5, Ended, State, Draft, Numbers, text_limit, meaning, are_within_limits}
 use Rattle.nc_base.proofs.examples.Written.{dim, att, var, dataset}
 use Rattle.cdl_laws.proofs.examples.Written.{texts_computed}
 
--- a variable with the name of a section, and one whose name begins with a digit and has a space
-escaped_names : meaning (codes "netcdf t {\nvariables:\n\tint \\data ;\n\t\t\\data:units = \"m\" ;\n\tshort \\2\\ b ;\ndata:\n\n \\data = 5 ;\n\n \\2\\ b = 6 ;\n}\n") Cdf1
-    ≡ Ok (dataset Cdf1 0 [] []
+abbrev means : String → Dataset → String × Dataset
+means text d = (text, d)
+
+-- each text means its dataset, in the version of that dataset
+abbrev Mean : List (String × Dataset) → Type 0
+Mean rows =
+    map (λ (row : String × Dataset). meaning (codes row.0) row.1.header.version) rows ≡ map (λ (row : String × Dataset). Ok row.1) rows
+
+datasets : Mean (
+    -- a variable with the name of a section, and one whose name begins with a digit and has a space
+    means "netcdf t {\nvariables:\n\tint \\data ;\n\t\t\\data:units = \"m\" ;\n\tshort \\2\\ b ;\ndata:\n\n \\data = 5 ;\n\n \\2\\ b = 6 ;\n}\n"
+    (dataset Cdf1 0 [] []
     (var (codes "data") [] (att (codes "units") Char (codes "m") ∷ []) Int ∷ var (codes "2 b") [] [] Short ∷ [])
     ((0 ∷ 0 ∷ 0 ∷ 5 ∷ []) ∷ (0 ∷ 6 ∷ []) ∷ []))
-unfolding texts_computed
-escaped_names = refl
-
--- two rows of shorts and a byte are two records, filled
-records_filled : meaning (codes "netcdf t {\ndimensions: t = UNLIMITED, x = 2 ;\nvariables: short a(t, x) ; byte b(t) ;\ndata: a = 1, 2, 3 ; b = 9 ;\n}\n") Cdf1
-    ≡ Ok (dataset Cdf1 2 (dim (codes "t") 0 ∷ dim (codes "x") 2 ∷ []) []
+    -- two rows of shorts and a byte are two records, filled
+    ∷ means "netcdf t {\ndimensions: t = UNLIMITED, x = 2 ;\nvariables: short a(t, x) ; byte b(t) ;\ndata: a = 1, 2, 3 ; b = 9 ;\n}\n"
+    (dataset Cdf1 2 (dim (codes "t") 0 ∷ dim (codes "x") 2 ∷ []) []
     (var (codes "a") (0 ∷ 1 ∷ []) [] Short ∷ var (codes "b") (0 ∷ []) [] Byte ∷ [])
     ((0 ∷ 1 ∷ 0 ∷ 2 ∷ 0 ∷ 3 ∷ 128 ∷ 1 ∷ []) ∷ (9 ∷ 129 ∷ []) ∷ []))
-unfolding texts_computed
-records_filled = refl
-
--- numbers of base 16 and 8 for dimensions, joined strings, and a `b` that is a digit
-constants : meaning (codes "netcdf t {\n:a = \"x\", \"y\" ; :b = 0x1b ;\ndimensions: x = 0x10, y = 010 ;\n}\n") Cdf1
-    ≡ Ok (dataset Cdf1 0 (dim (codes "x") 16 ∷ dim (codes "y") 8 ∷ []) (att (codes "a") Char (codes "xy") ∷ att (codes "b") Int (0 ∷ 0 ∷ 0 ∷ 27 ∷ []) ∷ [])
+    -- numbers of base 16 and 8 for dimensions, joined strings, and a `b` that is a digit
+    ∷ means "netcdf t {\n:a = \"x\", \"y\" ; :b = 0x1b ;\ndimensions: x = 0x10, y = 010 ;\n}\n"
+    (dataset Cdf1 0 (dim (codes "x") 16 ∷ dim (codes "y") 8 ∷ []) (att (codes "a") Char (codes "xy") ∷ att (codes "b") Int (0 ∷ 0 ∷ 0 ∷ 27 ∷ []) ∷ [])
     []
     [])
-unfolding texts_computed
-constants = refl
-
--- a suffix after digits of base 16, and a `b` that still is a digit
-constants_of_cdf_5 : meaning (codes "netcdf t {\n:a = 0x1ub ; :b = 0x1b ;\n}\n") Cdf5
-    ≡ Ok (dataset Cdf5 0 [] (att (codes "a") Ubyte (1 ∷ []) ∷ att (codes "b") Int (0 ∷ 0 ∷ 0 ∷ 27 ∷ []) ∷ []) [] [])
-unfolding texts_computed
-constants_of_cdf_5 = refl
-
--- rows and joined strings, each with what fills it: a fill value of its own, and the default one
-strings_filled : meaning (codes "netcdf t {\ndimensions: t = UNLIMITED, x = 3 ;\nvariables: char c(t, x), d(x), e(t), f ; c:_FillValue = \"z\" ;\ndata: c = \"a\", \"\", \"bcd\" ; d = \"\\x41\\102\" ; e = \"uv\" ;\n}\n") Cdf1
-    ≡ Ok (dataset Cdf1 3 (dim (codes "t") 0 ∷ dim (codes "x") 3 ∷ []) []
+    -- a suffix after digits of base 16, and a `b` that still is a digit
+    ∷ means "netcdf t {\n:a = 0x1ub ; :b = 0x1b ;\n}\n"
+    (dataset Cdf5 0 [] (att (codes "a") Ubyte (1 ∷ []) ∷ att (codes "b") Int (0 ∷ 0 ∷ 0 ∷ 27 ∷ []) ∷ []) [] [])
+    -- rows and joined strings, each with what fills it: a fill value of its own, and the default one
+    ∷ means "netcdf t {\ndimensions: t = UNLIMITED, x = 3 ;\nvariables: char c(t, x), d(x), e(t), f ; c:_FillValue = \"z\" ;\ndata: c = \"a\", \"\", \"bcd\" ; d = \"\\x41\\102\" ; e = \"uv\" ;\n}\n"
+    (dataset Cdf1 3 (dim (codes "t") 0 ∷ dim (codes "x") 3 ∷ []) []
     (var (codes "c") (0 ∷ 1 ∷ []) (att (codes "_FillValue") Char (codes "z") ∷ []) Char ∷ var (codes "d") (1 ∷ []) [] Char ∷ var (codes "e") (0 ∷ []) [] Char ∷ var (codes "f") [] [] Char ∷ [])
     (codes "azzzzzbcd" ∷ (65 ∷ 66 ∷ 0 ∷ []) ∷ (117 ∷ 118 ∷ 0 ∷ []) ∷ (0 ∷ []) ∷ []))
-unfolding texts_computed
-strings_filled = refl
-
-long_is_int : meaning (codes "netcdf t {\nvariables: long v ;\n}\n") Cdf1
-    ≡ Ok (dataset Cdf1 0 [] [] (var (codes "v") [] [] Int ∷ []) ((128 ∷ 0 ∷ 0 ∷ 1 ∷ []) ∷ []))
-unfolding texts_computed
-long_is_int = refl
-
--- the strings of a variable of rank 1 or 0, one after the other
-joined_strings : meaning (codes "netcdf t {\ndimensions: x = 3, t = UNLIMITED ;\nvariables: char c(x), d(t), e ;\ndata: c = \"ab\", \"c\" ; d = \"a\", \"bc\", \"d\" ; e = \"\", \"f\" ;\n}\n") Cdf1
-    ≡ Ok (dataset Cdf1 4 (dim (codes "x") 3 ∷ dim (codes "t") 0 ∷ []) []
+    -- a `long` is an `int`
+    ∷ means "netcdf t {\nvariables: long v ;\n}\n"
+    (dataset Cdf1 0 [] [] (var (codes "v") [] [] Int ∷ []) ((128 ∷ 0 ∷ 0 ∷ 1 ∷ []) ∷ []))
+    -- the strings of a variable of rank 1 or 0, one after the other
+    ∷ means "netcdf t {\ndimensions: x = 3, t = UNLIMITED ;\nvariables: char c(x), d(t), e ;\ndata: c = \"ab\", \"c\" ; d = \"a\", \"bc\", \"d\" ; e = \"\", \"f\" ;\n}\n"
+    (dataset Cdf1 4 (dim (codes "x") 3 ∷ dim (codes "t") 0 ∷ []) []
     (var (codes "c") (0 ∷ []) [] Char ∷ var (codes "d") (1 ∷ []) [] Char ∷ var (codes "e") [] [] Char ∷ [])
     (codes "abc" ∷ codes "abcd" ∷ codes "f" ∷ []))
+    ∷ [])
 unfolding texts_computed
-joined_strings = refl
+datasets = refl
 
 -- ---- sizes
 
@@ -72,24 +66,21 @@ after drafts = record {
 abbrev draft : List ℕ → List ℕ → NcType → List ℤ → Draft
 draft name ids ty values = record { var = var name ids [] ty; listed = Some (Numbers values) }
 
-abbrev fits_limits : List (List Draft) → List Bool
-fits_limits drafts = map (λ ds. are_within_limits Cdf1 (after ds)) drafts
+-- whether each of these is within the limits
+abbrev fit : List (List Draft) → List Bool
+fit all = map (λ drafts. are_within_limits Cdf1 (after drafts)) all
 
--- 2^48 bytes, and a few more
-greatest_slab : fits_limits ((draft (codes "a") (1 ∷ 1 ∷ 1 ∷ []) Byte [] ∷ []) ∷ (draft (codes "a") (1 ∷ 1 ∷ 3 ∷ []) Byte [] ∷ []) ∷ []) ≡ true ∷ false ∷ []
-unfolding are_within_limits
-greatest_slab = refl
-
--- a slab of a record is limited where there is no record, too
-slab_without_records : fits_limits ((draft (codes "a") (0 ∷ 1 ∷ 1 ∷ 1 ∷ []) Byte [] ∷ []) ∷ (draft (codes "a") (0 ∷ 1 ∷ 1 ∷ 3 ∷ []) Byte [] ∷ []) ∷ []) ≡ true ∷ false ∷ []
-unfolding are_within_limits
-slab_without_records = refl
-
--- slabs of 2^47 bytes in two records, and in three
-greatest_array : map (λ values. are_within_limits Cdf1 (after (draft (codes "a") (0 ∷ 1 ∷ 1 ∷ 2 ∷ []) Short [] ∷ draft (codes "b") (0 ∷ []) Byte values ∷ []))) (
-    (pos 1 ∷ pos 2 ∷ [])
-    ∷ (pos 1 ∷ pos 2 ∷ pos 3 ∷ [])
+greatest_sizes : fit (
+    -- a slab of 2^48 bytes, and of a few more
+    (draft (codes "a") (1 ∷ 1 ∷ 1 ∷ []) Byte [] ∷ [])
+    ∷ (draft (codes "a") (1 ∷ 1 ∷ 3 ∷ []) Byte [] ∷ [])
+    -- a slab of a record, which is limited where there is no record, too
+    ∷ (draft (codes "a") (0 ∷ 1 ∷ 1 ∷ 1 ∷ []) Byte [] ∷ [])
+    ∷ (draft (codes "a") (0 ∷ 1 ∷ 1 ∷ 3 ∷ []) Byte [] ∷ [])
+    -- slabs of 2^47 bytes in two records, and in three
+    ∷ (draft (codes "a") (0 ∷ 1 ∷ 1 ∷ 2 ∷ []) Short [] ∷ draft (codes "b") (0 ∷ []) Byte (pos 1 ∷ pos 2 ∷ []) ∷ [])
+    ∷ (draft (codes "a") (0 ∷ 1 ∷ 1 ∷ 2 ∷ []) Short [] ∷ draft (codes "b") (0 ∷ []) Byte (pos 1 ∷ pos 2 ∷ pos 3 ∷ []) ∷ [])
     ∷ [])
-    ≡ true ∷ false ∷ []
+    ≡ true ∷ false ∷ true ∷ false ∷ true ∷ false ∷ []
 unfolding are_within_limits
-greatest_array = refl
+greatest_sizes = refl

@@ -1,8 +1,8 @@
 -- Words in which examples are written down, and what a proof unfolds to compute them.
 use Prim.Native.String.{String}
-use Rattle.std.proofs.Common.{◌≡◌, ℕ, List, [], ◌++◌, codes, map, Some, None, Option, Result, Ok, Err, false}
+use Rattle.std.proofs.Common.{◌≡◌, ℕ, List, [], ◌∷◌, ◌++◌, codes, map, Some, None, Option, Result, Ok, Err, false}
 use Rattle.std.specs.Prelude.{⊤}
-use Rattle.cdl_laws.proofs.Prelude.{flat_map, is_utf8, chars, Dataset, Version, Options, dump_text, shown_data_text, values_in_dataset, selection_of, data_word, closing_word, is_reserved, fill_value, file_of, dimensions_word, unlimited_word, currently_word, variables_word, global_word, netcdf_word, string_break, numbers_text, chars_text, att_line, att_lines, dim_len_text, dim_line, dim_lines, dims_text, shape_text, var_lines, vars_text, gatts_text, head_text, numbers, look_of, word_len, len_until, scan, unescape_at, character, word_value, tokens_at, type_of_suffix, numeral, parts, CdlFault, CdlKind, pieces_at, is_section, name_of, shape, act, has_number, add_dim, type_of, add_dimid, add_var, change_variable, add_att, capacity_of, listing_of, run, piece_read, meaning, finished, are_within_limits}
+use Rattle.cdl_laws.proofs.Prelude.{is_utf8, chars, Dataset, Version, Cdf1, Options, dump_text, shown_data_text, values_in_dataset, selection_of, data_word, closing_word, is_reserved, fill_value, file_of, dimensions_word, unlimited_word, currently_word, variables_word, global_word, netcdf_word, string_break, numbers_text, chars_text, att_line, att_lines, dim_len_text, dim_line, dim_lines, dims_text, shape_text, var_lines, vars_text, gatts_text, head_text, numbers, look_of, word_len, len_until, scan, unescape_at, character, word_value, tokens_at, type_of_suffix, numeral, parts, CdlFault, CdlKind, pieces_at, is_section, name_of, shape, act, has_number, add_dim, type_of, add_dimid, add_var, change_variable, add_att, capacity_of, listing_of, run, piece_read, meaning, finished, are_within_limits}
 use Rattle.nc_base.proofs.examples.Written.{values_computed}
 use lib.Utf8.{encode}
 
@@ -12,22 +12,31 @@ abbrev pub fault : Result Dataset CdlFault → Option CdlFault
 fault (Ok d) = None
 fault (Err f) = Some f
 
--- texts, and the fault that each of them has, if any
-pub record Row : Type 0 where
-  pub fault : Option CdlFault
-  pub texts : List String
+-- texts, and the fault that each of them has, if any; and before them a row that says between what they stand
+pub data Row : Type 0 where
+  between : Version → String → String → Row
+  having : Option CdlFault → List String → Row
 
 abbrev pub fine : List String → Row
-fine texts = record { fault = None; texts = texts }
+fine texts = having None texts
 
 abbrev pub at : ℕ → CdlKind → List String → Row
-at line kind texts = record { fault = Some (record { line = line; kind = kind }); texts = texts }
+at line kind texts = having (Some (record { line = line; kind = kind })) texts
 
--- each text of the rows has its fault, when it stands between these two
-abbrev pub Faults : Version → String → String → List Row → Type 0
-Faults v before after rows =
-    flat_map (λ (row : Row). map (λ text. fault (meaning (codes before ++ (codes text ++ codes after)) v)) row.texts) rows
-    ≡ flat_map (λ (row : Row). map (λ (text : String). row.fault) row.texts) rows
+abbrev found : Version → String → String → List Row → List (Option CdlFault)
+found v before after [] = []
+found v before after (between version opening ending ∷ rows) = found version opening ending rows
+found v before after (having expected texts ∷ rows) =
+    map (λ text. fault (meaning (codes before ++ (codes text ++ codes after)) v)) texts ++ found v before after rows
+
+abbrev wanted : List Row → List (Option CdlFault)
+wanted [] = []
+wanted (between version opening ending ∷ rows) = wanted rows
+wanted (having expected texts ∷ rows) = map (λ (text : String). expected) texts ++ wanted rows
+
+-- each text of the rows has its fault
+abbrev pub AreFaults : List Row → Type 0
+AreFaults rows = found Cdf1 "" "" rows ≡ wanted rows
 
 -- ---- texts and their datasets
 

@@ -1,4 +1,4 @@
-use Rattle.cdl_laws.proofs.Fills.{fill_value_survives_trim}
+use Rattle.cdl_laws.proofs.Trimmed.{fill_value_survives_trim}
 use Rattle.cdl_laws.proofs.laws.fill_value_survives_trim.Goals as goal
 
 pub returns : goal.returns
