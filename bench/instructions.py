@@ -134,6 +134,12 @@ def attribute_as_values(ty, suffix, low, high):
     return ours / instructions(DUMP, made(listed(listed_numbers, ", ", ty)))
 
 
+def read_as_values(ty, suffix, low, high):
+    listed_numbers = numbers(low, high)
+    attribute = f"netcdf t {{\n\t:a = {', '.join(number + suffix for number in listed_numbers)} ;\n}}\n"
+    return generating(attribute) / generating(listed(listed_numbers, ", ", ty))
+
+
 def in_heaviest(cdl):
     Path("text.cdl").write_text(cdl)
     _, part = heaviest(GENERATE, "-o", "made.nc", "text.cdl")
@@ -202,6 +208,8 @@ ROWS = [
     Row("ncgen, a string of escapes", TEXT_BYTE, 101, lambda: a_byte(string(r"\n\t\x41\"\\\101" * 50_000, 300_000))),
     Row("ncgen, a string of letters and escapes", TEXT_BYTE, 90, lambda: a_byte(string(r"a\n" * 300_000, 600_000))),
     Row("ncgen, a string with an escape in nine", TEXT_BYTE, 21, lambda: a_byte(string(r"abcdefgh\"ijklmnop\t" * 50_000, 900_000))),
+    Row("ncgen, an attribute of ints", AS_VALUES, 2, lambda: read_as_values("int", "", -(10**6), 10**6)),
+    Row("ncgen, an attribute of shorts", AS_VALUES, 2.5, lambda: read_as_values("short", "s", -(2**15), 2**15)),
     Row("ncgen, 20,000 dimensions", HEAVIEST, 25, lambda: in_heaviest(text(parts("\tdim_{:05} = 1 ;\n"), "", ""))),
     Row("ncgen, 20,000 variables", HEAVIEST, 25, lambda: in_heaviest(text("", parts("\tint var_{:05} ;\n"), ""))),
     Row("ncgen, 20,000 attributes", HEAVIEST, 25, lambda: in_heaviest("netcdf t {\n" + parts("\t:att_{:05} = 1 ;\n") + "}\n")),

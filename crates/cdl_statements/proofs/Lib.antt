@@ -10,4 +10,5 @@ pub mod Declarations
 pub mod Sections
 pub mod ListedTokens
 pub mod NumberLists
+pub mod PassedValues
 pub mod Prelude

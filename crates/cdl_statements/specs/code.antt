@@ -6,4 +6,5 @@ pub mod DueTokens
 pub mod Contents
 pub mod ListedTokens
 pub mod NumberLists
+pub mod PassedValues
 pub mod ShapesFound

@@ -20,6 +20,7 @@ mod due;
 mod fault;
 mod lexeme;
 mod number_list;
+mod passing;
 mod piece;
 mod section;
 mod shape_check;

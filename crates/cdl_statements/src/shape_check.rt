@@ -10,6 +10,7 @@ use crate::cutter::Cutter;
 use crate::due::Due;
 use crate::fault::CdlKind;
 use crate::lexeme::Lexeme;
+use crate::passing::pass_values;
 use crate::section::Section;
 use cdl_tokens::{TokenKind, number_of_token};
 use nc_base::Version;
@@ -64,6 +65,7 @@ pub fn check_shape_by_due(start: Cutter<'_>, first: Due) -> ShapeCheck<'_>
                 rest: cutter,
             };
         }
+        cutter = pass_values(cutter, due);
     }
 }
 

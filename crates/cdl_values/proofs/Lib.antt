@@ -11,3 +11,4 @@ pub mod Places
 pub mod Suited
 pub mod ValueRuns
 pub mod Prelude
+pub mod ConstantRuns

@@ -1,16 +1,17 @@
 //! The constants of an attribute.
 
-ghost use Rattle.std.specs.Prelude.{◌≡◌, false};
+ghost use Rattle.std.specs.Prelude.{◌≡◌, IfOk, false};
 ghost use Rattle.cdl_statements.specs.code.Cutters.{is_done};
+ghost use Rattle.cdl_statements.specs.code.ListedTokens.{EndsAtScanner, IsAtComma};
 ghost use Rattle.cdl_meaning.specs.State.{add_constant, type_said};
 ghost use Rattle.cdl_values.specs.code.Answers.{GivesRead, Leaves};
-ghost use Rattle.cdl_values.specs.code.TokenValues.{AddsNumber, AddsToken, text_said, constants_read, value_said};
+ghost use Rattle.cdl_values.specs.code.TokenValues.{AddsNumber, AddsToken, MovesOn, TakesConstants, text_said, constants_read, value_said};
 
 use crate::capacity::Capacity;
 use crate::number::{number_or_zero, put_numeral};
 use crate::read_error::ReadError;
 use crate::string::put_joined_string;
-use cdl_statements::{CdlKind, Cutter, Lexeme};
+use cdl_statements::{CdlKind, Cutter, Lexeme, NumberList};
 use cdl_tokens::{Numeral, TokenKind};
 use nc_base::{ListedArray, NcType, Version};
 use std::alloc::Global;
@@ -52,7 +53,53 @@ pub fn read_constants(
         if ends {
             return Ok(vals);
         }
+        cutter = take_constants(&mut vals, ty, cutter)?;
     }
+}
+
+/// Appends to `vals` the bytes of the constant that comes next and of the plain numbers after it, each with a comma before and after it.
+/// Returns the cutter after them, or `start` if there is no such constant. Each has to be of the type `ty`. Errs with the fault of the first
+/// constant that has one, and with `OutOfMemory` if an allocation failed.
+#[inline(always)]
+fn take_constants<'a>(
+    vals: &mut ListedArray,
+    ty: NcType,
+    start: Cutter<'a>,
+) -> Result<Cutter<'a>, ReadError>
+    requires { is_done start ≡ false }
+    ensures adds { TakesConstants ty start.entry vals.old vals.new result }
+    ensures moves { IfOk result (λ rest. MovesOn start.entry rest) }
+{
+    if !start.is_at_comma() {
+        return Ok(start);
+    }
+    let mut cutter = start;
+    let Some(token) = cutter.token_and_comma() else {
+        return Ok(start);
+    };
+    put_token(vals, start.version(), ty, token)?;
+    take_plain_constants(vals, ty, cutter)
+}
+
+/// Appends to `vals` the bytes of the plain numbers that come next, each with a comma before and after it, and returns the cutter after
+/// them. Each has to be of the type `ty`. Needs a cutter at a comma, with its scanner just after this comma. Errs with the fault of the first
+/// number that has one, and with `OutOfMemory` if an allocation failed.
+#[inline(never)]
+fn take_plain_constants<'a>(
+    vals: &mut ListedArray,
+    ty: NcType,
+    start: Cutter<'a>,
+) -> Result<Cutter<'a>, ReadError>
+    requires at { IsAtComma start }
+    requires ends { EndsAtScanner start }
+    ensures adds { TakesConstants ty start.entry vals.old vals.new result }
+    ensures moves { IfOk result (λ rest. MovesOn start.entry rest) }
+{
+    let mut list = NumberList::new(start);
+    'numbers: while let Some(n) = list.number_and_comma() {
+        put_number_constant(vals, ty, n)?;
+    }
+    Ok(list.cutter())
 }
 
 /// Appends to `vals` the bytes of the token's constant, or nothing if the token is a mark. Errs with `MixedConstants` if any other token is

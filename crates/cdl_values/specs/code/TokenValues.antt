@@ -1,5 +1,5 @@
 -- For contracts. The values of tokens, packed one after the other.
-use Rattle.std.specs.Prelude.{ℕ, ◌≡◌, Bool, List, [], ◌∷◌, Result, Ok, ⊤, OnOk, IfOk}
+use Rattle.std.specs.Prelude.{ℕ, ◌≡◌, ◌≤◌, Bool, false, List, [], ◌∷◌, Result, Ok, ⊤, OnOk, IfOk}
 use Rattle.nc_base.specs.declared.{nc_type.NcType.NcType, version.Version.Version}
 use Rattle.cdl_tokens.specs.Escapes.{inner, string_value}
 use Rattle.cdl_tokens.specs.code.Magnitudes.{held}
@@ -7,7 +7,7 @@ use Rattle.cdl_tokens.specs.Numerals.{Parts, number}
 use Rattle.cdl_tokens.specs.declared.numeral.Numeral.{Numeral}
 use Rattle.cdl_tokens.specs.declared.token.TokenKind.TheVariants as kinds
 use Rattle.cdl_statements.specs.code.Contents.{value_of, values}
-use Rattle.cdl_statements.specs.code.Cutters.{version_of, words}
+use Rattle.cdl_statements.specs.code.Cutters.{SameText, is_done, offset_of, version_of, words}
 use Rattle.cdl_statements.specs.Lexemes as lexemes
 use Rattle.cdl_statements.specs.Shapes.{Value, Number, Characters}
 use Rattle.cdl_statements.specs.code.Views.{lexeme_of, lexeme_with}
@@ -90,6 +90,20 @@ packed_from filling capacity start = packed filling capacity (values (version_of
 -- the constants from a cutter on
 abbrev pub constants_read : NcType → Cutter → Result (List ℕ) CdlKind
 constants_read ty start = in_turn (add_constant ty) [] (values (version_of start) (words start))
+
+-- the constants from a cutter on, after these
+abbrev pub constants_on : NcType → Version → List ℕ → Cutter → Result (List ℕ) CdlKind
+constants_on ty v before start = in_turn (add_constant ty) before (values v (words start))
+
+-- the constants up to another cutter are added, or the fault is that of the constants
+abbrev pub TakesConstants : NcType → Cutter → List ℕ → List ℕ → Result Cutter ReadError → Type 0
+TakesConstants ty start before after result = ContinuesRead (constants_on ty (version_of start) after) result (constants_on ty (version_of start) before start)
+
+-- the other cutter is further on in the same statement, or at the same place
+pub record MovesOn (start rest : Cutter) : Type 0 where
+  pub same : SameText start rest
+  pub goes : is_done rest ≡ false
+  pub on : offset_of start ≤ offset_of rest
 
 -- the token's constant is added, or the fault is that of the constants
 abbrev pub AddsToken : Version → NcType → Lexeme → List ℕ → List ℕ → Result ⊤ ReadError → Type 0

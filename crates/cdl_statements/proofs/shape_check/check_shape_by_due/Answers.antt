@@ -1,5 +1,5 @@
-use Rattle.std.proofs.Common.{rules, sym, ap, ◌∙◌, []}
-use Rattle.cdl_statements.proofs.Prelude.{lexeme, first_bad, option_or, token_fault, completes, next_token, text_of, words, lexeme_of}
+use Rattle.std.proofs.Common.{◌≡◌, rules, sym, ap, ◌∙◌, [], subst}
+use Rattle.cdl_statements.proofs.Prelude.{Version, lexeme, first_bad, option_or, token_fault, completes, next_token, text_of, words, lexeme_of}
 use Rattle.cdl_statements.proofs.ShapeChecks.{bad_on, none_bad, going, ending}
 use Rattle.cdl_statements.proofs.shape_check.check_shape_by_due.Goals as goal
 
@@ -21,13 +21,16 @@ tokens-preserved c =
     let v = c.version-version.result in
     let rest = words c.advance-ends.new.self in
     let here = going (words t.cutter) rest (lexeme (text_of t.cutter) (next_token t.cutter)) l c.advance-ends.result c.advance-ends.ensures.words (sym c.lexeme-token.ensures.lexeme) c.if-ends.false in
+    let e = c.pass_values-cutter.ensures in
+    let bad = ap (λ b. option_or b (first_bad v rest)) (c.or-bad.ensures ∙ ap (option_or t.bad) c.token_fault.ensures) ∙ sym (ap (option_or t.bad) (ap (first_bad v) here) ∙ bad_on v t.bad l rest) ∙ t.invariant.bad in
+    let version = c.advance-ends.ensures.same.version ∙ t.invariant.version in
+    let same_bad = subst (λ (w : Version). first_bad w (words c.pass_values-cutter.result) ≡ first_bad w rest) (version ∙ sym c.version-version.ensures) e.bad in
     record {
-      text = c.advance-ends.ensures.same.text ∙ t.invariant.text;
-      version = c.advance-ends.ensures.same.version ∙ t.invariant.version;
-      goes = c.advance-ends.ensures.goes c.if-ends.false;
-      bad = ap (λ b. option_or b (first_bad v rest)) (c.or-bad.ensures ∙ ap (option_or t.bad) c.token_fault.ensures) ∙
-          sym (ap (option_or t.bad) (ap (first_bad v) here) ∙ bad_on v t.bad l rest) ∙ t.invariant.bad;
-      shaped = ap (λ d. completes d rest) c.after-due.ensures ∙ ap (completes t.due) (sym here) ∙ t.invariant.shaped;
+      text = e.same.text ∙ c.advance-ends.ensures.same.text ∙ t.invariant.text;
+      version = e.same.version ∙ version;
+      goes = e.goes;
+      bad = ap (option_or c.or-bad.result) same_bad ∙ bad;
+      shaped = e.shaped ∙ ap (λ d. completes d rest) c.after-due.ensures ∙ ap (completes t.due) (sym here) ∙ t.invariant.shaped;
       rest = search rules;
     }
 

@@ -1,0 +1,16 @@
+use Rattle.std.proofs.Common.{subst}
+use Rattle.cdl_statements.proofs.Prelude.{SamePlace, reached}
+use Rattle.cdl_statements.proofs.PassedValues.{ended_at, stays}
+use Rattle.cdl_statements.specs.declared.{number_list.NumberList.NumberList}
+use Rattle.cdl_statements.proofs.passing.pass_numbers.Goals as goal
+
+pub numbers-init : goal.numbers-init
+numbers-init c =
+    let a = c.args in
+    record { so = ended_at a.takes_fill a.start a.start (reached c.new-list.result) c.new-list.ensures (stays a.takes_fill a.start c.requires.at) }
+
+pub returns : goal.returns
+returns c =
+    let a = c.args in
+    let same = subst (λ (l : NumberList). SamePlace c.cutter.result (reached l)) (c.pass_number.ensures.stays c.numbers-test.false) c.cutter.ensures in
+    ended_at a.takes_fill a.start (reached c.numbers.list) c.cutter.result same c.numbers.invariant.so

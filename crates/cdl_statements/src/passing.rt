@@ -1,0 +1,69 @@
+//! Values of a list that are passed without being read, where only the shape of the statement is asked for.
+
+ghost use Rattle.std.specs.Prelude.{◌≡◌, ◌<◌, false, true};
+ghost use Rattle.cdl_statements.specs.code.Cutters.{is_done, offset_of};
+ghost use Rattle.cdl_statements.specs.code.ListedTokens.{EndsAtScanner, IsAtComma};
+ghost use Rattle.cdl_statements.specs.code.NumberLists.{reached};
+ghost use Rattle.cdl_statements.specs.code.PassedValues.{PassesGood, PassesValues};
+
+use crate::cutter::Cutter;
+use crate::due::Due;
+use crate::number_list::NumberList;
+use crate::shape_check::token_fault;
+
+/// Passes good values that come next, as long as a comma stands before and after each, and returns the cutter after them. `due` says which
+/// token has to come next at `start`. If that isn't a separator, or no comma comes next, returns `start`. Does not allocate.
+#[inline(always)]
+pub fn pass_values(start: Cutter<'_>, due: Due) -> Cutter<'_>
+    requires { is_done start ≡ false }
+    ensures { PassesGood due start.entry result }
+{
+    match due {
+        Due::Separator { takes_fill } if start.is_at_comma() => pass_list(start, takes_fill),
+        _ => start,
+    }
+}
+
+/// Passes the value that comes next if it is a good one with a comma after it, and then plain numbers, and returns the cutter at the last
+/// comma. `_` counts as a value if `takes_fill` is true. Otherwise returns `start`. Needs a cutter at a comma.
+fn pass_list(start: Cutter<'_>, takes_fill: bool) -> Cutter<'_>
+    requires { IsAtComma start }
+    ensures { PassesValues takes_fill start.entry result }
+{
+    let mut cutter = start;
+    let Some(token) = cutter.token_and_comma() else {
+        return start;
+    };
+    if !token.is_value(takes_fill) || token_fault(start.version(), token).is_some() {
+        return start;
+    }
+    pass_numbers(cutter, takes_fill)
+}
+
+/// Passes plain numbers that come next, and each `_` among them if `takes_fill` is true, and returns the cutter at the last comma. Needs a
+/// cutter at a comma, with its scanner just after this comma.
+#[inline(never)]
+fn pass_numbers(start: Cutter<'_>, takes_fill: bool) -> Cutter<'_>
+    requires at { IsAtComma start }
+    requires ends { EndsAtScanner start }
+    ensures { PassesValues takes_fill start.entry result }
+{
+    let mut list = NumberList::new(start);
+    'numbers: while pass_number(&mut list, takes_fill) {}
+    list.cutter()
+}
+
+/// Passes the next value of `list` if it is a plain number with a comma after it, or a `_` with a comma after it and `takes_fill` is true,
+/// and returns true. Otherwise returns false, and the list stays where it is. Needs a list that began at a comma inside of a statement.
+#[inline(always)]
+fn pass_number(list: &mut NumberList<'_>, takes_fill: bool) -> bool
+    requires { IsAtComma (reached list.old) }
+    ensures passes { result ≡ true → PassesValues takes_fill (reached list.old) (reached list.new) }
+    ensures moves { result ≡ true → offset_of (reached list.old) < offset_of (reached list.new) }
+    ensures stays { result ≡ false → list.new ≡ list.old }
+{
+    match list.number_and_comma() {
+        Some(_) => true,
+        None => takes_fill && list.underscore_and_comma(),
+    }
+}
