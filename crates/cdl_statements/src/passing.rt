@@ -11,16 +11,17 @@ use crate::due::Due;
 use crate::number_list::NumberList;
 use crate::shape_check::token_fault;
 
-/// Passes good values that come next, as long as a comma stands before and after each, and returns the cutter after them. `due` says which
-/// token has to come next at `start`. If that isn't a separator, or no comma comes next, returns `start`. Does not allocate.
+/// Moves `cutter` past the good values that come next, as long as a comma stands before and after each. `due` says which token has to come
+/// next. If that isn't a separator, or no comma comes next, the cutter stays where it is. Does not allocate.
 #[inline(always)]
-pub fn pass_values(start: Cutter<'_>, due: Due) -> Cutter<'_>
-    requires { is_done start ≡ false }
-    ensures { PassesGood due start.entry result }
+pub fn pass_values(cutter: &mut Cutter<'_>, due: Due)
+    requires { is_done cutter.old ≡ false }
+    ensures { PassesGood due cutter.old cutter.new }
 {
-    match due {
-        Due::Separator { takes_fill } if start.is_at_comma() => pass_list(start, takes_fill),
-        _ => start,
+    if let Due::Separator { takes_fill } = due {
+        if cutter.is_at_comma() {
+            *cutter = pass_list(*cutter, takes_fill);
+        }
     }
 }
 

@@ -65,7 +65,7 @@ pub fn check_shape_by_due(start: Cutter<'_>, first: Due) -> ShapeCheck<'_>
                 rest: cutter,
             };
         }
-        cutter = pass_values(cutter, due);
+        pass_values(&mut cutter, due);
     }
 }
 

@@ -21,10 +21,10 @@ tokens-preserved c =
     let v = c.version-version.result in
     let rest = words c.advance-ends.new.self in
     let here = going (words t.cutter) rest (lexeme (text_of t.cutter) (next_token t.cutter)) l c.advance-ends.result c.advance-ends.ensures.words (sym c.lexeme-token.ensures.lexeme) c.if-ends.false in
-    let e = c.pass_values-cutter.ensures in
+    let e = c.pass_values.ensures in
     let bad = ap (λ b. option_or b (first_bad v rest)) (c.or-bad.ensures ∙ ap (option_or t.bad) c.token_fault.ensures) ∙ sym (ap (option_or t.bad) (ap (first_bad v) here) ∙ bad_on v t.bad l rest) ∙ t.invariant.bad in
     let version = c.advance-ends.ensures.same.version ∙ t.invariant.version in
-    let same_bad = subst (λ (w : Version). first_bad w (words c.pass_values-cutter.result) ≡ first_bad w rest) (version ∙ sym c.version-version.ensures) e.bad in
+    let same_bad = subst (λ (w : Version). first_bad w (words c.pass_values.new.cutter) ≡ first_bad w rest) (version ∙ sym c.version-version.ensures) e.bad in
     record {
       text = e.same.text ∙ c.advance-ends.ensures.same.text ∙ t.invariant.text;
       version = e.same.version ∙ version;
