@@ -42,6 +42,11 @@ def lists(values, count, times=1):
     return dataset(f"x = {count * (values.count(',') + 1)}, y = {row or 1} ;", variables, listed)
 
 
+def attribute(value, count):
+    """A text with one attribute, which has the value `count` times."""
+    return dataset(atts=f":a = {f'{value}, ' * (count - 1)}{value} ;\n")
+
+
 def without_brace(text):
     return text.removesuffix("}\n")
 
@@ -70,6 +75,12 @@ PAIRS = {
         lambda: lists("_, 1234567", LONG // 2),
         lambda: lists("0x12d687", LONG),
         0.6,
+        0,
+    ),
+    "numbers of an attribute, beside hexadecimal ones": (
+        lambda: attribute("1234567", LONG),
+        lambda: attribute("0x12d687", LONG),
+        0.35,
         0,
     ),
     "strings, beside strings with an escape": (
