@@ -69,6 +69,33 @@ def rows():
     return text("\tn = 50000 ;\n\tk = 80 ;\n", "\tchar v(n, k) ;\n", " v =\n" + ",\n".join(lines) + " ;\n")
 
 
+def some_missing():
+    random.seed(1)
+    return listed(["_" if random.random() < 0.3 else str(random.randrange(-(10**6), 10**6)) for _ in range(10**6)], ", ")
+
+
+def attribute(least, most, suffix=""):
+    return "netcdf t {\n\t:a = " + numbers(least, most, 500_000).replace(",", suffix + ",") + f"{suffix} ;\n}}\n"
+
+
+def equal_rows(row):
+    """20,000 rows of 80 characters, each of which is this string."""
+    lines = ",\n".join([f'  "{row}"'] * 20_000)
+    return text("\tn = 20000 ;\n\tk = 80 ;\n", "\tchar v(n, k) ;\n", f" v =\n{lines} ;\n")
+
+
+# what real files are full of
+MIXES = {
+    "some_missing": some_missing,
+    "all_missing": lambda: listed(["_"] * 10**6, ", ", "short"),
+    "attribute": lambda: attribute(-(10**6), 10**6),
+    "short_attribute": lambda: attribute(-(2**15), 2**15, "s"),
+    "names": lambda: equal_rows("station_01"),
+    "empty_rows": lambda: equal_rows(""),
+    "escapes": lambda: equal_rows(r"abcdefg\n" * 10),
+}
+
+
 def data(n, backwards=False):
     """As many variables as data statements."""
     statements = [f" v{i} = {i} ;\n" for i in range(n)]
@@ -144,7 +171,7 @@ def main():
         os.chdir(folder)
         columns = f"{'MB/s':>7} {'read':>7} {'its KiB':>8} {'our KiB':>8} {'beside':>8}"
         print(f"{'text':30} {'bytes':>10} {'Unidata':>9} {'ours':>9} {'times':>7} {columns}")
-        for name, make in TEXTS.items():
+        for name, make in (TEXTS | MIXES).items():
             if not wanted or name in wanted:
                 timed(name, make())
         if not wanted or "skeleton" in wanted:

@@ -5,7 +5,7 @@
 
 It makes the files, runs the programs in turn, and prints for each file the least time of each in milliseconds, how many times as
 fast ours is, the ratio of its time to that of a plain loop in C over the same values (bench/limit.c), and the most memory that each
-took. Texts are compared with the line breaks inside lists undone. Wants GNU time, and bin/ncdump built.
+took. Texts are compared with the line breaks inside lists undone. Wants GNU time, and bin/ncdump and bin/ncgen built.
 
 Files of many variables come in two lengths. The run fails where four times the variables take more than six times as long, and
 where ours is slower than Unidata's.
@@ -19,7 +19,8 @@ import subprocess
 import sys
 import tempfile
 
-from measure import DUMP, THEIR_DUMP, built, peak, run
+from generate import MIXES
+from measure import DUMP, GENERATE, THEIR_DUMP, built, peak, run
 
 RUNS = 7
 # milliseconds from which on a program runs once
@@ -119,6 +120,15 @@ def records(name, variables, count, ty=INT, low=-(2**31), high=2**31 - 1):
     return File(name, loop=loop).write(head, numbers(ty, variables * count, low, high).tobytes())
 
 
+def mixed(name):
+    """The file of a text of generate.py."""
+    with open("mixed.cdl", "w") as out:
+        out.write(MIXES[name]())
+    file = File(name)
+    subprocess.run([GENERATE, "-o", file.path, "mixed.cdl"], check=True)
+    return file
+
+
 def coordinates(name, count):
     """As many variables as dimensions, each a coordinate variable of one value, dumped with -c."""
     dims = [(f"d{i}", 1) for i in range(count)]
@@ -138,6 +148,7 @@ FILES = [
     lambda: records("records_20", 20, 50_000),
     lambda: records("records_100", 100, 10_000),
     lambda: rows("rows", 40_000, 80),
+    *(lambda name=name: mixed(name) for name in MIXES),
 ]
 # each in two lengths; the second has four times the variables
 GROWING = [
