@@ -89,6 +89,11 @@ fn values_of_attributes_are_listed(rt: HostRuntime) -> Result<(), Fail> {
             "\t\"\\\x7f\u{c3}\u{a9}\0\0",
             "\"\\t\\\"\\\\\\177\u{c3}\u{a9}\"",
         ),
+        (
+            NcType::Char,
+            "aaaaaaaaaaaaaaaaaaaaaaaaaaaaaaaaaaaaaaaaaaaaaaaaaaaaaaaaaaaaaaaaaaaaaaaaaaaaaaaaaaaaaaaaaaaaaaaaaaaaaaaaaaaaaaaaaaaaaaaaaaaaaaaaaa\tb",
+            "\"aaaaaaaaaaaaaaaaaaaaaaaaaaaaaaaaaaaaaaaaaaaaaaaaaaaaaaaaaaaaaaaaaaaaaaaaaaaaaaaaaaaaaaaaaaaaaaaaaaaaaaaaaaaaaaaaaaaaaaaaaaaaaaaaaa\\tb\"",
+        ),
         (NcType::Char, "", "\"\""),
         (NcType::Byte, "\u{ff}\x01", "-1b, 1b"),
         (NcType::Short, "\u{80}\x00", "-32768s"),

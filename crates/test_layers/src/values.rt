@@ -65,24 +65,14 @@ const NULS_THAT_ARE_SHOWN: &[Row<'static>] = &[
     },
 ];
 
-const CHARACTERS_ARE_ESCAPED: &[Row<'static>] = &[
-    Row {
-        name: "c",
-        ty: NcType::Char,
-        lens: &[6],
-        bytes: "\x09\x22\x5c\x7f\u{c3}\u{a9}",
-        text: "\n c = \"\\t\\\"\\\\\\177\u{c3}\u{a9}\" ;\n",
-        ..V
-    },
-    Row {
-        name: "c",
-        ty: NcType::Char,
-        lens: &[132],
-        bytes: "aaaaaaaaaaaaaaaaaaaaaaaaaaaaaaaaaaaaaaaaaaaaaaaaaaaaaaaaaaaaaaaaaaaaaaaaaaaaaaaaaaaaaaaaaaaaaaaaaaaaaaaaaaaaaaaaaaaaaaaaaaaaaaaaaa\x09b",
-        text: "\n c = \"aaaaaaaaaaaaaaaaaaaaaaaaaaaaaaaaaaaaaaaaaaaaaaaaaaaaaaaaaaaaaaaaaaaaaaaaaaaaaaaaaaaaaaaaaaaaaaaaaaaaaaaaaaaaaaaaaaaaaaaaaaaaaaaaaa\\tb\" ;\n",
-        ..V
-    },
-];
+const CHARACTERS_ARE_ESCAPED: &[Row<'static>] = &[Row {
+    name: "c",
+    ty: NcType::Char,
+    lens: &[6],
+    bytes: "\x09\x22\x5c\x7f\u{c3}\u{a9}",
+    text: "\n c = \"\\t\\\"\\\\\\177\u{c3}\u{a9}\" ;\n",
+    ..V
+}];
 
 const FILL_OF_BYTES: &[Row<'static>] = &[
     Row {

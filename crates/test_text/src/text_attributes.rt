@@ -78,6 +78,7 @@ fn first_fault_of_an_attribute_wins(rt: HostRuntime) -> Result<(), Fail> {
         ("a = 1s, 32768s, \"x\" ;", CdlKind::NumberRange),
         ("a = 1, 2, 3, 4s, 5 ;", CdlKind::MixedConstants),
         ("a = 1, 2, 3, \"x\", 5 ;", CdlKind::MixedConstants),
+        ("a = 1, 08, 3, 4 ;", CdlKind::BadNumber),
         ("a = 1, 2s, 3, 08, 5 ;", CdlKind::BadNumber),
         ("a = 1, 2, 3, 4, %, 6 ;", CdlKind::BadToken),
         ("a = 1, 2, 3, _, 5 ;", CdlKind::Syntax),
