@@ -79,7 +79,7 @@ def attribute(least, most, suffix=""):
 
 
 def equal_rows(row):
-    """20,000 rows of 80 characters, each of which is this string."""
+    """20,000 rows of 80 characters, each row this string."""
     lines = ",\n".join([f'  "{row}"'] * 20_000)
     return text("\tn = 20000 ;\n\tk = 80 ;\n", "\tchar v(n, k) ;\n", f" v =\n{lines} ;\n")
 

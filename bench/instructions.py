@@ -121,23 +121,25 @@ def made(cdl):
 
 
 def a_file_byte(row):
-    """Of a dump of 20,000 rows of 80 characters, each of which is this string."""
+    """Of a dump of 20,000 rows of 80 characters, each row this string."""
     lines = ",\n".join([f'  "{row}"'] * 20_000)
     file = made(text("\tr = 20000 ;\n\tx = 80 ;\n", "\tchar c(r, x) ;\n", f" c =\n{lines} ;\n"))
     return instructions(DUMP, file) / Path(file).stat().st_size
 
 
+def attribute(values, suffix):
+    """A text with one attribute, which has these values, each with the suffix."""
+    return f"netcdf t {{\n\t:a = {', '.join(value + suffix for value in values)} ;\n}}\n"
+
+
 def attribute_as_values(ty, suffix, low, high):
     listed_numbers = numbers(low, high, 500_000)
-    attribute = f"netcdf t {{\n\t:a = {', '.join(number + suffix for number in listed_numbers)} ;\n}}\n"
-    ours = instructions(DUMP, made(attribute))
-    return ours / instructions(DUMP, made(listed(listed_numbers, ", ", ty)))
+    return instructions(DUMP, made(attribute(listed_numbers, suffix))) / instructions(DUMP, made(listed(listed_numbers, ", ", ty)))
 
 
 def read_as_values(ty, suffix, low, high):
     listed_numbers = numbers(low, high)
-    attribute = f"netcdf t {{\n\t:a = {', '.join(number + suffix for number in listed_numbers)} ;\n}}\n"
-    return generating(attribute) / generating(listed(listed_numbers, ", ", ty))
+    return generating(attribute(listed_numbers, suffix)) / generating(listed(listed_numbers, ", ", ty))
 
 
 def in_heaviest(cdl):

@@ -1,6 +1,7 @@
 -- Values of a list, passed one after the other.
-use Rattle.std.proofs.Common.{◌≡◌, ℕ, Bool, true, false, List, [], ◌∷◌, refl, rules, None, Some, option_map, arith, is_none}
-use Rattle.cdl_statements.proofs.Prelude.{Version, parts, number, numeral, token_fault, completes, next, is_value_of, words, version_of, is_done, Cutter, Due, Lexeme, IsAtComma, Passes, SamePlace, lexeme_with}
+use Rattle.std.proofs.Common.{◌≡◌, ℕ, Bool, true, false, List, [], ◌∷◌, refl, sym, ap, ◌∙◌, Option, rules, None, Some, option_map, arith, is_none}
+use Rattle.cdl_statements.proofs.Prelude.{CdlKind, Version, parts, number, numeral, token_fault, completes, next, is_value_of, words, version_of, is_done, Cutter, Due, Lexeme, IsAtComma, Passes, SamePlace, lexeme_with}
+use Rattle.std.specs.Option.{is_some}
 use Rattle.cdl_statements.specs.code.ListedTokens.{PassesNumber, PassesUnderscore}
 use Rattle.cdl_statements.specs.code.PassedValues.{PassesGood, PassesValues}
 use Rattle.cdl_statements.specs.declared.due.Due.TheVariants.{Separator}
@@ -26,8 +27,18 @@ pub value_on : (takes_fill : Bool) (start rest : Cutter) (l : Lexeme) → IsAtCo
 unfolding completes next
 value_on takes_fill start rest l at passes good value = search (rules, words, good_on, next)
 
+-- the same of a token in which no fault was found
+no_fault : (fault : Option CdlKind) → is_some fault ≡ false → fault ≡ None
+no_fault None h = refl
+no_fault (Some kind) h = cc
+
+pub token_on : (takes_fill : Bool) (v : Version) (start rest : Cutter) (l : Lexeme) (fault : Option CdlKind) → v ≡ version_of start → IsAtComma start → Passes start rest l →
+    fault ≡ token_fault v l.kind l.bytes → is_some fault ≡ false → is_value_of takes_fill l l.kind ≡ true → PassesValues takes_fill start rest
+token_on takes_fill v start rest l fault version at passes is none value =
+    value_on takes_fill start rest l at passes (ap (λ (v : Version). token_fault v l.kind l.bytes) (sym version) ∙ sym is ∙ no_fault fault none) value
+
 -- a number is good
-good_number : (v : Version) (bytes : List ℕ) (n : Held) → Some n ≡ option_map held (parts v bytes) → token_fault v kinds.Number bytes ≡ None
+pub good_number : (v : Version) (bytes : List ℕ) (n : Held) → Some n ≡ option_map held (parts v bytes) → token_fault v kinds.Number bytes ≡ None
 unfolding numeral
 good_number v bytes n is = grind (arith, parts v bytes, held, is_none, number)
 

@@ -70,6 +70,18 @@ impl<'a> Lexeme<'a> {
         }
     }
 
+    /// Guesses if plain values come after this value of a list. Returns false for a hexadecimal or octal number, and for a number with a
+    /// suffix of two letters or more. A wrong guess costs time, but changes no result.
+    pub fn may_precede_plain(self) -> bool {
+        match (self.kind, self.bytes) {
+            (TokenKind::Number, [b'0', _, ..]) => false,
+            (TokenKind::Number, [.., before, last]) => {
+                before.is_ascii_digit() || last.is_ascii_digit()
+            }
+            _ => true,
+        }
+    }
+
     /// Returns true if the token is the length of a dimension: a number, or an unescaped `unlimited` or `UNLIMITED`.
     pub fn is_length(self) -> bool
         ensures { result ≡ is_length (lexeme_of self.entry) }

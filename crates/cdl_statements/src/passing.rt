@@ -25,8 +25,8 @@ pub fn pass_values(cutter: &mut Cutter<'_>, due: Due)
     }
 }
 
-/// Passes the value that comes next if it is a good one with a comma after it, and then plain numbers, and returns the cutter at the last
-/// comma. `_` counts as a value if `takes_fill` is true. Otherwise returns `start`. Needs a cutter at a comma.
+/// Passes the value that comes next if it is a good one with a comma after it, and then plain numbers if they are likely after it. Returns
+/// the cutter at the last comma. `_` counts as a value if `takes_fill` is true. Otherwise returns `start`. Needs a cutter at a comma.
 fn pass_list(start: Cutter<'_>, takes_fill: bool) -> Cutter<'_>
     requires { IsAtComma start }
     ensures { PassesValues takes_fill start.entry result }
@@ -37,6 +37,9 @@ fn pass_list(start: Cutter<'_>, takes_fill: bool) -> Cutter<'_>
     };
     if !token.is_value(takes_fill) || token_fault(start.version(), token).is_some() {
         return start;
+    }
+    if !token.may_precede_plain() {
+        return cutter;
     }
     pass_numbers(cutter, takes_fill)
 }

@@ -27,6 +27,12 @@ pub words_past : (v : Version) (start rest : Cutter) (l : Lexeme) → IsAtComma 
 words_past v start rest l at passes =
     ap (values v) passes.passed ∙ past_mark v (lexeme (text_of start) (next_token start)) (l ∷ words rest) (kind_of_mark 0x2c (lexeme (text_of start) (next_token start)) at.comma)
 
+-- one token more
+pub token_turn : (ty : NcType) (v w : Version) (start rest : Cutter) (l : Lexeme) (before between : List ℕ) → w ≡ v → IsAtComma start → Passes start rest l →
+    in_turn (add_constant ty) before (values w (l ∷ words rest)) ≡ constants_on ty w between rest → constants_on ty v before start ≡ constants_on ty v between rest
+token_turn ty v w start rest l before between same at passes h =
+    ap (in_turn (add_constant ty) before) (words_past v start rest l at passes) ∙ subst (λ (u : Version). in_turn (add_constant ty) before (values u (l ∷ words rest)) ≡ constants_on ty u between rest) same h
+
 held_parts : (n : Held) (r : Option Parts) → Some n ≡ option_map held r → n ≡ held (parts_or_zero r)
 held_parts n None h = cc
 held_parts n (Some p) h = grind (arith, h)

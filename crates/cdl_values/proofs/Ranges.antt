@@ -1,7 +1,6 @@
 -- A number as it is held is in a type's range where the number is.
-use Rattle.std.proofs.Common.{◌≡◌, ℕ, ℤ, Bool, false, arith, Option, None, Some, Ok, nat_le, option_map, List, is_none}
-use Rattle.cdl_values.proofs.Prelude.{NcType, parts_or_zero, Parts, parts, numeral, signed, number, Version, word, held, Number, token_fault, has_number, greatest, number_bytes, held_bytes, joined, value_bytes}
-use Rattle.cdl_tokens.specs.declared.token.TokenKind.TheVariants as kinds
+use Rattle.std.proofs.Common.{◌≡◌, ℕ, ℤ, Bool, false, arith, Option, Some, Ok, nat_le, option_map, List}
+use Rattle.cdl_values.proofs.Prelude.{NcType, parts_or_zero, Parts, signed, number, word, held, Number, has_number, greatest, number_bytes, held_bytes, joined, value_bytes}
 use Rattle.cdl_tokens.specs.declared.numeral.Numeral.{Numeral as Held}
 
 in_range : (ty : NcType) (minus : Bool) (m : ℕ) → has_number ty (signed minus m) ≡ nat_le m (greatest ty minus)
@@ -14,7 +13,3 @@ held_is ty p = grind (arith, in_range ty p.minus p.magnitude)
 pub number_added : (bs cs : List ℕ) (ty : NcType) (fill : ℤ) (r : Option Parts) (n : Held) → Some n ≡ option_map held r →
     joined (Ok bs) (held_bytes ty n.minus n.magnitude) ≡ Ok cs → joined (Ok bs) (value_bytes ty fill false (Number (number (parts_or_zero r)))) ≡ Ok cs
 number_added bs cs ty fill r n h h2 = grind (arith, joined, held_is, held)
-
-pub good_number : (v : Version) (bytes : List ℕ) (n : Held) → Some n ≡ option_map held (parts v bytes) → token_fault v kinds.Number bytes ≡ None
-unfolding numeral
-good_number v bytes n is = grind (arith, parts v bytes, held, is_none, number)

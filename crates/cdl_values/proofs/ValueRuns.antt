@@ -5,7 +5,8 @@ use Rattle.cdl_tokens.specs.declared.numeral.Numeral.{Numeral as Held}
 use Rattle.cdl_tokens.specs.declared.token.TokenKind.TheVariants as kinds
 use Rattle.cdl_statements.specs.code.NumberLists as lists
 use Rattle.cdl_values.proofs.PackedTokens.{token_packed}
-use Rattle.cdl_values.proofs.Ranges.{good_number, number_added}
+use Rattle.cdl_statements.proofs.PassedValues.{good_number}
+use Rattle.cdl_values.proofs.Ranges.{number_added}
 
 -- the place where a cutter has come to
 abbrev pub reached : Cutter → List ℕ → Capacity → Place

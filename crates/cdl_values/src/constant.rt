@@ -78,6 +78,9 @@ fn take_constants<'a>(
         return Ok(start);
     };
     put_token(vals, start.version(), ty, token)?;
+    if !token.may_precede_plain() {
+        return Ok(cutter);
+    }
     take_plain_constants(vals, ty, cutter)
 }
 

@@ -146,7 +146,7 @@ fn put_non_number(
 /// Appends to `array` the bytes of a number. `bytes` is its token. Errs with `Unnamed` if the filling isn't `Numbers`, if the capacity is
 /// 0, if the token is no number of the version, or if the number is out of the type's range. Errs with `OutOfMemory` if an allocation
 /// failed. Nothing is appended in any of these cases.
-#[tactic(auto, unfolding(cdl_statements::specs::code::Contents::value_of), using(crate::proofs::Ranges::number_added, crate::proofs::Ranges::good_number))]
+#[tactic(auto, unfolding(cdl_statements::specs::code::Contents::value_of), using(crate::proofs::Ranges::number_added, cdl_statements::proofs::PassedValues::good_number))]
 fn put_checked_number(
     array: &mut ListedArray,
     version: Version,

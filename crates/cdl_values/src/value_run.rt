@@ -5,7 +5,7 @@ ghost use Rattle.cdl_statements.specs.code.Cutters.{is_done};
 ghost use Rattle.cdl_statements.specs.code.ListedTokens.{EndsAtScanner, IsAtComma};
 ghost use Rattle.cdl_values.specs.code.PackedValues.{capacity_minus};
 ghost use Rattle.cdl_statements.specs.code.NumberLists.{reached};
-ghost use Rattle.cdl_values.specs.code.ValueRuns.{GoesTo, TakesOne, TakesPlain, TakesTo, place};
+ghost use Rattle.cdl_values.specs.code.ValueRuns.{GoesTo, IfTaken, TakesOne, TakesPlain, TakesTo, place};
 
 use crate::capacity::Capacity;
 use crate::fill::Fill;
@@ -14,8 +14,7 @@ use crate::number::{pack_number, put_numeral_inline};
 use crate::read_error::ReadError;
 use crate::string::put_plain_row;
 use crate::value::{FastPathFault, put_checked_value};
-use cdl_statements::{Cutter, Due, Lexeme, NumberList};
-use cdl_tokens::TokenKind;
+use cdl_statements::{Cutter, Due, NumberList};
 use nc_base::{ListedArray, NcType};
 
 /// The values of a statement that are still to be read, and how many more values the variable takes.
@@ -75,19 +74,9 @@ fn take_values<'a>(
             return Err(FastPathFault::Unnamed);
         }
         unread.capacity = put_checked_value(array, version, filling, unread.capacity, token)?;
-        if plain_may_follow(token) {
+        if token.may_precede_plain() {
             unread = take_plain_values(array, unread, filling, takes_fill)?;
         }
-    }
-}
-
-/// Guesses if plain values come after `token`. Returns false for a hexadecimal or octal number, and for a number with a suffix of two
-/// letters or more. A wrong guess costs time, but changes no result.
-fn plain_may_follow(token: Lexeme<'_>) -> bool {
-    match (token.kind, token.bytes) {
-        (TokenKind::Number, [b'0', _, ..]) => false,
-        (TokenKind::Number, [.., before, last]) => before.is_ascii_digit() || last.is_ascii_digit(),
-        _ => true,
     }
 }
 
@@ -181,7 +170,7 @@ fn put_next_number(
 ) -> Result<bool, ReadError>
     requires at { IsAtComma (reached list.old) }
     requires ty { ty ≡ fill.ty }
-    ensures more { IfOk result (λ more. more ≡ true → TakesOne takes_fill fill (reached list.old) (reached list.new) array.old array.new) }
+    ensures more { IfTaken (TakesOne takes_fill fill list.old list.new array.old array.new) result }
     ensures same_list { IfOk result (λ more. more ≡ false → list.new ≡ list.old) }
     ensures same_array { IfOk result (λ more. more ≡ false → array.new ≡ array.old) }
 {

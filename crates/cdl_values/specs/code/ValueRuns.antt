@@ -1,13 +1,13 @@
 -- For contracts. What goes past several values of a statement at once.
-use Rattle.std.specs.Prelude.{ℕ, List, Bool, ◌≡◌, ◌≤◌, false, Result, Ok, IfOk}
+use Rattle.std.specs.Prelude.{ℕ, List, Bool, ◌≡◌, false, true, Result, Ok, IfOk}
 use Rattle.cdl_statements.specs.code.Contents.{values}
-use Rattle.cdl_statements.specs.code.Cutters.{SameText, after, is_done, offset_of, version_of, words}
-use Rattle.cdl_statements.specs.code.DueTokens.{completes}
+use Rattle.cdl_statements.specs.code.Cutters.{version_of, words}
 use Rattle.cdl_statements.specs.code.ListedTokens.{IsAtComma}
-use Rattle.cdl_statements.specs.Shapes.{first_bad}
-use Rattle.cdl_statements.specs.declared.{cutter.Cutter.Cutter, due.Due.Due, due.Due.TheVariants.Separator}
+use Rattle.cdl_statements.specs.code.NumberLists.{reached}
+use Rattle.cdl_statements.specs.code.PassedValues.{PassesGood}
+use Rattle.cdl_statements.specs.declared.{cutter.Cutter.Cutter, number_list.NumberList.NumberList, due.Due.Due, due.Due.TheVariants.Separator}
 use Rattle.cdl_values.specs.code.PackedValues.{capacity_minus, is_full, joined, packed}
-use Rattle.cdl_values.specs.declared.{capacity.Capacity.Capacity, fill.Fill.Fill, filling.Filling.Filling, filling.Filling.TheVariants.Numbers, value.FastPathFault.FastPathFault, value_run.UnreadValues.UnreadValues}
+use Rattle.cdl_values.specs.declared.{capacity.Capacity.Capacity, fill.Fill.Fill, filling.Filling.Filling, filling.Filling.TheVariants.Numbers, read_error.ReadError.ReadError, value.FastPathFault.FastPathFault, value_run.UnreadValues.UnreadValues}
 
 -- A place among the values of a statement: the bytes of those before it, and what capacity is left.
 pub record Place : Type 0 where
@@ -20,13 +20,8 @@ place unread bytes = record { cutter = unread.cutter; bytes = bytes; left = unre
 
 -- The tokens between two places are good ones, after which the same token is due. Their values are what the bytes before have become, and what the capacity has lost.
 pub record GoesOn (due : Due) (filling : Filling) (start rest : Place) : Type 0 where
-  pub same : SameText start.cutter rest.cutter
-  pub goes : is_done rest.cutter ≡ false
-  pub bad : first_bad (version_of start.cutter) (words rest.cutter) ≡ first_bad (version_of start.cutter) (words start.cutter)
-  pub shaped : completes due (words rest.cutter) ≡ completes due (words start.cutter)
+  pub passes : PassesGood due start.cutter rest.cutter
   pub packs : joined (Ok rest.bytes) (packed filling rest.left (values (version_of start.cutter) (words rest.cutter))) ≡ joined (Ok start.bytes) (packed filling start.left (values (version_of start.cutter) (words start.cutter)))
-  pub others : after rest.cutter ≡ after start.cutter
-  pub on : offset_of start.cutter ≤ offset_of rest.cutter
 
 -- From comma to comma of a list of values.
 pub record TakesValues (takes_fill : Bool) (filling : Filling) (start rest : Place) : Type 0 where
@@ -41,11 +36,15 @@ GoesTo due filling start bytes result = IfOk result (λ rest. GoesOn due filling
 abbrev pub TakesTo : Bool → Filling → Place → List ℕ → Result UnreadValues FastPathFault → Type 0
 TakesTo takes_fill filling start bytes result = IfOk result (λ rest. TakesValues takes_fill filling start (place rest bytes))
 
--- one value more, with the bytes before it and after it; a variable of numbers takes it if it takes any
-abbrev pub TakesOne : Bool → Fill → Cutter → Cutter → List ℕ → List ℕ → Type 0
+-- one value more of a list, with the bytes before it and after it; a variable of numbers takes it if it takes any
+abbrev pub TakesOne : Bool → Fill → NumberList → NumberList → List ℕ → List ℕ → Type 0
 TakesOne takes_fill fill start rest before after =
     (left : Capacity) → is_full left ≡ false →
-    TakesValues takes_fill (Numbers fill) (record { cutter = start; bytes = before; left = left }) (record { cutter = rest; bytes = after; left = capacity_minus 1 left })
+    TakesValues takes_fill (Numbers fill) (record { cutter = reached start; bytes = before; left = left }) (record { cutter = reached rest; bytes = after; left = capacity_minus 1 left })
+
+-- if the answer is that there is one
+abbrev pub IfTaken : Type 0 → Result Bool ReadError → Type 0
+IfTaken taken result = IfOk result (λ is_taken. is_taken ≡ true → taken)
 
 -- none of these values is a `_`, so that it doesn't matter if one may stand there
 abbrev pub TakesPlain : Filling → Place → List ℕ → Result UnreadValues FastPathFault → Type 0

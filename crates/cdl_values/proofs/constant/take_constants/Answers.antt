@@ -1,7 +1,6 @@
-use Rattle.std.proofs.Common.{rules, ◌≡◌, ◌∷◌, ℕ, List, Result, sym, ap, ◌∙◌, Err, subst}
+use Rattle.std.proofs.Common.{rules, ◌≡◌, ◌∷◌, ℕ, List, Result, sym, ap, Err, subst}
 use Rattle.cdl_values.proofs.Prelude.{CdlKind, FailsRead, Version, add_constant, in_turn, lexeme_of, values, version_of, words}
-use Rattle.cdl_values.proofs.ConstantRuns.{is_wrong, then_takes, words_past}
-use Rattle.cdl_values.specs.code.TokenValues.{constants_on}
+use Rattle.cdl_values.proofs.ConstantRuns.{is_wrong, then_takes, token_turn, words_past}
 use Rattle.cdl_values.proofs.constant.take_constants.Goals as goal
 
 pub returns-in_err-put_token-clause-adds : goal.returns-in_err-put_token-clause-adds
@@ -15,14 +14,19 @@ returns-in_err-put_token-clause-adds c =
     let wrong = subst (λ (v : Version). FailsRead e (in_turn (add_constant a.ty) a.vals.now (values v (lexeme_of c.in-Some.token ∷ words rest)))) c.version.ensures (c.in_err-put_token.ensures (words rest)) in
     is_wrong a.ty a.start a.vals.now c.put_token.new.vals c.from_residual.result e is (subst (λ (read : Result (List ℕ) CdlKind). FailsRead e read) (sym (ap (in_turn (add_constant a.ty) a.vals.now) past)) wrong)
 
+-- the constant of the token alone
+pub returns-then-not-may_precede_plain-clause-adds : goal.returns-then-not-may_precede_plain-clause-adds
+returns-then-not-may_precede_plain-clause-adds c =
+    let a = c.args in
+    let rest = c.token_and_comma.new.self in
+    token_turn a.ty (version_of a.start) c.version.result a.start rest (lexeme_of c.in-Some.token) a.vals.now c.put_token.new.vals c.version.ensures (c.is_at_comma.ensures c.if-not-is_at_comma.false) c.in-Some.ensures.passes (c.in_ok-put_token.ensures (words rest))
+
+-- and plain numbers after it
 pub returns-clause-adds : goal.returns-clause-adds
 returns-clause-adds c =
     let a = c.args in
-    let v = version_of a.start in
     let rest = c.token_and_comma.new.self in
     let between = c.put_token.new.vals in
     let passes = c.in-Some.ensures.passes in
-    let past = words_past v a.start rest (lexeme_of c.in-Some.token) (c.is_at_comma.ensures c.if-not-is_at_comma.false) passes in
-    let one : in_turn (add_constant a.ty) a.vals.now (values v (lexeme_of c.in-Some.token ∷ words rest)) ≡ constants_on a.ty v between rest =
-    subst (λ (v : Version). in_turn (add_constant a.ty) a.vals.now (values v (lexeme_of c.in-Some.token ∷ words rest)) ≡ constants_on a.ty v between rest) c.version.ensures (c.in_ok-put_token.ensures (words rest)) in
-    then_takes a.ty a.start rest a.vals.now between c.take_plain_constants.new.vals c.take_plain_constants.result passes.same.version (ap (in_turn (add_constant a.ty) a.vals.now) past ∙ one) c.take_plain_constants.ensures.adds
+    let one = token_turn a.ty (version_of a.start) c.version.result a.start rest (lexeme_of c.in-Some.token) a.vals.now between c.version.ensures (c.is_at_comma.ensures c.if-not-is_at_comma.false) passes (c.in_ok-put_token.ensures (words rest)) in
+    then_takes a.ty a.start rest a.vals.now between c.take_plain_constants.new.vals c.take_plain_constants.result passes.same.version one c.take_plain_constants.ensures.adds

@@ -31,15 +31,15 @@ tokens-preserved c =
     let at : version_of c.advance-ends.new.self ≡ c.version-version.result = c.advance-ends.ensures.same.version ∙ t.invariant.version ∙ sym c.version-version.ensures in
     let filling = a.filling in
     record {
-      text = r.same.text ∙ c.advance-ends.ensures.same.text ∙ t.invariant.text;
-      version = r.same.version ∙ c.advance-ends.ensures.same.version ∙ t.invariant.version;
-      goes = r.goes;
-      bad = ap (λ v. first_bad v (words c.in_ok-unread-2.unread.cutter)) (sym at) ∙ r.bad ∙ ap (λ v. first_bad v rest) at ∙ sym (good_on c.version-version.result l rest c.in_ok-unread.ensures.good) ∙ sym (ap (first_bad c.version-version.result) here) ∙ t.invariant.bad;
-      shaped = r.shaped ∙ ap (λ d. completes d rest) c.in_ok-unread.ensures.shape ∙ ap (completes t.due) (sym here) ∙ t.invariant.shaped;
+      text = r.passes.same.text ∙ c.advance-ends.ensures.same.text ∙ t.invariant.text;
+      version = r.passes.same.version ∙ c.advance-ends.ensures.same.version ∙ t.invariant.version;
+      goes = r.passes.goes;
+      bad = ap (λ v. first_bad v (words c.in_ok-unread-2.unread.cutter)) (sym at) ∙ r.passes.bad ∙ ap (λ v. first_bad v rest) at ∙ sym (good_on c.version-version.result l rest c.in_ok-unread.ensures.good) ∙ sym (ap (first_bad c.version-version.result) here) ∙ t.invariant.bad;
+      shaped = r.passes.shaped ∙ ap (λ d. completes d rest) c.in_ok-unread.ensures.shape ∙ ap (completes t.due) (sym here) ∙ t.invariant.shaped;
       packs = ap (λ v. joined (Ok c.take_run.new.array) (packed filling c.in_ok-unread-2.unread.capacity (values v (words c.in_ok-unread-2.unread.cutter)))) (sym at) ∙ r.packs ∙
           ap (λ v. joined (Ok c.put_checked_token.new.array) (packed filling c.in_ok-unread.field-0-0 (values v rest))) at ∙
           sym (c.in_ok-unread.ensures.packs rest) ∙ sym (ap (λ ws. joined (Ok t.array) (packed a.filling t.unread.capacity (values c.version-version.result ws))) here) ∙ t.invariant.packs;
-      rest = r.others ∙ (let e : after c.advance-ends.new.self ≡ after a.start = search rules in e);
+      rest = r.passes.others ∙ (let e : after c.advance-ends.new.self ≡ after a.start = search rules in e);
     }
 
 pub returns-then-is_whole-clause-shaped : goal.returns-then-is_whole-clause-shaped

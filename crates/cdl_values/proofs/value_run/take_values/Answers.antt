@@ -20,8 +20,8 @@ values-preserved c =
     }
 
 -- and plain values after it
-pub values-preserved-then-plain_may_follow : goal.values-preserved-then-plain_may_follow
-values-preserved-then-plain_may_follow c =
+pub values-preserved-then-may_precede_plain : goal.values-preserved-then-may_precede_plain
+values-preserved-then-may_precede_plain c =
     let a = c.args in
     let l = c.values in
     let passes = c.in-Some.ensures.passes in
@@ -34,6 +34,6 @@ values-preserved-then-plain_may_follow c =
     let one = token_on a.takes_fill a.filling.now c.version-version.result here there (lexeme_of c.in-Some.token) l.invariant.version l.invariant.at passes e.good (sym c.is_value.ensures ∙ c.if-not-is_value.false) e.packs in
     record {
       at = more.at;
-      version = l.invariant.version ∙ sym passes.same.version ∙ sym more.on.same.version;
+      version = l.invariant.version ∙ sym passes.same.version ∙ sym more.on.passes.same.version;
       so = takes_further a.takes_fill a.filling.now start here rest l.invariant.so (takes_further a.takes_fill a.filling.now here there rest one more);
     }
