@@ -4,7 +4,7 @@ use Rattle.nc_base.proofs.Prelude.{to_be_bytes, flat_map, range_with_len, append
 use Rattle.nc_base.proofs.IsAt.{IsAt, stands-here, stands-after, stands-in, stands-at, stands-first, stands-second, stands-row}
 use Rattle.nc_base.proofs.FilePlaces.{slots, fixed_total, record_size_of-slots, length-blocks, length-record, IsPlaced, agree-all, agree-arrays, agree-whole}
 use Rattle.nc_base.specs.Parts.{print}
-use Rattle.nc_base.specs.Grammar.{variable_tag, number, offset_part, list_head, var_part, var_after, var_list, header_part}
+use Rattle.nc_base.specs.Grammar.{variable_tag, number, offset_part, list_head, var_part, var_after, var_list, header_part, strict, header_by}
 use Rattle.nc_base.proofs.PrintedLists.{IsPrintedAs, list-printed}
 use Rattle.nc_base.proofs.PartOutcomes.{printed}
 use Rattle.nc_base.proofs.Printable.{header-printable}
@@ -51,9 +51,9 @@ offset-len v m n = grind arith
 
 -- a variable's bytes, whatever stands before it
 abbrev var_bytes : Version → List Dim → Var → List ℕ
-var_bytes v dims var = print (var_part v dims 0) var
+var_bytes v dims var = print (var_part strict v dims 0) var
 
-var-printed : (v : Version) (dims : List Dim) → IsPrintedAs (var_after v dims) (var_bytes v dims)
+var-printed : (v : Version) (dims : List Dim) → IsPrintedAs (var_after strict v dims) (var_bytes v dims)
 unfolding print var_part
 var-printed v dims before var = refl
 
@@ -65,15 +65,15 @@ each-len : (f : Var → List ℕ) (xs : List Var) → ((x : Var) → length (f (
 each-len f [] same = refl
 each-len f (x ∷ xs) same = both (f (bare_var x)) (f x) (flat_map f (map bare_var xs)) (flat_map f xs) (same x) (each-len f xs same)
 
-list-len : (v : Version) (dims : List Dim) (xs : List Var) → length (print (var_list v dims) (map bare_var xs)) ≡ length (print (var_list v dims) xs)
+list-len : (v : Version) (dims : List Dim) (xs : List Var) → length (print (var_list strict v dims) (map bare_var xs)) ≡ length (print (var_list strict v dims) xs)
 unfolding var_list
 list-len v dims xs =
-    ap length (list-printed v variable_tag (var_after v dims) (var_bytes v dims) (map bare_var xs) (var-printed v dims))
+    ap length (list-printed v variable_tag (var_after strict v dims) (var_bytes v dims) (map bare_var xs) (var-printed v dims))
     ∙ both _ _ _ _ (ap (λ (n : ℕ). length (print (list_head v variable_tag) n)) (length-map xs bare_var)) (each-len (var_bytes v dims) xs (var-len v dims))
-    ∙ ap length (sym (list-printed v variable_tag (var_after v dims) (var_bytes v dims) xs (var-printed v dims)))
+    ∙ ap length (sym (list-printed v variable_tag (var_after strict v dims) (var_bytes v dims) xs (var-printed v dims)))
 
 header-len-bare : (h : Header) (vars : List Var) → length (header_spelling (record h { vars = map bare_var vars })) ≡ length (header_spelling (record h { vars = vars }))
-unfolding print header_part
+unfolding print header_by
 header-len-bare h vars = grind (arith, longer, both, list-len)
 
 pub len-after : (h : Header) → length (header_spelling (record h { vars = vars_with_begins h [] h.vars })) ≡ length (header_spelling h)

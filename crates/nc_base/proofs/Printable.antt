@@ -12,7 +12,7 @@ use Rattle.nc_base.specs.declared.fault.FormatFault.TheVariants.{BadCount, BadOf
 use Rattle.nc_base.specs.Bytes.{Bytes}
 use Rattle.nc_base.specs.Parts.{Part}
 use Rattle.nc_base.specs.code.PartRuns.{IsPrintable}
-use Rattle.nc_base.specs.Grammar.{dimension_tag, variable_tag, attribute_tag, vsize_of, numrecs_in, version_in, number, count_part, offset_part, ignored, name_part, type_in, type_part, first, each, counted, list_head, list_part, dim_part, dim_after, dim_list, att_part, att_after, att_list, is_dimid, dimid_part, dimid_after, shape_part, record_bytes, is_within_limits, var_part, var_after, var_list, version_part, magic_part, numrecs_part, header_part}
+use Rattle.nc_base.specs.Grammar.{dimension_tag, variable_tag, attribute_tag, vsize_of, numrecs_in, version_in, number, count_part, offset_part, ignored, name_part, type_in, type_part, first, each, counted, list_head, list_part, dim_part, dim_after, dim_list, att_part, att_after, att_list, is_dimid, dimid_part, dimid_after, shape_part, record_bytes, is_within_limits, var_part, var_after, var_list, version_part, magic_part, numrecs_part, header_part, strict, header_by}
 
 -- ---- what a sound header's lists keep, at each place
 
@@ -112,7 +112,7 @@ ignored-printable : (n : ℕ) → IsPrintable (ignored n) tt
 unfolding ignored
 ignored-printable n = (length-replicate n 0, refl)
 
-name-printable : (v : Version) (text : Bytes) → length text < count_limit v → IsName text → IsPrintable (name_part v) text
+name-printable : (v : Version) (text : Bytes) → length text < count_limit v → IsName text → IsPrintable (name_part strict v) text
 unfolding name_part
 name-printable v text lt valid =
     (length text, refl, count-printable v (length text) lt, (text, refl, (refl, kept text BadName valid), (tt, refl, ignored-printable (padding_len (length text)), refl)))
@@ -123,7 +123,7 @@ type_in-code v ty has = grind arith
 code-fits : (ty : NcType) → code_of ty < 256 ^ byte_len w32
 code-fits ty = grind arith
 
-type-printable : (v : Version) (ty : NcType) → IsTrue (has_type v ty) → IsPrintable (type_part v) ty
+type-printable : (v : Version) (ty : NcType) → IsTrue (has_type v ty) → IsPrintable (type_part strict v) ty
 unfolding type_part
 type-printable v ty has = (number-printable w32 (code_of ty) wide-32 (code-fits ty), type_in-code v ty has)
 
@@ -166,9 +166,9 @@ one-test : (before : List Dim) (len : ℕ) → (len ≡ 0 → has_record_dim bef
 one-test before len h = grind (arith, eqb-true, h)
 
 dims-printable : (v : Version) (dims : List Dim) → length dims < count_limit v → All (IsSoundDim v) dims → All (λ (dim : Dim). IsName dim.name) dims
-    → length (filter (λ (dim : Dim). dim.len == 0) dims) ≤ 1 → IsPrintable (dim_list v) dims
+    → length (filter (λ (dim : Dim). dim.len == 0) dims) ≤ 1 → IsPrintable (dim_list strict v) dims
 unfolding dim_list dim_part
-dims-printable v dims lt sound names one = list-printable v dimension_tag (dim_after v) dims (λ e. omega (arith, e)) (omega arith) lt
+dims-printable v dims lt sound names one = list-printable v dimension_tag (dim_after strict v) dims (λ e. omega (arith, e)) (omega arith) lt
     (λ before dim back is.
     let s = at-split (IsSoundDim v) dims before dim back is sound in (
       dim.name,
@@ -177,9 +177,9 @@ dims-printable v dims lt sound names one = list-printable v dimension_tag (dim_a
       (dim.len, refl, (count-printable v dim.len s.len, kept dim.len TwoRecordDims (one-test before dim.len (first-record-dim dims before dim back is one))), refl),
     ))
 
-atts-printable : (v : Version) (atts : List Att) → length atts < count_limit v → All (IsSoundAtt v) atts → All (λ (att : Att). IsName att.name) atts → IsPrintable (att_list v) atts
+atts-printable : (v : Version) (atts : List Att) → length atts < count_limit v → All (IsSoundAtt v) atts → All (λ (att : Att). IsName att.name) atts → IsPrintable (att_list strict v) atts
 unfolding att_list att_part
-atts-printable v atts lt sound names = list-printable v attribute_tag (att_after v) atts (λ e. omega (arith, e)) (omega arith) lt
+atts-printable v atts lt sound names = list-printable v attribute_tag (att_after strict v) atts (λ e. omega (arith, e)) (omega arith) lt
     (λ before att back is.
     let s = at-split (IsSoundAtt v) atts before att back is sound in
     let n : ℕ = length att.vals / size_of att.ty in
@@ -225,9 +225,9 @@ shape-printable v dims ids few lt are = (
 vars-printable : (v : Version) (dims : List Dim) (vars : List Var) → length dims < count_limit v → length vars < count_limit v → All (IsSoundVar v dims) vars
     → All (λ (var : Var). IsName var.name × All (λ (att : Att). IsName att.name) var.atts) vars
     → All (λ (var : Var). var.begin_at < offset_limit v) vars → ((before : List Var) (var : Var) (back : List Var) → vars ≡ before ++ var ∷ back → is_within_limits dims (padded_total dims (record_vars dims before)) var.dimids var.ty ≡ true)
-    → IsPrintable (var_list v dims) vars
+    → IsPrintable (var_list strict v dims) vars
 unfolding var_list var_part
-vars-printable v dims vars few lt sound names places limits = list-printable v variable_tag (var_after v dims) vars (λ e. omega (arith, e)) (omega arith) lt
+vars-printable v dims vars few lt sound names places limits = list-printable v variable_tag (var_after strict v dims) vars (λ e. omega (arith, e)) (omega arith) lt
     (λ before x back is.
     let s = at-split (IsSoundVar v dims) vars before x back is sound in
     let n = at-split (λ (var : Var). IsName var.name × All (λ (att : Att). IsName att.name) var.atts) vars before x back is names in (
@@ -292,7 +292,7 @@ limits-kept h sound before var back is =
     (le-leb _ _ (omega (arith, total-append h.dims before (var ∷ []), one-total h.dims var, limit-at h.dims h.vars before var back is total)))
 
 pub header-printable : (h : Header) → IsSound h → HasValidNames h → All (λ (var : Var). var.begin_at < offset_limit h.version) h.vars → IsPrintable header_part h
-unfolding header_part
+unfolding header_by
 header-printable h sound names places =
     let v = h.version in (
       v,

@@ -7,7 +7,7 @@ use Rattle.nc_base.specs.declared.header.NumRecs.TheVariants.{Known, Streaming}
 use Rattle.nc_base.specs.Bytes.{Bytes}
 use Rattle.nc_base.proofs.Printable.{total-append, one-total}
 use Rattle.nc_base.specs.Parts.{Part, Spells}
-use Rattle.nc_base.specs.Grammar.{dimension_tag, attribute_tag, variable_tag, is_dimid, is_within_limits, count_part, name_part, known_type, type_part, each, counted, list_head, list_part, dim_part, dim_after, dim_list, att_part, att_after, att_list, dimid_part, dimid_after, shape_part, var_part, var_after, var_list, numrecs_in, numrecs_part, header_part}
+use Rattle.nc_base.specs.Grammar.{dimension_tag, attribute_tag, variable_tag, is_dimid, is_within_limits, count_part, name_part, known_type, type_part, each, counted, list_head, list_part, dim_part, dim_after, dim_list, att_part, att_after, att_list, dimid_part, dimid_after, shape_part, var_part, var_after, var_list, numrecs_in, numrecs_part, header_part, strict, header_by}
 
 -- a test that was passed
 passed : {A : Type 0} (b : Bool) (x y : A) (wrong : FormatFault) → ◌≡◌ {A = Result A FormatFault} (if b then Ok x else Err wrong) (Ok y) → (b ≡ true) × (x ≡ y)
@@ -23,7 +23,7 @@ pub record IsSoundName (v : Version) (text : Bytes) : Type 0 where
   pub len : length text < count_limit v
   pub valid : IsName text
 
-name-sound : (v : Version) (from text rest : Bytes) → Spells (name_part v) from text rest → IsSoundName v text
+name-sound : (v : Version) (from text rest : Bytes) → Spells (name_part strict v) from text rest → IsSoundName v text
 unfolding Spells name_part
 name-sound v from text rest (n, m, c, (t, m2, (x, (len, is), e), (u, m3, any, (same, all)))) =
     let p = passed _ x t _ e in
@@ -42,7 +42,7 @@ not-floating : (b : Bool) (r : Result NcType FormatFault) (ty : NcType) → (if 
 not-floating true r ty e = absurd cc
 not-floating false r ty e = e
 
-type-sound : (v : Version) (from : Bytes) (ty : NcType) (rest : Bytes) → Spells (type_part v) from ty rest → IsTrue (has_type v ty)
+type-sound : (v : Version) (from : Bytes) (ty : NcType) (rest : Bytes) → Spells (type_part strict v) from ty rest → IsTrue (has_type v ty)
 unfolding Spells type_part
 type-sound v from ty rest (code, s, e) = has-type v _ ty (not-floating _ _ ty e)
 
@@ -87,14 +87,14 @@ all-each element P gives (x ∷ xs) before from rest s = All-cons P x xs (gives 
 
 -- ---- attributes and dimensions
 
-att-sound : (v : Version) (from : Bytes) (a : Att) (rest : Bytes) → Spells (att_part v) from a rest → IsSoundAtt v a × IsName a.name
+att-sound : (v : Version) (from : Bytes) (a : Att) (rest : Bytes) → Spells (att_part strict v) from a rest → IsSoundAtt v a × IsName a.name
 unfolding Spells att_part
 att-sound v from a rest (text, m, s, (ty, m2, t, (n, m3, c, (vals, m4, (len, is), (u, m5, any, (whole, end)))))) =
     let named = name-sound v from text m s in
     subst (λ a. IsSoundAtt v a × IsName a.name) (sym whole)
     (record { name_len = named.len; ty = type-sound v m ty m2 t; values = record { count = n; counted = count-below v m2 n m3 c; whole = len } }, named.valid)
 
-dim-sound : (v : Version) (before : List Dim) (from : Bytes) (d : Dim) (rest : Bytes) → Spells (dim_after v before) from d rest → IsSoundDim v d × IsName d.name × (not (has_record_dim before && (d.len == 0)) ≡ true)
+dim-sound : (v : Version) (before : List Dim) (from : Bytes) (d : Dim) (rest : Bytes) → Spells (dim_after strict v before) from d rest → IsSoundDim v d × IsName d.name × (not (has_record_dim before && (d.len == 0)) ≡ true)
 unfolding Spells dim_part
 dim-sound v before from d rest (text, m, s, (len, m2, (k, c, e), (whole, end))) =
     let named = name-sound v from text m s in
@@ -121,7 +121,7 @@ one-more b before dim h h2 = grind (arith, length-append)
 only-one : (has b : Bool) → not (has && b) ≡ true → b ≡ true → has ≡ false
 only-one has b h e = grind arith
 
-dims-one : (v : Version) (dims before : List Dim) (from rest : Bytes) → SpellsEach (dim_after v) before from dims rest
+dims-one : (v : Version) (dims before : List Dim) (from rest : Bytes) → SpellsEach (dim_after strict v) before from dims rest
     → length (record_dims before) ≤ 1 → length (record_dims (before ++ dims)) ≤ 1
 dims-one v [] before from rest s one = subst (λ (ds : List Dim). length (record_dims ds) ≤ 1) (sym (append-nil before)) one
 dims-one v (dim ∷ dims) before from rest s one =
@@ -167,14 +167,14 @@ pub record AreSoundAtts (v : Version) (atts : List Att) : Type 0 where
   pub sound : All (IsSoundAtt v) atts
   pub names : All (λ (att : Att). IsName att.name) atts
 
-atts-sound : (v : Version) (from : Bytes) (atts : List Att) (rest : Bytes) → Spells (att_list v) from atts rest → AreSoundAtts v atts
+atts-sound : (v : Version) (from : Bytes) (atts : List Att) (rest : Bytes) → Spells (att_list strict v) from atts rest → AreSoundAtts v atts
 unfolding att_list
 atts-sound v from atts rest s =
-    let es = list-elements v attribute_tag (att_after v) from atts rest s in
+    let es = list-elements v attribute_tag (att_after strict v) from atts rest s in
     record {
       count = es.count;
-      sound = all-each (att_after v) (IsSoundAtt v) (λ before from a rest s. (att-sound v from a rest s).0) atts [] es.start rest es.each;
-      names = all-each (att_after v) (λ (att : Att). IsName att.name) (λ before from a rest s. (att-sound v from a rest s).1) atts [] es.start rest es.each;
+      sound = all-each (att_after strict v) (IsSoundAtt v) (λ before from a rest s. (att-sound v from a rest s).0) atts [] es.start rest es.each;
+      names = all-each (att_after strict v) (λ (att : Att). IsName att.name) (λ before from a rest s. (att-sound v from a rest s).1) atts [] es.start rest es.each;
     }
 
 -- this variable keeps the limits after those before it
@@ -197,7 +197,7 @@ HasNames var = IsName var.name × All (λ (att : Att). IsName att.name) var.atts
 abbrev SoundVar : Version → List Dim → List Var → Var → Type 0
 SoundVar v dims before x = IsSoundVar v dims x × HasNames x × IsWithinLimits dims before x
 
-var-sound : (v : Version) (dims : List Dim) (before : List Var) (from : Bytes) (x : Var) (rest : Bytes) → Spells (var_after v dims before) from x rest → SoundVar v dims before x
+var-sound : (v : Version) (dims : List Dim) (before : List Var) (from : Bytes) (x : Var) (rest : Bytes) → Spells (var_after strict v dims before) from x rest → SoundVar v dims before x
 unfolding Spells var_part
 var-sound v dims before from x rest (text, m, s, (ids, m2, sh, (atts, m3, a, (ty, m4, (t, ts, e), (vsize, m5, vs, (begin, m6, b, (whole, end))))))) =
     let named = name-sound v from text m s in
@@ -213,7 +213,7 @@ var-sound v dims before from x rest (text, m, s, (ids, m2, sh, (atts, m3, a, (ty
 
 -- ---- the record size
 
-vars-small : (v : Version) (dims : List Dim) (vars before : List Var) (from rest : Bytes) → SpellsEach (var_after v dims) before from vars rest
+vars-small : (v : Version) (dims : List Dim) (vars before : List Var) (from rest : Bytes) → SpellsEach (var_after strict v dims) before from vars rest
     → padded_total dims (record_vars dims before) ≤ record_limit → padded_total dims (record_vars dims (before ++ vars)) ≤ record_limit
 vars-small v dims [] before from rest s small = subst (λ (vs : List Var). padded_total dims (record_vars dims vs) ≤ record_limit) (sym (append-nil before)) small
 vars-small v dims (x ∷ vars) before from rest s small =
@@ -246,11 +246,11 @@ pub record IsSoundAndNamed (h : Header) : Type 0 where
   pub names : HasValidNames h
 
 pub spelled-sound : (from : Bytes) (h : Header) (rest : Bytes) → Spells header_part from h rest → IsSoundAndNamed h
-unfolding Spells header_part dim_list var_list
+unfolding Spells header_by dim_list var_list
 spelled-sound from h rest (v, m, s, (n, m2, ns, (dims, m3, d, (gatts, m4, g, (vars, m5, vs, (whole, end)))))) =
-    let ds = list-elements v dimension_tag (dim_after v) m2 dims m3 d in
+    let ds = list-elements v dimension_tag (dim_after strict v) m2 dims m3 d in
     let listed = atts-sound v m3 gatts m4 g in
-    let xs = list-elements v variable_tag (var_after v dims) m4 vars m5 vs in
+    let xs = list-elements v variable_tag (var_after strict v dims) m4 vars m5 vs in
     let records = vars-small v dims vars [] xs.start m5 xs.each (omega arith) in
     let packed = record_size_of-le-padded dims (record_vars dims vars) in
     subst IsSoundAndNamed (sym whole)
@@ -258,17 +258,17 @@ spelled-sound from h rest (v, m, s, (n, m2, ns, (dims, m3, d, (gatts, m4, g, (va
       sound = record {
         numrecs = numrecs-sound v m n m2 ns;
         dim_count = ds.count;
-        dims = all-each (dim_after v) (IsSoundDim v) (λ before from x rest s. (dim-sound v before from x rest s).0) dims [] ds.start m3 ds.each;
+        dims = all-each (dim_after strict v) (IsSoundDim v) (λ before from x rest s. (dim-sound v before from x rest s).0) dims [] ds.start m3 ds.each;
         one_record_dim = dims-one v dims [] ds.start m3 ds.each (omega arith);
         gatt_count = listed.count;
         gatts = listed.sound;
         var_count = xs.count;
-        vars = all-each (var_after v dims) (IsSoundVar v dims) (λ before from x rest s. (var-sound v dims before from x rest s).0) vars [] xs.start m5 xs.each;
+        vars = all-each (var_after strict v dims) (IsSoundVar v dims) (λ before from x rest s. (var-sound v dims before from x rest s).0) vars [] xs.start m5 xs.each;
         small_records = omega (arith, packed, records);
       };
       names = record {
-        dims = all-each (dim_after v) (λ (dim : Dim). IsName dim.name) (λ before from x rest s. (dim-sound v before from x rest s).1) dims [] ds.start m3 ds.each;
+        dims = all-each (dim_after strict v) (λ (dim : Dim). IsName dim.name) (λ before from x rest s. (dim-sound v before from x rest s).1) dims [] ds.start m3 ds.each;
         gatts = listed.names;
-        vars = all-each (var_after v dims) HasNames (λ before from x rest s. (var-sound v dims before from x rest s).1) vars [] xs.start m5 xs.each;
+        vars = all-each (var_after strict v dims) HasNames (λ before from x rest s. (var-sound v dims before from x rest s).1) vars [] xs.start m5 xs.each;
       };
     })

@@ -1,6 +1,7 @@
 -- Definition. The header of a file, from its numbers to `header_part` at the end. Above each part stands the line that the NetCDF Classic
 -- Format Specification has for it, with what it says of padding in brackets. `Name ∶ p` puts a part under a step. `p is f` is one field of a
 -- whole: p spells it, and f finds it in a whole that is to be written. A sentence that begins with `Project:` is a rule of this project.
+-- What readers may differ in is a record of rules, which most parts take.
 use Rattle.std.specs.Prelude.{ℕ, zero, suc, ◌≡◌, ◌+◌, ◌*◌, ◌/◌, ◌^◌, ◌-◌, ◌==◌, ◌&&◌, ◌||◌, Bool, not, nat_lt, nat_le, if◌then◌else◌, List, [], ◌∷◌, ◌++◌, length, drop, replicate, codes, slice_index, Option, Some, None, Result, Ok, Err, ok_or}
 use Rattle.std.specs.Int.{Width, w32, to_be_bytes, from_be_bytes, byte_len}
 use Rattle.std.specs.Str.{bytes_eq}
@@ -39,6 +40,30 @@ step ∶ p = under step p
 abbrev pub checked : {A : Type 0} → (A → Bool) → FormatFault → Part A → Part A
 checked test fault p = decoded (λ x. if test x then Ok x else Err fault) (λ x. x) p
 
+-- ---- rules
+
+-- what readers may differ in
+pub record Rules : Type 0 where
+  -- which bytes are a valid name
+  pub is_valid : Bytes → Bool
+  -- the type with this code
+  pub type_in : Version → ℕ → Result NcType FormatFault
+  -- what is kept of an attribute's values
+  pub kept : Bytes → Bytes
+
+-- the type, if it is one of the version's
+abbrev pub known_type : Version → Option NcType → Option NcType
+known_type v (Some ty) = if has_type v ty then Some ty else None
+known_type v None = None
+
+-- the version's type with this code. Project: float, whose code is 5, and double, 6, are refused.
+abbrev pub type_in : Version → ℕ → Result NcType FormatFault
+type_in v code = if (code == 5) || (code == 6) then Err FloatingType else ok_or (known_type v (type_of_code code)) BadType
+
+-- the rules of a header whose values are read or written. Project: a name need not be in normal form NFC.
+abbrev pub strict : Rules
+strict = record { is_valid = is_name; type_in = type_in; kept = λ vals. vals }
+
 -- ---- numbers
 
 -- a big-endian number (a list of bytes could hold a number above 255, which would count as it is; a file holds none)
@@ -53,35 +78,24 @@ count_part v = checked (λ n. nat_lt n (count_limit v)) BadCount (number (count_
 unfoldable pub offset_part : Version → Part ℕ
 offset_part v = checked (λ n. nat_lt n (offset_limit v)) BadOffset (number (offset_width v))
 
--- ---- bytes and names
+-- ---- bytes, names and types
 
 -- n bytes, which are written as zeros. Project: they may have any value.
 unfoldable pub ignored : ℕ → Part (Unit {0})
 ignored n = decoded (λ any. Ok tt) (λ nothing. replicate n 0) (bytes n HeaderTruncated)
 
 -- name = nelems namestring  (filled up to the next multiple of four)
--- namestring = ID1 [IDN ...] padding  (`is_name` has ID1 and IDN; Project: a name need not be in normal form NFC)
-unfoldable pub name_part : Version → Part Bytes
-name_part v = do
+-- namestring = ID1 [IDN ...] padding  (`is_name` has ID1 and IDN)
+unfoldable pub name_part : Rules → Version → Part Bytes
+name_part r v = do
   n ← Length ∶ count_part v is length
-  text ← Text ∶ checked is_name BadName (bytes n HeaderTruncated) is λ text. text
+  text ← Text ∶ checked r.is_valid BadName (bytes n HeaderTruncated) is λ text. text
   padding ← Padding ∶ ignored (padding_len n) is λ text. tt
   done text
 
--- ---- types
-
--- the type, if it is one of the version's
-abbrev pub known_type : Version → Option NcType → Option NcType
-known_type v (Some ty) = if has_type v ty then Some ty else None
-known_type v None = None
-
--- the version's type with this code. Project: float, whose code is 5, and double, 6, are refused.
-abbrev pub type_in : Version → ℕ → Result NcType FormatFault
-type_in v code = if (code == 5) || (code == 6) then Err FloatingType else ok_or (known_type v (type_of_code code)) BadType
-
 -- nc_type = NC_BYTE | NC_CHAR | NC_SHORT | NC_INT | .. | NC_UINT64
-unfoldable pub type_part : Version → Part NcType
-type_part v = decoded (type_in v) code_of (number w32)
+unfoldable pub type_part : Rules → Version → Part NcType
+type_part r v = decoded (r.type_in v) code_of (number w32)
 
 -- ---- lists
 
@@ -131,37 +145,37 @@ list_part v tag element = do
 -- ---- dimensions and attributes
 
 -- dim = name dim_length  (a length of 0 marks the record dimension; there is at most one)
-unfoldable pub dim_part : Version → Bool → Part Dim
-dim_part v has_record = do
-  name ← Name ∶ name_part v is λ dim. dim.name
+unfoldable pub dim_part : Rules → Version → Bool → Part Dim
+dim_part r v has_record = do
+  name ← Name ∶ name_part r v is λ dim. dim.name
   len ← Length ∶ checked (λ len. not (has_record && (len == 0))) TwoRecordDims (count_part v) is λ dim. dim.len
   done (record { name = name; len = len })
 
 -- the next one, after those in `before`
-abbrev pub dim_after : Version → List Dim → Part Dim
-dim_after v before = dim_part v (has_record_dim before)
+abbrev pub dim_after : Rules → Version → List Dim → Part Dim
+dim_after r v before = dim_part r v (has_record_dim before)
 
 -- dim_list = ABSENT | NC_DIMENSION nelems [dim ...]
-unfoldable pub dim_list : Version → Part (List Dim)
-dim_list v = list_part v dimension_tag (dim_after v)
+unfoldable pub dim_list : Rules → Version → Part (List Dim)
+dim_list r v = list_part v dimension_tag (dim_after r v)
 
 -- attr = name nc_type nelems [values ...]  (filled up to the next multiple of four)
-unfoldable pub att_part : Version → Part Att
-att_part v = do
-  name ← Name ∶ name_part v is λ att. att.name
-  ty ← TypeCode ∶ type_part v is λ att. att.ty
+unfoldable pub att_part : Rules → Version → Part Att
+att_part r v = do
+  name ← Name ∶ name_part r v is λ att. att.name
+  ty ← TypeCode ∶ type_part r v is λ att. att.ty
   n ← Count ∶ count_part v is λ att. length att.vals / size_of att.ty
   vals ← Values ∶ bytes (n * size_of ty) HeaderTruncated is λ att. att.vals
   padding ← Padding ∶ ignored (padding_len (length vals)) is λ att. tt
-  done (record { name = name; ty = ty; vals = vals })
+  done (record { name = name; ty = ty; vals = r.kept vals })
 
 -- the next one, after those in `before`
-abbrev pub att_after : Version → List Att → Part Att
-att_after v before = att_part v
+abbrev pub att_after : Rules → Version → List Att → Part Att
+att_after r v before = att_part r v
 
 -- gatt_list, vatt_list = ABSENT | NC_ATTRIBUTE nelems [attr ...]
-unfoldable pub att_list : Version → Part (List Att)
-att_list v = list_part v attribute_tag (att_after v)
+unfoldable pub att_list : Rules → Version → Part (List Att)
+att_list r v = list_part v attribute_tag (att_after r v)
 
 -- ---- variables
 
@@ -198,23 +212,23 @@ vsize_of v size = if nat_lt size (2 ^ 32) then size else (2 ^ 32 - 1)
 
 -- var = name nelems [dimid ...] vatt_list nc_type vsize begin  (begin = OFFSET)
 -- Project: vsize may be any number. If a variable is too large, its type is the wrong field.
-unfoldable pub var_part : Version → List Dim → ℕ → Part Var
-var_part v dims total = do
-  name ← Name ∶ name_part v is λ var. var.name
+unfoldable pub var_part : Rules → Version → List Dim → ℕ → Part Var
+var_part r v dims total = do
+  name ← Name ∶ name_part r v is λ var. var.name
   dimids ← Shape ∶ shape_part v dims is λ var. var.dimids
-  atts ← Atts ∶ att_list v is λ var. var.atts
-  ty ← TypeCode ∶ checked (is_within_limits dims total dimids) TooLarge (type_part v) is λ var. var.ty
+  atts ← Atts ∶ att_list r v is λ var. var.atts
+  ty ← TypeCode ∶ checked (is_within_limits dims total dimids) TooLarge (type_part r v) is λ var. var.ty
   vsize ← Vsize ∶ number (count_width v) is λ var. vsize_of v (padded_size dims var)
   begin ← Begin ∶ offset_part v is λ var. var.begin_at
   done (record { name = name; dimids = dimids; atts = atts; ty = ty; begin_at = begin })
 
 -- the next one, after those in `before`
-abbrev pub var_after : Version → List Dim → List Var → Part Var
-var_after v dims before = var_part v dims (padded_total dims (record_vars dims before))
+abbrev pub var_after : Rules → Version → List Dim → List Var → Part Var
+var_after r v dims before = var_part r v dims (padded_total dims (record_vars dims before))
 
 -- var_list = ABSENT | NC_VARIABLE nelems [var ...]
-unfoldable pub var_list : Version → List Dim → Part (List Var)
-var_list v dims = list_part v variable_tag (var_after v dims)
+unfoldable pub var_list : Rules → Version → List Dim → Part (List Var)
+var_list r v dims = list_part v variable_tag (var_after r v dims)
 
 -- ---- the whole
 
@@ -245,14 +259,18 @@ unfoldable pub numrecs_part : Version → Part NumRecs
 numrecs_part v = decoded (numrecs_in v) (number_of_numrecs v) (number (count_width v))
 
 -- header = magic numrecs dim_list gatt_list var_list
-unfoldable pub header_part : Part Header
-header_part = do
+unfoldable pub header_by : Rules → Part Header
+header_by r = do
   v ← magic_part is λ h. h.version
   numrecs ← Records ∶ numrecs_part v is λ h. h.numrecs
-  dims ← Dims ∶ dim_list v is λ h. h.dims
-  gatts ← Gatts ∶ att_list v is λ h. h.gatts
-  vars ← Vars ∶ var_list v dims is λ h. h.vars
+  dims ← Dims ∶ dim_list r v is λ h. h.dims
+  gatts ← Gatts ∶ att_list r v is λ h. h.gatts
+  vars ← Vars ∶ var_list r v dims is λ h. h.vars
   done (record { version = v; numrecs = numrecs; dims = dims; gatts = gatts; vars = vars })
+
+-- the header of a file whose values are read or written
+abbrev pub header_part : Part Header
+header_part = header_by strict
 
 -- the bytes begin with a spelling of the header, and go on with the rest
 abbrev pub SpellsHeader : Bytes → Header → Bytes → Type 0

@@ -2,7 +2,7 @@
 use Rattle.std.proofs.Common.{◌≡◌, ℕ, ◌+◌, ◌*◌, ◌≤◌, min, take, Bool, false, List, [], ◌∷◌, ◌++◌, length, refl, sym, ap, ◌∙◌, arith, rules}
 use Rattle.nc_base.specs.Parts.{Part, bytes}
 use Rattle.nc_base.specs.code.PartRuns.{printed_len}
-use Rattle.nc_base.specs.Grammar.{count_part, ignored, name_part, type_part, list_head, list_part, dim_part, dim_after, dim_list, att_part, att_after, att_list, dimid_part, dimid_after, counted, shape_part, var_part, var_after, var_list, version_part, magic_part, numrecs_part, header_part}
+use Rattle.nc_base.specs.Grammar.{count_part, ignored, name_part, type_part, list_head, list_part, dim_part, dim_after, dim_list, att_part, att_after, att_list, dimid_part, dimid_after, counted, shape_part, var_part, var_after, var_list, version_part, magic_part, numrecs_part, header_part, strict, header_by}
 use Rattle.nc_base.proofs.PartLens.{each_len}
 use Rattle.nc_base.proofs.PartLens.{each-len, count-len, ignored-len, field_lens, print-len}
 use Rattle.nc_file.proofs.Prelude.{HeaderTruncated, take_all, Att, Dim, Header, NumRecs, Var, Version, NcType, byte_len, count_width, offset_width, padding_len, sum_by, sum_by-cons, header_spelling}
@@ -11,33 +11,33 @@ use Rattle.nc_file.proofs.Prelude.{HeaderTruncated, take_all, Att, Dim, Header, 
 abbrev pub count_bytes : Version → ℕ
 count_bytes v = byte_len (count_width v)
 
-pub name-len : (v : Version) (name : List ℕ) → printed_len (name_part v) name ≡ count_bytes v + (length name + padding_len (length name))
+pub name-len : (v : Version) (name : List ℕ) → printed_len (name_part strict v) name ≡ count_bytes v + (length name + padding_len (length name))
 unfolding printed_len name_part
 name-len v name = search (rules, field_lens)
 
 -- a name that was read
 pub name-used : (v : Version) (name : List ℕ) (n padding at after_len after_text end : ℕ) → length name ≡ n → padding ≡ padding_len n → at + printed_len (count_part v) n ≡ after_len
-    → after_len + printed_len (bytes n HeaderTruncated) name ≡ after_text → after_text + printed_len (ignored padding) tt ≡ end → at + printed_len (name_part v) name ≡ end
+    → after_len + printed_len (bytes n HeaderTruncated) name ≡ after_text → after_text + printed_len (ignored padding) tt ≡ end → at + printed_len (name_part strict v) name ≡ end
 unfolding printed_len
 name-used v name n padding at after_len after_text end len is a b c =
     omega (arith, name-len v name, count-len v n, ignored-len padding, ap padding_len len, len, is, a, b, c)
 
-pub type-len : (v : Version) (ty : NcType) → printed_len (type_part v) ty ≡ 4
+pub type-len : (v : Version) (ty : NcType) → printed_len (type_part strict v) ty ≡ 4
 unfolding printed_len type_part
 type-len v ty = search (rules, field_lens)
 
-pub dim-len : (v : Version) (b : Bool) (dim : Dim) → printed_len (dim_part v b) dim ≡ printed_len (name_part v) dim.name + count_bytes v
+pub dim-len : (v : Version) (b : Bool) (dim : Dim) → printed_len (dim_part strict v b) dim ≡ printed_len (name_part strict v) dim.name + count_bytes v
 unfolding printed_len dim_part
 dim-len v b dim = search (rules, field_lens)
 
 pub att-len : (v : Version) (att : Att)
-    → printed_len (att_part v) att ≡ printed_len (name_part v) att.name + (4 + (count_bytes v + (length att.vals + padding_len (length att.vals))))
+    → printed_len (att_part strict v) att ≡ printed_len (name_part strict v) att.name + (4 + (count_bytes v + (length att.vals + padding_len (length att.vals))))
 unfolding printed_len att_part
 att-len v att = search (rules, field_lens, type-len)
 
 -- an attribute that was read
-pub att-used : (v : Version) (att : Att) (n at after_name after_type after_count after_values end : ℕ) → at + printed_len (name_part v) att.name ≡ after_name → after_name + printed_len (type_part v) att.ty ≡ after_type
-    → after_type + printed_len (count_part v) n ≡ after_count → after_count + length att.vals ≡ after_values → after_values + printed_len (ignored (padding_len (length att.vals))) tt ≡ end → at + printed_len (att_part v) att ≡ end
+pub att-used : (v : Version) (att : Att) (n at after_name after_type after_count after_values end : ℕ) → at + printed_len (name_part strict v) att.name ≡ after_name → after_name + printed_len (type_part strict v) att.ty ≡ after_type
+    → after_type + printed_len (count_part v) n ≡ after_count → after_count + length att.vals ≡ after_values → after_values + printed_len (ignored (padding_len (length att.vals))) tt ≡ end → at + printed_len (att_part strict v) att ≡ end
 att-used v att n at after_name after_type after_count after_values end a b c d e =
     omega (arith, att-len v att, type-len v att.ty, count-len v n, ignored-len (padding_len (length att.vals)), a, b, c, d, e)
 
@@ -58,13 +58,13 @@ list-len : {A : Type 0} (v : Version) (tag : ℕ) (element : List A → Part A) 
 unfolding printed_len list_part
 list-len v tag element size xs one = omega (arith, head-len v tag (length xs), each-len element (length xs) xs refl, each-sum element size one [] xs)
 
-pub dims-len : (v : Version) (dims : List Dim) → printed_len (dim_list v) dims ≡ (4 + count_bytes v) + sum_by (printed_len (dim_part v false)) dims
+pub dims-len : (v : Version) (dims : List Dim) → printed_len (dim_list strict v) dims ≡ (4 + count_bytes v) + sum_by (printed_len (dim_part strict v false)) dims
 unfolding dim_list
-dims-len v dims = list-len v _ (dim_after v) (printed_len (dim_part v false)) dims (λ before dim. dim-len v _ dim ∙ sym (dim-len v false dim))
+dims-len v dims = list-len v _ (dim_after strict v) (printed_len (dim_part strict v false)) dims (λ before dim. dim-len v _ dim ∙ sym (dim-len v false dim))
 
-pub atts-len : (v : Version) (atts : List Att) → printed_len (att_list v) atts ≡ (4 + count_bytes v) + sum_by (printed_len (att_part v)) atts
+pub atts-len : (v : Version) (atts : List Att) → printed_len (att_list strict v) atts ≡ (4 + count_bytes v) + sum_by (printed_len (att_part strict v)) atts
 unfolding att_list
-atts-len v atts = list-len v _ (att_after v) (printed_len (att_part v)) atts (λ before att. refl)
+atts-len v atts = list-len v _ (att_after strict v) (printed_len (att_part strict v)) atts (λ before att. refl)
 
 -- ---- variables
 
@@ -82,13 +82,13 @@ shape-len v dims ids =
     omega (arith, count-len v (length ids), each-len (dimid_after v dims) (length ids) ids refl, each-sum (dimid_after v dims) (λ (id : ℕ). count_bytes v) (dimid-len v dims) [] ids, ids-sum v ids)
 
 pub var-len : (v : Version) (dims : List Dim) (total : ℕ) (var : Var)
-    → printed_len (var_part v dims total) var ≡ printed_len (name_part v) var.name + ((count_bytes v + length var.dimids * count_bytes v) + (printed_len (att_list v) var.atts + (4 + (count_bytes v + byte_len (offset_width v)))))
+    → printed_len (var_part strict v dims total) var ≡ printed_len (name_part strict v) var.name + ((count_bytes v + length var.dimids * count_bytes v) + (printed_len (att_list strict v) var.atts + (4 + (count_bytes v + byte_len (offset_width v)))))
 unfolding printed_len var_part
 var-len v dims total var = search (rules, field_lens, type-len, shape-len)
 
-pub vars-len : (v : Version) (dims : List Dim) (vars : List Var) → printed_len (var_list v dims) vars ≡ (4 + count_bytes v) + sum_by (printed_len (var_part v [] 0)) vars
+pub vars-len : (v : Version) (dims : List Dim) (vars : List Var) → printed_len (var_list strict v dims) vars ≡ (4 + count_bytes v) + sum_by (printed_len (var_part strict v [] 0)) vars
 unfolding var_list
-vars-len v dims vars = list-len v _ (var_after v dims) (printed_len (var_part v [] 0)) vars (λ before var. var-len v dims _ var ∙ sym (var-len v [] 0 var))
+vars-len v dims vars = list-len v _ (var_after strict v dims) (printed_len (var_part strict v [] 0)) vars (λ before var. var-len v dims _ var ∙ sym (var-len v [] 0 var))
 
 -- ---- the whole
 
@@ -100,11 +100,11 @@ numrecs-len : (v : Version) (numrecs : NumRecs) → printed_len (numrecs_part v)
 unfolding printed_len numrecs_part
 numrecs-len v numrecs = search (rules, field_lens)
 
-parts-len : (h : Header) → printed_len header_part h ≡ (4 + count_bytes h.version) + (printed_len (dim_list h.version) h.dims + (printed_len (att_list h.version) h.gatts + printed_len (var_list h.version h.dims) h.vars))
-unfolding printed_len header_part
+parts-len : (h : Header) → printed_len header_part h ≡ (4 + count_bytes h.version) + (printed_len (dim_list strict h.version) h.dims + (printed_len (att_list strict h.version) h.gatts + printed_len (var_list strict h.version h.dims) h.vars))
+unfolding printed_len header_by
 parts-len h = omega (arith, magic-len h.version, numrecs-len h.version h.numrecs)
 
-pub header-len : (h : Header) → length (header_spelling h) ≡ (4 + count_bytes h.version) + (printed_len (dim_list h.version) h.dims + (printed_len (att_list h.version) h.gatts + printed_len (var_list h.version []) h.vars))
+pub header-len : (h : Header) → length (header_spelling h) ≡ (4 + count_bytes h.version) + (printed_len (dim_list strict h.version) h.dims + (printed_len (att_list strict h.version) h.gatts + printed_len (var_list strict h.version []) h.vars))
 header-len h = omega (arith, print-len header_part h, parts-len h, vars-len h.version h.dims h.vars, vars-len h.version [] h.vars)
 
 -- ---- sums that stop at a limit

@@ -2,31 +2,31 @@
 use Rattle.std.proofs.Common.{◌≡◌, ℕ, Bool, false, List, ◌++◌, length, refl, ap}
 use Rattle.nc_base.proofs.PrintedLists.{each-printed, list-printed}
 use Rattle.nc_base.specs.Parts.{print}
-use Rattle.nc_base.specs.Grammar.{number, count_part, list_head, dim_part, dim_after, dim_list, att_part, att_after, att_list, dimid_part, dimid_after, shape_part, counted, var_part, var_after, var_list, dimension_tag, attribute_tag, variable_tag}
+use Rattle.nc_base.specs.Grammar.{number, count_part, list_head, dim_part, dim_after, dim_list, att_part, att_after, att_list, dimid_part, dimid_after, shape_part, counted, var_part, var_after, var_list, dimension_tag, attribute_tag, variable_tag, strict}
 use Rattle.devices.proofs.Writes.{writes}
 use Rattle.nc_file.proofs.Prelude.{Att, Dim, Var, Version, flat_map, count_width}
 
 -- what stands before it leaves no trace in how a dimension is written
-any-dim : (v : Version) (b : Bool) (dim : Dim) → print (dim_part v b) dim ≡ print (dim_part v false) dim
+any-dim : (v : Version) (b : Bool) (dim : Dim) → print (dim_part strict v b) dim ≡ print (dim_part strict v false) dim
 unfolding print dim_part
 any-dim v b dim = refl
 
-pub dims-print : (v : Version) (dims : List Dim) → print (dim_list v) dims ≡ print (list_head v dimension_tag) (length dims) ++ flat_map (print (dim_part v false)) dims
+pub dims-print : (v : Version) (dims : List Dim) → print (dim_list strict v) dims ≡ print (list_head v dimension_tag) (length dims) ++ flat_map (print (dim_part strict v false)) dims
 unfolding dim_list
-dims-print v dims = list-printed v dimension_tag (dim_after v) (print (dim_part v false)) dims (λ before dim. any-dim v _ dim)
+dims-print v dims = list-printed v dimension_tag (dim_after strict v) (print (dim_part strict v false)) dims (λ before dim. any-dim v _ dim)
 
-pub atts-print : (v : Version) (atts : List Att) → print (att_list v) atts ≡ print (list_head v attribute_tag) (length atts) ++ flat_map (print (att_part v)) atts
+pub atts-print : (v : Version) (atts : List Att) → print (att_list strict v) atts ≡ print (list_head v attribute_tag) (length atts) ++ flat_map (print (att_part strict v)) atts
 unfolding att_list
-atts-print v atts = list-printed v attribute_tag (att_after v) (print (att_part v)) atts (λ before att. refl)
+atts-print v atts = list-printed v attribute_tag (att_after strict v) (print (att_part strict v)) atts (λ before att. refl)
 
 -- nor in how a variable is
-any-var : (v : Version) (dims : List Dim) (total : ℕ) (var : Var) → print (var_part v dims total) var ≡ print (var_part v dims 0) var
+any-var : (v : Version) (dims : List Dim) (total : ℕ) (var : Var) → print (var_part strict v dims total) var ≡ print (var_part strict v dims 0) var
 unfolding print var_part
 any-var v dims total var = refl
 
-pub vars-print : (v : Version) (dims : List Dim) (vars : List Var) → print (var_list v dims) vars ≡ print (list_head v variable_tag) (length vars) ++ flat_map (print (var_part v dims 0)) vars
+pub vars-print : (v : Version) (dims : List Dim) (vars : List Var) → print (var_list strict v dims) vars ≡ print (list_head v variable_tag) (length vars) ++ flat_map (print (var_part strict v dims 0)) vars
 unfolding var_list
-vars-print v dims vars = list-printed v variable_tag (var_after v dims) (print (var_part v dims 0)) vars (λ before var. any-var v dims _ var)
+vars-print v dims vars = list-printed v variable_tag (var_after strict v dims) (print (var_part strict v dims 0)) vars (λ before var. any-var v dims _ var)
 
 pub ruleset list_prints = (dims-print, atts-print, vars-print, writes)
 

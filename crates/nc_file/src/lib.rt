@@ -28,5 +28,6 @@ pub use devices::{
     Opener, Sink, SinkFailed, SliceSink, Source, SourceFailed, SystemFiles, WriteFailed, put,
 };
 pub use head_fault::HeadFault;
-pub use read::read_header;
+pub use read::{is_dimid, read_header, total_with, type_in};
+pub use window::Window;
 pub use write::{OffsetTooLarge, header_len, with_begins, write_header};

@@ -21,14 +21,22 @@ use std::alloc::Global;
 /// Unless its own comment says otherwise, a function that reads through the window errs with `HeaderTruncated` if the source ends too
 /// early, with `ReadFailed` if the source fails, and with `OutOfMemory` if an allocation fails. Its other errors are those that its own
 /// comment names, and those of the functions that it calls. After an error nothing more is read through the window.
+///
+/// A new window holds nothing: `len` is the length of the source, and `base`, `filled` and `pos` are 0.
 #[derive(Drop)]
-pub(crate) struct Window<'a, S: Source> {
-    pub(crate) source: &'a mut S,
-    pub(crate) len: u64,
-    pub(crate) buf: &'a mut [u8],
-    pub(crate) base: u64,
-    pub(crate) filled: usize,
-    pub(crate) pos: usize,
+pub struct Window<'a, S: Source> {
+    /// The source.
+    pub source: &'a mut S,
+    /// How many bytes the source has.
+    pub len: u64,
+    /// The buffer.
+    pub buf: &'a mut [u8],
+    /// The offset of the first byte in the buffer.
+    pub base: u64,
+    /// How many bytes of the source the buffer holds.
+    pub filled: usize,
+    /// How many of them have been used.
+    pub pos: usize,
     ghost knows_len: { len ≡ length (S.view source.now).bytes },
     ghost used: { pos ≤ filled },
     ghost fits: { filled ≤ length buf.now },
@@ -38,7 +46,7 @@ pub(crate) struct Window<'a, S: Source> {
 }
 
 impl<S: Source> Window<'_, S> {
-    ghost use Rattle.nc_file.specs.code.Window.{FailsOnly, Filled, Kept, Read, Ready, Refilled, TookByte, TookSome};
+    ghost use Rattle.nc_file.specs.code.Window.{FailsOnly, Filled, Kept, Read, Ready, Refilled, TookByte, TookSome, next_of};
 
     /// Reads the next bytes of the source in place of those in the window, and returns true if at least one came, or false if the source
     /// has no more. If the source fails, it errs with `ReadFailed`, and the window holds no bytes. Needs a window whose bytes have all been
@@ -67,9 +75,18 @@ impl<S: Source> Window<'_, S> {
         Ok(0 < n)
     }
 
+    /// Returns the offset of the next byte in the source.
+    pub fn offset_of_next(&self) -> u64
+        ensures { result ≡ next_of self.now }
+    {
+        let used = self.pos as u64;
+        prove!(self.base <= self.len && used <= self.len - self.base);
+        self.base + used
+    }
+
     /// Makes sure that the window holds a byte that hasn't been used. Reads from the source only if all bytes that it holds have been used.
     /// Errs with `HeaderTruncated` if the source has no byte left, and with `ReadFailed` if the source fails.
-    fn ensure_byte(&mut self) -> Result<(), HeadFault>
+    pub fn ensure_byte(&mut self) -> Result<(), HeadFault>
         ensures kept { Kept self.old self.new }
         ensures cause { FailsOnly self.old self.new result }
         ensures filled { Filled self.old self.new result }
@@ -94,7 +111,7 @@ impl<S: Source> Window<'_, S> {
 
     /// Reads `N` bytes, and returns them: by one copy if the window holds them all, otherwise byte by byte. Errs with
     /// `HeaderTruncated` if fewer are left, and with `ReadFailed` if the source fails.
-    pub(crate) fn array<const N: usize>(&mut self) -> Result<[u8; N], HeadFault>
+    pub fn array<const N: usize>(&mut self) -> Result<[u8; N], HeadFault>
         ensures { Read self.old self.new (bytes N HeaderTruncated) result }
     {
         if self.filled - self.pos < N {
@@ -130,7 +147,7 @@ impl<S: Source> Window<'_, S> {
     /// Reads a big-endian number of four bytes. Errs with `HeaderTruncated` if fewer are left, and with `ReadFailed` if the source
     /// fails.
     #[tactic(auto, using(crate::proofs::PartRuns::part_runs), unfolding(nc_base::specs::Grammar::number, nc_base::specs::code::PartRuns::printed_len))]
-    pub(crate) fn read_u32(&mut self) -> Result<u32, HeadFault>
+    pub fn read_u32(&mut self) -> Result<u32, HeadFault>
         ensures { Read self.old self.new (number w32) result }
     {
         let bytes: [u8; 4] = self.array()?;
@@ -140,7 +157,7 @@ impl<S: Source> Window<'_, S> {
     /// Reads a big-endian number of eight bytes. Errs with `HeaderTruncated` if fewer are left, and with `ReadFailed` if the source
     /// fails.
     #[tactic(auto, using(crate::proofs::PartRuns::part_runs), unfolding(nc_base::specs::Grammar::number, nc_base::specs::code::PartRuns::printed_len))]
-    pub(crate) fn read_u64(&mut self) -> Result<u64, HeadFault>
+    pub fn read_u64(&mut self) -> Result<u64, HeadFault>
         ensures { Read self.old self.new (number w64) result }
     {
         let bytes: [u8; 8] = self.array()?;
@@ -149,7 +166,7 @@ impl<S: Source> Window<'_, S> {
 
     /// Reads a big-endian number of the width that counts have in the version, eight bytes in CDF-5 and otherwise four. Any value is
     /// allowed. Errs with `HeaderTruncated` if fewer bytes are left, and with `ReadFailed` if the source fails.
-    pub(crate) fn number(&mut self, version: Version) -> Result<u64, HeadFault>
+    pub fn number(&mut self, version: Version) -> Result<u64, HeadFault>
         ensures { Read self.old self.new (number (count_width version)) result }
     {
         match version {
@@ -160,7 +177,7 @@ impl<S: Source> Window<'_, S> {
 
     /// Reads a big-endian number of four bytes, and returns it as a `u64`, for a field that has eight bytes in other versions. Errs with
     /// `HeaderTruncated` if fewer are left, and with `ReadFailed` if the source fails.
-    pub(crate) fn read_u32_as_u64(&mut self) -> Result<u64, HeadFault>
+    pub fn read_u32_as_u64(&mut self) -> Result<u64, HeadFault>
         ensures { Read self.old self.new (number w32) result }
     {
         Ok(self.read_u32()? as u64)
@@ -169,7 +186,7 @@ impl<S: Source> Window<'_, S> {
     /// Reads a count or a length (`NON_NEG`), a big-endian number of eight bytes in CDF-5 and otherwise four. Errs with `BadCount` if its
     /// top bit is 1, with `HeaderTruncated` if fewer bytes are left, and with `ReadFailed` if the source fails.
     #[tactic(auto, using(crate::proofs::PartRuns::part_runs), unfolding(nc_base::specs::Grammar::count_part, nc_base::specs::code::PartRuns::printed_len))]
-    pub(crate) fn count(&mut self, version: Version) -> Result<u64, HeadFault>
+    pub fn count(&mut self, version: Version) -> Result<u64, HeadFault>
         ensures { Read self.old self.new (count_part version) result }
     {
         let n = self.number(version)?;
@@ -181,7 +198,7 @@ impl<S: Source> Window<'_, S> {
 
     /// Returns the unused bytes that the window holds, or the first `most` if there are more, without a read of the source. Leaves them
     /// unused. Needs a window with at least one unused byte, and a `most` above 0.
-    fn ready(&self, most: u128) -> &[u8]
+    pub fn ready(&self, most: u128) -> &[u8]
         requires some { self.now.pos < self.now.filled }
         requires most { 0 < most }
         ensures { Ready self.now most result.now }
@@ -215,7 +232,7 @@ impl<S: Source> Window<'_, S> {
 
     /// Reads `n` bytes, and returns them. Errs with `HeaderTruncated` if fewer are left, with `ReadFailed` if the source fails,
     /// and with `OutOfMemory` if an allocation fails.
-    pub(crate) fn bytes(&mut self, alloc: Global, n: u128) -> Result<Sequence<u8>, HeadFault>
+    pub fn bytes(&mut self, alloc: Global, n: u128) -> Result<Sequence<u8>, HeadFault>
         ensures read { Read self.old self.new (bytes n HeaderTruncated) result }
         ensures whole { IfOk result (λ content. length content ≡ n) }
     {
@@ -228,7 +245,7 @@ impl<S: Source> Window<'_, S> {
     }
 
     /// Passes over `n` bytes. Errs with `HeaderTruncated` if fewer are left, and with `ReadFailed` if the source fails.
-    pub(crate) fn skip(&mut self, n: u64) -> Result<(), HeadFault>
+    pub fn skip(&mut self, n: u64) -> Result<(), HeadFault>
         ensures { Read self.old self.new (ignored n) result }
     {
         if ((self.filled - self.pos) as u64) < n {

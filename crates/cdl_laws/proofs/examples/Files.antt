@@ -3,7 +3,7 @@ use Prim.Native.String.{String}
 use Rattle.std.proofs.Common.{◌≡◌, ℕ, List, [], ◌∷◌, ◌++◌, refl, codes, Bool, true, false, drop, map, nat_lt}
 use Rattle.cdl_laws.proofs.Prelude.{Header, Known, Var, Byte, Int, Version, Cdf1, Cdf2, Cdf5, with_begins, offset_limit}
 use Rattle.nc_base.specs.Parts.{print}
-use Rattle.nc_base.specs.Grammar.{var_part}
+use Rattle.nc_base.specs.Grammar.{var_part, strict}
 use Rattle.nc_base.proofs.examples.Written.{hex, dim, var, files_computed}
 use Rattle.cdl_laws.proofs.examples.Written.{file_from, texts_computed}
 
@@ -187,7 +187,7 @@ unfolding files_computed
 offsets_of_64_bits = refl
 
 -- of a variable of 8589934588 bytes: 1 for its rank, its dimension, no attributes, its type, its size and its begin
-size_past_32_bits : drop 8 (print (var_part Cdf1 (dim (codes "x") 2147483647 ∷ []) 0) (var (codes "a") (0 ∷ []) [] Int))
+size_past_32_bits : drop 8 (print (var_part strict Cdf1 (dim (codes "x") 2147483647 ∷ []) 0) (var (codes "a") (0 ∷ []) [] Int))
     ≡ hex ("00000001 00000000  00000000 00000000  00000004" ∷ "ffffffff" ∷ "00000000" ∷ [])  -- a size that doesn't fit 32 bits
 unfolding files_computed
 size_past_32_bits = refl

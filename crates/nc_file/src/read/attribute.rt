@@ -1,7 +1,7 @@
 //! Attributes.
 
 ghost use Rattle.std.specs.Prelude.{◌≡◌, [], IfOk, length};
-ghost use Rattle.nc_base.specs.Grammar.{att_after, att_list, att_part, each};
+ghost use Rattle.nc_base.specs.Grammar.{att_after, att_list, att_part, each, strict};
 ghost use Rattle.nc_file.specs.code.Window.{Read};
 
 use crate::head_fault::HeadFault;
@@ -16,7 +16,7 @@ impl<S: Source> Window<'_, S> {
     /// fault of the first wrong field, with `ReadFailed` if the source fails, and with `OutOfMemory` if an allocation fails.
     #[tactic(auto, using(crate::proofs::PartRuns::part_runs), unfolding(nc_base::specs::Grammar::att_part, nc_base::specs::code::PartRuns::printed_len))]
     fn att(&mut self, alloc: Global, version: Version) -> Result<Att, HeadFault>
-        ensures { Read self.old self.new (att_part version) result }
+        ensures { Read self.old self.new (att_part strict version) result }
     {
         let name = self.name(alloc, version)?;
         let ty = self.nc_type(version)?;
@@ -31,7 +31,7 @@ impl<S: Source> Window<'_, S> {
     /// Errs with the fault of the first wrong field, with `ReadFailed` if the source fails, and with `OutOfMemory` if an allocation fails.
     #[tactic(auto, using(crate::proofs::PartRuns::each_runs))]
     fn atts(&mut self, alloc: Global, version: Version, n: u64) -> Result<Sequence<Att>, HeadFault>
-        ensures read { Read self.old self.new (each (att_after version) n []) result }
+        ensures read { Read self.old self.new (each (att_after strict version) n []) result }
         ensures count { IfOk result (λ atts. length atts ≡ n) }
     {
         let mut atts = Sequence::new(alloc);
@@ -50,7 +50,7 @@ impl<S: Source> Window<'_, S> {
         alloc: Global,
         version: Version,
     ) -> Result<Sequence<Att>, HeadFault>
-        ensures { Read self.old self.new (att_list version) result }
+        ensures { Read self.old self.new (att_list strict version) result }
     {
         let n = self.list_len(version, NC_ATTRIBUTE)?;
         self.atts(alloc, version, n)

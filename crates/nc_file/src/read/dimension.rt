@@ -1,7 +1,7 @@
 //! Dimensions.
 
 ghost use Rattle.std.specs.Prelude.{◌≡◌, [], IfOk, length};
-ghost use Rattle.nc_base.specs.Grammar.{dim_after, dim_list, dim_part, each};
+ghost use Rattle.nc_base.specs.Grammar.{dim_after, dim_list, dim_part, each, strict};
 ghost use Rattle.nc_file.specs.code.Window.{Read};
 
 use crate::head_fault::HeadFault;
@@ -16,7 +16,7 @@ impl<S: Source> Window<'_, S> {
     /// `has_record` is true and this dimension has length 0, too.
     #[tactic(auto, using(crate::proofs::PartRuns::part_runs), unfolding(nc_base::specs::Grammar::dim_part, nc_base::specs::code::PartRuns::printed_len))]
     fn dim(&mut self, alloc: Global, version: Version, has_record: bool) -> Result<Dim, HeadFault>
-        ensures { Read self.old self.new (dim_part version has_record) result }
+        ensures { Read self.old self.new (dim_part strict version has_record) result }
     {
         let name = self.name(alloc, version)?;
         let len = self.count(version)?;
@@ -30,7 +30,7 @@ impl<S: Source> Window<'_, S> {
     /// [`dim_list`](Window::dim_list) has read the list's tag and `n` before.
     #[tactic(auto, using(crate::proofs::PartRuns::each_runs))]
     fn dims(&mut self, alloc: Global, version: Version, n: u64) -> Result<Sequence<Dim>, HeadFault>
-        ensures read { Read self.old self.new (each (dim_after version) n []) result }
+        ensures read { Read self.old self.new (each (dim_after strict version) n []) result }
         ensures count { IfOk result (λ dims. length dims ≡ n) }
     {
         let mut dims = Sequence::new(alloc);
@@ -51,7 +51,7 @@ impl<S: Source> Window<'_, S> {
         alloc: Global,
         version: Version,
     ) -> Result<Sequence<Dim>, HeadFault>
-        ensures { Read self.old self.new (dim_list version) result }
+        ensures { Read self.old self.new (dim_list strict version) result }
     {
         let n = self.list_len(version, NC_DIMENSION)?;
         self.dims(alloc, version, n)

@@ -82,7 +82,7 @@ impl<S: Source> Window<'_, S> {
     /// Reads the three bytes that should be `CDF`, without checking them. Errs with `NotNetcdf` if fewer are left, and with `ReadFailed` if
     /// the source fails.
     #[tactic(auto, using(crate::proofs::PartRuns::cuts), unfolding(nc_base::specs::code::PartRuns::printed_len))]
-    fn magic_word(&mut self) -> Result<[u8; 3], HeadFault>
+    pub fn magic_word(&mut self) -> Result<[u8; 3], HeadFault>
         ensures { Read self.old self.new (bytes 3 NotNetcdf) result }
     {
         match self.array() {
@@ -131,7 +131,7 @@ impl<S: Source> Window<'_, S> {
 
     /// Reads the whole header. Errs with the fault of the first wrong field, with `ReadFailed` if the source fails, and with
     /// `OutOfMemory` if an allocation fails.
-    #[tactic(auto, using(crate::proofs::PartRuns::part_runs), unfolding(nc_base::specs::Grammar::header_part, nc_base::specs::code::PartRuns::printed_len))]
+    #[tactic(auto, using(crate::proofs::PartRuns::part_runs), unfolding(nc_base::specs::Grammar::header_by, nc_base::specs::code::PartRuns::printed_len))]
     fn header(&mut self, alloc: Global) -> Result<Header, HeadFault>
         ensures { Read self.old self.new header_part result }
     {

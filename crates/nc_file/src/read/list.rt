@@ -1,7 +1,7 @@
 //! The parts that several lists share: a name, a type, and the number of elements.
 
 ghost use Rattle.std.specs.Prelude.{◌≡◌};
-ghost use Rattle.nc_base.specs.Grammar.{list_head, name_part, type_in, type_part};
+ghost use Rattle.nc_base.specs.Grammar.{list_head, name_part, type_in, type_part, strict};
 ghost use Rattle.nc_file.specs.code.Window.{Read};
 
 use crate::head_fault::HeadFault;
@@ -19,7 +19,7 @@ impl<S: Source> Window<'_, S> {
         alloc: Global,
         version: Version,
     ) -> Result<Sequence<u8>, HeadFault>
-        ensures { Read self.old self.new (name_part version) result }
+        ensures { Read self.old self.new (name_part strict version) result }
     {
         let n = self.count(version)?;
         let name = self.bytes(alloc, n as u128)?;
@@ -34,7 +34,7 @@ impl<S: Source> Window<'_, S> {
     /// has no type with this code.
     #[tactic(auto, using(crate::proofs::PartRuns::part_runs), unfolding(nc_base::specs::Grammar::type_part, nc_base::specs::code::PartRuns::printed_len))]
     pub(crate) fn nc_type(&mut self, version: Version) -> Result<NcType, HeadFault>
-        ensures { Read self.old self.new (type_part version) result }
+        ensures { Read self.old self.new (type_part strict version) result }
     {
         let code = self.read_u32()?;
         Ok(type_in(version, code)?)
@@ -61,7 +61,7 @@ impl<S: Source> Window<'_, S> {
 
 /// Returns the version's type with this code. Errs with `FloatingType` if the code is that of float or double, and with `BadType` if the
 /// version has no type with this code.
-fn type_in(version: Version, code: u32) -> Result<NcType, FormatFault>
+pub fn type_in(version: Version, code: u32) -> Result<NcType, FormatFault>
     ensures { result ≡ type_in version code }
 {
     if code == NC_FLOAT || code == NC_DOUBLE {

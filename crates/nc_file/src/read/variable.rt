@@ -4,7 +4,7 @@ ghost use Rattle.std.specs.Prelude.{IfOk, IfSome, ◌≡◌, ◌+◌, ◌≤◌,
 ghost use Rattle.nc_base.specs.Bytes.{padding_len};
 ghost use Rattle.nc_base.specs.Sizes.{is_record_shape, slab_limit};
 ghost use Rattle.nc_base.specs.Versions.{offset_width};
-ghost use Rattle.nc_base.specs.Grammar.{checked, dimid_after, dimid_part, each, is_dimid, is_within_limits, number, offset_part, record_bytes, shape_part, type_part, var_after, var_list, var_part};
+ghost use Rattle.nc_base.specs.Grammar.{checked, dimid_after, dimid_part, each, is_dimid, is_within_limits, number, offset_part, record_bytes, shape_part, type_part, var_after, var_list, var_part, strict};
 ghost use Rattle.nc_base.specs.declared.fault.FormatFault.TheVariants.{TooLarge};
 ghost use Rattle.nc_file.specs.code.SizedVars.{IsCounted, IsCountedType, total_with, type_of, var_of};
 ghost use Rattle.nc_file.specs.code.Window.{Read};
@@ -73,7 +73,7 @@ impl<S: Source> Window<'_, S> {
 
     /// Reads a big-endian number of the width that offsets have in the version, four bytes in CDF-1 and otherwise eight. Its top bit may be
     /// 1: [`offset`](Window::offset) calls this, and then checks the bit.
-    fn unchecked_offset(&mut self, version: Version) -> Result<u64, HeadFault>
+    pub fn unchecked_offset(&mut self, version: Version) -> Result<u64, HeadFault>
         ensures { Read self.old self.new (number (offset_width version)) result }
     {
         match version {
@@ -106,7 +106,7 @@ impl<S: Source> Window<'_, S> {
         total: u64,
     ) -> Result<SizedType, HeadFault>
         ensures read { Read self.old self.new
-            (checked (is_within_limits dims.now total dimids.now) TooLarge (type_part version))
+            (checked (is_within_limits dims.now total dimids.now) TooLarge (type_part strict version))
             (type_of result) }
         ensures total { IfOk result (IsCountedType dims.now dimids.now total) }
     {
@@ -126,7 +126,7 @@ impl<S: Source> Window<'_, S> {
         dims: &[Dim],
         total: u64,
     ) -> Result<SizedVar, HeadFault>
-        ensures read { Read self.old self.new (var_part version dims.now total) (var_of result) }
+        ensures read { Read self.old self.new (var_part strict version dims.now total) (var_of result) }
         ensures total { IfOk result (IsCounted dims.now total) }
     {
         let name = self.name(alloc, version)?;
@@ -158,7 +158,7 @@ impl<S: Source> Window<'_, S> {
         dims: &[Dim],
         n: u64,
     ) -> Result<Sequence<Var>, HeadFault>
-        ensures read { Read self.old self.new (each (var_after version dims.now) n []) result }
+        ensures read { Read self.old self.new (each (var_after strict version dims.now) n []) result }
         ensures count { IfOk result (λ vars. length vars ≡ n) }
     {
         let mut vars = Sequence::new(alloc);
@@ -180,7 +180,7 @@ impl<S: Source> Window<'_, S> {
         version: Version,
         dims: &[Dim],
     ) -> Result<Sequence<Var>, HeadFault>
-        ensures { Read self.old self.new (var_list version dims.now) result }
+        ensures { Read self.old self.new (var_list strict version dims.now) result }
     {
         let n = self.list_len(version, NC_VARIABLE)?;
         self.vars(alloc, version, dims, n)
@@ -189,7 +189,7 @@ impl<S: Source> Window<'_, S> {
 
 /// Returns true if `id` may stand in a shape. A dimension of `dims` must have this id, and only the shape's first id may be that of the
 /// record dimension. `first` is true if `id` is the shape's first.
-fn is_dimid(dims: &[Dim], first: bool, id: u64) -> bool
+pub fn is_dimid(dims: &[Dim], first: bool, id: u64) -> bool
     ensures { result ≡ is_dimid dims.now first id }
 {
     id < dims.len() as u64 && (first || !is_record_dim(dims, id))
@@ -198,7 +198,7 @@ fn is_dimid(dims: &[Dim], first: bool, id: u64) -> bool
 /// Returns `total` plus the bytes of the padded slab of a variable of this shape and type if it is a record variable, otherwise `total`.
 /// `total` is the sum for the record variables before it. Returns `None` if the slab passes 2^48 bytes, or if the sum passes 2^62 bytes.
 #[tactic(auto, unfolding(crate::specs::code::SizedVars::total_with))]
-fn total_with(dims: &[Dim], dimids: &[u64], ty: NcType, total: u64) -> Option<u64>
+pub fn total_with(dims: &[Dim], dimids: &[u64], ty: NcType, total: u64) -> Option<u64>
     ensures value { result ≡ total_with dims.now dimids.now ty total }
     ensures counted { IfSome result (λ sum. sum ≡ total + record_bytes dims.now dimids.now ty) }
 {

@@ -2,7 +2,7 @@
 
 ghost use Rattle.std.specs.Prelude.{◌<◌, All, length};
 ghost use Rattle.std.specs.List.{flat_map};
-ghost use Rattle.nc_base.specs.Grammar.{att_list, att_part};
+ghost use Rattle.nc_base.specs.Grammar.{att_list, att_part, strict};
 ghost use Rattle.nc_base.specs.Headers.{IsSoundAtt};
 ghost use Rattle.nc_base.specs.Parts.{print};
 ghost use Rattle.nc_base.specs.Versions.{count_limit};
@@ -23,7 +23,7 @@ pub(crate) fn put_att_list<W: Sink>(
 ) -> Result<(), WriteFailed>
     requires few { length atts.now < count_limit version }
     requires sound { All (IsSoundAtt version) atts.now }
-    ensures { Wrote W.view sink.old sink.new (print (att_list version) atts.now) result }
+    ensures { Wrote W.view sink.old sink.new (print (att_list strict version) atts.now) result }
 {
     put_list_head(sink, version, NC_ATTRIBUTE, atts.len() as u64)?;
     put_atts(sink, version, atts)
@@ -32,7 +32,7 @@ pub(crate) fn put_att_list<W: Sink>(
 /// Writes the attributes of a list, one after another, without the tag and the number before them. Errs if the sink fails.
 fn put_atts<W: Sink>(sink: &mut W, version: Version, atts: &[Att]) -> Result<(), WriteFailed>
     requires { All (IsSoundAtt version) atts.now }
-    ensures { Wrote W.view sink.old sink.new (flat_map (print (att_part version)) atts.now) result }
+    ensures { Wrote W.view sink.old sink.new (flat_map (print (att_part strict version)) atts.now) result }
 {
     for att in atts {
         put_att(sink, version, att)?;
@@ -45,7 +45,7 @@ fn put_atts<W: Sink>(sink: &mut W, version: Version, atts: &[Att]) -> Result<(),
 #[tactic(auto, using(devices::proofs::Writes::writes), unfolding(nc_base::specs::Parts::print, nc_base::specs::Grammar::att_part, nc_base::specs::Grammar::type_part))]
 fn put_att<W: Sink>(sink: &mut W, version: Version, att: &Att) -> Result<(), WriteFailed>
     requires { IsSoundAtt version att.now }
-    ensures { Wrote W.view sink.old sink.new (print (att_part version) att.now) result }
+    ensures { Wrote W.view sink.old sink.new (print (att_part strict version) att.now) result }
 {
     put_name(sink, version, att.name.as_slice())?;
     put_u32(sink, att.ty.code())?;

@@ -2,7 +2,7 @@
 
 ghost use Rattle.std.specs.Prelude.{◌<◌, All, false, length};
 ghost use Rattle.std.specs.List.{flat_map};
-ghost use Rattle.nc_base.specs.Grammar.{dim_list, dim_part};
+ghost use Rattle.nc_base.specs.Grammar.{dim_list, dim_part, strict};
 ghost use Rattle.nc_base.specs.Parts.{print};
 ghost use Rattle.nc_base.specs.Headers.{IsSoundDim};
 ghost use Rattle.nc_base.specs.Versions.{count_limit};
@@ -23,7 +23,7 @@ pub(crate) fn put_dim_list<W: Sink>(
 ) -> Result<(), WriteFailed>
     requires few { length dims.now < count_limit version }
     requires sound { All (IsSoundDim version) dims.now }
-    ensures { Wrote W.view sink.old sink.new (print (dim_list version) dims.now) result }
+    ensures { Wrote W.view sink.old sink.new (print (dim_list strict version) dims.now) result }
 {
     put_list_head(sink, version, NC_DIMENSION, dims.len() as u64)?;
     put_dims(sink, version, dims)
@@ -33,7 +33,7 @@ pub(crate) fn put_dim_list<W: Sink>(
 fn put_dims<W: Sink>(sink: &mut W, version: Version, dims: &[Dim]) -> Result<(), WriteFailed>
     requires { All (IsSoundDim version) dims.now }
     ensures { Wrote W.view sink.old sink.new
-        (flat_map (print (dim_part version false)) dims.now) result }
+        (flat_map (print (dim_part strict version false)) dims.now) result }
 {
     for dim in dims {
         put_dim(sink, version, dim)?;
@@ -45,7 +45,7 @@ fn put_dims<W: Sink>(sink: &mut W, version: Version, dims: &[Dim]) -> Result<(),
 #[tactic(auto, using(devices::proofs::Writes::writes), unfolding(nc_base::specs::Parts::print, nc_base::specs::Grammar::dim_part))]
 fn put_dim<W: Sink>(sink: &mut W, version: Version, dim: &Dim) -> Result<(), WriteFailed>
     requires { IsSoundDim version dim.now }
-    ensures { Wrote W.view sink.old sink.new (print (dim_part version false) dim.now) result }
+    ensures { Wrote W.view sink.old sink.new (print (dim_part strict version false) dim.now) result }
 {
     put_name(sink, version, dim.name.as_slice())?;
     put_count(sink, version, dim.len)

@@ -22,7 +22,7 @@ use nc_base::{Header, NumRecs, Version};
 /// # Errors
 ///
 /// The sink failed. It took some prefix of the header.
-#[tactic(auto, using(devices::proofs::Writes::writes), unfolding(nc_base::specs::Parts::print, nc_base::specs::Grammar::header_part))]
+#[tactic(auto, using(devices::proofs::Writes::writes), unfolding(nc_base::specs::Parts::print, nc_base::specs::Grammar::header_by))]
 pub fn write_header<W: Sink>(sink: &mut W, header: &Header) -> Result<(), WriteFailed>
     requires sound { IsSound header.now }
     requires begins { All (λ var. var.begin_at < offset_limit header.now.version) header.now.vars }

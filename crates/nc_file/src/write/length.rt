@@ -3,7 +3,7 @@
 ghost use Rattle.std.specs.Prelude.{◌≡◌, ◌+◌, ◌-◌, ◌^◌, [], false, length, min};
 ghost use Rattle.std.specs.Int.{byte_len};
 ghost use Rattle.nc_base.specs.Bytes.{padding_len};
-ghost use Rattle.nc_base.specs.Grammar.{att_list, att_part, dim_list, dim_part, header_spelling, name_part, var_list, var_part};
+ghost use Rattle.nc_base.specs.Grammar.{att_list, att_part, dim_list, dim_part, header_spelling, name_part, var_list, var_part, strict};
 ghost use Rattle.nc_base.specs.Versions.{count_width, offset_width};
 ghost use Rattle.nc_base.specs.code.PartRuns.{printed_len};
 
@@ -28,7 +28,7 @@ pub fn header_len(header: &Header) -> u64
 
 /// Returns the number of bytes that the list of dimensions, with its tag and count, takes in a file, or `u64::MAX` if there are more.
 fn dims_len(version: Version, dims: &[Dim]) -> u64
-    ensures { result ≡ min (printed_len (dim_list version) dims.now) (2 ^ 64 - 1) }
+    ensures { result ≡ min (printed_len (dim_list strict version) dims.now) (2 ^ 64 - 1) }
 {
     let mut total = list_head_len(version);
     for dim in dims {
@@ -39,7 +39,7 @@ fn dims_len(version: Version, dims: &[Dim]) -> u64
 
 /// Returns the number of bytes that a list of attributes, with its tag and count, takes in a file, or `u64::MAX` if there are more.
 fn atts_len(version: Version, atts: &[Att]) -> u64
-    ensures { result ≡ min (printed_len (att_list version) atts.now) (2 ^ 64 - 1) }
+    ensures { result ≡ min (printed_len (att_list strict version) atts.now) (2 ^ 64 - 1) }
 {
     let mut total = list_head_len(version);
     for att in atts {
@@ -50,7 +50,7 @@ fn atts_len(version: Version, atts: &[Att]) -> u64
 
 /// Returns the number of bytes that the list of variables, with its tag and count, takes in a file, or `u64::MAX` if there are more.
 fn vars_len(version: Version, vars: &[Var]) -> u64
-    ensures { result ≡ min (printed_len (var_list version []) vars.now) (2 ^ 64 - 1) }
+    ensures { result ≡ min (printed_len (var_list strict version []) vars.now) (2 ^ 64 - 1) }
 {
     let mut total = list_head_len(version);
     for var in vars {
@@ -62,7 +62,7 @@ fn vars_len(version: Version, vars: &[Var]) -> u64
 /// Returns the number of bytes that the name and the length of a dimension take in a header, or `u64::MAX` if there are more.
 #[tactic(auto, using(crate::proofs::HeaderLen::fields_len))]
 fn dim_len(version: Version, dim: &Dim) -> u64
-    ensures { result ≡ min (printed_len (dim_part version false) dim.now) (2 ^ 64 - 1) }
+    ensures { result ≡ min (printed_len (dim_part strict version false) dim.now) (2 ^ 64 - 1) }
 {
     name_len(version, dim.name.as_slice()).saturating_add(count_len(version))
 }
@@ -70,7 +70,7 @@ fn dim_len(version: Version, dim: &Dim) -> u64
 /// Returns the number of bytes that an attribute takes in a header, or `u64::MAX` if there are more.
 #[tactic(auto, using(crate::proofs::HeaderLen::fields_len))]
 fn att_len(version: Version, att: &Att) -> u64
-    ensures { result ≡ min (printed_len (att_part version) att.now) (2 ^ 64 - 1) }
+    ensures { result ≡ min (printed_len (att_part strict version) att.now) (2 ^ 64 - 1) }
 {
     let head = WORD_LEN + count_len(version);
     name_len(version, att.name.as_slice())
@@ -81,7 +81,7 @@ fn att_len(version: Version, att: &Att) -> u64
 /// Returns the number of bytes that a variable takes in a header, or `u64::MAX` if there are more.
 #[tactic(auto, using(crate::proofs::HeaderLen::fields_len))]
 fn var_len(version: Version, var: &Var) -> u64
-    ensures { result ≡ min (printed_len (var_part version [] 0) var.now) (2 ^ 64 - 1) }
+    ensures { result ≡ min (printed_len (var_part strict version [] 0) var.now) (2 ^ 64 - 1) }
 {
     let ids = (var.dimids.len() as u64).saturating_mul(count_len(version));
     let fields = count_len(version) + WORD_LEN + count_len(version) + offset_len(version);
@@ -94,7 +94,7 @@ fn var_len(version: Version, var: &Var) -> u64
 /// Returns the number of bytes that a name takes in a header, with its length and its padding, or `u64::MAX` if there are more.
 #[tactic(auto, using(crate::proofs::HeaderLen::fields_len))]
 fn name_len(version: Version, name: &[u8]) -> u64
-    ensures { result ≡ min (printed_len (name_part version) name.now) (2 ^ 64 - 1) }
+    ensures { result ≡ min (printed_len (name_part strict version) name.now) (2 ^ 64 - 1) }
 {
     count_len(version).saturating_add(padded_len(name.len() as u64))
 }

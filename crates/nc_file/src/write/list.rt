@@ -2,7 +2,7 @@
 
 ghost use Rattle.std.specs.Prelude.{◌++◌, ◌<◌, length};
 ghost use Rattle.nc_base.specs.Bytes.{padding_len};
-ghost use Rattle.nc_base.specs.Grammar.{ignored, list_head, name_part};
+ghost use Rattle.nc_base.specs.Grammar.{ignored, list_head, name_part, strict};
 ghost use Rattle.nc_base.specs.Parts.{print};
 ghost use Rattle.nc_base.specs.Versions.{count_limit};
 ghost use Rattle.devices.specs.code.SinkWrites.{Wrote};
@@ -20,7 +20,7 @@ pub(crate) fn put_name<W: Sink>(
     name: &[u8],
 ) -> Result<(), WriteFailed>
     requires { length name.now < count_limit version }
-    ensures { Wrote W.view sink.old sink.new (print (name_part version) name.now) result }
+    ensures { Wrote W.view sink.old sink.new (print (name_part strict version) name.now) result }
 {
     put_count(sink, version, name.len() as u64)?;
     put_padded(sink, name)

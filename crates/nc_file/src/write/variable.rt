@@ -2,7 +2,7 @@
 
 ghost use Rattle.std.specs.Prelude.{◌≡◌, ◌<◌, [], All, length};
 ghost use Rattle.std.specs.List.{flat_map};
-ghost use Rattle.nc_base.specs.Grammar.{number, shape_part, var_list, var_part, vsize_of};
+ghost use Rattle.nc_base.specs.Grammar.{number, shape_part, var_list, var_part, vsize_of, strict};
 ghost use Rattle.nc_base.specs.Headers.{IsSoundVar};
 ghost use Rattle.nc_base.specs.Parts.{print};
 ghost use Rattle.nc_base.specs.Sizes.{padded_size};
@@ -30,7 +30,7 @@ pub(crate) fn put_var_list<W: Sink>(
     requires few_dims { length dims.now < count_limit version }
     requires sound { All (IsSoundVar version dims.now) vars.now }
     requires begins { All (λ var. var.begin_at < offset_limit version) vars.now }
-    ensures { Wrote W.view sink.old sink.new (print (var_list version dims.now) vars.now) result }
+    ensures { Wrote W.view sink.old sink.new (print (var_list strict version dims.now) vars.now) result }
 {
     put_list_head(sink, version, NC_VARIABLE, vars.len() as u64)?;
     put_vars(sink, version, dims, vars)
@@ -47,7 +47,7 @@ fn put_vars<W: Sink>(
     requires sound { All (IsSoundVar version dims.now) vars.now }
     requires begins { All (λ var. var.begin_at < offset_limit version) vars.now }
     ensures { Wrote W.view sink.old sink.new
-        (flat_map (print (var_part version dims.now 0)) vars.now) result }
+        (flat_map (print (var_part strict version dims.now 0)) vars.now) result }
 {
     for var in vars {
         put_var(sink, version, dims, var)?;
@@ -66,7 +66,7 @@ fn put_var<W: Sink>(
     requires few_dims { length dims.now < count_limit version }
     requires sound { IsSoundVar version dims.now var.now }
     requires begin { var.now.begin_at < offset_limit version }
-    ensures { Wrote W.view sink.old sink.new (print (var_part version dims.now 0) var.now) result }
+    ensures { Wrote W.view sink.old sink.new (print (var_part strict version dims.now 0) var.now) result }
 {
     put_name(sink, version, var.name.as_slice())?;
     put_shape(sink, version, var.dimids.as_slice())?;

@@ -1,11 +1,11 @@
 use Rattle.std.proofs.Common.{◌≡◌}
 use Rattle.nc_file.proofs.Prelude.{has_record_dim}
-use Rattle.nc_base.specs.Grammar.{dim_after}
+use Rattle.nc_base.specs.Grammar.{dim_after, strict}
 use Rattle.nc_file.proofs.PartRuns.{ReadsOn}
 use Rattle.nc_file.proofs.window.Window.dims.Given as goal
 
 abbrev pub invariant-loop : goal.invariant-loop
 invariant-loop g l = record {
-  reads : ReadsOn l.fn.self l.self (dim_after l.version) l.n l.counter l.dims;
+  reads : ReadsOn l.fn.self l.self (dim_after strict l.version) l.n l.counter l.dims;
   has_record : l.has_record ≡ has_record_dim l.dims;
 }

@@ -1,11 +1,11 @@
 use Rattle.std.proofs.Common.{◌≡◌}
 use Rattle.nc_file.proofs.Totals.{total_of}
-use Rattle.nc_base.specs.Grammar.{var_after}
+use Rattle.nc_base.specs.Grammar.{var_after, strict}
 use Rattle.nc_file.proofs.PartRuns.{ReadsOn}
 use Rattle.nc_file.proofs.window.Window.vars.Given as goal
 
 abbrev pub invariant-loop : goal.invariant-loop
 invariant-loop g l = record {
-  reads : ReadsOn l.fn.self l.self (var_after l.version l.dims) l.n l.counter l.vars;
+  reads : ReadsOn l.fn.self l.self (var_after strict l.version l.dims) l.n l.counter l.vars;
   total : l.total ≡ total_of l.dims l.vars;
 }

@@ -1,8 +1,8 @@
 use Rattle.std.proofs.Common.{drop}
 use Rattle.nc_file.proofs.Prelude.{flat_map, UpTo}
 use Rattle.nc_base.specs.Parts.{print}
-use Rattle.nc_base.specs.Grammar.{att_part}
+use Rattle.nc_base.specs.Grammar.{att_part, strict}
 use Rattle.nc_file.proofs.write.attribute.put_atts.Given as goal
 
 abbrev pub invariant-loop-att : goal.invariant-loop-att
-invariant-loop-att g l = UpTo (g.W.Sink.view l.fn.sink) (g.W.Sink.view l.sink) (flat_map (print (att_part l.version)) l.atts) (flat_map (print (att_part l.version)) (drop l.att-index l.atts))
+invariant-loop-att g l = UpTo (g.W.Sink.view l.fn.sink) (g.W.Sink.view l.sink) (flat_map (print (att_part strict l.version)) l.atts) (flat_map (print (att_part strict l.version)) (drop l.att-index l.atts))

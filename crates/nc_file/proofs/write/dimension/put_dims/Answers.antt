@@ -1,6 +1,6 @@
 use Rattle.std.proofs.Common.{false}
 use Rattle.nc_base.specs.Parts.{print}
-use Rattle.nc_base.specs.Grammar.{dim_part}
+use Rattle.nc_base.specs.Grammar.{dim_part, strict}
 use Rattle.nc_file.proofs.Prelude.{err_from_is_err_and, up-start, up-next, up-partway, each-left}
 use Rattle.nc_file.proofs.write.dimension.put_dims.Goals as goal
 
@@ -9,9 +9,9 @@ loop-dim-init g c = up-start _ _
 
 pub loop-dim-preserved : goal.loop-dim-preserved
 loop-dim-preserved g c =
-    up-next _ _ _ _ _ _ _ (each-left (print (dim_part c.args.version false)) c.args.dims.now c.loop-dim.dim-index c.dim-item.result c.loop-dim-test.true c.dim-item.is) c.loop-dim.invariant c.in_ok-put_dim.ensures
+    up-next _ _ _ _ _ _ _ (each-left (print (dim_part strict c.args.version false)) c.args.dims.now c.loop-dim.dim-index c.dim-item.result c.loop-dim-test.true c.dim-item.is) c.loop-dim.invariant c.in_ok-put_dim.ensures
 
 pub returns-in_err-put_dim : goal.returns-in_err-put_dim
 returns-in_err-put_dim g c =
     let p = err_from_is_err_and c.from_residual.result c.from_residual.ensures.1 in
-    rw p.1 (up-partway _ _ _ _ _ _ _ (each-left (print (dim_part c.args.version false)) c.args.dims.now c.loop-dim.dim-index c.dim-item.result c.loop-dim-test.true c.dim-item.is) c.loop-dim.invariant c.in_err-put_dim.ensures)
+    rw p.1 (up-partway _ _ _ _ _ _ _ (each-left (print (dim_part strict c.args.version false)) c.args.dims.now c.loop-dim.dim-index c.dim-item.result c.loop-dim-test.true c.dim-item.is) c.loop-dim.invariant c.in_err-put_dim.ensures)

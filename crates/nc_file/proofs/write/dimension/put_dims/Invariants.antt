@@ -1,8 +1,8 @@
 use Rattle.std.proofs.Common.{drop, false}
 use Rattle.nc_file.proofs.Prelude.{flat_map, UpTo}
 use Rattle.nc_base.specs.Parts.{print}
-use Rattle.nc_base.specs.Grammar.{dim_part}
+use Rattle.nc_base.specs.Grammar.{dim_part, strict}
 use Rattle.nc_file.proofs.write.dimension.put_dims.Given as goal
 
 abbrev pub invariant-loop-dim : goal.invariant-loop-dim
-invariant-loop-dim g l = UpTo (g.W.Sink.view l.fn.sink) (g.W.Sink.view l.sink) (flat_map (print (dim_part l.version false)) l.dims) (flat_map (print (dim_part l.version false)) (drop l.dim-index l.dims))
+invariant-loop-dim g l = UpTo (g.W.Sink.view l.fn.sink) (g.W.Sink.view l.sink) (flat_map (print (dim_part strict l.version false)) l.dims) (flat_map (print (dim_part strict l.version false)) (drop l.dim-index l.dims))
