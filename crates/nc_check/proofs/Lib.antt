@@ -1,0 +1,6 @@
+pub mod Prelude
+pub mod Checks
+pub mod Numbers
+pub mod Texts
+pub mod Elements
+pub mod Listed

@@ -1,0 +1,9 @@
+use Rattle.std.proofs.Common.{refl, rules}
+use Rattle.nc_check.proofs.Listed.{blamed, is-listing}
+use Rattle.nc_check.proofs.header.list_fields.Goals as goal
+
+pub returns-clause-cause : goal.returns-clause-cause
+returns-clause-cause g c = let h = blamed _ _ _ _ c.header-answer.ensures c.answered.ensures in search rules
+
+pub returns-clause-listing : goal.returns-clause-listing
+returns-clause-listing g c = is-listing _ _ _ _ c.new.ensures refl c.header-answer.ensures c.answered.ensures
