@@ -3,7 +3,7 @@ use Rattle.std.proofs.Common.{◌≡◌, ℕ, ◌+◌, ◌<◌, ◌≤◌, Bool,
 use Rattle.cdl_laws.proofs.Prelude.{DataText, variables_text, printed, Att, Dim, Header, Var, Version, VariableValues, whole, shown_data, with_variable, has_values, fill_value, IsName, is_record_var, Look, look_of, is_char, variable_text, Values, trimmed_var, Value, Characters, Listed, State, Draft, Listing, Numbers, Joined, Rows, Capacity, capacity_of, act, listing_of, values_in, filled, has_number, Each, each_map}
 use Rattle.cdl_laws.proofs.ValueTexts.{AreSmall, value_said, numbers_listed}
 use Rattle.cdl_laws.proofs.Characters.{flat, IsCharacter, row_back, rows_listed, rows_full, line_listed, back_whole, filled_whole}
-use Rattle.cdl_laws.proofs.Takes.{Takes, Says, says_takes, takes_both, takes_nothing}
+use Rattle.cdl_laws.proofs.Takes.{Takes, Says, says_takes, takes_both}
 use Rattle.cdl_laws.proofs.Heads.{numbers_say, table_says, line_says}
 use Rattle.cdl_laws.proofs.Acts.{no_draft, variable_is}
 use Rattle.cdl_laws.proofs.Wholes.{state, draft_of}
@@ -44,11 +44,7 @@ pub gives_table : (v : Version) (dims : List Dim) (look : Look) (var : Var) (r :
     (look.trimmed ≡ true → look.fill ≡ pos 0) → look.row ≡ (capacity_of dims (trimmed_var var)).row → 0 < look.row → ((capacity_of dims (trimmed_var var)).is_open ≡ false → length (r ∷ rows) ≤ (capacity_of dims (trimmed_var var)).rows) → Each (λ (s : List ℤ). (length s ≡ look.row) × Each IsCharacter s) (r ∷ rows) → Gives v dims look var (flat (r ∷ rows))
 gives_table v dims look var r rows capacity ty h fill row some few all = record {
   said = map Characters (map (printed look.trimmed 0) (r ∷ rows));
-  says = subst (λ n. Says v Values (variable_text look (flat (r ∷ rows)))
-      (Listed n (map Characters (map (printed look.trimmed 0) (r ∷ rows))))) capacity.name
-      (table_says v look r rows capacity.valid ty h some
-      (each_map (λ (s : List ℤ). (length s ≡ look.row) × Each IsCharacter s) (λ (s : List ℤ). length s ≡ look.row) (r ∷ rows)
-      (λ s e. e.0) all));
+  says = grind (arith, table_says, each_map);
   listing = Rows (map (printed look.trimmed 0) (r ∷ rows));
   added = rows_listed (capacity_of dims (trimmed_var var)) look.trimmed (r ∷ rows) (ap is_char capacity.ty ∙ ty) (capacity.rows ∙ h) few are;
   full = ap (filled (length (flat (r ∷ rows))) (fill_value (trimmed_var var))) back ∙ filled_whole (length (flat (r ∷ rows))) (fill_value (trimmed_var var)) (flat (r ∷ rows)) refl;
@@ -117,15 +113,13 @@ one_taken v h gatts before after look var c o place others t false valid new all
 
 pub data_taken : (v : Version) (h : Header) (content : ℕ → Var → VariableValues) (n width place : ℕ) (gatts : List Att) (before : List Draft) (vars : List Var) (os : List (Option Listing)) → AreGiven v h content n width place before vars os →
     Takes v (variables_text (shown_data h content n width) place vars (all_marked vars)).text (state Values h.dims gatts (before ++ map draft_of vars)) (state Values h.dims gatts (before ++ given_drafts vars os))
-data_taken v h content n width place gatts before [] [] given = takes_nothing v (state Values h.dims gatts (before ++ []))
 data_taken v h content n width place gatts before (var ∷ vars) (o ∷ os) given =
     grind (arith, one_taken, append_assoc, data_taken v h content n width (place + 1) gatts (before ++ given_draft var o ∷ []) vars os given.1)
-data_taken v h content n width place gatts before _ _ given = absurd given
+data_taken v h content n width place gatts before _ _ given = grind arith
 
 -- and the section is whole
 pub data_whole : (v : Version) (h : Header) (content : ℕ → Var → VariableValues) (n width place : ℕ) (before : List Draft) (vars : List Var) (os : List (Option Listing)) → AreGiven v h content n width place before vars os →
     (variables_text (shown_data h content n width) place vars (all_marked vars)).ending ≡ whole
-data_whole v h content n width place before [] os given = refl
-data_whole v h content n width place before (var ∷ vars) [] given = absurd given
 data_whole v h content n width place before (var ∷ vars) (o ∷ os) given =
     grind (arith, whole, data_whole v h content n width (place + 1) (before ++ given_draft var o ∷ []) vars os given.1)
+data_whole v h content n width place before _ _ given = grind arith

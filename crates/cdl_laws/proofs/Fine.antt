@@ -1,6 +1,6 @@
 -- What holds of the dataset so far, of its attributes, dimensions and declarations, and how much is listed of a variable.
-use Rattle.std.proofs.Common.{◌≡◌, ℕ, ◌+◌, ◌-◌, ◌*◌, ◌≤◌, ◌<◌, Bool, true, false, List, [], ◌∷◌, ◌++◌, length, map, sym, ◌∙◌, ap, refl, subst, arith, suc, append_assoc, append-nil, ℤ, pos, Option, Result, Ok, Err, filter, unsigned_abs, rules, replicate, zero, if◌then◌else◌, not, nat_lt, nat_le}
-use Rattle.cdl_laws.proofs.Prelude.{eqb-true, length-append, map-append, list_any-append, list_any, position, bytes_eq, Att, Dim, NcType, Version, has_name, has_record_dim, IsDimid, AreDimids, value_count, IsName, bytes_of_number, size_of, is_char, count_limit, has_type, AreDistinct, Value, Number, Characters, Underscore, Dimension, Variable, Draft, in_turn, ok_or, int_within, has_number, dim_len_of, add_dim, add_dimid, add_var, change_named, change_variable, add_constant, first_type, add_att, with_att, listed_values, CdlKind, and_left, and_right, some_product, some_size, some-limit, none_before, Each, each_map, any_each, or_left, or_right, length-replicate, length-map, flat_map-append, mul-le-mul_right, mul_comm, mul-le-mul, Var, Listing, Numbers, Joined, Rows, Capacity, capacity_of, filled, add_number, add_characters, add_row, listed_by, listing_of, values_in, with_values, is_off, or_second, some_count}
+use Rattle.std.proofs.Common.{◌≡◌, ℕ, ◌+◌, ◌-◌, ◌*◌, ◌≤◌, ◌<◌, Bool, true, false, List, [], ◌∷◌, ◌++◌, length, map, sym, ◌∙◌, ap, refl, subst, arith, suc, append_assoc, append-nil, ℤ, pos, Option, Result, Ok, Err, filter, rules, replicate, zero, if◌then◌else◌, not, nat_lt, nat_le}
+use Rattle.cdl_laws.proofs.Prelude.{eqb-true, length-append, map-append, list_any-append, list_any, position, bytes_eq, Att, Dim, NcType, Version, has_name, has_record_dim, IsDimid, AreDimids, value_count, IsName, bytes_of_number, size_of, is_char, count_limit, has_type, AreDistinct, Value, Number, Characters, Underscore, Dimension, Variable, Draft, in_turn, ok_or, dim_len_of, add_dim, add_dimid, add_var, change_named, change_variable, add_constant, first_type, add_att, with_att, listed_values, CdlKind, some_product, some_size, none_before, Each, each_map, any_each, or_left, or_right, length-replicate, length-map, flat_map-append, mul-le-mul_right, mul_comm, mul-le-mul, Var, Listing, Numbers, Joined, Rows, Capacity, capacity_of, filled, add_number, add_characters, add_row, listed_by, listing_of, values_in, with_values, is_off, or_second, some_count}
 use Rattle.cdl_laws.proofs.Outcomes.{SomeIs, OkIs, ok_then, ok_unless, ok_when, total, each_under, turns, each_more}
 use Rattle.cdl_laws.proofs.Said.{IsByte, cost, IsFineValue, dim_cost, name_cost, var_cost, AreFineValues}
 use Rattle.cdl_laws.proofs.Sayables.{swapped, any_map, att_name, dim_name, draft_name, is_record, filter_append}
@@ -64,10 +64,8 @@ grown_part ty k c m vals bytes part few many whole each = record {
 
 constant_step : (v : Version) (ty : NcType) (k : ℕ) (vals : List ℕ) (x : Value) → IsPart ty k vals → IsFineValue v x → OkIs (IsPart ty (k + cost x)) (add_constant ty vals x)
 constant_step v ty k vals Underscore part fine = tt
-constant_step v ty k vals (Number n) part fine =
-    grind (arith, ok_unless, number_bytes, grown_part ty k 1 1 vals (bytes_of_number ty n.value) part)
-constant_step v ty k vals (Characters bytes) part fine =
-    grind (arith, ok_unless, grown_part ty k (suc (length bytes)) (length bytes) vals bytes part)
+constant_step v ty k vals (Number n) part fine = grind (arith, ok_unless, grown_part)
+constant_step v ty k vals (Characters bytes) part fine = grind (arith, grown_part)
 
 pub att_keeps : (v : Version) (N n m : ℕ) (name : List ℕ) (cs : List Value) (atts : List Att) → m ≤ N → AreFineValues v m name cs → AreFineAtts v N n atts → OkIs (AreFineAtts v N (n + m)) (add_att name cs atts)
 unfolding add_att
@@ -98,11 +96,8 @@ record IsFineLen (v : Version) (dims : List Dim) (len : ℕ) : Type 0 where
   small : len < count_limit v
   once : len ≡ 0 → has_record_dim dims ≡ false
 
-extent_fine : (v : Version) (dims : List Dim) (n : ℤ) → int_within (pos 1) (pos (count_limit v - 1)) n ≡ true → IsFineLen v dims (unsigned_abs n)
-extent_fine v dims n h = grind (arith, pos, and_left, and_right, some-limit)
-
 len_fine : (v : Version) (dims : List Dim) (o : Option ℤ) → OkIs (IsFineLen v dims) (dim_len_of v dims o)
-len_fine v dims o = grind (arith, ok_when, some-limit, pos, int_within, ok_unless, extent_fine)
+len_fine v dims o = grind arith
 
 dim_step : (v : Version) (N : ℕ) (n : ℕ) (dims : List Dim) (d : Dimension) → AreFineDims v N n dims → dim_cost d ≤ N → OkIs (AreFineDims v N (n + dim_cost d)) (add_dim v dims d)
 unfolding add_dim
@@ -211,9 +206,6 @@ record IsRoomy (capacity : Capacity) (count unit k n : ℕ) (listing : Listing) 
   within : capacity.is_open ≡ false → n ≤ count
   whole : (fill : ℤ) → length (values_in (by fill capacity) listing) ≡ n * unit
 
-under : (a b : ℕ) → nat_lt a b ≡ true → a + 1 ≤ b
-under a b h = grind (arith, h)
-
 pub up_to : (a b : ℕ) → nat_le a b ≡ true → a ≤ b
 up_to a b h = grind (arith, h)
 
@@ -231,9 +223,7 @@ abbrev AreNumbers : Capacity → ℕ → List ℤ → Type 0
 AreNumbers capacity k values = IsRoomy capacity capacity.count 1 k (length values) (Numbers values)
 
 number_step : (capacity : Capacity) (k : ℕ) (before : List ℤ) (x : Value) → AreNumbers capacity k before → Unit {0} → OkIs (AreNumbers capacity (k + cost x)) (add_number capacity before x)
-number_step capacity k before (Characters bytes) is u = tt
-number_step capacity k before Underscore is u = search (rules, ok_unless, length-append, grown)
-number_step capacity k before (Number n) is u = search (rules, ok_unless, has_number, length-append, grown)
+number_step capacity k before x is u = grind (arith, length-append)
 
 abbrev AreJoined : Capacity → ℕ → List ℕ → Type 0
 AreJoined capacity k bytes = IsRoomy capacity capacity.count 1 k (length bytes) (Joined bytes)
@@ -245,7 +235,7 @@ abbrev AreRows : Capacity → ℕ → List (List ℕ) → Type 0
 AreRows capacity k rows = IsRoomy capacity capacity.rows capacity.row k (length rows) (Rows rows)
 
 row_step : (capacity : Capacity) (k : ℕ) (before : List (List ℕ)) (x : Value) → AreRows capacity k before → Unit {0} → OkIs (AreRows capacity (k + cost x)) (add_row capacity before x)
-row_step capacity k before x h h2 = search (rules, ok_unless, grown, length-append, up_to, under, or_second, filled, pos, length-map, flat_map-append, by, filled_len)
+row_step capacity k before x h h2 = search (rules, length-append, length-map, flat_map-append, by, filled_len)
 
 -- ---- what is listed
 

@@ -1,6 +1,6 @@
 -- The array of a variable is given back by the text of its values.
 use Rattle.std.proofs.Common.{◌≡◌, ℕ, zero, suc, ◌*◌, ◌-◌, ◌<◌, ◌≤◌, Bool, true, false, List, [], ◌∷◌, length, drop, take, map, sym, ◌∙◌, ap, refl, subst, arith, length-take, length-drop, ℤ, pos, ◌&&◌, ◌==◌, not, nat_lt, slice_index, find, None, Some, rules, if◌then◌else◌, Option}
-use Rattle.cdl_laws.proofs.Prelude.{flat_map, int_eq, lt_of_mul-lt-mul_right, false≢true, Decides-int_eq, take-append-drop, Att, Dim, Header, Var, NcType, Version, fill_value, fill_of_att, is_fill_att, value_count, IsArray, IsName, numbers, bytes_of_number, IsInRange, dim_len, is_record_shape, is_record_var, product, slab_lens, look_of, is_char, row_len, trimmed_att, trimmed_var, capacity_of, filled, array_of, and_left, is_off, is_on, look-type, length-numbers_from, Each, each_map, has_values, listed_values, Listing, and_false, option_map}
+use Rattle.cdl_laws.proofs.Prelude.{flat_map, int_eq, lt_of_mul-lt-mul_right, false≢true, Decides-int_eq, take-append-drop, Att, Dim, Header, Var, NcType, Version, fill_value, is_fill_att, value_count, IsArray, IsName, numbers, bytes_of_number, IsInRange, dim_len, is_record_shape, is_record_var, product, slab_lens, look_of, is_char, row_len, trimmed_att, trimmed_var, capacity_of, filled, array_of, and_left, is_off, is_on, look-type, length-numbers_from, Each, each_map, has_values, listed_values, Listing, and_false, option_map}
 use Rattle.cdl_laws.proofs.Attributes.{numbers_back, numbers_range, all_fit, all_small, count_is}
 use Rattle.cdl_laws.proofs.Characters.{flat, IsCharacter}
 use Rattle.cdl_laws.proofs.DataTexts.{Gives, IsRoomFor, gives_numbers, gives_table, gives_line, given_draft, IsGivenBy}
@@ -13,13 +13,9 @@ pub found_trimmed : (atts : List Att) → find is_fill_att (map trimmed_att atts
 found_trimmed [] = refl
 found_trimmed (a ∷ atts) = search (rules, found_trimmed atts)
 
--- what a number type takes from an attribute is the same of a trimmed one
-same_of_type : (ty : NcType) (o : Option Att) → is_char ty ≡ false → fill_of_att ty (option_map trimmed_att o) ≡ fill_of_att ty o
-same_of_type ty o h = grind arith
-
 pub same_fill : (var : Var) → is_char var.ty ≡ false → fill_value (trimmed_var var) ≡ fill_value var
 unfolding fill_value
-same_fill var h = grind (arith, found_trimmed var.atts, same_of_type var.ty (find is_fill_att var.atts) h)
+same_fill var h = grind (arith, found_trimmed var.atts)
 
 -- ---- rooms
 
@@ -227,13 +223,7 @@ no_bytes (b ∷ array) m size h z = absurd (let e : m * size ≡ 0 = rw (z) (ome
 pub is_back : (v : Version) (h : Header) (n width : ℕ) (var : Var) (array : List ℕ) → IsArray h.dims n var array → IsName var.name → (is_char var.ty ≡ true → fill_value (trimmed_var var) ≡ fill_value var) → IsBack v h n width var array
 is_back v h n width var array is name fill =
     elim (has_values h.dims n var) as (λ b. has_values h.dims n var ≡ b → IsBack v h n width var array) [
-      | true ↦ (λ e. gives_back v h n width var array is e (row_back v h n width var array is (grind (arith, e)) name fill))
+      | true ↦ (λ e. gives_back v h n width var array is e (row_back v h n width var array is (grind arith) name fill))
       | false ↦ (λ e.
-          let z : value_count h.dims var n ≡ 0 = grind (arith, e) in
-          record {
-            o = None;
-            given = subst (λ b. IsGivenBy b v h.dims (look_of h var n width) var (numbers var.ty array) None) (sym e) refl;
-            back = array_none h.dims var n z ∙ sym (no_bytes array (value_count h.dims var n) _ is.whole z);
-            exact = λ r. sym z;
-          })
+          search (rules, no_bytes))
     ] refl
