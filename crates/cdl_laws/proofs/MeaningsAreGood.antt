@@ -68,7 +68,7 @@ all_records_small v N n dims (d ∷ ds) f = let a : records_of dims d ≤ N =
     let b = all_records_small v N n dims ds f.1 in
     omega (arith, a, b)
 
--- what is listed has capacity over the records
+-- what is listed has listable over the records
 listed_fits : (v : Version) (N n : ℕ) (dims : List Dim) (r : ℕ) (d : Draft) → IsFineDraft v N n dims d → records_of dims d ≤ r → length (listed_values dims d) ≤ value_count dims d.var r
 listed_fits v N n dims r d f h =
     grind (arith, f.listed d.var.atts, some_count dims d.var.dimids f.shape, lt-div-mul-add, mul-le-mul_left, mul_comm)

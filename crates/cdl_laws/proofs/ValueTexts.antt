@@ -1,6 +1,6 @@
 -- The listed numbers of a variable are read back, wherever the breaks are.
 use Rattle.std.proofs.Common.{◌≡◌, ℕ, ◌+◌, ◌^◌, ◌<◌, ◌≤◌, Bool, true, false, List, [], ◌∷◌, ◌++◌, length, map, sym, ◌∙◌, ap, refl, subst, arith, append_assoc, append-nil, length-append, ℤ, unsigned_abs, ◌&&◌, not, if◌then◌else◌, nat_lt, Some, Result, Ok, codes, ◌⊎◌}
-use Rattle.cdl_laws.proofs.Prelude.{signed_decimal, flat_map, int_eq, mod-eq_of_lt, false≢true, concat_parts, escaped_name, Int, Version, IsName, Look, is_char, number_text, number_lead, line_break, begins_row, column, number_piece, piece, pieces, variable_opening, variable_closing, variable_text, prefix_is, CdlKind, Lexeme, Value, Number, Underscore, both, constant, constants, constants, Capacity, Numbers, add_number, has_number, in_turn, listing_of, word_at_start, Each, ◌>>=◌}
+use Rattle.cdl_laws.proofs.Prelude.{signed_decimal, flat_map, int_eq, mod-eq_of_lt, false≢true, concat_parts, escaped_name, Int, Version, IsName, Look, is_char, number_text, number_lead, line_break, begins_row, column, number_piece, piece, pieces, variable_opening, variable_closing, variable_text, prefix_is, CdlKind, Lexeme, Value, Number, Underscore, both, constant, constants, constants, Listable, Numbers, add_number, has_number, in_turn, listing_of, word_at_start, Each, ◌>>=◌}
 use Rattle.cdl_laws.proofs.Texts.{Closed, Reads, Stops, closed_both, then_reads, closed_by, reads_both, mark, word, number, name_word, word_reads, stop_word, marks_closed, number_reads}
 use Rattle.cdl_laws.proofs.Numerals.{value_again, value_is}
 
@@ -165,13 +165,13 @@ values_said v look x xs fit = constants_say v true (value_lexeme look) (value_sa
 
 -- ---- what becomes of them
 
-all_added : (look : Look) (capacity : Capacity) (before xs : List ℤ) → capacity.fill ≡ look.fill → (capacity.is_open ≡ false → length before + length xs ≤ capacity.count) → Each (λ x. has_number capacity.ty x ≡ true) xs →
-    in_turn (add_number capacity) before (map (value_said look) xs) ≡ Ok (before ++ xs)
-all_added look capacity before [] same wide fit = ap Ok (sym (append-nil before))
-all_added look capacity before (x ∷ xs) same wide fit =
-    grind (arith, length-append, turn, append_assoc, all_added look capacity (before ++ x ∷ []) xs same)
+all_added : (look : Look) (listable : Listable) (before xs : List ℤ) → listable.fill ≡ look.fill → (listable.is_open ≡ false → length before + length xs ≤ listable.count) → Each (λ x. has_number listable.ty x ≡ true) xs →
+    in_turn (add_number listable) before (map (value_said look) xs) ≡ Ok (before ++ xs)
+all_added look listable before [] same wide fit = ap Ok (sym (append-nil before))
+all_added look listable before (x ∷ xs) same wide fit =
+    grind (arith, length-append, turn, append_assoc, all_added look listable (before ++ x ∷ []) xs same)
 
-pub numbers_listed : (look : Look) (capacity : Capacity) (xs : List ℤ) → is_char capacity.ty ≡ false → capacity.fill ≡ look.fill → (capacity.is_open ≡ false → length xs ≤ capacity.count) → Each (λ x. has_number capacity.ty x ≡ true) xs →
-    listing_of capacity (map (value_said look) xs) ≡ Ok (Numbers xs)
+pub numbers_listed : (look : Look) (listable : Listable) (xs : List ℤ) → is_char listable.ty ≡ false → listable.fill ≡ look.fill → (listable.is_open ≡ false → length xs ≤ listable.count) → Each (λ x. has_number listable.ty x ≡ true) xs →
+    listing_of listable (map (value_said look) xs) ≡ Ok (Numbers xs)
 unfolding listing_of
-numbers_listed look capacity xs h same wide fit = rw (h) (ap (λ values. values >>= (λ ys. Ok (Numbers ys))) (all_added look capacity [] xs same (λ e. let f = wide e in omega (arith, f)) fit))
+numbers_listed look listable xs h same wide fit = rw (h) (ap (λ values. values >>= (λ ys. Ok (Numbers ys))) (all_added look listable [] xs same (λ e. let f = wide e in omega (arith, f)) fit))
