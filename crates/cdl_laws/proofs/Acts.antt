@@ -1,6 +1,6 @@
 -- What the statements of a dump make of a state.
 use Rattle.std.proofs.Common.{◌≡◌, ℕ, zero, suc, ◌<◌, ◌≤◌, true, false, List, [], ◌∷◌, ◌++◌, length, map, sym, ap, refl, arith, append_assoc, append-nil, ℤ, pos, ◌==◌, nat_lt, nat_le, None, Some, Result, Ok, rules}
-use Rattle.cdl_laws.proofs.Prelude.{flat_map, list_any, position, position_or_len, int_eq, bytes_eq, false≢true, eqb-true, bytes_eq-Decides, Att, Dim, NcType, Char, Version, has_name, has_record_dim, IsDimid, AreDimids, IsName, count_limit, CdlKind, Value, Characters, Draft, add_dim, add_dimid, add_var, add_att, add_constant, first_type, change_named, change_variable, in_turn, ok_or, int_within, has_number, said_dim, AreDistinct, bytes_of_number, and_both, Each, or_left, or_right}
+use Rattle.cdl_laws.proofs.Prelude.{flat_map, list_any, position, position_or_len, int_eq, bytes_eq, false≢true, eqb-true, bytes_eq-Decides, Att, Dim, NcType, Char, Version, has_name, has_record_dim, IsDimid, AreDimids, IsName, count_limit, CdlKind, Value, Characters, Draft, add_dim, add_dimid, add_var, add_att, add_constant, first_type, change_named, change_variable, in_turn, ok_or, int_within, has_number, said_dim, AreDistinct, bytes_of_number, and_both, Each, or_right}
 use Rattle.cdl_laws.proofs.ValueTexts.{turn}
 use Rattle.cdl_laws.proofs.Declarations.{numbers_said}
 
@@ -18,13 +18,10 @@ between_is m n some small = and_both (nat_le 1 n) (nat_le n m) (grind (arith, so
 not_zero : (n : ℕ) → (n == 0) ≡ false → int_eq (pos n) (pos 0) ≡ false
 not_zero n h = grind (arith, pos, false≢true)
 
-positive : (n : ℕ) → (n == 0) ≡ false → 0 < n
-positive n h = grind (arith, h)
-
 pub dim_added : (v : Version) (dims : List Dim) (dim : Dim) → IsName dim.name → list_any (λ (e : Dim). bytes_eq e.name dim.name) dims ≡ false → dim.len < count_limit v → record_once dims dim.len →
     add_dim v dims (said_dim dim) ≡ Ok (dims ++ dim ∷ [])
 unfolding add_dim
-dim_added v dims dim name new small once = grind (arith, pos, eqb-true, not_zero, between_is, positive)
+dim_added v dims dim name new small once = grind (arith, eqb-true, not_zero, between_is)
 
 -- ---- attributes
 
@@ -54,8 +51,7 @@ no_draft name ds = list_any (λ (d : Draft). bytes_eq d.var.name name) ds ≡ fa
 
 named_past : (name : List ℕ) (f : Draft → Result Draft CdlKind) (before ds es : List Draft) → no_draft name before → change_named name f ds ≡ Ok es → change_named name f (before ++ ds) ≡ Ok (before ++ es)
 named_past name f [] ds es new h = h
-named_past name f (b ∷ before) ds es new h =
-    grind (arith, or_left, or_right, named_past name f before ds es (or_right (bytes_eq b.var.name name) (list_any (λ (d : Draft). bytes_eq d.var.name name) before) new) h)
+named_past name f (b ∷ before) ds es new h = grind (arith, named_past name f before ds es)
 
 -- what becomes of the variable after others
 pub variable_is : (f : Draft → Result Draft CdlKind) (before : List Draft) (d e : Draft) (after : List Draft) → IsName d.var.name → no_draft d.var.name before → f d ≡ Ok e →
@@ -75,14 +71,12 @@ abbrev pub AreDistinctDims : List Dim → Type 0
 AreDistinctDims dims = AreDistinct (dim_names dims)
 
 other_name : (d : Dim) (dims : List Dim) (k : ℕ) → has_name (dim_names dims) d.name ≡ false → k < length dims → bytes_eq d.name (name_at dims k) ≡ false
-other_name d [] k new h = absurd (omega (arith, h))
-other_name d (e ∷ dims) zero new h = grind (arith, false≢true, or_left, bytes_eq-Decides)
 other_name d (e ∷ dims) (suc k) new h = other_name d dims k (or_right (bytes_eq e.name d.name) (has_name (dim_names dims) d.name) new) (omega (arith, h))
+other_name d _ _ new h = grind (arith, bytes_eq-Decides)
 
 place_is : (dims : List Dim) (k : ℕ) → AreDistinctDims dims → k < length dims → position_or_len (λ (d : Dim). bytes_eq d.name (name_at dims k)) dims ≡ k
-place_is [] k distinct h = absurd (omega (arith, h))
-place_is (d ∷ dims) zero distinct h = rw ((bytes_eq-Decides d.name d.name).1 refl) refl
 place_is (d ∷ dims) (suc k) distinct h = search (rules, other_name, place_is dims k distinct.1)
+place_is _ _ distinct h = grind (arith, bytes_eq-Decides)
 
 position_is : (dims : List Dim) (k : ℕ) → AreDistinctDims dims → k < length dims → position (λ (d : Dim). bytes_eq d.name (name_at dims k)) dims ≡ Some k
 position_is dims k distinct h = rw (place_is dims k distinct h) (let e : nat_lt k (length dims) ≡ true = grind (arith, h) in rw (e) refl)
@@ -92,9 +86,8 @@ abbrev pub HaveNames : List Dim → Type 0
 HaveNames dims = Each (λ (d : Dim). IsName d.name) dims
 
 pub name_valid : (dims : List Dim) (k : ℕ) → HaveNames dims → k < length dims → IsName (name_at dims k)
-name_valid [] k names h = absurd (omega (arith, h))
-name_valid (d ∷ dims) zero names h = names.0
 name_valid (d ∷ dims) (suc k) names h = name_valid dims k names.1 (omega (arith, h))
+name_valid _ _ names h = grind arith
 
 id_added : (dims : List Dim) (before : List ℕ) (k : ℕ) → AreDistinctDims dims → HaveNames dims → IsDimid dims before k → add_dimid dims before (name_at dims k) ≡ Ok (before ++ k ∷ [])
 unfolding add_dimid

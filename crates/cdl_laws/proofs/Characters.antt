@@ -1,6 +1,6 @@
 -- The strings of a variable of characters are read back, and what a row shows, filled up, is the row.
 use Rattle.std.proofs.Common.{◌≡◌, ℕ, suc, ◌+◌, ◌*◌, ◌<◌, ◌≤◌, true, false, List, [], ◌∷◌, ◌++◌, length, map, sym, ◌∙◌, ap, refl, subst, arith, append_assoc, append-nil, length-append, ℤ, ◌==◌, codes, zero, ◌-◌, Bool, pos, unsigned_abs, replicate, Some, Ok, rules}
-use Rattle.cdl_laws.proofs.Prelude.{flat_map, escaped_name, escaped_text, IsName, Look, is_char, char_lead, pieces, variable_opening, variable_closing, variable_text, Lexeme, Each, prefix_is, pieces_are, a_row, char_pieces, printed, map-append, length-replicate, replicate_more, Version, escaped_in_string, is_nul, string_value, stands_for, Characters, constant, constants, Capacity, Joined, Rows, add_row, filled, in_turn, listing_of, values_in, le-leb, length-map, ◌>>=◌, any_each, lt-ltb}
+use Rattle.cdl_laws.proofs.Prelude.{flat_map, escaped_name, escaped_text, IsName, Look, is_char, char_lead, variable_opening, variable_closing, variable_text, Lexeme, Each, prefix_is, pieces_are, a_row, char_pieces, printed, map-append, length-replicate, replicate_more, Version, escaped_in_string, is_nul, string_value, stands_for, Characters, constant, constants, Listable, Joined, Rows, add_row, filled, in_turn, listing_of, values_in, le-leb, length-map, ◌>>=◌, any_each, lt-ltb}
 use Rattle.cdl_laws.proofs.Texts.{Closed, closed_both, mark, marks_closed, word}
 use Rattle.cdl_laws.proofs.Strings.{string, string_then, unescape_all, between_quotes}
 use Rattle.cdl_laws.proofs.ValueTexts.{commas, comma, opening_closed, semicolon, turn, constants_say}
@@ -18,8 +18,7 @@ strings_closed gap ending ls between end s [] = string_then s ending ls end
 strings_closed gap ending ls between end s (o ∷ os) =
     let rest = flat_map (later_string gap) os in
     let after = escaped_text o ++ (rest ++ 34 ∷ ending) in
-    let same : (gap ++ 34 ∷ escaped_text o) ++ (rest ++ 34 ∷ ending) ≡ gap ++ 34 ∷ after = append_assoc gap (34 ∷ escaped_text o)
-    (rest ++ 34 ∷ ending) in
+    let same : (gap ++ 34 ∷ escaped_text o) ++ (rest ++ 34 ∷ ending) ≡ gap ++ 34 ∷ after = grind (arith, append_assoc) in
     subst (λ bs. Closed (34 ∷ (escaped_text s ++ bs)) (string s ∷ (commas (map string (o ∷ os)) ++ ls)))
     (sym (append_assoc (later_string gap o) rest (34 ∷ ending) ∙ ap (λ bs. 34 ∷ bs) same))
     (string_then s (gap ++ 34 ∷ after) (comma ∷ string o ∷ (commas (map string os) ++ ls))
@@ -42,8 +41,6 @@ rows_text : (look : Look) (done : List ℤ) (k : ℕ) (rows : List (List ℤ)) �
     0 < length done → 0 < look.row → Each (λ (s : List ℤ). length s ≡ look.row) rows →
     char_pieces look done (flat rows) ≡ flat_map (later_string (codes ",\n  ")) (map (printed look.trimmed 0) rows)
 unfolding char_pieces
-rows_text look done k [] h len some wide all = refl
-rows_text look done k ([] ∷ rows) h len some wide all = absurd (let e : 0 ≡ look.row = all.0 in omega (arith, e, wide))
 rows_text look done k ((x ∷ xs) ∷ rows) h len some wide all =
     let s = x ∷ xs in
     let row_len : length s ≡ look.row = all.0 in
@@ -54,13 +51,13 @@ rows_text look done k ((x ∷ xs) ∷ rows) h len some wide all =
     (later_lead look (length done) h some) ∙
     ap (λ bs. codes "\",\n  \"" ++ (escaped_text (printed look.trimmed 0 s) ++ bs))
     (rows_text look (done ++ s) (k + 1) rows h grown (omega (arith, more, some)) wide all.1)
+rows_text look done k _ h len some wide all = grind arith
 
 -- ---- a variable's characters
 
 char_variable : (look : Look) (values : List ℤ) → is_char look.ty ≡ true → (0 < length values → 0 < look.row) → variable_text look values ≡ variable_opening look ++ (char_pieces look [] values ++ closing_bytes)
 unfolding variable_text variable_closing
-char_variable look values h wide =
-    grind (arith, append_assoc, variable_opening, pieces, variable_closing, prefix_is look values (λ is. wide), pieces_are)
+char_variable look values h wide = grind (arith, append_assoc, prefix_is, pieces_are)
 
 -- what all its strings are read as
 abbrev pub strings : Look → List ℤ → List (List ℤ) → List Lexeme
@@ -144,10 +141,7 @@ filled_whole n fill xs h = ap (λ m. xs ++ replicate m fill) (let e : n - length
 
 -- what a row shows, filled up: the fill value is NUL where it is trimmed
 pub row_back : (t : Bool) (n : ℕ) (fill : ℤ) (xs : List ℤ) → (t ≡ true → fill ≡ pos 0) → length xs ≡ n → Each IsCharacter xs → filled n fill (map pos (printed t 0 xs)) ≡ xs
-row_back true n fill xs h len all =
-    let m = n - length (printed true 0 xs) in
-    grind (arith, filled n, pos 0, length-map (printed true 0 xs) pos, shown_len true 0 xs, back_trimmed 0 m xs all)
-row_back false n fill xs h len all = ap (filled n fill) (back_whole xs all) ∙ filled_whole n fill xs len
+row_back t n fill xs h len all = grind (arith, printed, filled, pos, length-map, shown_len, back_trimmed, back_whole, filled_whole)
 
 -- ---- what the strings say
 
@@ -160,22 +154,22 @@ strings_said v takes_fill bytes all = constants_say v takes_fill string Characte
 
 -- ---- what becomes of them
 
-rows_added : (capacity : Capacity) (t : Bool) (before : List (List ℕ)) (rows : List (List ℤ)) → (capacity.is_open ≡ false → length before + length rows ≤ capacity.rows) → Each (λ (r : List ℤ). (length r ≡ capacity.row) × Each IsCharacter r) rows →
-    in_turn (add_row capacity) before (map Characters (map (printed t 0) rows)) ≡ Ok (before ++ map (printed t 0) rows)
-rows_added capacity t before [] wide all = ap Ok (sym (append-nil before))
-rows_added capacity t before (r ∷ rows) wide all =
-    grind (arith, length-append, turn, append_assoc, rows_added capacity t (before ++ printed t 0 r ∷ []) rows, le-leb, shown_len, lt-ltb)
+rows_added : (listable : Listable) (t : Bool) (before : List (List ℕ)) (rows : List (List ℤ)) → (listable.is_open ≡ false → length before + length rows ≤ listable.rows) → Each (λ (r : List ℤ). (length r ≡ listable.row) × Each IsCharacter r) rows →
+    in_turn (add_row listable) before (map Characters (map (printed t 0) rows)) ≡ Ok (before ++ map (printed t 0) rows)
+rows_added listable t before [] wide all = ap Ok (sym (append-nil before))
+rows_added listable t before (r ∷ rows) wide all =
+    grind (arith, length-append, turn, append_assoc, rows_added listable t (before ++ printed t 0 r ∷ []) rows, le-leb, shown_len, lt-ltb)
 
-pub rows_listed : (capacity : Capacity) (t : Bool) (rows : List (List ℤ)) → is_char capacity.ty ≡ true → capacity.in_rows ≡ true → (capacity.is_open ≡ false → length rows ≤ capacity.rows) → Each (λ (r : List ℤ). (length r ≡ capacity.row) × Each IsCharacter r) rows →
-    listing_of capacity (map Characters (map (printed t 0) rows)) ≡ Ok (Rows (map (printed t 0) rows))
+pub rows_listed : (listable : Listable) (t : Bool) (rows : List (List ℤ)) → is_char listable.ty ≡ true → listable.in_rows ≡ true → (listable.is_open ≡ false → length rows ≤ listable.rows) → Each (λ (r : List ℤ). (length r ≡ listable.row) × Each IsCharacter r) rows →
+    listing_of listable (map Characters (map (printed t 0) rows)) ≡ Ok (Rows (map (printed t 0) rows))
 unfolding listing_of
-rows_listed capacity t rows ty h wide all = rw (ty) (rw (h) (ap (λ items. items >>= (λ bytes. Ok (Rows bytes))) (rows_added capacity t [] rows (λ e. let f = wide e in omega (arith, f)) all)))
+rows_listed listable t rows ty h wide all = rw (ty) (rw (h) (ap (λ items. items >>= (λ bytes. Ok (Rows bytes))) (rows_added listable t [] rows (λ e. let f = wide e in omega (arith, f)) all)))
 
 -- and the rows filled up are the rows that were printed
-pub rows_full : (capacity : Capacity) (t : Bool) (rows : List (List ℤ)) → (t ≡ true → capacity.fill ≡ pos 0) → Each (λ (r : List ℤ). (length r ≡ capacity.row) × Each IsCharacter r) rows → values_in capacity (Rows (map (printed t 0) rows)) ≡ flat rows
-rows_full capacity t [] fill all = refl
-rows_full capacity t (r ∷ rows) fill all = search (rules, row_back, rows_full capacity t rows fill all.1)
+pub rows_full : (listable : Listable) (t : Bool) (rows : List (List ℤ)) → (t ≡ true → listable.fill ≡ pos 0) → Each (λ (r : List ℤ). (length r ≡ listable.row) × Each IsCharacter r) rows → values_in listable (Rows (map (printed t 0) rows)) ≡ flat rows
+rows_full listable t [] fill all = refl
+rows_full listable t (r ∷ rows) fill all = search (rules, row_back, rows_full listable t rows fill all.1)
 
-pub line_listed : (capacity : Capacity) (t : Bool) (r : List ℤ) → is_char capacity.ty ≡ true → capacity.in_rows ≡ false → (capacity.is_open ≡ false → length r ≤ capacity.count) → listing_of capacity (Characters (printed t 0 r) ∷ []) ≡ Ok (Joined (printed t 0 r))
+pub line_listed : (listable : Listable) (t : Bool) (r : List ℤ) → is_char listable.ty ≡ true → listable.in_rows ≡ false → (listable.is_open ≡ false → length r ≤ listable.count) → listing_of listable (Characters (printed t 0 r) ∷ []) ≡ Ok (Joined (printed t 0 r))
 unfolding listing_of
-line_listed capacity t r ty h wide = grind (arith, turn, shown_len)
+line_listed listable t r ty h wide = grind (arith, turn, shown_len)

@@ -1,9 +1,9 @@
 -- The data section of a dump, variable after variable.
 use Rattle.std.proofs.Common.{◌≡◌, ℕ, ◌+◌, ◌<◌, ◌≤◌, Bool, true, false, List, [], ◌∷◌, ◌++◌, length, map, sym, ◌∙◌, ap, refl, subst, append_assoc, ℤ, pos, if◌then◌else◌, Option, None, Some, Ok, arith, rules}
-use Rattle.cdl_laws.proofs.Prelude.{DataText, variables_text, printed, Att, Dim, Header, Var, Version, VariableValues, whole, shown_data, with_variable, has_values, fill_value, IsName, is_record_var, Look, look_of, is_char, variable_text, Values, trimmed_var, Value, Characters, Listed, State, Draft, Listing, Numbers, Joined, Rows, Capacity, capacity_of, act, listing_of, values_in, filled, has_number, Each, each_map}
+use Rattle.cdl_laws.proofs.Prelude.{DataText, variables_text, printed, Att, Dim, Header, Var, Version, VariableValues, whole, shown_data, with_variable, has_values, fill_value, IsName, is_record_var, Look, look_of, is_char, variable_text, Values, trimmed_var, Value, Characters, Listed, State, Draft, Listing, Numbers, Joined, Rows, Listable, listable_of, act, listing_of, values_in, filled, has_number, Each, each_map}
 use Rattle.cdl_laws.proofs.ValueTexts.{AreSmall, value_said, numbers_listed}
 use Rattle.cdl_laws.proofs.Characters.{flat, IsCharacter, row_back, rows_listed, rows_full, line_listed, back_whole, filled_whole}
-use Rattle.cdl_laws.proofs.Takes.{Takes, Says, says_takes, takes_both, takes_nothing}
+use Rattle.cdl_laws.proofs.Takes.{Takes, Says, says_takes, takes_both}
 use Rattle.cdl_laws.proofs.Heads.{numbers_say, table_says, line_says}
 use Rattle.cdl_laws.proofs.Acts.{no_draft, variable_is}
 use Rattle.cdl_laws.proofs.Wholes.{state, draft_of}
@@ -16,58 +16,54 @@ pub record Gives (v : Version) (dims : List Dim) (look : Look) (var : Var) (valu
   pub said : List Value
   pub says : Says v Values (variable_text look values) (Listed var.name said)
   pub listing : Listing
-  pub added : listing_of (capacity_of dims (trimmed_var var)) said ≡ Ok listing
-  pub full : filled (length values) (fill_value (trimmed_var var)) (values_in (capacity_of dims (trimmed_var var)) listing) ≡ values
-  pub exact : is_record_var dims var ≡ true → values_in (capacity_of dims (trimmed_var var)) listing ≡ values
+  pub added : listing_of (listable_of dims (trimmed_var var)) said ≡ Ok listing
+  pub full : filled (length values) (fill_value (trimmed_var var)) (values_in (listable_of dims (trimmed_var var)) listing) ≡ values
+  pub exact : is_record_var dims var ≡ true → values_in (listable_of dims (trimmed_var var)) listing ≡ values
 
--- what a look and a capacity have to share
-pub record IsRoomFor (look : Look) (capacity : Capacity) (var : Var) (count : ℕ) : Type 0 where
+-- what a look and a listable have to share
+pub record IsRoomFor (look : Look) (listable : Listable) (var : Var) (count : ℕ) : Type 0 where
   pub name : look.name ≡ var.name
   pub valid : IsName look.name
-  pub ty : capacity.ty ≡ look.ty
-  pub fill : capacity.fill ≡ look.fill
-  pub rows : capacity.in_rows ≡ look.in_rows
-  pub wide : capacity.is_open ≡ false → count ≤ capacity.count
+  pub ty : listable.ty ≡ look.ty
+  pub fill : listable.fill ≡ look.fill
+  pub rows : listable.in_rows ≡ look.in_rows
+  pub wide : listable.is_open ≡ false → count ≤ listable.count
 
-pub gives_numbers : (v : Version) (dims : List Dim) (look : Look) (var : Var) (x : ℤ) (xs : List ℤ) → IsRoomFor look (capacity_of dims (trimmed_var var)) var (length (x ∷ xs)) → is_char look.ty ≡ false →
-    (look.in_rows ≡ false → length (x ∷ xs) ≤ look.row) → AreSmall (x ∷ xs) → Each (λ y. has_number (capacity_of dims (trimmed_var var)).ty y ≡ true) (x ∷ xs) → Gives v dims look var (x ∷ xs)
-gives_numbers v dims look var x xs capacity ty small fit range = record {
+pub gives_numbers : (v : Version) (dims : List Dim) (look : Look) (var : Var) (x : ℤ) (xs : List ℤ) → IsRoomFor look (listable_of dims (trimmed_var var)) var (length (x ∷ xs)) → is_char look.ty ≡ false →
+    (look.in_rows ≡ false → length (x ∷ xs) ≤ look.row) → AreSmall (x ∷ xs) → Each (λ y. has_number (listable_of dims (trimmed_var var)).ty y ≡ true) (x ∷ xs) → Gives v dims look var (x ∷ xs)
+gives_numbers v dims look var x xs listable ty small fit range = record {
   said = map (value_said look) (x ∷ xs);
-  says = subst (λ n. Says v Values (variable_text look (x ∷ xs)) (Listed n (map (value_said look) (x ∷ xs)))) capacity.name (numbers_say v look x xs capacity.valid ty small fit);
+  says = subst (λ n. Says v Values (variable_text look (x ∷ xs)) (Listed n (map (value_said look) (x ∷ xs)))) listable.name (numbers_say v look x xs listable.valid ty small fit);
   listing = Numbers (x ∷ xs);
-  added = numbers_listed look (capacity_of dims (trimmed_var var)) (x ∷ xs) (ap is_char capacity.ty ∙ ty) capacity.fill capacity.wide range;
+  added = numbers_listed look (listable_of dims (trimmed_var var)) (x ∷ xs) (ap is_char listable.ty ∙ ty) listable.fill listable.wide range;
   full = filled_whole (length (x ∷ xs)) (fill_value (trimmed_var var)) (x ∷ xs) refl;
   exact = λ e. refl;
 }
 
-pub gives_table : (v : Version) (dims : List Dim) (look : Look) (var : Var) (r : List ℤ) (rows : List (List ℤ)) → IsRoomFor look (capacity_of dims (trimmed_var var)) var (length (flat (r ∷ rows))) → is_char look.ty ≡ true → look.in_rows ≡ true →
-    (look.trimmed ≡ true → look.fill ≡ pos 0) → look.row ≡ (capacity_of dims (trimmed_var var)).row → 0 < look.row → ((capacity_of dims (trimmed_var var)).is_open ≡ false → length (r ∷ rows) ≤ (capacity_of dims (trimmed_var var)).rows) → Each (λ (s : List ℤ). (length s ≡ look.row) × Each IsCharacter s) (r ∷ rows) → Gives v dims look var (flat (r ∷ rows))
-gives_table v dims look var r rows capacity ty h fill row some few all = record {
+pub gives_table : (v : Version) (dims : List Dim) (look : Look) (var : Var) (r : List ℤ) (rows : List (List ℤ)) → IsRoomFor look (listable_of dims (trimmed_var var)) var (length (flat (r ∷ rows))) → is_char look.ty ≡ true → look.in_rows ≡ true →
+    (look.trimmed ≡ true → look.fill ≡ pos 0) → look.row ≡ (listable_of dims (trimmed_var var)).row → 0 < look.row → ((listable_of dims (trimmed_var var)).is_open ≡ false → length (r ∷ rows) ≤ (listable_of dims (trimmed_var var)).rows) → Each (λ (s : List ℤ). (length s ≡ look.row) × Each IsCharacter s) (r ∷ rows) → Gives v dims look var (flat (r ∷ rows))
+gives_table v dims look var r rows listable ty h fill row some few all = record {
   said = map Characters (map (printed look.trimmed 0) (r ∷ rows));
-  says = subst (λ n. Says v Values (variable_text look (flat (r ∷ rows)))
-      (Listed n (map Characters (map (printed look.trimmed 0) (r ∷ rows))))) capacity.name
-      (table_says v look r rows capacity.valid ty h some
-      (each_map (λ (s : List ℤ). (length s ≡ look.row) × Each IsCharacter s) (λ (s : List ℤ). length s ≡ look.row) (r ∷ rows)
-      (λ s e. e.0) all));
+  says = grind (arith, table_says, each_map);
   listing = Rows (map (printed look.trimmed 0) (r ∷ rows));
-  added = rows_listed (capacity_of dims (trimmed_var var)) look.trimmed (r ∷ rows) (ap is_char capacity.ty ∙ ty) (capacity.rows ∙ h) few are;
+  added = rows_listed (listable_of dims (trimmed_var var)) look.trimmed (r ∷ rows) (ap is_char listable.ty ∙ ty) (listable.rows ∙ h) few are;
   full = ap (filled (length (flat (r ∷ rows))) (fill_value (trimmed_var var))) back ∙ filled_whole (length (flat (r ∷ rows))) (fill_value (trimmed_var var)) (flat (r ∷ rows)) refl;
   exact = λ e. back;
 }
   where
-    are : Each (λ (s : List ℤ). (length s ≡ (capacity_of dims (trimmed_var var)).row) × Each IsCharacter s) (r ∷ rows)
+    are : Each (λ (s : List ℤ). (length s ≡ (listable_of dims (trimmed_var var)).row) × Each IsCharacter s) (r ∷ rows)
     are = subst (λ n. Each (λ (s : List ℤ). (length s ≡ n) × Each IsCharacter s) (r ∷ rows)) row all
 
-    back : values_in (capacity_of dims (trimmed_var var)) (Rows (map (printed look.trimmed 0) (r ∷ rows))) ≡ flat (r ∷ rows)
-    back = rows_full (capacity_of dims (trimmed_var var)) look.trimmed (r ∷ rows) (λ e. capacity.fill ∙ fill e) are
+    back : values_in (listable_of dims (trimmed_var var)) (Rows (map (printed look.trimmed 0) (r ∷ rows))) ≡ flat (r ∷ rows)
+    back = rows_full (listable_of dims (trimmed_var var)) look.trimmed (r ∷ rows) (λ e. listable.fill ∙ fill e) are
 
-pub gives_line : (v : Version) (dims : List Dim) (look : Look) (var : Var) (x : ℤ) (xs : List ℤ) → IsRoomFor look (capacity_of dims (trimmed_var var)) var (length (x ∷ xs)) → is_char look.ty ≡ true → look.in_rows ≡ false → length (x ∷ xs) ≤ look.row →
+pub gives_line : (v : Version) (dims : List Dim) (look : Look) (var : Var) (x : ℤ) (xs : List ℤ) → IsRoomFor look (listable_of dims (trimmed_var var)) var (length (x ∷ xs)) → is_char look.ty ≡ true → look.in_rows ≡ false → length (x ∷ xs) ≤ look.row →
     (look.trimmed ≡ true → fill_value (trimmed_var var) ≡ pos 0) → (is_record_var dims var ≡ true → look.trimmed ≡ false) → Each IsCharacter (x ∷ xs) → Gives v dims look var (x ∷ xs)
-gives_line v dims look var x xs capacity ty h small fill record_whole all = record {
+gives_line v dims look var x xs listable ty h small fill record_whole all = record {
   said = Characters (printed look.trimmed 0 (x ∷ xs)) ∷ [];
-  says = subst (λ n. Says v Values (variable_text look (x ∷ xs)) (Listed n (Characters (printed look.trimmed 0 (x ∷ xs)) ∷ []))) capacity.name (line_says v look x xs capacity.valid ty h small);
+  says = subst (λ n. Says v Values (variable_text look (x ∷ xs)) (Listed n (Characters (printed look.trimmed 0 (x ∷ xs)) ∷ []))) listable.name (line_says v look x xs listable.valid ty h small);
   listing = Joined (printed look.trimmed 0 (x ∷ xs));
-  added = line_listed (capacity_of dims (trimmed_var var)) look.trimmed (x ∷ xs) (ap is_char capacity.ty ∙ ty) (capacity.rows ∙ h) capacity.wide;
+  added = line_listed (listable_of dims (trimmed_var var)) look.trimmed (x ∷ xs) (ap is_char listable.ty ∙ ty) (listable.rows ∙ h) listable.wide;
   full = row_back look.trimmed (length (x ∷ xs)) (fill_value (trimmed_var var)) (x ∷ xs) fill refl all;
   exact = λ e. ap (λ t. map pos (printed t 0 (x ∷ xs))) (record_whole e) ∙ back_whole (x ∷ xs) all;
 }
@@ -117,15 +113,13 @@ one_taken v h gatts before after look var c o place others t false valid new all
 
 pub data_taken : (v : Version) (h : Header) (content : ℕ → Var → VariableValues) (n width place : ℕ) (gatts : List Att) (before : List Draft) (vars : List Var) (os : List (Option Listing)) → AreGiven v h content n width place before vars os →
     Takes v (variables_text (shown_data h content n width) place vars (all_marked vars)).text (state Values h.dims gatts (before ++ map draft_of vars)) (state Values h.dims gatts (before ++ given_drafts vars os))
-data_taken v h content n width place gatts before [] [] given = takes_nothing v (state Values h.dims gatts (before ++ []))
 data_taken v h content n width place gatts before (var ∷ vars) (o ∷ os) given =
     grind (arith, one_taken, append_assoc, data_taken v h content n width (place + 1) gatts (before ++ given_draft var o ∷ []) vars os given.1)
-data_taken v h content n width place gatts before _ _ given = absurd given
+data_taken v h content n width place gatts before _ _ given = grind arith
 
 -- and the section is whole
 pub data_whole : (v : Version) (h : Header) (content : ℕ → Var → VariableValues) (n width place : ℕ) (before : List Draft) (vars : List Var) (os : List (Option Listing)) → AreGiven v h content n width place before vars os →
     (variables_text (shown_data h content n width) place vars (all_marked vars)).ending ≡ whole
-data_whole v h content n width place before [] os given = refl
-data_whole v h content n width place before (var ∷ vars) [] given = absurd given
 data_whole v h content n width place before (var ∷ vars) (o ∷ os) given =
     grind (arith, whole, data_whole v h content n width (place + 1) (before ++ given_draft var o ∷ []) vars os given.1)
+data_whole v h content n width place before _ _ given = grind arith

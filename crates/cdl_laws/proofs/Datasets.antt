@@ -1,5 +1,5 @@
 -- A dataset that a text can declare is read back from its full dump.
-use Rattle.std.proofs.Common.{◌≡◌, ℕ, ◌+◌, ◌*◌, ◌-◌, ◌/◌, ◌<◌, true, List, [], ◌∷◌, ◌++◌, length, map, ◌∙◌, ap, refl, arith, append_assoc, length-append, Option, slice_index_or, ◌≤◌, sum, ◌⊎◌, inl}
+use Rattle.std.proofs.Common.{◌≡◌, ℕ, ◌+◌, ◌*◌, ◌-◌, ◌/◌, ◌<◌, true, List, [], ◌∷◌, ◌++◌, length, map, ◌∙◌, ap, refl, arith, append_assoc, length-append, Option, slice_index_or, ◌≤◌, ◌⊎◌}
 use Rattle.cdl_laws.proofs.Prelude.{mul-add-div, div-eq_of_lt, Dataset, Dim, Header, Var, Version, values_in_dataset, fill_value, AreArrays, IsName, numbers, slab_count, record_vars, is_char, trimmed_var, array_of, records_in, Draft, Listing, Each, list_all, slab_size, record_size_of, padded_size, slab_limit, is_within_limits, and_both, le-leb}
 use Rattle.cdl_laws.proofs.Given.{IsBack, is_back}
 use Rattle.cdl_laws.proofs.Acts.{no_draft}
@@ -19,9 +19,8 @@ abbrev pub keeps_fill : Var → Type 0
 keeps_fill var = is_char var.ty ≡ true → fill_value (trimmed_var var) ≡ fill_value var
 
 pub are_back : (v : Version) (h : Header) (n width : ℕ) (vars : List Var) (arrays : List (List ℕ)) → AreArrays h.dims n vars arrays → Each (λ (var : Var). IsName var.name × keeps_fill var) vars → AreBack v h n width vars arrays
-are_back v h n width [] [] are all = tt
 are_back v h n width (var ∷ vars) (a ∷ arrays) are all = (is_back v h n width var a are.0 all.0.0 all.0.1, are_back v h n width vars arrays are.1 all.1)
-are_back v h n width _ _ are all = are
+are_back v h n width _ _ are all = grind arith
 
 abbrev pub listings : (v : Version) (h : Header) (n width : ℕ) (vars : List Var) (arrays : List (List ℕ)) → AreBack v h n width vars arrays → List (Option Listing)
 listings v h n width [] [] backs = []
@@ -46,23 +45,20 @@ AreNewVars before (var ∷ vars) (o ∷ os) = IsName var.name × no_draft var.na
 
 pub all_given : (v : Version) (d : Dataset) (n width place : ℕ) (before : List Draft) (vars : List Var) (arrays : List (List ℕ)) (backs : AreBack v d.header n width vars arrays) → StandAt d.arrays place arrays →
     AreNewVars before vars (listings v d.header n width vars arrays backs) → AreGiven v d.header (values_in_dataset d) n width place before vars (listings v d.header n width vars arrays backs)
-all_given v d n width place before [] [] backs stand new = tt
 all_given v d n width place before (var ∷ vars) (a ∷ arrays) backs stand new =
     grind (arith, numbers, all_given v d n width (place + 1) (before ++ given_draft var backs.0.o ∷ []) vars arrays backs.1 stand.1 new.2)
-all_given v d n width place before _ _ backs stand new = absurd backs
+all_given v d n width place before _ _ backs stand new = grind arith
 
 -- the arrays and the variables that come back
 pub arrays_back : (v : Version) (h : Header) (n width : ℕ) (vars : List Var) (arrays : List (List ℕ)) (backs : AreBack v h n width vars arrays) →
     map (array_of h.dims n) (given_drafts vars (listings v h n width vars arrays backs)) ≡ arrays
-arrays_back v h n width [] [] backs = refl
 arrays_back v h n width (var ∷ vars) (a ∷ arrays) backs = ap (λ x. x ∷ map (array_of h.dims n) (given_drafts vars (listings v h n width vars arrays backs.1))) backs.0.back ∙ ap (λ xs. a ∷ xs) (arrays_back v h n width vars arrays backs.1)
-arrays_back v h n width _ _ backs = absurd backs
+arrays_back v h n width _ _ backs = grind arith
 
 pub vars_back : (v : Version) (h : Header) (n width : ℕ) (vars : List Var) (arrays : List (List ℕ)) (backs : AreBack v h n width vars arrays) →
     map (λ (d : Draft). d.var) (given_drafts vars (listings v h n width vars arrays backs)) ≡ map trimmed_var vars
-vars_back v h n width [] [] backs = refl
 vars_back v h n width (var ∷ vars) (a ∷ arrays) backs = ap (λ xs. trimmed_var var ∷ xs) (vars_back v h n width vars arrays backs.1)
-vars_back v h n width _ _ backs = absurd backs
+vars_back v h n width _ _ backs = grind arith
 
 -- ---- the number of records
 
@@ -73,10 +69,8 @@ counted slab n some = grind (arith, mul-add-div, div-eq_of_lt)
 count_all : (v : Version) (h : Header) (n width : ℕ) (vars : List Var) (arrays : List (List ℕ)) (backs : AreBack v h n width vars arrays) → Each (λ (var : Var). 0 < slab_count h.dims var) vars →
     ((record_vars h.dims vars ≡ []) × (records_in h.dims (given_drafts vars (listings v h n width vars arrays backs)) ≡ 0)) ⊎
     (records_in h.dims (given_drafts vars (listings v h n width vars arrays backs)) ≡ n)
-count_all v h n width [] [] backs slabs = inl (refl, refl)
-count_all v h n width (var ∷ vars) (a ∷ arrays) backs slabs =
-    grind (arith, count_all v h n width vars arrays backs.1 slabs.1, counted)
-count_all v h n width _ _ backs slabs = absurd backs
+count_all v h n width (var ∷ vars) (a ∷ arrays) backs slabs = grind (arith, counted, count_all v h n width vars arrays backs.1 slabs.1)
+count_all v h n width _ _ backs slabs = grind arith
 
 pub records_back : (v : Version) (h : Header) (n width : ℕ) (vars : List Var) (arrays : List (List ℕ)) (backs : AreBack v h n width vars arrays) → Each (λ (var : Var). 0 < slab_count h.dims var) vars → (record_vars h.dims vars ≡ [] → n ≡ 0) →
     records_in h.dims (given_drafts vars (listings v h n width vars arrays backs)) ≡ n
@@ -86,10 +80,9 @@ records_back v h n width vars arrays backs slabs none_none = grind (arith, count
 
 pub all_small : (v : Version) (h : Header) (n width : ℕ) (vars : List Var) (arrays : List (List ℕ)) (backs : AreBack v h n width vars arrays) → AreArrays h.dims n vars arrays → Each (λ (var : Var). slab_size h.dims var ≤ slab_limit) vars →
     list_all (is_within_limits h.dims n) (given_drafts vars (listings v h n width vars arrays backs)) ≡ true
-all_small v h n width [] [] backs are slabs = refl
 all_small v h n width (var ∷ vars) (a ∷ arrays) backs are slabs =
     grind (arith, and_both, le-leb, all_small v h n width vars arrays backs.1 are.1 slabs.1)
-all_small v h n width _ _ backs are slabs = absurd are
+all_small v h n width _ _ backs are slabs = grind arith
 
 pub record_trimmed : (dims : List Dim) (vars : List Var) → record_vars dims (map trimmed_var vars) ≡ map trimmed_var (record_vars dims vars)
 record_trimmed dims [] = refl
@@ -100,8 +93,7 @@ sizes_trimmed dims [] = refl
 sizes_trimmed dims (var ∷ vars) = ap (λ ss. padded_size dims var ∷ ss) (sizes_trimmed dims vars)
 
 record_size_of_trimmed : (dims : List Dim) (vars : List Var) → record_size_of dims (map trimmed_var vars) ≡ record_size_of dims vars
-record_size_of_trimmed dims (var ∷ w ∷ vars) = ap sum (sizes_trimmed dims (var ∷ w ∷ vars))
-record_size_of_trimmed dims _ = refl
+record_size_of_trimmed dims vars = grind (arith, sizes_trimmed)
 
 pub same_record : (dims : List Dim) (vars : List Var) → record_size_of dims (record_vars dims (map trimmed_var vars)) ≡ record_size_of dims (record_vars dims vars)
 same_record dims vars = ap (record_size_of dims) (record_trimmed dims vars) ∙ record_size_of_trimmed dims (record_vars dims vars)

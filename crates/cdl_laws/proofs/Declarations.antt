@@ -1,5 +1,5 @@
 -- The statements of a head, and what they say.
-use Rattle.std.proofs.Common.{◌≡◌, ℕ, ◌^◌, ◌<◌, true, false, List, [], ◌∷◌, ◌++◌, map, sym, ◌∙◌, ap, refl, subst, arith, append_assoc, append-nil, ℤ, pos, unsigned_abs, decimal, ◌==◌, not, if◌then◌else◌, None, Some, codes, rules}
+use Rattle.std.proofs.Common.{◌≡◌, ℕ, ◌^◌, ◌<◌, true, false, List, [], ◌∷◌, ◌++◌, map, sym, ◌∙◌, ap, refl, subst, arith, append_assoc, append-nil, ℤ, pos, decimal, ◌==◌, not, if◌then◌else◌, None, Some, codes, rules}
 use Rattle.cdl_laws.proofs.Prelude.{signed_decimal, flat_map, list_all, option_map, list_all-append, concat_parts, Att, Dim, NcType, Version, escaped_name, escaped_in_string, joined, dim_len_text, dim_line, unlimited_word, currently_word, att_line, att_text, chars_text, broken_text, string_break, without_trailing_nuls, IsName, number_suffix, is_char, has_type, Section, Dimensions, Variables, is_digit, Lexeme, said_dim, IsBeforeData, globals, dimensions, variables, Value, Number, Characters, DeclareDimensions, Attribute, both, constants, assigned, shape, and_left, and_right, and_both, Each, escaped_text, type_word, DeclareVariables, Variable, in_parentheses, any_each}
 use Rattle.cdl_laws.proofs.Texts.{Closed, Reads, closed_both, closed_by, mark, word, number, name_word, marks_closed, number_reads, stops}
 use Rattle.cdl_laws.proofs.Numerals.{numeral_again, value_again, decimal_digits, on_suffix, number_is, value_is}
@@ -83,9 +83,7 @@ numbers_said ty xs = map (λ x. Number (record { value = x; ty = ty })) xs
 
 numbers_are : (v : Version) (ty : NcType) (x : ℤ) (xs : List ℤ) → AreSmall (x ∷ xs) → has_type v ty ≡ true → is_char ty ≡ false →
     constants v false (number (suffixed ty x) ∷ commas (number_lexemes ty xs) ++ semicolon ∷ []) ≡ Some (numbers_said ty (x ∷ xs))
-numbers_are v ty x xs fit h k =
-    constants_say v false (λ y. number (suffixed ty y)) (λ y. Number (record { value = y; ty = ty })) (λ y. unsigned_abs y < 2 ^ 64)
-    (λ y small. rw (numeral_again v ty y small h k) refl) x xs fit
+numbers_are v ty x xs fit h k = search (rules, constants_say, numeral_again)
 
 -- ---- strings that are broken after line feeds
 
@@ -149,8 +147,7 @@ numbers_list v ty x xs fit h k = record {
   l = number (suffixed ty x);
   ls = number_lexemes ty xs;
   reads = joined_reads (suffixed ty) (λ y. number (suffixed ty y)) x xs (suffixed_read ty (x ∷ xs) fit);
-  fine = all_fine v (λ y. number (suffixed ty y)) (λ y. unsigned_abs y < 2 ^ 64)
-      (λ y small. rw (numeral_again v ty y small h k) refl) (x ∷ xs) fit;
+  fine = grind (arith, all_fine, numeral_again);
   are = numbers_are v ty x xs fit h k;
 }
 

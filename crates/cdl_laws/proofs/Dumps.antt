@@ -1,6 +1,6 @@
 -- A full dump is read back.
 use Rattle.std.proofs.Common.{◌≡◌, ℕ, true, false, List, [], ◌∷◌, ◌++◌, length, map, ◌∙◌, ap, refl, append_assoc, append-nil, ◌||◌, ◌==◌, if◌then◌else◌, Option, None, Ok, codes, arith, rules}
-use Rattle.cdl_laws.proofs.Prelude.{DataText, variables_text, concat_parts, Dataset, Att, Header, Var, Version, Options, VariableValues, dump_text, shown_data_text, values_in_dataset, shown_data, selection_of, is_selected, data_word, closing_word, head_text, netcdf_word, dims_text, vars_text, gatts_text, Globals, Variables, Values, Ended, meaning, piece_read, empty, finished, are_within_limits, dataset_of, cut_lexemes, lexemes, pieces_of, IsFull, trimmed, trimmed_att, Listing, in_turn, not_none, Each}
+use Rattle.cdl_laws.proofs.Prelude.{DataText, variables_text, concat_parts, Dataset, Att, Header, Var, Version, Options, VariableValues, dump_text, shown_data_text, values_in_dataset, shown_data, selection_of, is_selected, data_word, closing_word, head_text, netcdf_word, dims_text, vars_text, gatts_text, Variables, Values, Ended, meaning, piece_read, empty, finished, are_within_limits, dataset_of, cut_lexemes, lexemes, pieces_of, IsFull, trimmed, trimmed_att, Listing, in_turn, not_none, Each}
 use Rattle.cdl_laws.proofs.Acts.{AreDistinctDims, HaveNames}
 use Rattle.cdl_laws.proofs.Wholes.{state, AreNewDims, Speaks, AreNewAtts, AreFit, draft_of}
 use Rattle.cdl_laws.proofs.DataTexts.{AreGiven, given_drafts, all_marked, data_taken, data_whole}
@@ -21,9 +21,7 @@ selected h o (var ∷ vars) c d = search (rules, selected h o vars c d)
 data_read : (v : Version) (h : Header) (o : Options) (content : ℕ → Var → VariableValues) (n : ℕ) (gatts : List Att) (os : List (Option Listing)) → IsFull o → (vars : List Var) → h.vars ≡ vars → AreGiven v h content n o.width 0 [] vars os →
     in_turn (piece_read v) (state (after_vars (after_dims h.dims) vars) h.dims gatts (map draft_of vars)) (pieces_of (data_word h o ++ ((variables_text (shown_data h content n o.width) 0 vars (all_marked vars)).text ++ codes "}\n"))) ≡ Ok (state Ended h.dims gatts (given_drafts vars os))
 unfolding data_word
-data_read v h o content n gatts os full [] none given =
-    rw (none) (ap (λ b. in_turn (piece_read v) (state (after_dims h.dims) h.dims gatts []) (pieces_of ((if b || true then [] else codes "data:\n") ++ codes "}\n"))) full.values ∙
-    end_taken v (after_dims h.dims) h.dims gatts [] (grind arith))
+data_read v h o content n gatts os full [] none given = grind (arith, end_taken)
 data_read v h o content n gatts os full (var ∷ vars) some given =
     let values = (variables_text (shown_data h content n o.width) 0 (var ∷ vars) (all_marked (var ∷ vars))).text in
     let word : data_word h o ≡ codes "data:\n" = ap (λ b. if b || (length h.vars == 0) then [] else codes "data:\n") full.values ∙ ap (λ (ws : List Var). if length ws == 0 then [] else codes "data:\n") some ∙ ap (λ b. if b then [] else codes "data:\n") (not_none (length vars)) in
@@ -51,24 +49,7 @@ pub state_read : (d : Dataset) (o : Options) (n : ℕ) (os : List (Option Listin
     in_turn (piece_read d.header.version) empty (cut_lexemes (lexemes (dump_text d.header o n section))) ≡ Ok (state Ended d.header.dims (map trimmed_att d.header.gatts) (given_drafts d.header.vars os))
 unfolding closing_word
 state_read d o n os full ready section is =
-    let h = d.header in
-    let v = h.version in
-    let section_is : section ≡ variables_text (shown_data h (values_in_dataset d) n o.width) 0 h.vars (all_marked h.vars) = is ∙
-    (grind (arith, selected h o h.vars full.chosen full.coords)) in
-    let values = (variables_text (shown_data h (values_in_dataset d) n o.width) 0 h.vars (all_marked h.vars)).text in
-    let tail = data_word h o ++ (values ++ codes "}\n") in
-    let closes : closing_word section.ending ≡ codes "}\n" = ap (λ (s : DataText). closing_word s.ending) section_is ∙ ap closing_word (data_whole v h (values_in_dataset d) n o.width 0 [] h.vars os ready.given) in
-    let dims = dims_text n h.dims in
-    let vars = vars_text h.dims h.vars in
-    let gatts = gatts_text h.gatts in
-    ap (λ bs. in_turn (piece_read v) empty (cut_lexemes (lexemes bs))) (dump_is h o n section) ∙
-    opened v o.name (dims ++ (vars ++ (gatts ++ (data_word h o ++ (section.text ++ closing_word section.ending))))) full.name ∙
-    ap (λ (s : DataText). in_turn (piece_read v) (state Globals [] [] []) (pieces_of (dims ++ (vars ++ (gatts ++ (data_word h o ++ (s.text ++ closing_word section.ending))))))) section_is ∙
-    ap (λ c. in_turn (piece_read v) (state Globals [] [] []) (pieces_of (dims ++ (vars ++ (gatts ++ (data_word h o ++ (values ++ c))))))) closes ∙
-    dims_part v n h.dims [] [] ready.dims (vars ++ (gatts ++ tail)) ∙
-    vars_part v h.dims h.vars [] ready.distinct ready.names ready.vars (gatts ++ tail) ∙
-    gatts_part v h.dims h.vars h.gatts (map draft_of h.vars) ready.gatts ready.fresh tail ∙
-    data_read v h o (values_in_dataset d) n (map trimmed_att h.gatts) os full h.vars refl ready.given
+    grind (arith, selected, data_whole, dump_is, opened, dims_part, vars_part, gatts_part, data_read)
 
 -- and what it means
 pub text_back : (d : Dataset) (o : Options) (n : ℕ) (os : List (Option Listing)) → IsFull o → IsReadable d n o.width os → (section : DataText) → section ≡ shown_data_text d.header o (values_in_dataset d) n (selection_of d.header o) →

@@ -1,5 +1,5 @@
 -- The opening, the section marks and the closing brace of a dump.
-use Rattle.std.proofs.Common.{◌≡◌, ℕ, ◌+◌, true, false, List, [], ◌∷◌, ◌++◌, length, map, sym, ◌∙◌, ap, refl, subst, arith, append_assoc, append-nil, length-append, ◌==◌, Some, Ok, codes, rules, if◌then◌else◌, suc}
+use Rattle.std.proofs.Common.{◌≡◌, ℕ, ◌+◌, true, false, List, [], ◌∷◌, ◌++◌, length, map, ◌∙◌, ap, refl, arith, append_assoc, length-append, ◌==◌, Some, Ok, codes, rules, if◌then◌else◌, suc}
 use Rattle.cdl_laws.proofs.Prelude.{false≢true, eqb-true, concat_parts, Att, Dim, Var, Version, escaped_name, is_reserved, name_of, is_plain, dim_line, dim_lines, dims_text, att_line, att_lines, var_lines, vars_text, gatts_text, dimensions_word, variables_word, global_word, IsName, Section, Globals, Dimensions, Variables, Values, Ended, scan, word_len, len_until, Lexeme, piece_read, empty, pieces_at, is_section, cut_lexemes, lexemes_at, lexemes, pieces_of, trimmed_att, Enter, shape, State, Draft, act, in_turn, IsBeforeData, globals, dimensions, variables, and_left, until_at_start, lt-ltb, not_none, Each}
 use Rattle.cdl_tokens.specs.declared.token.TokenKind.TheVariants as kinds
 use Rattle.cdl_laws.proofs.NameTexts.{rest_of, marked, bare, begins}
@@ -35,9 +35,7 @@ headed : (v : Version) (head : List ℕ) (lines : List (List ℕ)) (n : ℕ) (s 
     Takes v (concat_parts lines) t u →
     Takes v (if suc n == 0 then [] else concat_parts (head ∷ concat_parts lines ∷ [])) s u
 unfolding concat_parts
-headed v head lines n s t u p q =
-    rw (not_none n) (subst (λ bs. Takes v (head ++ bs) s u) (sym (append-nil (concat_parts lines)))
-    (takes_both v head (concat_parts lines) s t u p q))
+headed v head lines n s t u p q = search (rules, not_none, takes_both)
 
 pub dims_part : (v : Version) (n : ℕ) (dims : List Dim) (gatts : List Att) (drafts : List Draft) → AreNewDims v [] dims →
     Takes v (dims_text n dims) (state Globals [] gatts drafts) (state (after_dims dims) dims gatts drafts)
@@ -50,8 +48,7 @@ dims_part v n (d ∷ dims) gatts drafts h =
     (dims_taken v n (d ∷ dims) gatts drafts h)
 
 before_of : (dims : List Dim) → IsBeforeData (after_dims dims)
-before_of [] = globals
-before_of (d ∷ dims) = dimensions
+before_of dims = grind (arith, globals, dimensions)
 
 pub variables_says : (v : Version) (dims : List Dim) → Says v (after_dims dims) variables_word (Enter Variables)
 unfolding variables_word lexemes_at scan word_len pieces_at is_section shape
@@ -101,13 +98,10 @@ end_taken v section dims gatts drafts h = grind arith
 other_byte : (b n : ℕ) → is_plain b ≡ true → is_plain n ≡ false → (b == n) ≡ false
 other_byte b n h k = grind (arith, false≢true, eqb-true b n)
 
-until_plainly : (b : ℕ) (rest : List ℕ) → is_plain b ≡ true → len_until 0x7b (b ∷ rest) ≡ 1 + len_until 0x7b rest
-until_plainly b rest h = until_plain 0x7b b rest (other_byte b 0x5c h refl) (other_byte b 0x7b h refl)
-
 until_rest : (bs rest : List ℕ) → len_until 0x7b (rest_of bs ++ 32 ∷ 123 ∷ rest) ≡ length (rest_of bs) + 1
 unfolding len_until
 until_rest [] rest = until_plain 0x7b 32 (123 ∷ rest) refl refl ∙ ap (λ n. 1 + n) (until_at_start 0x7b 123 rest)
-until_rest (b ∷ bs) rest = grind (arith, is_plain, until_rest bs rest, until_plainly)
+until_rest (b ∷ bs) rest = grind (arith, until_rest bs rest, other_byte)
 
 -- the dataset's name, which is looked at no further
 abbrev pub opening_bytes : List ℕ → List ℕ
@@ -116,7 +110,7 @@ opening_bytes name = codes "netcdf " ++ (escaped_name name ++ codes " {")
 opening_prefix_is : (name rest : List ℕ) → IsName name → scan true (opening_bytes name ++ 10 ∷ rest) ≡ record { kind = Some kinds.Opening; len = length (opening_bytes name) }
 unfolding scan len_until
 opening_prefix_is name rest h =
-    search (rules, append_assoc, length-append, lt-ltb, false≢true, some_name, begins, and_left, marked, until_rest, bare, until_plainly)
+    search (rules, append_assoc, length-append, lt-ltb, false≢true, some_name, begins, and_left, marked, until_rest, bare, until_plain, other_byte)
 
 pub opening_lexemes : (name rest : List ℕ) → IsName name → lexemes (opening_bytes name ++ 10 ∷ rest) ≡ record { kind = kinds.Opening; bytes = opening_bytes name } ∷ lexemes_at false 0 rest
 opening_lexemes name rest h =

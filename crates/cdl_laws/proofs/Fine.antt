@@ -1,6 +1,6 @@
 -- What holds of the dataset so far, of its attributes, dimensions and declarations, and how much is listed of a variable.
-use Rattle.std.proofs.Common.{◌≡◌, ℕ, ◌+◌, ◌-◌, ◌*◌, ◌≤◌, ◌<◌, Bool, true, false, List, [], ◌∷◌, ◌++◌, length, map, sym, ◌∙◌, ap, refl, subst, arith, suc, append_assoc, append-nil, ℤ, pos, Option, Result, Ok, Err, filter, unsigned_abs, rules, replicate, zero, if◌then◌else◌, not, nat_lt, nat_le}
-use Rattle.cdl_laws.proofs.Prelude.{eqb-true, length-append, map-append, list_any-append, list_any, position, bytes_eq, Att, Dim, NcType, Version, has_name, has_record_dim, IsDimid, AreDimids, value_count, IsName, bytes_of_number, size_of, is_char, count_limit, has_type, AreDistinct, Value, Number, Characters, Underscore, Dimension, Variable, Draft, in_turn, ok_or, int_within, has_number, dim_len_of, add_dim, add_dimid, add_var, change_named, change_variable, add_constant, first_type, add_att, with_att, listed_values, CdlKind, and_left, and_right, some_product, some_size, some-limit, none_before, Each, each_map, any_each, or_left, or_right, length-replicate, length-map, flat_map-append, mul-le-mul_right, mul_comm, mul-le-mul, Var, Listing, Numbers, Joined, Rows, Capacity, capacity_of, filled, add_number, add_characters, add_row, listed_by, listing_of, values_in, with_values, is_off, or_second, some_count}
+use Rattle.std.proofs.Common.{◌≡◌, ℕ, ◌+◌, ◌-◌, ◌*◌, ◌≤◌, ◌<◌, Bool, true, false, List, [], ◌∷◌, ◌++◌, length, map, sym, ◌∙◌, ap, refl, subst, arith, suc, append_assoc, append-nil, ℤ, pos, Option, Result, Ok, Err, filter, rules, replicate, zero, if◌then◌else◌, not, nat_lt, nat_le}
+use Rattle.cdl_laws.proofs.Prelude.{eqb-true, length-append, map-append, list_any-append, list_any, position, bytes_eq, Att, Dim, NcType, Version, has_name, has_record_dim, IsDimid, AreDimids, value_count, IsName, bytes_of_number, size_of, is_char, count_limit, has_type, AreDistinct, Value, Number, Characters, Underscore, Dimension, Variable, Draft, in_turn, ok_or, dim_len_of, add_dim, add_dimid, add_var, change_named, change_variable, add_constant, first_type, add_att, with_att, listed_values, CdlKind, some_product, some_size, none_before, Each, each_map, any_each, or_left, or_right, length-replicate, length-map, flat_map-append, mul-le-mul_right, mul_comm, mul-le-mul, Var, Listing, Numbers, Joined, Rows, Listable, listable_of, filled, add_number, add_characters, add_row, listed_by, listing_of, values_in, with_values, is_off, or_second, some_count}
 use Rattle.cdl_laws.proofs.Outcomes.{SomeIs, OkIs, ok_then, ok_unless, ok_when, total, each_under, turns, each_more}
 use Rattle.cdl_laws.proofs.Said.{IsByte, cost, IsFineValue, dim_cost, name_cost, var_cost, AreFineValues}
 use Rattle.cdl_laws.proofs.Sayables.{swapped, any_map, att_name, dim_name, draft_name, is_record, filter_append}
@@ -64,10 +64,8 @@ grown_part ty k c m vals bytes part few many whole each = record {
 
 constant_step : (v : Version) (ty : NcType) (k : ℕ) (vals : List ℕ) (x : Value) → IsPart ty k vals → IsFineValue v x → OkIs (IsPart ty (k + cost x)) (add_constant ty vals x)
 constant_step v ty k vals Underscore part fine = tt
-constant_step v ty k vals (Number n) part fine =
-    grind (arith, ok_unless, number_bytes, grown_part ty k 1 1 vals (bytes_of_number ty n.value) part)
-constant_step v ty k vals (Characters bytes) part fine =
-    grind (arith, ok_unless, grown_part ty k (suc (length bytes)) (length bytes) vals bytes part)
+constant_step v ty k vals (Number n) part fine = grind (arith, ok_unless, grown_part)
+constant_step v ty k vals (Characters bytes) part fine = grind (arith, grown_part)
 
 pub att_keeps : (v : Version) (N n m : ℕ) (name : List ℕ) (cs : List Value) (atts : List Att) → m ≤ N → AreFineValues v m name cs → AreFineAtts v N n atts → OkIs (AreFineAtts v N (n + m)) (add_att name cs atts)
 unfolding add_att
@@ -98,11 +96,8 @@ record IsFineLen (v : Version) (dims : List Dim) (len : ℕ) : Type 0 where
   small : len < count_limit v
   once : len ≡ 0 → has_record_dim dims ≡ false
 
-extent_fine : (v : Version) (dims : List Dim) (n : ℤ) → int_within (pos 1) (pos (count_limit v - 1)) n ≡ true → IsFineLen v dims (unsigned_abs n)
-extent_fine v dims n h = grind (arith, pos, and_left, and_right, some-limit)
-
 len_fine : (v : Version) (dims : List Dim) (o : Option ℤ) → OkIs (IsFineLen v dims) (dim_len_of v dims o)
-len_fine v dims o = grind (arith, ok_when, some-limit, pos, int_within, ok_unless, extent_fine)
+len_fine v dims o = grind arith
 
 dim_step : (v : Version) (N : ℕ) (n : ℕ) (dims : List Dim) (d : Dimension) → AreFineDims v N n dims → dim_cost d ≤ N → OkIs (AreFineDims v N (n + dim_cost d)) (add_dim v dims d)
 unfolding add_dim
@@ -202,17 +197,14 @@ with_att_keeps v N n m dims name cs small said d f = grind (arith, att_keeps v N
 -- ---- no more is listed of a variable than it has values, over as many records as the text has bytes
 
 -- with another fill value
-abbrev by : ℤ → Capacity → Capacity
-by fill capacity = record capacity { fill = fill }
+abbrev by : ℤ → Listable → Listable
+by fill listable = record listable { fill = fill }
 
 -- what is listed so far, of values of cost k, has n of `count` positions, with `unit` values in each
-record IsRoomy (capacity : Capacity) (count unit k n : ℕ) (listing : Listing) : Type 0 where
+record IsRoomy (listable : Listable) (count unit k n : ℕ) (listing : Listing) : Type 0 where
   few : n ≤ k
-  within : capacity.is_open ≡ false → n ≤ count
-  whole : (fill : ℤ) → length (values_in (by fill capacity) listing) ≡ n * unit
-
-under : (a b : ℕ) → nat_lt a b ≡ true → a + 1 ≤ b
-under a b h = grind (arith, h)
+  within : listable.is_open ≡ false → n ≤ count
+  whole : (fill : ℤ) → length (values_in (by fill listable) listing) ≡ n * unit
 
 pub up_to : (a b : ℕ) → nat_le a b ≡ true → a ≤ b
 up_to a b h = grind (arith, h)
@@ -221,59 +213,57 @@ pub filled_len : (n : ℕ) (fill : ℤ) (xs : List ℤ) → length xs ≤ n → 
 filled_len n fill xs h = let a = length-append xs (replicate (n - length xs) fill) in let b = length-replicate (n - length xs) fill in omega (arith, a, b, h)
 
 -- m positions more, which cost c
-grown : (capacity : Capacity) (count unit k n m c l : ℕ) (before after : Listing) → IsRoomy capacity count unit k n before → l ≡ n + m → m ≤ c → (capacity.is_open ≡ false → n + m ≤ count) →
-    ((fill : ℤ) → length (values_in (by fill capacity) after) ≡ length (values_in (by fill capacity) before) + m * unit) → IsRoomy capacity count unit (k + c) l after
-grown capacity count unit k n m c l before after is len cheap wide more = grind arith
+grown : (listable : Listable) (count unit k n m c l : ℕ) (before after : Listing) → IsRoomy listable count unit k n before → l ≡ n + m → m ≤ c → (listable.is_open ≡ false → n + m ≤ count) →
+    ((fill : ℤ) → length (values_in (by fill listable) after) ≡ length (values_in (by fill listable) before) + m * unit) → IsRoomy listable count unit (k + c) l after
+grown listable count unit k n m c l before after is len cheap wide more = grind arith
 
 -- ---- each kind of listing
 
-abbrev AreNumbers : Capacity → ℕ → List ℤ → Type 0
-AreNumbers capacity k values = IsRoomy capacity capacity.count 1 k (length values) (Numbers values)
+abbrev AreNumbers : Listable → ℕ → List ℤ → Type 0
+AreNumbers listable k values = IsRoomy listable listable.count 1 k (length values) (Numbers values)
 
-number_step : (capacity : Capacity) (k : ℕ) (before : List ℤ) (x : Value) → AreNumbers capacity k before → Unit {0} → OkIs (AreNumbers capacity (k + cost x)) (add_number capacity before x)
-number_step capacity k before (Characters bytes) is u = tt
-number_step capacity k before Underscore is u = search (rules, ok_unless, length-append, grown)
-number_step capacity k before (Number n) is u = search (rules, ok_unless, has_number, length-append, grown)
+number_step : (listable : Listable) (k : ℕ) (before : List ℤ) (x : Value) → AreNumbers listable k before → Unit {0} → OkIs (AreNumbers listable (k + cost x)) (add_number listable before x)
+number_step listable k before x is u = grind (arith, length-append)
 
-abbrev AreJoined : Capacity → ℕ → List ℕ → Type 0
-AreJoined capacity k bytes = IsRoomy capacity capacity.count 1 k (length bytes) (Joined bytes)
+abbrev AreJoined : Listable → ℕ → List ℕ → Type 0
+AreJoined listable k bytes = IsRoomy listable listable.count 1 k (length bytes) (Joined bytes)
 
-joined_step : (capacity : Capacity) (k : ℕ) (before : List ℕ) (x : Value) → AreJoined capacity k before → Unit {0} → OkIs (AreJoined capacity (k + cost x)) (add_characters capacity before x)
-joined_step capacity k before x h h2 = grind (arith, ok_unless, length-append, length-map, pos, grown, up_to, or_second)
+joined_step : (listable : Listable) (k : ℕ) (before : List ℕ) (x : Value) → AreJoined listable k before → Unit {0} → OkIs (AreJoined listable (k + cost x)) (add_characters listable before x)
+joined_step listable k before x h h2 = grind (arith, ok_unless, length-append, length-map, pos, grown, up_to, or_second)
 
-abbrev AreRows : Capacity → ℕ → List (List ℕ) → Type 0
-AreRows capacity k rows = IsRoomy capacity capacity.rows capacity.row k (length rows) (Rows rows)
+abbrev AreRows : Listable → ℕ → List (List ℕ) → Type 0
+AreRows listable k rows = IsRoomy listable listable.rows listable.row k (length rows) (Rows rows)
 
-row_step : (capacity : Capacity) (k : ℕ) (before : List (List ℕ)) (x : Value) → AreRows capacity k before → Unit {0} → OkIs (AreRows capacity (k + cost x)) (add_row capacity before x)
-row_step capacity k before x h h2 = search (rules, ok_unless, grown, length-append, up_to, under, or_second, filled, pos, length-map, flat_map-append, by, filled_len)
+row_step : (listable : Listable) (k : ℕ) (before : List (List ℕ)) (x : Value) → AreRows listable k before → Unit {0} → OkIs (AreRows listable (k + cost x)) (add_row listable before x)
+row_step listable k before x h h2 = search (rules, length-append, length-map, flat_map-append, by, filled_len)
 
 -- ---- what is listed
 
 -- no more than over this many records
-abbrev Fits : Capacity → ℕ → Listing → Type 0
-Fits capacity records listing = (fill : ℤ) → length (values_in (by fill capacity) listing) ≤ capacity.count * (if capacity.is_open then records else 1)
+abbrev Fits : Listable → ℕ → Listing → Type 0
+Fits listable records listing = (fill : ℤ) → length (values_in (by fill listable) listing) ≤ listable.count * (if listable.is_open then records else 1)
 
-bounded : (capacity : Capacity) (count unit k n records : ℕ) (listing : Listing) → unit ≤ capacity.count → (capacity.is_open ≡ false → count * unit ≡ capacity.count) → k ≤ records → IsRoomy capacity count unit k n listing → Fits capacity records listing
-bounded capacity count unit k n records listing small all le is fill = grind (arith, by, mul-le-mul, mul_comm, mul-le-mul_right)
+bounded : (listable : Listable) (count unit k n records : ℕ) (listing : Listing) → unit ≤ listable.count → (listable.is_open ≡ false → count * unit ≡ listable.count) → k ≤ records → IsRoomy listable count unit k n listing → Fits listable records listing
+bounded listable count unit k n records listing small all le is fill = grind (arith, by, mul-le-mul, mul_comm, mul-le-mul_right)
 
 -- all values in turn
-all_listed : {A : Type 0} (capacity : Capacity) (count unit records : ℕ) (add : List A → Value → Result (List A) CdlKind) (listing : List A → Listing) (xs : List Value) → unit ≤ capacity.count → (capacity.is_open ≡ false → count * unit ≡ capacity.count) → total cost xs ≤ records →
-    ((fill : ℤ) → values_in (by fill capacity) (listing []) ≡ []) → ((k : ℕ) (before : List A) (x : Value) → IsRoomy capacity count unit k (length before) (listing before) → Unit {0} → OkIs (λ after. IsRoomy capacity count unit (k + cost x) (length after) (listing after)) (add before x)) →
-    OkIs (Fits capacity records) (listed_by add listing xs)
-all_listed {A} capacity count unit records add listing xs small all le none step =
-    ok_then (IsKept (0 + total cost xs)) (Fits capacity records) (in_turn add [] xs) (λ items. Ok (listing items))
+all_listed : {A : Type 0} (listable : Listable) (count unit records : ℕ) (add : List A → Value → Result (List A) CdlKind) (listing : List A → Listing) (xs : List Value) → unit ≤ listable.count → (listable.is_open ≡ false → count * unit ≡ listable.count) → total cost xs ≤ records →
+    ((fill : ℤ) → values_in (by fill listable) (listing []) ≡ []) → ((k : ℕ) (before : List A) (x : Value) → IsRoomy listable count unit k (length before) (listing before) → Unit {0} → OkIs (λ after. IsRoomy listable count unit (k + cost x) (length after) (listing after)) (add before x)) →
+    OkIs (Fits listable records) (listed_by add listing xs)
+all_listed {A} listable count unit records add listing xs small all le none step =
+    ok_then (IsKept (0 + total cost xs)) (Fits listable records) (in_turn add [] xs) (λ items. Ok (listing items))
     (turns add IsKept cost (λ x. Unit {0}) step 0 [] xs (record { few = omega arith; within = (λ e. omega arith); whole = λ fill. ap (λ (ys : List ℤ). length ys) (none fill) ∙ (let z : 0 ≡ 0 * unit = omega arith in z) }) (any_each xs))
-    (λ items is. bounded capacity count unit (0 + total cost xs) (length items) records (listing items) small all (omega (arith, le)) is)
+    (λ items is. bounded listable count unit (0 + total cost xs) (length items) records (listing items) small all (omega (arith, le)) is)
   where
     IsKept : ℕ → List A → Type 0
-    IsKept k items = IsRoomy capacity count unit k (length items) (listing items)
+    IsKept k items = IsRoomy listable count unit k (length items) (listing items)
 
-values_fit : (dims : List Dim) (var : Var) (records : ℕ) (xs : List Value) → 0 < (capacity_of dims var).count → total cost xs ≤ records → OkIs (Fits (capacity_of dims var) records) (listing_of (capacity_of dims var) xs)
-unfolding capacity_of listing_of
+values_fit : (dims : List Dim) (var : Var) (records : ℕ) (xs : List Value) → 0 < (listable_of dims var).count → total cost xs ≤ records → OkIs (Fits (listable_of dims var) records) (listing_of (listable_of dims var) xs)
+unfolding listable_of listing_of
 values_fit dims var records xs some le = of_type (is_char var.ty)
   where
-    r : Capacity
-    r = capacity_of dims var
+    r : Listable
+    r = listable_of dims var
 
     one : r.is_open ≡ false → r.count * 1 ≡ r.count
     one e = omega arith
@@ -294,6 +284,6 @@ values_fit dims var records xs some le = of_type (is_char var.ty)
 
 pub with_values_keeps : (v : Version) (N n m : ℕ) (dims : List Dim) (name : List ℕ) (xs : List Value) → m ≤ N → AreFineValues v m name xs →
     KeepsFine v N n m dims (with_values dims xs)
-unfolding capacity_of
+unfolding listable_of
 with_values_keeps v N n m dims name xs small said d f =
     grind (arith, values_fit dims d.var N xs (some_count dims d.var.dimids f.shape), some_count dims d.var.dimids f.shape, ok_when, ok_then)

@@ -1,6 +1,6 @@
 -- The array of a variable is given back by the text of its values.
 use Rattle.std.proofs.Common.{◌≡◌, ℕ, zero, suc, ◌*◌, ◌-◌, ◌<◌, ◌≤◌, Bool, true, false, List, [], ◌∷◌, length, drop, take, map, sym, ◌∙◌, ap, refl, subst, arith, length-take, length-drop, ℤ, pos, ◌&&◌, ◌==◌, not, nat_lt, slice_index, find, None, Some, rules, if◌then◌else◌, Option}
-use Rattle.cdl_laws.proofs.Prelude.{flat_map, int_eq, lt_of_mul-lt-mul_right, false≢true, Decides-int_eq, take-append-drop, Att, Dim, Header, Var, NcType, Version, fill_value, fill_of_att, is_fill_att, value_count, IsArray, IsName, numbers, bytes_of_number, IsInRange, dim_len, is_record_shape, is_record_var, product, slab_lens, look_of, is_char, row_len, trimmed_att, trimmed_var, capacity_of, filled, array_of, and_left, is_off, is_on, look-type, length-numbers_from, Each, each_map, has_values, listed_values, Listing, and_false, option_map}
+use Rattle.cdl_laws.proofs.Prelude.{flat_map, int_eq, lt_of_mul-lt-mul_right, false≢true, Decides-int_eq, take-append-drop, Att, Dim, Header, Var, NcType, Version, fill_value, is_fill_att, value_count, IsArray, IsName, numbers, bytes_of_number, IsInRange, dim_len, is_record_shape, is_record_var, product, slab_lens, look_of, is_char, row_len, trimmed_att, trimmed_var, listable_of, filled, array_of, and_left, is_off, is_on, look-type, length-numbers_from, Each, each_map, has_values, listed_values, Listing, and_false, option_map}
 use Rattle.cdl_laws.proofs.Attributes.{numbers_back, numbers_range, all_fit, all_small, count_is}
 use Rattle.cdl_laws.proofs.Characters.{flat, IsCharacter}
 use Rattle.cdl_laws.proofs.DataTexts.{Gives, IsRoomFor, gives_numbers, gives_table, gives_line, given_draft, IsGivenBy}
@@ -13,18 +13,14 @@ pub found_trimmed : (atts : List Att) → find is_fill_att (map trimmed_att atts
 found_trimmed [] = refl
 found_trimmed (a ∷ atts) = search (rules, found_trimmed atts)
 
--- what a number type takes from an attribute is the same of a trimmed one
-same_of_type : (ty : NcType) (o : Option Att) → is_char ty ≡ false → fill_of_att ty (option_map trimmed_att o) ≡ fill_of_att ty o
-same_of_type ty o h = grind arith
-
 pub same_fill : (var : Var) → is_char var.ty ≡ false → fill_value (trimmed_var var) ≡ fill_value var
 unfolding fill_value
-same_fill var h = grind (arith, found_trimmed var.atts, same_of_type var.ty (find is_fill_att var.atts) h)
+same_fill var h = grind (arith, found_trimmed var.atts)
 
 -- ---- rooms
 
-room_is : (h : Header) (var : Var) (n width m : ℕ) → m ≡ value_count h.dims var n → IsName var.name → fill_value (trimmed_var var) ≡ fill_value var → IsRoomFor (look_of h var n width) (capacity_of h.dims (trimmed_var var)) var m
-unfolding look_of capacity_of
+room_is : (h : Header) (var : Var) (n width m : ℕ) → m ≡ value_count h.dims var n → IsName var.name → fill_value (trimmed_var var) ≡ fill_value var → IsRoomFor (look_of h var n width) (listable_of h.dims (trimmed_var var)) var m
+unfolding look_of listable_of
 room_is h var n width m is name fill = grind arith
 
 row_all : (h : Header) (var : Var) (n width : ℕ) → (look_of h var n width).in_rows ≡ false → (look_of h var n width).row ≡ value_count h.dims var n
@@ -36,7 +32,7 @@ row_all h var n width e = rw (is_on (nat_lt (length var.dimids) 2) e) refl
 pub listed_numbers : (v : Version) (h : Header) (var : Var) (n width : ℕ) (xs : List ℤ) → 0 < length xs →
     length xs ≡ value_count h.dims var n → Each (IsInRange var.ty) xs → is_char var.ty ≡ false → IsName var.name →
     Gives v h.dims (look_of h var n width) var xs
-unfolding capacity_of
+unfolding listable_of
 listed_numbers v h var n width [] some len range other name = absurd (omega (arith, some))
 listed_numbers v h var n width (x ∷ xs) some len range other name =
     gives_numbers v h.dims (look_of h var n width) var x xs (room_is h var n width (length (x ∷ xs)) len name (same_fill var other)) (ap is_char (look-type h var n width) ∙ other)
@@ -107,8 +103,8 @@ unfolding rows_of
 rows_are zero row xs h all = tt
 rows_are (suc k) row xs h all = grind (arith, length-take, each_take, length-drop, each_drop, rows_are k row (drop row xs))
 
-rank_row : (h : Header) (var : Var) (n width : ℕ) → (look_of h var n width).in_rows ≡ true → (look_of h var n width).row ≡ (capacity_of h.dims (trimmed_var var)).row
-unfolding look_of capacity_of
+rank_row : (h : Header) (var : Var) (n width : ℕ) → (look_of h var n width).in_rows ≡ true → (look_of h var n width).row ≡ (listable_of h.dims (trimmed_var var)).row
+unfolding look_of listable_of
 rank_row h var n width e = let f = is_off (nat_lt (length var.dimids) 2) e in rw (f) refl
 
 rows_len : (k row : ℕ) (xs : List ℤ) → length (rows_of k row xs) ≡ k
@@ -117,8 +113,8 @@ rows_len zero row xs = refl
 rows_len (suc k) row xs = ap suc (rows_len k row (drop row xs))
 
 rows_within : (h : Header) (var : Var) (n width k : ℕ) → (look_of h var n width).in_rows ≡ true → suc k * (look_of h var n width).row ≡ value_count h.dims var n → 0 < (look_of h var n width).row →
-    (capacity_of h.dims (trimmed_var var)).is_open ≡ false → suc k ≤ (capacity_of h.dims (trimmed_var var)).rows
-unfolding capacity_of look_of
+    (listable_of h.dims (trimmed_var var)).is_open ≡ false → suc k ≤ (listable_of h.dims (trimmed_var var)).rows
+unfolding listable_of look_of
 rows_within h var n width k rank split some closed =
     let two = is_off (nat_lt (length var.dimids) 2) rank in
     grind (arith, slab_rows h.dims var.dimids two, rank_row h var n width rank, lt_of_mul-lt-mul_right)
@@ -227,13 +223,7 @@ no_bytes (b ∷ array) m size h z = absurd (let e : m * size ≡ 0 = rw (z) (ome
 pub is_back : (v : Version) (h : Header) (n width : ℕ) (var : Var) (array : List ℕ) → IsArray h.dims n var array → IsName var.name → (is_char var.ty ≡ true → fill_value (trimmed_var var) ≡ fill_value var) → IsBack v h n width var array
 is_back v h n width var array is name fill =
     elim (has_values h.dims n var) as (λ b. has_values h.dims n var ≡ b → IsBack v h n width var array) [
-      | true ↦ (λ e. gives_back v h n width var array is e (row_back v h n width var array is (grind (arith, e)) name fill))
+      | true ↦ (λ e. gives_back v h n width var array is e (row_back v h n width var array is (grind arith) name fill))
       | false ↦ (λ e.
-          let z : value_count h.dims var n ≡ 0 = grind (arith, e) in
-          record {
-            o = None;
-            given = subst (λ b. IsGivenBy b v h.dims (look_of h var n width) var (numbers var.ty array) None) (sym e) refl;
-            back = array_none h.dims var n z ∙ sym (no_bytes array (value_count h.dims var n) _ is.whole z);
-            exact = λ r. sym z;
-          })
+          search (rules, no_bytes))
     ] refl

@@ -1,5 +1,5 @@
 -- Two tests in one, and lists, one element at a time.
-use Rattle.std.proofs.Common.{zero, suc, List, [], ◌∷◌, arith, All, ◌++◌, ◌≡◌, Bool, false, ◌||◌}
+use Rattle.std.proofs.Common.{suc, List, [], ◌∷◌, arith, All, ◌++◌, ◌≡◌, Bool, false, ◌||◌}
 
 pub or_left : (a b : Bool) → (a || b) ≡ false → a ≡ false
 or_left a b h = grind arith
@@ -17,9 +17,8 @@ each_of P [] all = tt
 each_of P (x ∷ xs) all = (all 0 x (omega arith), each_of P xs (λ k d h. all (suc k) d (omega (arith, h))))
 
 pub all_of : {X : Type 0} (P : X → Type 0) (xs : List X) → Each P xs → All P xs
-all_of P [] e k d h = absurd (omega (arith, h))
-all_of P (x ∷ xs) e zero d h = e.0
 all_of P (x ∷ xs) e (suc k) d h = all_of P xs e.1 k d (omega (arith, h))
+all_of _ _ e _ d h = grind arith
 
 pub each_map : {X : Type 0} (P Q : X → Type 0) (xs : List X) → ((x : X) → P x → Q x) → Each P xs → Each Q xs
 each_map P Q [] f e = tt

@@ -1,5 +1,5 @@
 -- The limit is needed: a text with an attribute of 2^31 characters has a meaning in the first version, which no file can hold.
-use Rattle.std.proofs.Common.{◌≡◌, ℕ, ◌-◌, ◌^◌, ◌≤◌, ◌<◌, false, List, [], ◌∷◌, length, ◌∙◌, ap, refl, arith, zero, suc, get_or, replicate, codes, None, Ok, ◌==◌, nat_lt, true, rules}
+use Rattle.std.proofs.Common.{◌≡◌, ℕ, ◌-◌, ◌^◌, ◌≤◌, ◌<◌, false, List, [], ◌∷◌, length, ◌∙◌, ap, refl, arith, suc, get_or, replicate, codes, None, Ok, ◌==◌, nat_lt, true, rules}
 use Rattle.cdl_laws.proofs.Prelude.{DataText, take-length, length-replicate, get_or-replicate, suffix_len-take_no, list_all, is_utf8, chars, Dataset, Att, Known, Char, Cdf1, Options, shown_data_text, values_in_dataset, selection_of, dump_text, IsGood, without_trailing_nuls, IsName, meaning, are_within_limits, IsFull, trimmed, concat_parts, is_reserved, escaped_name, netcdf_word, global_word, numbers_text, chars_text, att_line, att_lines, dim_lines, dims_text, vars_text, gatts_text, head_text, broken_text, data_word, closing_word, LimitIsNeeded, and_left, and_right, Each}
 use lib.Utf8.{encode}
 use Rattle.cdl_laws.proofs.MeaningsAreGood.{are_bytes}
@@ -49,9 +49,8 @@ long_is_bad n big good =
     search (rules, no_nuls, length-replicate)
 
 broken_bytes : (n : ℕ) → Each IsByte (broken_text (replicate n 97))
-broken_bytes zero = tt
-broken_bytes (suc zero) = (omega arith, tt)
 broken_bytes (suc (suc n)) = (omega arith, broken_bytes (suc n))
+broken_bytes _ = grind arith
 
 constant : (bytes : List ℕ) → list_all (λ b. nat_lt b 256) bytes ≡ true → Each IsByte bytes
 constant [] h = tt

@@ -1,5 +1,5 @@
 -- What a text means is good.
-use Rattle.std.proofs.Common.{◌≡◌, ℕ, ◌+◌, ◌*◌, ◌≤◌, ◌<◌, true, List, [], ◌∷◌, length, map, ap, refl, subst, arith, zero, suc, ℤ, None, Some, Result, Ok, Err, nat_le, codes, All, rules}
+use Rattle.std.proofs.Common.{◌≡◌, ℕ, ◌+◌, ◌*◌, ◌≤◌, ◌<◌, true, List, [], ◌∷◌, length, map, ap, refl, subst, arith, suc, ℤ, None, Some, Result, Ok, Err, nat_le, codes, All, rules}
 use Rattle.cdl_laws.proofs.Prelude.{length-map, div-lt_iff_lt-mul, lt-div-mul-add, mul_comm, mul-le-mul_left, flat_map, list_all, AreBytes, Dataset, Att, Dim, Known, Var, NcType, Version, IsGood, IsSound, IsSoundAtt, IsSoundVar, IsSoundDim, IsArray, AreArrays, bare_var, value_count, IsName, bytes_of_number, record_vars, slab_count, slab_size, record_size, slab_limit, array_limit, record_limit, size_of, count_limit, MeaningsAreGood, MeaningsAreNearlySayable, IsNearlySayable, NearlyIsSayable, text_limit, Lexeme, lexeme, statements, piece_read, run, empty, listed_values, records_of, records_in, array_of, header_of, dataset_of, is_within_limits, are_within_limits, closing_line, finished, meaning, AreDistinct, AreSayableAtts, HasSomeNumber, Statement, Open, Enter, DeclareDimensions, DeclareVariables, Attribute, Listed, shape, State, Draft, act, with_att, with_values, type_of, ok_or, filled, CdlFault, Section, Token, and_left, and_right, some_count, length-numbers, Each, each_map, all_of}
 use Rattle.cdl_laws.proofs.Outcomes.{OkIs, ok_then, in_if, total, each_more}
 use Rattle.cdl_laws.proofs.Sayables.{draft_name}
@@ -68,7 +68,7 @@ all_records_small v N n dims (d ∷ ds) f = let a : records_of dims d ≤ N =
     let b = all_records_small v N n dims ds f.1 in
     omega (arith, a, b)
 
--- what is listed has capacity over the records
+-- what is listed has listable over the records
 listed_fits : (v : Version) (N n : ℕ) (dims : List Dim) (r : ℕ) (d : Draft) → IsFineDraft v N n dims d → records_of dims d ≤ r → length (listed_values dims d) ≤ value_count dims d.var r
 listed_fits v N n dims r d f h =
     grind (arith, f.listed d.var.atts, some_count dims d.var.dimids f.shape, lt-div-mul-add, mul-le-mul_left, mul_comm)
@@ -78,9 +78,8 @@ bytes_each [] h = tt
 bytes_each (b ∷ bs) h = (h 0, bytes_each bs (λ i. h (suc i)))
 
 pub are_bytes : (bs : List ℕ) → Each IsByte bs → AreBytes bs
-are_bytes [] h i = omega arith
-are_bytes (b ∷ bs) h zero = h.0
 are_bytes (b ∷ bs) h (suc i) = are_bytes bs h.1 i
+are_bytes _ h _ = grind arith
 
 numbers_bytes : (ty : NcType) (xs : List ℤ) → Each IsByte (flat_map (bytes_of_number ty) xs)
 numbers_bytes ty [] = tt

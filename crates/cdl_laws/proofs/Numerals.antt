@@ -1,6 +1,6 @@
 -- A decimal number is read again.
-use Rattle.std.proofs.Common.{◌≡◌, ℕ, zero, suc, ◌+◌, ◌/◌, ◌%◌, ◌^◌, ◌<◌, ◌≤◌, Bool, true, false, List, [], ◌∷◌, ◌++◌, length, get_or, sym, ◌∙◌, ap, refl, arith, append-nil, ℤ, pos, unsigned_abs, decimal, ◌==◌, not, Some, nat_lt, Option, rules, negsuc, subst}
-use Rattle.cdl_laws.proofs.Prelude.{signed_decimal, digits_onto, digits, digit_glyph, prefix_len, list_all, eqb-true, first_decimal, decimal_nonempty, drop-append_seam, take-append_seam, NcType, Int, Version, number_suffix, is_char, has_type, digit_value, is_digit, is_sign, goes_on_number, number_in, type_of_suffix, in_base, with_sign, numeral, parts, Parts, option_map, list_all-append, and_left, and_right, and_both, is_off, not_none, number}
+use Rattle.std.proofs.Common.{◌≡◌, ℕ, zero, suc, ◌+◌, ◌/◌, ◌%◌, ◌^◌, ◌<◌, ◌≤◌, Bool, true, false, List, [], ◌∷◌, ◌++◌, length, get_or, sym, ◌∙◌, ap, refl, arith, append-nil, ℤ, pos, unsigned_abs, decimal, not, Some, nat_lt, Option, rules, negsuc, subst}
+use Rattle.cdl_laws.proofs.Prelude.{signed_decimal, digits_onto, digits, digit_glyph, prefix_len, list_all, eqb-true, first_decimal, decimal_nonempty, drop-append_seam, take-append_seam, NcType, Int, Version, number_suffix, is_char, has_type, digit_value, is_digit, is_sign, goes_on_number, number_in, type_of_suffix, in_base, with_sign, numeral, parts, Parts, option_map, list_all-append, and_left, and_right, and_both, not_none, number}
 use native.Mathlib.Numerals.{unary_clauses}
 use Rattle.cdl_laws.proofs.Texts.{IsNumber, begun_number}
 
@@ -32,9 +32,8 @@ no_digit [] = true
 no_digit (b ∷ bs) = not (is_digit b)
 
 digits_then : (ds suf : List ℕ) → list_all is_digit ds ≡ true → no_digit suf ≡ true → prefix_len is_digit (ds ++ suf) ≡ length ds
-digits_then [] [] h k = refl
-digits_then [] (b ∷ suf) h k = rw (is_off (is_digit b) k) refl
 digits_then (d ∷ ds) suf h k = rw (and_left (is_digit d) (list_all is_digit ds) h) (let ih = digits_then ds suf (and_right (is_digit d) (list_all is_digit ds) h) k in omega (arith, ih))
+digits_then _ _ h k = grind arith
 
 -- the number with the type of its suffix
 abbrev with_suffix : Bool → ℕ → Option NcType → Option Parts
@@ -47,9 +46,7 @@ based v minus d ds suf n e = grind (arith, not_none, take-append_seam, drop-appe
 big_back : (v : Version) (minus : Bool) (ds suf : List ℕ) → list_all is_digit ds ≡ true → 48 < get_or ds 0 0 → no_digit suf ≡ true →
     with_sign v minus (ds ++ suf) ≡ with_suffix minus (number_in 10 0 ds) (type_of_suffix v suf)
 big_back v minus [] suf h big k = absurd (omega (arith, big))
-big_back v minus (d ∷ ds) suf h big k =
-    let other : (d == 48) ≡ false = grind (arith, big) in
-    rw (other) (based v minus d ds suf (prefix_len is_digit ((d ∷ ds) ++ suf)) (digits_then (d ∷ ds) suf h k))
+big_back v minus (d ∷ ds) suf h big k = grind (arith, based, digits_then)
 
 zero_back : (v : Version) (minus : Bool) (ty : NcType) → with_sign v minus (48 ∷ number_suffix ty) ≡ with_suffix minus 0 (type_of_suffix v (number_suffix ty))
 zero_back v minus ty = search rules
@@ -69,8 +66,7 @@ unsigned_some v minus ty (suc n) h =
 unsigned_again : (v : Version) (minus : Bool) (ty : NcType) (n : ℕ) → n < 2 ^ 64 → has_type v ty ≡ true → is_char ty ≡ false →
     with_sign v minus (decimal n ++ number_suffix ty) ≡ Some (record { minus = minus; magnitude = n; ty = ty })
 unfolding type_of_suffix
-unsigned_again v minus ty n h k l = unsigned_some v minus ty n h ∙
-    ap (with_suffix minus n) (let e : type_of_suffix v (number_suffix ty) ≡ Some ty = grind arith in e)
+unsigned_again v minus ty n h k l = grind (arith, unsigned_some)
 
 first_sign : (ds suf : List ℕ) → list_all is_digit ds ≡ true → 0 < length ds → is_sign (get_or (ds ++ suf) 0 0) ≡ false
 first_sign [] suf h k = absurd (omega (arith, k))
@@ -81,8 +77,7 @@ pub numeral_again : (v : Version) (ty : NcType) (n : ℤ) → unsigned_abs n < 2
     numeral v (signed_decimal n ++ number_suffix ty) ≡ Some (record { value = n; ty = ty })
 unfolding numeral parts
 numeral_again v ty (pos n) h k l =
-    rw (first_sign (decimal n) (number_suffix ty) (decimal_digits n) (decimal_nonempty n h))
-    (ap (option_map number) (unsigned_again v false ty n h k l))
+    search (rules, first_sign, decimal, number_suffix, decimal_digits, decimal_nonempty, option_map, number, unsigned_again)
 numeral_again v ty (negsuc n) h k l = ap (option_map number) (unsigned_again v true ty (suc n) h k l)
 
 -- a number as a value
@@ -101,8 +96,7 @@ digits_number [] suf h some k = absurd (omega (arith, some))
 digits_number (d ∷ ds) suf h some k =
     let digit = and_left (is_digit d) (list_all is_digit ds) h in
     let on : list_all goes_on_number (d ∷ (ds ++ suf)) ≡ true =
-    list_all-append goes_on_number (d ∷ ds) suf ∙ and_both (list_all goes_on_number (d ∷ ds)) (list_all goes_on_number suf)
-    (goes_on (d ∷ ds) h) k in (
+    grind (arith, list_all-append, goes_on) in (
       begun_number d (ds ++ suf) (λ rest. rw (digit) refl) (and_right (goes_on_number d) (list_all goes_on_number (ds ++ suf)) on),
       begun_number 45 (d ∷ (ds ++ suf)) (λ rest. rw (digit) refl) on,
     )

@@ -1,5 +1,5 @@
 -- What holds of what an option or a result has, and of lists by totals.
-use Rattle.std.proofs.Common.{◌≡◌, ℕ, ◌+◌, ◌≤◌, Bool, true, false, List, [], ◌∷◌, ◌++◌, subst, arith, zero, suc, if◌then◌else◌, Option, None, Some, Result, Ok, Err, take, drop}
+use Rattle.std.proofs.Common.{◌≡◌, ℕ, ◌+◌, ◌≤◌, Bool, true, false, List, [], ◌∷◌, ◌++◌, subst, arith, suc, if◌then◌else◌, Option, None, Some, Result, Ok, Err, take, drop}
 use Rattle.std.specs.Prelude.{⊤}
 use Rattle.cdl_laws.proofs.Prelude.{option_map, option_and_then, in_turn, unless, when, both, if_so, CdlKind, Each, ◌>>=◌}
 
@@ -73,6 +73,5 @@ each_take P (suc n) (x ∷ xs) p = (p.0, each_take P n xs p.1)
 each_take P _ _ p = tt
 
 pub each_drop : {X : Type 0} (P : X → Type 0) (n : ℕ) (xs : List X) → Each P xs → Each P (drop n xs)
-each_drop P zero xs p = p
-each_drop P (suc n) [] p = tt
 each_drop P (suc n) (x ∷ xs) p = each_drop P n xs p.1
+each_drop _ _ _ p = grind arith

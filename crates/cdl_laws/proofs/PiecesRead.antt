@@ -1,7 +1,6 @@
 -- A dump is cut into the statements that it was put together from.
-use Rattle.std.proofs.Common.{◌≡◌, ℕ, false, List, [], ◌∷◌, ◌++◌, sym, ◌∙◌, ap, refl, subst, arith, append-nil, slice_index_or, None, Some, codes, rules}
-use Rattle.cdl_laws.proofs.Prelude.{concat_parts, Att, Dim, Version, escaped_name, netcdf_word, IsName, Section, Globals, Dimensions, Variables, Values, scan, pieces_at, Statement, Close, shape, SaysStatement, IsStatement, PiecesAreStatements, MarksReadBack, opening_line, opening_piece, brace_piece, DimensionsReadBack, DeclarationsReadBack, IsBeforeData, dimensions, AttributeReadsBack, AttributesReadBack, GlobalAttributesReadBack, cut_lexemes, lexemes, lexemes_at, pieces_of, Each, all_of, each_map, each_of, type_of}
-use Rattle.cdl_tokens.specs.declared.token.TokenKind.TheVariants as kinds
+use Rattle.std.proofs.Common.{◌≡◌, ℕ, List, [], ◌∷◌, ◌++◌, refl, arith, slice_index_or, None, Some, rules}
+use Rattle.cdl_laws.proofs.Prelude.{concat_parts, Att, Version, netcdf_word, IsName, Section, Globals, Dimensions, Variables, Values, scan, pieces_at, Statement, Close, shape, SaysStatement, IsStatement, PiecesAreStatements, MarksReadBack, opening_line, opening_piece, brace_piece, DimensionsReadBack, DeclarationsReadBack, IsBeforeData, dimensions, AttributeReadsBack, AttributesReadBack, GlobalAttributesReadBack, cut_lexemes, lexemes, lexemes_at, pieces_of, Each, all_of, each_map, each_of, type_of}
 use Rattle.cdl_laws.proofs.Acts.{ids_added, name_at}
 use Rattle.cdl_laws.proofs.Declarations.{dim_says, global_says, owned_says, typed_says}
 use Rattle.cdl_laws.proofs.Ends.{dimensions_says, variables_says, data_says, opening_lexemes, opening_piece as opening_cut, comment_back}
@@ -21,16 +20,11 @@ pieces_are_statements text = pieces_are text
 
 -- ---- marks
 
-line_is : (name : List ℕ) → opening_line name ≡ codes "netcdf " ++ (escaped_name name ++ codes " {")
-unfolding concat_parts netcdf_word
-line_is name = ap (λ bs. codes "netcdf " ++ (escaped_name name ++ bs)) (append-nil (codes " {"))
-
 opening_back : (name rest : List ℕ) → IsName name →
     cut_lexemes (lexemes (opening_line name ++ 10 ∷ rest)) ≡ opening_piece name ∷ pieces_of rest
-unfolding pieces_of
+unfolding pieces_of concat_parts netcdf_word
 opening_back name rest h =
-    subst (λ l. cut_lexemes (lexemes (l ++ 10 ∷ rest)) ≡ (record { kind = kinds.Opening; bytes = l } ∷ []) ∷ pieces_of rest) (sym (line_is name))
-    (ap cut_lexemes (opening_lexemes name rest h) ∙ opening_cut (codes "netcdf " ++ (escaped_name name ++ codes " {")) (lexemes_at false 0 rest))
+    grind (arith, opening_lexemes, opening_cut)
 
 closes : (v : Version) → Each (λ (section : Section). SaysStatement v section brace_piece Close) (Globals ∷ Dimensions ∷ Variables ∷ Values ∷ [])
 unfolding shape
@@ -61,8 +55,7 @@ dimensions_read_back d records s k dim h = grind (arith, is_statement, dim_says)
 pub declarations_read_back : DeclarationsReadBack
 unfolding type_of
 declarations_read_back d s k var h =
-    let names = each_of (λ (dim : Dim). IsName dim.name) d.header.dims in
-    grind (arith, names, shape, name_at, word, dimensions, lines_are, declaration_is, is_statement, typed_says, valid_names, ids_added)
+    grind (arith, each_of, shape, name_at, word, dimensions, lines_are, declaration_is, is_statement, typed_says, valid_names, ids_added)
 
 -- ---- attributes
 

@@ -9,8 +9,8 @@ pub use Rattle.cdl_laws.specs.Trims.{FillValueSurvivesTrim, MeaningsAreSayable, 
 pub use Rattle.cdl_meaning.specs.Meaning.{array_of, closing_line, dataset_of, empty, header_of, is_within_limits, meaning, records_in, records_of, listed_values}
 pub use Rattle.cdl_meaning.specs.Bounds.{text_limit}
 unfoldable pub use Rattle.cdl_meaning.specs.Meaning.{finished, are_within_limits, piece_read, run}
-pub use Rattle.cdl_meaning.specs.State.{Capacity, Draft, Joined, Listing, Numbers, Rows, State, add_characters, add_constant, add_number, add_row, change_named, int_within, dim_len_of, filled, first_type, in_turn, listed_by, unless, values_in, when, with_att, with_values, ◌>>=◌}
-unfoldable pub use Rattle.cdl_meaning.specs.State.{act, add_att, add_dim, add_dimid, add_var, change_variable, capacity_of, has_number, listing_of, type_of}
+pub use Rattle.cdl_meaning.specs.State.{Listable, Draft, Joined, Listing, Numbers, Rows, State, add_characters, add_constant, add_number, add_row, change_named, int_within, dim_len_of, filled, first_type, in_turn, listed_by, unless, values_in, when, with_att, with_values, ◌>>=◌}
+unfoldable pub use Rattle.cdl_meaning.specs.State.{act, add_att, add_dim, add_dimid, add_var, change_variable, listable_of, has_number, listing_of, type_of}
 pub use Rattle.cdl_statements.proofs.PieceLengths.{pieces_by_steps}
 pub use Rattle.cdl_statements.specs.Lexemes.{Lexeme, is_end_kind, is_mark, is_opening_kind, is_word, is_word_kind, lexeme}
 unfoldable pub use Rattle.cdl_statements.specs.Lexemes.{name_of}

@@ -1,6 +1,6 @@
 -- The values that the text of a variable lists give its array.
-use Rattle.std.proofs.Common.{◌≡◌, ℕ, zero, suc, List, [], ◌∷◌, sym, ◌∙◌, ap, subst, arith, All, Some, slice_get, slice_index_or, rules}
-use Rattle.cdl_laws.proofs.Prelude.{Dataset, Att, Dim, Header, Known, Var, fill_value, IsArray, AreArrays, value_count, IsName, IsSayable, IsSayableVar, trimmed_var, capacity_of, filled, DataReadsBack, all-at}
+use Rattle.std.proofs.Common.{◌≡◌, ℕ, suc, List, [], ◌∷◌, sym, ◌∙◌, ap, subst, arith, All, Some, slice_get, slice_index_or, rules}
+use Rattle.cdl_laws.proofs.Prelude.{Dataset, Att, Dim, Header, Known, Var, fill_value, IsArray, AreArrays, value_count, IsName, IsSayable, IsSayableVar, trimmed_var, listable_of, filled, DataReadsBack, all-at}
 use Rattle.cdl_laws.specs.RowLaws.{RowsReadBack, EmptyRowsReadBack}
 use Rattle.cdl_laws.proofs.Given.{row_back, no_bytes, same_fill, array_len}
 use Rattle.cdl_laws.proofs.PiecesRead.{is_statement}
@@ -8,10 +8,8 @@ use Rattle.cdl_laws.proofs.PiecesRead.{is_statement}
 -- ---- the parts of a dataset
 
 array_in_place : (dims : List Dim) (n : ℕ) (vars : List Var) (arrays : List (List ℕ)) (k : ℕ) (var : Var) → AreArrays dims n vars arrays → slice_get vars k ≡ Some var → IsArray dims n var (slice_index_or arrays k [])
-array_in_place dims n [] arrays k var are at = cc
-array_in_place dims n (w ∷ vars) [] k var are at = absurd are
-array_in_place dims n (w ∷ vars) (a ∷ arrays) zero var are at = let e : w ≡ var = cc in subst (λ u. IsArray dims n u a) e are.0
 array_in_place dims n (w ∷ vars) (a ∷ arrays) (suc k) var are at = array_in_place dims n vars arrays k var are.1 at
+array_in_place dims n _ _ _ var are at = grind arith
 
 -- a dataset has one number of records, and an array of them for each variable
 is_array : (d : Dataset) (records place : ℕ) (var : Var) → IsSayable d → d.header.numrecs ≡ Known records →
@@ -25,7 +23,7 @@ is_array d records place var s known at =
 -- ---- rows
 
 pub rows_read_back : RowsReadBack
-unfolding capacity_of
+unfolding listable_of
 rows_read_back d records width place var s known at some =
     let h = d.header in
     let array = slice_index_or d.arrays place [] in

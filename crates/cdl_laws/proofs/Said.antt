@@ -1,8 +1,8 @@
 -- What each statement of a text says, against the bytes of its tokens, and how many bytes and tokens all statements have.
 use Rattle.std.proofs.Common.{◌≡◌, ℕ, ◌+◌, ◌-◌, ◌≤◌, ◌<◌, Bool, true, false, List, [], ◌∷◌, length, arith, zero, suc, Option, None, Some, drop, ◌&&◌, not, ◌==◌, slice_index, codes, map, rules, ◌*◌, ◌∙◌, ap, refl, is_none, is_some, if◌then◌else◌}
-use Rattle.cdl_laws.proofs.Prelude.{length-take, length-drop, is_reserved, Version, has_type, character, inner, unescape_at, word_value, or_zero, Lexeme, is_word_kind, is_mark, name_of, Parts, parts, number, Numeral, numeral, type_of_suffix, in_base, with_sign, Value, Number, Characters, Underscore, Dimension, Variable, both, at_end, after_member, in_parentheses, dimension, constant, constants, option_map, Each, scan, lexeme, is_opening_kind, is_end_kind, first_role, role, pieces_after, with_first, step, pieces_by_steps, Statement, Open, Enter, DeclareDimensions, DeclareVariables, Attribute, Listed, Close, End, attribute_or_mark, assigned, other_statement, section_number, section_mark, section_of, shape, tokens, tokens_at, statements, Section, Unopened, Globals, Dimensions, Variables, Values, Closed, Ended, CutState, Role, Token}
+use Rattle.cdl_laws.proofs.Prelude.{length-take, length-drop, is_reserved, Version, has_type, character, unescape_at, word_value, or_zero, Lexeme, is_word_kind, is_mark, name_of, Parts, parts, Numeral, numeral, type_of_suffix, in_base, with_sign, Value, Number, Characters, Underscore, Dimension, Variable, both, at_end, after_member, in_parentheses, constant, constants, option_map, Each, scan, lexeme, is_opening_kind, is_end_kind, first_role, role, pieces_after, with_first, step, pieces_by_steps, Statement, Open, Enter, DeclareDimensions, DeclareVariables, Attribute, Listed, Close, End, attribute_or_mark, assigned, other_statement, section_number, section_mark, section_of, shape, tokens, tokens_at, statements, Section, Unopened, Globals, Dimensions, Variables, Values, Closed, Ended, CutState, Role, Token}
 use Rattle.cdl_statements.specs.Shapes.{dimensions, variables}
-use Rattle.cdl_laws.proofs.Outcomes.{SomeIs, some_map, some_then, some_weaker, some_both, some_given, in_if, total, each_take, each_drop, some_and}
+use Rattle.cdl_laws.proofs.Outcomes.{SomeIs, some_map, some_then, some_weaker, some_both, some_given, in_if, total, each_take, each_drop}
 use Rattle.cdl_statements.specs.Shapes as shapes
 use Rattle.cdl_statements.specs.declared.piece.CutState.TheVariants as places
 
@@ -24,8 +24,7 @@ HasBytes l = Each IsByte l.bytes
 -- ---- the ends of lists
 
 pub ended : {A : Type 0} (P : A → Type 0) (a : A) (ls : List Lexeme) → P a → SomeIs P (at_end a ls)
-ended P a [] h = h
-ended P a (l ∷ ls) h = tt
+ended P a ls h = grind arith
 
 member_some : {A : Type 0} (P : List A → Type 0) (others : Option (List A)) (c : Lexeme) (ls : List Lexeme) → P [] → SomeIs P others → SomeIs P (after_member others c ls)
 member_some P others c ls none h = grind (arith, some_given, ended P [] ls none)
@@ -66,24 +65,16 @@ parts_have : (v : Version) (bs : List ℕ) → SomeIs (HasType v) (parts v bs)
 unfolding parts
 parts_have v bs = grind (arith, unsigned_has v (slice_index bs 0 == 0x2d) (drop 1 bs), unsigned_has v false bs, in_if)
 
-numeral_has : (v : Version) (bs : List ℕ) → SomeIs (HasTypeOf v) (numeral v bs)
-unfolding numeral
-numeral_has v bs = some_map (HasTypeOf v) number (parts v bs) (parts_have v bs)
-
 -- ---- strings
 
 abbrev ByteOrNone : Option ℕ → Type 0
 ByteOrNone o = SomeIs IsByte o
 
-zero_fine : (o : Option ℕ) → ByteOrNone o → or_zero o < 256
-zero_fine o h = grind arith
-
 stands_fine : (more : ℕ) (bs : List ℕ) → Each IsByte bs → Each IsByte (map or_zero (unescape_at more bs))
 unfolding unescape_at character
 stands_fine more [] h = tt
 stands_fine (suc more) (b ∷ bs) h = stands_fine more bs h.1
-stands_fine zero (b ∷ bs) h =
-    (zero_fine (character (b ∷ bs)).value (search (rules, in_if, each_drop)), stands_fine ((character (b ∷ bs)).len - 1) bs h.1)
+stands_fine zero (b ∷ bs) h = grind (arith, stands_fine ((character (b ∷ bs)).len - 1) bs h.1)
 
 stands_short : (more : ℕ) (bs : List ℕ) → length (map or_zero (unescape_at more bs)) ≤ length bs
 unfolding unescape_at
@@ -104,14 +95,11 @@ IsFineValue v (Number n) = HasTypeOf v n
 IsFineValue v (Characters bytes) = Each IsByte bytes
 IsFineValue v Underscore = Unit {0}
 
-inner_short : (bs : List ℕ) → length (inner bs) ≤ length bs
-inner_short bs = let a = length-take (length bs - 2) (drop 1 bs) in let b = length-drop 1 bs in omega (arith, a, b)
-
 one_good : (v : Version) (takes_fill : Bool) (l : Lexeme) → HasBytes l →
     SomeIs (λ x. (cost x ≤ weight l) × IsFineValue v x) (constant v takes_fill l)
-one_good v takes_fill l h = some_and (λ x. cost x ≤ weight l) (IsFineValue v) (constant v takes_fill l)
-    (grind (arith, stands_short, inner_short, codes))
-    (grind (arith, some_map, numeral_has, stands_fine, each_take, each_drop, codes))
+unfolding numeral
+one_good v takes_fill l h =
+    grind (arith, stands_short, length-take, codes, some_map, parts_have, stands_fine, each_take, each_drop)
 
 constants_good : (v : Version) (takes_fill : Bool) (ls : List Lexeme) → Each HasBytes ls →
     SomeIs (λ xs. (total cost xs ≤ mass ls) × Each (IsFineValue v) xs) (constants v takes_fill ls)
@@ -135,8 +123,7 @@ var_cost x = suc (length x.name + total name_cost x.dimensions)
 
 pub dimensions_short : (v : Version) (ls : List Lexeme) → SomeIs (λ ds. total dim_cost ds ≤ mass ls) (dimensions v ls)
 dimensions_short v (n ∷ e ∷ l ∷ c ∷ ls) =
-    list_some (λ d. dim_cost d ≤ weight n) (λ ds. total dim_cost ds ≤ mass ls) _ (dimension v n e l) (dimensions v ls) c ls
-    (grind (arith, some_given, both, some_both, name_short)) (omega arith) (dimensions_short v ls) (λ d ds a b. omega (arith, a, b))
+    grind (arith, name_short, dimensions_short v ls)
 dimensions_short v _ = tt
 
 -- the variables after this one

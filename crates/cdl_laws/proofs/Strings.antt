@@ -1,6 +1,6 @@
 -- An escaped string between quotes is one token that stands for it.
-use Rattle.std.proofs.Common.{◌≡◌, ℕ, ◌+◌, ◌-◌, ◌/◌, ◌%◌, ◌<◌, true, false, List, [], ◌∷◌, ◌++◌, length, drop, take, sym, ◌∙◌, ap, refl, subst, arith, append_assoc, length-append, ◌==◌, nat_lt, map, Some, is_some, rules, Bool}
-use Rattle.cdl_laws.proofs.Prelude.{is_ascii_control, flat_map, list_all, eqb-true, take-append_seam, escaped_in_string, octal_escape, is_octal, number_in, len_until, scan, scan_text, character, up_to_255, plain_escape, unescape, unescape_at, Lexeme, until_at_start, token, AreToken, and_false, escaped_text}
+use Rattle.std.proofs.Common.{◌≡◌, ℕ, ◌+◌, ◌-◌, ◌/◌, ◌%◌, ◌<◌, true, false, List, [], ◌∷◌, ◌++◌, length, drop, take, sym, ◌∙◌, ap, refl, subst, arith, append_assoc, length-append, ◌==◌, map, Some, is_some, rules}
+use Rattle.cdl_laws.proofs.Prelude.{is_ascii_control, flat_map, list_all, eqb-true, take-append_seam, escaped_in_string, octal_escape, is_octal, number_in, len_until, scan, character, up_to_255, plain_escape, unescape, unescape_at, Lexeme, until_at_start, AreToken, escaped_text}
 use Rattle.cdl_tokens.specs.declared.token.TokenKind.TheVariants as kinds
 use Rattle.cdl_laws.proofs.Texts.{Closed, prefix_again, closed_both}
 
@@ -37,8 +37,7 @@ stands b =
     literal b 39 (letter 39 refl refl refl refl) (λ e39.
     literal b 92 (letter 92 refl refl refl refl) (λ e92.
     elim (is_ascii_control b) as (λ w. is_ascii_control b ≡ w → IsEscapedAs b) [
-      | true ↦ (λ e. octal (grind (arith, e))
-          (rw (e8) (rw (e9) (rw (e10) (rw (e11) (rw (e12) (rw (e13) (rw (e34) (rw (e39) (rw (e92) (rw (e) refl)))))))))))
+      | true ↦ (λ e. grind arith)
       | false ↦ (λ e. bare e92 e34 (rw (e8) (rw (e9) (rw (e10) (rw (e11) (rw (e12) (rw (e13) (rw (e34) (rw (e39) (rw (e92) (rw (e) refl)))))))))))
     ] refl)))))))))
 
@@ -59,9 +58,8 @@ unescape_one b rest (bare h k same) = rw (same) (rw (h) refl)
 until_all : (bytes rest : List ℕ) →
     len_until 0x22 (flat_map escaped_in_string bytes ++ 0x22 ∷ rest) ≡ length (flat_map escaped_in_string bytes)
 unfolding len_until
-until_all [] [] = refl
-until_all [] (c ∷ rest) = refl
 until_all (b ∷ bytes) rest = grind (arith, append_assoc, until_one, stands, length-append, until_all bytes rest)
+until_all _ _ = grind arith
 
 pub unescape_all : (bytes : List ℕ) → unescape (flat_map escaped_in_string bytes) ≡ map Some bytes
 unfolding unescape_at
@@ -72,9 +70,6 @@ all_bytes : (bytes : List ℕ) → list_all is_some (map Some bytes) ≡ true
 all_bytes [] = refl
 all_bytes (b ∷ bytes) = all_bytes bytes
 
-is_string : (bytes : List ℕ) → list_all is_some (unescape (flat_map escaped_in_string bytes)) ≡ true
-is_string bytes = ap (list_all is_some) (unescape_all bytes) ∙ all_bytes bytes
-
 -- between quotes
 abbrev pub quoted : List ℕ → List ℕ
 quoted bytes = 0x22 ∷ (flat_map escaped_in_string bytes ++ 0x22 ∷ [])
@@ -82,17 +77,9 @@ quoted bytes = 0x22 ∷ (flat_map escaped_in_string bytes ++ 0x22 ∷ [])
 abbrev pub string : List ℕ → Lexeme
 string bytes = record { kind = kinds.Text; bytes = quoted bytes }
 
-text_len : (w rest : List ℕ) (n : ℕ) → n ≡ length w → list_all is_some (unescape w) ≡ true →
-    scan_text (w ++ 0x22 ∷ rest) n ≡ record { kind = Some kinds.Text; len = length w + 2 }
-text_len w rest n e h = rw (e) (let f : nat_lt (length w) (length (w ++ 0x22 ∷ rest)) ≡ true = (let g = length-append w (0x22 ∷ rest) in grind (arith, g)) in rw (f) (rw (take-append_seam w (0x22 ∷ rest)) (rw (h) refl)))
-
-quote_token : (fresh : Bool) (w rest : List ℕ) → len_until 0x22 (w ++ 0x22 ∷ rest) ≡ length w → list_all is_some (unescape w) ≡ true →
-    scan fresh (0x22 ∷ (w ++ 0x22 ∷ rest)) ≡ token kinds.Text (length w + 2)
-unfolding scan
-quote_token fresh w rest h k = rw (and_false fresh) (text_len w rest (len_until 0x22 (w ++ 0x22 ∷ rest)) h k)
-
 pub string_token : (bytes rest : List ℕ) → AreToken kinds.Text (quoted bytes) rest
-string_token bytes rest fresh = grind (arith, append_assoc, quote_token, until_all, is_string, length-append)
+unfolding scan
+string_token bytes rest fresh = grind (arith, append_assoc, take-append_seam, until_all, is_some, unescape_all, all_bytes, length-append)
 
 pub string_closed : (bytes : List ℕ) → Closed (quoted bytes) (string bytes ∷ [])
 string_closed bytes rest = prefix_again false (Some kinds.Text) 0x22 (flat_map escaped_in_string bytes ++ 0x22 ∷ []) rest

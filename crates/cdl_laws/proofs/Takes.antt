@@ -73,8 +73,7 @@ word_fine v bytes = elim (is_section bytes) as (λ b. is_plain (if b then roles.
 pub all_fine : {A : Type 0} (v : Version) (lex : A → Lexeme) (P : A → Type 0) → ((x : A) → P x → is_fine v (lex x) ≡ true) →
     (xs : List A) → Each P xs → list_all (is_fine v) (map lex xs) ≡ true
 all_fine v lex P fine [] all = refl
-all_fine v lex P fine (x ∷ xs) all =
-    and_both (is_fine v (lex x)) (list_all (is_fine v) (map lex xs)) (fine x all.0) (all_fine v lex P fine xs all.1)
+all_fine v lex P fine (x ∷ xs) all = grind (arith, all_fine v lex P fine xs all.1)
 
 fine_plain : (v : Version) (ls : List Lexeme) → list_all (is_fine v) ls ≡ true → all_plain ls ≡ true
 fine_plain v [] h = refl

@@ -1,5 +1,5 @@
 -- The strings of a text stand for bytes.
-use Rattle.std.proofs.Common.{◌≡◌, ℕ, zero, suc, ◌+◌, ◌-◌, ◌<◌, Bool, true, List, [], ◌∷◌, length, take, drop, sym, ◌∙◌, ap, refl, subst, arith, ◌&&◌, nat_lt, if◌then◌else◌, map, Option, None, Some, is_none, is_some, rules, false}
+use Rattle.std.proofs.Common.{◌≡◌, ℕ, zero, suc, ◌+◌, ◌-◌, ◌<◌, Bool, true, List, [], ◌∷◌, length, take, drop, sym, ◌∙◌, ap, refl, subst, arith, ◌&&◌, nat_lt, if◌then◌else◌, map, Option, Some, is_none, is_some, rules, false}
 use Rattle.cdl_laws.proofs.Prelude.{list_all, inner, string_value, unescape, or_zero, scan, scan_text, raw, tokens_at, tokens, with_token, token_at, Scanned, Token, TokenKind, StandsForBytes, StringsStandForBytes, inner_of, Each, all_of}
 use Rattle.cdl_tokens.specs.declared.token.TokenKind.TheVariants as kinds
 use Rattle.cdl_laws.proofs.Lines.{tail_at}
@@ -40,9 +40,8 @@ prefix_says fresh bs = search (rules, either, text_says, no_text) depth 12
 -- ---- what it stands for
 
 all_some : (os : List (Option ℕ)) → list_all is_some os ≡ true → os ≡ map Some (map or_zero os)
-all_some [] h = refl
-all_some (None ∷ os) h = cc
 all_some (Some b ∷ os) h = ap (λ xs. Some b ∷ xs) (all_some os h)
+all_some _ h = grind arith
 
 -- ---- the tokens of a text
 

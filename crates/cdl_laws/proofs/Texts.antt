@@ -1,5 +1,5 @@
 -- Texts that are put together are read apart again, token by token.
-use Rattle.std.proofs.Common.{◌≡◌, ℕ, suc, Bool, true, false, List, [], ◌∷◌, ◌++◌, length, drop, ap, refl, arith, append_assoc, ◌&&◌, ◌||◌, ◌==◌, not, Option, Some, is_none, rules, ◌+◌, None, if◌then◌else◌, ◌∙◌}
+use Rattle.std.proofs.Common.{◌≡◌, ℕ, suc, Bool, true, false, List, [], ◌∷◌, ◌++◌, length, drop, ap, refl, arith, append_assoc, ◌&&◌, ◌||◌, ◌==◌, not, Option, Some, is_none, rules, ◌+◌, None, if◌then◌else◌}
 use Rattle.cdl_laws.proofs.Prelude.{prefix_len, list_all, false≢true, drop-append_seam, take-append_seam, escaped_name, is_reserved, IsName, has_name_bytes, ends_with_space, is_utf8, goes_on_word, goes_on_number, word_len, scan, begins_a_word, token, Lexeme, name_of, lexemes_at, with_lexeme, TokenKind, and_left, and_right, is_off, word_at_start, is_mark_byte, is_blank, flat_map, or_second, begins_number, AreToken}
 use Rattle.cdl_tokens.specs.declared.token.TokenKind.TheVariants as kinds
 use Rattle.cdl_laws.proofs.NameTexts.{rest_of, Begins, marked, bare, begins, name_len, name_value, name_free}
@@ -74,9 +74,7 @@ one_closed b rest h =
 pub marks_closed : (bytes : List ℕ) → list_all (λ b. is_mark_byte b || is_blank b) bytes ≡ true → Closed bytes (marks_in bytes)
 marks_closed [] h = λ rest. refl
 marks_closed (b ∷ bytes) h =
-    let is = λ (c : ℕ). is_mark_byte c || is_blank c in
-    closed_both (b ∷ []) bytes (mark_of b) (marks_in bytes) (λ rest. one_closed b rest (and_left (is b) (list_all is bytes) h))
-    (marks_closed bytes (and_right (is b) (list_all is bytes) h))
+    grind (arith, one_closed, and_right, marks_closed bytes)
 
 -- ---- what stops a word or a number
 
@@ -138,6 +136,5 @@ pub begun_number : (b : ℕ) (w : List ℕ) → ((rest : List ℕ) → begins_nu
     IsNumber (b ∷ w)
 begun_number b w at_start all rest stop =
     let len : 1 + prefix_len goes_on_number (w ++ rest) ≡ length (b ∷ w) = (let e = all_on w rest all stop in omega (arith, e)) in
-    let one : AreToken kinds.Number (b ∷ w) rest = λ fresh. scan_number fresh (b ∷ (w ++ rest)) (at_start rest) ∙
-    ap (token kinds.Number) len in
+    let one : AreToken kinds.Number (b ∷ w) rest = λ fresh. grind (arith, scan_number) in
     (one, prefix_again false (Some kinds.Number) b w rest (one false))

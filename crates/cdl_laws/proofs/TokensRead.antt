@@ -1,9 +1,9 @@
 -- Names, strings and numbers are read back, each as one token.
 use Rattle.std.proofs.Common.{◌≡◌, ℕ, ◌+◌, Bool, true, false, List, [], ◌∷◌, ◌++◌, length, get_or, sym, ◌∙◌, ap, refl, subst, arith, ◌||◌, ◌==◌, codes, ◌≤◌}
-use Rattle.cdl_laws.proofs.Prelude.{is_mark_byte, prefix_len, false≢true, eqb-true, take-append-drop, get_or-drop, take-append_seam, escaped_name, escaped_text, is_reserved, is_blank, goes_on_word, goes_on_number, word_len, scan, begins_opening, stands_for, BlanksAndMarksStop, StopsWord, NamesReadBack, StringsReadBack, StopsNumber, ConstantsReadBack, ValuesReadBack, and_left, and_right, word_at_start, number_suffix}
+use Rattle.cdl_laws.proofs.Prelude.{is_mark_byte, prefix_len, false≢true, eqb-true, take-append-drop, get_or-drop, take-append_seam, escaped_name, escaped_text, is_reserved, is_blank, goes_on_word, goes_on_number, word_len, scan, begins_opening, stands_for, BlanksAndMarksStop, NamesReadBack, StringsReadBack, StopsNumber, ConstantsReadBack, ValuesReadBack, and_left, and_right, word_at_start, number_suffix}
 use Rattle.cdl_laws.proofs.Attributes.{small_is}
 use Rattle.cdl_laws.proofs.Heads.{opens_none}
-use Rattle.cdl_laws.proofs.NameTexts.{begins, name_len, name_value, name_free}
+use Rattle.cdl_laws.proofs.NameTexts.{begins, name_len, name_value}
 use Rattle.cdl_laws.proofs.Numerals.{numeral_again, value_again, number_is, value_is, on_suffix}
 use Rattle.cdl_laws.proofs.Strings.{unescape_all, between_quotes, string_token}
 use Rattle.cdl_laws.proofs.Texts.{name_word, some_name}
@@ -38,10 +38,6 @@ opens_stop b h = one_of (is_blank b) (b == 0x7b) (blank_stop b) (literal b 0x7b 
 
 -- ---- names
 
-stop_word : (rest : List ℕ) → StopsWord rest → word_len rest ≡ 0
-unfolding word_len
-stop_word rest h = grind (arith, word_at_start)
-
 ends_word : (bs : List ℕ) → (is_blank (get_or bs 0 0) || get_or bs 0 0 == 0x7b) ≡ true → word_len bs ≡ 0
 unfolding word_len
 ends_word bs h = grind (arith, word_at_start, opens_stop)
@@ -57,12 +53,12 @@ free_begins w rest free len =
     grind (arith, take-append_seam w rest, codes, false≢true, get_or-drop, ends_word, and_right, take-append-drop, six_letters)
 
 pub names_read_back : NamesReadBack
-unfolding scan
+unfolding scan word_len
 names_read_back [] h = absurd (false≢true (some_name [] h))
 names_read_back (b ∷ bs) h =
     let word = name_word (b ∷ bs) h in
     record {
-      token = λ rest stops. grind (arith, and_left, some_name, and_right, begins, name_free, name_len, stop_word, free_begins);
+      token = λ rest stops. grind (arith, and_left, begins, name_len, free_begins);
       free = word.free;
       no_section = opens_none (escaped_name (b ∷ bs)) word.free;
       value = grind (arith, and_left, some_name, and_right, begins, name_value);

@@ -81,9 +81,8 @@ bare_still : (h : Header) (n : ℕ) → h ≡ bare h n → trimmed_header h ≡ 
 bare_still h n e = ap trimmed_header e ∙ ap (λ (vs : List Var). record h { numrecs = Known n; gatts = map trimmed_att h.gatts; vars = vs }) (bare_trimmed h.vars)
 
 arrays_still : (dims : List Dim) (n : ℕ) (vars : List Var) (arrays : List (List ℕ)) → AreArrays dims n vars arrays → AreArrays dims n (map trimmed_var vars) arrays
-arrays_still dims n [] [] a = tt
 arrays_still dims n (var ∷ vars) (x ∷ arrays) a = (record { bytes = a.0.bytes; whole = a.0.whole; small = a.0.small }, arrays_still dims n vars arrays a.1)
-arrays_still dims n _ _ a = absurd a
+arrays_still dims n _ _ a = grind arith
 
 good_still : (d : Dataset) → IsGood d → IsGood (trimmed d)
 good_still d g = record {

@@ -1,6 +1,6 @@
 -- The listed numbers of a variable are read back, wherever the breaks are.
-use Rattle.std.proofs.Common.{◌≡◌, ℕ, ◌+◌, ◌^◌, ◌<◌, ◌≤◌, Bool, true, false, List, [], ◌∷◌, ◌++◌, length, map, sym, ◌∙◌, ap, refl, subst, arith, append_assoc, append-nil, length-append, ℤ, unsigned_abs, ◌&&◌, not, if◌then◌else◌, nat_lt, Some, Result, Ok, codes, ◌⊎◌, inl, inr}
-use Rattle.cdl_laws.proofs.Prelude.{signed_decimal, flat_map, int_eq, mod-eq_of_lt, zero-mod, false≢true, concat_parts, escaped_name, Int, Version, IsName, Look, is_char, number_text, number_lead, line_break, begins_row, column, number_piece, piece, pieces, variable_opening, variable_closing, variable_text, prefix_is, CdlKind, Lexeme, Value, Number, Underscore, both, constant, constants, constants, Capacity, Numbers, add_number, has_number, in_turn, listing_of, word_at_start, Each, ◌>>=◌}
+use Rattle.std.proofs.Common.{◌≡◌, ℕ, ◌+◌, ◌^◌, ◌<◌, ◌≤◌, Bool, true, false, List, [], ◌∷◌, ◌++◌, length, map, sym, ◌∙◌, ap, refl, subst, arith, append_assoc, append-nil, length-append, ℤ, unsigned_abs, ◌&&◌, not, if◌then◌else◌, nat_lt, Some, Result, Ok, codes, ◌⊎◌}
+use Rattle.cdl_laws.proofs.Prelude.{signed_decimal, flat_map, int_eq, mod-eq_of_lt, false≢true, concat_parts, escaped_name, Int, Version, IsName, Look, is_char, number_text, number_lead, line_break, begins_row, column, number_piece, piece, pieces, variable_opening, variable_closing, variable_text, prefix_is, CdlKind, Lexeme, Value, Number, Underscore, both, constant, constants, constants, Listable, Numbers, add_number, has_number, in_turn, listing_of, word_at_start, Each, ◌>>=◌}
 use Rattle.cdl_laws.proofs.Texts.{Closed, Reads, Stops, closed_both, then_reads, closed_by, reads_both, mark, word, number, name_word, word_reads, stop_word, marks_closed, number_reads}
 use Rattle.cdl_laws.proofs.Numerals.{value_again, value_is}
 
@@ -51,8 +51,7 @@ text_reads look x h = grind (arith, codes "_", number_reads (signed_decimal x) (
 -- ---- what stands before a number
 
 either_closed : (b : Bool) → Closed (if b then codes "\n    " else []) []
-either_closed true = marks_closed (codes "\n    ") refl
-either_closed false = λ rest. refl
+either_closed b = grind (arith, marks_closed)
 
 break_closed : (look : Look) (i end : ℕ) → Closed (line_break look i end) []
 break_closed look i end = either_closed (not (begins_row look i) && nat_lt look.width (end + 2))
@@ -63,8 +62,7 @@ gap : (look : Look) (i : ℕ) → 0 < i → (look.in_rows ≡ false → i < look
 gap look i some small = grind (arith, codes, false≢true, mod-eq_of_lt)
 
 gap_closed : (lead : List ℕ) → (lead ≡ codes ", ") ⊎ (lead ≡ codes ",\n  ") → Closed lead (comma ∷ [])
-gap_closed lead (inl is) = rw (is) (marks_closed (codes ", ") refl)
-gap_closed lead (inr is) = rw (is) (marks_closed (codes ",\n  ") refl)
+gap_closed lead either = grind (arith, marks_closed)
 
 -- ---- the numbers after the first
 
@@ -84,8 +82,7 @@ AreSmall xs = Each (λ x. unsigned_abs x < 2 ^ 64) xs
 pieces_first : (look : Look) (before : List ℕ) (values : List ℤ) (x : ℤ) (xs : List ℤ) → is_char look.ty ≡ false →
     pieces look before values (x ∷ xs) ≡ number_piece look before (length values) x ++ pieces look (before ++ piece look before values x) (values ++ x ∷ []) xs
 unfolding pieces piece
-pieces_first look before values x xs h = ap (λ p. p ++ pieces look (before ++ piece look before values x) (values ++ x ∷ []) xs)
-    (rw (h) refl)
+pieces_first look before values x xs h = grind arith
 
 pieces_none : (look : Look) (before : List ℕ) (values : List ℤ) → pieces look before values [] ≡ []
 unfolding pieces
@@ -113,12 +110,7 @@ more_read look before values (x ∷ xs) h some small fit =
 -- ---- a variable's numbers
 
 first_lead : (look : Look) → Closed (number_lead look 0) []
-first_lead look = rw (zero-mod look.row) (elim (look.in_rows) as
-    (λ w. Closed (if w then codes "\n  " else codes " ") []) [
-      | true ↦ marks_closed (codes "\n  ") refl
-      | false ↦ marks_closed
-          (codes " ") refl
-    ])
+first_lead look = grind (arith, marks_closed)
 
 first_reads : (look : Look) (before : List ℕ) (x : ℤ) → unsigned_abs x < 2 ^ 64 → Reads (number_piece look before 0 x) (value_lexeme look x ∷ [])
 unfolding number_piece
@@ -173,13 +165,13 @@ values_said v look x xs fit = constants_say v true (value_lexeme look) (value_sa
 
 -- ---- what becomes of them
 
-all_added : (look : Look) (capacity : Capacity) (before xs : List ℤ) → capacity.fill ≡ look.fill → (capacity.is_open ≡ false → length before + length xs ≤ capacity.count) → Each (λ x. has_number capacity.ty x ≡ true) xs →
-    in_turn (add_number capacity) before (map (value_said look) xs) ≡ Ok (before ++ xs)
-all_added look capacity before [] same wide fit = ap Ok (sym (append-nil before))
-all_added look capacity before (x ∷ xs) same wide fit =
-    grind (arith, length-append, turn, append_assoc, all_added look capacity (before ++ x ∷ []) xs same)
+all_added : (look : Look) (listable : Listable) (before xs : List ℤ) → listable.fill ≡ look.fill → (listable.is_open ≡ false → length before + length xs ≤ listable.count) → Each (λ x. has_number listable.ty x ≡ true) xs →
+    in_turn (add_number listable) before (map (value_said look) xs) ≡ Ok (before ++ xs)
+all_added look listable before [] same wide fit = ap Ok (sym (append-nil before))
+all_added look listable before (x ∷ xs) same wide fit =
+    grind (arith, length-append, turn, append_assoc, all_added look listable (before ++ x ∷ []) xs same)
 
-pub numbers_listed : (look : Look) (capacity : Capacity) (xs : List ℤ) → is_char capacity.ty ≡ false → capacity.fill ≡ look.fill → (capacity.is_open ≡ false → length xs ≤ capacity.count) → Each (λ x. has_number capacity.ty x ≡ true) xs →
-    listing_of capacity (map (value_said look) xs) ≡ Ok (Numbers xs)
+pub numbers_listed : (look : Look) (listable : Listable) (xs : List ℤ) → is_char listable.ty ≡ false → listable.fill ≡ look.fill → (listable.is_open ≡ false → length xs ≤ listable.count) → Each (λ x. has_number listable.ty x ≡ true) xs →
+    listing_of listable (map (value_said look) xs) ≡ Ok (Numbers xs)
 unfolding listing_of
-numbers_listed look capacity xs h same wide fit = rw (h) (ap (λ values. values >>= (λ ys. Ok (Numbers ys))) (all_added look capacity [] xs same (λ e. let f = wide e in omega (arith, f)) fit))
+numbers_listed look listable xs h same wide fit = rw (h) (ap (λ values. values >>= (λ ys. Ok (Numbers ys))) (all_added look listable [] xs same (λ e. let f = wide e in omega (arith, f)) fit))

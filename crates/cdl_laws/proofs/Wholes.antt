@@ -3,7 +3,7 @@ use Rattle.std.proofs.Common.{◌≡◌, ℕ, zero, suc, ◌^◌, ◌<◌, true,
 use Rattle.cdl_laws.proofs.Prelude.{list_any, bytes_eq, concat_parts, Att, Dim, Var, NcType, Version, escaped_name, AreDimids, joined, dim_line, att_line, att_lines, att_text, var_lines, shape_text, dim_name, IsName, type_word, count_limit, has_type, Section, Dimensions, Variables, trimmed_att, trimmed_var, Value, DeclareDimensions, DeclareVariables, Attribute, State, Draft, act, add_dim, add_att, add_constant, first_type, in_turn, said_dim, IsBeforeData, not_none, Each, ◌>>=◌, declaration, EachAfter, each_after, type_of}
 use Rattle.cdl_laws.proofs.Texts.{word}
 use Rattle.cdl_laws.proofs.ValueTexts.{turn}
-use Rattle.cdl_laws.proofs.Takes.{Takes, says_takes, takes_both, takes_nothing}
+use Rattle.cdl_laws.proofs.Takes.{Takes, says_takes, takes_both}
 use Rattle.cdl_laws.proofs.Declarations.{dim_says, IsListOf, global_says, owned_says, AreNames, shape_of, typed_line, typed_says}
 use Rattle.cdl_laws.proofs.Acts.{record_once, dim_added, is_new_att, att_added, no_draft, variable_is, name_at, AreDistinctDims, HaveNames, name_valid, bare_draft, var_added}
 use Rattle.std.proofs.lemmas.List.{map-id}
@@ -16,8 +16,7 @@ all_taken : {X Y : Type 0} (v : Version) (line : X → List ℕ) (f : X → Y) (
     ((done : List Y) (x : X) → P done x → Takes v (line x) (now done) (now (done ++ f x ∷ []))) →
     (done : List Y) (xs : List X) → EachAfter f P done xs → Takes v (concat_parts (map line xs)) (now done) (now (done ++ map f xs))
 unfolding concat_parts
-all_taken v line f P now step done [] all = subst (λ ys. Takes v [] (now done) (now ys)) (sym (append-nil done))
-    (takes_nothing v (now done))
+all_taken v line f P now step done [] all = grind (arith, append-nil)
 all_taken v line f P now step done (x ∷ xs) all =
     grind (arith, takes_both, append_assoc, all_taken v line f P now step (done ++ f x ∷ []) xs all.1)
 

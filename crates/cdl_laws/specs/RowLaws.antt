@@ -9,7 +9,7 @@ use Rattle.nc_base.specs.ValueText.{look_of, variable_text}
 use Rattle.cdl_statements.specs.declared.section.Section.TheVariants.{Values}
 use Rattle.cdl_statements.specs.Shapes.{Value, Listed}
 use Rattle.cdl_meaning.specs.Meaning.{array_of}
-use Rattle.cdl_meaning.specs.State.{Listing, capacity_of, listing_of, values_in}
+use Rattle.cdl_meaning.specs.State.{Listing, listable_of, listing_of, values_in}
 use Rattle.cdl_laws.specs.PieceLaws.{IsStatement}
 
 -- The text of the values of the variable in this place is one statement, which lists values for it. Added in turn, they give
@@ -19,9 +19,9 @@ pub record RowReadsBack (d : Dataset) (records width place : ℕ) (var : Var) : 
   pub values : List Value
   pub statement : IsStatement d.header.version Values (variable_text (look_of d.header var records width) (values_in_dataset d place var).values) (Listed var.name values)
   pub listing : Listing
-  pub added : listing_of (capacity_of d.header.dims var) values ≡ Ok listing
+  pub added : listing_of (listable_of d.header.dims var) values ≡ Ok listing
   pub array : array_of d.header.dims records (record { var = var; listed = Some listing }) ≡ slice_index_or d.arrays place []
-  pub whole : is_record_var d.header.dims var ≡ true → length (values_in (capacity_of d.header.dims var) listing) ≡ value_count d.header.dims var records
+  pub whole : is_record_var d.header.dims var ≡ true → length (values_in (listable_of d.header.dims var) listing) ≡ value_count d.header.dims var records
 
 abbrev pub RowsReadBack : Type 0
 RowsReadBack = (d : Dataset) (records width place : ℕ) (var : Var) → IsSayable d

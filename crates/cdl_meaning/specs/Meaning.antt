@@ -13,7 +13,7 @@ use Rattle.cdl_statements.specs.Statements.{statements}
 use Rattle.cdl_statements.specs.declared.{fault.CdlFault.CdlFault, fault.CdlKind.CdlKind, section.Section.TheVariants.Unopened}
 use Rattle.cdl_statements.specs.declared.fault.CdlKind.TheVariants.{Syntax, TooLarge}
 use Rattle.cdl_tokens.specs.declared.token.Token.{Token}
-use Rattle.cdl_meaning.specs.State.{State, Draft, act, capacity_of, filled, values_in}
+use Rattle.cdl_meaning.specs.State.{State, Draft, act, listable_of, filled, values_in}
 
 -- ---- statements
 
@@ -44,7 +44,7 @@ empty = record { section = Unopened; dims = []; gatts = []; drafts = [] }
 -- ---- arrays
 
 abbrev pub listed_values : List Dim → Draft → List ℤ
-listed_values dims d = elim d.listed [ None ↦ [] | Some listing ↦ values_in (capacity_of dims d.var) listing ]
+listed_values dims d = elim d.listed [ None ↦ [] | Some listing ↦ values_in (listable_of dims d.var) listing ]
 
 -- how many records hold the values of one variable
 abbrev pub records_of : List Dim → Draft → ℕ

@@ -167,7 +167,7 @@ with_att name cs d = do
 -- ---- data
 
 -- what a variable takes
-pub record Capacity : Type 0 where
+pub record Listable : Type 0 where
   pub ty : NcType
   pub fill : ℤ
   -- a record variable takes any number of values
@@ -181,8 +181,8 @@ pub record Capacity : Type 0 where
   -- if in_rows: how many values a row has
   pub row : ℕ
 
-unfoldable pub capacity_of : List Dim → Var → Capacity
-capacity_of dims var = record {
+unfoldable pub listable_of : List Dim → Var → Listable
+listable_of dims var = record {
   ty = var.ty;
   fill = fill_value var;
   is_open = is_record_var dims var;
@@ -193,52 +193,52 @@ capacity_of dims var = record {
   row = row_len dims var.dimids 0;
 }
 
-abbrev pub add_number : Capacity → List ℤ → Value → Result (List ℤ) CdlKind
-add_number capacity before (Characters bytes) = Err WrongKind
-add_number capacity before Underscore = do
-  _ ← unless (capacity.is_open || nat_lt (length before) capacity.count) TooManyValues
-  Ok (before ++ capacity.fill ∷ [])
-add_number capacity before (Number n) = do
-  _ ← unless (capacity.is_open || nat_lt (length before) capacity.count) TooManyValues
-  _ ← unless (has_number capacity.ty n.value) NumberRange
+abbrev pub add_number : Listable → List ℤ → Value → Result (List ℤ) CdlKind
+add_number listable before (Characters bytes) = Err WrongKind
+add_number listable before Underscore = do
+  _ ← unless (listable.is_open || nat_lt (length before) listable.count) TooManyValues
+  Ok (before ++ listable.fill ∷ [])
+add_number listable before (Number n) = do
+  _ ← unless (listable.is_open || nat_lt (length before) listable.count) TooManyValues
+  _ ← unless (has_number listable.ty n.value) NumberRange
   Ok (before ++ n.value ∷ [])
 
-abbrev pub add_characters : Capacity → Bytes → Value → Result Bytes CdlKind
-add_characters capacity before (Characters bytes) = do
-  _ ← unless (capacity.is_open || nat_le (length before + length bytes) capacity.count) StringTooLong
+abbrev pub add_characters : Listable → Bytes → Value → Result Bytes CdlKind
+add_characters listable before (Characters bytes) = do
+  _ ← unless (listable.is_open || nat_le (length before + length bytes) listable.count) StringTooLong
   Ok (before ++ bytes)
-add_characters capacity before _ = Err WrongKind
+add_characters listable before _ = Err WrongKind
 
-abbrev pub add_row : Capacity → List Bytes → Value → Result (List Bytes) CdlKind
-add_row capacity before (Characters bytes) = do
-  _ ← unless (capacity.is_open || nat_lt (length before) capacity.rows) TooManyValues
-  _ ← unless (nat_le (length bytes) capacity.row) StringTooLong
+abbrev pub add_row : Listable → List Bytes → Value → Result (List Bytes) CdlKind
+add_row listable before (Characters bytes) = do
+  _ ← unless (listable.is_open || nat_lt (length before) listable.rows) TooManyValues
+  _ ← unless (nat_le (length bytes) listable.row) StringTooLong
   Ok (before ++ bytes ∷ [])
-add_row capacity before _ = Err WrongKind
+add_row listable before _ = Err WrongKind
 
 abbrev pub listed_by : {A : Type 0} → (List A → Value → Result (List A) CdlKind) → (List A → Listing) → List Value → Result Listing CdlKind
 listed_by add listing values = in_turn add [] values >>= (λ items. Ok (listing items))
 
-unfoldable pub listing_of : Capacity → List Value → Result Listing CdlKind
-listing_of capacity values =
-    if is_char capacity.ty
-    then (if capacity.in_rows then listed_by (add_row capacity) Rows values else listed_by (add_characters capacity) Joined values)
-    else listed_by (add_number capacity) Numbers values
+unfoldable pub listing_of : Listable → List Value → Result Listing CdlKind
+listing_of listable values =
+    if is_char listable.ty
+    then (if listable.in_rows then listed_by (add_row listable) Rows values else listed_by (add_characters listable) Joined values)
+    else listed_by (add_number listable) Numbers values
 
 -- the values, and fill values up to n in all
 abbrev pub filled : ℕ → ℤ → List ℤ → List ℤ
 filled n fill values = values ++ replicate (n - length values) fill
 
 -- what a listing lists; each row is filled up
-abbrev pub values_in : Capacity → Listing → List ℤ
-values_in capacity (Numbers values) = values
-values_in capacity (Joined bytes) = map pos bytes
-values_in capacity (Rows rows) = flat_map (λ bytes. filled capacity.row capacity.fill (map pos bytes)) rows
+abbrev pub values_in : Listable → Listing → List ℤ
+values_in listable (Numbers values) = values
+values_in listable (Joined bytes) = map pos bytes
+values_in listable (Rows rows) = flat_map (λ bytes. filled listable.row listable.fill (map pos bytes)) rows
 
 abbrev pub with_values : List Dim → List Value → Draft → Result Draft CdlKind
 with_values dims values d = do
   _ ← when (is_some d.listed) DuplicateData
-  listing ← listing_of (capacity_of dims d.var) values
+  listing ← listing_of (listable_of dims d.var) values
   Ok (record d { listed = Some listing })
 
 -- ---- statements

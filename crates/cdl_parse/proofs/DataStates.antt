@@ -1,6 +1,6 @@
 -- What the statements of the data section make of what is listed.
 use Rattle.std.proofs.Common.{◌≡◌, ℕ, zero, suc, ◌+◌, ◌<◌, ◌≤◌, Bool, true, false, List, [], ◌∷◌, length, refl, ap, ◌∙◌, arith, Option, Some, if◌then◌else◌, map, replicate, slice_index_or, slice_set}
-use Rattle.cdl_parse.proofs.Prelude.{flat_map, position_from, bytes_eq, bytes_of_number, Dim, Var, Draft, Listing, capacity_of, values_in, AllList, Lists, unlisted_drafts, AllSuit, Suits, listing_bytes, names_of, with_listing, position_of, Target, given_at}
+use Rattle.cdl_parse.proofs.Prelude.{flat_map, position_from, bytes_eq, bytes_of_number, Dim, Var, Draft, Listing, listable_of, values_in, AllList, Lists, unlisted_drafts, AllSuit, Suits, listing_bytes, names_of, with_listing, position_of, Target, given_at}
 
 -- the drafts have the names of their variables
 pub names_are : (dims : List Dim) (vars : List Var) (arrays : List (List ℕ)) (ds : List Draft) → AllList dims vars arrays ds → names_of ds ≡ map (λ (var : Var). var.name) vars
@@ -15,8 +15,8 @@ none_listed dims (var ∷ vars) (t ∷ ts) h = (record { is = refl; bytes = refl
 none_listed dims _ _ h = absurd h
 
 module _ (dims : List Dim) (name : List ℕ) (listing : Listing) where
-  first_lists : (var : Var) (a : List ℕ) (d : Draft) → Lists dims var a d → Lists dims var (flat_map (bytes_of_number d.var.ty) (values_in (capacity_of dims d.var) listing)) (record d { listed = Some listing })
-  first_lists var a d h = record { is = h.is; bytes = ap (λ (v : Var). flat_map (bytes_of_number v.ty) (values_in (capacity_of dims d.var) listing)) h.is }
+  first_lists : (var : Var) (a : List ℕ) (d : Draft) → Lists dims var a d → Lists dims var (flat_map (bytes_of_number d.var.ty) (values_in (listable_of dims d.var) listing)) (record d { listed = Some listing })
+  first_lists var a d h = record { is = h.is; bytes = ap (λ (v : Var). flat_map (bytes_of_number v.ty) (values_in (listable_of dims d.var) listing)) h.is }
 
   first_suits : (t : Target) (d : Draft) → Suits dims t d → Suits dims (record t { given = true }) (record d { listed = Some listing })
   first_suits t d h = record { given = refl; fills = h.fills; takes = h.takes }
@@ -40,7 +40,7 @@ module _ (dims : List Dim) (name : List ℕ) (listing : Listing) where
 
       by : (same : Bool) → (rest ≡ Some k → Found (i + 1) vars arrays ts ds k) → (if same then Some i else rest) ≡ Some k →
           (j : ℕ) × (k ≡ i + j) ×
-          AllList dims (var ∷ vars) (slice_set (a ∷ arrays) j (if same then flat_map (bytes_of_number d.var.ty) (values_in (capacity_of dims d.var) listing) else listing_bytes dims name listing ds)) (if same then record d { listed = Some listing } ∷ ds else d ∷ with_listing name listing ds) ×
+          AllList dims (var ∷ vars) (slice_set (a ∷ arrays) j (if same then flat_map (bytes_of_number d.var.ty) (values_in (listable_of dims d.var) listing) else listing_bytes dims name listing ds)) (if same then record d { listed = Some listing } ∷ ds else d ∷ with_listing name listing ds) ×
           AllSuit dims (given_at j (t ∷ ts)) (if same then record d { listed = Some listing } ∷ ds else d ∷ with_listing name listing ds)
       by true more is = (0, (let first : i ≡ k = cc in omega (arith, first)), (first_lists var a d h.0, h.1), (first_suits t d suit.0, suit.1))
       by false more is = let found = more is in (suc found.0, omega (arith, found.1), (h.0, found.2), (suit.0, found.3))

@@ -1,27 +1,12 @@
 -- The pieces, one token on.
 use Rattle.std.proofs.Common.{◌≡◌, drop, ℕ, Bool, true, false, List, [], ◌∷◌, ◌++◌, sym, ◌∙◌, ap, refl, append_assoc, if◌then◌else◌, map, arith, rules}
-use Rattle.cdl_statements.proofs.Prelude.{false≢true, Step, Token, TokenKind, Role, CutState, Begins, first_role, is_end_role, role_in, ending, pieces_after, step, with_first, first_line, first_piece, other_pieces, followed, is_end, lexeme}
+use Rattle.cdl_statements.proofs.Prelude.{false≢true, Step, Token, TokenKind, Role, CutState, is_end_role, role_in, pieces_after, step, with_first, first_line, first_piece, other_pieces, followed, is_end, lexeme}
 use Rattle.cdl_statements.specs.declared.piece.Role.TheVariants.{End}
-
-step_end : (state : CutState) (next : Role) → step state End next ≡ ending Begins
-step_end state next = grind arith
-
-first_followed : (f : Token → Role) (u : Token) (k : TokenKind) (after : List Token) → first_role f (followed u k after) ≡ f u
-first_followed f u k after = grind arith
-
-on_more : (f : Token → Role) (state : CutState) (t u : Token) (before after : List Token) → before ≡ followed u u.kind after →
-    pieces_after f state (t ∷ before) ≡ with_first (step state (f t) (f u)).ends t (pieces_after f (step state (f t) (f u)).state (followed u u.kind after))
-unfolding pieces_after
-on_more f state t u before after e = rw (e) (rw (first_followed f u u.kind after) refl)
-
-on_end : (f : Token → Role) (state : CutState) (t u : Token) → f t ≡ End →
-    pieces_after f state (t ∷ []) ≡ with_first (step state (f t) (f u)).ends t (pieces_after f (step state (f t) (f u)).state [])
-unfolding pieces_after
-on_end f state t u e = rw (e) (rw (step_end state End) (rw (step_end state (f u)) refl))
 
 by_kind : (f : Token → Role) (state : CutState) (t u : Token) (k : TokenKind) (before after : List Token) → before ≡ followed u u.kind after → (is_end k ≡ true → f t ≡ End) →
     pieces_after f state (followed t k before) ≡ with_first (step state (f t) (f u)).ends t (pieces_after f (step state (f t) (f u)).state (if is_end k then [] else followed u u.kind after))
-by_kind f state t u k before after h h2 = grind (arith, on_end, on_more)
+unfolding pieces_after
+by_kind f state t u k before after h h2 = grind arith
 
 -- an End's role
 pub end_role : (text : List ℕ) (t : Token) → is_end t.kind ≡ true → role_in text t ≡ End
@@ -35,8 +20,7 @@ advance text state t u before after e = by_kind (role_in text) state t u t.kind 
 pub advance_to : (text : List ℕ) (state : CutState) (t u : Token) (before after : List Token) → before ≡ followed u u.kind after →
     (text' : List ℕ) → text' ≡ text → (r q : Role) → r ≡ role_in text t → q ≡ role_in text u → (s : Step) → s ≡ step state r q → (d : Bool) → d ≡ is_end t.kind →
     pieces_after (role_in text) state (followed t t.kind before) ≡ with_first s.ends t (pieces_after (role_in text') s.state (if d then [] else followed u u.kind after))
-advance_to text state t u before after e text' same r q is_r is_q s is_s d is_d =
-    advance text state t u before after e ∙ rw (is_s) (rw (is_r) (rw (is_q) (rw (is_d) (rw (same) refl))))
+advance_to text state t u before after e text' same r q is_r is_q s is_s d is_d = grind (arith, advance)
 
 pub no_end : (text : List ℕ) (t : Token) (r : Role) (ends : Bool) → r ≡ role_in text t → (is_end_role r ≡ true → ends ≡ true) → ends ≡ false → is_end t.kind ≡ false
 no_end text t r ends is h off = elim (is_end t.kind) as (λ w. is_end t.kind ≡ w → w ≡ false) [ true ↦ (λ e. absurd (false≢true (sym off ∙ h (ap is_end_role (is ∙ end_role text t e))))) | false ↦ (λ e. refl) ] refl
@@ -60,22 +44,16 @@ after_on t ends ps = grind arith
 begun : (b : Bool) (t : Token) (ps : List (List Token)) → first_piece (with_first b t ps) ≡ t ∷ drop 1 (first_piece (with_first b t ps))
 begun b t ps = grind arith
 
-begun_at : (f : Token → Role) (state : CutState) (t : Token) (ts : List Token) → first_piece (pieces_after f state (t ∷ ts)) ≡ t ∷ drop 1 (first_piece (pieces_after f state (t ∷ ts)))
-unfolding pieces_after
-begun_at f state t ts = begun (step state (f t) (first_role f ts)).ends t (pieces_after f (step state (f t) (first_role f ts)).state ts)
-
 -- the first piece begins with the first token
 pub begins : (f : Token → Role) (state : CutState) (t : Token) (k : TokenKind) (rest : List Token) →
     first_piece (pieces_after f state (followed t k rest)) ≡ t ∷ drop 1 (first_piece (pieces_after f state (followed t k rest)))
-begins f state t k rest = grind (arith, begun_at)
+unfolding pieces_after
+begins f state t k rest = grind (arith, begun)
 
 line_with : (b : Bool) (t : Token) (ps : List (List Token)) → first_line (with_first b t ps) ≡ t.line
 line_with b t ps = grind arith
 
-line_at_first : (f : Token → Role) (state : CutState) (t : Token) (ts : List Token) → first_line (pieces_after f state (t ∷ ts)) ≡ t.line
-unfolding pieces_after
-line_at_first f state t ts = line_with (step state (f t) (first_role f ts)).ends t (pieces_after f (step state (f t) (first_role f ts)).state ts)
-
 -- the first piece's line is that of the first token
 pub line_first : (f : Token → Role) (state : CutState) (t : Token) (k : TokenKind) (rest : List Token) → first_line (pieces_after f state (followed t k rest)) ≡ t.line
-line_first f state t k rest = grind (arith, line_at_first)
+unfolding pieces_after
+line_first f state t k rest = grind (arith, line_with)

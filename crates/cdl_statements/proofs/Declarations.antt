@@ -13,8 +13,7 @@ said_mark p b c l ls k hb hc = search rules
 
 pub said_name : (p : Bool) (n : Lexeme) (ls : List Lexeme) → is_name n ≡ true → declaration_said p (n ∷ ls) ≡ with_name p (word_value n.bytes) (declaration_said p ls)
 unfolding declaration_said
-said_name p n ls h =
-    ap (λ x. if x then declaration_said (is_mark 0x28 n || p && not (is_mark 0x29 n)) ls else with_name p (word_value n.bytes) (declaration_said p ls)) (name_kind n h)
+said_name p n ls h = grind arith
 
 -- where a variable's name is due, no dimension comes before it
 pub no_dimensions : (ls : List Lexeme) → completes dues.VariableName ls ≡ true → (declaration_said false ls).dimensions ≡ []
@@ -34,10 +33,7 @@ semicolon_said c e = said_mark false false false c [] (kind_of_mark 0x3b c e) (o
 
 -- after a variable without dimensions, or with all of them
 after_due : (c : Lexeme) (ls : List Lexeme) → variables ls ≡ due_for dues.VariableName ls (said false ls).variables → after_member (variables ls) c ls ≡ due_for (separator dues.VariableName c) ls (said false (c ∷ ls)).variables
-after_due c ls h =
-    member_due dues.VariableName (variables ls) c ls (said false (c ∷ ls)).variables
-    (λ e. h ∙ ap (λ (d : Declaration). due_for dues.VariableName ls d.variables) (sym (comma_said false c ls e)))
-    (λ e k. rw k (ap (λ (d : Declaration). d.variables) (sym (semicolon_said c e))))
+after_due c ls h = grind (arith, member_due, comma_said, semicolon_said)
 
 -- and then no further dimension is named
 none_named : (c : Lexeme) (ls : List Lexeme) → completes (separator dues.VariableName c) ls ≡ true → (said false (c ∷ ls)).dimensions ≡ []

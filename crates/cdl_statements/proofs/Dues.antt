@@ -1,5 +1,5 @@
 -- What is said where the table of due tokens says that a statement is whole.
-use Rattle.std.proofs.Common.{◌≡◌, ℕ, Bool, true, false, List, [], ◌∷◌, refl, ap, Option, None, Some, if◌then◌else◌, ◌&&◌, ◌==◌, arith, rules}
+use Rattle.std.proofs.Common.{◌≡◌, ℕ, Bool, true, false, List, [], ◌∷◌, refl, Option, None, Some, if◌then◌else◌, ◌&&◌, ◌==◌, arith, rules}
 use Rattle.cdl_statements.proofs.Prelude.{option_map, option_and_then, Version, token_fault, first_bad, completes, next, only, separator, is_name, word_value, Lexeme, is_mark, is_mark_kind, name_of, both, if_so, at_end, after_member, Due}
 use Rattle.cdl_statements.specs.declared.due.Due.TheVariants as dues
 
@@ -44,25 +44,21 @@ never_due ls a = rw (never_completes ls) refl
 
 pub end_due : {A : Type 0} (ls : List Lexeme) (a : A) → at_end a ls ≡ due_for dues.Nothing ls a
 unfolding completes
-end_due [] a = refl
-end_due (l ∷ ls) a = rw (nothing_more l ls) refl
+end_due ls a = grind (arith, nothing_more)
 
 pub map_due : {A B : Type 0} (f : A → B) (due : Due) (ls : List Lexeme) (o : Option A) (a : A) (b : B) → o ≡ due_for due ls a → (completes due ls ≡ true → f a ≡ b) → option_map f o ≡ due_for due ls b
 map_due f due ls o a b h same = grind arith
 
 pub only_due : {A : Type 0} (b : Bool) (due : Due) (ls : List Lexeme) (x : Option A) (a : A) → (b ≡ true → x ≡ due_for due ls a) → if_so b x ≡ due_for (only b due) ls a
-only_due true due ls x a h = h refl
-only_due false due ls x a h = never_due ls a
+only_due b due ls x a h = grind (arith, never_due)
 
 pub both_ways : {A : Type 0} (b : Bool) (x y : Option A) (d e : Due) (ls : List Lexeme) (s t : A) → (b ≡ true → x ≡ due_for d ls s) → (b ≡ false → y ≡ due_for e ls t) →
     (if b then x else y) ≡ due_for (if b then d else e) ls (if b then s else t)
-both_ways true x y d e ls s t h k = h refl
-both_ways false x y d e ls s t h k = k refl
+both_ways b x y d e ls s t h k = grind arith
 
 pub either_due : {A : Type 0} (b : Bool) (x y : Option A) (d e : Due) (ls : List Lexeme) (a : A) → (b ≡ true → x ≡ due_for d ls a) → (b ≡ false → y ≡ due_for e ls a) →
     (if b then x else y) ≡ due_for (if b then d else e) ls a
-either_due true x y d e ls a h k = h refl
-either_due false x y d e ls a h k = k refl
+either_due b x y d e ls a h k = grind arith
 
 pub name_is : (n : Lexeme) → name_of n ≡ (if is_name n then Some (word_value n.bytes) else None)
 unfolding name_of
@@ -81,13 +77,4 @@ both_due f i x a due ls o b c h k same = grind (arith, never_due ls c)
 pub member_due : {A : Type 0} (due : Due) (others : Option (List A)) (c : Lexeme) (ls : List Lexeme) (xs : List A) → (is_mark 0x2c c ≡ true → others ≡ due_for due ls xs) → (is_mark 0x3b c ≡ true → ls ≡ [] → [] ≡ xs) →
     after_member others c ls ≡ due_for (separator due c) ls xs
 unfolding completes
-member_due due others c ls xs h k = by (is_mark 0x2c c) (is_mark 0x3b c) refl refl
-  where
-    last : (ms : List Lexeme) → ls ≡ ms → is_mark 0x3b c ≡ true → at_end [] ms ≡ due_for dues.Nothing ms xs
-    last [] e s = ap (λ x. Some x) (k s e)
-    last (m ∷ ms) e s = end_due (m ∷ ms) xs
-
-    by : (m s : Bool) → is_mark 0x2c c ≡ m → is_mark 0x3b c ≡ s → (if m then others else if_so s (at_end [] ls)) ≡ due_for (if m then due else only s dues.Nothing) ls xs
-    by true s e g = h e
-    by false true e g = last ls refl g
-    by false false e g = never_due ls xs
+member_due due others c ls xs h k = grind (arith, end_due, never_due)

@@ -1,7 +1,7 @@
 -- A cutter inside of a list, one token and a comma on.
 use Rattle.std.proofs.Common.{◌≡◌, ◌<◌, ℕ, Bool, true, false, List, [], ◌∷◌, sym, ◌∙◌, ap, refl, map, slice_index, if◌then◌else◌, rules}
 use Rattle.cdl_tokens.specs.code.PlainTokens.{IsComma}
-use Rattle.cdl_statements.proofs.Prelude.{followed, left, raw, Token, after, first_piece, offset_of, other_pieces, pieces_left, text_of, words, is_mark, lexeme, role_in, pieces_after, with_first, IsAtComma, Passes, Cutter, CutState, Inside, Role, Other}
+use Rattle.cdl_statements.proofs.Prelude.{followed, left, raw, Token, after, first_piece, offset_of, other_pieces, pieces_left, text_of, words, is_mark, lexeme, role_in, pieces_after, with_first, IsAtComma, Passes, Cutter, CutState, Inside, Other}
 use Rattle.cdl_tokens.specs.declared.token.TokenKind.TheVariants as kinds
 use Rattle.cdl_statements.proofs.Cuts.{after_on, words_on}
 
@@ -16,17 +16,12 @@ is_comma text c mark byte = rw (mark) (rw (byte) refl)
 pub comma_role : (text text' : List ℕ) (c : Token) → text' ≡ text → IsComma text c → role_in text' c ≡ Other
 comma_role text text' c same comma = ap (λ (t : List ℕ). role_in t c) same ∙ (comma_on text c (is_comma text c comma.mark comma.comma)).1
 
--- none of the three ends the piece
-three_on : (f : Token → Role) (c t d : Token) (rest : List Token) → f c ≡ Other → f t ≡ Other → f d ≡ Other →
-    pieces_after f Inside (c ∷ t ∷ d ∷ rest) ≡ with_first false c (with_first false t (pieces_after f Inside (d ∷ rest)))
-unfolding pieces_after
-three_on f c t d rest first second third = rw (first) (rw (second) (rw (third) refl))
-
 -- the pieces, a token and a comma on
 pieces_past : (text text' : List ℕ) (state : CutState) (done : Bool) (c t d : Token) (before after : List Token) → text' ≡ text → state ≡ Inside → done ≡ false → before ≡ t ∷ d ∷ after →
     is_mark 0x2c (lexeme text c) ≡ true → role_in text t ≡ Other → is_mark 0x2c (lexeme text d) ≡ true →
     pieces_after (role_in text) state (if done then [] else followed c c.kind before) ≡ with_first false c (with_first false t (pieces_after (role_in text') state (if done then [] else followed d d.kind after)))
-pieces_past text text' state done c t d before after same inside goes left comma other next = search (rules, comma_on, after, three_on, with_first)
+unfolding pieces_after
+pieces_past text text' state done c t d before after same inside goes left comma other next = search rules
 
 -- what they say, and those after the first
 words_past : (text text' : List ℕ) (c t : Token) (ps : List (List Token)) → text' ≡ text →

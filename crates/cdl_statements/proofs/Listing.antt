@@ -31,8 +31,6 @@ lone_value v takes_fill l = search rules
 
 pub constants_due : (v : Version) (takes_fill : Bool) (ls : List Lexeme) → first_bad v ls ≡ None → constants v takes_fill ls ≡ due_for (dues.Value takes_fill) ls (values v ls)
 unfolding completes next values
-constants_due v takes_fill [] h = refl
-constants_due v takes_fill (l ∷ []) h = lone_value v takes_fill l
 constants_due v takes_fill (l ∷ c ∷ ls) h =
     both_due (λ x xs. x ∷ xs) (is_value_of takes_fill l l.kind) (constant v takes_fill l) (value_of v l l.kind) (dues.Separator takes_fill) (c ∷ ls) (after_member (constants v takes_fill ls) c ls) (values v (c ∷ ls)) (values v (l ∷ c ∷ ls))
     (constant_is v takes_fill l (fine v l (c ∷ ls) h))
@@ -40,3 +38,4 @@ constants_due v takes_fill (l ∷ c ∷ ls) h =
     (λ e. constants_due v takes_fill ls (fine_on v c ls (fine_on v l (c ∷ ls) h)) ∙ ap (λ xs. due_for (dues.Value takes_fill) ls xs) (sym (past_mark v c ls (kind_of_mark 0x2c c e))))
     (λ e k. rw k (sym (past_mark v c [] (kind_of_mark 0x3b c e)))))
     (λ i w. sym (value_first v takes_fill l (c ∷ ls) i))
+constants_due v takes_fill _ h = grind arith

@@ -29,8 +29,7 @@ value_on takes_fill start rest l at passes good value = search (rules, words, go
 
 -- the same of a token in which no fault was found
 no_fault : (fault : Option CdlKind) → is_some fault ≡ false → fault ≡ None
-no_fault None h = refl
-no_fault (Some kind) h = cc
+no_fault fault h = grind arith
 
 pub token_on : (takes_fill : Bool) (v : Version) (start rest : Cutter) (l : Lexeme) (fault : Option CdlKind) → v ≡ version_of start → IsAtComma start → Passes start rest l →
     fault ≡ token_fault v l.kind l.bytes → is_some fault ≡ false → is_value_of takes_fill l l.kind ≡ true → PassesValues takes_fill start rest

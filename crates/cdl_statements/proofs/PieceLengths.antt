@@ -1,10 +1,9 @@
 -- The pieces, cut by how many tokens each has, are those that come of a cut token by token.
-use Rattle.std.proofs.Common.{◌≡◌, ℕ, suc, ◌-◌, Bool, true, false, List, [], ◌∷◌, map, take, sym, ap, ◌∙◌, refl, arith, ◌&&◌, ◌||◌, ◌==◌, slice_index, is_some, rules}
-use Rattle.cdl_statements.proofs.Prelude.{first_role, is_end_role, mark_role, role, role_of, pieces_after, section_step, step, unless_end, with_first, Lexeme, is_mark, is_mark_kind, is_word_kind, is_opening_kind, is_end_kind, Role, Colon, Semicolon, Step, CutState, Begins, Inside, Marked, Closed, TokenKind}
-use Rattle.cdl_statements.specs.Pieces.{pieces_at, piece_len, statement_len, len_before_end, section_of, is_section_mark}
+use Rattle.std.proofs.Common.{◌≡◌, ℕ, suc, ◌-◌, Bool, true, false, List, [], ◌∷◌, map, take, sym, ap, ◌∙◌, refl, arith, ◌&&◌, ◌||◌, ◌==◌, slice_index, rules}
+use Rattle.cdl_statements.proofs.Prelude.{first_role, is_end_role, role, role_of, pieces_after, section_step, step, unless_end, with_first, Lexeme, is_mark, is_mark_kind, is_word_kind, is_opening_kind, is_end_kind, Role, Colon, Semicolon, Step, CutState, Begins, Inside, Marked, Closed, TokenKind}
+use Rattle.cdl_statements.specs.Pieces.{pieces_at, piece_len, statement_len, len_before_end, is_section_mark}
 unfoldable use Rattle.cdl_statements.specs.code.Roles.{is_section}
 use Rattle.cdl_statements.specs.declared.piece.Role.TheVariants.{Opening, Section, Brace, End, Other}
-use Rattle.cdl_tokens.specs.declared.token.TokenKind.TheVariants as kinds
 
 -- ---- what a role says of a token
 
@@ -36,11 +35,8 @@ record Has (k : TokenKind) (bytes : List ℕ) (r : Role) : Type 0 where
   semicolon : (is_mark_kind k && slice_index bytes 0 == 0x3b) ≡ is_semicolon r
   brace : (is_mark_kind k && slice_index bytes 0 == 0x7d) ≡ is_brace r
 
-has_mark_role : (bytes : List ℕ) → Has kinds.Mark bytes (mark_role (slice_index bytes 0))
-has_mark_role bytes = search rules
-
 has_role : (k : TokenKind) (bytes : List ℕ) → Has k bytes (role_of k bytes)
-has_role k bytes = grind (arith, has_mark_role)
+has_role k bytes = grind arith
 
 abbrev HasRole : {X : Type 0} → (X → Lexeme) → X → Role → Type 0
 HasRole look t r = Has (look t).kind (look t).bytes r
@@ -72,27 +68,15 @@ record Claims {X : Type 0} (look : X → Lexeme) (ts : List X) : Type 0 where
   marked : is_end_role (next look ts) ≡ false → pieces_after (roles look) Marked ts ≡ take 1 ts ∷ pieces_at look false 1 ts
   closing : (c : Bool) → is_end_role (next look ts) ≡ false → pieces_after (roles look) Closed ts ≡ take (len_before_end (map look ts)) ts ∷ pieces_at look c (len_before_end (map look ts)) ts
 
-some_section : (l : Lexeme) → is_some (section_of l) ≡ (is_word_kind l.kind && is_section l.bytes)
-unfolding is_section
-some_section l = grind arith
-
 mark_has : {X : Type 0} (look : X → Lexeme) (t : X) (r : Role) (ts : List X) → HasRole look t r → is_section_mark (look t) (map look ts) ≡ (is_section_role r && is_colon (next look ts))
-mark_has look t r ts h = grind (arith, has_role, some_section (look t))
+unfolding is_section
+mark_has look t r ts h = grind arith
 
 none_in_statement : {X : Type 0} (look : X → Lexeme) (ts : List X) → is_end_role (next look ts) ≡ true → statement_len (map look ts) ≡ 0
 none_in_statement look ts h = grind (arith, has_role)
 
 none_before_end : {X : Type 0} (look : X → Lexeme) (ts : List X) → is_end_role (next look ts) ≡ true → len_before_end (map look ts) ≡ 0
 none_before_end look ts h = grind (arith, has_role)
-
-statement_on : {X : Type 0} (look : X → Lexeme) (t : X) (ts : List X) → is_end_kind (look t).kind ≡ false → is_mark 0x3b (look t) ≡ false → statement_len (map look (t ∷ ts)) ≡ suc (statement_len (map look ts))
-statement_on look t ts e s = rw (e, statement_len) (rw (s) refl)
-
-statement_ends : {X : Type 0} (look : X → Lexeme) (t : X) (ts : List X) → is_end_kind (look t).kind ≡ false → is_mark 0x3b (look t) ≡ true → statement_len (map look (t ∷ ts)) ≡ 1
-statement_ends look t ts e s = rw (e, statement_len) (rw (s) refl)
-
-before_on : {X : Type 0} (look : X → Lexeme) (t : X) (ts : List X) → is_end_kind (look t).kind ≡ false → len_before_end (map look (t ∷ ts)) ≡ suc (len_before_end (map look ts))
-before_on look t ts e = rw (e, len_before_end) refl
 
 -- a piece that goes on, from the length of what follows its first token
 longer : {X : Type 0} (look : X → Lexeme) (t : X) (ts : List X) (c : Bool) (m : ℕ) → take (suc m) (t ∷ ts) ∷ pieces_at look c (suc m - 1) ts ≡ (t ∷ take m ts) ∷ pieces_at look c m ts
@@ -111,9 +95,6 @@ closed_on look t ts c k = goes look t ts c Closed (len_before_end (map look ts))
 not_colon : (n : Role) → is_colon n ≡ false → section_step n ≡ unless_end n Inside
 not_colon n h = grind arith
 
-colon_is : (n : Role) → is_colon n ≡ true → n ≡ Colon
-colon_is n h = grind arith
-
 -- the pieces that begin with a token
 abbrev first_cut : {X : Type 0} → (X → Lexeme) → Bool → X → List X → List (List X)
 first_cut look c t ts = take (piece_len c (look t) (map look ts)) (t ∷ ts) ∷ pieces_at look (is_mark 0x7d (look t)) (piece_len c (look t) (map look ts) - 1) ts
@@ -122,31 +103,23 @@ first_cut look c t ts = take (piece_len c (look t) (map look ts)) (t ∷ ts) ∷
 alone_on : {X : Type 0} (look : X → Lexeme) (t : X) (ts : List X) (r : Role) → HasRole look t r → (is_opening_role r || is_end_role r || is_brace r) ≡ true → piece_len false (look t) (map look ts) ≡ 1
 alone_on look t ts r has h = rw (has.opening) (rw (has.end) (rw (has.brace) (rw (h) refl)))
 
-other_on : {X : Type 0} (look : X → Lexeme) (t : X) (ts : List X) (r : Role) → HasRole look t r → (is_opening_role r || is_end_role r || is_brace r) ≡ false → (is_section_role r && is_colon (next look ts)) ≡ false → piece_len false (look t) (map look ts) ≡ statement_len (map look (t ∷ ts))
-other_on look t ts r has h off = rw (has.opening) (rw (has.end) (rw (has.brace) (rw (h) (rw (mark_has look t r ts has ∙ off) refl))))
-
 goes_begun : {X : Type 0} (look : X → Lexeme) (t : X) (ts : List X) (r : Role) → HasRole look t r → Claims look ts →
     (is_opening_role r || is_end_role r || is_brace r) ≡ false → (is_section_role r && is_colon (next look ts)) ≡ false → is_end_role r ≡ false → is_semicolon r ≡ false → is_brace r ≡ false →
     (t ∷ take (statement_len (map look ts)) ts) ∷ pieces_at look false (statement_len (map look ts)) ts ≡ first_cut look false t ts
-goes_begun look t ts r has k h off no_end no_mark no_brace =
-    rw (other_on look t ts r has h off ∙ statement_on look t ts (has.end ∙ no_end) (has.semicolon ∙ no_mark)) (rw (has.brace ∙ no_brace) (sym (longer look t ts false (statement_len (map look ts)))))
+goes_begun look t ts r has k h off no_end no_mark no_brace = grind (arith, mark_has)
 
 mark_on : {X : Type 0} (look : X → Lexeme) (t : X) (ts : List X) → HasRole look t Section → is_colon (next look ts) ≡ true → piece_len false (look t) (map look ts) ≡ 2
 mark_on look t ts has e = rw (has.opening) (rw (has.end) (rw (has.brace) (rw (mark_has look t Section ts has ∙ e) refl)))
 
 section_on : {X : Type 0} (look : X → Lexeme) (t : X) (ts : List X) → HasRole look t Section → Claims look ts → (b : Bool) → is_colon (next look ts) ≡ b → stepped look t ts (section_step (next look ts)) ≡ first_cut look false t ts
-section_on look t ts has k true e =
-    let colon : next look ts ≡ Colon = colon_is (next look ts) e in
-    ap (λ n. stepped look t ts (section_step n)) colon ∙ ap (with_first false t) (k.marked (ap is_end_role colon))
-    ∙ sym (rw (mark_on look t ts has e) (rw (has.brace) refl))
+section_on look t ts has k true e = grind (arith, mark_on)
 section_on look t ts has k false e = rw (not_colon (next look ts) e) (inside_on look t ts k ∙ goes_begun look t ts Section has k refl e refl refl refl)
 
 begins_on : {X : Type 0} (look : X → Lexeme) (t : X) (ts : List X) (r : Role) → HasRole look t r → Claims look ts → stepped look t ts (step Begins r (next look ts)) ≡ first_cut look false t ts
 begins_on look t ts Opening has k = rw (alone_on look t ts Opening has refl) (rw (has.brace) (ap (λ ps. (t ∷ []) ∷ ps) k.begins))
 begins_on look t ts Section has k = section_on look t ts has k (is_colon (next look ts)) refl
 begins_on look t ts Colon has k = inside_on look t ts k ∙ goes_begun look t ts Colon has k refl refl refl refl refl
-begins_on look t ts Semicolon has k =
-    rw (other_on look t ts Semicolon has refl refl ∙ statement_ends look t ts has.end has.semicolon) (rw (has.brace) (ap (λ ps. (t ∷ []) ∷ ps) k.begins))
+begins_on look t ts Semicolon has k = grind arith
 begins_on look t ts Brace has k = rw (alone_on look t ts Brace has refl) (rw (has.brace) (ap (λ ps. (t ∷ []) ∷ ps) k.closed))
 begins_on look t ts End has k = rw (alone_on look t ts End has refl) (rw (has.brace) (ap (λ ps. (t ∷ []) ∷ ps) k.begins))
 begins_on look t ts Other has k = inside_on look t ts k ∙ goes_begun look t ts Other has k refl refl refl refl refl
@@ -156,29 +129,22 @@ closed_more : {X : Type 0} (look : X → Lexeme) (t : X) (ts : List X) → is_en
 closed_more look t ts e k =
     closed_on look t ts (is_mark 0x7d (look t)) k ∙ rw (e) (sym (longer look t ts (is_mark 0x7d (look t)) (len_before_end (map look ts))))
 
-closed_begun : {X : Type 0} (look : X → Lexeme) (t : X) (ts : List X) (r : Role) → HasRole look t r → Claims look ts → stepped look t ts (step Closed r (next look ts)) ≡ first_cut look true t ts
-closed_begun look t ts r h h2 = grind (arith, closed_more)
-
-ended_on : {X : Type 0} (look : X → Lexeme) (t : X) (ts : List X) (c : Bool) (r : Role) → HasRole look t r → Claims look ts → is_end_role r ≡ true →
-    stepped look t ts (step Begins r (next look ts)) ≡ first_cut look c t ts
-ended_on look t ts c r h h2 h3 = grind (arith, begins_on, closed_begun)
-
 inside_begun : {X : Type 0} (look : X → Lexeme) (t : X) (ts : List X) (r : Role) → HasRole look t r → Claims look ts → is_end_role r ≡ false →
     stepped look t ts (step Inside r (next look ts)) ≡
     take (statement_len (map look (t ∷ ts))) (t ∷ ts) ∷ pieces_at look false (statement_len (map look (t ∷ ts))) (t ∷ ts)
 unfolding pieces_at
-inside_begun look t ts r h h2 h3 = grind (arith, statement_ends, statement_on, inside_on)
+inside_begun look t ts r h h2 h3 = grind arith
 
 closing_begun : {X : Type 0} (look : X → Lexeme) (t : X) (ts : List X) (c : Bool) (r : Role) → HasRole look t r → Claims look ts → is_end_role r ≡ false →
     stepped look t ts (step Closed r (next look ts)) ≡
     take (len_before_end (map look (t ∷ ts))) (t ∷ ts) ∷ pieces_at look c (len_before_end (map look (t ∷ ts))) (t ∷ ts)
 unfolding pieces_at
-closing_begun look t ts c r h h2 h3 = grind (arith, before_on, closed_on)
+closing_begun look t ts c r h h2 h3 = grind arith
 
 claims : {X : Type 0} (look : X → Lexeme) (ts : List X) → Claims look ts
 unfolding pieces_after pieces_at
 claims look [] = record { begins = refl; closed = refl; ended = λ c e. refl; inside = λ e. cc; marked = λ e. cc; closing = λ c e. cc }
-claims look (t ∷ ts) = search (rules, has_role, begins_on, closed_begun, ended_on, inside_begun, closing_begun, claims look ts)
+claims look (t ∷ ts) = search (rules, has_role, begins_on, closed_more, inside_begun, closing_begun, claims look ts)
 
 pub pieces_by_steps : {X : Type 0} (look : X → Lexeme) (ts : List X) → pieces_at look false 0 ts ≡ pieces_after (λ t. role (look t)) Begins ts
 pieces_by_steps look ts = sym (claims look ts).begins

@@ -1,7 +1,5 @@
 -- Statements: the table of due tokens says whether a piece has its shape, and what it says stands in its tokens.
-use Rattle.std.proofs.Common.{◌≡◌, ℕ, Bool, true, false, List, [], ◌∷◌, drop, refl, sym, ap, subst, ◌∙◌, Option, None, Some, if◌then◌else◌, is_some, codes, arith, rules}
-use Rattle.std.specs.Str.{bytes_eq}
-use Rattle.std.specs.Cmp.Lexicographic.{bytes_decides}
+use Rattle.std.proofs.Common.{◌≡◌, ℕ, Bool, true, false, List, [], ◌∷◌, drop, refl, ap, ◌∙◌, Option, None, Some, if◌then◌else◌, is_some, arith, rules}
 use Rattle.cdl_statements.proofs.Prelude.{option_map, option_and_then, is_reserved, Version, values, only, next, completes, is_name, is_after, opens_section_after, word_value, Lexeme, is_mark, is_word_kind, is_opening_kind, is_end_kind, name_of, Value, Statement, Attribute, Listed, Close, DeclareDimensions, DeclareVariables, Enter, End, Open, first_bad, constants, dimensions, assigned, section_mark, attribute_or_mark, other_statement, shape, at_end, both, if_so, is_later, section_of, dimensions_said, attribute_said, mark_said, variable_said, statement_said, Due, Section, Unopened, Globals, Dimensions, Variables, Values, Ended}
 use Rattle.cdl_statements.specs.declared.section.Section.TheVariants.{Closed}
 use Rattle.cdl_statements.specs.declared.due.Due.TheVariants as dues
@@ -20,13 +18,11 @@ equals_due v takes_fill f n e ls good = grind (arith, name_is n, constants_due v
 pub assigned_due : (v : Version) (takes_fill : Bool) (f : List ℕ → List Value → Statement) (n : Lexeme) (ls : List Lexeme) → first_bad v ls ≡ None →
     assigned v takes_fill f (n ∷ ls) ≡ due_for (only (is_name n) (dues.Equals takes_fill)) ls (f (word_value n.bytes) (values v (drop 1 ls)))
 unfolding completes
-assigned_due v takes_fill f n [] good = search rules
-assigned_due v takes_fill f n (e ∷ ls) good = equals_due v takes_fill f n e ls (fine_on v e ls good)
+assigned_due v takes_fill f n ls good = grind (arith, equals_due)
 
 attribute_due : (v : Version) (owner : Option (List ℕ)) (ls : List Lexeme) → first_bad v ls ≡ None → assigned v false (Attribute owner) ls ≡ due_for dues.AttributeName ls (attribute_said v owner ls)
 unfolding completes next
-attribute_due v owner [] good = refl
-attribute_due v owner (n ∷ ls) good = assigned_due v false (Attribute owner) n ls (fine_on v n ls good)
+attribute_due v owner ls good = grind (arith, assigned_due)
 
 -- ---- section marks
 
@@ -37,17 +33,11 @@ mark_of before c o = grind arith
 
 mark_due : (before : Section) (l : Lexeme) (ls : List Lexeme) → section_mark before l ls ≡ due_for (only (opens_section_after before l) dues.Colon) ls (mark_said (section_of l))
 unfolding completes next
-mark_due before l [] = search rules
-mark_due before l (c ∷ []) = mark_of before c (section_of l)
-mark_due before l (c ∷ d ∷ ls) = search (rules, never_completes, next)
-
--- the word of a section is no name
-reserved_by : (word bytes : List ℕ) → bytes_eq bytes word ≡ true → is_reserved word ≡ true → is_reserved bytes ≡ true
-reserved_by word bytes same h = subst (λ (w : List ℕ). is_reserved w ≡ true) (sym ((bytes_decides bytes word).0 same)) h
+mark_due before l ls = grind (arith, never_completes)
 
 pub section_no_name : (l : Lexeme) → is_some (section_of l) ≡ true → is_name l ≡ false
 unfolding is_reserved
-section_no_name l h = search (rules, codes, reserved_by)
+section_no_name l h = search rules
 
 dimensions_said_due : (v : Version) (l : Lexeme) (ls : List Lexeme) → first_bad v (l ∷ ls) ≡ None →
     other_statement v Dimensions l ls ≡ due_for (if opens_section_after Dimensions l then dues.Colon else only (is_name l) dues.LengthEquals) ls
@@ -90,8 +80,7 @@ variables_said_due v l (c ∷ ls) good =
 open_due : (v : Version) (section : Section) (l : Lexeme) (ls : List Lexeme) (due : Due) (s : Statement) → first_bad v ls ≡ None → other_statement v section l ls ≡ due_for due ls s →
     (if is_mark 0x7d l then at_end Close ls else (if is_mark 0x3a l then assigned v false (Attribute None) ls else other_statement v section l ls)) ≡
     due_for (if is_mark 0x7d l then dues.Nothing else (if is_mark 0x3a l then dues.AttributeName else due)) ls (if is_mark 0x7d l then Close else (if is_mark 0x3a l then attribute_said v None ls else s))
-open_due v section l ls due s good h =
-    both_ways (is_mark 0x7d l) _ _ _ _ ls _ _ (λ e. end_due ls Close) (λ e. both_ways (is_mark 0x3a l) _ _ _ _ ls _ _ (λ g. attribute_due v None ls good) (λ g. h))
+open_due v section l ls due s good h = search (rules, both_ways, end_due, attribute_due)
 
 -- the data section has no attributes
 abbrev pub data_said : Version → Lexeme → List Lexeme → Statement
@@ -101,12 +90,9 @@ pub data_is : (v : Version) (l : Lexeme) (ls : List Lexeme) → first_bad v ls �
 unfolding shape completes next
 data_is v l ls good = both_ways (is_mark 0x7d l) _ _ _ _ ls _ _ (λ e. end_due ls Close) (λ e. assigned_due v true Listed l ls good)
 
-mark_name : (b : ℕ) (l : Lexeme) → is_mark b l ≡ true → is_name l ≡ false
-mark_name b l h = search rules
-
 no_attribute : (v : Version) (l : Lexeme) (ls : List Lexeme) → due_for (dues.First Values) (l ∷ ls) (data_said v l ls) ≡ due_for (dues.First Values) (l ∷ ls) (statement_said v Values (l ∷ ls))
 unfolding completes next statement_said
-no_attribute v l ls = grind (arith, mark_name 0x3a l, never_completes ls)
+no_attribute v l ls = grind (arith, never_completes ls)
 
 pub shape_is : (v : Version) (section : Section) (ls : List Lexeme) → first_bad v ls ≡ None → shape v section ls ≡ due_for (dues.First section) ls (statement_said v section ls)
 unfolding shape completes next statement_said

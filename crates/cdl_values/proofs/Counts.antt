@@ -75,6 +75,6 @@ same : (f : Filling) (m : ℕ) (xs : List Value) → length xs ≤ most → pack
 same f m xs h = grind (arith, capped, numbers_same, rows_same)
 
 -- the values of a variable with this capacity
-pub all_taken : (f : Filling) (capacity : Capacity) (r : states.Capacity) (xs : List Value) → Fills f r → HasCapacity f capacity r → length xs ≤ most → as_bytes r (listing_of r xs) ≡ packed f capacity xs
+pub all_taken : (f : Filling) (capacity : Capacity) (r : states.Listable) (xs : List Value) → Fills f r → HasCapacity f capacity r → length xs ≤ most → as_bytes r (listing_of r xs) ≡ packed f capacity xs
 all_taken f Unlimited r xs h takes few = all_turns f Unlimited r xs h takes
 all_taken f (AtMost n) r xs h takes few = grind (arith, all_turns f, same f)

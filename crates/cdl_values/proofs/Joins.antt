@@ -1,6 +1,6 @@
 -- What a statement of the data section means is what its state lists.
 use Rattle.std.proofs.Common.{◌≡◌, ℕ, suc, ◌≤◌, arith, Bool, true, false, List, [], ◌∷◌, ◌++◌, length, refl, ap, ◌∙◌, length-append, append_assoc, Option, None, Some, Result, Ok, Err, if◌then◌else◌, slice_get, drop, rules}
-use Rattle.cdl_values.proofs.Prelude.{flat_map, position_from, bytes_eq, length-drop, bytes_of_number, Dim, Version, values, completes, next, word_value, Lexeme, is_mark, Listed, first_bad, shape, CdlKind, Syntax, UnknownVariable, fine_on, State, Draft, Listing, capacity_of, change_named, change_variable, values_in, with_values, act, data_read, bytes_assigned, target_of, target_at, unless_given, packed_for, unless_bad, AllSuit, names_of, HasListed, Means, begins_brace, ReadsStatement, result_array, GivesRead, ReadError, as_bytes, most, Target}
+use Rattle.cdl_values.proofs.Prelude.{flat_map, position_from, bytes_eq, length-drop, bytes_of_number, Dim, Version, values, completes, next, word_value, Lexeme, is_mark, Listed, first_bad, shape, CdlKind, Syntax, UnknownVariable, fine_on, State, Draft, Listing, listable_of, change_named, change_variable, values_in, with_values, act, data_read, bytes_assigned, target_of, target_at, unless_given, packed_for, unless_bad, AllSuit, names_of, HasListed, Means, begins_brace, ReadsStatement, result_array, GivesRead, ReadError, as_bytes, most, Target}
 use Rattle.cdl_statements.specs.declared.due.Due.TheVariants as dues
 use Rattle.cdl_statements.specs.declared.section.Section.TheVariants.{Values}
 use Rattle.cdl_statements.proofs.Sections.{data_is}
@@ -27,15 +27,15 @@ found_from dims pre (t ∷ ts) (d ∷ ds) name h =
 found_from dims pre _ _ name h = absurd h
 
 -- one draft
-listed_ty : (dims : List Dim) (d : Draft) → d.var.ty ≡ (capacity_of dims d.var).ty
-unfolding capacity_of
+listed_ty : (dims : List Dim) (d : Draft) → d.var.ty ≡ (listable_of dims d.var).ty
+unfolding listable_of
 listed_ty dims d = refl
 
-one_listed : (dims : List Dim) (d : Draft) (l : Result Listing CdlKind) (p : Result (List ℕ) CdlKind) → as_bytes (capacity_of dims d.var) l ≡ p →
+one_listed : (dims : List Dim) (d : Draft) (l : Result Listing CdlKind) (p : Result (List ℕ) CdlKind) → as_bytes (listable_of dims d.var) l ≡ p →
     (name : List ℕ) (ds : List Draft) → bytes_eq d.var.name name ≡ true →
     HasListed dims name (d ∷ ds) p (l >>= (λ xs. Ok (record d { listed = Some xs })) >>= (λ e. Ok (e ∷ ds)))
 one_listed dims d (Ok xs) (Ok bs) is name ds same =
-    let r = capacity_of dims d.var in
+    let r = listable_of dims d.var in
     (xs, rw (same) (ap (λ t. flat_map (bytes_of_number t) (values_in r xs)) (listed_ty dims d) ∙ (let e : flat_map (bytes_of_number r.ty) (values_in r xs) ≡ bs = cc in e)), rw (same) refl)
 one_listed dims d (Err e) (Err g) is name ds same = let f : e ≡ g = cc in ap Err f
 one_listed dims d _ _ is name ds same = cc

@@ -6,7 +6,7 @@ use Rattle.cdl_meaning.specs.State.{Numbers, Joined, Rows, ◌>>=◌}
 use Rattle.cdl_values.specs.declared.filling.Filling.TheVariants as fillings
 use Rattle.cdl_values.proofs.PackedTokens.{joined_assoc, joined_none, chars_len}
 
-abbrev bytes : states.Capacity → Listing → List ℕ
+abbrev bytes : states.Listable → Listing → List ℕ
 bytes r listing = flat_map (bytes_of_number r.ty) (values_in r listing)
 
 -- of these positions this capacity is left after the first n
@@ -15,13 +15,13 @@ Left Unlimited is_open count n = is_open ≡ true
 Left (AtMost left) is_open count n = (is_open ≡ false) × (count ≡ n + left)
 
 -- what a value does to what is listed, and to the bytes
-data Step {A : Type 0} (f : Filling) (r : states.Capacity) (add : List A → Value → Result (List A) CdlKind) (listing : List A → Listing) (count : ℕ) (capacity : Capacity) (before : List A) (x : Value) : Type 0 where
+data Step {A : Type 0} (f : Filling) (r : states.Listable) (add : List A → Value → Result (List A) CdlKind) (listing : List A → Listing) (count : ℕ) (capacity : Capacity) (before : List A) (x : Value) : Type 0 where
   wrong : (e : CdlKind) (says : add before x ≡ Err e) (does : bytes_of f capacity x ≡ Err e) → Step f r add listing count capacity before x
   puts : (ys : List A) (says : add before x ≡ Ok (before ++ ys)) (does : bytes_of f capacity x ≡ Ok (bytes r (listing ys)))
       (left : Left (capacity_after f (bytes r (listing ys)) capacity) r.is_open count (length (before ++ ys))) → Step f r add listing count capacity before x
 
 -- what every value of a variable does
-record Steps {A : Type 0} (f : Filling) (r : states.Capacity) (add : List A → Value → Result (List A) CdlKind) (listing : List A → Listing) (count : ℕ) : Type 0 where
+record Steps {A : Type 0} (f : Filling) (r : states.Listable) (add : List A → Value → Result (List A) CdlKind) (listing : List A → Listing) (count : ℕ) : Type 0 where
   none : values_in r (listing []) ≡ []
   joins : (xs ys : List A) → values_in r (listing (xs ++ ys)) ≡ values_in r (listing xs) ++ values_in r (listing ys)
   step : (capacity : Capacity) (before : List A) (x : Value) → Left capacity r.is_open count (length before) → Step f r add listing count capacity before x
@@ -35,7 +35,7 @@ left_less capacity is_open count before y h h2 = grind (arith, length-append)
 
 -- ---- numbers
 
-number_step : (fill : Fill) (r : states.Capacity) → Fills (fillings.Numbers fill) r → (capacity : Capacity) (before : List ℤ) (x : Value) → Left capacity r.is_open r.count (length before) → Step (fillings.Numbers fill) r (add_number r) Numbers r.count capacity before x
+number_step : (fill : Fill) (r : states.Listable) → Fills (fillings.Numbers fill) r → (capacity : Capacity) (before : List ℤ) (x : Value) → Left capacity r.is_open r.count (length before) → Step (fillings.Numbers fill) r (add_number r) Numbers r.count capacity before x
 number_step fill r h capacity before (Characters bs) left = wrong WrongKind refl refl
 number_step fill r h capacity before Underscore left = by (is_full capacity) refl
   where
@@ -62,7 +62,7 @@ number_step fill r h capacity before (Number n) left = by (is_full capacity) (ha
         (rw (off) (rw (sym (ap (λ t. has_number t n.value) h.0) ∙ is-fit) (ap Ok (ap (λ t. bytes_of_number t n.value) (sym h.0) ∙ sym (append-nil (bytes_of_number r.ty n.value))))))
         (left_less capacity r.is_open r.count before n.value off left)
 
-number_steps : (fill : Fill) (r : states.Capacity) → Fills (fillings.Numbers fill) r → Steps (fillings.Numbers fill) r (add_number r) Numbers r.count
+number_steps : (fill : Fill) (r : states.Listable) → Fills (fillings.Numbers fill) r → Steps (fillings.Numbers fill) r (add_number r) Numbers r.count
 number_steps fill r h = record { none = refl; joins = λ xs ys. refl; step = number_step fill r h }
 
 -- ---- strings, one after the other
@@ -76,7 +76,7 @@ left_chars capacity is_open count before bs h h2 = grind (arith, length-append)
 chars_are : (ty : NcType) (bs : List ℕ) → ty ≡ Char → char_bytes bs ≡ flat_map (bytes_of_number ty) (map pos bs)
 chars_are ty bs h = ap (λ t. flat_map (bytes_of_number t) (map pos bs)) (sym h)
 
-joined_step : (r : states.Capacity) → Fills fillings.Joined r → (capacity : Capacity) (before : List ℕ) (x : Value) → Left capacity r.is_open r.count (length before) → Step fillings.Joined r (add_characters r) Joined r.count capacity before x
+joined_step : (r : states.Listable) → Fills fillings.Joined r → (capacity : Capacity) (before : List ℕ) (x : Value) → Left capacity r.is_open r.count (length before) → Step fillings.Joined r (add_characters r) Joined r.count capacity before x
 joined_step r h capacity before (Characters bs) left = by (is_exceeded_by (length bs) capacity) refl
   where
     by : (past : Bool) → is_exceeded_by (length bs) capacity ≡ past → Step fillings.Joined r (add_characters r) Joined r.count capacity before (Characters bs)
@@ -89,7 +89,7 @@ joined_step r h capacity before (Characters bs) left = by (is_exceeded_by (lengt
         (subst (λ (n : ℕ). Left (capacity_minus n capacity) r.is_open r.count (length (before ++ bs))) (sym (chars_len bs) ∙ ap (λ (xs : List ℕ). length xs) (chars_are r.ty bs h.0)) (left_chars capacity r.is_open r.count before bs off left))
 joined_step r h capacity before _ left = wrong WrongKind refl refl
 
-joined_steps : (r : states.Capacity) → Fills fillings.Joined r → Steps fillings.Joined r (add_characters r) Joined r.count
+joined_steps : (r : states.Listable) → Fills fillings.Joined r → Steps fillings.Joined r (add_characters r) Joined r.count
 joined_steps r h = record { none = refl; joins = map-append pos; step = joined_step r h }
 
 -- ---- rows
@@ -102,7 +102,7 @@ row_bytes_are : (ty : NcType) (len n : ℕ) (x : ℤ) (b : ℕ) (bs : List ℕ) 
     char_bytes bs ++ replicate (n - length bs) b ≡ flat_map (bytes_of_number ty) (filled len x (map pos bs))
 row_bytes_are ty len n x b bs is same h = search (rules, padding, length-map, pos, flat_map-append)
 
-rows_step : (len fill : ℕ) (r : states.Capacity) → Fills (fillings.Rows len fill) r → (capacity : Capacity) (before : List (List ℕ)) (x : Value) → Left capacity r.is_open r.rows (length before) → Step (fillings.Rows len fill) r (add_row r) Rows r.rows capacity before x
+rows_step : (len fill : ℕ) (r : states.Listable) → Fills (fillings.Rows len fill) r → (capacity : Capacity) (before : List (List ℕ)) (x : Value) → Left capacity r.is_open r.rows (length before) → Step (fillings.Rows len fill) r (add_row r) Rows r.rows capacity before x
 rows_step len fill r h capacity before (Characters bs) left = by (is_full capacity) (nat_lt len (length bs)) refl refl
   where
     row : r.row ≡ len
@@ -124,7 +124,7 @@ rows_step len fill r h capacity before (Characters bs) left = by (is_full capaci
         (left_less capacity r.is_open r.rows before bs off left)
 rows_step len fill r h capacity before _ left = wrong WrongKind refl refl
 
-rows_steps : (len fill : ℕ) (r : states.Capacity) → Fills (fillings.Rows len fill) r → Steps (fillings.Rows len fill) r (add_row r) Rows r.rows
+rows_steps : (len fill : ℕ) (r : states.Listable) → Fills (fillings.Rows len fill) r → Steps (fillings.Rows len fill) r (add_row r) Rows r.rows
 rows_steps len fill r h = record { none = refl; joins = flat_map-append (λ bs. filled r.row r.fill (map pos bs)); step = rows_step len fill r h }
 
 -- ---- all
@@ -139,7 +139,7 @@ abbrev listed_as : {A : Type 0} → (List A → Listing) → Result (List A) Cdl
 listed_as listing items = items >>= (λ xs. Ok (listing xs))
 
 -- the bytes of the values one by one are the values packed
-turns : {A : Type 0} (f : Filling) (r : states.Capacity) (add : List A → Value → Result (List A) CdlKind) (listing : List A → Listing) (count : ℕ) → Steps f r add listing count → (capacity : Capacity) (before : List A) (xs : List Value) → Left capacity r.is_open count (length before) →
+turns : {A : Type 0} (f : Filling) (r : states.Listable) (add : List A → Value → Result (List A) CdlKind) (listing : List A → Listing) (count : ℕ) → Steps f r add listing count → (capacity : Capacity) (before : List A) (xs : List Value) → Left capacity r.is_open count (length before) →
     as_bytes r (listed_as listing (in_turn add before xs)) ≡ joined (Ok (bytes r (listing before))) (packed f capacity xs)
 unfolding packed
 turns f r add listing count s capacity before [] left = ap Ok (sym (append-nil (bytes r (listing before))))
@@ -158,13 +158,13 @@ turns {A} f r add listing count s capacity before (x ∷ xs) left = by (s.step c
         sym (joined_assoc start new (packed f (capacity_after f new capacity) xs)) ∙
         sym (ap (λ b. joined (Ok start) (followed_by b (λ bs. packed f (capacity_after f bs capacity) xs))) does)
 
-from_none : {A : Type 0} (f : Filling) (r : states.Capacity) (add : List A → Value → Result (List A) CdlKind) (listing : List A → Listing) (count : ℕ) → Steps f r add listing count → (capacity : Capacity) (xs : List Value) → Left capacity r.is_open count 0 →
+from_none : {A : Type 0} (f : Filling) (r : states.Listable) (add : List A → Value → Result (List A) CdlKind) (listing : List A → Listing) (count : ℕ) → Steps f r add listing count → (capacity : Capacity) (xs : List Value) → Left capacity r.is_open count 0 →
     as_bytes r (listed_by add listing xs) ≡ packed f capacity xs
 from_none f r add listing count s capacity xs left =
     turns f r add listing count s capacity [] xs left ∙ ap (λ values. joined (Ok (flat_map (bytes_of_number r.ty) values)) (packed f capacity xs)) s.none ∙ joined_none (packed f capacity xs)
 
 -- all values of a variable
-pub all_turns : (f : Filling) (capacity : Capacity) (r : states.Capacity) (xs : List Value) → Fills f r → Left capacity r.is_open (positions_in f r) 0 → as_bytes r (listing_of r xs) ≡ packed f capacity xs
+pub all_turns : (f : Filling) (capacity : Capacity) (r : states.Listable) (xs : List Value) → Fills f r → Left capacity r.is_open (positions_in f r) 0 → as_bytes r (listing_of r xs) ≡ packed f capacity xs
 unfolding listing_of
 all_turns (fillings.Numbers fill) capacity r xs h left = rw (ap is_char h.0 ∙ h.1) (from_none (fillings.Numbers fill) r (add_number r) Numbers r.count (number_steps fill r h) capacity xs left)
 all_turns fillings.Joined capacity r xs h left = rw (ap is_char h.0) (rw (h.1) (from_none fillings.Joined r (add_characters r) Joined r.count (joined_steps r h) capacity xs left))

@@ -1,6 +1,6 @@
 -- The text of a variable's first values, value by value: numbers, and characters row by row.
-use Rattle.std.proofs.Common.{nat_lt, ◌≡◌, ℕ, zero, suc, ◌+◌, ◌-◌, ◌*◌, ◌%◌, ◌<◌, ◌≤◌, Bool, true, false, cond, List, [], ◌∷◌, ◌++◌, length, map, filter, take, drop, reverse, slice_index, sym, ◌∙◌, ap, refl, subst, arith, append_assoc, append-nil, length-append, ℤ, unsigned_abs, ◌&&◌, ◌==◌, if◌then◌else◌, replicate, rules}
-use Rattle.nc_base.proofs.Prelude.{flat_map, range_with_len, suffix_len, prefix_len, prefix_len-append, suffix_len_is, suffix_len-le-length, get_or-replicate, length-replicate, eqb-true, take_at, length-take, reverse-append, drop_all, take_all, take-append-drop, length-drop, drop_at, mod-mul-add, filter-append, flat_map-append, escaped_text, escaped_in_string, Look, is_char, begins_row, char_lead, char_text, char_piece, held, row_so_far, is_nul, piece, pieces, number_pieces, characters_text, printed_bytes, row_text, without_trailing_nuls, variable_opening, variable_prefix, and_left, and_right, Dim, Header, Var, look_of, product, row_len, slab_lens, value_count, is_record_var, dim_len, is_record_shape}
+use Rattle.std.proofs.Common.{nat_lt, ◌≡◌, ℕ, zero, suc, ◌+◌, ◌-◌, ◌*◌, ◌%◌, ◌<◌, ◌≤◌, Bool, true, false, List, [], ◌∷◌, ◌++◌, length, map, filter, take, drop, slice_index, sym, ◌∙◌, ap, refl, subst, arith, append_assoc, append-nil, length-append, ℤ, unsigned_abs, ◌&&◌, ◌==◌, if◌then◌else◌, replicate, rules}
+use Rattle.nc_base.proofs.Prelude.{flat_map, range_with_len, suffix_len, prefix_len-append, suffix_len_is, suffix_len-le-length, get_or-replicate, length-replicate, eqb-true, take_at, length-take, reverse-append, drop_all, take_all, take-append-drop, length-drop, drop_at, mod-mul-add, filter-append, flat_map-append, escaped_text, escaped_in_string, Look, is_char, begins_row, char_lead, char_text, char_piece, held, is_nul, piece, pieces, number_pieces, characters_text, printed_bytes, row_text, without_trailing_nuls, variable_opening, variable_prefix, Dim, Header, Var, look_of, product, row_len, slab_lens, value_count, is_record_var, dim_len, is_record_shape}
 use Rattle.nc_base.proofs.WholeValues.{range-add}
 
 pub escaped-append : (a b : List ℕ) → escaped_text (a ++ b) ≡ escaped_text a ++ escaped_text b
@@ -38,33 +38,14 @@ printed trimmed n (x ∷ xs) = if trimmed && is_nul x then printed trimmed (n + 
 abbrev waits : Look → List ℤ → ℕ
 waits look p = if look.trimmed then suffix_len is_nul p else 0
 
-so_far : (look : Look) (done p : List ℤ) (k : ℕ) → length done ≡ k * look.row → length p < look.row → row_so_far look (done ++ p) ≡ p
-so_far look done p k h small =
-    let all = length-append done p in
-    let place : length (done ++ p) % look.row ≡ length p = ap (λ n. n % look.row) (all ∙ ap (λ n. n + length p) h) ∙ mod-mul-add k look.row (length p) small in
-    let start : length (done ++ p) - length (done ++ p) % look.row ≡ length done = omega (arith, place, all) in
-    ap (λ n. drop n (done ++ p)) start ∙ drop_at done p (length done) refl
-
-held_is : (look : Look) (done p : List ℤ) (k : ℕ) → length done ≡ k * look.row → length p < look.row → held look (done ++ p) ≡ waits look p
-held_is look done p k h small = ap (λ (q : List ℤ). if look.trimmed then suffix_len is_nul q else 0) (so_far look done p k h small)
-
-suffix_more : (p : List ℤ) (x : ℤ) → suffix_len is_nul (p ++ x ∷ []) ≡ (if is_nul x then 1 + suffix_len is_nul p else 0)
-suffix_more p x = ap (prefix_len is_nul) (reverse-append p (x ∷ []))
-
 waits_more : (look : Look) (p : List ℤ) (x : ℤ) → (look.trimmed && is_nul x) ≡ true → waits look (p ++ x ∷ []) ≡ waits look p + 1
-waits_more look p x h = grind (arith, and_left, and_right, suffix_more)
+waits_more look p x h = grind (arith, reverse-append)
 
 waits_none : (look : Look) (p : List ℤ) (x : ℤ) → (look.trimmed && is_nul x) ≡ false → waits look (p ++ x ∷ []) ≡ 0
-waits_none look p x h = grind (arith, suffix_more)
+waits_none look p x h = grind (arith, reverse-append)
 
 inside : (look : Look) (done p : List ℤ) (k : ℕ) → length done ≡ k * look.row → 0 < length p → length p < look.row → begins_row look (length (done ++ p)) ≡ false
 inside look done p k h some small = search (rules, length-append, mod-mul-add)
-
--- a character inside of a row
-char_inside : (look : Look) (done p : List ℤ) (k : ℕ) (x : ℤ) → length done ≡ k * look.row → 0 < length p → length p < look.row →
-    char_piece look (done ++ p) x ≡ char_text look (waits look p) x
-unfolding char_piece
-char_inside look done p k x h some small = search (rules, inside, held_is)
 
 pub printed_more : (t : Bool) (n : ℕ) (x : ℤ) (xs : List ℤ) → printed t n (x ∷ xs) ≡ (if t && is_nul x then printed t (n + 1) xs else (replicate n 0 ++ unsigned_abs x ∷ []) ++ printed t 0 xs)
 unfolding printed
@@ -77,10 +58,10 @@ joins look n m x xs tail on other = grind (arith, printed_more, append_assoc, es
 
 in_row : (look : Look) (done p xs rest : List ℤ) (k : ℕ) → length done ≡ k * look.row → 0 < length p → length p + length xs ≤ look.row →
     char_pieces look (done ++ p) (xs ++ rest) ≡ escaped_text (printed look.trimmed (waits look p) xs) ++ char_pieces look (done ++ (p ++ xs)) rest
-unfolding char_pieces printed escaped_text
+unfolding char_pieces printed escaped_text char_piece
 in_row look done p [] rest k h some small = ap (λ q. char_pieces look (done ++ q) rest) (sym (append-nil p))
 in_row look done p (x ∷ xs) rest k h some small =
-    grind (arith, length-append, char_inside, append_assoc, joins, waits_more, in_row look done (p ++ x ∷ []) xs rest k h, suffix_more)
+    grind (arith, length-append, inside, mod-mul-add, drop_at, append_assoc, joins, in_row look done (p ++ x ∷ []) xs rest k h, reverse-append)
 
 first_place : (k row : ℕ) → (k * row) % row ≡ 0
 first_place k zero = let none : k * zero ≡ 0 = omega arith in ap (λ n. n % 0) none
@@ -117,13 +98,7 @@ nul b = b == 0
 
 -- those before another byte aren't at the end
 ends_after : (bytes : List ℕ) (b : ℕ) (more : List ℕ) → nul b ≡ false → suffix_len nul ((bytes ++ b ∷ []) ++ more) ≡ suffix_len nul more
-ends_after bytes b more h =
-    ap (prefix_len nul) (reverse-append (bytes ++ b ∷ []) more ∙ ap (λ (e : List ℕ). reverse more ++ e) (reverse-append bytes (b ∷ [])))
-    ∙ prefix_len-append nul (reverse more) (b ∷ reverse bytes)
-    ∙ either (prefix_len nul (reverse more)) (length (reverse more)) (prefix_len nul (b ∷ reverse bytes)) (rw (h) refl)
-  where
-    either : (n m z : ℕ) → z ≡ 0 → cond (n == m) (m + z) n ≡ n
-    either n m z e = grind arith
+ends_after bytes b more h = grind (arith, reverse-append, prefix_len-append)
 
 take_past : (a b : List ℕ) (n : ℕ) → take (length a + n) (a ++ b) ≡ a ++ take n b
 take_past [] b n = ap (λ k. take k b) (let none : 0 + n ≡ n = omega arith in none)
@@ -145,14 +120,11 @@ only_nuls n =
     omega (arith, all, len)
 
 without_nuls : (n : ℕ) → without_trailing_nuls (replicate n 0) ≡ []
-without_nuls n =
-    let none : length (replicate n 0) - suffix_len nul (replicate n 0) ≡ 0 = omega (arith, only_nuls n, length-replicate {A = ℕ} n 0) in
-    ap (λ k. take k (replicate n 0)) none
+without_nuls n = grind (arith, only_nuls, length-replicate)
 
 one_more : (n : ℕ) (bytes : List ℕ) → replicate (n + 1) 0 ++ bytes ≡ replicate n 0 ++ 0 ∷ bytes
 one_more zero bytes = refl
-one_more (suc n) bytes =
-    ap (λ k. replicate k 0 ++ bytes) (let same : suc n + 1 ≡ suc (n + 1) = omega arith in same) ∙ ap (λ (b : List ℕ). 0 ∷ b) (one_more n bytes)
+one_more (suc n) bytes = grind (arith, one_more n bytes)
 
 trimmed_is : (n : ℕ) (xs : List ℤ) → printed true n xs ≡ without_trailing_nuls (replicate n 0 ++ map unsigned_abs xs)
 unfolding printed
@@ -172,11 +144,7 @@ whole_is [] = refl
 whole_is (x ∷ xs) = ap (λ (b : List ℕ). unsigned_abs x ∷ b) (whole_is xs)
 
 pub printed_is : (look : Look) (row : List ℤ) → printed look.trimmed 0 row ≡ printed_bytes look row
-printed_is look row = by look.trimmed
-  where
-    by : (t : Bool) → printed t 0 row ≡ (if t then without_trailing_nuls (map unsigned_abs row) else map unsigned_abs row)
-    by true = trimmed_is 0 row
-    by false = whole_is row
+printed_is look row = grind (arith, trimmed_is, whole_is)
 
 -- ---- row after row
 
@@ -189,30 +157,17 @@ none_begins look i zero h = refl
 none_begins look i (suc m) h = rw (h i (omega arith) (omega arith)) (none_begins look (i + 1) m (λ j from below. h j (omega (arith, from)) (omega (arith, below))))
 
 inside_row : (look : Look) (k j : ℕ) → k * look.row < j → j < k * look.row + look.row → begins_row look j ≡ false
-inside_row look k j after before =
-    let n = j - k * look.row in
-    let same : j ≡ k * look.row + n = omega (arith, after) in
-    let place : j % look.row ≡ n = ap (λ i. i % look.row) same ∙ mod-mul-add k look.row n (omega (arith, after, before)) in
-    rw (place) (some n (omega (arith, after)))
-  where
-    some : (n : ℕ) → 0 < n → (n == 0) ≡ false
-    some n h = grind arith
+inside_row look k j after before = grind arith
 
 -- the row that begins with value i, and those after its values
 first_row : (look : Look) (values : List ℤ) (k m n : ℕ) → suc m ≤ look.row
     → rows_from look values (k * look.row) (suc m + n) ≡ row_text look values (k * look.row) ++ rows_from look values (k * look.row + suc m) n
-first_row look values k m n within =
-    let i = k * look.row in
-    let here : filter (begins_row look) (range_with_len i (suc m)) ≡ i ∷ [] = rw (first_place k look.row) (ap (λ (r : List ℕ). i ∷ r) (none_begins look (i + 1) m (λ j from below. inside_row look k j (omega (arith, from)) (omega (arith, below, within))))) in
-    ap (λ (r : List ℕ). flat_map (row_text look values) (filter (begins_row look) r)) (range-add i (suc m) n)
-    ∙ ap (flat_map (row_text look values)) (filter-append (begins_row look) (range_with_len i (suc m)) (range_with_len (i + suc m) n) ∙ ap (λ (r : List ℕ). r ++ filter (begins_row look) (range_with_len (i + suc m) n)) here)
+first_row look values k m n within = grind (arith, first_place, none_begins, inside_row, range-add, filter-append)
 
 row_is : (look : Look) (done row rest : List ℤ) → length row ≤ look.row → (0 < length rest → length row ≡ look.row)
     → take look.row (drop (length done) (done ++ (row ++ rest))) ≡ row
-row_is look done row [] within full =
-    ap (take look.row) (drop_at done (row ++ []) (length done) refl ∙ append-nil row) ∙ take_all look.row row within
-row_is look done row (y ∷ rest) within full =
-    ap (take look.row) (drop_at done (row ++ y ∷ rest) (length done) refl) ∙ take_at row (y ∷ rest) look.row (full (omega arith))
+row_is look done row [] within full = grind (arith, drop_at, append-nil, take_all)
+row_is look done row (y ∷ rest) within full = grind (arith, drop_at, take_at)
 
 rows_are : (fuel k : ℕ) (look : Look) (done xs : List ℤ) → length done ≡ k * look.row → 0 < look.row → length xs ≤ fuel
     → char_pieces look done xs ≡ rows_from look (done ++ xs) (length done) (length xs)
@@ -230,8 +185,7 @@ rows_are (suc fuel) k look done (x ∷ xs) h wide few =
     let full : 0 < length rest → length row ≡ look.row = λ some. omega (arith, row_len, rest_len, some, wide) in
     let all : length (x ∷ xs) ≡ suc (length (take m xs)) + length rest = omega (arith, row_len, rest_len) in
     let text : row_text look (done ++ (row ++ rest)) (length done) ≡ char_lead look (length done) ++ escaped_text (printed look.trimmed 0 row) =
-    ap (λ (r : List ℤ). char_lead look (length done) ++ escaped_text (printed_bytes look r)) (row_is look done row rest within full)
-    ∙ ap (λ (b : List ℕ). char_lead look (length done) ++ escaped_text b) (sym (printed_is look row)) in
+    search (rules, row_is, printed_is) in
     let v = done ++ (row ++ rest) in
     let on : char_pieces look (done ++ row) rest ≡ rows_from look v (k * look.row + length row) (length rest) =
     after look (done ++ row) rest (λ some. rows_are fuel (k + 1) look (done ++ row) rest (omega (arith, length-append done row, h, full some)) wide (omega (arith, few, rest_len)))
@@ -266,11 +220,7 @@ characters_are look (x ∷ xs) wide = rows_are (suc (length xs)) 0 look [] (x �
 
 pub prefix_is : (look : Look) (xs : List ℤ) → IsWide look (length xs) → variable_prefix look xs ≡ variable_opening look ++ pieces look (variable_opening look) [] xs
 unfolding variable_prefix
-prefix_is look xs wide = ap (λ (t : List ℕ). variable_opening look ++ t) (by (is_char look.ty) refl)
-  where
-    by : (b : Bool) → is_char look.ty ≡ b → (if b then characters_text look xs else number_pieces look (variable_opening look) 0 xs) ≡ pieces look (variable_opening look) [] xs
-    by true e = sym (pieces_are look (variable_opening look) [] xs e ∙ characters_are look xs (wide e))
-    by false e = sym (numbers_are look (variable_opening look) [] xs e)
+prefix_is look xs wide = grind (arith, pieces_are, characters_are, numbers_are)
 
 last_some : (f : ℕ → ℕ) (id : ℕ) (ids : List ℕ) → 0 < product (map f (id ∷ ids)) → 0 < f (slice_index (id ∷ ids) (length ids))
 last_some f id [] some = let same : product (map f (id ∷ [])) ≡ f id = omega arith in omega (arith, some, same)

@@ -1,8 +1,8 @@
 -- Where a variable ends: its last value is the one whose index is the greatest in each dimension.
 use Rattle.std.proofs.Common.{◌≡◌, ℕ, zero, suc, ◌+◌, ◌-◌, ◌*◌, ◌<◌, ◌==◌, Bool, true, false, List, [], ◌∷◌, ◌++◌, map, refl, sym, ◌∙◌, ap, arith, Option, Some, None, if◌then◌else◌, slice_get, IfSome}
 use Rattle.std.specs.Option.{option_map}
-use Rattle.nc_base.proofs.Prelude.{nat_tests, flat_map, range_with_len, last_or, Header, Var, size_of, product, is_record_var, slab_lens, slab_size, record_size, extent_sum, AreDimids, IsSound, IsSoundVar, vectors_below, slab_strides, distance, value_offsets, end_after, extent_end}
-use Rattle.nc_base.proofs.Found.{if-some, all-at}
+use Rattle.nc_base.proofs.Prelude.{nat_tests, flat_map, range_with_len, last_or, Header, Var, size_of, product, is_record_var, slab_lens, slab_size, record_size, extent_sum, IsSound, IsSoundVar, vectors_below, slab_strides, distance, value_offsets, end_after, extent_end}
+use Rattle.nc_base.proofs.Found.{all-at}
 use Rattle.nc_base.proofs.SoundLaws.{some_count}
 
 -- ---- the last of a list
@@ -32,20 +32,15 @@ abbrev greatest : List ℕ → List ℕ
 greatest [] = []
 greatest (n ∷ ns) = (n - 1) ∷ greatest ns
 
-some-factor : (m p : ℕ) → 0 < m * p → 0 < p
-some-factor m p h = grind arith
-
 last-vector : (ns : List ℕ) → 0 < product ns → last_or None (vectors_below ns) ≡ Some (greatest ns)
-last-vector [] some = refl
-last-vector (zero ∷ ns) some = absurd (omega arith)
 last-vector (suc m ∷ ns) some =
-    grind (arith, last-rows (λ i. map (λ (index : List ℕ). i ∷ index) (vectors_below ns)) 0 m None, last_or-map (λ (index : List ℕ). (0 + m) ∷ index) None, some-factor, last-vector ns)
+    grind (arith, last-rows (λ i. map (λ (index : List ℕ). i ∷ index) (vectors_below ns)) 0 m None, last_or-map (λ (index : List ℕ). (0 + m) ∷ index) None, last-vector ns)
+last-vector _ some = grind arith
 
 -- its distance from the first value, and a value more, is the slab
 greatest-distance : (size : ℕ) (ns : List ℕ) → 0 < product ns → distance (greatest ns) (slab_strides size ns) + size ≡ product ns * size
-greatest-distance size [] some = omega arith
-greatest-distance size (zero ∷ ns) some = absurd (omega arith)
-greatest-distance size (suc m ∷ ns) some = grind (arith, some-factor, greatest-distance size ns)
+greatest-distance size (suc m ∷ ns) some = grind (arith, greatest-distance size ns)
+greatest-distance size _ some = grind arith
 
 -- ---- of a variable
 
@@ -104,10 +99,6 @@ end-at-kind h var n some = by_kind (is_record_var h.dims var)
         ended false n (greatest lens) (last-vector lens some)
         ∙ (let e : var.begin_at + distance (greatest lens) (slab_strides size lens) + size ≡ var.begin_at + product lens * size = omega (arith, greatest-distance size lens some) in e)
 
--- the end that the body computes
-ends : (h : Header) (var : Var) (n : ℕ) → AreDimids h.dims [] var.dimids → extent_sum h n var ≡ extent_end h var n
-ends h var n shape = sym (end-at-kind h var n (some_count h.dims var.dimids shape))
-
 pub extent-found : (h : Header) (v n end : ℕ) → IsSound h → IfSome (slice_get h.vars v) (λ var. end ≡ extent_sum h n var)
     → IfSome (slice_get h.vars v) (λ var. end ≡ extent_end h var n)
-extent-found h v n end sound = grind (arith, ends h, all-at (IsSoundVar h.version h.dims) h.vars v, if-some)
+extent-found h v n end sound = grind (arith, end-at-kind, some_count, all-at (IsSoundVar h.version h.dims) h.vars v)

@@ -1,6 +1,6 @@
 -- A generated file holds its dataset.
 use Rattle.std.proofs.Common.{◌≡◌, ℕ, suc, ◌+◌, ◌*◌, ◌<◌, List, [], ◌∷◌, ◌++◌, length, map, refl, sym, ◌∙◌, ap, subst, arith, length-append, All, sum}
-use Rattle.nc_base.proofs.Prelude.{to_be_bytes, flat_map, range_with_len, append-nil, length-map, All-nil, All-cons, All-head, All-tail, Att, Dim, Var, Header, NumRecs, Known, Dataset, Version, offset_width, count_limit, IsName, padded_size, record_size_of, record_vars, record_size, record_count, IsSoundVar, IsSound, HasValidNames, bare_var, AreArrays, IsGood, HoldsDataset, header_spelling, blocks, is_sole_narrow, record_of, known_records, data_of, vars_with_begins, with_begins, Fits, file_of}
+use Rattle.nc_base.proofs.Prelude.{flat_map, range_with_len, append-nil, length-map, All-nil, All-cons, All-head, All-tail, Att, Dim, Var, Header, NumRecs, Known, Dataset, Version, count_limit, IsName, padded_size, record_size_of, record_vars, record_size, record_count, IsSoundVar, IsSound, HasValidNames, bare_var, AreArrays, IsGood, HoldsDataset, header_spelling, blocks, is_sole_narrow, record_of, known_records, data_of, vars_with_begins, with_begins, Fits, file_of}
 use Rattle.nc_base.proofs.IsAt.{IsAt, stands-here, stands-after, stands-in, stands-at, stands-first, stands-second, stands-row}
 use Rattle.nc_base.proofs.FilePlaces.{slots, fixed_total, record_size_of-slots, length-blocks, length-record, IsPlaced, agree-all, agree-arrays, agree-whole}
 use Rattle.nc_base.specs.Parts.{print}
@@ -29,8 +29,7 @@ records-bare dims [] = refl
 records-bare dims (var ∷ vars) = grind (arith, records-bare dims vars)
 
 record_size_of-bare : (dims : List Dim) (vars : List Var) → record_size_of dims (map bare_var vars) ≡ record_size_of dims vars
-record_size_of-bare dims (var ∷ next ∷ vars) = ap (λ (ns : List ℕ). sum ns) (map-map (padded_size dims) bare_var (var ∷ next ∷ vars))
-record_size_of-bare dims _ = refl
+record_size_of-bare dims vars = grind (arith, sum, map-map, padded_size, bare_var)
 
 size-bare : (h : Header) (vars : List Var) → record_size (record h { vars = map bare_var vars }) ≡ record_size (record h { vars = vars })
 size-bare h vars = ap (record_size_of h.dims) (records-bare h.dims vars) ∙ record_size_of-bare h.dims (record_vars h.dims vars)
@@ -40,14 +39,8 @@ size-after h = sym (size-bare h (vars_with_begins h [] h.vars)) ∙ ap (λ (vs :
 
 -- ---- the length of the header
 
-longer : (a x y : List ℕ) → length x ≡ length y → length (a ++ x) ≡ length (a ++ y)
-longer a x y e = length-append a x ∙ ap (λ (n : ℕ). length a + n) e ∙ sym (length-append a y)
-
 both : (a b x y : List ℕ) → length a ≡ length b → length x ≡ length y → length (a ++ x) ≡ length (b ++ y)
 both a b x y e f = length-append a x ∙ ap (λ (n : ℕ). n + length x) e ∙ ap (λ (n : ℕ). length b + n) f ∙ sym (length-append b y)
-
-offset-len : (v : Version) (m n : ℕ) → length (to_be_bytes (offset_width v) m) ≡ length (to_be_bytes (offset_width v) n)
-offset-len v m n = grind arith
 
 -- a variable's bytes, whatever stands before it
 abbrev var_bytes : Version → List Dim → Var → List ℕ
@@ -59,7 +52,7 @@ var-printed v dims before var = refl
 
 var-len : (v : Version) (dims : List Dim) (var : Var) → length (var_bytes v dims (bare_var var)) ≡ length (var_bytes v dims var)
 unfolding print var_part offset_part number
-var-len v dims var = grind (arith, longer, offset-len, append-nil)
+var-len v dims var = grind (arith, length-append)
 
 each-len : (f : Var → List ℕ) (xs : List Var) → ((x : Var) → length (f (bare_var x)) ≡ length (f x)) → length (flat_map f (map bare_var xs)) ≡ length (flat_map f xs)
 each-len f [] same = refl
@@ -74,7 +67,7 @@ list-len v dims xs =
 
 header-len-bare : (h : Header) (vars : List Var) → length (header_spelling (record h { vars = map bare_var vars })) ≡ length (header_spelling (record h { vars = vars }))
 unfolding print header_by
-header-len-bare h vars = grind (arith, longer, both, list-len)
+header-len-bare h vars = grind (arith, length-append, list-len)
 
 pub len-after : (h : Header) → length (header_spelling (record h { vars = vars_with_begins h [] h.vars })) ≡ length (header_spelling h)
 len-after h =

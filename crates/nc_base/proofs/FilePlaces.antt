@@ -1,6 +1,6 @@
 -- Each value of a generated file stands where the offsets by index vectors say.
 use Rattle.std.proofs.Common.{◌≡◌, ℕ, zero, suc, ◌+◌, ◌*◌, ◌/◌, ◌<◌, ◌≤◌, Bool, true, false, cond, not, List, [], ◌∷◌, ◌++◌, length, take, drop, replicate, map, refl, sym, ◌∙◌, ap, arith, append_assoc, length-append, length-take, length-drop, None, if◌then◌else◌, All, ℤ}
-use Rattle.nc_base.proofs.Prelude.{concat, flat_map, range_with_len, sum_by, mul-le-mul_right, filter-append, All-nil, All-cons, sum-map, sum_by-append, Dim, Var, Header, NcType, padding_len, size_of, bytes_of_number, is_record_var, is_narrow, slab_count, slab_size, padded_size, padded_total, record_size_of, record_vars, record_size, IsArray, AreArrays, stored_bytes, first_missing, header_spelling, fill_bytes, padded_slab, blocks, is_sole_narrow, slab_in, record_of, fixed_vars, begin_after, vars_with_begins}
+use Rattle.nc_base.proofs.Prelude.{concat, flat_map, range_with_len, sum_by, mul-le-mul_right, filter-append, All-nil, sum-map, sum_by-append, Dim, Var, Header, NcType, padding_len, size_of, bytes_of_number, is_record_var, is_narrow, slab_count, slab_size, padded_size, padded_total, record_size_of, record_vars, record_size, IsArray, AreArrays, stored_bytes, first_missing, header_spelling, fill_bytes, padded_slab, blocks, is_sole_narrow, slab_in, record_of, fixed_vars, begin_after, vars_with_begins}
 use Rattle.nc_base.proofs.SlabBytes.{fixed-bytes, record-bytes, fixed-whole, record-whole}
 use Rattle.nc_base.proofs.IsAt.{IsAt, stands-at, stands-first, stands-second, stands-read, stands-within, runs-all}
 
@@ -16,10 +16,6 @@ whole-padding ty c = grind arith
 pub length-replicated : (n : ℕ) (xs : List ℕ) → length (concat (replicate n xs)) ≡ n * length xs
 length-replicated zero xs = omega arith
 length-replicated (suc n) xs = omega (arith, length-append xs (concat (replicate n xs)), length-replicated n xs)
-
-pub length-padded : (dims : List Dim) (var : Var) (slab : List ℕ) → length slab ≡ slab_size dims var → length (padded_slab var slab) ≡ padded_size dims var
-unfolding padded_slab fill_bytes
-length-padded dims var slab len = grind (arith, length-append, length-replicated, length-number, whole-padding)
 
 -- ---- totals
 
@@ -78,22 +74,15 @@ sole-first [] x ys e = refl
 sole-first (w ∷ []) x ys e = absurd cc
 sole-first (w ∷ z ∷ xs) x ys e = absurd cc
 
-slots-before : (is_sole : Bool) (dims : List Dim) (xs : List Var) → (is_sole ≡ true → xs ≡ []) → padded_total dims xs ≡ sum_by (slot is_sole dims) xs
-slots-before is_sole dims xs h = grind (arith, sum-map)
-
-kept-cons : (dims : List Dim) (var : Var) (vars : List Var) → is_record_var dims var ≡ true → record_vars dims (var ∷ vars) ≡ var ∷ record_vars dims vars
-kept-cons dims var vars growing = ap (λ (b : Bool). cond b (var ∷ record_vars dims vars) (record_vars dims vars)) growing
-
 -- what stands before a record variable in a record
 pub before-slots : (dims : List Dim) (all before : List Var) (var : Var) (vars : List Var) → all ≡ before ++ var ∷ vars → is_record_var dims var ≡ true
     → padded_total dims (record_vars dims before) ≡ slots (is_sole_narrow (record_vars dims all)) dims before
-before-slots dims all before var vars is growing = grind (arith, filter-append, kept-cons, slots-before, sole-first)
+before-slots dims all before var vars is growing = grind (arith, filter-append, sum-map, sole-first)
 
 -- ---- slabs of an array
 
 fixed-len : (dims : List Dim) (n : ℕ) (var : Var) (array : List ℕ) → IsArray dims n var array → is_record_var dims var ≡ false → length array ≡ slab_size dims var
-fixed-len dims n var array is fixed =
-    let e = is.whole ∙ ap (λ (b : Bool). slab_count dims var * (if b then n else 1) * size_of var.ty) fixed in omega (arith, e)
+fixed-len dims n var array is fixed = grind arith
 
 pub record-len : (dims : List Dim) (n : ℕ) (var : Var) (array : List ℕ) → IsArray dims n var array → is_record_var dims var ≡ true → length array ≡ n * slab_size dims var
 record-len dims n var array is growing =
@@ -106,42 +95,32 @@ length-slab dims n var array r is growing lt = grind (arith, record-len, mul-le-
 abbrev placed_slab : Bool → Var → List ℕ → List ℕ
 placed_slab is_sole var slab = if is_sole then slab else padded_slab var slab
 
-length-placed : (is_sole : Bool) (dims : List Dim) (var : Var) (slab : List ℕ) → length slab ≡ slab_size dims var → length (placed_slab is_sole var slab) ≡ slot is_sole dims var
-length-placed is_sole dims var slab h = grind (arith, length-padded)
-
 stands-placed : (is_sole : Bool) (var : Var) (slab bytes : List ℕ) (at : ℕ) → IsAt (placed_slab is_sole var slab) at bytes → IsAt slab at bytes
 unfolding padded_slab
 stands-placed is_sole var slab bytes at h = grind (arith, stands-first)
 
 -- ---- lengths
 
-length-if : (kind : Bool) (slab : List ℕ) (len : ℕ) → (kind ≡ true → length slab ≡ len) → length (if kind then slab else []) ≡ (if kind then len else 0)
-length-if kind slab len h = grind arith
-
-length-unless : (kind : Bool) (slab : List ℕ) (len : ℕ) → (kind ≡ false → length slab ≡ len) → length (if kind then [] else slab) ≡ (if kind then 0 else len)
-length-unless kind slab len h = grind arith
-
 length-block : (dims : List Dim) (n : ℕ) (var : Var) (array : List ℕ) → IsArray dims n var array
     → length (if is_record_var dims var then [] else padded_slab var array) ≡ (if is_record_var dims var then 0 else padded_size dims var)
-length-block dims n var array is =
-    length-unless (is_record_var dims var) (padded_slab var array) (padded_size dims var) (λ fixed. length-padded dims var array (fixed-len dims n var array is fixed))
+unfolding padded_slab fill_bytes
+length-block dims n var array is = grind (arith, length-append, length-replicated)
 
 length-part : (is_sole : Bool) (dims : List Dim) (n : ℕ) (var : Var) (array : List ℕ) (r : ℕ) → r < n → IsArray dims n var array
     → length (if is_record_var dims var then placed_slab is_sole var (slab_in dims var array r) else []) ≡ (if is_record_var dims var then slot is_sole dims var else 0)
-length-part is_sole dims n var array r lt is = grind (arith, length-if, length-placed, length-slab)
+unfolding padded_slab fill_bytes
+length-part is_sole dims n var array r lt is = grind (arith, length-append, length-replicated, length-slab)
 
 pub length-blocks : (dims : List Dim) (n : ℕ) (vars : List Var) (arrays : List (List ℕ)) → AreArrays dims n vars arrays → length (blocks dims vars arrays) ≡ fixed_total dims vars
-length-blocks dims n [] [] are = refl
 length-blocks dims n (var ∷ vars) (array ∷ arrays) are =
     grind (arith, length-append, length-block, fixed-cons, length-blocks dims n vars arrays are.1)
-length-blocks dims n _ _ are = absurd are
+length-blocks dims n _ _ are = grind arith
 
 pub length-record : (is_sole : Bool) (dims : List Dim) (n r : ℕ) (vars : List Var) (arrays : List (List ℕ)) → r < n → AreArrays dims n vars arrays
     → length (record_of is_sole dims r vars arrays) ≡ slots is_sole dims vars
-length-record is_sole dims n r [] [] lt are = refl
 length-record is_sole dims n r (var ∷ vars) (array ∷ arrays) lt are =
     grind (arith, length-append, length-part, slots-cons, length-record is_sole dims n r vars arrays lt are.1)
-length-record is_sole dims n r _ _ lt are = absurd are
+length-record is_sole dims n r _ _ lt are = grind arith
 
 -- ---- each variable
 
@@ -158,9 +137,7 @@ Agree h bytes n (var ∷ vars) (array ∷ arrays) = Agrees h bytes n var array �
 
 pub flat_map-below : (f g : ℕ → List ℕ) (k n : ℕ) → ((r : ℕ) → k ≤ r → r < k + n → f r ≡ g r) → flat_map f (range_with_len k n) ≡ flat_map g (range_with_len k n)
 flat_map-below f g k zero same = refl
-flat_map-below f g k (suc n) same =
-    ap (λ (xs : List ℕ). xs ++ flat_map f (range_with_len (k + 1) n)) (same k (omega arith) (omega arith))
-    ∙ ap (λ (xs : List ℕ). g k ++ xs) (flat_map-below f g (k + 1) n (λ r low high. same r (omega arith) (omega arith)))
+flat_map-below f g k (suc n) same = grind (arith, flat_map-below f g (k + 1) n)
 
 -- what is left of the variables stands after those before them
 pub record IsPlaced (h : Header) (bytes : List ℕ) (n stride : ℕ) (is_sole : Bool) (before vars : List Var) (arrays : List (List ℕ)) : Type 0 where
@@ -276,16 +253,14 @@ pub agree-arrays : (h : Header) (bytes : List ℕ) (n : ℕ) (vars : List Var) (
     → arrays ≡ map (λ (var : Var). concat (stored_bytes h bytes var n)) vars
 unfolding Agree
 agree-arrays h bytes n [] [] are = refl
-agree-arrays h bytes n (var ∷ vars) (array ∷ arrays) are =
-    ap (λ (x : List ℕ). x ∷ arrays) are.0.array_is ∙ ap (λ (xs : List (List ℕ)). concat (stored_bytes h bytes var n) ∷ xs) (agree-arrays h bytes n vars arrays are.1)
+agree-arrays h bytes n (var ∷ vars) (array ∷ arrays) are = grind (arith, agree-arrays h bytes n vars arrays are.1)
 agree-arrays h bytes n _ _ are = absurd are
 
 pub agree-whole : (h : Header) (bytes : List ℕ) (n : ℕ) (vars : List Var) (arrays : List (List ℕ)) → Agree h bytes n vars arrays
     → All (λ (var : Var). first_missing h bytes var n ≡ None) vars
 unfolding Agree
 agree-whole h bytes n [] [] are = All-nil _
-agree-whole h bytes n (var ∷ vars) (array ∷ arrays) are =
-    All-cons (λ (v : Var). first_missing h bytes v n ≡ None) var vars are.0.whole (agree-whole h bytes n vars arrays are.1)
+agree-whole h bytes n (var ∷ vars) (array ∷ arrays) are = grind (arith, agree-whole h bytes n vars arrays are.1)
 agree-whole h bytes n _ _ are = absurd are
 
 pub length-numbers : (ty : NcType) (values : List ℤ) → length (flat_map (bytes_of_number ty) values) ≡ length values * size_of ty

@@ -1,5 +1,5 @@
 -- Listed rows and the same with each row filled up: what is added at their end, where each row stands, and how long all are.
-use Rattle.std.proofs.Common.{◌≡◌, ℕ, zero, suc, ◌+◌, ◌-◌, ◌*◌, ◌/◌, ◌%◌, ◌<◌, ◌≤◌, min, max, List, [], ◌∷◌, ◌++◌, length, get_or, take, drop, refl, sym, ◌∙◌, ap, subst, arith, append_assoc, append-nil, length-append, inl, inr, replicate}
+use Rattle.std.proofs.Common.{◌≡◌, ℕ, zero, suc, ◌+◌, ◌-◌, ◌*◌, ◌/◌, ◌%◌, ◌<◌, ◌≤◌, min, max, List, [], ◌∷◌, ◌++◌, length, get_or, take, drop, refl, sym, ◌∙◌, ap, arith, append_assoc, append-nil, length-append, inl, inr, replicate}
 use Rattle.nc_base.proofs.Prelude.{div-lt_iff_lt-mul, mod-lt, cases_lt, take-append-drop, take-append-le, drop-append-le, length-take-le, length-drop, length-replicate, take_all, drop_all, drop-drop, drop-replicate, drop_at, drop_more, filled_rows, AreRowEnds, StandAt, row_start, some_right}
 
 -- a row with n listed bytes, filled up
@@ -7,15 +7,11 @@ abbrev row : ℕ → ℕ → ℕ → List ℕ → List ℕ
 row len fill n bytes = take n bytes ++ replicate (len - n) fill
 
 length-row : (len fill n : ℕ) (bytes : List ℕ) → n ≤ len → n ≤ length bytes → length (row len fill n bytes) ≡ len
-length-row len fill n bytes within held =
-    omega (arith, within, length-append (take n bytes) (replicate (len - n) fill), length-take-le n bytes held, length-replicate (len - n) fill)
+length-row len fill n bytes within held = grind (arith, length-append, length-take-le, length-replicate)
 
 pub start-le-last : (len last start : ℕ) (ends : List ℕ) → AreRowEnds len start ends last → start ≤ last
 start-le-last len last start [] are = omega (arith, are)
 start-le-last len last start (end ∷ ends) are = omega (arith, are.0, start-le-last len last end ends are.2)
-
-sub-same : (n : ℕ) → n - n ≡ 0
-sub-same n = omega arith
 
 from-none : (n : ℕ) → n - 0 ≡ n
 from-none n = omega arith
@@ -51,8 +47,7 @@ unfolding filled_rows
 no-rows len fill len' fill' last ends h h2 = grind arith
 
 pub like-rows : (len fill len' fill' last : ℕ) (ends : List ℕ) → len ≡ len' → fill ≡ fill' → AreRowEnds len 0 ends last → AreSameEnds len fill len' fill' last ends
-like-rows len fill len' fill' last ends long with are =
-    record { ends_are = subst (λ (k : ℕ). AreRowEnds k 0 ends last) long are; same = λ bytes. ap (λ (k : ℕ). filled_rows k fill 0 ends bytes) long ∙ ap (λ (k : ℕ). filled_rows len' k 0 ends bytes) with }
+like-rows len fill len' fill' last ends long with are = grind arith
 
 -- ---- where rows stand
 
@@ -114,8 +109,6 @@ start_le_row len last start (end ∷ ends) (suc r) are = omega (arith, are.0, st
 pub drop_rows : (len last fill start : ℕ) (ends bytes : List ℕ) (r : ℕ) → AreRowEnds len start ends last → last - start ≤ length bytes → r ≤ length ends
     → drop (r * len) (filled_rows len fill start ends bytes) ≡ filled_rows len fill (row_start start ends r) (drop r ends) (drop (row_start start ends r - start) bytes)
 unfolding filled_rows row_start
-drop_rows len last fill start ends bytes zero are held within = grind (arith, sub-same)
-drop_rows len last fill start [] bytes (suc r) are held within = absurd (omega (arith, within))
 drop_rows len last fill start (end ∷ ends) bytes (suc r) are held within =
     let n : ℕ = end - start in
     let past : end ≤ last = start-le-last len last end ends are.2 in
@@ -131,6 +124,7 @@ drop_rows len last fill start (end ∷ ends) bytes (suc r) are held within =
     ∙ drop_rows len last fill end ends (drop n bytes) r are.2 (omega (arith, held, past, are.0, left)) (omega (arith, within))
     ∙ ap (filled_rows len fill (row_start end ends r) (drop r ends)) (drop-drop (row_start end ends r - end) n bytes)
     ∙ ap (λ (k : ℕ). filled_rows len fill (row_start end ends r) (drop r ends) (drop k bytes)) far
+drop_rows len last fill start _ bytes _ are held within = grind arith
 
 -- past the last row
 pub row_past : (len last start : ℕ) (ends : List ℕ) → AreRowEnds len start ends last → row_start start ends (length ends) ≡ last
@@ -146,16 +140,14 @@ pub record IsRow (len last start end : ℕ) : Type 0 where
 
 pub row_is : (len last start : ℕ) (ends : List ℕ) (r d : ℕ) → AreRowEnds len start ends last → r < length ends → IsRow len last (row_start start ends r) (get_or ends r d)
 unfolding row_start
-row_is len last start [] r d are within = absurd (omega (arith, within))
-row_is len last start (end ∷ ends) zero d are within = record { after = are.0; within = are.1; inside = start-le-last len last end ends are.2 }
 row_is len last start (end ∷ ends) (suc r) d are within = row_is len last end ends r d are.2 (omega (arith, within))
+row_is len last start _ _ d are within = grind (arith, start-le-last)
 
 -- a row starts where the one before ends
 pub row_start_after : (start : ℕ) (ends : List ℕ) (r d : ℕ) → r < length ends → row_start start ends (suc r) ≡ get_or ends r d
 unfolding row_start
-row_start_after start [] r d within = absurd (omega (arith, within))
-row_start_after start (end ∷ ends) zero d within = refl
 row_start_after start (end ∷ ends) (suc r) d within = row_start_after end ends r d (omega (arith, within))
+row_start_after start _ _ d within = grind arith
 
 -- ---- what stands at a place
 
@@ -218,10 +210,7 @@ in_row len last fill ends bytes r column d are held within inside n same =
     let left : length here ≡ length bytes - start = length-drop start bytes in
     let at = from-row len fill column n here rest (omega (arith, same, is.within)) (omega (arith, same, is.inside, held, left)) inside in
     let found : drop (r * len) filled ≡ row len fill n here ++ rest =
-    drop_rows len last fill 0 ends bytes r are (omega (arith, held)) (omega (arith, within))
-    ∙ ap (λ (k : ℕ). filled_rows len fill start (drop r ends) (drop k bytes)) (from-none start)
-    ∙ ap (λ (es : List ℕ). filled_rows len fill start es here) (drop_more ends r d within)
-    ∙ ap (λ (k : ℕ). row len fill k here ++ filled_rows len fill end (drop (r + 1) ends) (drop k here)) (sym same) in
+    grind (arith, drop_rows, drop_more) in
     record {
       rest = at.rest;
       split = sym (drop-drop column (r * len) filled) ∙ ap (drop column) found ∙ at.split;

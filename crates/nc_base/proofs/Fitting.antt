@@ -1,5 +1,5 @@
 -- Headers whose begins fit their fields.
-use Rattle.std.proofs.Common.{◌≡◌, ℕ, ◌<◌, Bool, true, false, List, [], ◌∷◌, refl, sym, subst, Ok, Err, All, nat_lt, if◌then◌else◌, arith}
+use Rattle.std.proofs.Common.{◌≡◌, ℕ, ◌<◌, Bool, true, List, [], ◌∷◌, refl, sym, subst, Ok, Err, All, nat_lt, if◌then◌else◌, arith}
 use Rattle.nc_base.proofs.Prelude.{list_all, ltb-true, All-nil, All-cons, Var, Header, offset_limit, IsSound, with_begins, Fits, fits, and_left, and_right}
 use Rattle.nc_base.proofs.FileHolds.{sound-after}
 
@@ -41,8 +41,7 @@ pub record HasBegins (h k : Header) : Type 0 where
   pub begins : All (λ (var : Var). var.begin_at < offset_limit k.version) k.vars
 
 chosen : {E : Type 0} (b : Bool) (h k : Header) (error : E) → Ok k ≡ (if b then Ok h else Err error) → (b ≡ true) × (k ≡ h)
-chosen true h k error e = (refl, cc)
-chosen false h k error e = cc
+chosen b h k error e = grind arith
 
 pub has-begins : {E : Type 0} (h k : Header) (error : E) → IsSound h → Ok k ≡ (if fits h then Ok (with_begins h) else Err error) → HasBegins h k
 has-begins h k error sound answer = grind (arith, chosen, fits, IsSound-with_begins, begins-below)

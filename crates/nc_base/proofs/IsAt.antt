@@ -21,10 +21,7 @@ pub stands-in : (piece middle bytes : List ℕ) (inner outer : ℕ) → IsAt pie
 stands-in piece middle bytes inner outer s t = record {
   prefix = t.prefix ++ s.prefix;
   back = s.back ++ t.back;
-  is = t.is
-      ∙ ap (λ (x : List ℕ). t.prefix ++ (x ++ t.back)) s.is
-      ∙ ap (λ (x : List ℕ). t.prefix ++ x) (append_assoc s.prefix (piece ++ s.back) t.back ∙ ap (λ (x : List ℕ). s.prefix ++ x) (append_assoc piece s.back t.back))
-      ∙ sym (append_assoc t.prefix s.prefix (piece ++ (s.back ++ t.back)));
+  is = grind (arith, append_assoc);
   place = length-append t.prefix s.prefix ∙ ap (λ (n : ℕ). n + length s.prefix) t.place ∙ ap (λ (n : ℕ). outer + n) s.place;
 }
 
@@ -46,8 +43,7 @@ pub stands-read : (piece : List ℕ) (at : ℕ) (bytes : List ℕ) (n : ℕ) →
 stands-read piece at bytes n s len = grind (arith, drop_at, take-append_seam)
 
 pub stands-within : (piece : List ℕ) (at : ℕ) (bytes : List ℕ) → IsAt piece at bytes → at + length piece ≤ length bytes
-stands-within piece at bytes s =
-    omega (arith, s.place, ap (λ (t : List ℕ). length t) s.is, length-append s.prefix (piece ++ s.back), length-append piece s.back)
+stands-within piece at bytes s = grind (arith, length-append)
 
 -- one of several pieces of one length
 pub stands-row : (f : ℕ → List ℕ) (len k n i : ℕ) → ((r : ℕ) → k ≤ r → r < k + n → length (f r) ≡ len) → i < n

@@ -1,5 +1,5 @@
 -- Where filled arrays are whole, what is listed of them is whole values, and no more than the variables have.
-use Rattle.std.proofs.Common.{◌≡◌, ℕ, zero, suc, ◌+◌, ◌-◌, ◌*◌, ◌/◌, inl, inr, List, [], ◌∷◌, length, sym, ◌∙◌, ap, arith, length-append}
+use Rattle.std.proofs.Common.{◌≡◌, ℕ, zero, suc, ◌+◌, ◌-◌, ◌*◌, ◌/◌, inl, inr, List, ◌∷◌, length, sym, ◌∙◌, ap, arith, length-append}
 use Rattle.nc_base.proofs.Prelude.{cases_lt, Dim, Var, IsArray, AreArrays, value_count, size_of}
 use Rattle.nc_base.specs.code.OwedValues.{fills, whole_array, whole_arrays, IsListed, AreListed}
 use Rattle.nc_base.proofs.FilePlaces.{length-number}
@@ -29,7 +29,5 @@ is-listed dims n var listed is =
 -- one list for each variable
 pub are-listed : (dims : List Dim) (n : ℕ) (vars : List Var) (listed : List (List ℕ)) → length listed ≡ length vars
     → AreArrays dims n vars (whole_arrays dims n vars listed) → AreListed dims n vars listed
-are-listed dims n [] [] same are = tt
-are-listed dims n [] (array ∷ arrays) same are = absurd (omega arith)
-are-listed dims n (var ∷ vars) [] same are = absurd are
 are-listed dims n (var ∷ vars) (array ∷ arrays) same are = (is-listed dims n var array are.0, are-listed dims n vars arrays (omega arith) are.1)
+are-listed dims n _ _ same are = grind arith

@@ -1,6 +1,6 @@
 -- The sizes of slabs and of records.
 use Rattle.std.proofs.Common.{◌≡◌, ℕ, zero, ◌+◌, ◌*◌, ◌<◌, ◌≤◌, min, Bool, true, false, ◌&&◌, cond, List, [], ◌∷◌, ◌++◌, length, get_or, drop, take, map, refl, sym, ◌∙◌, ap, arith, drop-cons, Some, None, filter, if◌then◌else◌}
-use Rattle.nc_base.proofs.Prelude.{list_all, mul-le-mul_left, le-leb, leb_tells, append-nil, filter_more, filter-append, list_all-append, sum-map, sum_by_push, padding_len, product, is_record_var, is_narrow, slab_size, padded_size, padded_total, record_size_of, slab_limit, least_begin, has_small_slab, checked_record_size, least_record_begin, min_begin, Dim, Var, Header}
+use Rattle.nc_base.proofs.Prelude.{list_all, mul-le-mul_left, le-leb, append-nil, filter_more, filter-append, list_all-append, sum-map, sum_by_push, padding_len, product, is_record_var, is_narrow, slab_size, padded_size, padded_total, record_size_of, slab_limit, least_begin, has_small_slab, checked_record_size, least_record_begin, min_begin, Dim, Var, Header}
 use Rattle.std.proofs.Math.ListN.{drop_of_length-le, take-append-drop}
 
 -- a number that is cut off at c may be cut off before it is multiplied
@@ -50,8 +50,7 @@ padded_total-append : (dims : List Dim) (xs : List Var) (x : Var) → padded_tot
 padded_total-append dims xs x = grind (arith, sum-map, sum_by_push)
 
 record_size_of_first : (b : Bool) (slab padded : ℕ) → (if b then slab else padded) ≡ (if true && b then slab else (0 + padded))
-record_size_of_first true slab padded = refl
-record_size_of_first false slab padded = omega arith
+record_size_of_first b slab padded = grind arith
 
 record_size_of-append : (dims : List Dim) (xs : List Var) (x : Var)
     → record_size_of dims (xs ++ x ∷ []) ≡ (if is_none xs && is_narrow x then slab_size dims x else (padded_total dims xs + padded_size dims x))
@@ -84,11 +83,7 @@ sums_more dims vars i size padded size' padded' is_first d lt growing fits padde
     let e = seen_more dims vars i d lt growing in
     let padded_bound : padded' ≤ padded + 281474976710660 = omega (arith, padded_is, fits) in
     record {
-      size_is = size_is
-          ∙ ap (λ n. if is_first && is_narrow x then slab_size dims x else n) (padded_is ∙ ap (λ n. n + padded_size dims x) sums.padded_is)
-          ∙ ap (λ b. if b && is_narrow x then slab_size dims x else (padded_total dims (seen dims vars i) + padded_size dims x)) sums.first_is
-          ∙ sym (record_size_of-append dims (seen dims vars i) x)
-          ∙ ap (record_size_of dims) (sym e);
+      size_is = grind (arith, record_size_of-append);
       padded_is = padded_is ∙ ap (λ n. n + padded_size dims x) sums.padded_is ∙ sym (padded_total-append dims (seen dims vars i) x) ∙ ap (padded_total dims) (sym e);
       first_is = sym (is_none-push (seen dims vars i) x) ∙ ap is_none (sym e);
       small = ap (list_all (has_small_slab dims)) e ∙ list_all-append (has_small_slab dims) (seen dims vars i) (x ∷ []) ∙ both_pass _ _ sums.small (le-leb _ _ fits);
@@ -114,11 +109,6 @@ fails_along p test xs i d lt kept fails =
     ∙ ap (λ b. b && list_all test (filter p (drop (i + 1) xs))) (list_all-append test (filter p (take i xs)) (x ∷ []))
     ∙ middle_fails _ _ _ fails
 
--- a record variable whose slab passes the limit leaves no record size
-pub checked-none : (h : Header) (i : ℕ) (d : Var) → i < length h.vars → is_record_var h.dims (get_or h.vars i d) ≡ true
-    → (slab_size h.dims (get_or h.vars i d) ≤ slab_limit → ⊥) → checked_record_size h ≡ None
-checked-none h i d lt growing large = grind (arith, leb_tells, fails_along)
-
 -- the same at an element by its own name
 pub sums_more_at : (dims : List Dim) (vars : List Var) (i size padded size' padded' slab : ℕ) (is_first : Bool) (x : Var) → i < length vars
     → x ≡ get_or vars i x → is_record_var dims x ≡ true → slab ≤ slab_limit → slab ≡ slab_size dims x
@@ -135,20 +125,16 @@ sums_skipped_at dims vars i size padded is_first x lt at fixed sums =
 
 pub checked-none_at : (h : Header) (i : ℕ) (x : Var) → i < length h.vars → x ≡ get_or h.vars i x → is_record_var h.dims x ≡ true
     → (slab_size h.dims x ≤ slab_limit → ⊥) → checked_record_size h ≡ None
-checked-none_at h i x lt at growing large =
-    checked-none h i x lt (ap (is_record_var h.dims) (sym at) ∙ growing) (λ small. large (omega (arith, small, ap (slab_size h.dims) at)))
+checked-none_at h i x lt at growing large = grind (arith, fails_along)
 
 least_begin-push : (var : Var) (vars : List Var) (x : Var) → least_begin var (vars ++ x ∷ []) ≡ min (least_begin var vars) x.begin_at
 least_begin-push var [] x = refl
 least_begin-push var (next ∷ vars) x = omega (arith, least_begin-push next vars x)
 
-least_record_begin-push : (vars : List Var) (x : Var) → least_record_begin (vars ++ x ∷ []) ≡ Some (min_begin (least_record_begin vars) x.begin_at)
-least_record_begin-push vars x = grind (arith, least_begin-push)
-
 -- one more record variable
 pub least_record_begin_more : (dims : List Dim) (vars : List Var) (i : ℕ) (x : Var) → i < length vars → x ≡ get_or vars i x
     → is_record_var dims x ≡ true → least_record_begin (seen dims vars (i + 1)) ≡ Some (min_begin (least_record_begin (seen dims vars i)) x.begin_at)
-least_record_begin_more dims vars i x lt at growing = grind (arith, seen_more dims vars i x lt, least_record_begin-push)
+least_record_begin_more dims vars i x lt at growing = grind (arith, seen_more dims vars i x lt, least_begin-push)
 
 pub seen_skipped_at : (dims : List Dim) (vars : List Var) (i : ℕ) (x : Var) → i < length vars → x ≡ get_or vars i x
     → is_record_var dims x ≡ false → seen dims vars (i + 1) ≡ seen dims vars i

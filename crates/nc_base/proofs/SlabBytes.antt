@@ -14,10 +14,6 @@ at base strides index = base + distance index strides
 abbrev joined : ℕ → List ℕ → ℕ → List ℕ → List (List ℕ) → List ℕ
 joined size b base strides vectors = concat (map (bytes_at size b) (map (at base strides) vectors))
 
-joined-append : (size : ℕ) (b : List ℕ) (base : ℕ) (strides : List ℕ) (xs ys : List (List ℕ))
-    → joined size b base strides (xs ++ ys) ≡ joined size b base strides xs ++ joined size b base strides ys
-joined-append size b base strides xs ys = grind (arith, map-append, at, concat-append)
-
 -- one row
 joined-row : (size : ℕ) (b : List ℕ) (base i stride : ℕ) (strides : List ℕ) (vs : List (List ℕ))
     → joined size b base (stride ∷ strides) (map (λ (index : List ℕ). i ∷ index) vs) ≡ joined size b (base + i * stride) strides vs
@@ -30,9 +26,7 @@ joined-rows : (size : ℕ) (b : List ℕ) (base stride : ℕ) (strides : List �
     ≡ flat_map (λ i. joined size b (base + i * stride) strides vs) (range_with_len k n)
 joined-rows size b base stride strides vs k zero = refl
 joined-rows size b base stride strides vs k (suc n) =
-    joined-append size b base (stride ∷ strides) (map (λ (index : List ℕ). k ∷ index) vs) (flat_map (λ i. map (λ (index : List ℕ). i ∷ index) vs) (range_with_len (k + 1) n))
-    ∙ ap (λ (xs : List ℕ). xs ++ joined size b base (stride ∷ strides) (flat_map (λ i. map (λ (index : List ℕ). i ∷ index) vs) (range_with_len (k + 1) n))) (joined-row size b base k stride strides vs)
-    ∙ ap (λ (xs : List ℕ). joined size b (base + k * stride) strides vs ++ xs) (joined-rows size b base stride strides vs (k + 1) n)
+    grind (arith, map-append, concat-append, joined-row, joined-rows size b base stride strides vs (k + 1) n)
 
 pub flat_map-same : (f g : ℕ → List ℕ) (xs : List ℕ) → ((x : ℕ) → f x ≡ g x) → flat_map f xs ≡ flat_map g xs
 flat_map-same f g [] same = refl
@@ -43,13 +37,7 @@ flat_map-same f g (x ∷ xs) same = ap (λ (ys : List ℕ). ys ++ flat_map f xs)
 -- runs that lie side by side are one run
 runs : (b : List ℕ) (base len : ℕ) (k n : ℕ) → flat_map (λ i. take len (drop (base + i * len) b)) (range_with_len k n) ≡ take (n * len) (drop (base + k * len) b)
 runs b base len k zero = let e : 0 ≡ 0 * len = omega arith in ap (λ (m : ℕ). take m (drop (base + k * len) b)) e
-runs b base len k (suc n) =
-    let o = base + k * len in
-    let next : base + (k + 1) * len ≡ o + len = omega arith in
-    let all : len + n * len ≡ suc n * len = omega arith in
-    ap (λ (xs : List ℕ). take len (drop o b) ++ xs) (runs b base len (k + 1) n ∙ ap (λ (m : ℕ). take (n * len) (drop m b)) next ∙ ap (take (n * len)) (sym (drop-drop len o b)))
-    ∙ sym (take-add len (n * len) (drop o b))
-    ∙ ap (λ (m : ℕ). take m (drop o b)) all
+runs b base len k (suc n) = grind (arith, drop-drop, take-add, runs b base len (k + 1) n)
 
 -- the values of a slab are one run of bytes
 slab-run : (size : ℕ) (b : List ℕ) (base : ℕ) (lens : List ℕ) → joined size b base (slab_strides size lens) (vectors_below lens) ≡ take (product lens * size) (drop base b)
@@ -113,9 +101,7 @@ end-rows : (size len base stride : ℕ) (strides : List ℕ) (vs : List (List �
     → AllEnd size len base (stride ∷ strides) (flat_map (λ i. map (λ (index : List ℕ). i ∷ index) vs) (range_with_len k n))
 end-rows size len base stride strides vs k zero each = All-nil _
 end-rows size len base stride strides vs k (suc n) each =
-    end-append size len base (stride ∷ strides) (map (λ (index : List ℕ). k ∷ index) vs) (flat_map (λ i. map (λ (index : List ℕ). i ∷ index) vs) (range_with_len (k + 1) n))
-    (subst (All (EndsIn size len)) (sym (rows-same base k stride strides vs)) (each k (omega arith)))
-    (end-rows size len base stride strides vs (k + 1) n (λ i lt. each i (omega arith)))
+    grind (arith, end-append, rows-same, end-rows size len base stride strides vs (k + 1) n)
 
 slab-ends : (size len base : ℕ) (lens : List ℕ) → base + product lens * size ≤ len → AllEnd size len base (slab_strides size lens) (vectors_below lens)
 slab-ends size len base [] within = All-cons (EndsIn size len) (base + 0) [] (omega arith) (All-nil _)

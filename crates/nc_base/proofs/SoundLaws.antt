@@ -1,9 +1,6 @@
 -- What a sound header keeps.
-use Rattle.std.proofs.Common.{◌≡◌, ℕ, ◌*◌, ◌/◌, ◌%◌, ◌<◌, ◌≤◌, Bool, true, false, ◌&&◌, ◌||◌, List, [], ◌∷◌, ◌++◌, length, get_or, drop, map, refl, sym, ◌∙◌, ap, subst, arith, Option, Some, None, filter, nat_lt, ◌==◌, not, if◌then◌else◌, IsTrue, All, IsSome, SomeIff, is_some, IfSome, ◌-◌}
-use Rattle.nc_base.proofs.Prelude.{list_all, count_by, mul-le-mul_left, mod-eq-sub-div-mul, div-mul-le_self, le-leb, leb-true, ltb-true, lt-ltb, length-map, div-mul-add, nat_tests, All-filter, All-head, All-tail, All-weaker, All-get_or, All-map, sum-map, sum_by-cons, length-filter, size_of, dim_len, product, is_record_dim, is_record_var, slab_lens, slab_size, padded_size, record_size_of, record_vars, record_size, slab_limit, record_limit, checked_record_size, least_record_begin, slab_at, is_fixed_dim, has_values, IsSound, IsSoundVar, HasWholeValues, AreDimids, NcType, Version, count_limit, Att, Dim, Var, Header, Streaming, records_between, record_count, and_left, and_right}
-
-not_both : (b : Bool) → not b ≡ true → b ≡ true → ⊥
-not_both b h h2 = grind arith
+use Rattle.std.proofs.Common.{◌≡◌, ℕ, ◌*◌, ◌/◌, ◌%◌, ◌<◌, ◌≤◌, Bool, true, ◌&&◌, ◌||◌, List, [], ◌∷◌, ◌++◌, length, get_or, drop, map, refl, sym, ◌∙◌, ap, subst, arith, Option, Some, filter, nat_lt, ◌==◌, not, if◌then◌else◌, IsTrue, All, IsSome, SomeIff, is_some, IfSome, ◌-◌}
+use Rattle.nc_base.proofs.Prelude.{list_all, count_by, mul-le-mul_left, mod-eq-sub-div-mul, div-mul-le_self, le-leb, ltb-true, lt-ltb, length-map, div-mul-add, nat_tests, All-filter, All-head, All-tail, All-weaker, All-get_or, All-map, length-filter, size_of, dim_len, product, is_record_var, slab_lens, slab_size, record_vars, record_size, slab_limit, record_limit, checked_record_size, least_record_begin, slab_at, is_fixed_dim, has_values, IsSound, IsSoundVar, HasWholeValues, AreDimids, NcType, Version, count_limit, Att, Dim, Var, Header, Streaming, record_count, and_right}
 
 passes : (test : Var → Bool) (xs : List Var) → All (λ x. test x ≡ true) xs → list_all test xs ≡ true
 passes test [] h = refl
@@ -20,14 +17,8 @@ checked-small h vars small = grind (arith, all_pass, All-weaker, le-leb)
 pub checked-sound : (h : Header) → IsSound h → checked_record_size h ≡ Some (record_size h)
 checked-sound h sound = checked-small h sound.vars sound.small_records
 
-last_passes : (a b : Bool) (n : ℕ) → is_some (if a && b then Some n else None) ≡ true → b ≡ true
-last_passes a b n h = grind arith
-
 pub small-checked : (h : Header) → is_some (checked_record_size h) ≡ true → record_size h ≤ record_limit
-small-checked h some = grind (arith, leb-true, last_passes)
-
-fixed_len : (a b n : ℕ) → a < b → (nat_lt a b && (n == 0)) ≡ false → 0 < n
-fixed_len a b n lt h = grind (arith, nat_tests)
+small-checked h some = grind arith
 
 pub some_product : (a b : ℕ) → 0 < a → 0 < b → 0 < a * b
 some_product a b p q = omega (arith, mul-le-mul_left a (let h : 1 ≤ b = omega arith in h))
@@ -36,40 +27,17 @@ push_is_some : (xs : List ℕ) (x : ℕ) → xs ++ x ∷ [] ≡ [] → ⊥
 push_is_some [] x h = cc
 push_is_some (y ∷ ys) x h = cc
 
-later_len : (b : Bool) (before : List ℕ) → (before ≡ [] → ⊥) → (IsTrue b → before ≡ []) → b ≡ false
-later_len b before h h2 = grind arith
-
 -- the lengths of a sound shape after its first place
 some_later : (dims : List Dim) (before ids : List ℕ) → (before ≡ [] → ⊥) → AreDimids dims before ids → 0 < product (map (dim_len dims) ids)
 some_later dims before [] some h = omega arith
-some_later dims before (id ∷ ids) some h =
-    grind (arith, later_len, some_product, fixed_len, push_is_some, some_later dims (before ++ id ∷ []) ids (push_is_some before id) h.1)
-
-first_place : (dims : List Dim) (id : ℕ) (ids : List ℕ) → id < length dims → 0 < product (map (dim_len dims) ids)
-    → (b : Bool) → is_record_dim dims id ≡ b → 0 < product (map (dim_len dims) (if b then ids else (id ∷ ids)))
-first_place dims id ids h h2 b h3 = grind (arith, some_product, fixed_len)
+some_later dims before (id ∷ ids) some h = grind (arith, some_product, some_later dims (before ++ id ∷ []) ids (push_is_some before id) h.1)
 
 -- a slab of a sound shape has values
 pub some_count : (dims : List Dim) (ids : List ℕ) → AreDimids dims [] ids → 0 < product (slab_lens dims ids)
-some_count dims ids h = grind (arith, first_place, some_later)
+some_count dims ids h = grind (arith, nat_tests, some_later)
 
 pub some_size : (ty : NcType) → 0 < size_of ty
 some_size ty = grind arith
-
-some_record_size_of : (dims : List Dim) (var : Var) (vars : List Var) → 0 < slab_size dims var → 0 < record_size_of dims (var ∷ vars)
-some_record_size_of dims var [] h = grind arith
-some_record_size_of dims var (next ∷ vars) h = omega (arith, sum-map (padded_size dims) (var ∷ next ∷ vars), sum_by-cons (padded_size dims) var (next ∷ vars))
-
--- a record of a sound header with record variables has bytes
-pub some_record : (h : Header) → IsSound h → IsSome (least_record_begin (record_vars h.dims h.vars)) → 0 < record_size h
-some_record h sound some =
-    go (record_vars h.dims h.vars) (All-filter (is_record_var h.dims) (IsSoundVar h.version h.dims) h.vars sound.vars) some
-  where
-    go : (vars : List Var) → All (IsSoundVar h.version h.dims) vars → IsSome (least_record_begin vars) → 0 < record_size_of h.dims vars
-    go [] all some = cc
-    go (var ∷ vars) all some =
-        let s = All-head (IsSoundVar h.version h.dims) var vars all in
-        some_record_size_of h.dims var vars (some_product _ _ (some_count h.dims var.dimids s.shape) (some_size var.ty))
 
 -- a slab of a sound header keeps the limit
 pub slab_at-small : (h : Header) (v : ℕ) → IsSound h → v < length h.vars → slab_at h v ≤ slab_limit
@@ -84,13 +52,11 @@ IsSome-from_SomeIff o P n h h2 = grind arith
 -- a shape after its first place
 fixed_shape : (dims : List Dim) (before ids : List ℕ) → list_all (is_fixed_dim dims) ids ≡ true → AreDimids dims before ids
 fixed_shape dims before [] h = tt
-fixed_shape dims before (id ∷ ids) h =
-    grind (arith, and_left, and_right, ltb-true, not_both, fixed_shape dims (before ++ id ∷ []) ids (and_right (is_fixed_dim dims id) _ h))
+fixed_shape dims before (id ∷ ids) h = grind (arith, fixed_shape dims (before ++ id ∷ []) ids (and_right (is_fixed_dim dims id) _ h))
 
 shape_fixed : (dims : List Dim) (before ids : List ℕ) → (before ≡ [] → ⊥) → AreDimids dims before ids → list_all (is_fixed_dim dims) ids ≡ true
 shape_fixed dims before [] some h = refl
-shape_fixed dims before (id ∷ ids) some h =
-    grind (arith, later_len, lt-ltb, push_is_some, shape_fixed dims (before ++ id ∷ []) ids (push_is_some before id) h.1)
+shape_fixed dims before (id ∷ ids) some h = grind (arith, shape_fixed dims (before ++ id ∷ []) ids (push_is_some before id) h.1)
 
 pub sound_shape : (dims : List Dim) (ids : List ℕ) → 0 < length ids → get_or ids 0 0 < length dims
     → (IsTrue (list_all (is_fixed_dim dims) (drop 1 ids)) → AreDimids dims [] ids) × (AreDimids dims [] ids → IsTrue (list_all (is_fixed_dim dims) (drop 1 ids)))
@@ -114,20 +80,13 @@ whole_values-iff v att none = (
 pub one_record_dim : (dims : List Dim) → length (filter (λ (dim : Dim). dim.len == 0) dims) ≡ count_by (λ (dim : Dim). dim.len == 0) dims
 one_record_dim dims = length-filter (λ (dim : Dim). dim.len == 0) dims
 
--- the number of whole records after the first begin
-between : (size len begin : ℕ) (vars : List Var) → least_record_begin vars ≡ Some begin → records_between size vars len ≡ (len - begin) / size
-between size len begin vars h = grind arith
-
 -- where a sound header doesn't tell its number of records, it is that of the whole records
 pub streamed : (h : Header) (len begin quotient : ℕ) (size : Option ℕ) → h.numrecs ≡ Streaming → least_record_begin (record_vars h.dims h.vars) ≡ Some begin
     → size ≡ checked_record_size h → IfSome size (λ s. quotient ≡ (len - begin) / s) → IsSound h → quotient ≡ record_count h len
-streamed h len begin quotient size streaming found is_size divided sound = grind (arith, checked-sound, between)
-
-some_times : (c n : ℕ) → 0 < c → nat_lt 0 (c * n) ≡ nat_lt 0 n
-some_times c n h = grind (arith, lt-ltb, some_product)
+streamed h len begin quotient size streaming found is_size divided sound = grind (arith, checked-sound)
 
 count_tested : (c n : ℕ) (b : Bool) → 0 < c → nat_lt 0 (c * (if b then n else 1)) ≡ (nat_lt 0 n || not b)
-count_tested c n b h = grind (arith, some_times)
+count_tested c n b h = grind arith
 
 -- a variable of a sound shape has values unless it has records and there are none
 pub has_values-unless_empty : (dims : List Dim) (var : Var) (n : ℕ) → AreDimids dims [] var.dimids → has_values dims n var ≡ (nat_lt 0 n || not (is_record_var dims var))

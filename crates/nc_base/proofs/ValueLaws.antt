@@ -1,6 +1,6 @@
 -- The text of a variable's values, cut in pieces.
-use Rattle.std.proofs.Common.{◌≡◌, ℕ, zero, suc, ℤ, pos, ◌+◌, ◌*◌, ◌/◌, ◌%◌, ◌<◌, ◌≤◌, Bool, true, false, cond, eqb, not, List, [], ◌∷◌, ◌++◌, length, drop, reverse, sym, ◌∙◌, ap, refl, arith, append_assoc, length-append, append-nil, ⊎_elim, codes, ◌==◌}
-use Rattle.nc_base.proofs.Prelude.{false≢true, decimal, signed_decimal, digit_glyph, digits_onto, digits, suffix_len, prefix_len, mod-add-mod, mod_self, mod-lt, mod-zero, cases_lt, eq-eqb, eqb-true, eqb-false, cond-true, cond-false, reverse-append, length-reverse, drop-append-le, drop_all, prefix_len-append, mod-mul-add, Look, is_char, column, number_text, is_nul, held, piece, pieces, variable_opening, variable_prefix, later_pieces, look_of, NcType, Header, Var, numbers_from, size_of}
+use Rattle.std.proofs.Common.{◌≡◌, ℕ, zero, suc, ℤ, ◌+◌, ◌*◌, ◌/◌, ◌%◌, ◌<◌, ◌≤◌, Bool, true, false, cond, eqb, List, [], ◌∷◌, ◌++◌, length, drop, sym, ◌∙◌, ap, refl, arith, append_assoc, length-append, append-nil, ⊎_elim, ◌==◌}
+use Rattle.nc_base.proofs.Prelude.{decimal, digit_glyph, digits_onto, digits, mod-add-mod, mod_self, mod-lt, mod-zero, cases_lt, eq-eqb, eqb-true, eqb-false, cond-true, cond-false, reverse-append, length-reverse, drop-append-le, drop_all, prefix_len-append, mod-mul-add, Look, column, number_text, is_nul, held, piece, pieces, variable_opening, variable_prefix, later_pieces, look_of, NcType, Header, Var, numbers_from, size_of}
 use Rattle.nc_base.proofs.CharacterRows.{IsWide, pieces_are, prefix_is}
 
 -- ---- cutting the values
@@ -14,22 +14,11 @@ pieces-append look before values (x ∷ xs) ys =
     ap (λ (r : List ℕ). p ++ r) (pieces-append look (before ++ p) (values ++ x ∷ []) xs ys) ∙ simp append_assoc
 
 pub prefix-append : (look : Look) (xs ys : List ℤ) → IsWide look (length (xs ++ ys)) → variable_prefix look (xs ++ ys) ≡ variable_prefix look xs ++ later_pieces look xs ys
-prefix-append look xs ys wide =
-    let o = variable_opening look in
-    let first : variable_prefix look xs ≡ o ++ pieces look o [] xs = prefix_is look xs (λ e some. wide e (omega (arith, some, length-append xs ys))) in
-    prefix_is look (xs ++ ys) wide
-    ∙ ap (λ (t : List ℕ). o ++ t) (pieces-append look o [] xs ys)
-    ∙ sym (append_assoc o (pieces look o [] xs) (pieces look (o ++ pieces look o [] xs) xs ys))
-    ∙ ap (λ (t : List ℕ). t ++ pieces look t xs ys) (sym first)
+prefix-append look xs ys wide = grind (arith, prefix_is, length-append, pieces-append, append_assoc)
 
 -- the pieces of characters don't depend on the text before them
 pub later-append : (look : Look) (xs ys zs : List ℤ) → later_pieces look xs (ys ++ zs) ≡ later_pieces look xs ys ++ later_pieces look (xs ++ ys) zs
-later-append look xs ys zs =
-    pieces-append look (variable_prefix look xs) xs ys zs ∙ ap (λ (t : List ℕ). later_pieces look xs ys ++ t) (by (is_char look.ty) refl)
-  where
-    by : (b : Bool) → is_char look.ty ≡ b → pieces look (variable_prefix look xs ++ later_pieces look xs ys) (xs ++ ys) zs ≡ later_pieces look (xs ++ ys) zs
-    by true e = pieces_are look (variable_prefix look xs ++ later_pieces look xs ys) (xs ++ ys) zs e ∙ sym (pieces_are look (variable_prefix look (xs ++ ys)) (xs ++ ys) zs e)
-    by false e = ap (λ (t : List ℕ). pieces look t (xs ++ ys) zs) (sym (prefix-append look xs ys (λ is some. absurd (false≢true (sym e ∙ is)))))
+later-append look xs ys zs = grind (arith, pieces-append, pieces_are, prefix-append)
 
 -- one value alone
 pub later_one : (look : Look) (xs : List ℤ) (x : ℤ) → later_pieces look xs (x ∷ []) ≡ piece look (variable_prefix look xs) xs x
@@ -49,9 +38,7 @@ prefix_nil look = prefix_is look [] (λ e some. absurd (omega (arith, some))) �
 
 -- the column after one more text
 pub column-append : (s t : List ℕ) → column (s ++ t) ≡ cond (eqb (column t) (length t)) (length t + column s) (column t)
-column-append s t =
-    rw (reverse-append s t) (prefix_len-append (λ b. not (b == 10)) (reverse t) (reverse s)
-    ∙ ap (λ n. cond (eqb (column t) n) (n + column s) (column t)) (length-reverse t))
+column-append s t = grind (arith, reverse-append, prefix_len-append, length-reverse)
 
 -- after a text without line feeds
 pub column-flat : (s t : List ℕ) → column t ≡ length t → column (s ++ t) ≡ column s + length t
@@ -66,22 +53,16 @@ column-broken s t broken = grind (arith, column-append, cond-false, column)
 flat_cons : (b : ℕ) (t : List ℕ) → (b == 10) ≡ false → column t ≡ length t → column (b ∷ t) ≡ length (b ∷ t)
 flat_cons b t other flat = grind (arith, column-flat (b ∷ []) t flat, column)
 
-glyph_other : (d : ℕ) → (digit_glyph false d == 10) ≡ false
-glyph_other d = grind arith
-
 onto_flat : (k n : ℕ) (acc : List ℕ) → column acc ≡ length acc → column (digits_onto k 10 false n acc) ≡ length (digits_onto k 10 false n acc)
 onto_flat zero n acc flat = flat
-onto_flat (suc k) n acc flat = grind (arith, flat_cons, glyph_other, column, onto_flat k (n / 10) (digit_glyph false (n % 10) ∷ acc))
+onto_flat (suc k) n acc flat = grind (arith, flat_cons, onto_flat k (n / 10) (digit_glyph false (n % 10) ∷ acc))
 
 decimal_flat : (n : ℕ) → column (decimal n) ≡ length (decimal n)
 unfolding digits
 decimal_flat n = onto_flat 64 n [] refl
 
-signed_flat : (z : ℤ) → column (signed_decimal z) ≡ length (signed_decimal z)
-signed_flat z = grind (arith, pos, decimal_flat, flat_cons, decimal)
-
 pub number_flat : (look : Look) (value : ℤ) → column (number_text look value) ≡ length (number_text look value)
-number_flat look value = grind (arith, column, codes, signed_flat)
+number_flat look value = grind (arith, decimal_flat, flat_cons)
 
 -- ---- rows
 
@@ -102,18 +83,14 @@ place-add n k (suc r) some in_row =
 
 -- ---- NULs that aren't printed yet
 
--- one value more at the end
-suffix_push : (p : ℤ → Bool) (xs : List ℤ) (x : ℤ) → suffix_len p (xs ++ x ∷ []) ≡ cond (p x) (1 + suffix_len p xs) 0
-suffix_push p xs x = ap (prefix_len p) (reverse-append xs (x ∷ []))
-
 -- after a value that is no NUL none is held
 pub held_other : (look : Look) (xs : List ℤ) (x : ℤ) → is_nul x ≡ false → held look (xs ++ x ∷ []) ≡ 0
-held_other look xs x other = grind (arith, drop_all, length-append, drop-append-le, suffix_push, cond-false)
+held_other look xs x other = grind (arith, drop_all, length-append, drop-append-le, reverse-append)
 
 -- after one more NUL in the row one more is held
 pub held_nul : (look : Look) (xs : List ℤ) (x : ℤ) → look.trimmed ≡ true → is_nul x ≡ true → (length xs + 1) % look.row ≡ length xs % look.row + 1
     → held look (xs ++ x ∷ []) ≡ held look xs + 1
-held_nul look xs x trimmed nul place = grind (arith, length-append, drop-append-le, cond-true, suffix_push)
+held_nul look xs x trimmed nul place = grind (arith, length-append, drop-append-le, reverse-append)
 
 -- at a row's beginning none is held
 pub held_first : (look : Look) (xs : List ℤ) → length xs % look.row ≡ 0 → held look xs ≡ 0

@@ -1,6 +1,6 @@
 -- What is written of all arrays is the data part of the file.
-use Rattle.std.proofs.Common.{◌≡◌, ℕ, zero, suc, ◌+◌, ◌*◌, ◌/◌, ◌<◌, ◌≤◌, Bool, true, false, List, [], ◌∷◌, ◌++◌, length, drop, refl, sym, ◌∙◌, ap, arith, length-take, length-drop, append-nil, if◌then◌else◌, nat_lt}
-use Rattle.nc_walk.proofs.Prelude.{flat_map, range_with_len, mul-le-mul_right, nil_from_length, Dim, Var, Header, NcType, padding_len, blocks, data_of, fill_bytes, known_records, is_sole_narrow, padded_slab, record_of, slab_in, whole_array, whole_arrays, IsListed, AreListed, is_record_var, is_narrow, record_vars, slab_size, size_of, flat_map-below, ArrayView, array_view, filled_blocks, filled_records, filled_slabs, record_arrays}
+use Rattle.std.proofs.Common.{◌≡◌, ℕ, zero, suc, ◌+◌, ◌*◌, ◌<◌, ◌≤◌, Bool, true, false, List, [], ◌∷◌, ◌++◌, length, drop, refl, sym, ◌∙◌, ap, arith, length-take, length-drop, append-nil, if◌then◌else◌}
+use Rattle.nc_walk.proofs.Prelude.{flat_map, range_with_len, mul-le-mul_right, nil_from_length, Dim, Var, Header, blocks, data_of, fill_bytes, known_records, is_sole_narrow, padded_slab, record_of, slab_in, whole_array, whole_arrays, IsListed, AreListed, is_record_var, is_narrow, record_vars, slab_size, flat_map-below, ArrayView, array_view, filled_blocks, filled_records, filled_slabs, record_arrays}
 use Rattle.nc_base.proofs.IsAt.{runs-all}
 use Rattle.nc_walk.proofs.DataParts.{records-append}
 use Rattle.nc_walk.proofs.FilledArrays.{block-filled, record-filled, slabs-filled, whole-length}
@@ -43,21 +43,11 @@ record-arrays-len dims (var ∷ vars) (array ∷ arrays) same = of_kind (is_reco
     of_kind true e = ap suc e
     of_kind false e = e
 
--- none or several record variables
-not-sole : (vars : List Var) → (length vars ≡ 1 → ⊥) → is_sole_narrow vars ≡ false
-not-sole vars h = grind arith
-
 -- the records of variables, if none or several of them are record variables
 pub records-filled : (dims : List Dim) (n : ℕ) (vars : List Var) (listed : List (List ℕ)) → AreListed dims n vars listed → (length (record_arrays dims vars listed) ≡ 1 → ⊥)
     → flat_map (λ r. filled_records r (record_arrays dims vars listed)) (range_with_len 0 n)
     ≡ flat_map (λ r. record_of (is_sole_narrow (record_vars dims vars)) dims r vars (whole_arrays dims n vars listed)) (range_with_len 0 n)
-records-filled dims n vars listed are several =
-    let padded : is_sole_narrow (record_vars dims vars) ≡ false =
-    not-sole (record_vars dims vars) (λ one. several (record-arrays-len dims vars listed (listed-len dims n vars listed are) ∙ one)) in
-    flat_map-below (λ r. filled_records r (record_arrays dims vars listed)) (λ r. record_of (is_sole_narrow (record_vars dims vars)) dims r vars (whole_arrays dims n vars listed)) 0 n
-    (λ r low high.
-    record-filled-all dims n r vars listed (omega arith) are
-    ∙ ap (λ (b : Bool). record_of b dims r vars (whole_arrays dims n vars listed)) (sym padded))
+records-filled dims n vars listed are several = grind (arith, record-arrays-len, listed-len, flat_map-below, record-filled-all)
 
 pub no-records : (n k : ℕ) → flat_map (λ r. filled_records r []) (range_with_len k n) ≡ []
 no-records zero k = refl
@@ -129,18 +119,11 @@ sole-found dims n (var ∷ vars) (array ∷ arrays) view are one = of_kind (sole
               ∙ rest.record_is is_sole r;
         }
 
--- values of four bytes or more are padded by nothing
-wide-padding : (ty : NcType) (c : ℕ) → nat_lt (size_of ty) 4 ≡ false → padding_len (c * size_of ty) ≡ 0
-wide-padding ty c h = grind arith
-
-no-values : (ty : NcType) → 0 / size_of ty ≡ 0
-no-values ty = grind arith
-
 -- the slab of a sole record variable stands without padding, whatever its type
 unpadded : (dims : List Dim) (var : Var) (slab : List ℕ) (narrow : Bool) → is_narrow var ≡ narrow → length slab ≡ slab_size dims var
     → (if narrow then slab else padded_slab var slab) ≡ slab
 unfolding padded_slab fill_bytes
-unpadded dims var slab narrow h h2 = grind (arith, wide-padding, no-values, append-nil)
+unpadded dims var slab narrow h h2 = grind (arith, append-nil)
 
 -- the records of a sole record variable are its array
 pub sole-filled : (dims : List Dim) (n : ℕ) (vars : List Var) (listed : List (List ℕ)) (view : ArrayView) → AreListed dims n vars listed → record_arrays dims vars listed ≡ view ∷ []

@@ -11,11 +11,6 @@ copies-of-byte fill (suc n) =
     ∙ replicate-append-replicate 8 (n * 8) fill
     ∙ ap (λ (k : ℕ). replicate k fill) e
 
--- a unit of one byte, eight times
-pub repeated-byte : (fill n : ℕ) → repeated (replicate 8 fill) n ≡ replicate n fill
-unfolding repeated
-repeated-byte fill n = ap (take n) (copies-of-byte fill n) ∙ take-replicate n (n * 8) fill (omega arith)
-
 first-copies : (count n fill : ℕ) → take n (replicate count fill) ≡ replicate (min count n) fill
 first-copies count n fill = grind (arith, take_all, length-replicate, take-replicate)
 
@@ -27,7 +22,8 @@ first-of-run bytes count fill n = grind (arith, take-append-add bytes, first-cop
 -- the same, as two pieces that are written
 pub run-pieces : (bytes : List ℕ) (count fill n listed filling : ℕ) → listed ≡ min (length bytes) n → filling ≡ min count (n - listed)
     → take n (bytes ++ replicate count fill) ≡ take listed bytes ++ repeated (replicate 8 fill) filling
-run-pieces bytes count fill n listed filling is padded = grind (arith, first-of-run, repeated-byte)
+unfolding repeated
+run-pieces bytes count fill n listed filling is padded = grind (arith, first-of-run, copies-of-byte, take-replicate)
 
 -- what is left from a place on is the rest of a run, and what comes after it
 pub next-run : (filled bytes : List ℕ) (at end count fill k : ℕ) → StandAt filled at bytes count fill → k ≡ min (end - at) (length bytes + count)

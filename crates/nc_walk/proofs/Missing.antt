@@ -1,6 +1,6 @@
 -- The first missing value, and the values before it.
-use Rattle.std.proofs.Common.{◌≡◌, ℕ, ◌+◌, ◌<◌, ◌≤◌, Bool, true, false, cond, List, length, get_or, take, ap, subst, arith, None, Some, inl, inr, length-take, All, unwrap_or}
-use Rattle.nc_walk.proofs.Prelude.{position, position_or_len, cases_lt, lt-ltb, le-ltb, ltb-false, get_or-take, All-from_get_or, Header, Var, size_of, value_count, ends_after, value_offsets, first_missing, IsWhole, whole_count, none-found}
+use Rattle.std.proofs.Common.{◌≡◌, ℕ, ◌+◌, ◌<◌, ◌≤◌, true, false, List, length, get_or, take, subst, arith, None, Some, inl, inr, length-take, All}
+use Rattle.nc_walk.proofs.Prelude.{position_or_len, cases_lt, lt-ltb, le-ltb, ltb-false, get_or-take, All-from_get_or, Header, Var, size_of, value_count, ends_after, value_offsets, first_missing, IsWhole, whole_count, none-found}
 use Rattle.std.proofs.lemmas.List.Sums.{position_or_len_is, prefix_len-le-length, fails_before_first, passes_at_first}
 use Rattle.nc_walk.proofs.Orders.{count_of_offsets}
 
@@ -26,29 +26,23 @@ position-ge size b xs k le whole =
       | inr above ↦ above
     ]
 
-found : (p : ℕ → Bool) (xs : List ℕ) (k : ℕ) → k < length xs → position_or_len p xs ≡ k → position p xs ≡ Some k
-found p xs k lt e = rw e (ap (λ (t : Bool). cond t (Some k) None) (lt-ltb k (length xs) lt))
-
 -- the values before the first missing one are whole
 before_first : (size : ℕ) (b xs : List ℕ) (k : ℕ) → k ≤ position_or_len (ends_after size (length b)) xs → All (IsWhole size b) (take k xs)
 before_first size b xs k le =
     grind (arith, All-from_get_or (IsWhole size b) (take k xs) 0, length-take k xs, ltb-false (length b), fails_before_first (ends_after size (length b)) xs, get_or-take k xs)
 
-unwrap-position : (p : ℕ → Bool) (xs : List ℕ) (n : ℕ) → length xs ≡ n → position_or_len p xs ≤ n → unwrap_or (position p xs) n ≡ position_or_len p xs
-unwrap-position p xs n len le = grind (arith, lt-ltb, le-ltb)
-
 -- ---- of a variable
 
 pub missing_at : (h : Header) (var : Var) (n : ℕ) (b : List ℕ) (k : ℕ) → k < value_count h.dims var n → All (IsWhole (size_of var.ty) b) (take k (value_offsets h var n))
     → length b < get_or (value_offsets h var n) k 0 + size_of var.ty → first_missing h b var n ≡ Some k
-missing_at h var n b k lt whole short = grind (arith, count_of_offsets, found, position_at)
+missing_at h var n b k lt whole short = grind (arith, count_of_offsets, position_at)
 
 pub none_missing : (h : Header) (var : Var) (n : ℕ) (b : List ℕ) (k : ℕ) → k ≡ value_count h.dims var n → All (IsWhole (size_of var.ty) b) (take k (value_offsets h var n))
     → first_missing h b var n ≡ None
 none_missing h var n b k all whole = grind (arith, count_of_offsets, none-found, position_at)
 
 whole_count-is : (h : Header) (var : Var) (n : ℕ) (b : List ℕ) → whole_count h b var n ≡ position_or_len (ends_after (size_of var.ty) (length b)) (value_offsets h var n)
-whole_count-is h var n b = grind (arith, count_of_offsets, unwrap-position, prefix_len-le-length)
+whole_count-is h var n b = grind (arith, count_of_offsets, prefix_len-le-length)
 
 pub whole_count-ge : (h : Header) (var : Var) (n : ℕ) (b : List ℕ) (k : ℕ) → k ≤ value_count h.dims var n → All (IsWhole (size_of var.ty) b) (take k (value_offsets h var n))
     → k ≤ whole_count h b var n

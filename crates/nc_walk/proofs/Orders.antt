@@ -44,10 +44,7 @@ value_offset_at h var n i lt = shaped_at var.begin_at (size_of var.ty) (record_s
 
 pub shifted : {A : Type 0} (f g : ℕ → A) (a k n : ℕ) → ((q : ℕ) → q < k + n → f q ≡ g (a + q)) → map f (range_with_len k n) ≡ map g (range_with_len (a + k) n)
 shifted f g a k zero same = refl
-shifted f g a k (suc n) same =
-    let next : a + k + 1 ≡ a + (k + 1) = omega arith in
-    ap (λ x. x ∷ map f (range_with_len (k + 1) n)) (same k (omega arith))
-    ∙ ap (λ xs. g (a + k) ∷ xs) (shifted f g a (k + 1) n (λ q lt. same q (omega arith)) ∙ ap (λ (j : ℕ). map g (range_with_len j n)) (sym next))
+shifted f g a k (suc n) same = grind (arith, shifted f g a (k + 1) n)
 
 rows : (ns : List ℕ) (a n : ℕ) → flat_map (λ i. map (λ (index : List ℕ). i ∷ index) (map (vector_at ns) (range_with_len 0 (product ns)))) (range_with_len a n)
     ≡ map (λ (j : ℕ). j / product ns ∷ vector_at ns (j % product ns)) (range_with_len (a * product ns) (n * product ns))

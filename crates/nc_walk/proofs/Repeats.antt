@@ -38,8 +38,7 @@ repeated-by unit n k some within = same-copies unit n k n within (let up : n * 1
 -- out of k copies that are enough
 pub few-copies : (unit buffer : List ℕ) (k n : ℕ) → 0 < length unit → n ≤ k * length unit → buffer ≡ flat_map (λ (x : List ℕ). x) (replicate k unit)
     → repeated unit n ≡ take n buffer
-few-copies unit buffer k n some within copies =
-    sym (repeated-by unit n k some within) ∙ ap (take n) (sym (copies ∙ flat-copies (replicate k unit)))
+few-copies unit buffer k n some within copies = grind (arith, repeated-by, flat-copies)
 
 -- one piece of it, out of k copies, and the rest
 pub next-piece : (unit buffer : List ℕ) (k n piece : ℕ) → 0 < length unit → buffer ≡ flat_map (λ (x : List ℕ). x) (replicate k unit) → piece ≡ min n (length buffer)

@@ -1,5 +1,5 @@
 -- Values that lie side by side.
-use Rattle.std.proofs.Common.{◌≡◌, ℕ, zero, suc, ◌+◌, ◌-◌, ◌*◌, ◌/◌, ◌%◌, ◌<◌, ◌≤◌, List, ◌++◌, length, get_or, take, drop, map, refl, sym, ◌∙◌, ap, subst, arith, All}
+use Rattle.std.proofs.Common.{◌≡◌, ℕ, zero, suc, ◌+◌, ◌-◌, ◌*◌, ◌/◌, ◌%◌, ◌<◌, ◌≤◌, List, length, get_or, take, drop, map, refl, sym, ◌∙◌, ap, subst, arith, All}
 use Rattle.nc_walk.proofs.Prelude.{concat, drop-drop, length-map-range_with_len, take-map-range_with_len, get_or-map-range_with_len, take-add, div-mul-add, mod-mul-add, div_below, div-add-mod', mul-le-mul_right, bytes_at, Slabs, total, offset, offsets_from, Ready, IsWhole}
 
 pub offset_at : (l : Slabs) (r p : ℕ) → p < l.values_per_slab → offset l (r * l.values_per_slab + p) ≡ l.begin + r * l.stride + p * l.size
@@ -19,10 +19,7 @@ pub drop-offsets : (l : Slabs) (i n k : ℕ) → k ≤ n → drop k (offsets_fro
 unfolding offsets_from
 drop-offsets l i n zero le = let e : i ≡ i + 0 = omega arith in let f : n ≡ n - 0 = omega arith in ap (λ (j : ℕ). offsets_from l j n) e ∙ ap (offsets_from l (i + 0)) f
 drop-offsets l i zero (suc k) le = absurd (omega arith)
-drop-offsets l i (suc n) (suc k) le =
-    let e : i + 1 + k ≡ i + suc k = omega arith in
-    let f : n - k ≡ suc n - suc k = omega arith in
-    drop-offsets l (i + 1) n k (omega arith) ∙ ap (λ (j : ℕ). offsets_from l j (n - k)) e ∙ ap (offsets_from l (i + suc k)) f
+drop-offsets l i (suc n) (suc k) le = grind (arith, drop-offsets l (i + 1) n k)
 
 pub first_offset : (l : Slabs) (i n : ℕ) → 0 < n → get_or (offsets_from l i n) 0 0 ≡ offset l i
 unfolding offsets_from
@@ -34,18 +31,7 @@ bytes_in : (l : Slabs) (b : List ℕ) (r p n : ℕ) → p + n ≤ l.values_per_s
     → concat (map (bytes_at l.size b) (offsets_from l (r * l.values_per_slab + p) n)) ≡ take (n * l.size) (drop (l.begin + r * l.stride + p * l.size) b)
 unfolding offsets_from
 bytes_in l b r p zero le = let e : 0 ≡ 0 * l.size = omega arith in ap (λ (k : ℕ). take k (drop (l.begin + r * l.stride + p * l.size) b)) e
-bytes_in l b r p (suc n) le =
-    let o = l.begin + r * l.stride + p * l.size in
-    let rest : ℕ → List ℕ = λ i. concat (map (bytes_at l.size b) (offsets_from l i n)) in
-    let next : r * l.values_per_slab + p + 1 ≡ r * l.values_per_slab + suc p = omega arith in
-    let here : offset l (r * l.values_per_slab + p) ≡ o = offset_at l r p (omega arith) in
-    let more : l.begin + r * l.stride + suc p * l.size ≡ o + l.size = omega arith in
-    let all : l.size + n * l.size ≡ suc n * l.size = omega arith in
-    ap (λ (k : ℕ). take l.size (drop k b) ++ rest (r * l.values_per_slab + p + 1)) here
-    ∙ ap (λ (k : ℕ). take l.size (drop o b) ++ rest k) next
-    ∙ ap (λ (xs : List ℕ). take l.size (drop o b) ++ xs) (bytes_in l b r (suc p) n (omega arith) ∙ ap (λ (k : ℕ). take (n * l.size) (drop k b)) more ∙ ap (take (n * l.size)) (sym (drop-drop l.size o b)))
-    ∙ sym (take-add l.size (n * l.size) (drop o b))
-    ∙ ap (λ (k : ℕ). take k (drop o b)) all
+bytes_in l b r p (suc n) le = grind (arith, offset_at, drop-drop, take-add, bytes_in l b r (suc p) n)
 
 -- the bytes of values in one slab are one run
 pub run_bytes : (l : Slabs) (b : List ℕ) (i n : ℕ) → i % l.values_per_slab + n ≤ l.values_per_slab → concat (map (bytes_at l.size b) (offsets_from l i n)) ≡ take (n * l.size) (drop (offset l i) b)

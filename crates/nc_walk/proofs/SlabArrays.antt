@@ -1,6 +1,6 @@
 -- The slabs of a record are those of the arrays of the record variables.
 use Rattle.std.proofs.Common.{◌≡◌, ℕ, ◌+◌, ◌<◌, ◌≤◌, Bool, true, false, List, [], ◌∷◌, ◌++◌, All, length, get_or, map, drop, refl, sym, ◌∙◌, ap, arith, if◌then◌else◌}
-use Rattle.nc_walk.proofs.Prelude.{drop_more, All-cons, All-nil, Dim, Var, AreListed, is_record_var, RecordSlab, ArrayView, array_view, record_arrays, array_of, record_slab, record_slabs}
+use Rattle.nc_walk.proofs.Prelude.{drop_more, All-nil, Dim, Var, AreListed, is_record_var, RecordSlab, ArrayView, array_view, record_arrays, array_of, record_slab, record_slabs}
 use Rattle.nc_walk.proofs.DataFilled.{listed-len}
 
 -- ---- the arrays of the slabs
@@ -34,12 +34,7 @@ one-array arrays _ d array some one is = absurd (omega arith)
 -- each has the index of a variable
 within-from : (v n : ℕ) (dims : List Dim) (vars : List Var) → v + length vars ≤ n → All (λ (slab : RecordSlab). slab.var_index < n) (record_slabs v dims vars)
 within-from v n dims [] le = All-nil _
-within-from v n dims (var ∷ vars) le = of_kind (is_record_var dims var) (within-from (v + 1) n dims vars (omega (arith, le)))
-  where
-    of_kind : (kind : Bool) → All (λ (slab : RecordSlab). slab.var_index < n) (record_slabs (v + 1) dims vars)
-        → All (λ (slab : RecordSlab). slab.var_index < n) ((if kind then record_slab v dims var ∷ [] else []) ++ record_slabs (v + 1) dims vars)
-    of_kind true rest = All-cons (λ (slab : RecordSlab). slab.var_index < n) (record_slab v dims var) (record_slabs (v + 1) dims vars) (omega (arith, le)) rest
-    of_kind false rest = rest
+within-from v n dims (var ∷ vars) le = grind (arith, within-from (v + 1) n dims vars)
 
 pub slabs-within : (dims : List Dim) (n : ℕ) (vars : List Var) (arrays : List (List ℕ)) (slabs : List RecordSlab) → slabs ≡ record_slabs 0 dims vars → AreListed dims n vars arrays
     → All (λ (slab : RecordSlab). slab.var_index < length arrays) slabs

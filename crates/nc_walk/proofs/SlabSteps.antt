@@ -1,18 +1,15 @@
 -- The slabs of a variable of a sound header.
-use Rattle.std.proofs.Common.{◌≡◌, ℕ, ◌+◌, ◌-◌, ◌*◌, ◌/◌, ◌%◌, ◌<◌, ◌≤◌, length, get_or, map, sym, ◌∙◌, ap, subst, arith, if◌then◌else◌}
-use Rattle.nc_walk.proofs.Prelude.{range_with_len, All-get_or, div-add-mod', NcType, Var, Header, size_of, is_record_var, record_size, slab_count, IsSound, IsSoundVar, some_count, some_size, Slabs, total, offset, offsets_from, offsets_after, slabs_of, IsSized, AreSlabsOf}
+use Rattle.std.proofs.Common.{◌≡◌, ℕ, ◌+◌, ◌-◌, ◌*◌, ◌/◌, ◌%◌, ◌<◌, length, get_or, map, sym, ◌∙◌, ap, subst, arith, if◌then◌else◌}
+use Rattle.nc_walk.proofs.Prelude.{range_with_len, All-get_or, div-add-mod', Var, Header, size_of, is_record_var, record_size, slab_count, IsSound, IsSoundVar, some_count, Slabs, total, offset, offsets_from, offsets_after, slabs_of, IsSized, AreSlabsOf}
 use Rattle.std.proofs.lemmas.Option.{slice_get_read}
 use Rattle.nc_walk.proofs.Orders.{at_first, shifted, offsets_in_order}
-
-small_size : (ty : NcType) → size_of ty ≤ 8
-small_size ty = grind arith
 
 -- the variable in a cursor is sound
 pub sound_var : (h : Header) (v : ℕ) (var : Var) → IsSound h → v < length h.vars → var ≡ get_or h.vars v var → IsSoundVar h.version h.dims var
 sound_var h v var sound lt at = subst (IsSoundVar h.version h.dims) (sym at) (All-get_or (IsSoundVar h.version h.dims) h.vars v var lt sound.vars)
 
 pub sized : (h : Header) (var : Var) (n : ℕ) → IsSound h → IsSoundVar h.version h.dims var → IsSized (slabs_of h var n)
-sized h var n sound s = grind (arith, some_size, small_size, some_count)
+sized h var n sound s = grind (arith, some_count)
 
 -- ---- slabs side by side
 

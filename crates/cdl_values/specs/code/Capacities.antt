@@ -6,13 +6,13 @@ use Rattle.nc_base.specs.Numbers.{bytes_of_number}
 use Rattle.nc_base.specs.ValueText.{is_char}
 use Rattle.cdl_statements.specs.declared.fault.CdlKind.{CdlKind}
 use Rattle.cdl_meaning.specs.State as states
-use Rattle.cdl_meaning.specs.State.{Listing, capacity_of, values_in}
+use Rattle.cdl_meaning.specs.State.{Listing, listable_of, values_in}
 use Rattle.cdl_values.specs.declared.{capacity.Capacity.Capacity, filling.Filling.Filling}
 use Rattle.cdl_values.specs.declared.capacity.Capacity.TheVariants.{AtMost, Unlimited}
 use Rattle.cdl_values.specs.declared.filling.Filling.TheVariants.{Numbers, Joined, Rows}
 
 -- it is filled so
-abbrev pub Fills : Filling → states.Capacity → Type 0
+abbrev pub Fills : Filling → states.Listable → Type 0
 Fills (Numbers fill) r = (r.ty ≡ fill.ty) × (is_char fill.ty ≡ false) × (r.fill ≡ fill.value)
 Fills Joined r = (r.ty ≡ Char) × (r.in_rows ≡ false)
 Fills (Rows len fill) r = (r.ty ≡ Char) × (r.in_rows ≡ true) × (r.row ≡ len) × (bytes_of_number Char r.fill ≡ fill ∷ [])
@@ -28,21 +28,21 @@ capacity_for Joined m = m
 capacity_for (Rows len fill) m = min m most
 
 -- how many positions there are
-abbrev pub positions_in : Filling → states.Capacity → ℕ
+abbrev pub positions_in : Filling → states.Listable → ℕ
 positions_in (Numbers fill) r = r.count
 positions_in Joined r = r.count
 positions_in (Rows len fill) r = r.rows
 
 -- it has this capacity for values
-abbrev pub HasCapacity : Filling → Capacity → states.Capacity → Type 0
+abbrev pub HasCapacity : Filling → Capacity → states.Listable → Type 0
 HasCapacity filling Unlimited r = r.is_open ≡ true
 HasCapacity filling (AtMost n) r = (r.is_open ≡ false) × (n ≡ capacity_for filling (positions_in filling r))
 
 -- a variable that is filled so has this capacity
 abbrev pub HasCapacityAsFilled : List Dim → Var → Filling → Capacity → Type 0
-HasCapacityAsFilled dims var filling capacity = Fills filling (capacity_of dims var) → HasCapacity filling capacity (capacity_of dims var)
+HasCapacityAsFilled dims var filling capacity = Fills filling (listable_of dims var) → HasCapacity filling capacity (listable_of dims var)
 
 -- the bytes of what is listed
-abbrev pub as_bytes : states.Capacity → Result Listing CdlKind → Result (List ℕ) CdlKind
+abbrev pub as_bytes : states.Listable → Result Listing CdlKind → Result (List ℕ) CdlKind
 as_bytes r (Ok listing) = Ok (flat_map (bytes_of_number r.ty) (values_in r listing))
 as_bytes r (Err e) = Err e

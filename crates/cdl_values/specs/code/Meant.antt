@@ -9,7 +9,7 @@ use Rattle.cdl_statements.specs.code.Cutters.{text_of, version_of, words}
 use Rattle.cdl_statements.specs.declared.{cutter.Cutter.Cutter, section.Section.TheVariants.Values, fault.CdlKind.CdlKind}
 use Rattle.cdl_statements.specs.Lexemes.{Lexeme, is_mark}
 use Rattle.cdl_meaning.specs.Meaning.{piece_read}
-use Rattle.cdl_meaning.specs.State.{State, Draft, Listing, capacity_of, values_in}
+use Rattle.cdl_meaning.specs.State.{State, Draft, Listing, listable_of, values_in}
 use Rattle.cdl_values.specs.declared.{read_error.ReadError.ReadError, data.Given.Given, data.Target.Target}
 use Rattle.cdl_values.specs.declared.read_error.ReadError.TheVariants.{OutOfMemory, Fault}
 use Rattle.cdl_values.specs.code.Capacities.{Fills, HasCapacity}
@@ -18,8 +18,8 @@ use Rattle.cdl_values.specs.code.Listed.{AreShaped, unlisted_drafts}
 -- a target is what a draft takes
 pub record Suits (dims : List Dim) (t : Target) (d : Draft) : Type 0 where
   pub given : t.given ≡ is_some d.listed
-  pub fills : Fills t.filling (capacity_of dims d.var)
-  pub takes : HasCapacity t.filling t.capacity (capacity_of dims d.var)
+  pub fills : Fills t.filling (listable_of dims d.var)
+  pub takes : HasCapacity t.filling t.capacity (listable_of dims d.var)
 
 -- each target is what the draft at its position takes
 abbrev pub AllSuit : List Dim → List Target → List Draft → Type 0
@@ -42,7 +42,7 @@ with_listing name listing (d ∷ ds) = if bytes_eq d.var.name name then record d
 -- the listing as its bytes
 abbrev pub listing_bytes : List Dim → List ℕ → Listing → List Draft → List ℕ
 listing_bytes dims name listing [] = []
-listing_bytes dims name listing (d ∷ ds) = if bytes_eq d.var.name name then flat_map (bytes_of_number d.var.ty) (values_in (capacity_of dims d.var) listing) else listing_bytes dims name listing ds
+listing_bytes dims name listing (d ∷ ds) = if bytes_eq d.var.name name then flat_map (bytes_of_number d.var.ty) (values_in (listable_of dims d.var) listing) else listing_bytes dims name listing ds
 
 -- the drafts with a listing of these bytes, or the fault
 abbrev pub HasListed : List Dim → List ℕ → List Draft → Result (List ℕ) CdlKind → Result (List Draft) CdlKind → Type 0

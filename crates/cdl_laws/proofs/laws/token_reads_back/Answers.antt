@@ -1,4 +1,4 @@
-use Rattle.cdl_laws.proofs.TokensRead.{names_read_back, strings_read_back, constants_read_back, values_read_back, blanks_and_marks_stop}
+use Rattle.cdl_laws.proofs.TokensRead.{names_read_back, strings_read_back, constants_read_back, values_read_back}
 use Rattle.cdl_laws.proofs.laws.token_reads_back.Goals as goal
 
 pub returns-clause-names : goal.returns-clause-names
@@ -12,6 +12,3 @@ returns-clause-constants c = constants_read_back
 
 pub returns-clause-values : goal.returns-clause-values
 returns-clause-values c = values_read_back
-
-pub returns-clause-stops : goal.returns-clause-stops
-returns-clause-stops c = blanks_and_marks_stop

@@ -1,14 +1,14 @@
 use Rattle.std.proofs.Common.{rules, ◌≡◌, ◌-◌, sym, ap, ◌∙◌, subst, nat_lt, length, false, to_z, of_z, not, slice_index, unsigned_abs, [], ◌∷◌}
-use Rattle.cdl_values.proofs.Prelude.{w128, to_z-of_z, IsInRange, bytes_of_number, dim_len, Char, capacity_of}
+use Rattle.cdl_values.proofs.Prelude.{w128, to_z-of_z, IsInRange, bytes_of_number, dim_len, Char, listable_of}
 use Rattle.cdl_values.proofs.Places.{char_byte}
 use Rattle.cdl_values.proofs.targets.characters.Goals as goal
 
 pub returns-then-dimids-lt2 : goal.returns-then-dimids-lt2
-unfolding capacity_of
+unfolding listable_of
 returns-then-dimids-lt2 c = λ shaped. (c.requires, search rules)
 
 pub returns : goal.returns
-unfolding capacity_of
+unfolding listable_of
 returns c = λ shaped.
     let ids = c.args.var.now.dimids in
     let dims = c.args.dims.now in

@@ -1,4 +1,3 @@
-use Rattle.std.proofs.lemmas.Grind.{common_steps}
 use Rattle.std.proofs.Common.{◌≡◌, ◌+◌, ◌*◌, min, get_or, drop, map, arith, ◌∙◌, ap}
 use Rattle.nc_base.specs.Sizes.{dim_len, product, slab_limit}
 use Rattle.nc_base.proofs.SizeLaws.{capped_more}
@@ -13,6 +12,3 @@ loop-id-preserved c =
           ∙ capped_more len c.args.dimids.now c.loop-id.bytes c.loop-id.id-index _ (slab_limit + 1) c.loop-id-test.true c.loop-id.invariant.0,
       omega (arith, c.slab_limited_product-bytes.ensures),
     )
-
-pub returns : goal.returns
-returns c = grind (arith, common_steps)

@@ -2,13 +2,8 @@ use Rattle.std.proofs.Common.{◌≡◌, ◌∷◌, ◌<◌, List, ℕ, sym, ap,
 use Rattle.cdl_tokens.specs.code.Scanners as scanners
 use Rattle.cdl_statements.proofs.Prelude.{raw, TokenKind, Passes, PassesString, role_of, lexeme_with}
 use Rattle.cdl_tokens.specs.declared.token.TokenKind.TheVariants as kinds
-use Rattle.cdl_statements.proofs.ListedTokens.{comma_role, passes}
+use Rattle.cdl_statements.proofs.ListedTokens.{passes}
 use Rattle.cdl_statements.proofs.cutter.Cutter.string_and_comma.Goals as goal
-
-pub move_to_comma-requires : goal.move_to_comma-requires
-move_to_comma-requires c =
-    let e = c.in_ok-listed.ensures in
-    comma_role _ _ _ e.text e.comma
 
 pub returns-clause-passes : goal.returns-clause-passes
 returns-clause-passes c =

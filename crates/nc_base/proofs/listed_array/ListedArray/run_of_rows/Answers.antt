@@ -24,9 +24,7 @@ returns-then-at-in_rows c =
     let start : ℕ = row_start 0 l.row_ends.items r in
     let n : ℕ = get_or l.row_ends.items r 0 - start in
     let listed : c.listed_row-row.result.now ≡ take n (drop start l.bytes.items) =
-    c.listed_row-row.ensures
-    ∙ ap (λ (es : List ℕ). take (get_or es r 0 - row_start 0 es r) (drop (row_start 0 es r) c.as_slice.result.now)) c.as_slice-then-at-in_rows.ensures.value
-    ∙ ap (λ (b : List ℕ). take n (drop start b)) c.as_slice.ensures.value in
+    grind arith in
     let long : length c.listed_row-row.result.now ≡ n =
     ap length listed ∙ length-take-le n (drop start l.bytes.items) (omega (arith, length-drop start l.bytes.items, row.is.inside, c.self.invariant.1)) in
     let here : r * len + column ≡ at = omega (arith, mod-add-div at len) in
@@ -51,10 +49,6 @@ returns c =
     let is_after : after ≡ drop last l.bytes.items =
     take_all (length held - last) (drop last held) (omega (arith, length-drop last held)) ∙ ap (drop last) c.deref.ensures.value in
     let bytes : drop (last + skipped) l.bytes.items ≡ take (length after - c.min-skipped.result) (drop c.min-skipped.result after) =
-    sym (drop-drop skipped last l.bytes.items)
-    ∙ ap (drop skipped) (sym is_after)
-    ∙ sym (drop_min skipped after)
-    ∙ ap (λ (k : ℕ). drop k after) (sym c.min-skipped.ensures)
-    ∙ sym (take_all (length after - c.min-skipped.result) (drop c.min-skipped.result after) (omega (arith, length-drop c.min-skipped.result after))) in
+    grind (arith, drop-drop, drop_min, take_all, length-drop) in
     stands-from _ _ _ _ _ _ _ _ _ _ c.self.view_is here bytes refl refl
     (after_rows len last l.fill l.row_ends.items l.bytes.items skipped c.self.invariant.0 c.self.invariant.1)

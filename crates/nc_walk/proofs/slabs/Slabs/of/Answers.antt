@@ -1,10 +1,7 @@
-use Rattle.std.proofs.Common.{List, get_or, ◌∙◌, ap, if◌then◌else◌, arith, rules}
+use Rattle.std.proofs.Common.{List, get_or, ◌∙◌, ap, if◌then◌else◌, arith}
 use Rattle.nc_walk.proofs.Prelude.{Dim, Var, slab_count, is_record_var}
 use Rattle.nc_walk.proofs.SlabSteps.{are_slabs, sized_slabs, same_slabs}
 use Rattle.nc_walk.proofs.slabs.Slabs.of.Goals as goal
-
-pub values_per_slab-requires : goal.values_per_slab-requires
-values_per_slab-requires c = search rules
 
 pub joined-requires : goal.joined-requires
 joined-requires c = grind (arith, sized_slabs, same_slabs)
