@@ -42,35 +42,35 @@ static LENGTHS: [u8; 384] = *b"\
     3333333333333333333333333333333333333333333333333333333333333333\
     3333333333333333333333333333333333333333333333333333333333333333";
 
-/// Returns how many bytes `number` has in decimal, with a minus if it is negative: at most 4. No branch depends on the number. Needs a
+/// Returns how many bytes `n` has in decimal, with a minus if it is negative: at most 4. No branch depends on the number. Needs a
 /// number from -128 to 255.
 #[inline(always)]
-pub fn byte_number_len(number: i128) -> usize
-    requires { IsByteNumber number }
-    ensures len { result ≡ length (signed_decimal number) }
+pub fn byte_number_len(n: i128) -> usize
+    requires { IsByteNumber n }
+    ensures len { result ≡ length (signed_decimal n) }
     ensures short { result ≤ 4 }
 {
-    (LENGTHS[index_of(number)] - b'0') as usize
+    (LENGTHS[index_of(n)] - b'0') as usize
 }
 
-/// Writes `number` in decimal, with a minus if it is negative, at the offset `at` of `text`, as [`put_decimal`](crate::put_decimal) does.
+/// Writes `n` in decimal, with a minus if it is negative, at the offset `at` of `text`, as [`put_decimal`](crate::put_decimal) does.
 /// No branch depends on the number. Needs a number from -128 to 255, and room for four bytes. The bytes after the number may change.
 #[inline(always)]
-pub fn put_byte_number(text: &mut [u8], at: usize, number: i128)
-    requires byte { IsByteNumber number }
+pub fn put_byte_number(text: &mut [u8], at: usize, n: i128)
+    requires byte { IsByteNumber n }
     requires fits { at + 4 ≤ length text.old }
-    ensures { take (at + length (signed_decimal number)) text.new ≡ take at text.old ++ signed_decimal number }
+    ensures { take (at + length (signed_decimal n)) text.new ≡ take at text.old ++ signed_decimal n }
 {
-    let from = 4 * index_of(number);
+    let from = 4 * index_of(n);
     put_bytes(text, at, &TEXTS[from..from + 4]);
 }
 
-/// Returns the index of `number` in the tables. Needs a number from -128 to 255.
+/// Returns the index of `n` in the tables. Needs a number from -128 to 255.
 #[inline(always)]
-fn index_of(number: i128) -> usize
-    requires { IsByteNumber number }
-    ensures index { number ≡ pos result -ℤ pos 128 }
+fn index_of(n: i128) -> usize
+    requires { IsByteNumber n }
+    ensures index { n ≡ pos result -ℤ pos 128 }
     ensures within { result < 384 }
 {
-    (number + 128) as usize
+    (n + 128) as usize
 }

@@ -8,7 +8,7 @@ pub overflow_sub-result : goal.overflow_sub-result
 overflow_sub-result c = omega (arith, length_is c.index_of.result c.index_of.ensures.within)
 
 pub returns-clause-len : goal.returns-clause-len
-returns-clause-len c = omega (arith, length_is c.index_of.result c.index_of.ensures.within, ap (λ (n : ℤ). length (signed_decimal n)) (to_z-of_z {w = w128} c.ranges.number), ap (λ (n : ℤ). length (signed_decimal n)) c.index_of.ensures.index)
+returns-clause-len c = omega (arith, length_is c.index_of.result c.index_of.ensures.within, ap (λ (n : ℤ). length (signed_decimal n)) (to_z-of_z {w = w128} c.ranges.n), ap (λ (n : ℤ). length (signed_decimal n)) c.index_of.ensures.index)
 
 pub returns-clause-short : goal.returns-clause-short
 returns-clause-short c = omega (arith, length_is c.index_of.result c.index_of.ensures.within, short_is c.index_of.result c.index_of.ensures.within)

@@ -21,5 +21,5 @@ returns c =
     let i = c.index_of-from.result in
     let len : 4 * i + 4 - 4 * i ≡ 4 = omega arith in
     let parts = ap (λ k. take k (drop (4 * i) TEXTS)) len ∙ text_is i c.index_of-from.ensures.within in
-    subst (λ (number : ℤ). take (c.args.at + length (signed_decimal number)) c.put_bytes.new.text ≡ take c.args.at c.args.text.now ++ signed_decimal number) (sym c.index_of-from.ensures.index ∙ to_z-of_z {w = w128} c.ranges.number)
+    subst (λ (number : ℤ). take (c.args.at + length (signed_decimal number)) c.put_bytes.new.text ≡ take c.args.at c.args.text.now ++ signed_decimal number) (sym c.index_of-from.ensures.index ∙ to_z-of_z {w = w128} c.ranges.n)
     (first_put _ _ _ _ _ _ _ (omega (arith, c.requires.fits)) parts c.put_bytes.ensures.end c.put_bytes.ensures.written)
