@@ -47,9 +47,8 @@ pub fn gather_at_end(text: &mut [u8], line: LastLine, layout: &Layout<'_>, bytes
     }
 }
 
-/// Puts numbers of the type `ty`, none of them their row's first, into `text` at the end of `line`, each after `, `, and on a new line if
-/// it doesn't fit. Returns the last line after them. `bytes` has the numbers, big-endian. It is inlined in [`gather_at_end`] once for each
-/// type, so each type has a loop of its own. Needs room for 47 bytes a number in `text`.
+/// Puts numbers as [`gather_at_end`] does, into which it is inlined once for each type: `ty` is the type of `layout`, given as a constant,
+/// so each type has a loop of its own.
 #[inline(always)]
 fn gather_typed(
     ty: NcType,
@@ -58,9 +57,10 @@ fn gather_typed(
     layout: &Layout<'_>,
     bytes: &[u8],
 ) -> LastLine
-    requires fits { line.end + 47 * length (numbers ty bytes.now) ≤ length text.old }
-    ensures more { PutLine layout.now (numbers ty bytes.now) line text.old result text.new }
-    ensures short { result.end ≤ line.end + 47 * length (numbers ty bytes.now) }
+    requires ty { ty ≡ layout.now.ty }
+    requires fits { line.end + 47 * length (values layout.now bytes.now) ≤ length text.old }
+    ensures more { PutLine layout.now (values layout.now bytes.now) line text.old result text.new }
+    ensures short { result.end ≤ line.end + 47 * length (values layout.now bytes.now) }
 {
     let size = ty.size() as usize;
     let fill = PrintedFill::of(layout);
