@@ -11,8 +11,10 @@
 //! This crate is internal: `cdl_print` alone calls it.
 #![tactic(auto)]
 
+mod byte_number;
 mod decimal;
 mod put;
 
+pub use byte_number::{byte_number_len, put_byte_number};
 pub use decimal::{decimal_len, put_decimal, put_digits, put_text, text_len};
 pub use put::{put_byte, put_bytes, put_comma};

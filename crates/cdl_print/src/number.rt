@@ -6,7 +6,7 @@ ghost use Rattle.nc_base.specs.Types.{size_of};
 ghost use Rattle.devices.specs.code.SinkWrites.{Wrote};
 ghost use Rattle.cdl_print.specs.code.Pieces.{number_text};
 
-use cdl_number_text::{decimal_len, put_bytes, put_comma, put_decimal};
+use cdl_number_text::{decimal_len, put_byte, put_bytes, put_comma, put_decimal};
 use devices::{Sink, WriteFailed, put};
 use nc_base::{NcType, number_of};
 
@@ -53,6 +53,7 @@ fn gather_numbers<'a>(text: &mut [u8], ty: NcType, vals: &'a [u8]) -> (usize, &'
 /// Puts the number of the type `ty` that has the big-endian bytes `value` at the offset `at` of `text`, with the suffix of the type, and
 /// then a comma and a space unless `is_last`. Returns the offset at which they end. Needs room for 26 bytes in `text` ([`MOST`]).
 #[tactic(auto, unfolding(crate::specs::code::Pieces::number_text, nc_base::specs::Bytes::concat_parts))]
+#[inline(always)]
 fn put_suffixed_number(text: &mut [u8], at: usize, ty: NcType, value: &[u8], is_last: bool) -> usize
     requires whole { length value.now ≡ size_of ty }
     requires fits { at + 26 ≤ length text.old }
@@ -62,6 +63,21 @@ fn put_suffixed_number(text: &mut [u8], at: usize, ty: NcType, value: &[u8], is_
     let number = number_of(ty, value);
     let len = decimal_len(number);
     put_decimal(text, at, len, number);
-    let end = put_bytes(text, at + len, ty.suffix());
+    let end = put_suffix(text, at + len, ty.suffix());
     if is_last { end } else { put_comma(text, end) }
+}
+
+/// Puts a suffix at the offset `at` of `text`, and returns the offset at which it ends. Needs room for it. The suffixes of most types, of
+/// one letter or none, need no call that copies them.
+#[inline(always)]
+fn put_suffix(text: &mut [u8], at: usize, suffix: &[u8]) -> usize
+    requires { at + length suffix.now ≤ length text.old }
+    ensures end { result ≡ at + length suffix.now }
+    ensures written { take result text.new ≡ take at text.old ++ suffix.now }
+{
+    match suffix {
+        [] => at,
+        [letter] => put_byte(text, at, *letter),
+        _ => put_bytes(text, at, suffix),
+    }
 }

@@ -4,6 +4,7 @@ ghost use Rattle.std.specs.Prelude.{ℕ, ◌≡◌, ◌+◌, ◌*◌, ◌<◌, �
 ghost use Rattle.std.specs.Fmt.{decimal, signed_decimal};
 ghost use Rattle.nc_base.specs.Numbers.{number_of, numbers};
 ghost use Rattle.nc_base.specs.Types.{size_of};
+ghost use Rattle.cdl_number_text.specs.code.NumberTexts.{IsByteNumber};
 ghost use Rattle.cdl_print.specs.code.Fills.{IsFillOf};
 ghost use Rattle.cdl_print.specs.code.Leads.{gap_bytes, look_at, values};
 ghost use Rattle.cdl_print.specs.code.Printing.{columns_left_at_end, gap_at_end, PutAt, PutInRow, PutLine, PutNumber};
@@ -11,7 +12,9 @@ ghost use Rattle.cdl_print.specs.code.Printing.{columns_left_at_end, gap_at_end,
 use crate::gap::{gap_in_row, put_gap};
 use crate::layout::Layout;
 use crate::printed_fill::PrintedFill;
-use cdl_number_text::{decimal_len, put_byte, put_comma, put_decimal, put_digits};
+use cdl_number_text::{
+    byte_number_len, decimal_len, put_byte, put_byte_number, put_comma, put_decimal, put_digits,
+};
 use nc_base::{NcType, number_of};
 
 /// The last line of the text that is gathered in a buffer.
@@ -44,9 +47,8 @@ pub fn gather_at_end(text: &mut [u8], line: LastLine, layout: &Layout<'_>, bytes
     }
 }
 
-/// Puts numbers of the type `ty`, none of them their row's first, into `text` at the end of `line`, each after `, `, and on a new line if
-/// it doesn't fit. Returns the last line after them. `bytes` has the numbers, big-endian. It is inlined in [`gather_at_end`] once for each
-/// type, so each type has a loop of its own. Needs room for 47 bytes a number in `text`.
+/// Puts numbers as [`gather_at_end`] does, into which it is inlined once for each type: `ty` is the type of `layout`, given as a constant,
+/// so each type has a loop of its own.
 #[inline(always)]
 fn gather_typed(
     ty: NcType,
@@ -55,9 +57,10 @@ fn gather_typed(
     layout: &Layout<'_>,
     bytes: &[u8],
 ) -> LastLine
-    requires fits { line.end + 47 * length (numbers ty bytes.now) ≤ length text.old }
-    ensures more { PutLine layout.now (numbers ty bytes.now) line text.old result text.new }
-    ensures short { result.end ≤ line.end + 47 * length (numbers ty bytes.now) }
+    requires ty { ty ≡ layout.now.ty }
+    requires fits { line.end + 47 * length (values layout.now bytes.now) ≤ length text.old }
+    ensures more { PutLine layout.now (values layout.now bytes.now) line text.old result text.new }
+    ensures short { result.end ≤ line.end + 47 * length (values layout.now bytes.now) }
 {
     let size = ty.size() as usize;
     let fill = PrintedFill::of(layout);
@@ -89,7 +92,40 @@ fn put_next_value(
     ensures put { PutNumber layout.now (number_of ty value.now) line text.old result text.new }
     ensures short { result.end ≤ line.end + 47 }
 {
-    put_next_number(text, line, layout, fill, number_of(ty, value))
+    let number = number_of(ty, value);
+    match ty {
+        NcType::Byte | NcType::Ubyte => put_next_byte(text, line, layout, fill, number),
+        _ => put_next_number(text, line, layout, fill, number),
+    }
+}
+
+/// Puts a byte's number that isn't its row's first, as `_` or in decimal, into `text` at the end of `line`, after `, `, and on a new line if
+/// it doesn't fit. Returns the last line after it. No branch depends on the number, unless it prints as `_` or begins a line. Needs a
+/// `fill` made of `layout`, a number from -128 to 255, and room for 47 bytes in `text`.
+#[inline(always)]
+fn put_next_byte(
+    text: &mut [u8],
+    line: LastLine,
+    layout: &Layout<'_>,
+    fill: PrintedFill,
+    number: i128,
+) -> LastLine
+    requires byte { IsByteNumber number }
+    requires fill { IsFillOf (look_at layout.now) fill }
+    requires fits { line.end + 47 ≤ length text.old }
+    ensures put { PutNumber layout.now number line text.old result text.new }
+    ensures short { result.end ≤ line.end + 47 }
+{
+    if fill.prints(layout, number) {
+        return put_fill(text, line, layout.width);
+    }
+    let len = byte_number_len(number);
+    let start = put_gap_in_row(text, line, layout.width, len);
+    put_byte_number(text, start.offset, number);
+    LastLine {
+        end: start.offset + len,
+        columns_left: start.columns_left_after,
+    }
 }
 
 /// Puts a number that isn't its row's first, as `_` or in decimal, into `text` at the end of `line`, after `, `, and on a new line if it

@@ -7,6 +7,7 @@ use Rattle.std.proofs.lemmas.List.{take-take, drop-take}
 use Rattle.cdl_tokens.proofs.Decimals.{all_read, said}
 use Rattle.cdl_tokens.proofs.PlainTokens.{digit_number, ended_low}
 use Rattle.cdl_tokens.proofs.Suffixes.{no_suffix}
+use mir.Val.{bool_byte}
 
 -- the number token goes on after its digits as far as what follows them does
 digits_go_on : (bs : List ℕ) → prefix_len goes_on_number bs ≡ prefix_len is_digit bs + prefix_len goes_on_number (drop (prefix_len is_digit bs) bs)
@@ -161,7 +162,7 @@ sign_begins bs rest h h2 h3 = grind arith
 sign_within : (bs rest : List ℕ) (n : ℕ) → is_sign (slice_index bs 0) ≡ true → drop 1 bs ≡ rest → n ≤ length rest → 1 + n ≤ length bs
 sign_within bs rest n h h2 h3 = grind arith
 
-pub begins_signed : (bs rest : List ℕ) (n : Unsigned) (b : ℕ) (m : Numeral) → b ≡ slice_index bs 0 → is_sign b ≡ true → m ≡ numeral (b == 0x2d) n → drop 1 bs ≡ rest → BeginsUnsigned rest n →
+begins_signed : (bs rest : List ℕ) (n : Unsigned) (b : ℕ) (m : Numeral) → b ≡ slice_index bs 0 → is_sign b ≡ true → m ≡ numeral (b == 0x2d) n → drop 1 bs ≡ rest → BeginsUnsigned rest n →
     Begins bs (record { numeral = m; len = 1 + n.len; at_comma = n.at_comma })
 begins_signed bs rest n b m first sign says is d =
     let signed : is_sign (slice_index bs 0) ≡ true = ap is_sign (sym first) ∙ sign in
@@ -173,7 +174,7 @@ begins_signed bs rest n b m first sign says is d =
       says = λ v. ap Some (says ∙ ap (λ x. numeral (x == 0x2d) n) first) ∙ sign_said v bs rest n signed is d;
     }
 
-pub begins_unsigned : (bs : List ℕ) (n : Unsigned) (b : ℕ) (m : Numeral) → b ≡ slice_index bs 0 → is_sign b ≡ false → m ≡ numeral false n → BeginsUnsigned bs n →
+begins_unsigned : (bs : List ℕ) (n : Unsigned) (b : ℕ) (m : Numeral) → b ≡ slice_index bs 0 → is_sign b ≡ false → m ≡ numeral false n → BeginsUnsigned bs n →
     Begins bs (record { numeral = m; len = n.len; at_comma = n.at_comma })
 begins_unsigned bs n b m first sign says d =
     let len = len_after_first bs n d in
@@ -184,3 +185,13 @@ begins_unsigned bs n b m first sign says d =
       comma = d.comma;
       says = λ v. ap Some says ∙ plain_said v bs n (ap is_sign (sym first) ∙ sign) (omega (arith, len)) d;
     }
+
+-- with a minus or no sign
+pub begins_either : (bs rest : List ℕ) (n : Unsigned) (b : ℕ) (minus : Bool) → b ≡ slice_index bs 0 → (b == 0x2d) ≡ minus → drop (bool_byte minus) bs ≡ rest → BeginsUnsigned rest n →
+    Begins bs (record { numeral = numeral minus n; len = bool_byte minus + n.len; at_comma = n.at_comma })
+begins_either bs rest n b true first is others d = begins_signed bs rest n b _ first (grind (arith, is)) (ap (λ m. numeral m n) (sym is)) others d
+begins_either bs rest n b false first is others d =
+    let same = subst (λ (xs : List ℕ). BeginsUnsigned xs n) (sym others) d in
+    let digit = ap is_digit first ∙ same.digit in
+    subst (λ k. Begins bs (record { numeral = numeral false n; len = k; at_comma = n.at_comma })) (let e : n.len ≡ 0 + n.len = omega arith in e)
+    (begins_unsigned bs n b _ first (grind (arith, digit)) refl same)

@@ -1,9 +1,9 @@
-//! Plain numbers: an optional sign and at most 19 decimal digits, with no suffix or one of the suffixes that every version has.
+//! Plain numbers: an optional minus and at most 19 decimal digits, with no suffix or one of the suffixes that every version has.
 
 ghost use Rattle.std.specs.Prelude.{◌≡◌, IfSome};
 ghost use Rattle.cdl_tokens.specs.code.PlainTokens.{Begins, BeginsDecimal, BeginsUnsigned, IsLetterOf};
 
-use crate::bytes::{byte_at, ends_value, is_sign};
+use crate::bytes::{byte_at, ends_value};
 use crate::numeral::{Numeral, first_digits};
 use nc_base::NcType;
 
@@ -30,38 +30,27 @@ pub struct Unsigned {
     at_comma: bool,
 }
 
-/// Returns the plain number that the bytes begin with, if a comma or white space follows it: an optional sign, at most 19 decimal digits,
-/// and nothing or one letter, `b`, `s` or `l` in either case, which says the type. Otherwise returns `None`, also if a zero before other
-/// digits makes the number octal. It needs no version, which decides only which other suffixes there are.
+/// Returns the plain number that the bytes begin with, if a comma or white space follows it: an optional minus, at most 19 decimal digits,
+/// and nothing or one letter, `b`, `s` or `l` in either case, which says the type. Otherwise returns `None`, also after a plus, which hardly
+/// a list has, and if a zero before other digits makes the number octal. It needs no version, which decides only which other suffixes there
+/// are.
 #[inline(always)]
 pub fn plain_number(bytes: &[u8]) -> Option<PlainNumber>
     ensures { IfSome result (λ p. Begins bytes.now p) }
 {
-    let sign = byte_at(bytes, 0);
-    if is_sign(sign) {
-        let (_, rest) = bytes.split_at(1);
-        let n = without_sign(rest)?;
-        Some(PlainNumber {
-            numeral: Numeral {
-                minus: sign == b'-',
-                magnitude: Some(n.value),
-                ty: n.ty,
-            },
-            len: 1 + n.len,
-            at_comma: n.at_comma,
-        })
-    } else {
-        let n = without_sign(bytes)?;
-        Some(PlainNumber {
-            numeral: Numeral {
-                minus: false,
-                magnitude: Some(n.value),
-                ty: n.ty,
-            },
-            len: n.len,
-            at_comma: n.at_comma,
-        })
-    }
+    // No branch depends on the minus, which in many lists is as often there as not.
+    let minus = byte_at(bytes, 0) == b'-';
+    let (_, rest) = bytes.split_at(minus as usize);
+    let n = without_sign(rest)?;
+    Some(PlainNumber {
+        numeral: Numeral {
+            minus,
+            magnitude: Some(n.value),
+            ty: n.ty,
+        },
+        len: minus as usize + n.len,
+        at_comma: n.at_comma,
+    })
 }
 
 /// Returns the plain number without a sign that the bytes begin with. Returns `None` if there is none, if a zero before other digits makes

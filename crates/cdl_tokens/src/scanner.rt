@@ -92,8 +92,9 @@ impl<'a> Scanner<'a> {
         }
     }
 
-    /// Reads a plain number (decimal, at most 19 digits after an optional sign, with no suffix but `b`, `s` or `l`) and the comma after it, if they come next with
-    /// only white space before each. Otherwise returns `None`, and the scanner stays where it is. It is for the quick pass over a list.
+    /// Reads a plain number (decimal, at most 19 digits after an optional minus, with no suffix but `b`, `s` or `l`) and the comma after it, if
+    /// they come next with only white space before each. Otherwise returns `None`, and the scanner stays where it is. It is for the quick
+    /// pass over a list.
     #[inline(always)]
     pub fn number_and_comma(&mut self) -> Option<ListedNumber>
         ensures tokens { IfSome result (λ l. left self.old ≡ l.number ∷ l.comma ∷ left self.new) }
@@ -269,13 +270,10 @@ impl<'a> Scanner<'a> {
         ensures text { text_of self.new ≡ text_of self.old }
         ensures on { offset_of self.old ≤ offset_of self.new }
     {
-        if self.stands_at_token() {
+        if self.stands_at_token() || self.skip_space() && self.stands_at_token() {
             return;
         }
-        self.skip_space();
-        if !self.stands_at_token() {
-            self.skip_blanks();
-        }
+        self.skip_blanks();
     }
 
     /// Returns true if the next byte is greater than a space, as the first byte of every good token is. At the end of the text returns
@@ -287,16 +285,18 @@ impl<'a> Scanner<'a> {
         self.at < self.text.len() && self.text[self.at] > b' '
     }
 
-    /// Skips the next byte if it is a space.
+    /// Skips the next byte if it is a space, and returns true if it was one.
     #[inline(always)]
-    fn skip_space(&mut self)
+    fn skip_space(&mut self) -> bool
         ensures left { left self.new ≡ left self.old }
         ensures text { text_of self.new ≡ text_of self.old }
         ensures on { offset_of self.old ≤ offset_of self.new }
     {
         if self.at < self.text.len() && self.text[self.at] == b' ' {
             *self = self.after_byte();
+            return true;
         }
+        false
     }
 
     /// Skips white space, but no comment, and returns true if a comma comes next. The comma isn't passed. It suits the case that there is
