@@ -1,0 +1,176 @@
+-- The order of blocks, and blocks that have been sorted by their begins.
+use Rattle.std.proofs.Common.{◌≡◌, ℕ, zero, suc, ◌<◌, ◌≤◌, Bool, true, false, not, cond, List, [], ◌∷◌, filter, refl, sym, ◌∙◌, ap, subst, arith, ◌==◌, ◌&&◌, ◌||◌, inl, inr, ◌⊎◌, eq-eqb}
+use Rattle.std.specs.List.{Contains, AllPairs}
+use Rattle.std.specs.List.Sorted.{IsNonDecreasingBy, IsStableByKey, ties}
+use Rattle.std.specs.Ordering.{nat_cmp, is_lt}
+use Rattle.std.specs.declared.cmp.Ordering.TheVariants.{Less, Equal, Greater}
+use Rattle.std.proofs.lemmas.List.Kept.{AllPairs-filter}
+use Rattle.std.proofs.lemmas.Grind.{common_steps}
+use Rattle.std.proofs.lemmas.Bool.{cases_lt, lt-ltb, le-ltb, false≢true}
+use Rattle.nc_layout.specs.declared.{finding.Block.Block, blocks.Extent.Extent}
+use Rattle.nc_layout.specs.declared.finding.Block.TheVariants.{Var, Records}
+use Rattle.nc_layout.specs.Blocks.{is_listed_before, precedes}
+
+-- ---- one block before another
+
+listed-irrefl : (b : Block) → is_listed_before b b ≡ false
+listed-irrefl (Var i) = le-ltb i i (omega arith)
+listed-irrefl Records = refl
+
+listed-asym : (b c : Block) → is_listed_before b c ≡ true → is_listed_before c b ≡ false
+listed-asym (Var i) (Var j) h = grind (arith, common_steps)
+listed-asym (Var i) Records h = refl
+listed-asym Records c h = cc
+
+-- what the test says
+pub record Before (b c : Extent) : Type 0 where
+  pub begin : b.begin ≤ c.begin
+  pub listed : b.begin ≡ c.begin → is_listed_before b.block c.block ≡ true
+
+pub before-precedes : (b c : Extent) → Before b c → precedes b c ≡ true
+before-precedes b c h = by_order (cases_lt b.begin c.begin)
+  where
+    by_order : (b.begin < c.begin) ⊎ (c.begin ≤ b.begin) → precedes b c ≡ true
+    by_order (inl lt) = ap (λ t. t || ((b.begin == c.begin) && is_listed_before b.block c.block)) (lt-ltb b.begin c.begin lt)
+    by_order (inr le) =
+        let same : b.begin ≡ c.begin = omega (arith, h.begin) in
+        ap (λ t. t || ((b.begin == c.begin) && is_listed_before b.block c.block)) (le-ltb b.begin c.begin le)
+        ∙ ap (λ t. t && is_listed_before b.block c.block) (eq-eqb b.begin c.begin same) ∙ h.listed same
+
+pub precedes-before : (b c : Extent) → precedes b c ≡ true → Before b c
+precedes-before b c h = record { begin = begin; listed = λ same. listed same }
+  where
+    begin : b.begin ≤ c.begin
+    begin = grind (arith, common_steps)
+
+    listed : b.begin ≡ c.begin → is_listed_before b.block c.block ≡ true
+    listed same =
+        sym (ap (λ t. t || ((b.begin == c.begin) && is_listed_before b.block c.block)) (le-ltb b.begin c.begin (omega arith))
+        ∙ ap (λ t. t && is_listed_before b.block c.block) (eq-eqb b.begin c.begin same)) ∙ h
+
+-- a block doesn't precede one that precedes it
+pub precedes-asym : (b c : Extent) → precedes b c ≡ true → precedes c b ≡ false
+precedes-asym b c h = by_order (cases_lt b.begin c.begin) (precedes-before b c h)
+  where
+    by_order : (b.begin < c.begin) ⊎ (c.begin ≤ b.begin) → Before b c → precedes c b ≡ false
+    by_order (inl lt) k =
+        let apart : (c.begin == b.begin) ≡ false = grind (arith, common_steps) in
+        ap (λ t. t || ((c.begin == b.begin) && is_listed_before c.block b.block)) (le-ltb c.begin b.begin (omega arith))
+        ∙ ap (λ t. t && is_listed_before c.block b.block) apart
+    by_order (inr le) k =
+        let same : b.begin ≡ c.begin = omega (arith, k.begin) in
+        ap (λ t. t || ((c.begin == b.begin) && is_listed_before c.block b.block)) (le-ltb c.begin b.begin (omega (arith, k.begin)))
+        ∙ ap (λ t. t && is_listed_before c.block b.block) (eq-eqb c.begin b.begin (sym same))
+        ∙ listed-asym b.block c.block (k.listed same)
+
+pub precedes-irrefl : (b : Extent) → precedes b b ≡ false
+precedes-irrefl b =
+    ap (λ t. t || ((b.begin == b.begin) && is_listed_before b.block b.block)) (le-ltb b.begin b.begin (omega arith))
+    ∙ ap (λ t. t && is_listed_before b.block b.block) (eq-eqb b.begin b.begin refl) ∙ listed-irrefl b.block
+
+-- ---- lists of them
+
+-- each block precedes all after it
+abbrev pub Ascending : List Extent → Type 0
+Ascending [] = Unit {0}
+Ascending (b ∷ bs) = ((c : Extent) → Contains bs c → precedes b c ≡ true) × Ascending bs
+
+-- they are listed in their order, where they begin at one offset
+abbrev pub Listed : Extent → Extent → Type 0
+Listed b c = is_listed_before b.block c.block ≡ true
+
+-- ---- elements
+
+pub contains-here : {X : Type 0} (x : X) (xs : List X) → Contains (x ∷ xs) x
+contains-here {X} x xs = (0, omega arith, refl)
+
+pub contains-there : {X : Type 0} (x c : X) (xs : List X) → Contains xs c → Contains (x ∷ xs) c
+contains-there {X} x c xs (k, lt, at) = (suc k, omega arith, at)
+
+pub contains-cases : {X : Type 0} (x c : X) (xs : List X) → Contains (x ∷ xs) c → (x ≡ c) ⊎ Contains xs c
+contains-cases {X} x c xs (zero, lt, at) = inl at
+contains-cases {X} x c xs (suc k, lt, at) = inr (k, omega arith, at)
+
+pub contains-none : {X : Type 0} (c : X) → Contains [] c → ⊥
+contains-none {X} c (k, lt, at) = omega arith
+
+-- what a filter keeps is in the list and passes, and what passes is kept
+pub contains-filter : {X : Type 0} (p : X → Bool) (xs : List X) (c : X) → Contains xs c → p c ≡ true → Contains (filter p xs) c
+contains-filter {X} p [] c has passes = absurd (contains-none c has)
+contains-filter {X} p (x ∷ xs) c has passes = by_place (contains-cases x c xs has) (p x) refl (λ h. contains-filter p xs c h passes)
+  where
+    by_place : (x ≡ c) ⊎ Contains xs c → (b : Bool) → p x ≡ b → (Contains xs c → Contains (filter p xs) c)
+        → Contains (cond b (x ∷ filter p xs) (filter p xs)) c
+    by_place (inl same) true is ih = subst (λ (y : X). Contains (x ∷ filter p xs) y) same (contains-here x (filter p xs))
+    by_place (inl same) false is ih = absurd (false≢true (sym is ∙ ap p same ∙ passes))
+    by_place (inr later) true is ih = contains-there x c (filter p xs) (ih later)
+    by_place (inr later) false is ih = ih later
+
+pub filter-contains : {X : Type 0} (p : X → Bool) (xs : List X) (c : X) → Contains (filter p xs) c → Contains xs c × (p c ≡ true)
+filter-contains {X} p [] c has = absurd (contains-none c has)
+filter-contains {X} p (x ∷ xs) c has = by_test (p x) refl has (λ h. filter-contains p xs c h)
+  where
+    by_test : (b : Bool) → p x ≡ b → Contains (cond b (x ∷ filter p xs) (filter p xs)) c
+        → (Contains (filter p xs) c → Contains xs c × (p c ≡ true))
+        → Contains (x ∷ xs) c × (p c ≡ true)
+    by_test true is h ih =
+        elim (contains-cases x c (filter p xs) h) [
+          | inl same ↦ (subst (λ (y : X). Contains (x ∷ xs) y) same (contains-here x xs), sym (ap p same) ∙ is)
+          | inr later ↦ (contains-there x c xs (ih later).0, (ih later).1)
+        ]
+    by_test false is h ih = (contains-there x c xs (ih h).0, (ih h).1)
+
+-- ---- what a stable sort by begins leaves
+
+abbrev begins_before : Extent → Extent → Bool
+begins_before b c = is_lt (nat_cmp b.begin c.begin)
+
+not_before_itself : (n : ℕ) → is_lt (nat_cmp n n) ≡ false
+not_before_itself n =
+    ap (λ t. is_lt (cond t Less (cond (n == n) Equal Greater))) (le-ltb n n (omega arith))
+    ∙ ap (λ t. is_lt (cond t Equal Greater)) (eq-eqb n n refl)
+
+ties-same : (b c : Extent) → b.begin ≡ c.begin → ties begins_before b c ≡ true
+ties-same b c same =
+    let one : begins_before b c ≡ false = ap (λ n. is_lt (nat_cmp b.begin n)) (sym same) ∙ not_before_itself b.begin in
+    let other : begins_before c b ≡ false = ap (λ n. is_lt (nat_cmp n b.begin)) (sym same) ∙ not_before_itself b.begin in
+    ap (λ t. not t && not (begins_before c b)) one ∙ ap not other
+
+-- blocks that begin at one offset are listed in their order
+abbrev TiesAreListed : List Extent → Type 0
+TiesAreListed bs = (x : Extent) → AllPairs Listed (filter (ties begins_before x) bs)
+
+ties-tail : (b : Extent) (bs : List Extent) → TiesAreListed (b ∷ bs) → TiesAreListed bs
+ties-tail b bs h x = by_test (ties begins_before x b) (h x)
+  where
+    by_test : (t : Bool) → AllPairs Listed (cond t (b ∷ filter (ties begins_before x) bs) (filter (ties begins_before x) bs))
+        → AllPairs Listed (filter (ties begins_before x) bs)
+    by_test true k = λ i j d lt within. k (suc i) (suc j) d (omega arith) (omega arith)
+    by_test false k = k
+
+listed-after : (b c : Extent) (bs : List Extent) → TiesAreListed (b ∷ bs) → Contains bs c → b.begin ≡ c.begin → Listed b c
+listed-after b c bs h has same =
+    let first : AllPairs Listed (b ∷ filter (ties begins_before b) bs) =
+    subst (λ t. AllPairs Listed (cond t (b ∷ filter (ties begins_before b) bs) (filter (ties begins_before b) bs))) (ties-same b b refl)
+    (h b) in
+    after first (contains-filter (ties begins_before b) bs c has (ties-same b c same))
+  where
+    after : AllPairs Listed (b ∷ filter (ties begins_before b) bs) → Contains (filter (ties begins_before b) bs) c → Listed b c
+    after pairs (k, lt, at) = subst (λ (y : Extent). Listed b y) at (pairs 0 (suc k) c (omega arith) (omega arith))
+
+ascending : (bs : List Extent) → IsNonDecreasingBy (λ (b : Extent). b.begin) bs → TiesAreListed bs → Ascending bs
+ascending [] up tied = tt
+ascending (b ∷ bs) up tied = (
+  λ c has. before-precedes b c (record { begin = later c has; listed = λ same. listed-after b c bs tied has same }),
+  ascending bs (λ i j d le lt. up (suc i) (suc j) d (omega arith) (omega arith)) (ties-tail b bs tied),
+)
+  where
+    later : (c : Extent) → Contains bs c → b.begin ≤ c.begin
+    later c (k, lt, at) = subst (λ (y : Extent). b.begin ≤ y.begin) at (up 0 (suc k) c (omega arith) (omega arith))
+
+pub ascending-sorted : (xs ys : List Extent) → IsNonDecreasingBy (λ (b : Extent). b.begin) ys
+    → IsStableByKey (λ (b : Extent). b.begin) nat_cmp xs ys
+    → AllPairs Listed xs → Ascending ys
+ascending-sorted xs ys up stable pairs =
+    ascending ys up (λ x. subst (λ (bs : List Extent). AllPairs Listed bs) (sym (stable x))
+    (AllPairs-filter Listed (ties begins_before x) xs pairs))

@@ -1,0 +1,13 @@
+pub mod Examples
+pub mod SlotLists
+pub mod BlockLists
+pub mod PassedLists
+pub mod CutSlabs
+pub mod FlatPermutation
+pub mod BlockOrder
+pub mod ListedBlocks
+pub mod SweptBlocks
+pub mod QuietLayouts
+pub mod CanonicalBegins
+pub mod CanonicalLength
+pub mod SlabsApart

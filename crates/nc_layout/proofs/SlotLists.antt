@@ -1,0 +1,70 @@
+-- What is left of a list of slots in a loop, one slot on.
+use Rattle.std.proofs.Common.{◌≡◌, ℕ, ◌+◌, ◌<◌, ◌≤◌, min, Bool, true, false, List, [], ◌∷◌, length, get_or, drop, map, fold, sum_by, refl, ◌∙◌, ap, arith, Option, Some, None, ◌^◌, if◌then◌else◌}
+use Rattle.std.proofs.lemmas.List.{at_drop_more}
+use Rattle.std.proofs.lemmas.List.Sums.{sum_by-cons, sum_by-le-sum_by}
+use Rattle.nc_layout.specs.declared.slot.Slot.{Slot}
+use Rattle.nc_layout.specs.Slots.{padded_slab, is_sole_narrow, record_slots, slab_in_record, record_size, records_begin, least}
+use Rattle.nc_layout.specs.code.Records.{least_with, slab_if}
+
+-- the record slots from index i on
+abbrev pub rest : List Slot → ℕ → List Slot
+rest slots i = record_slots (drop i slots)
+
+pub rest-taken : (slots : List Slot) (i : ℕ) (d : Slot) → i < length slots → (get_or slots i d).is_record ≡ true
+    → rest slots i ≡ get_or slots i d ∷ rest slots (i + 1)
+rest-taken slots i d lt is =
+    at_drop_more record_slots slots i d lt ∙ ap (λ b. if b then get_or slots i d ∷ rest slots (i + 1) else rest slots (i + 1)) is
+
+pub rest-skipped : (slots : List Slot) (i : ℕ) (d : Slot) → i < length slots → (get_or slots i d).is_record ≡ false
+    → rest slots i ≡ rest slots (i + 1)
+rest-skipped slots i d lt is =
+    at_drop_more record_slots slots i d lt ∙ ap (λ b. if b then get_or slots i d ∷ rest slots (i + 1) else rest slots (i + 1)) is
+
+-- ---- the least begin
+
+-- the least of a number, if there is one, and the begins of these slots
+abbrev pub least_from : Option ℕ → List Slot → Option ℕ
+least_from found [] = found
+least_from found (slot ∷ slots) = least_from (Some (least_with found slot.begin)) slots
+
+least_from-some : (n : ℕ) (slots : List Slot) → least_from (Some n) slots ≡ Some (fold min n (map (λ (slot : Slot). slot.begin) slots))
+least_from-some n [] = refl
+least_from-some n (slot ∷ slots) = least_from-some (min n slot.begin) slots
+
+least_from-none : (slots : List Slot) → least_from None slots ≡ least (map (λ (slot : Slot). slot.begin) slots)
+least_from-none [] = refl
+least_from-none (slot ∷ slots) = least_from-some slot.begin slots
+
+pub records_begin-is : (slots : List Slot) → least_from None (record_slots slots) ≡ records_begin slots
+unfolding records_begin
+records_begin-is slots = least_from-none (record_slots slots)
+
+-- ---- the record size
+
+slab_in_record-is : (slots : List Slot) (narrow : Bool) → narrow ≡ is_sole_narrow (record_slots slots) → (rs : List Slot)
+    → sum_by (slab_if narrow) rs ≡ sum_by (slab_in_record slots) rs
+slab_in_record-is slots narrow is rs = ap (λ b. sum_by (slab_if b) rs) is
+
+pub record_size-is : (slots : List Slot) (narrow : Bool) → narrow ≡ is_sole_narrow (record_slots slots)
+    → sum_by (slab_if narrow) (record_slots slots) ≡ record_size slots
+unfolding record_size
+record_size-is slots narrow is = slab_in_record-is slots narrow is (record_slots slots)
+
+slab_if-le : (narrow : Bool) (slot : Slot) → slab_if narrow slot ≤ padded_slab slot
+slab_if-le true slot = omega arith
+slab_if-le false slot = omega arith
+
+-- a record isn't larger than its padded slabs
+pub record_size-le : (slots : List Slot) → record_size slots ≤ sum_by padded_slab (record_slots slots)
+unfolding record_size
+record_size-le slots =
+    sum_by-le-sum_by (slab_in_record slots) padded_slab (record_slots slots) (slab_if-le (is_sole_narrow (record_slots slots)))
+
+-- the next slab fits into the record
+pub record_size-fits : (slots : List Slot) (narrow : Bool) (i size : ℕ) (d : Slot) → i < length slots → (get_or slots i d).is_record ≡ true
+    → size + sum_by (slab_if narrow) (rest slots i) ≡ record_size slots → sum_by padded_slab (record_slots slots) ≤ 2 ^ 62
+    → size + slab_if narrow (get_or slots i d) ≤ 2 ^ 62
+record_size-fits slots narrow i size d lt is inv small =
+    let step : sum_by (slab_if narrow) (rest slots i) ≡ slab_if narrow (get_or slots i d) + sum_by (slab_if narrow) (rest slots (i + 1)) =
+    ap (sum_by (slab_if narrow)) (rest-taken slots i d lt is) ∙ sum_by-cons (slab_if narrow) (get_or slots i d) (rest slots (i + 1)) in
+    omega (arith, record_size-le slots)

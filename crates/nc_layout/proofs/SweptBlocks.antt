@@ -1,0 +1,320 @@
+-- One pass over the blocks in their order finds what the definition says of each block.
+use Rattle.std.proofs.Common.{◌≡◌, ℕ, ◌-◌, ◌<◌, ◌≤◌, nat_le, ◌&&◌, max, Bool, true, false, not, cond, List, [], ◌∷◌, ◌++◌, length, get_or, map, fold, filter, refl, sym, ◌∙◌, ap, subst, arith, Option, Some, None, nat_lt, ◌==◌, inl, inr, ◌⊎◌, eq-eqb, if◌then◌else◌, append_assoc}
+use Rattle.std.specs.Prelude.{flat_map, IsPermutation}
+use Rattle.std.specs.List.{Contains, find, list_any}
+use Rattle.std.specs.Option.{option_to_list, option_and_then, option_map_or}
+use Rattle.nc_layout.specs.declared.{finding.Block.Block, finding.LayoutPlace.LayoutPlace, finding.LayoutFact.LayoutFact}
+use Rattle.nc_layout.specs.declared.finding.Block.TheVariants.{Records}
+use Rattle.nc_layout.specs.declared.finding.LayoutPlace.TheVariants as places
+use Rattle.nc_layout.specs.declared.finding.LayoutFact.TheVariants as facts
+use Rattle.nc_layout.specs.NumRecsRules.{finding_if}
+use Rattle.std.proofs.lemmas.Bool.{cases_lt, lt-ltb, le-ltb, false≢true, eqb-true}
+use Rattle.std.proofs.lemmas.List.{get_or_default}
+use Rattle.std.proofs.lemmas.List.Elements.{Contains-append_left, Contains-append_cases, Contains-push, Contains-push_cases}
+use Rattle.std.proofs.lemmas.List.Folds.{list_any_none, list_any_at}
+use Rattle.std.proofs.lemmas.List.Sorted.{Contains-permutation, IsPermutation-sym}
+use Rattle.nc_layout.specs.declared.{finding.LayoutFinding.LayoutFinding, blocks.Extent.Extent, block_rules.Reached.Reached}
+use Rattle.nc_layout.specs.Blocks.{precedes, before}
+use Rattle.nc_layout.specs.BlockRules.{greatest_end, first_block, first_at_end, overlap, unpadded, gap, findings_after, block_findings}
+use Rattle.nc_layout.specs.code.Sweep.{value_end, padding_end, further, reached_with, end_of, findings_at, swept, overlap_after, unpadded_after, gap_after}
+use Rattle.nc_layout.proofs.BlockOrder.{precedes-asym, precedes-irrefl, Ascending, contains-here, contains-there, contains-cases, contains-none, contains-filter, filter-contains}
+use Rattle.nc_layout.proofs.FlatPermutation.{flat_map-IsPermutation}
+
+-- ---- the greatest end
+
+pub greatest_from-ge : (end : Extent → ℕ) (a : ℕ) (bs : List Extent) → a ≤ fold max a (map end bs)
+greatest_from-ge end a [] = omega arith
+greatest_from-ge end a (b ∷ bs) = let h = greatest_from-ge end (max a (end b)) bs in omega arith
+
+pub greatest_from-above : (end : Extent → ℕ) (a : ℕ) (bs : List Extent) (c : Extent) → Contains bs c → end c ≤ fold max a (map end bs)
+greatest_from-above end a [] c has = absurd (contains-none c has)
+greatest_from-above end a (b ∷ bs) c has = by_place (contains-cases b c bs has) (λ h. greatest_from-above end (max a (end b)) bs c h)
+  where
+    by_place : (b ≡ c) ⊎ Contains bs c → (Contains bs c → end c ≤ fold max (max a (end b)) (map end bs))
+        → end c ≤ fold max (max a (end b)) (map end bs)
+    by_place (inl same) ih = let h = greatest_from-ge end (max a (end b)) bs in let e = ap end same in omega arith
+    by_place (inr later) ih = ih later
+
+pub greatest_from-least : (end : Extent → ℕ) (a m : ℕ) (bs : List Extent) → a ≤ m → ((c : Extent) → Contains bs c → end c ≤ m)
+    → fold max a (map end bs) ≤ m
+greatest_from-least end a m [] le h = le
+greatest_from-least end a m (b ∷ bs) le h =
+    let here = h b (contains-here b bs) in
+    greatest_from-least end (max a (end b)) m bs (omega arith) (λ c has. h c (contains-there b c bs has))
+
+pub greatest-above : (end : Extent → ℕ) (bs : List Extent) (c : Extent) → Contains bs c → end c ≤ greatest_end end bs
+greatest-above end bs c has = greatest_from-above end 0 bs c has
+
+pub greatest-least : (end : Extent → ℕ) (m : ℕ) (bs : List Extent) → ((c : Extent) → Contains bs c → end c ≤ m) → greatest_end end bs ≤ m
+greatest-least end m bs h = greatest_from-least end 0 m bs (omega arith) h
+
+-- ---- the first block
+
+find-only : (p : Extent → Bool) (bs : List Extent) (c : Extent) → Contains bs c → p c ≡ true
+    → ((d : Extent) → Contains bs d → p d ≡ true → d ≡ c) → find p bs ≡ Some c
+find-only p [] c has passes only = absurd (contains-none c has)
+find-only p (b ∷ bs) c has passes only =
+    by_test (p b) refl (contains-cases b c bs has) (λ h. find-only p bs c h passes (λ d k t. only d (contains-there b d bs k) t))
+  where
+    by_test : (t : Bool) → p b ≡ t → (b ≡ c) ⊎ Contains bs c → (Contains bs c → find p bs ≡ Some c) → cond t (Some b) (find p bs) ≡ Some c
+    by_test true is place ih = ap (λ (x : Extent). Some x) (only b (contains-here b bs) is)
+    by_test false is (inl same) ih = absurd (false≢true (sym is ∙ ap p same ∙ passes))
+    by_test false is (inr later) ih = ih later
+
+some_precedes : (bs : List Extent) (c d : Extent) → Contains bs c → precedes c d ≡ true → list_any (λ e. precedes e d) bs ≡ true
+some_precedes bs c d (k, lt, at) is = list_any_at (λ e. precedes e d) bs k c lt (ap (λ (x : Extent). precedes x d) at ∙ is)
+
+none_precedes : (bs : List Extent) (c : Extent) → ((d : Extent) → Contains bs d → (c ≡ d) ⊎ (precedes c d ≡ true))
+    → list_any (λ e. precedes e c) bs ≡ false
+none_precedes bs c first = list_any_none (λ e. precedes e c) bs
+    (λ k d lt. no (get_or bs k d) (first (get_or bs k d) (k, lt, default k d lt)))
+  where
+    no : (e : Extent) → (c ≡ e) ⊎ (precedes c e ≡ true) → precedes e c ≡ false
+    no e (inl same) = ap (λ (x : Extent). precedes x c) (sym same) ∙ precedes-irrefl c
+    no e (inr is) = precedes-asym c e is
+
+    default : (k : ℕ) (d : Extent) → k < length bs → get_or bs k (get_or bs k d) ≡ get_or bs k d
+    default k d lt = get_or_default bs k (get_or bs k d) d lt
+
+-- a block of the list that precedes all others is the first
+first_block-is : (bs : List Extent) (c : Extent) → Contains bs c → ((d : Extent) → Contains bs d → (c ≡ d) ⊎ (precedes c d ≡ true))
+    → first_block bs ≡ Some c
+first_block-is bs c has first =
+    find-only (λ b. not (list_any (λ e. precedes e b) bs)) bs c has (ap not (none_precedes bs c first)) (λ d k t. only d (first d k) t)
+  where
+    only : (d : Extent) → (c ≡ d) ⊎ (precedes c d ≡ true) → not (list_any (λ e. precedes e d) bs) ≡ true → d ≡ c
+    only d (inl same) t = sym same
+    only d (inr is) t = absurd (false≢true (sym (ap not (some_precedes bs c d has is)) ∙ t))
+
+-- ---- the block that reaches furthest
+
+-- c is the first of these blocks that has their greatest end
+pub record IsFurthest (end : Extent → ℕ) (bs : List Extent) (c : Extent) : Type 0 where
+  pub among : Contains bs c
+  pub most : (d : Extent) → Contains bs d → end d ≤ end c
+  pub first : (d : Extent) → Contains bs d → end d ≡ end c → (c ≡ d) ⊎ (precedes c d ≡ true)
+
+-- the block is the one that reaches furthest, if there are blocks
+abbrev pub Furthest : (Extent → ℕ) → List Extent → Option Extent → Type 0
+Furthest end bs None = bs ≡ []
+Furthest end bs (Some c) = IsFurthest end bs c
+
+furthest-next : (end : Extent → ℕ) (bs : List Extent) (c b : Extent) → IsFurthest end bs c
+    → ((d : Extent) → Contains bs d → precedes d b ≡ true)
+    → end c < end b → IsFurthest end (bs ++ b ∷ []) b
+furthest-next end bs c b h below more = record {
+  among = Contains-push bs b;
+  most = λ d has. most d
+      (Contains-push_cases bs b d has);
+  first = λ d has same. first d (Contains-push_cases bs b d has) same;
+}
+  where
+    most : (d : Extent) → Contains bs d ⊎ (b ≡ d) → end d ≤ end b
+    most d (inl has) = let k = h.most d has in omega arith
+    most d (inr same) = let e = ap end same in omega arith
+
+    first : (d : Extent) → Contains bs d ⊎ (b ≡ d) → end d ≡ end b → (b ≡ d) ⊎ (precedes b d ≡ true)
+    first d (inl has) same = let k = h.most d has in absurd (omega arith)
+    first d (inr is) same = inl is
+
+furthest-kept : (end : Extent → ℕ) (bs : List Extent) (c b : Extent) → IsFurthest end bs c
+    → ((d : Extent) → Contains bs d → precedes d b ≡ true)
+    → end b ≤ end c → IsFurthest end (bs ++ b ∷ []) c
+furthest-kept end bs c b h below less =
+    record {
+      among = Contains-append_left bs (b ∷ []) c h.among;
+      most = λ d has. most d (Contains-push_cases bs b d has);
+      first = λ d has same. first d (Contains-push_cases bs b d has) same;
+    }
+  where
+    most : (d : Extent) → Contains bs d ⊎ (b ≡ d) → end d ≤ end c
+    most d (inl has) = h.most d has
+    most d (inr same) = let e = ap end same in omega arith
+
+    first : (d : Extent) → Contains bs d ⊎ (b ≡ d) → end d ≡ end c → (c ≡ d) ⊎ (precedes c d ≡ true)
+    first d (inl has) same = h.first d has same
+    first d (inr is) same = inr (subst (λ (x : Extent). precedes c x ≡ true) is (below c h.among))
+
+furthest-only : (end : Extent → ℕ) (b : Extent) → IsFurthest end (b ∷ []) b
+furthest-only end b = record {
+  among = contains-here b [];
+  most = λ d has. most d (contains-cases b d [] has);
+  first = λ d has same. inl
+      (only d (contains-cases b d [] has));
+}
+  where
+    only : (d : Extent) → (b ≡ d) ⊎ Contains {X = Extent} [] d → b ≡ d
+    only d (inl is) = is
+    only d (inr nowhere) = absurd (contains-none d nowhere)
+
+    most : (d : Extent) → (b ≡ d) ⊎ Contains {X = Extent} [] d → end d ≤ end b
+    most d (inl is) = let e = ap end is in omega arith
+    most d (inr nowhere) = absurd (contains-none d nowhere)
+
+-- one more block, which all others precede
+furthest-more : (end : Extent → ℕ) (bs : List Extent) (o : Option Extent) (b : Extent) → Furthest end bs o
+    → ((d : Extent) → Contains bs d → precedes d b ≡ true)
+    → Furthest end (bs ++ b ∷ []) (further end o b)
+furthest-more end bs None b none below = subst (λ (xs : List Extent). IsFurthest end (xs ++ b ∷ []) b) (sym none) (furthest-only end b)
+furthest-more end bs (Some c) b h below = by_order (cases_lt (end c) (end b))
+  where
+    by_order : (end c < end b) ⊎ (end b ≤ end c) → Furthest end (bs ++ b ∷ []) (further end (Some c) b)
+    by_order (inl more) =
+        subst (λ t. IsFurthest end (bs ++ b ∷ []) (if t then b else c)) (sym (lt-ltb (end c) (end b) more))
+        (furthest-next end bs c b h below more)
+    by_order (inr less) =
+        subst (λ t. IsFurthest end (bs ++ b ∷ []) (if t then b else c)) (sym (le-ltb (end c) (end b) less))
+        (furthest-kept end bs c b h below less)
+
+-- ---- the definition goes by the same blocks in another order
+
+-- the two lists have the same blocks
+pub record HaveSame (xs ys : List Extent) : Type 0 where
+  pub there : (c : Extent) → Contains xs c → Contains ys c
+  pub back : (c : Extent) → Contains ys c → Contains xs c
+
+no_elements : (xs : List Extent) → ((c : Extent) → Contains xs c → ⊥) → xs ≡ []
+no_elements [] none = refl
+no_elements (x ∷ xs) none = absurd (none x (contains-here x xs))
+
+-- what the pass has kept gives the greatest end, and the first block with this end
+abbrev Tells : (Extent → ℕ) → List Extent → Option Extent → Type 0
+Tells end xs o = (first_at_end end xs ≡ o) × (greatest_end end xs ≡ end_of end o)
+
+greatest-is : (end : Extent → ℕ) (xs bs : List Extent) (c : Extent) → HaveSame xs bs → IsFurthest end bs c → greatest_end end xs ≡ end c
+greatest-is end xs bs c same h =
+    let least = greatest-least end (end c) xs (λ d has. h.most d (same.there d has)) in
+    let above = greatest-above end xs c (same.back c h.among) in omega arith
+
+furthest-tells : (end : Extent → ℕ) (xs bs : List Extent) (o : Option Extent) → HaveSame xs bs → Furthest end bs o → Tells end xs o
+furthest-tells end xs bs None same none =
+    let empty : xs ≡ [] = no_elements xs (λ c has. contains-none c (subst (λ (ys : List Extent). Contains ys c) none (same.there c has))) in
+    (ap (first_at_end end) empty, ap (greatest_end end) empty)
+furthest-tells end xs bs (Some c) same h =
+    let at_end = λ (b : Extent). end b == greatest_end end xs in (
+      first_block-is (filter at_end xs) c
+          (contains-filter at_end xs c (same.back c h.among) (eq-eqb (end c) (greatest_end end xs) (sym greatest)))
+          (λ d has. let k = filter-contains at_end xs d has in h.first d (same.there d k.0)
+          (eqb-true (end d) (greatest_end end xs) k.1 ∙ greatest)),
+      greatest,
+    )
+  where
+    greatest : greatest_end end xs ≡ end c
+    greatest = greatest-is end xs bs c same h
+
+-- ---- the findings at one block
+
+told : (g : ℕ → Bool) (place : LayoutPlace) (f : ℕ → Block → LayoutFact) (end : Extent → ℕ) (n : ℕ) (first o : Option Extent)
+    → g 0 ≡ false → first ≡ o
+    → n ≡ end_of end o
+    → finding_if (g n) place (f n (option_map_or (λ (c : Extent). c.block) first Records))
+    ≡ option_and_then (λ (c : Extent). finding_if (g (end c)) place (f (end c) c.block)) o
+told g place f end n first None never_at_0 is greatest =
+    ap (λ t. finding_if t place (f n (option_map_or (λ (c : Extent). c.block) first Records))) (ap g greatest ∙ never_at_0)
+told g place f end n first (Some c) never_at_0 is greatest =
+    ap (λ (o : Option Extent). finding_if (g n) place (f n (option_map_or (λ (d : Extent). d.block) o Records))) is
+    ∙ ap (λ k. finding_if (g k) place (f k c.block)) greatest
+
+-- what the pass keeps of the blocks before one
+pub record HasReached (bs : List Extent) (reached : Reached) : Type 0 where
+  pub values : Furthest value_end bs reached.values
+  pub padding : Furthest padding_end bs reached.padding
+
+never : (s t : Bool) → t ≡ false → (s && t) ≡ false
+never true t h = h
+never false t h = refl
+
+findings-same : (header_end : ℕ) (xs bs : List Extent) (reached : Reached) (b : Extent) → HaveSame xs bs → HasReached bs reached
+    → findings_at header_end reached b ≡ findings_after header_end xs b
+findings-same header_end xs bs reached b same h =
+    joined (overlap_after reached b) (unpadded_after reached b) (gap_after header_end reached b) (overlap xs b) (unpadded xs b)
+    (gap header_end xs b)
+    overlaps unpaddeds gaps
+  where
+    values : Tells value_end xs reached.values
+    values = furthest-tells value_end xs bs reached.values same h.values
+
+    padding : Tells padding_end xs reached.padding
+    padding = furthest-tells padding_end xs bs reached.padding same h.padding
+
+    overlaps : overlap xs b ≡ overlap_after reached b
+    overlaps =
+        told (λ n. nat_lt b.begin n) (places.Begin b.var) (λ n block. facts.Overlap b.begin n block) value_end (greatest_end value_end xs)
+        (first_at_end value_end xs) reached.values (le-ltb b.begin 0 (omega arith)) values.0 values.1
+
+    unpaddeds : unpadded xs b ≡ unpadded_after reached b
+    unpaddeds =
+        told (λ n. nat_le (greatest_end value_end xs) b.begin && nat_lt b.begin n) (places.Begin b.var)
+        (λ n block. facts.Unpadded b.begin n block)
+        padding_end (greatest_end padding_end xs) (first_at_end padding_end xs) reached.padding
+        (never (nat_le (greatest_end value_end xs) b.begin) (nat_lt b.begin 0) (le-ltb b.begin 0 (omega arith))) padding.0 padding.1
+        ∙ ap (λ k. option_and_then (λ (c : Extent). finding_if (nat_le k b.begin && nat_lt b.begin c.padded_end) (places.Begin b.var)
+        (facts.Unpadded b.begin c.padded_end c.block)) reached.padding) values.1
+
+    gaps : gap header_end xs b ≡ gap_after header_end reached b
+    gaps =
+        ap (λ k. finding_if (nat_lt (max header_end k) b.begin) (places.Data (max header_end k))
+        (facts.Gap (b.begin - max header_end k) b.block)) padding.1
+
+    joined : (a b c d e f : Option LayoutFinding) → d ≡ a → e ≡ b → f ≡ c
+        → option_to_list a ++ option_to_list b ++ option_to_list c ≡ option_to_list d ++ option_to_list e ++ option_to_list f
+    joined a b c d e f p q r = cc
+
+-- ---- the whole pass
+
+-- the blocks before one are those that the pass has been over
+before-same : (bs sorted done rest : List Extent) (b : Extent) → IsPermutation bs sorted → sorted ≡ done ++ b ∷ rest
+    → ((c : Extent) → Contains done c → precedes c b ≡ true) → ((c : Extent) → Contains rest c → precedes b c ≡ true)
+    → HaveSame (before bs b) done
+before-same bs sorted done rest b same split below above = record { there = there; back = back }
+  where
+    earlier : (c : Extent) → precedes c b ≡ true → Contains done c ⊎ Contains (b ∷ rest) c → Contains done c
+    earlier c is (inl has) = has
+    earlier c is (inr has) =
+        elim (contains-cases b c rest has) [
+          | inl here ↦ absurd (false≢true (sym (precedes-irrefl b) ∙ ap (λ (x : Extent). precedes x b) here ∙ is))
+          | inr later ↦ absurd (false≢true (sym (precedes-asym b c (above c later)) ∙ is))
+        ]
+
+    there : (c : Extent) → Contains (before bs b) c → Contains done c
+    there c has =
+        let k = filter-contains (λ d. precedes d b) bs c has in
+        let inside = Contains-permutation bs sorted c same k.0 in
+        earlier c k.1 (Contains-append_cases done (b ∷ rest) c (subst (λ (xs : List Extent). Contains xs c) split inside))
+
+    back : (c : Extent) → Contains done c → Contains (before bs b) c
+    back c has =
+        let inside : Contains sorted c = subst (λ (xs : List Extent). Contains xs c) (sym split)
+        (Contains-append_left done (b ∷ rest) c has) in
+        contains-filter (λ d. precedes d b) bs c (Contains-permutation sorted bs c (IsPermutation-sym bs sorted same) inside) (below c has)
+
+swept-is : (header_end : ℕ) (bs sorted done rest : List Extent) (reached : Reached) → IsPermutation bs sorted → sorted ≡ done ++ rest
+    → ((c d : Extent) → Contains done c → Contains rest d → precedes c d ≡ true) → Ascending rest → HasReached done reached
+    → swept header_end reached rest ≡ flat_map (block_findings header_end bs) rest
+unfolding block_findings
+swept-is header_end bs sorted done [] reached same split below up h = refl
+swept-is header_end bs sorted done (b ∷ rest) reached same split below up h =
+    let before_b = λ (c : Extent) (has : Contains done c). below c b has (contains-here b rest) in
+    let here = findings-same header_end (before bs b) done reached b (before-same bs sorted done rest b same split before_b up.0) h in
+    let after = swept-is header_end bs sorted (done ++ b ∷ []) rest (reached_with reached b) same (split
+    ∙ sym (append_assoc done (b ∷ []) rest))
+    (λ c d in_done in_rest. next c d in_rest (Contains-push_cases done b c in_done)) up.1
+    (record {
+      values = furthest-more value_end done reached.values b h.values before_b;
+      padding = furthest-more padding_end done reached.padding b h.padding before_b;
+    }) in
+    ap (λ (xs : List LayoutFinding). xs ++ swept header_end (reached_with reached b) rest) here
+    ∙ ap (λ (xs : List LayoutFinding). findings_after header_end (before bs b) b ++ xs) after
+  where
+    next : (c d : Extent) → Contains rest d → Contains done c ⊎ (b ≡ c) → precedes c d ≡ true
+    next c d in_rest (inl has) = below c d has (contains-there b d rest in_rest)
+    next c d in_rest (inr is) = subst (λ (x : Extent). precedes x d ≡ true) is (up.0 d in_rest)
+
+-- one pass over the sorted blocks finds what there is to find at each of them
+pub swept-blocks : (header_end : ℕ) (bs sorted : List Extent) → IsPermutation bs sorted → Ascending sorted
+    → IsPermutation (flat_map (block_findings header_end bs) bs) (swept header_end (record { values = None; padding = None }) sorted)
+swept-blocks header_end bs sorted same up =
+    subst (λ (xs : List LayoutFinding). IsPermutation (flat_map (block_findings header_end bs) bs) xs)
+    (sym (swept-is header_end bs sorted [] sorted (record { values = None; padding = None }) same refl
+    (λ c d has. absurd (contains-none c has)) up (record { values = refl; padding = refl })))
+    (flat_map-IsPermutation (block_findings header_end bs) bs sorted same)

@@ -1,0 +1,8 @@
+use Rattle.std.proofs.Common.{◌≡◌, ◌+◌, sum_by}
+use Rattle.nc_layout.specs.Slots.{record_size}
+use Rattle.nc_layout.specs.code.Records.{slab_if}
+use Rattle.nc_layout.proofs.SlotLists.{rest}
+use Rattle.nc_layout.proofs.records.record_size.Given as goal
+
+abbrev pub invariant-loop-slot : goal.invariant-loop-slot
+invariant-loop-slot l = l.size + sum_by (slab_if l.sole_narrow) (rest l.slots l.slot-index) ≡ record_size l.slots

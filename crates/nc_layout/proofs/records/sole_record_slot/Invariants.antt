@@ -1,0 +1,8 @@
+use Rattle.std.proofs.Common.{◌≡◌, ◌++◌}
+use Rattle.std.specs.Option.{option_to_list}
+use Rattle.nc_layout.specs.Slots.{record_slots}
+use Rattle.nc_layout.proofs.SlotLists.{rest}
+use Rattle.nc_layout.proofs.records.sole_record_slot.Given as goal
+
+abbrev pub invariant-loop-slot : goal.invariant-loop-slot
+invariant-loop-slot l = option_to_list l.sole ++ rest l.slots l.slot-index ≡ record_slots l.slots

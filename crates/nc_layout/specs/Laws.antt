@@ -1,0 +1,108 @@
+-- Law. If nothing is found at the begins of variables and blocks, then each variable begins where a generated file has it: those that
+-- aren't record variables follow the header in its order, each with its padding, and then come the slabs of the first record. If nothing
+-- is found at the end of the file either, then the file has the length of the generated one. Without the findings that let slabs share
+-- bytes, no two slabs have a byte in common. Where values are missing, a slab isn't whole.
+use Rattle.std.specs.Prelude.{◌≡◌, ◌≤◌, ◌<◌, IsSome, ◌⊎◌, ℕ, ◌+◌, ◌*◌, Bool, true, false, if◌then◌else◌, List, filter, take, sum_by, slice_get, IfSome}
+use Rattle.std.specs.List.{All, AllPairs, list_any}
+use Rattle.nc_layout.specs.declared.{slot.Slot.Slot, slot.Layout.Layout, finding.LayoutFact.LayoutFact, finding.LayoutFinding.LayoutFinding, file_end.SlabPlace.SlabPlace}
+use Rattle.nc_layout.specs.declared.finding.LayoutFact.TheVariants.{Streaming, UnusedRecords, RecordCount, LargeVariable, BeginInHeader, Overlap, Unpadded, Order, AfterRecords, RecordPlace, Gap, Missing, EndPadding, Trailing}
+use Rattle.nc_layout.specs.Slots.{padded_slab, is_fixed, record_size, record_count}
+use Rattle.nc_layout.specs.SlotRules.{bytes_before}
+use Rattle.nc_layout.specs.FileEnd.{values_end, all_slabs, first_cut_slab}
+use Rattle.nc_layout.specs.Findings.{IsSoundLayout, layout_findings}
+
+-- a finding at the begin of a variable or of a block
+abbrev pub is_of_begin : LayoutFact → Bool
+is_of_begin (Streaming records) = false
+is_of_begin (UnusedRecords records) = false
+is_of_begin (RecordCount found by_length) = false
+is_of_begin (LargeVariable bytes limit) = false
+is_of_begin (BeginInHeader begin header_end) = true
+is_of_begin (Overlap begin end of) = true
+is_of_begin (Unpadded begin end of) = true
+is_of_begin (Order begin least of) = true
+is_of_begin (AfterRecords begin most) = true
+is_of_begin (RecordPlace begin expected) = true
+is_of_begin (Gap bytes before) = true
+is_of_begin (Missing file_len end slab) = false
+is_of_begin (EndPadding file_len end) = false
+is_of_begin (Trailing file_len end) = false
+
+-- a finding at the end of the file
+abbrev pub is_of_end : LayoutFact → Bool
+is_of_end (Streaming records) = false
+is_of_end (UnusedRecords records) = false
+is_of_end (RecordCount found by_length) = false
+is_of_end (LargeVariable bytes limit) = false
+is_of_end (BeginInHeader begin header_end) = false
+is_of_end (Overlap begin end of) = false
+is_of_end (Unpadded begin end of) = false
+is_of_end (Order begin least of) = false
+is_of_end (AfterRecords begin most) = false
+is_of_end (RecordPlace begin expected) = false
+is_of_end (Gap bytes before) = false
+is_of_end (Missing file_len end slab) = true
+is_of_end (EndPadding file_len end) = true
+is_of_end (Trailing file_len end) = true
+
+-- none of the findings is of this kind
+abbrev pub FindsNone : (LayoutFact → Bool) → Layout → Type 0
+FindsNone kind layout = list_any (λ (finding : LayoutFinding). kind finding.fact) (layout_findings layout) ≡ false
+
+-- the bytes of the blocks of these slots that aren't record slots, with their padding
+abbrev pub fixed_bytes : List Slot → ℕ
+fixed_bytes slots = sum_by padded_slab (filter is_fixed slots)
+
+-- where the slot at this index begins in a generated file
+abbrev pub canonical_begin : Layout → ℕ → Slot → ℕ
+canonical_begin layout i slot =
+    if slot.is_record
+    then layout.header_end + fixed_bytes layout.slots + bytes_before layout.slots i
+    else layout.header_end + fixed_bytes (take i layout.slots)
+
+abbrev pub HasCanonicalBegins : Layout → Type 0
+HasCanonicalBegins layout = (i : ℕ) → IfSome (slice_get layout.slots i) (λ (slot : Slot). slot.begin ≡ canonical_begin layout i slot)
+
+abbrev pub QuietBeginsAreCanonical : Type 0
+QuietBeginsAreCanonical = (layout : Layout) → FindsNone is_of_begin layout → HasCanonicalBegins layout
+
+-- the length of a generated file
+abbrev pub canonical_len : Layout → ℕ
+canonical_len layout = layout.header_end + fixed_bytes layout.slots + record_count layout * record_size layout.slots
+
+abbrev pub QuietLengthIsCanonical : Type 0
+QuietLengthIsCanonical = (layout : Layout) → IsSoundLayout layout → FindsNone is_of_begin layout → FindsNone is_of_end layout
+    → layout.file_len ≡ canonical_len layout
+
+-- a finding at a begin that lets two slabs share a byte, or a slab and the header
+abbrev pub is_of_shared_bytes : LayoutFact → Bool
+is_of_shared_bytes (Streaming records) = false
+is_of_shared_bytes (UnusedRecords records) = false
+is_of_shared_bytes (RecordCount found by_length) = false
+is_of_shared_bytes (LargeVariable bytes limit) = false
+is_of_shared_bytes (BeginInHeader begin header_end) = true
+is_of_shared_bytes (Overlap begin end of) = true
+is_of_shared_bytes (Unpadded begin end of) = false
+is_of_shared_bytes (Order begin least of) = false
+is_of_shared_bytes (AfterRecords begin most) = false
+is_of_shared_bytes (RecordPlace begin expected) = true
+is_of_shared_bytes (Gap bytes before) = false
+is_of_shared_bytes (Missing file_len end slab) = false
+is_of_shared_bytes (EndPadding file_len end) = false
+is_of_shared_bytes (Trailing file_len end) = false
+
+-- the slabs have no byte in common
+abbrev pub AreApart : SlabPlace → SlabPlace → Type 0
+AreApart a b = (a.end ≤ b.begin) ⊎ (b.end ≤ a.begin)
+
+-- no two slabs of the file have a byte in common, and none has a byte of the header
+pub record SharesNoByte (layout : Layout) : Type 0 where
+  pub slabs : AllPairs AreApart (all_slabs layout)
+  pub header : All (λ (slab : SlabPlace). layout.header_end ≤ slab.begin) (all_slabs layout)
+
+abbrev pub QuietSlabsAreApart : Type 0
+QuietSlabsAreApart = (layout : Layout) → FindsNone is_of_shared_bytes layout → SharesNoByte layout
+
+-- if the file ends before the values do, then there is a slab that isn't whole, so that `missing` names it
+abbrev pub MissingValuesHaveSlab : Type 0
+MissingValuesHaveSlab = (layout : Layout) → IsSoundLayout layout → layout.file_len < values_end layout → IsSome (first_cut_slab layout)

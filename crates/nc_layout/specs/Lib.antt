@@ -1,0 +1,9 @@
+pub mod Slots
+pub mod Blocks
+pub mod NumRecsRules
+pub mod SlotRules
+pub mod BlockRules
+pub mod FileEnd
+pub mod Findings
+pub mod Laws
+pub mod code

@@ -1,0 +1,36 @@
+-- Definition. Findings at the number of records (`numrecs` of the NetCDF Classic Format Specification, which lets a writer put the mark
+-- `STREAMING` there).
+use Rattle.std.specs.Prelude.{Bool, true, nat_lt, ◌&&◌, if◌then◌else◌, List, ◌++◌, is_some, is_none, Option, None, Some}
+use Rattle.std.specs.Option.{option_to_list}
+use Rattle.nc_base.specs.declared.header.NumRecs.{NumRecs}
+use Rattle.nc_base.specs.declared.header.NumRecs.TheVariants.{Known, Streaming}
+use Rattle.nc_layout.specs.declared.{slot.Layout.Layout, finding.LayoutPlace.LayoutPlace, finding.LayoutFact.LayoutFact, finding.LayoutFinding.LayoutFinding}
+use Rattle.nc_layout.specs.declared.finding.LayoutPlace.TheVariants as places
+use Rattle.nc_layout.specs.declared.finding.LayoutFact.TheVariants as facts
+use Rattle.nc_layout.specs.Slots.{records_begin, records_by_length}
+
+-- a finding, if the condition holds
+abbrev pub finding_if : Bool → LayoutPlace → LayoutFact → Option LayoutFinding
+finding_if holds place fact = if holds then Some (record { place = place; fact = fact }) else None
+
+-- the mark in place of a number
+abbrev pub streaming : Layout → NumRecs → Option LayoutFinding
+streaming layout (Known n) = None
+streaming layout Streaming = finding_if true places.NumRecs (facts.Streaming (records_by_length layout))
+
+-- records without a record slot
+abbrev pub unused_records : Layout → NumRecs → Option LayoutFinding
+unused_records layout (Known n) = finding_if (nat_lt 0 n && is_none (records_begin layout.slots)) places.NumRecs (facts.UnusedRecords n)
+unused_records layout Streaming = None
+
+-- more whole records in the file than the header counts
+abbrev pub uncounted_records : Layout → NumRecs → Option LayoutFinding
+uncounted_records layout (Known n) =
+    finding_if (is_some (records_begin layout.slots) && nat_lt n (records_by_length layout)) places.NumRecs
+    (facts.RecordCount n (records_by_length layout))
+uncounted_records layout Streaming = None
+
+unfoldable pub numrecs_findings : Layout → List LayoutFinding
+numrecs_findings layout =
+    option_to_list (streaming layout layout.numrecs) ++ option_to_list (unused_records layout layout.numrecs)
+    ++ option_to_list (uncounted_records layout layout.numrecs)

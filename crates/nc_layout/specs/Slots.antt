@@ -1,0 +1,52 @@
+-- Definition. The slabs of a file's variables and the records that they make (`vsize`, `recsize` and `numrecs` of the NetCDF Classic Format
+-- Specification).
+use Rattle.std.specs.Prelude.{ℕ, ◌+◌, ◌-◌, ◌/◌, min, Bool, false, not, if◌then◌else◌, List, [], ◌∷◌, filter, map, fold, sum_by, Option, None, Some}
+use Rattle.std.specs.Option.{option_map_or}
+use Rattle.nc_base.specs.Bytes.{padding_len}
+use Rattle.nc_base.specs.declared.header.NumRecs.{NumRecs}
+use Rattle.nc_base.specs.declared.header.NumRecs.TheVariants.{Known, Streaming}
+use Rattle.nc_layout.specs.declared.{slot.Slot.Slot, slot.Layout.Layout}
+
+-- with the padding up to the next multiple of four
+abbrev pub padded_slab : Slot → ℕ
+padded_slab slot = slot.slab + padding_len slot.slab
+
+abbrev pub is_fixed : Slot → Bool
+is_fixed slot = not slot.is_record
+
+abbrev pub record_slots : List Slot → List Slot
+record_slots slots = filter (λ (slot : Slot). slot.is_record) slots
+
+-- one alone, of narrow values
+abbrev pub is_sole_narrow : List Slot → Bool
+is_sole_narrow (slot ∷ []) = slot.is_narrow
+is_sole_narrow slots = false
+
+-- the bytes that the slab of a record slot takes in a record: a sole one of narrow values isn't padded
+abbrev pub slab_in_record : List Slot → Slot → ℕ
+slab_in_record slots slot = if is_sole_narrow (record_slots slots) then slot.slab else padded_slab slot
+
+-- the bytes from a record to the next
+unfoldable pub record_size : List Slot → ℕ
+record_size slots = sum_by (slab_in_record slots) (record_slots slots)
+
+-- the least of some numbers, if there are any
+abbrev pub least : List ℕ → Option ℕ
+least [] = None
+least (n ∷ ns) = Some (fold min n ns)
+
+-- where the records begin, if there are record slots
+unfoldable pub records_begin : List Slot → Option ℕ
+records_begin slots = least (map (λ (slot : Slot). slot.begin) (record_slots slots))
+
+-- how many whole records lie between the begin of the records and the end of the file
+unfoldable pub records_by_length : Layout → ℕ
+records_by_length layout = option_map_or (λ begin. (layout.file_len - begin) / record_size layout.slots) (records_begin layout.slots) 0
+
+-- the number of records
+unfoldable pub record_count : Layout → ℕ
+record_count layout = of_numrecs layout.numrecs
+  where
+    of_numrecs : NumRecs → ℕ
+    of_numrecs (Known n) = n
+    of_numrecs Streaming = records_by_length layout

@@ -1,0 +1,4 @@
+pub mod Records
+pub mod PassedSlots
+pub mod FileEnds
+pub mod Sweep

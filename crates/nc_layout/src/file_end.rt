@@ -1,0 +1,241 @@
+//! Findings at the end of the file.
+
+ghost use Rattle.std.specs.Prelude.{◌≡◌, ◌≤◌, ◌<◌, ◌+◌, ◌*◌, ◌++◌, ◌^◌, ℕ, OnOk, true, filter, max, nat_lt, if◌then◌else◌};
+ghost use Rattle.nc_layout.specs.Blocks.{blocks};
+ghost use Rattle.nc_layout.specs.Findings.{IsSoundLayout, IsSoundSlot};
+ghost use Rattle.nc_layout.specs.FileEnd.{record_slab, slabs_of, first_of, first_slab, is_cut, first_cut_slab, missing, end_padding, trailing, end_findings};
+ghost use Rattle.nc_layout.specs.code.Records.{AreRecords};
+ghost use Rattle.nc_layout.specs.code.FileEnds.{AreEnds};
+
+use crate::blocks::Extent;
+use crate::finding::{LayoutFact, LayoutFinding, LayoutPlace, Slab, finding_if, push_some};
+use crate::records::FileRecords;
+use crate::slot::{Layout, Slot};
+use nc_base::Sequence;
+use std::alloc::AllocError;
+
+/// Where the blocks of a file end, or the header if that is later.
+#[derive(Clone, Copy, Debug, PartialEq, Eq)]
+pub(crate) struct FileEnds {
+    /// The greatest end of the blocks that aren't empty.
+    pub values: u128,
+    /// The same with the padding of the blocks.
+    pub padding: u128,
+    /// The same, and not before an empty block.
+    pub used: u128,
+}
+
+/// Where a slab lies.
+#[derive(Clone, Copy, Debug, PartialEq, Eq)]
+pub(crate) struct SlabPlace {
+    /// Whose values it has.
+    pub slab: Slab,
+    /// The offset at which it begins.
+    pub begin: u128,
+    /// The offset at which its last value ends.
+    pub end: u128,
+}
+
+/// Appends the findings at the end of the file, whose blocks these are.
+#[tactic(auto, unfolding(crate::specs::FileEnd::end_findings))]
+pub(crate) fn push_end_findings(
+    found: &mut Sequence<LayoutFinding>,
+    layout: &Layout,
+    records: FileRecords,
+    extents: &[Extent],
+) -> Result<(), AllocError>
+    requires sound { IsSoundLayout layout.now }
+    requires records { AreRecords layout.now records }
+    requires blocks { extents.now ≡ blocks layout.now }
+    ensures { OnOk result (found.new ≡ found.old ++ end_findings layout.now) }
+{
+    let ends = file_ends(layout, extents);
+    push_some(found, missing(layout, records, ends))?;
+    push_some(found, end_padding(layout, ends))?;
+    push_some(found, trailing(layout, ends))?;
+    Ok(())
+}
+
+/// Returns where the blocks end.
+fn file_ends(layout: &Layout, extents: &[Extent]) -> FileEnds
+    requires { extents.now ≡ blocks layout.now }
+    ensures { AreEnds layout.now result }
+{
+    let header_end = layout.header_end as u128;
+    let mut ends = FileEnds {
+        values: header_end,
+        padding: header_end,
+        used: header_end,
+    };
+    for block in extents {
+        ends = ends_with(ends, *block);
+    }
+    ends
+}
+
+/// Returns the ends with those of one more block.
+fn ends_with(ends: FileEnds, block: Extent) -> FileEnds
+    ensures values { result.values
+        ≡ (if nat_lt block.begin block.end then max ends.values block.end else ends.values) }
+    ensures padding { result.padding
+        ≡ (if nat_lt block.begin block.end then max ends.padding block.padded_end else ends.padding) }
+    ensures used { result.used ≡ max ends.used block.padded_end }
+{
+    let used = ends.used.max(block.padded_end);
+    if block.end > block.begin as u128 {
+        FileEnds {
+            values: ends.values.max(block.end),
+            padding: ends.padding.max(block.padded_end),
+            used,
+        }
+    } else {
+        FileEnds { used, ..ends }
+    }
+}
+
+/// Returns the finding that the file ends before the values do.
+fn missing(layout: &Layout, records: FileRecords, ends: FileEnds) -> Option<LayoutFinding>
+    requires sound { IsSoundLayout layout.now }
+    requires records { AreRecords layout.now records }
+    requires ends { AreEnds layout.now ends }
+    ensures { result ≡ missing layout.now }
+{
+    let cut = first_cut_slab(layout, records)?;
+    finding_if(
+        (layout.file_len as u128) < ends.values,
+        LayoutPlace::Data(layout.file_len),
+        LayoutFact::Missing {
+            file_len: layout.file_len,
+            end: ends.values,
+            slab: cut.slab,
+        },
+    )
+}
+
+/// Returns the finding that the file has all values, but ends before their padding does.
+fn end_padding(layout: &Layout, ends: FileEnds) -> Option<LayoutFinding>
+    requires { AreEnds layout.now ends }
+    ensures { result ≡ end_padding layout.now }
+{
+    let file_len = layout.file_len as u128;
+    finding_if(
+        ends.values <= file_len && file_len < ends.padding,
+        LayoutPlace::Data(layout.file_len),
+        LayoutFact::EndPadding {
+            file_len: layout.file_len,
+            end: ends.padding,
+        },
+    )
+}
+
+/// Returns the finding that the file has bytes after the values and their padding.
+fn trailing(layout: &Layout, ends: FileEnds) -> Option<LayoutFinding>
+    requires { AreEnds layout.now ends }
+    ensures { result ≡ trailing layout.now }
+{
+    if ends.used < layout.file_len as u128 {
+        let end = ends.used as u64;
+        Some(LayoutFinding {
+            place: LayoutPlace::Data(end),
+            fact: LayoutFact::Trailing {
+                file_len: layout.file_len,
+                end,
+            },
+        })
+    } else {
+        None
+    }
+}
+
+/// Returns the first slab that the file doesn't have whole.
+fn first_cut_slab(layout: &Layout, records: FileRecords) -> Option<SlabPlace>
+    requires sound { IsSoundLayout layout.now }
+    requires records { AreRecords layout.now records }
+    ensures { result ≡ first_cut_slab layout.now }
+{
+    let slots = layout.slots.as_slice();
+    let mut first = None;
+    for (i, slot) in slots.iter().enumerate() {
+        let cut = cut_slab_of(layout.file_len, records, i as u64, *slot);
+        first = first_of(first, cut);
+    }
+    first
+}
+
+/// Returns of two slabs, if there are two, the one that begins first: the earlier one, if they begin at one offset.
+fn first_of(slab: Option<SlabPlace>, later: Option<SlabPlace>) -> Option<SlabPlace>
+    ensures { result ≡ first_of slab later }
+{
+    match (slab, later) {
+        (None, later) => later,
+        (Some(slab), None) => Some(slab),
+        (Some(slab), Some(later)) => Some(if later.begin < slab.begin {
+            later
+        } else {
+            slab
+        }),
+    }
+}
+
+/// Returns the first slab of this slot that a file of `file_len` bytes doesn't have whole.
+fn cut_slab_of(file_len: u64, records: FileRecords, i: u64, slot: Slot) -> Option<SlabPlace>
+    requires sound { IsSoundSlot slot }
+    requires size { slot.is_record ≡ true → 0 < records.size }
+    requires small { records.size ≤ 2 ^ 62 }
+    ensures { result
+        ≡ first_slab (filter (is_cut file_len) (slabs_of records.size records.count i slot)) }
+{
+    if slot.is_record {
+        let whole = whole_slabs(file_len, slot, records.size);
+        if whole < records.count {
+            Some(record_slab(records.size, i, slot, whole))
+        } else {
+            None
+        }
+    } else {
+        let begin = slot.begin as u128;
+        let end = begin + slot.slab as u128;
+        if end > file_len as u128 {
+            Some(SlabPlace {
+                slab: Slab::Var(i),
+                begin,
+                end,
+            })
+        } else {
+            None
+        }
+    }
+}
+
+/// Returns the slab of the record slot in the record with this number.
+fn record_slab(size: u64, i: u64, slot: Slot, number: u64) -> SlabPlace
+    requires sound { IsSoundSlot slot }
+    requires small { size ≤ 2 ^ 62 }
+    ensures { result ≡ record_slab size i slot number }
+{
+    let begin = slot.begin as u128 + number as u128 * size as u128;
+    SlabPlace {
+        slab: Slab::Record {
+            var: i,
+            record: number,
+        },
+        begin,
+        end: begin + slot.slab as u128,
+    }
+}
+
+/// Returns how many slabs of this record slot a file of `file_len` bytes has whole, with `size` bytes from one record to the next, if there
+/// is no end of records.
+fn whole_slabs(file_len: u64, slot: Slot, size: u64) -> u64
+    requires sound { IsSoundSlot slot }
+    requires size { 0 < size }
+    ensures whole { (r : ℕ) → r < result → slot.begin + r * size + slot.slab ≤ file_len }
+    ensures cut { (r : ℕ) → result ≤ r → file_len < slot.begin + r * size + slot.slab }
+{
+    let end = slot.begin + slot.slab;
+    if file_len < end {
+        0
+    } else {
+        (file_len - end) / size + 1
+    }
+}

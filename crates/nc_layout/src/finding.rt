@@ -1,0 +1,184 @@
+//! What can be found about the layout of a file.
+
+ghost use Rattle.std.specs.Prelude.{◌≡◌, ◌++◌, OnOk};
+ghost use Rattle.std.specs.Option.{option_to_list};
+ghost use Rattle.nc_layout.specs.NumRecsRules.{finding_if};
+
+use nc_base::Sequence;
+use std::alloc::AllocError;
+
+/// Where a finding lies.
+#[derive(Clone, Copy, Debug, PartialEq, Eq)]
+pub enum LayoutPlace {
+    /// At the number of records in the header.
+    NumRecs,
+    /// At the field `vsize` of the variable with this index.
+    Vsize(u64),
+    /// At the field `begin` of the variable with this index.
+    Begin(u64),
+    /// At this offset, in the data after the header.
+    Data(u64),
+}
+
+/// Whose values a block has.
+#[derive(Clone, Copy, Debug, PartialEq, Eq)]
+pub enum Block {
+    /// Those of the variable with this index, which isn't a record variable.
+    Var(u64),
+    /// Those of all record variables.
+    Records,
+}
+
+/// Whose values a slab has.
+#[derive(Clone, Copy, Debug, PartialEq, Eq)]
+pub enum Slab {
+    /// Those of the variable with this index, which isn't a record variable.
+    Var(u64),
+    /// Those of a record variable in one record.
+    Record {
+        /// The index of the variable.
+        var: u64,
+        /// The number of the record, from 0.
+        record: u64,
+    },
+}
+
+/// What is found, with the numbers that show it.
+#[derive(Clone, Copy, Debug, PartialEq, Eq)]
+pub enum LayoutFact {
+    /// The header has the streaming mark in place of a number of records.
+    Streaming {
+        /// The number of whole records in the file.
+        records: u64,
+    },
+    /// There are records, but no record variable.
+    UnusedRecords {
+        /// The number of records.
+        records: u64,
+    },
+    /// The file has room for more whole records than the header counts.
+    RecordCount {
+        /// The number of records in the header.
+        found: u64,
+        /// The number of whole records in the file.
+        by_length: u64,
+    },
+    /// The slab is greater than the version allows for a variable in this position.
+    LargeVariable {
+        /// The bytes of the slab.
+        bytes: u64,
+        /// The greatest number of bytes that the version allows here.
+        limit: u64,
+    },
+    /// The variable begins inside of the header.
+    BeginInHeader {
+        /// The begin of the variable.
+        begin: u64,
+        /// The end of the header.
+        header_end: u64,
+    },
+    /// The block begins before the values of an earlier block end.
+    Overlap {
+        /// The begin of the block.
+        begin: u64,
+        /// The greatest end of the blocks before it.
+        end: u128,
+        /// The first block that ends there.
+        of: Block,
+    },
+    /// The block begins before the padding of an earlier block ends, but after its values.
+    Unpadded {
+        /// The begin of the block.
+        begin: u64,
+        /// The greatest end of the blocks before it, with their padding.
+        end: u128,
+        /// The first block that ends there.
+        of: Block,
+    },
+    /// The variable begins before one that comes earlier in the header.
+    Order {
+        /// The begin of the variable.
+        begin: u64,
+        /// The greatest begin of the earlier variables.
+        least: u64,
+        /// The index of the first variable that begins there.
+        of: u64,
+    },
+    /// The variable isn't a record variable, but begins after the records do.
+    AfterRecords {
+        /// The begin of the variable.
+        begin: u64,
+        /// The begin of the records.
+        most: u64,
+    },
+    /// The slab of the record variable isn't in its place in the first record.
+    RecordPlace {
+        /// The begin of the variable.
+        begin: u64,
+        /// The begin that puts the slab in its place.
+        expected: u64,
+    },
+    /// There are unused bytes before a block.
+    Gap {
+        /// The number of unused bytes.
+        bytes: u64,
+        /// The block that begins after them.
+        before: Block,
+    },
+    /// The file ends before the values do.
+    Missing {
+        /// The bytes of the file.
+        file_len: u64,
+        /// The end of the values.
+        end: u128,
+        /// The first slab that isn't whole.
+        slab: Slab,
+    },
+    /// The file has all values, but ends before their padding does.
+    EndPadding {
+        /// The bytes of the file.
+        file_len: u64,
+        /// The end of the values with their padding.
+        end: u128,
+    },
+    /// The file has bytes after the values and their padding.
+    Trailing {
+        /// The bytes of the file.
+        file_len: u64,
+        /// The end of the values with their padding.
+        end: u64,
+    },
+}
+
+/// A finding about the layout of a file.
+#[derive(Clone, Copy, Debug, PartialEq, Eq)]
+pub struct LayoutFinding {
+    /// Where it lies.
+    pub place: LayoutPlace,
+    /// What is found.
+    pub fact: LayoutFact,
+}
+
+/// Returns the finding with this place and this fact if the condition holds.
+pub(crate) fn finding_if(holds: bool, place: LayoutPlace, fact: LayoutFact) -> Option<LayoutFinding>
+    ensures { result ≡ finding_if holds place fact }
+{
+    if holds {
+        Some(LayoutFinding { place, fact })
+    } else {
+        None
+    }
+}
+
+/// Appends the finding, if there is one.
+pub(crate) fn push_some(
+    found: &mut Sequence<LayoutFinding>,
+    finding: Option<LayoutFinding>,
+) -> Result<(), AllocError>
+    ensures { OnOk result (found.new ≡ found.old ++ option_to_list finding) }
+{
+    match finding {
+        Some(finding) => found.push(finding),
+        None => Ok(()),
+    }
+}

@@ -1,0 +1,25 @@
+//! Laws of the definitions in `specs/`, each the contract of a function that does nothing.
+
+ghost use Rattle.nc_layout.specs.Laws.{QuietBeginsAreCanonical, QuietLengthIsCanonical, QuietSlabsAreApart, MissingValuesHaveSlab};
+
+/// States two laws, and does nothing. `begins`: if nothing is found at the begins of variables and blocks, then each variable begins where
+/// a generated file has it.
+///
+/// `length`: if nothing is found at the end of the file either, then the file has the length of the generated one. So no other rule on
+/// begins or on the length is needed.
+pub fn quiet_layouts_are_canonical()
+    ensures begins { QuietBeginsAreCanonical }
+    ensures length { QuietLengthIsCanonical }
+{}
+
+/// States a law, and does nothing: if no variable begins inside of the header, no block begins before the values of an earlier one end, and
+/// each record variable has its place in the record, then no byte lies in two slabs, nor in a slab and the header.
+pub fn quiet_slabs_are_apart()
+    ensures { QuietSlabsAreApart }
+{}
+
+/// States a law, and does nothing: if the file ends before the values do, then some slab isn't whole. So the finding that values are missing
+/// is there exactly if the file ends before the values do.
+pub fn missing_values_have_slab()
+    ensures { MissingValuesHaveSlab }
+{}

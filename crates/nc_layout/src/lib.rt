@@ -1,0 +1,23 @@
+//! The rules on the layout of a netCDF classic file.
+//!
+//! Everything here is about numbers: the begins and slabs of the variables, the number of records, the end of the header and the length of
+//! the file. Nothing reads a device, and no byte of a header or of a value is looked at. `specs/` has the definitions.
+#![tactic(auto)]
+
+mod block_rules;
+mod blocks;
+mod file_end;
+mod finding;
+mod findings;
+pub mod laws;
+mod numrecs_rules;
+mod records;
+mod slot;
+mod slot_rules;
+
+pub use finding::{Block, LayoutFact, LayoutFinding, LayoutPlace, Slab};
+pub use findings::layout_findings;
+pub use slot::{Layout, Slot};
+
+#[cfg(test)]
+mod tests;

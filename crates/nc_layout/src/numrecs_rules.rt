@@ -1,0 +1,77 @@
+//! Findings at the number of records.
+
+ghost use Rattle.std.specs.Prelude.{◌≡◌, ◌++◌, OnOk};
+ghost use Rattle.nc_layout.specs.NumRecsRules.{streaming, unused_records, uncounted_records, numrecs_findings};
+ghost use Rattle.nc_layout.specs.code.Records.{AreRecords};
+
+use crate::finding::{LayoutFact, LayoutFinding, LayoutPlace, finding_if, push_some};
+use crate::records::FileRecords;
+use crate::slot::Layout;
+use nc_base::{NumRecs, Sequence};
+use std::alloc::AllocError;
+
+/// Appends the findings at the number of records.
+#[tactic(auto, unfolding(crate::specs::NumRecsRules::numrecs_findings))]
+pub(crate) fn push_numrecs_findings(
+    found: &mut Sequence<LayoutFinding>,
+    layout: &Layout,
+    records: FileRecords,
+) -> Result<(), AllocError>
+    requires { AreRecords layout.now records }
+    ensures { OnOk result (found.new ≡ found.old ++ numrecs_findings layout.now) }
+{
+    push_some(found, streaming(layout, records))?;
+    push_some(found, unused_records(layout, records))?;
+    push_some(found, uncounted_records(layout, records))?;
+    Ok(())
+}
+
+/// Returns the finding that the header has the streaming mark in place of a number.
+fn streaming(layout: &Layout, records: FileRecords) -> Option<LayoutFinding>
+    requires { AreRecords layout.now records }
+    ensures { result ≡ streaming layout.now layout.now.numrecs }
+{
+    match layout.numrecs {
+        NumRecs::Known(_) => None,
+        NumRecs::Streaming => finding_if(
+            true,
+            LayoutPlace::NumRecs,
+            LayoutFact::Streaming {
+                records: records.by_length,
+            },
+        ),
+    }
+}
+
+/// Returns the finding that there are records, but no record slot.
+fn unused_records(layout: &Layout, records: FileRecords) -> Option<LayoutFinding>
+    requires { AreRecords layout.now records }
+    ensures { result ≡ unused_records layout.now layout.now.numrecs }
+{
+    match layout.numrecs {
+        NumRecs::Known(n) => finding_if(
+            n > 0 && records.begin.is_none(),
+            LayoutPlace::NumRecs,
+            LayoutFact::UnusedRecords { records: n },
+        ),
+        NumRecs::Streaming => None,
+    }
+}
+
+/// Returns the finding that the file has more whole records than the header counts.
+fn uncounted_records(layout: &Layout, records: FileRecords) -> Option<LayoutFinding>
+    requires { AreRecords layout.now records }
+    ensures { result ≡ uncounted_records layout.now layout.now.numrecs }
+{
+    match layout.numrecs {
+        NumRecs::Known(n) => finding_if(
+            records.begin.is_some() && n < records.by_length,
+            LayoutPlace::NumRecs,
+            LayoutFact::RecordCount {
+                found: n,
+                by_length: records.by_length,
+            },
+        ),
+        NumRecs::Streaming => None,
+    }
+}

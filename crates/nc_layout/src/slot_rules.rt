@@ -1,0 +1,219 @@
+//! Findings at the size or the begin of one variable.
+
+ghost use Rattle.std.specs.Prelude.{◌≡◌, ◌≤◌, ◌<◌, ◌^◌, ◌+◌, ◌++◌, Option, OnOk, is_some, slice_get, Some, sum_by};
+ghost use Rattle.std.specs.Option.{ForSome};
+ghost use Rattle.nc_layout.specs.Slots.{padded_slab, records_begin};
+ghost use Rattle.nc_layout.specs.Blocks.{each_slot};
+ghost use Rattle.nc_layout.specs.Findings.{IsSoundLayout, IsSoundSlot};
+ghost use Rattle.nc_layout.specs.SlotRules.{large_limit, large_variable, begin_in_header, after_records, record_place, slot_findings};
+ghost use Rattle.nc_layout.specs.code.Records.{AreRecords};
+ghost use Rattle.nc_layout.specs.code.PassedSlots.{HasPassed, order_after, passed_after, next_has_successor};
+
+use crate::finding::{LayoutFact, LayoutFinding, LayoutPlace, finding_if, push_some};
+use crate::records::{FileRecords, padded_slab};
+use crate::slot::{Layout, Slot};
+use nc_base::{Sequence, Version};
+use std::alloc::AllocError;
+
+/// What the rules on one slot depend on of the slots before it, and how many are left.
+#[derive(Clone, Copy, Debug, PartialEq, Eq)]
+pub(crate) struct PassedSlots {
+    /// The greatest begin of the slots before it that aren't record slots.
+    pub latest_begin: u64,
+    /// The index of the first of them that has this begin.
+    pub latest: u64,
+    /// The bytes of the record slots before it in a record.
+    pub record_bytes: u64,
+    /// How many slots are left that aren't record slots.
+    pub fixed_left: u64,
+    /// How many record slots are left.
+    pub records_left: u64,
+}
+
+/// Appends the findings at the size or the begin of each variable.
+pub(crate) fn push_slot_findings(
+    found: &mut Sequence<LayoutFinding>,
+    layout: &Layout,
+    records: FileRecords,
+) -> Result<(), AllocError>
+    requires sound { IsSoundLayout layout.now }
+    requires records { AreRecords layout.now records }
+    ensures { OnOk result
+        (found.new ≡ found.old ++ each_slot (slot_findings layout.now) 0 layout.now.slots) }
+{
+    let slots = layout.slots.as_slice();
+    let mut passed = no_slot_passed(slots);
+    for (i, slot) in slots.iter().enumerate() {
+        push_findings_of_slot(found, layout, records, passed, i as u64, *slot)?;
+        passed = passed_after(passed, i as u64, *slot);
+    }
+    Ok(())
+}
+
+/// Returns what there is to know before the first of these slots.
+fn no_slot_passed(slots: &[Slot]) -> PassedSlots
+    ensures { HasPassed slots.now 0 result }
+{
+    let records_left = slots.iter().filter(|slot| slot.is_record).count() as u64;
+    let fixed_left = slots.iter().filter(|slot| !slot.is_record).count() as u64;
+    PassedSlots {
+        latest_begin: 0,
+        latest: 0,
+        record_bytes: 0,
+        fixed_left,
+        records_left,
+    }
+}
+
+/// Returns what there is to know after this slot, which has this index.
+fn passed_after(passed: PassedSlots, i: u64, slot: Slot) -> PassedSlots
+    requires bytes { passed.record_bytes ≤ 2 ^ 62 }
+    requires slab { slot.slab ≤ 2 ^ 48 }
+    ensures { result ≡ passed_after passed i slot }
+{
+    if slot.is_record {
+        PassedSlots {
+            record_bytes: passed.record_bytes + padded_slab(slot),
+            records_left: passed.records_left.saturating_sub(1),
+            ..passed
+        }
+    } else {
+        PassedSlots {
+            latest_begin: passed.latest_begin.max(slot.begin),
+            latest: if passed.latest_begin < slot.begin {
+                i
+            } else {
+                passed.latest
+            },
+            fixed_left: passed.fixed_left.saturating_sub(1),
+            ..passed
+        }
+    }
+}
+
+/// Appends the findings at the size and the begin of this slot, which has this index.
+#[tactic(auto, using(crate::proofs::PassedLists::begin_is_small, crate::proofs::PassedLists::bytes_are_small))]
+fn push_findings_of_slot(
+    found: &mut Sequence<LayoutFinding>,
+    layout: &Layout,
+    records: FileRecords,
+    passed: PassedSlots,
+    i: u64,
+    slot: Slot,
+) -> Result<(), AllocError>
+    requires sound { IsSoundLayout layout.now }
+    requires records { AreRecords layout.now records }
+    requires passed { HasPassed layout.now.slots i passed }
+    requires at { slice_get layout.now.slots i ≡ Some slot }
+    ensures { OnOk result (found.new ≡ found.old ++ slot_findings layout.now i slot) }
+{
+    let is_followed = has_successor(passed, records.begin.is_some(), slot);
+    push_some(found, large_variable(layout.version, is_followed, i, slot))?;
+    push_some(found, begin_in_header(layout, i, slot))?;
+    push_some(found, order(passed, i, slot))?;
+    push_some(found, after_records(records.begin, i, slot))?;
+    push_some(
+        found,
+        record_place(records.begin, passed.record_bytes, i, slot),
+    )?;
+    Ok(())
+}
+
+/// Returns the greatest slab that the version allows for a variable that isn't the last.
+fn large_limit(version: Version) -> Option<u64>
+    ensures { result ≡ large_limit version }
+{
+    match version {
+        Version::Cdf1 => Some((1 << 31) - 4),
+        Version::Cdf2 => Some((1 << 32) - 4),
+        Version::Cdf5 => None,
+    }
+}
+
+/// Returns true if a slot of the kind of this one follows it, or if it isn't a record slot and there are record slots.
+fn has_successor(passed: PassedSlots, has_records: bool, slot: Slot) -> bool
+    ensures { result ≡ next_has_successor passed has_records slot }
+{
+    if slot.is_record {
+        passed.records_left > 1
+    } else {
+        passed.fixed_left > 1 || has_records
+    }
+}
+
+/// Returns the finding that the slab is greater than the version allows for a variable that isn't the last.
+fn large_variable(version: Version, is_followed: bool, i: u64, slot: Slot) -> Option<LayoutFinding>
+    ensures { result ≡ large_variable version is_followed i slot }
+{
+    let limit = large_limit(version)?;
+    finding_if(
+        slot.slab > limit && is_followed,
+        LayoutPlace::Vsize(i),
+        LayoutFact::LargeVariable {
+            bytes: slot.slab,
+            limit,
+        },
+    )
+}
+
+/// Returns the finding that the variable begins inside of the header.
+fn begin_in_header(layout: &Layout, i: u64, slot: Slot) -> Option<LayoutFinding>
+    ensures { result ≡ begin_in_header layout.now i slot }
+{
+    finding_if(
+        slot.begin < layout.header_end,
+        LayoutPlace::Begin(i),
+        LayoutFact::BeginInHeader {
+            begin: slot.begin,
+            header_end: layout.header_end,
+        },
+    )
+}
+
+/// Returns the finding that the variable begins before one that comes earlier in the header.
+fn order(passed: PassedSlots, i: u64, slot: Slot) -> Option<LayoutFinding>
+    ensures { result ≡ order_after passed i slot }
+{
+    finding_if(
+        !slot.is_record && slot.begin < passed.latest_begin,
+        LayoutPlace::Begin(i),
+        LayoutFact::Order {
+            begin: slot.begin,
+            least: passed.latest_begin,
+            of: passed.latest,
+        },
+    )
+}
+
+/// Returns the finding that the variable isn't a record variable, but begins after the records do, if they begin somewhere.
+fn after_records(records_begin: Option<u64>, i: u64, slot: Slot) -> Option<LayoutFinding>
+    ensures { result ≡ after_records records_begin i slot }
+{
+    let most = records_begin?;
+    finding_if(
+        !slot.is_record && slot.begin > most,
+        LayoutPlace::Begin(i),
+        LayoutFact::AfterRecords {
+            begin: slot.begin,
+            most,
+        },
+    )
+}
+
+/// Returns the finding that the slab of the record variable isn't in its place, after this many bytes of the first record.
+fn record_place(records_begin: Option<u64>, bytes: u64, i: u64, slot: Slot) -> Option<LayoutFinding>
+    requires begin { ForSome records_begin (λ begin. begin < 2 ^ 63) }
+    requires bytes { bytes ≤ 2 ^ 62 }
+    ensures { result ≡ record_place records_begin bytes i slot }
+{
+    let begin = records_begin?;
+    let expected = begin + bytes;
+    finding_if(
+        slot.is_record && slot.begin != expected,
+        LayoutPlace::Begin(i),
+        LayoutFact::RecordPlace {
+            begin: slot.begin,
+            expected,
+        },
+    )
+}
