@@ -20,9 +20,10 @@ all: bin/ncdump bin/ncgen
 	bin/ncdump bin/stations.nc
 
 # Proves and builds both programs, if anything has changed.
-# (tests, examples, edits and nc_variable are no part of them)
+# (tests, examples, edits, and libraries that no program uses are no part of them)
 bin/ncdump bin/ncgen &: $(wildcard build.sh HANDLES crates.txt) $(shell find crates \( -name out -o -name must-fail -o -name wrong-bodies \
-		-o -name 'test_*' -o -name 'example_*' -o -name uses -o -name nc_variable \) -prune -o -type f -print 2>/dev/null)
+		-o -name 'test_*' -o -name 'example_*' -o -name uses -o -name nc_variable \
+		-o -name nc_check -o -name nc_layout \) -prune -o -type f -print 2>/dev/null)
 	./build.sh
 
 # The merge gate, in parts that run side by side where none waits for another. A release has neither tests nor the sources that they prove.

@@ -1,6 +1,6 @@
 #!/usr/bin/env bash
 # Proves and builds the programs into bin/. rt ci keeps what it has proved: `make test` doesn't prove it again, nor does this after `make
-# test`. Here it runs in a copy without the crates of tests and examples, and without nc_variable, which no program uses. A crate gets two
+# test`. Here it runs in a copy without the crates of tests and examples, and without the libraries that no program uses. A crate gets two
 # processors if nothing else can be proved at the same time. So it runs for the longest chain of crates alone, and beside that, a little less
 # urgently, for the others.
 set -euo pipefail
@@ -12,8 +12,9 @@ fi
 
 copy=$(mktemp -d)
 trap 'rm -rf "$copy"' EXIT
-grep -v '^test_\|^example_\|^uses\|^nc_variable' crates.txt >"$copy/crates.txt"
-tar -c --exclude=out --exclude=must-fail --exclude=crates/test_\* --exclude=crates/example_\* --exclude=crates/uses --exclude=crates/nc_variable HANDLES crates | tar -x -C "$copy"
+grep -v '^test_\|^example_\|^uses\|^nc_variable\|^nc_check\|^nc_layout' crates.txt >"$copy/crates.txt"
+tar -c --exclude=out --exclude=must-fail --exclude=crates/test_\* --exclude=crates/example_\* --exclude=crates/uses --exclude=crates/nc_variable --exclude=crates/nc_check \
+    --exclude=crates/nc_layout HANDLES crates | tar -x -C "$copy"
 
 prove() {
     trap 'kill $(jobs -p) 2>/dev/null || true' EXIT
