@@ -1,13 +1,13 @@
 //! The whole header.
 
-ghost use Rattle.std.specs.Prelude.{◌≡◌, ◌≤◌, ◌∷◌, [], codes, if◌then◌else◌, length, IfOk, Ok, Err};
+ghost use Rattle.std.specs.Prelude.{◌≡◌, ◌≤◌, ◌∷◌, [], codes, if◌then◌else◌, length, IfOk, OnOk, Ok, Err};
 ghost use Rattle.std.specs.Bool.{OnTrue};
 ghost use Rattle.std.specs.Str.{bytes_eq};
 ghost use Rattle.nc_base.specs.Grammar.{checked, header_by, magic_part, version_in, version_part};
 ghost use Rattle.nc_base.specs.Parts.{Magic, VersionByte, bytes};
 ghost use Rattle.nc_base.specs.declared.fault.FormatFault.TheVariants.{NotNetcdf};
 ghost use Rattle.nc_check.specs.Lenient.{lenient};
-ghost use Rattle.nc_check.specs.Listings.{Blames, IsListing};
+ghost use Rattle.nc_check.specs.Listings.{Blames, IsListing, ReadsForward};
 ghost use Rattle.nc_check.specs.code.Answers.{Answers};
 
 use crate::entry::{Content, Entry};
@@ -33,7 +33,8 @@ pub struct Listing {
 /// Lists the fields of the header at the start of a source, through a caller's buffer of at least 16 bytes, which may hold anything before
 /// and after. All types of the format are taken, and names that aren't valid as long as the fields are in step.
 ///
-/// No count of the header reserves memory: the list grows as fields are read.
+/// It reads forward, and at most one buffer more of a transparent source than the header, or than the bytes up to the end of the first wrong
+/// field. No count of the header reserves memory: the list grows as fields are read.
 ///
 /// # Errors
 ///
@@ -48,6 +49,8 @@ pub fn list_fields<S: Source>(
     ensures bytes { (S.view source.new).bytes ≡ (S.view source.old).bytes }
     ensures cause { Blames (S.view source.old).failures (S.view source.new) result }
     ensures listing { OnTrue S.is_transparent (IfOk result (IsListing (S.view source.old).bytes)) }
+    ensures forward { OnTrue S.is_transparent (OnOk result (ReadsForward (S.view source.old).bytes
+        (S.view source.old).handed (S.view source.new).handed (length buf.old))) }
 {
     let len = source.len();
     let mut window = Window {

@@ -1,5 +1,5 @@
 use Rattle.std.proofs.Common.{refl, rules}
-use Rattle.nc_check.proofs.Listed.{blamed, is-listing}
+use Rattle.nc_check.proofs.Listed.{blamed, is-listing, reads-forward}
 use Rattle.nc_check.proofs.header.list_fields.Goals as goal
 
 pub returns-clause-cause : goal.returns-clause-cause
@@ -7,3 +7,6 @@ returns-clause-cause g c = let h = blamed _ _ _ _ c.header-answer.ensures c.answ
 
 pub returns-clause-listing : goal.returns-clause-listing
 returns-clause-listing g c = is-listing _ _ _ _ c.new.ensures refl c.header-answer.ensures c.answered.ensures
+
+pub returns-clause-forward : goal.returns-clause-forward
+returns-clause-forward g c = let h = reads-forward _ _ _ _ refl refl refl c.header-answer.ensures c.answered.ensures in search rules
