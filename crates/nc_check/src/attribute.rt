@@ -32,7 +32,8 @@ impl Fields {
         owner: Owner,
         len: u128,
     ) -> Result<Sequence<u8>, HeadFault>
-        ensures values { Checked (at window.old self.old) (at window.new self.new) (Values ∷ owner_steps owner) (bytes len HeaderTruncated) result }
+        ensures values { Checked (at window.old self.old) (at window.new self.new)
+            (Values ∷ owner_steps owner) (bytes len HeaderTruncated) result }
         ensures whole { IfOk result (λ vals. length vals ≡ len) }
     {
         let place = Place {
@@ -55,7 +56,8 @@ impl Fields {
         version: Version,
         owner: Owner,
     ) -> Result<Att, HeadFault>
-        ensures { Checked (at window.old self.old) (at window.new self.new) (owner_steps owner) (att_part lenient version) result }
+        ensures { Checked (at window.old self.old) (at window.new self.new)
+            (owner_steps owner) (att_part lenient version) result }
     {
         let count = Place {
             owner,
@@ -87,7 +89,8 @@ impl Fields {
         list: ListName,
         n: u64,
     ) -> Result<Sequence<Att>, HeadFault>
-        ensures { Checked (at window.old self.old) (at window.new self.new) (list_steps list) (each (att_after lenient version) n []) result }
+        ensures { Checked (at window.old self.old) (at window.new self.new)
+            (list_steps list) (each (att_after lenient version) n []) result }
     {
         let mut atts = Sequence::new(alloc);
         for i in 0..n {
@@ -105,7 +108,8 @@ impl Fields {
         version: Version,
         list: ListName,
     ) -> Result<Sequence<Att>, HeadFault>
-        ensures { Checked (at window.old self.old) (at window.new self.new) (list_steps list) (att_list lenient version) result }
+        ensures { Checked (at window.old self.old) (at window.new self.new)
+            (list_steps list) (att_list lenient version) result }
     {
         let n = self.list_len(window, version, list, NC_ATTRIBUTE)?;
         self.atts(window, alloc, version, list, n)

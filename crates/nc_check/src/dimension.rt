@@ -29,7 +29,8 @@ impl Fields {
         owner: Owner,
         has_record: bool,
     ) -> Result<Dim, HeadFault>
-        ensures { Checked (at window.old self.old) (at window.new self.new) (owner_steps owner) (dim_part lenient version has_record) result }
+        ensures { Checked (at window.old self.old) (at window.new self.new)
+            (owner_steps owner) (dim_part lenient version has_record) result }
     {
         let name = self.name(window, alloc, version, owner)?;
         let len = self.dim_len(window, version, owner, has_record)?;
@@ -44,7 +45,8 @@ impl Fields {
         version: Version,
         n: u64,
     ) -> Result<Sequence<Dim>, HeadFault>
-        ensures { Checked (at window.old self.old) (at window.new self.new) (Dims ∷ []) (each (dim_after lenient version) n []) result }
+        ensures { Checked (at window.old self.old) (at window.new self.new)
+            (Dims ∷ []) (each (dim_after lenient version) n []) result }
     {
         let mut dims = Sequence::new(alloc);
         let mut has_record = false;
@@ -63,7 +65,8 @@ impl Fields {
         alloc: Global,
         version: Version,
     ) -> Result<Sequence<Dim>, HeadFault>
-        ensures { Checked (at window.old self.old) (at window.new self.new) (Dims ∷ []) (dim_list lenient version) result }
+        ensures { Checked (at window.old self.old) (at window.new self.new)
+            (Dims ∷ []) (dim_list lenient version) result }
     {
         let n = self.list_len(window, version, ListName::Dims, NC_DIMENSION)?;
         self.dims(window, alloc, version, n)

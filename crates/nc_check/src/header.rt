@@ -93,7 +93,8 @@ impl Fields {
     /// Reads the three bytes that should be `CDF`. Errs with `NotNetcdf` if they are others, or if there are fewer.
     fn letters<S: Source>(&mut self, window: &mut Window<'_, S>) -> Result<[u8; 3], HeadFault>
         ensures { Checked (at window.old self.old) (at window.new self.new) (Magic ∷ [])
-            (checked (λ letters. bytes_eq letters (codes "CDF")) NotNetcdf (bytes 3 NotNetcdf)) result }
+            (checked (λ letters. bytes_eq letters (codes "CDF")) NotNetcdf (bytes 3 NotNetcdf))
+            result }
     {
         let place = Place {
             owner: Owner::Header,
@@ -106,7 +107,8 @@ impl Fields {
 
     /// Reads the version byte. Errs with `UnknownVersion` if it is none of 1, 2 and 5.
     fn version<S: Source>(&mut self, window: &mut Window<'_, S>) -> Result<Version, HeadFault>
-        ensures { Checked (at window.old self.old) (at window.new self.new) (VersionByte ∷ []) version_part result }
+        ensures { Checked (at window.old self.old) (at window.new self.new)
+            (VersionByte ∷ []) version_part result }
     {
         let place = Place {
             owner: Owner::Header,
@@ -135,7 +137,8 @@ impl Fields {
         window: &mut Window<'_, S>,
         alloc: Global,
     ) -> Result<Header, HeadFault>
-        ensures { Checked (at window.old self.old) (at window.new self.new) [] (header_by lenient) result }
+        ensures { Checked (at window.old self.old) (at window.new self.new)
+            [] (header_by lenient) result }
     {
         let version = self.magic(window)?;
         let numrecs = self.numrecs(window, version)?;

@@ -23,7 +23,8 @@ impl Fields {
         list: ListName,
         tag: u32,
     ) -> Result<u64, HeadFault>
-        ensures { Checked (at window.old self.old) (at window.new self.new) (list_steps list) (list_head version tag) result }
+        ensures { Checked (at window.old self.old) (at window.new self.new)
+            (list_steps list) (list_head version tag) result }
     {
         let found = self.tag(window, list.tag(), tag)?;
         self.list_count(window, version, list.count(), found)

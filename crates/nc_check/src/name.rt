@@ -27,7 +27,8 @@ impl Fields {
         owner: Owner,
         n: u64,
     ) -> Result<Sequence<u8>, HeadFault>
-        ensures { Checked (at window.old self.old) (at window.new self.new) (Text ∷ Name ∷ owner_steps owner)
+        ensures { Checked (at window.old self.old) (at window.new self.new)
+            (Text ∷ Name ∷ owner_steps owner)
             (checked may_be_name BadName (bytes n HeaderTruncated)) result }
     {
         let place = Place {
@@ -51,7 +52,8 @@ impl Fields {
         n: u64,
     ) -> Result<(), HeadFault>
         requires { IsFilling place }
-        ensures { Checked (at window.old self.old) (at window.new self.new) (steps_of place) (ignored n) result }
+        ensures { Checked (at window.old self.old) (at window.new self.new)
+            (steps_of place) (ignored n) result }
     {
         let start = start_at(window, place, n as u128);
         let filling = start.unless_cut(&mut self.entries, window.bytes(alloc, n as u128))?;
@@ -66,7 +68,8 @@ impl Fields {
         version: Version,
         owner: Owner,
     ) -> Result<Sequence<u8>, HeadFault>
-        ensures { Checked (at window.old self.old) (at window.new self.new) (Name ∷ owner_steps owner) (name_part lenient version) result }
+        ensures { Checked (at window.old self.old) (at window.new self.new)
+            (Name ∷ owner_steps owner) (name_part lenient version) result }
     {
         let length = Place {
             owner,

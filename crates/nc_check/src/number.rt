@@ -28,7 +28,8 @@ impl Fields {
         place: Place,
     ) -> Result<u64, HeadFault>
         requires { IsNumeric place }
-        ensures { Checked (at window.old self.old) (at window.new self.new) (steps_of place) (count_part version) result }
+        ensures { Checked (at window.old self.old) (at window.new self.new)
+            (steps_of place) (count_part version) result }
     {
         let start = start_at(window, place, count_len(version));
         let n = start.unless_cut(&mut self.entries, window.number(version))?;
@@ -44,8 +45,10 @@ impl Fields {
         owner: Owner,
         has_record: bool,
     ) -> Result<u64, HeadFault>
-        ensures { Checked (at window.old self.old) (at window.new self.new) (Length ∷ owner_steps owner)
-            (checked (λ len. not (has_record && (len == 0))) TwoRecordDims (count_part version)) result }
+        ensures { Checked (at window.old self.old) (at window.new self.new)
+            (Length ∷ owner_steps owner)
+            (checked (λ len. not (has_record && (len == 0))) TwoRecordDims (count_part version))
+            result }
     {
         let place = Place {
             owner,
@@ -108,7 +111,8 @@ impl Fields {
         version: Version,
         owner: Owner,
     ) -> Result<NcType, HeadFault>
-        ensures { Checked (at window.old self.old) (at window.new self.new) (TypeCode ∷ owner_steps owner) (type_part lenient version) result }
+        ensures { Checked (at window.old self.old) (at window.new self.new)
+            (TypeCode ∷ owner_steps owner) (type_part lenient version) result }
     {
         let place = Place {
             owner,
@@ -134,8 +138,10 @@ impl Fields {
         dimids: &[u64],
         total: u64,
     ) -> Result<NcType, HeadFault>
-        ensures var_type { Checked (at window.old self.old) (at window.new self.new) (TypeCode ∷ owner_steps owner)
-            (checked (is_within_limits dims.now total dimids.now) TooLarge (type_part lenient version)) result }
+        ensures var_type { Checked (at window.old self.old) (at window.new self.new)
+            (TypeCode ∷ owner_steps owner)
+            (checked (is_within_limits dims.now total dimids.now) TooLarge (type_part lenient version))
+            result }
         ensures fits { IfOk result (λ ty. IsTrue (is_within_limits dims.now total dimids.now ty)) }
     {
         let place = Place {
@@ -161,7 +167,8 @@ impl Fields {
         k: u64,
         dims: &[Dim],
     ) -> Result<u64, HeadFault>
-        ensures { Checked (at window.old self.old) (at window.new self.new) (Item k ∷ Shape ∷ owner_steps owner)
+        ensures { Checked (at window.old self.old) (at window.new self.new)
+            (Item k ∷ Shape ∷ owner_steps owner)
             (dimid_part version dims.now (k == 0)) result }
     {
         let place = Place {
@@ -184,7 +191,8 @@ impl Fields {
         version: Version,
         owner: Owner,
     ) -> Result<u64, HeadFault>
-        ensures { Checked (at window.old self.old) (at window.new self.new) (Vsize ∷ owner_steps owner) (number (count_width version)) result }
+        ensures { Checked (at window.old self.old) (at window.new self.new)
+            (Vsize ∷ owner_steps owner) (number (count_width version)) result }
     {
         let place = Place {
             owner,
@@ -202,7 +210,8 @@ impl Fields {
         version: Version,
         owner: Owner,
     ) -> Result<u64, HeadFault>
-        ensures { Checked (at window.old self.old) (at window.new self.new) (Begin ∷ owner_steps owner) (offset_part version) result }
+        ensures { Checked (at window.old self.old) (at window.new self.new)
+            (Begin ∷ owner_steps owner) (offset_part version) result }
     {
         let place = Place {
             owner,
@@ -219,7 +228,8 @@ impl Fields {
         window: &mut Window<'_, S>,
         version: Version,
     ) -> Result<NumRecs, HeadFault>
-        ensures { Checked (at window.old self.old) (at window.new self.new) (Records ∷ []) (numrecs_part version) result }
+        ensures { Checked (at window.old self.old) (at window.new self.new)
+            (Records ∷ []) (numrecs_part version) result }
     {
         let place = Place {
             owner: Owner::Header,
@@ -269,7 +279,8 @@ fn count_in(version: Version, n: u64) -> Result<u64, FormatFault>
 /// Returns the length `n` of a dimension. Errs with `BadCount` if its top bit is 1, and with `TwoRecordDims` if it is 0 and `has_record` is
 /// true.
 fn dim_len_in(version: Version, has_record: bool, n: u64) -> Result<u64, FormatFault>
-    ensures { result ≡ judged_then (λ n. if nat_lt n (count_limit version) then Ok n else Err BadCount)
+    ensures { result ≡ judged_then
+        (λ n. if nat_lt n (count_limit version) then Ok n else Err BadCount)
         (λ len. if not (has_record && (len == 0)) then Ok len else Err TwoRecordDims) n }
 {
     let len = count_in(version, n)?;
@@ -291,7 +302,8 @@ fn tag_in(tag: u32, found: u32) -> Result<u32, FormatFault>
 
 /// Returns the number `n` of elements. Errs with `BadCount` if its top bit is 1, or if it isn't 0 and the tag is.
 fn list_count_in(version: Version, tag: u32, n: u64) -> Result<u64, FormatFault>
-    ensures { result ≡ judged_then (λ n. if nat_lt n (count_limit version) then Ok n else Err BadCount)
+    ensures { result ≡ judged_then
+        (λ n. if nat_lt n (count_limit version) then Ok n else Err BadCount)
         (λ n. if not (tag == 0) || (n == 0) then Ok n else Err BadCount) n }
 {
     let count = count_in(version, n)?;

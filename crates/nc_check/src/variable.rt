@@ -39,7 +39,8 @@ impl Fields {
         dims: &[Dim],
         n: u64,
     ) -> Result<Sequence<u64>, HeadFault>
-        ensures { Checked (at window.old self.old) (at window.new self.new) (Shape ∷ owner_steps owner) (each (dimid_after version dims.now) n []) result }
+        ensures { Checked (at window.old self.old) (at window.new self.new)
+            (Shape ∷ owner_steps owner) (each (dimid_after version dims.now) n []) result }
     {
         let mut dimids = Sequence::new(alloc);
         for i in 0..n {
@@ -58,7 +59,8 @@ impl Fields {
         owner: Owner,
         dims: &[Dim],
     ) -> Result<Sequence<u64>, HeadFault>
-        ensures { Checked (at window.old self.old) (at window.new self.new) (Shape ∷ owner_steps owner) (shape_part version dims.now) result }
+        ensures { Checked (at window.old self.old) (at window.new self.new)
+            (Shape ∷ owner_steps owner) (shape_part version dims.now) result }
     {
         let rank = Place {
             owner,
@@ -79,9 +81,11 @@ impl Fields {
         dims: &[Dim],
         total: u64,
     ) -> Result<CountedVar, HeadFault>
-        ensures var { Checked (at window.old self.old) (at window.new self.new) (owner_steps (Owner.Var number))
+        ensures var { Checked (at window.old self.old) (at window.new self.new)
+            (owner_steps (Owner.Var number))
             (var_part lenient version dims.now total) (var_of result) }
-        ensures total { IfOk result (λ v. v.total ≡ total + record_bytes dims.now v.var.dimids v.var.ty) }
+        ensures total { IfOk result (λ v.
+            v.total ≡ total + record_bytes dims.now v.var.dimids v.var.ty) }
     {
         let owner = Owner::Var(number);
         let name = self.name(window, alloc, version, owner)?;
@@ -111,7 +115,8 @@ impl Fields {
         dims: &[Dim],
         n: u64,
     ) -> Result<Sequence<Var>, HeadFault>
-        ensures { Checked (at window.old self.old) (at window.new self.new) (Vars ∷ []) (each (var_after lenient version dims.now) n []) result }
+        ensures { Checked (at window.old self.old) (at window.new self.new)
+            (Vars ∷ []) (each (var_after lenient version dims.now) n []) result }
     {
         let mut vars = Sequence::new(alloc);
         let mut total = 0;
@@ -131,7 +136,8 @@ impl Fields {
         version: Version,
         dims: &[Dim],
     ) -> Result<Sequence<Var>, HeadFault>
-        ensures { Checked (at window.old self.old) (at window.new self.new) (Vars ∷ []) (var_list lenient version dims.now) result }
+        ensures { Checked (at window.old self.old) (at window.new self.new)
+            (Vars ∷ []) (var_list lenient version dims.now) result }
     {
         let n = self.list_len(window, version, ListName::Vars, NC_VARIABLE)?;
         self.vars(window, alloc, version, dims, n)

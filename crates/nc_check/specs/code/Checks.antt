@@ -27,17 +27,19 @@ unfoldable pub listed : {A : Type 0} → ℕ → List Step → Part A → Bytes 
 listed file_len steps part from = map (seen file_len) (fields steps part from)
 
 -- the fields of the part were listed after those before, if neither the device nor memory has failed
-abbrev pub Lists : {A : Type 0} → Bool → ℕ → List Entry → List Entry → List Step → Part A → Bytes → Result A HeadFault → Type 0
-Lists is_transparent len old new steps part from (Err OutOfMemory) = Unit {0}
-Lists is_transparent len old new steps part from (Err ReadFailed) = Unit {0}
-Lists is_transparent len old new steps part from result = OnTrue is_transparent (map seen_by new ≡ map seen_by old ++ listed len steps part from)
+abbrev pub Lists : {S A : Type 0} {g : Ghosts S} → Reader S g → Reader S g → List Step → Part A → Result A HeadFault → Type 0
+Lists old new steps part (Err OutOfMemory) = Unit {0}
+Lists old new steps part (Err ReadFailed) = Unit {0}
+Lists {g = g} old new steps part result =
+    OnTrue g.is_transparent
+    (map seen_by new.entries ≡ map seen_by old.entries ++ listed (length (source_of old.window).bytes) steps part (left old.window))
 
 -- A reader's whole contract: what it keeps, why it fails, that it reads this part, and that it lists its fields under these steps.
 pub record Checked {S A : Type 0} {g : Ghosts S} (old new : Reader S g) (steps : List Step) (part : Part A) (result : Result A HeadFault) : Type 0 where
   pub kept : Kept old.window new.window
   pub cause : FailsOnly old.window new.window result
   pub reads : Reads g.is_transparent (left old.window) (left new.window) part result
-  pub lists : Lists g.is_transparent (length (source_of old.window).bytes) old.entries new.entries steps part (left old.window) result
+  pub lists : Lists old new steps part result
 
 -- ---- one field
 
