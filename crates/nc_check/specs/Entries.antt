@@ -22,7 +22,7 @@ owner_steps (owner.GlobalAtt i) = Item i ∷ Gatts ∷ []
 owner_steps (owner.Var i) = Item i ∷ Vars ∷ []
 owner_steps (owner.VarAtt i k) = Item k ∷ Atts ∷ Item i ∷ Vars ∷ []
 
--- those from there to a field
+-- the steps from its owner to a field
 abbrev pub name_steps : FieldName → List Step
 name_steps name.Magic = Magic ∷ []
 name_steps name.Version = VersionByte ∷ []

@@ -9,14 +9,14 @@ use Rattle.nc_base.specs.code.PartRuns.{run}
 pub record Field : Type 0 where
   -- the steps to it, the last one first
   pub steps : List Step
-  -- the bytes of the file from its first one on
+  -- the bytes from its first one to the end of the file
   pub start : Bytes
   -- how many bytes it has to have
   pub size : ℕ
   -- what is wrong with it, if it is the first wrong field
   pub fault : Option FormatFault
 
--- the fields of a part whose value is refused, or not
+-- the fields of a part, with the fault if its value is refused (in the description of a header such a part is one field)
 abbrev pub judged : {A : Type 0} → Result A FormatFault → List Field → List Field
 judged (Ok x) fields = fields
 judged (Err fault) fields = map (λ (f : Field). record f { fault = Some fault }) fields

@@ -1,4 +1,4 @@
--- Definition. The rules of a header of which no values are read: what `Grammar.strict` refuses, and reading goes on all the same.
+-- Definition. The rules of a header whose attributes' values aren't kept: what `Grammar.strict` refuses, and reading goes on all the same.
 use Rattle.std.specs.Prelude.{ℕ, ◌==◌, ◌&&◌, not, Bool, nat_lt, nat_le, if◌then◌else◌, [], length, take, drop, take_while, Result, Ok}
 use Rattle.std.specs.List.{list_all}
 use Rattle.nc_base.specs.declared.{fault.FormatFault.FormatFault, nc_type.NcType.NcType, version.Version.Version}
@@ -6,7 +6,7 @@ use Rattle.nc_base.specs.declared.nc_type.NcType.TheVariants.{Int, Int64}
 use Rattle.nc_base.specs.Bytes.{Bytes}
 use Rattle.nc_base.specs.Grammar.{Rules, type_in}
 
--- a byte of a name, whatever it says in which coding: no control character of ASCII
+-- a byte that may stand in a name in any coding: no control character of ASCII
 abbrev pub is_no_control : ℕ → Bool
 is_no_control b = nat_le 32 b && not (b == 127)
 

@@ -26,7 +26,7 @@ pub struct Listing {
     /// The fields in the order of the file; if the header is wrong, up to its first wrong field.
     pub entries: Sequence<Entry>,
     /// The header, without the values of attributes, or what is wrong with its first wrong field. For a floating type stands the integer
-    /// type of the same size.
+    /// type of the same size, so this header may have a type that its version lacks.
     pub header: Result<Header, FormatFault>,
 }
 
@@ -34,7 +34,8 @@ pub struct Listing {
 /// and after. All types of the format are taken, and names that aren't valid as long as the fields are in step.
 ///
 /// It reads forward, and at most one buffer more of a transparent source than the header, or than the bytes up to the end of the first wrong
-/// field. No count of the header reserves memory: the list grows as fields are read.
+/// field. No count of the header reserves memory: the list grows as fields are read. The values of one attribute at a time are held in
+/// memory.
 ///
 /// # Errors
 ///

@@ -24,7 +24,7 @@ first_block bs = find (λ b. not (list_any (λ c. precedes c b) bs)) bs
 abbrev pub first_at_end : (Extent → ℕ) → List Extent → Option Extent
 first_at_end end bs = first_block (filter (λ b. end b == greatest_end end bs) bs)
 
--- whose values that block has (without blocks nothing ends)
+-- what that block belongs to (of no use without blocks)
 abbrev pub block_at_end : (Extent → ℕ) → List Extent → Block
 block_at_end end bs = option_map_or (λ (b : Extent). b.block) (first_at_end end bs) Records
 

@@ -27,7 +27,7 @@ fixed_block i slot = if is_fixed slot then slot_block i slot ∷ [] else []
 abbrev pub record_slot_at : List Slot → ℕ → ℕ
 record_slot_at slots begin = unwrap_or (position (λ (slot : Slot). slot.is_record && (slot.begin == begin)) slots) 0
 
--- where the last of n records ends that begin here, if a slab takes these bytes; without records, where they begin
+-- the greatest end of a slab in the last of n records, if `bytes` of a slab count; without records, their begin
 abbrev pub records_end : List Slot → ℕ → ℕ → (Slot → ℕ) → ℕ
 records_end slots n begin bytes =
     if n == 0 then begin else fold max 0 (map (λ slot. slot.begin + (n - 1) * record_size slots + bytes slot) (record_slots slots))

@@ -1,6 +1,6 @@
--- Law. If nothing is found at the begins of variables and blocks, then each variable begins where a generated file has it: those that
+-- Law. If nothing is found at the begins of variables and blocks, then each variable begins right after what comes before it: those that
 -- aren't record variables follow the header in its order, each with its padding, and then come the slabs of the first record. If nothing
--- is found at the end of the file either, then the file has the length of the generated one. Without the findings that let slabs share
+-- is found at the end of the file either, then the file ends after the last of its padded slabs. Without the findings that let slabs share
 -- bytes, no two slabs have a byte in common. Where values are missing, a slab isn't whole.
 use Rattle.std.specs.Prelude.{◌≡◌, ◌≤◌, ◌<◌, IsSome, ◌⊎◌, ℕ, ◌+◌, ◌*◌, Bool, true, false, if◌then◌else◌, List, filter, take, sum_by, slice_get, IfSome}
 use Rattle.std.specs.List.{All, AllPairs, list_any}
@@ -53,7 +53,7 @@ FindsNone kind layout = list_any (λ (finding : LayoutFinding). kind finding.fac
 abbrev pub fixed_bytes : List Slot → ℕ
 fixed_bytes slots = sum_by padded_slab (filter is_fixed slots)
 
--- where the slot at this index begins in a generated file
+-- right after the header and the padded slabs that come before that of the slot at this index
 abbrev pub canonical_begin : Layout → ℕ → Slot → ℕ
 canonical_begin layout i slot =
     if slot.is_record
@@ -66,7 +66,7 @@ HasCanonicalBegins layout = (i : ℕ) → IfSome (slice_get layout.slots i) (λ 
 abbrev pub QuietBeginsAreCanonical : Type 0
 QuietBeginsAreCanonical = (layout : Layout) → FindsNone is_of_begin layout → HasCanonicalBegins layout
 
--- the length of a generated file
+-- the length of a file that ends after the last of its padded slabs
 abbrev pub canonical_len : Layout → ℕ
 canonical_len layout = layout.header_end + fixed_bytes layout.slots + record_count layout * record_size layout.slots
 

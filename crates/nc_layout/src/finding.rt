@@ -86,7 +86,7 @@ pub enum LayoutFact {
         /// The first block that ends there.
         of: Block,
     },
-    /// The block begins before the padding of an earlier block ends, but after its values.
+    /// The block begins before the padding of an earlier block ends, but not before the values of any earlier block end.
     Unpadded {
         /// The begin of the block.
         begin: u64,
@@ -95,11 +95,11 @@ pub enum LayoutFact {
         /// The first block that ends there.
         of: Block,
     },
-    /// The variable begins before one that comes earlier in the header.
+    /// The variable begins before one that comes earlier in the header; neither is a record variable.
     Order {
         /// The begin of the variable.
         begin: u64,
-        /// The greatest begin of the earlier variables.
+        /// The greatest begin of the earlier variables that aren't record variables.
         least: u64,
         /// The index of the first variable that begins there.
         of: u64,

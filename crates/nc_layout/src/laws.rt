@@ -2,11 +2,12 @@
 
 ghost use Rattle.nc_layout.specs.Laws.{QuietBeginsAreCanonical, QuietLengthIsCanonical, QuietSlabsAreApart, MissingValuesHaveSlab};
 
-/// States two laws, and does nothing. `begins`: if nothing is found at the begins of variables and blocks, then each variable begins where
-/// a generated file has it.
+/// States two laws, and does nothing. `begins`: if nothing is found at the begins of variables and blocks, then each variable begins right
+/// after the header and the padded slabs that come before its own: first those of the variables that aren't record variables, in header
+/// order, and then those of the first record.
 ///
-/// `length`: if nothing is found at the end of the file either, then the file has the length of the generated one. So no other rule on
-/// begins or on the length is needed.
+/// `length`: if nothing is found at the end of the file either, then the file ends after the last of its padded slabs. So no other rule on
+/// begins or on the length is needed. Needs a layout within limits.
 pub fn quiet_layouts_are_canonical()
     ensures begins { QuietBeginsAreCanonical }
     ensures length { QuietLengthIsCanonical }
