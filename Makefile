@@ -23,7 +23,7 @@ all: bin/ncdump bin/ncgen
 # (tests, examples, edits, and libraries that no program uses are no part of them)
 bin/ncdump bin/ncgen &: $(wildcard build.sh HANDLES crates.txt) $(shell find crates \( -name out -o -name must-fail -o -name wrong-bodies \
 		-o -name 'test_*' -o -name 'example_*' -o -name uses -o -name nc_variable \
-		-o -name nc_check -o -name nc_layout \) -prune -o -type f -print 2>/dev/null)
+		-o -name nc_fields -o -name nc_layout \) -prune -o -type f -print 2>/dev/null)
 	./build.sh
 
 # The merge gate, in parts that run side by side where none waits for another. A release has neither tests nor the sources that they prove.

@@ -12,8 +12,8 @@ fi
 
 copy=$(mktemp -d)
 trap 'rm -rf "$copy"' EXIT
-grep -v '^test_\|^example_\|^uses\|^nc_variable\|^nc_check\|^nc_layout' crates.txt >"$copy/crates.txt"
-tar -c --exclude=out --exclude=must-fail --exclude=crates/test_\* --exclude=crates/example_\* --exclude=crates/uses --exclude=crates/nc_variable --exclude=crates/nc_check \
+grep -v '^test_\|^example_\|^uses\|^nc_variable\|^nc_fields\|^nc_layout' crates.txt >"$copy/crates.txt"
+tar -c --exclude=out --exclude=must-fail --exclude=crates/test_\* --exclude=crates/example_\* --exclude=crates/uses --exclude=crates/nc_variable --exclude=crates/nc_fields \
     --exclude=crates/nc_layout HANDLES crates | tar -x -C "$copy"
 
 prove() {

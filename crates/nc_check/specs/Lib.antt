@@ -1,5 +1,5 @@
-pub mod Fields
-pub mod Lenient
-pub mod Entries
-pub mod Listings
-pub mod code
+pub mod Indexed
+pub mod FieldRules
+pub mod AttributeRules
+pub mod NameRules
+pub mod HeaderRules

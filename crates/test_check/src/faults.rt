@@ -2,7 +2,7 @@
 
 use crate::listed::{Field, Want, listing_of, stops_at};
 use nc_base::FormatFault;
-use nc_check::{FieldName, Owner};
+use nc_fields::{FieldName, Owner};
 
 /// The bytes, how many fields are listed, the last of them, and what is wrong with it.
 type Row = (&'static [u8], usize, Field, FormatFault);

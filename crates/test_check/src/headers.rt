@@ -5,7 +5,7 @@ use crate::listed::{
 };
 use devices::{FailWhen, MemSource};
 use nc_base::{NumRecs, Version};
-use nc_check::{FieldName, ListFault, Owner};
+use nc_fields::{FieldName, ListFault, Owner};
 use std::alloc::Global;
 use std::process::Abort;
 use std::test::Fail;

@@ -1,4 +1,4 @@
-//! Tests of `nc_check`: the fields that it lists of the headers of files.
+//! Tests of `nc_fields`: the fields that it lists of the headers of files.
 #![tactic(auto)]
 
 #[cfg(test)]

@@ -2,7 +2,7 @@
 
 use devices::{DripSource, FailWhen, MemSource, Source};
 use nc_base::{FormatFault, Header, NumRecs, Sequence, Version};
-use nc_check::{Content, Entry, FieldName, ListFault, Listing, Owner, Place, list_fields};
+use nc_fields::{Content, Entry, FieldName, ListFault, Listing, Owner, Place, list_fields};
 use std::alloc::Global;
 use std::process::Abort;
 

@@ -1,0 +1,56 @@
+//! What can be found in a file.
+
+use nc_base::FormatFault;
+use nc_layout::LayoutFact;
+
+/// What is found. Where something else is expected, the fact has it, unless the field alone tells it. What is found in its place is the
+/// content of the field.
+#[derive(Clone, Copy, Debug, PartialEq, Eq)]
+pub enum Fact {
+    /// The programs that read values stop at this field with this fault.
+    Fault(FormatFault),
+    /// A list has its own tag, but no elements. (The tag of an empty list is written as 0.)
+    EmptyList,
+    /// A name has more than 256 bytes, the most that netCDF-C takes (`NC_MAX_NAME`).
+    LongName,
+    /// An earlier dimension, variable or attribute of the same list has this name.
+    DuplicateName {
+        /// The index of the first field of the listing that is this name.
+        first: u64,
+    },
+    /// A name is valid UTF-8, but not in normal form NFC.
+    NotNfc,
+    /// A byte that fills a field up isn't 0.
+    Padding,
+    /// An attribute of a type other than `char` has no values, which no CDL text can say.
+    EmptyAttribute,
+    /// An attribute of type `char` ends with a NUL, which no CDL text shows.
+    TrailingNul,
+    /// An attribute `_FillValue` hasn't the type of its variable.
+    FillType {
+        /// The type code of the variable.
+        expected: u64,
+    },
+    /// An attribute `_FillValue` hasn't one value.
+    FillCount,
+    /// A variable has more than 1024 dimensions, the most that netCDF-C takes (`NC_MAX_VAR_DIMS`).
+    HighRank,
+    /// The size of a variable isn't that of its padded slab.
+    Vsize {
+        /// The size that belongs there.
+        expected: u64,
+    },
+    /// Something about the layout of the file.
+    Layout(LayoutFact),
+}
+
+/// Something that is wrong or odd in a file.
+#[derive(Clone, Copy, Debug, PartialEq, Eq)]
+pub struct Finding {
+    /// The offset at which it lies.
+    pub offset: u64,
+    /// The index of the field in the listing of the header, or none if it lies in the data after the header.
+    pub field: Option<u64>,
+    /// What is found.
+    pub fact: Fact,
+}

@@ -1,0 +1,9 @@
+use Rattle.nc_fields.specs.code.Checks.{at}
+use Rattle.nc_base.specs.Grammar.{att_after}
+use Rattle.nc_fields.specs.Lenient.{lenient}
+use Rattle.nc_fields.specs.code.Lists.{list_steps}
+use Rattle.nc_fields.proofs.Elements.{ChecksOn}
+use Rattle.nc_fields.proofs.fields.Fields.atts.Given as goal
+
+abbrev pub invariant-loop-i : goal.invariant-loop-i
+invariant-loop-i g l = ChecksOn (at l.fn.window l.fn.self) (at l.window l.self) (list_steps l.list) (att_after lenient l.version) l.n l.i l.atts

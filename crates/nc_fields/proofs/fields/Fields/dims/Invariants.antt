@@ -1,0 +1,14 @@
+use Rattle.nc_fields.specs.code.Checks.{at}
+use Rattle.std.proofs.Common.{◌≡◌, ◌∷◌, []}
+use Rattle.nc_base.specs.Parts.{Dims}
+use Rattle.nc_base.specs.Grammar.{dim_after}
+use Rattle.nc_base.specs.Sizes.{has_record_dim}
+use Rattle.nc_fields.specs.Lenient.{lenient}
+use Rattle.nc_fields.proofs.Elements.{ChecksOn}
+use Rattle.nc_fields.proofs.fields.Fields.dims.Given as goal
+
+abbrev pub invariant-loop-i : goal.invariant-loop-i
+invariant-loop-i g l = record {
+  elements : ChecksOn (at l.fn.window l.fn.self) (at l.window l.self) (Dims ∷ []) (dim_after lenient l.version) l.n l.i l.dims;
+  has_record : l.has_record ≡ has_record_dim l.dims;
+}

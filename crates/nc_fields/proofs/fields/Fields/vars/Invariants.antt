@@ -1,0 +1,14 @@
+use Rattle.nc_fields.specs.code.Checks.{at}
+use Rattle.std.proofs.Common.{◌≡◌, ◌∷◌, []}
+use Rattle.nc_base.specs.Parts.{Vars}
+use Rattle.nc_base.specs.Grammar.{var_after}
+use Rattle.nc_file.proofs.Totals.{total_of}
+use Rattle.nc_fields.specs.Lenient.{lenient}
+use Rattle.nc_fields.proofs.Elements.{ChecksOn}
+use Rattle.nc_fields.proofs.fields.Fields.vars.Given as goal
+
+abbrev pub invariant-loop-i : goal.invariant-loop-i
+invariant-loop-i g l = record {
+  elements : ChecksOn (at l.fn.window l.fn.self) (at l.window l.self) (Vars ∷ []) (var_after lenient l.version l.dims) l.n l.i l.vars;
+  total : l.total ≡ total_of l.dims l.vars;
+}

@@ -1,0 +1,93 @@
+-- Definition. The fields of a header, as the rules look at them: each with its place, its offset, and what matters of its content.
+use Rattle.std.specs.Prelude.{ℕ, ◌==◌, ◌&&◌, ◌-◌, Bool, nat_lt, if◌then◌else◌, List, [], ◌∷◌, ◌++◌, length, take, slice_index, Option}
+use Rattle.std.specs.Int.{w32, w64, from_be_bytes}
+use Rattle.nc_base.specs.declared.fault.FormatFault.{FormatFault}
+use Rattle.nc_base.specs.Bytes.{Bytes}
+use Rattle.nc_base.specs.Parts.{Step}
+use Rattle.nc_base.specs.Parts.{Magic, VersionByte, Records, Dims, Gatts, Vars, Tag, Count, Item, Name, Length, Text, Padding, TypeCode, Values, Shape, Atts, Vsize, Begin}
+use Rattle.nc_fields.specs.declared.{place.Owner.Owner, place.FieldName.FieldName, place.Place.Place, entry.Content.Content, entry.Entry.Entry}
+use Rattle.nc_fields.specs.declared.place.Owner.TheVariants as owner
+use Rattle.nc_fields.specs.declared.place.FieldName.TheVariants as name
+use Rattle.nc_fields.specs.declared.entry.Content.TheVariants as content
+use Rattle.nc_fields.specs.Fields.{Field}
+
+-- ---- places
+
+-- the steps to a dimension, an attribute or a variable, the last one first
+abbrev pub owner_steps : Owner → List Step
+owner_steps owner.Header = []
+owner_steps (owner.Dim i) = Item i ∷ Dims ∷ []
+owner_steps (owner.GlobalAtt i) = Item i ∷ Gatts ∷ []
+owner_steps (owner.Var i) = Item i ∷ Vars ∷ []
+owner_steps (owner.VarAtt i k) = Item k ∷ Atts ∷ Item i ∷ Vars ∷ []
+
+-- the steps from its owner to a field
+abbrev pub name_steps : FieldName → List Step
+name_steps name.Magic = Magic ∷ []
+name_steps name.Version = VersionByte ∷ []
+name_steps name.NumRecs = Records ∷ []
+name_steps name.DimsTag = Tag ∷ Dims ∷ []
+name_steps name.DimsCount = Count ∷ Dims ∷ []
+name_steps name.GlobalAttsTag = Tag ∷ Gatts ∷ []
+name_steps name.GlobalAttsCount = Count ∷ Gatts ∷ []
+name_steps name.VarsTag = Tag ∷ Vars ∷ []
+name_steps name.VarsCount = Count ∷ Vars ∷ []
+name_steps name.NameLength = Length ∷ Name ∷ []
+name_steps name.Name = Text ∷ Name ∷ []
+name_steps name.NamePadding = Padding ∷ Name ∷ []
+name_steps name.Length = Length ∷ []
+name_steps name.Type = TypeCode ∷ []
+name_steps name.Count = Count ∷ []
+name_steps name.Values = Values ∷ []
+name_steps name.Padding = Padding ∷ []
+name_steps name.Rank = Count ∷ Shape ∷ []
+name_steps (name.DimId k) = Item k ∷ Shape ∷ []
+name_steps name.AttsTag = Tag ∷ Atts ∷ []
+name_steps name.AttsCount = Count ∷ Atts ∷ []
+name_steps name.Vsize = Vsize ∷ []
+name_steps name.Begin = Begin ∷ []
+
+abbrev pub steps_of : Place → List Step
+steps_of place = name_steps place.name ++ owner_steps place.owner
+
+-- ---- contents
+
+-- the number of a field of 1, 4 or 8 bytes
+abbrev pub number_in : ℕ → Bytes → ℕ
+number_in size bytes = if size == 8 then from_be_bytes w64 bytes else (if size == 4 then from_be_bytes w32 bytes else slice_index bytes 0)
+
+-- the last byte is a NUL
+abbrev pub ends_with_nul : Bytes → Bool
+ends_with_nul bytes = nat_lt 0 (length bytes) && (slice_index bytes (length bytes - 1) == 0)
+
+-- what matters of these bytes of a field with these steps; `size` is how many it has to have
+abbrev pub whole_content : List Step → ℕ → Bytes → Content
+whole_content (Magic ∷ steps) size bytes = content.Bytes bytes
+whole_content (Text ∷ steps) size bytes = content.Bytes bytes
+whole_content (Padding ∷ steps) size bytes = content.Bytes bytes
+whole_content (Values ∷ steps) size bytes = content.Values (ends_with_nul bytes)
+whole_content steps size bytes = content.Number (number_in size bytes)
+
+-- ---- entries
+
+-- what the rules look at in a field
+pub record Seen : Type 0 where
+  pub steps : List Step
+  pub offset : ℕ
+  pub size : ℕ
+  pub content : Content
+  pub fault : Option FormatFault
+
+-- of a field in a file of this length
+unfoldable pub seen : ℕ → Field → Seen
+seen file_len f = record {
+  steps = f.steps;
+  offset = file_len - length f.start;
+  size = f.size;
+  content = if nat_lt (length f.start) f.size then content.Cut else whole_content f.steps f.size (take f.size f.start);
+  fault = f.fault;
+}
+
+-- of an entry
+abbrev pub seen_by : Entry → Seen
+seen_by e = record { steps = steps_of e.place; offset = e.offset; size = e.size; content = e.content; fault = e.fault }

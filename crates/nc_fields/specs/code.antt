@@ -1,0 +1,4 @@
+pub mod Checks
+pub mod Lists
+pub mod Answers
+pub mod PassedValues

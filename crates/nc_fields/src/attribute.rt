@@ -1,0 +1,143 @@
+//! Attributes.
+
+ghost use Rattle.std.specs.Prelude.{◌≡◌, ◌∷◌, []};
+ghost use Rattle.nc_base.specs.Grammar.{att_after, att_list, att_part, each};
+ghost use Rattle.nc_base.specs.Parts.{Values};
+ghost use Rattle.nc_fields.specs.Entries.{ends_with_nul};
+ghost use Rattle.nc_fields.specs.Lenient.{lenient};
+ghost use Rattle.nc_fields.specs.code.Lists.{list_steps};
+ghost use Rattle.nc_fields.specs.code.PassedValues.{ChecksValues, PassesValues};
+
+use crate::entry::Content;
+use crate::fields::{Fields, start_at};
+use crate::list_name::ListName;
+use crate::place::{FieldName, Owner, Place};
+use devices::Source;
+use nc_base::{Att, Sequence, Version, padding_len};
+use nc_file::{HeadFault, Window};
+use std::alloc::Global;
+
+/// The tag of a list of attributes (`NC_ATTRIBUTE`).
+const NC_ATTRIBUTE: u32 = 12;
+
+/// The bytes of values that are held at a time.
+const PIECE: u128 = 4096;
+
+impl Fields {
+    ghost use Rattle.nc_fields.specs.Entries.{owner_steps};
+    ghost use Rattle.nc_fields.specs.code.Checks.{at, Checked};
+
+    /// Passes over the `len` bytes of an attribute's values.
+    fn values<S: Source>(
+        &mut self,
+        window: &mut Window<'_, S>,
+        alloc: Global,
+        owner: Owner,
+        len: u128,
+    ) -> Result<(), HeadFault>
+        ensures { ChecksValues (at window.old self.old) (at window.new self.new)
+            (Values ∷ owner_steps owner) len result }
+    {
+        let place = Place {
+            owner,
+            name: FieldName::Values,
+        };
+        let start = start_at(window, place, len);
+        let passed = pass_values(window, alloc, len);
+        let ends_with_nul = start.unless_cut(&mut self.entries, passed)?;
+        let content = Content::Values { ends_with_nul };
+        start.list(&mut self.entries, content, Ok(()))
+    }
+
+    /// Reads an attribute, and returns it without its values.
+    fn att<S: Source>(
+        &mut self,
+        window: &mut Window<'_, S>,
+        alloc: Global,
+        version: Version,
+        owner: Owner,
+    ) -> Result<Att, HeadFault>
+        ensures { Checked (at window.old self.old) (at window.new self.new)
+            (owner_steps owner) (att_part lenient version) result }
+    {
+        let count = Place {
+            owner,
+            name: FieldName::Count,
+        };
+        let padding = Place {
+            owner,
+            name: FieldName::Padding,
+        };
+        let name = self.name(window, alloc, version, owner)?;
+        let ty = self.att_type(window, version, owner)?;
+        let n = self.count(window, version, count)?;
+        let len = n as u128 * ty.size() as u128;
+        self.values(window, alloc, owner, len)?;
+        self.filling(window, alloc, padding, padding_len(len))?;
+        Ok(Att {
+            name,
+            ty,
+            vals: Sequence::new(alloc),
+        })
+    }
+
+    /// Reads the `n` attributes of a list, and returns them without their values.
+    fn atts<S: Source>(
+        &mut self,
+        window: &mut Window<'_, S>,
+        alloc: Global,
+        version: Version,
+        list: ListName,
+        n: u64,
+    ) -> Result<Sequence<Att>, HeadFault>
+        ensures { Checked (at window.old self.old) (at window.new self.new)
+            (list_steps list) (each (att_after lenient version) n []) result }
+    {
+        let mut atts = Sequence::new(alloc);
+        for i in 0..n {
+            let att = self.att(window, alloc, version, list.item(i))?;
+            atts.push(att)?;
+        }
+        Ok(atts)
+    }
+
+    /// Reads a list of attributes, and returns them without their values.
+    pub(crate) fn att_list<S: Source>(
+        &mut self,
+        window: &mut Window<'_, S>,
+        alloc: Global,
+        version: Version,
+        list: ListName,
+    ) -> Result<Sequence<Att>, HeadFault>
+        ensures { Checked (at window.old self.old) (at window.new self.new)
+            (list_steps list) (att_list lenient version) result }
+    {
+        let n = self.list_len(window, version, list, NC_ATTRIBUTE)?;
+        self.atts(window, alloc, version, list, n)
+    }
+}
+
+/// Passes over `n` bytes, and returns true if the last of them is a NUL. Holds one piece of them at a time.
+fn pass_values<S: Source>(
+    window: &mut Window<'_, S>,
+    alloc: Global,
+    n: u128,
+) -> Result<bool, HeadFault>
+    ensures { PassesValues window.old window.new n result }
+{
+    let mut missing = n;
+    let mut last_is_nul = false;
+    while 0 < missing {
+        let piece = window.bytes(alloc, missing.min(PIECE))?;
+        last_is_nul = ends_with_nul(piece.as_slice());
+        missing -= piece.len() as u128;
+    }
+    Ok(last_is_nul)
+}
+
+/// Returns true if the last of the bytes is a NUL.
+fn ends_with_nul(bytes: &[u8]) -> bool
+    ensures { result ≡ ends_with_nul bytes.now }
+{
+    0 < bytes.len() && bytes[bytes.len() - 1] == 0
+}

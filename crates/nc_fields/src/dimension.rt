@@ -1,0 +1,74 @@
+//! Dimensions.
+
+ghost use Rattle.std.specs.Prelude.{◌≡◌, ◌∷◌, []};
+ghost use Rattle.nc_base.specs.Grammar.{dim_after, dim_list, dim_part, each};
+ghost use Rattle.nc_base.specs.Parts.{Dims};
+ghost use Rattle.nc_fields.specs.Lenient.{lenient};
+
+use crate::fields::Fields;
+use crate::list_name::ListName;
+use crate::place::Owner;
+use devices::Source;
+use nc_base::{Dim, Sequence, Version};
+use nc_file::{HeadFault, Window};
+use std::alloc::Global;
+
+/// The tag of a list of dimensions (`NC_DIMENSION`).
+const NC_DIMENSION: u32 = 10;
+
+impl Fields {
+    ghost use Rattle.nc_fields.specs.Entries.{owner_steps};
+    ghost use Rattle.nc_fields.specs.code.Checks.{at, Checked};
+
+    /// Reads a dimension. `has_record` is true if a dimension before it has length 0. Errs with `TwoRecordDims` if this one has it, too.
+    fn dim<S: Source>(
+        &mut self,
+        window: &mut Window<'_, S>,
+        alloc: Global,
+        version: Version,
+        owner: Owner,
+        has_record: bool,
+    ) -> Result<Dim, HeadFault>
+        ensures { Checked (at window.old self.old) (at window.new self.new)
+            (owner_steps owner) (dim_part lenient version has_record) result }
+    {
+        let name = self.name(window, alloc, version, owner)?;
+        let len = self.dim_len(window, version, owner, has_record)?;
+        Ok(Dim { name, len })
+    }
+
+    /// Reads the `n` dimensions of the list, and returns them.
+    fn dims<S: Source>(
+        &mut self,
+        window: &mut Window<'_, S>,
+        alloc: Global,
+        version: Version,
+        n: u64,
+    ) -> Result<Sequence<Dim>, HeadFault>
+        ensures { Checked (at window.old self.old) (at window.new self.new)
+            (Dims ∷ []) (each (dim_after lenient version) n []) result }
+    {
+        let mut dims = Sequence::new(alloc);
+        let mut has_record = false;
+        for i in 0..n {
+            let dim = self.dim(window, alloc, version, Owner::Dim(i), has_record)?;
+            has_record = has_record || dim.len == 0;
+            dims.push(dim)?;
+        }
+        Ok(dims)
+    }
+
+    /// Reads the list of dimensions, and returns them.
+    pub(crate) fn dim_list<S: Source>(
+        &mut self,
+        window: &mut Window<'_, S>,
+        alloc: Global,
+        version: Version,
+    ) -> Result<Sequence<Dim>, HeadFault>
+        ensures { Checked (at window.old self.old) (at window.new self.new)
+            (Dims ∷ []) (dim_list lenient version) result }
+    {
+        let n = self.list_len(window, version, ListName::Dims, NC_DIMENSION)?;
+        self.dims(window, alloc, version, n)
+    }
+}

@@ -1,0 +1,35 @@
+//! The fields of a header, as the rules look at them.
+
+use crate::place::Place;
+use nc_base::{FormatFault, Sequence};
+
+/// What the rules look at in the content of a field.
+#[derive(Debug, Drop)]
+pub enum Content {
+    /// The field is a number.
+    Number(u64),
+    /// The field is these bytes: a name, what fills a field up, or what stands in the place of the letters `CDF`.
+    Bytes(Sequence<u8>),
+    /// The field is the values of an attribute.
+    Values {
+        /// The last byte is a NUL.
+        ends_with_nul: bool,
+    },
+    /// The file ends inside the field.
+    Cut,
+}
+
+/// A field of a header that was read, or the first wrong one, at which reading stopped.
+#[derive(Debug, Drop)]
+pub struct Entry {
+    /// Its place in the header.
+    pub place: Place,
+    /// The offset of its first byte from the file's start.
+    pub offset: u64,
+    /// How many bytes it has to have.
+    pub size: u128,
+    /// What the rules look at in its content.
+    pub content: Content,
+    /// What is wrong with it, if reading stopped at it.
+    pub fault: Option<FormatFault>,
+}

@@ -1,0 +1,197 @@
+//! The whole header.
+
+ghost use Rattle.std.specs.Prelude.{◌≡◌, ◌≤◌, ◌∷◌, [], codes, if◌then◌else◌, length, IfOk, Ok, Err};
+ghost use Rattle.std.specs.Bool.{OnTrue};
+ghost use Rattle.std.specs.Str.{bytes_eq};
+ghost use Rattle.nc_base.specs.Grammar.{checked, header_by, magic_part, version_in, version_part};
+ghost use Rattle.nc_base.specs.Parts.{Magic, VersionByte, bytes};
+ghost use Rattle.nc_base.specs.declared.fault.FormatFault.TheVariants.{NotNetcdf};
+ghost use Rattle.nc_fields.specs.Lenient.{lenient};
+ghost use Rattle.nc_file.specs.code.Answers.{ReadUpTo};
+ghost use Rattle.nc_fields.specs.Listings.{Blames, IsListing};
+ghost use Rattle.nc_fields.specs.code.Answers.{Answers};
+
+use crate::entry::{Content, Entry};
+use crate::fields::{Fields, start_at};
+use crate::list_fault::ListFault;
+use crate::list_name::ListName;
+use crate::name::copy_of;
+use crate::place::{FieldName, Owner, Place};
+use devices::Source;
+use nc_base::{FormatFault, Header, Sequence, Version};
+use nc_file::{HeadFault, Window};
+use std::alloc::Global;
+
+/// The fields of a header, and the header itself.
+#[derive(Debug, Drop)]
+pub struct Listing {
+    /// The fields in the order of the file; if the header is wrong, up to its first wrong field.
+    pub entries: Sequence<Entry>,
+    /// The header, without the values of attributes, or what is wrong with its first wrong field. For a floating type stands the integer
+    /// type of the same size, so this header may have a type that its version lacks.
+    pub header: Result<Header, FormatFault>,
+    /// The offset at which the header ends; if it is wrong, its first wrong field.
+    pub end: u64,
+    /// The bytes of the file.
+    pub file_len: u64,
+}
+
+/// Lists the fields of the header at the start of a source, through a caller's buffer of at least 16 bytes, which may hold anything before
+/// and after. All types of the format are taken, and names that aren't valid as long as the fields are in step.
+///
+/// It reads forward, and at most one buffer more of a transparent source than the header, or than the bytes up to the end of the first wrong
+/// field. No count of the header reserves memory: the list grows as fields are read. The values of attributes are passed over.
+///
+/// # Errors
+///
+/// [`ListFault::ReadFailed`] at once if the source fails, and [`ListFault::OutOfMemory`] at once if an allocation fails. What is wrong with
+/// the header is no error, but a part of the listing.
+pub fn list_fields<S: Source>(
+    alloc: Global,
+    source: &mut S,
+    buf: &mut [u8],
+) -> Result<Listing, ListFault>
+    requires { 16 ≤ length buf.old }
+    ensures bytes { (S.view source.new).bytes ≡ (S.view source.old).bytes }
+    ensures cause { Blames (S.view source.old).failures (S.view source.new) result }
+    ensures listing { OnTrue S.is_transparent (IfOk result (IsListing (S.view source.old).bytes)) }
+    ensures forward { OnTrue S.is_transparent (IfOk result (λ l.
+        ReadUpTo (S.view source.old).handed (S.view source.new).handed l.end (length buf.old))) }
+{
+    let len = source.len();
+    let mut window = Window {
+        source,
+        len,
+        buf,
+        base: 0,
+        filled: 0,
+        pos: 0,
+    };
+    let mut fields = Fields {
+        entries: Sequence::new(alloc),
+    };
+    let answer = fields.header(&mut window, alloc);
+    answered(fields, window.offset_of_next(), len, answer)
+}
+
+/// Returns the listing of these entries in a file of this length, with what reading the header has answered, and where it has ended.
+fn answered(
+    fields: Fields,
+    end: u64,
+    file_len: u64,
+    answer: Result<Header, HeadFault>,
+) -> Result<Listing, ListFault>
+    ensures { Answers fields.entries end file_len answer result }
+{
+    let Fields { entries } = fields;
+    match answer {
+        Ok(header) => Ok(Listing {
+            entries,
+            header: Ok(header),
+            end,
+            file_len,
+        }),
+        Err(HeadFault::Format(fault)) => Ok(Listing {
+            entries,
+            header: Err(fault),
+            end,
+            file_len,
+        }),
+        Err(HeadFault::OutOfMemory) => Err(ListFault::OutOfMemory),
+        Err(HeadFault::ReadFailed) => Err(ListFault::ReadFailed),
+    }
+}
+
+impl Fields {
+    ghost use Rattle.nc_fields.specs.code.Checks.{at, Checked};
+
+    /// Reads the three bytes that should be `CDF`. Errs with `NotNetcdf` if they are others, or if there are fewer.
+    fn letters<S: Source>(
+        &mut self,
+        window: &mut Window<'_, S>,
+        alloc: Global,
+    ) -> Result<[u8; 3], HeadFault>
+        ensures { Checked (at window.old self.old) (at window.new self.new) (Magic ∷ [])
+            (checked (λ letters. bytes_eq letters (codes "CDF")) NotNetcdf (bytes 3 NotNetcdf))
+            result }
+    {
+        let place = Place {
+            owner: Owner::Header,
+            name: FieldName::Magic,
+        };
+        let start = start_at(window, place, 3);
+        let letters = start.unless_cut(&mut self.entries, window.magic_word())?;
+        let content = Content::Bytes(copy_of(alloc, &letters)?);
+        start.list(&mut self.entries, content, letters_in(letters))
+    }
+
+    /// Reads the version byte. Errs with `UnknownVersion` if it is none of 1, 2 and 5.
+    fn version<S: Source>(&mut self, window: &mut Window<'_, S>) -> Result<Version, HeadFault>
+        ensures { Checked (at window.old self.old) (at window.new self.new)
+            (VersionByte ∷ []) version_part result }
+    {
+        let place = Place {
+            owner: Owner::Header,
+            name: FieldName::Version,
+        };
+        let start = start_at(window, place, 1);
+        let byte: [u8; 1] = start.unless_cut(&mut self.entries, window.array())?;
+        start.list(
+            &mut self.entries,
+            Content::Number(byte[0] as u64),
+            version_in(byte),
+        )
+    }
+
+    /// Reads `CDF` and the version byte, and returns the version.
+    fn magic<S: Source>(
+        &mut self,
+        window: &mut Window<'_, S>,
+        alloc: Global,
+    ) -> Result<Version, HeadFault>
+        ensures { Checked (at window.old self.old) (at window.new self.new) [] magic_part result }
+    {
+        self.letters(window, alloc)?;
+        self.version(window)
+    }
+
+    /// Reads the whole header.
+    fn header<S: Source>(
+        &mut self,
+        window: &mut Window<'_, S>,
+        alloc: Global,
+    ) -> Result<Header, HeadFault>
+        ensures { Checked (at window.old self.old) (at window.new self.new)
+            [] (header_by lenient) result }
+    {
+        let version = self.magic(window, alloc)?;
+        let numrecs = self.numrecs(window, version)?;
+        let dims = self.dim_list(window, alloc, version)?;
+        let gatts = self.att_list(window, alloc, version, ListName::GlobalAtts)?;
+        let vars = self.var_list(window, alloc, version, dims.as_slice())?;
+        Ok(Header {
+            version,
+            numrecs,
+            dims,
+            gatts,
+            vars,
+        })
+    }
+}
+
+/// Returns the letters, or errs with `NotNetcdf` if they aren't `CDF`.
+fn letters_in(letters: [u8; 3]) -> Result<[u8; 3], FormatFault>
+    ensures { result ≡ (if bytes_eq letters (codes "CDF") then Ok letters else Err NotNetcdf) }
+{
+    if letters[..] != b"CDF"[..] {
+        return Err(FormatFault::NotNetcdf);
+    }
+    Ok(letters)
+}
+
+/// Returns the version with this byte, or errs with `UnknownVersion` if there is none.
+fn version_in(byte: [u8; 1]) -> Result<Version, FormatFault>
+    ensures { result ≡ version_in byte }
+{
+    Version::of_byte(byte[0]).ok_or(FormatFault::UnknownVersion(byte[0]))
+}

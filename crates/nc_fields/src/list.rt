@@ -1,0 +1,32 @@
+//! What stands before the elements of a list.
+
+ghost use Rattle.std.specs.Prelude.{◌≡◌};
+ghost use Rattle.nc_base.specs.Grammar.{list_head};
+ghost use Rattle.nc_fields.specs.code.Lists.{list_steps};
+
+use crate::fields::Fields;
+use crate::list_name::ListName;
+use devices::Source;
+use nc_base::Version;
+use nc_file::{HeadFault, Window};
+
+impl Fields {
+    ghost use Rattle.nc_fields.specs.code.Checks.{at, Checked};
+
+    /// Reads the tag of a list and the number of its elements, and returns the number. `tag` is the tag of lists of this kind. Errs with
+    /// `BadTag` if another tag than this or 0 was read, and with `BadCount` if the number's top bit is 1, or if the tag is 0 and the number
+    /// isn't.
+    pub(crate) fn list_len<S: Source>(
+        &mut self,
+        window: &mut Window<'_, S>,
+        version: Version,
+        list: ListName,
+        tag: u32,
+    ) -> Result<u64, HeadFault>
+        ensures { Checked (at window.old self.old) (at window.new self.new)
+            (list_steps list) (list_head version tag) result }
+    {
+        let found = self.tag(window, list.tag(), tag)?;
+        self.list_count(window, version, list.count(), found)
+    }
+}

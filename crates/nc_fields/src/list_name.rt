@@ -1,0 +1,86 @@
+//! The lists of a header.
+
+use crate::place::{FieldName, Owner, Place};
+
+/// A list of a header.
+#[derive(Clone, Copy, Debug, PartialEq, Eq)]
+pub(crate) enum ListName {
+    /// The dimensions.
+    Dims,
+    /// The global attributes.
+    GlobalAtts,
+    /// The variables.
+    Vars,
+    /// The attributes of the variable of this number.
+    Atts(u64),
+}
+
+impl ListName {
+    ghost use Rattle.std.specs.Prelude.{◌≡◌, ◌∷◌};
+    ghost use Rattle.nc_base.specs.Parts.{Count, Item, Tag};
+    ghost use Rattle.nc_fields.specs.Entries.{owner_steps, steps_of};
+    ghost use Rattle.nc_fields.specs.code.Checks.{IsNumeric};
+    ghost use Rattle.nc_fields.specs.code.Lists.{list_steps};
+
+    /// Returns the place of the list's tag.
+    pub(crate) fn tag(self) -> Place
+        ensures steps { steps_of result ≡ Tag ∷ list_steps self }
+        ensures numeric { IsNumeric result }
+    {
+        match self {
+            ListName::Dims => Place {
+                owner: Owner::Header,
+                name: FieldName::DimsTag,
+            },
+            ListName::GlobalAtts => Place {
+                owner: Owner::Header,
+                name: FieldName::GlobalAttsTag,
+            },
+            ListName::Vars => Place {
+                owner: Owner::Header,
+                name: FieldName::VarsTag,
+            },
+            ListName::Atts(var) => Place {
+                owner: Owner::Var(var),
+                name: FieldName::AttsTag,
+            },
+        }
+    }
+
+    /// Returns the place of the number of the list's elements.
+    pub(crate) fn count(self) -> Place
+        ensures steps { steps_of result ≡ Count ∷ list_steps self }
+        ensures numeric { IsNumeric result }
+    {
+        match self {
+            ListName::Dims => Place {
+                owner: Owner::Header,
+                name: FieldName::DimsCount,
+            },
+            ListName::GlobalAtts => Place {
+                owner: Owner::Header,
+                name: FieldName::GlobalAttsCount,
+            },
+            ListName::Vars => Place {
+                owner: Owner::Header,
+                name: FieldName::VarsCount,
+            },
+            ListName::Atts(var) => Place {
+                owner: Owner::Var(var),
+                name: FieldName::AttsCount,
+            },
+        }
+    }
+
+    /// Returns the element of this number.
+    pub(crate) fn item(self, number: u64) -> Owner
+        ensures { owner_steps result ≡ Item number ∷ list_steps self }
+    {
+        match self {
+            ListName::Dims => Owner::Dim(number),
+            ListName::GlobalAtts => Owner::GlobalAtt(number),
+            ListName::Vars => Owner::Var(number),
+            ListName::Atts(var) => Owner::VarAtt { var, att: number },
+        }
+    }
+}

@@ -1,0 +1,134 @@
+//! Names, and the bytes that fill a field up.
+
+ghost use Rattle.std.specs.Prelude.{◌≡◌, ◌≤◌, ◌∷◌, ◌==◌, if◌then◌else◌, length, IfOk, Ok, Err};
+ghost use Rattle.std.specs.List.{list_all};
+ghost use Rattle.nc_base.specs.Grammar.{checked, ignored, name_part};
+ghost use Rattle.nc_base.specs.Parts.{Name, Text, bytes};
+ghost use Rattle.nc_base.specs.declared.fault.FormatFault.TheVariants.{BadName, HeaderTruncated};
+ghost use Rattle.nc_fields.specs.Lenient.{is_no_control, len_before_nul, lenient, may_be_name};
+
+use crate::entry::Content;
+use crate::fields::{Fields, start_at};
+use crate::place::{FieldName, Owner, Place};
+use devices::Source;
+use nc_base::{FormatFault, Sequence, Version, padding_len};
+use nc_file::{HeadFault, Window};
+use std::alloc::{AllocError, Global};
+
+impl Fields {
+    ghost use Rattle.nc_fields.specs.Entries.{owner_steps, steps_of};
+    ghost use Rattle.nc_fields.specs.code.Checks.{at, Checked, IsFilling};
+
+    /// Reads the `n` bytes of a name. Errs with `BadName` if they show that the fields are out of step ([`may_be_name`]).
+    fn text<S: Source>(
+        &mut self,
+        window: &mut Window<'_, S>,
+        alloc: Global,
+        owner: Owner,
+        n: u64,
+    ) -> Result<Sequence<u8>, HeadFault>
+        ensures { Checked (at window.old self.old) (at window.new self.new)
+            (Text ∷ Name ∷ owner_steps owner)
+            (checked may_be_name BadName (bytes n HeaderTruncated)) result }
+    {
+        let place = Place {
+            owner,
+            name: FieldName::Name,
+        };
+        let start = start_at(window, place, n as u128);
+        let text = start.unless_cut(&mut self.entries, window.bytes(alloc, n as u128))?;
+        let content = Content::Bytes(copy_of(alloc, text.as_slice())?);
+        start.list(&mut self.entries, content, name_in(text))
+    }
+
+    /// Reads the `n` bytes that fill up what comes before. They may be any bytes.
+    pub(crate) fn filling<S: Source>(
+        &mut self,
+        window: &mut Window<'_, S>,
+        alloc: Global,
+        place: Place,
+        n: u64,
+    ) -> Result<(), HeadFault>
+        requires { IsFilling place }
+        ensures { Checked (at window.old self.old) (at window.new self.new)
+            (steps_of place) (ignored n) result }
+    {
+        let start = start_at(window, place, n as u128);
+        let filling = start.unless_cut(&mut self.entries, window.bytes(alloc, n as u128))?;
+        start.list(&mut self.entries, Content::Bytes(filling), Ok(()))
+    }
+
+    /// Reads a name: its length, its bytes and what fills them up. Returns the bytes.
+    pub(crate) fn name<S: Source>(
+        &mut self,
+        window: &mut Window<'_, S>,
+        alloc: Global,
+        version: Version,
+        owner: Owner,
+    ) -> Result<Sequence<u8>, HeadFault>
+        ensures { Checked (at window.old self.old) (at window.new self.new)
+            (Name ∷ owner_steps owner) (name_part lenient version) result }
+    {
+        let length = Place {
+            owner,
+            name: FieldName::NameLength,
+        };
+        let padding = Place {
+            owner,
+            name: FieldName::NamePadding,
+        };
+        let n = self.count(window, version, length)?;
+        let text = self.text(window, alloc, owner, n)?;
+        self.filling(window, alloc, padding, padding_len(n as u128))?;
+        Ok(text)
+    }
+}
+
+/// Returns a copy of the bytes.
+pub(crate) fn copy_of(alloc: Global, bytes: &[u8]) -> Result<Sequence<u8>, AllocError>
+    ensures { IfOk result (λ copy. copy ≡ bytes.now) }
+{
+    Ok(Sequence::from_vec(Vec::from_slice(alloc, bytes)?))
+}
+
+/// Returns the bytes, or errs with `BadName` if they show that the fields are out of step.
+fn name_in(text: Sequence<u8>) -> Result<Sequence<u8>, FormatFault>
+    ensures { result ≡ (if may_be_name text then Ok text else Err BadName) }
+{
+    if may_be_name(text.as_slice()) {
+        Ok(text)
+    } else {
+        Err(FormatFault::BadName)
+    }
+}
+
+/// Returns true if the bytes may be a name in a header whose fields are in step: at least one byte that is no control character, and after
+/// such bytes nothing but NULs.
+fn may_be_name(name: &[u8]) -> bool
+    ensures { result ≡ may_be_name name.now }
+{
+    let len = len_before_nul(name);
+    0 < len && has_no_control(&name[..len]) && are_nuls(&name[len..])
+}
+
+/// Returns how many bytes come before the first NUL.
+fn len_before_nul(name: &[u8]) -> usize
+    ensures value { result ≡ len_before_nul name.now }
+    ensures within { result ≤ length name.now }
+{
+    name.iter().take_while(|b| **b != 0).count()
+}
+
+/// Returns true if none of the bytes is a control character of ASCII.
+fn has_no_control(text: &[u8]) -> bool
+    ensures { result ≡ list_all is_no_control text.now }
+{
+    text.iter().all(|b| 32 <= *b && *b != 127)
+}
+
+/// Returns true if each of the bytes is a NUL.
+fn are_nuls(bytes: &[u8]) -> bool
+    ensures { result ≡ list_all (λ b. b == 0) bytes.now }
+{
+    bytes.iter().all(|b| *b == 0)
+}

@@ -1,0 +1,145 @@
+//! Variables.
+
+ghost use Rattle.std.specs.Prelude.{◌≡◌, ◌+◌, ◌∷◌, [], IfOk};
+ghost use Rattle.nc_base.specs.Grammar.{dimid_after, each, record_bytes, shape_part, var_after, var_list, var_part};
+ghost use Rattle.nc_base.specs.Parts.{Shape, Vars};
+ghost use Rattle.nc_fields.specs.Lenient.{lenient};
+
+use crate::fields::Fields;
+use crate::list_name::ListName;
+use crate::place::{FieldName, Owner, Place};
+use devices::Source;
+use nc_base::{Dim, Sequence, Var, Version};
+use nc_file::{HeadFault, Window, total_with};
+use std::alloc::Global;
+
+/// The tag of a list of variables (`NC_VARIABLE`).
+const NC_VARIABLE: u32 = 11;
+
+/// A variable that was read, with the bytes that a record has up to and including it.
+#[derive(Debug, Drop)]
+pub(crate) struct CountedVar {
+    pub(crate) var: Var,
+    /// The bytes of the padded slabs of all record variables up to and including `var`.
+    pub(crate) total: u64,
+}
+
+impl Fields {
+    ghost use Rattle.nc_fields.specs.Entries.{owner_steps};
+    ghost use Rattle.nc_fields.specs.code.Checks.{at, Checked};
+    ghost use Rattle.nc_fields.specs.code.Lists.{var_of};
+
+    /// Reads the `n` dimension ids of a shape, and returns them.
+    fn dimids<S: Source>(
+        &mut self,
+        window: &mut Window<'_, S>,
+        alloc: Global,
+        version: Version,
+        owner: Owner,
+        dims: &[Dim],
+        n: u64,
+    ) -> Result<Sequence<u64>, HeadFault>
+        ensures { Checked (at window.old self.old) (at window.new self.new)
+            (Shape ∷ owner_steps owner) (each (dimid_after version dims.now) n []) result }
+    {
+        let mut dimids = Sequence::new(alloc);
+        for i in 0..n {
+            let id = self.dimid(window, version, owner, i, dims)?;
+            dimids.push(id)?;
+        }
+        Ok(dimids)
+    }
+
+    /// Reads the shape of a variable, and returns its dimension ids.
+    fn shape<S: Source>(
+        &mut self,
+        window: &mut Window<'_, S>,
+        alloc: Global,
+        version: Version,
+        owner: Owner,
+        dims: &[Dim],
+    ) -> Result<Sequence<u64>, HeadFault>
+        ensures { Checked (at window.old self.old) (at window.new self.new)
+            (Shape ∷ owner_steps owner) (shape_part version dims.now) result }
+    {
+        let rank = Place {
+            owner,
+            name: FieldName::Rank,
+        };
+        let n = self.count(window, version, rank)?;
+        self.dimids(window, alloc, version, owner, dims, n)
+    }
+
+    /// Reads the variable of this number, and returns it with the number of bytes that a record has up to and including it. `total` is the
+    /// bytes of the padded slabs of the record variables before it.
+    fn var<S: Source>(
+        &mut self,
+        window: &mut Window<'_, S>,
+        alloc: Global,
+        version: Version,
+        number: u64,
+        dims: &[Dim],
+        total: u64,
+    ) -> Result<CountedVar, HeadFault>
+        ensures var { Checked (at window.old self.old) (at window.new self.new)
+            (owner_steps (Owner.Var number))
+            (var_part lenient version dims.now total) (var_of result) }
+        ensures total { IfOk result (λ v.
+            v.total ≡ total + record_bytes dims.now v.var.dimids v.var.ty) }
+    {
+        let owner = Owner::Var(number);
+        let name = self.name(window, alloc, version, owner)?;
+        let dimids = self.shape(window, alloc, version, owner, dims)?;
+        let atts = self.att_list(window, alloc, version, ListName::Atts(number))?;
+        let ids = dimids.as_slice();
+        let ty = self.var_type(window, version, owner, dims, ids, total)?;
+        let total = total_with(dims, ids, ty, total).unwrap();
+        self.vsize(window, version, owner)?;
+        let begin_at = self.begin(window, version, owner)?;
+        let var = Var {
+            name,
+            dimids,
+            atts,
+            ty,
+            begin_at,
+        };
+        Ok(CountedVar { var, total })
+    }
+
+    /// Reads the `n` variables of the list, and returns them.
+    fn vars<S: Source>(
+        &mut self,
+        window: &mut Window<'_, S>,
+        alloc: Global,
+        version: Version,
+        dims: &[Dim],
+        n: u64,
+    ) -> Result<Sequence<Var>, HeadFault>
+        ensures { Checked (at window.old self.old) (at window.new self.new)
+            (Vars ∷ []) (each (var_after lenient version dims.now) n []) result }
+    {
+        let mut vars = Sequence::new(alloc);
+        let mut total = 0;
+        for i in 0..n {
+            let counted = self.var(window, alloc, version, i, dims, total)?;
+            total = counted.total;
+            vars.push(counted.var)?;
+        }
+        Ok(vars)
+    }
+
+    /// Reads the list of variables, and returns them.
+    pub(crate) fn var_list<S: Source>(
+        &mut self,
+        window: &mut Window<'_, S>,
+        alloc: Global,
+        version: Version,
+        dims: &[Dim],
+    ) -> Result<Sequence<Var>, HeadFault>
+        ensures { Checked (at window.old self.old) (at window.new self.new)
+            (Vars ∷ []) (var_list lenient version dims.now) result }
+    {
+        let n = self.list_len(window, version, ListName::Vars, NC_VARIABLE)?;
+        self.vars(window, alloc, version, dims, n)
+    }
+}
