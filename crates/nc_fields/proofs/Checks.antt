@@ -294,6 +294,14 @@ module _ {S : Type 0} {g : Ghosts S} where
       (record { same_place = s.same_place; offset = s.offset; same_size = s.same_size ∙ same }) (began old window cut start q read (Ok x) r of_cut) j
       (subst (λ c. Finished cut entries start c answer result) found_is fin)
 
+  -- memory ran out before it was listed
+  pub listed-memory : {C A : Type 0} {old : Reader S g} {window : Window S g} {cut : List Entry} {place : Place} {start : Start} {size n : ℕ} {q : Part C} {p : Part A}
+      {judge : C → Result A FormatFault} {content : C → Content} {x : C} {read : Result C HeadFault} {f : HeadFault} {result : Result A HeadFault}
+      → IsFieldOf place size q p judge content → IsStart old.window place n start → n ≡ size → Read old.window window q read → (read ≡ Ok x) × (cut ≡ old.entries)
+      → result ≡ Err f → f ≡ OutOfMemory → Checked old (record { window = window; entries = cut }) (steps_of place) p result
+  listed-memory {judge = judge} {content = content} {x = x} is s same r of_cut is_err is_memory =
+      rw (is_err, is_memory) (listed-whole {found = content x} {answer = judge x} {result = Err OutOfMemory} is s same r of_cut refl refl tt)
+
   -- it was listed as cut, or the device or memory has failed
   pub listed-cut : {C A : Type 0} {old : Reader S g} {window : Window S g} {cut : List Entry} {place : Place} {start : Start} {size n : ℕ} {q : Part C} {p : Part A}
       {judge : C → Result A FormatFault} {content : C → Content} {read : Result C HeadFault} {e f : HeadFault} {result : Result A HeadFault}

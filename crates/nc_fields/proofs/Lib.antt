@@ -4,3 +4,4 @@ pub mod Numbers
 pub mod Texts
 pub mod Elements
 pub mod Listed
+pub mod Passed

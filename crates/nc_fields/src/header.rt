@@ -55,8 +55,8 @@ pub fn list_fields<S: Source>(
     ensures bytes { (S.view source.new).bytes ≡ (S.view source.old).bytes }
     ensures cause { Blames (S.view source.old).failures (S.view source.new) result }
     ensures listing { OnTrue S.is_transparent (IfOk result (IsListing (S.view source.old).bytes)) }
-    ensures forward { OnTrue S.is_transparent (IfOk result (λ l.
-        ReadUpTo (S.view source.old).handed (S.view source.new).handed l.end (length buf.old))) }
+    ensures forward { IfOk result (λ l.
+        ReadUpTo (S.view source.old).handed (S.view source.new).handed l.end (length buf.old)) }
 {
     let len = source.len();
     let mut window = Window {

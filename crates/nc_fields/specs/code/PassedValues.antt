@@ -1,5 +1,5 @@
 -- For contracts. What a function does that passes over the values of an attribute.
-use Rattle.std.specs.Prelude.{◌≡◌, ℕ, Bool, List, length, Result, Ok, Err, IfOk}
+use Rattle.std.specs.Prelude.{◌≡◌, ℕ, Bool, List, length, Result, Ok, Err, IfOk, OnOk}
 use Rattle.nc_base.specs.Bytes.{Bytes}
 use Rattle.nc_base.specs.Parts.{Step, bytes}
 use Rattle.nc_base.specs.declared.fault.FormatFault.TheVariants.{HeaderTruncated}
@@ -17,12 +17,12 @@ in_place bs (Err e) = Err e
 -- n bytes were read, and whether the last is a NUL is returned
 pub record PassesValues {S : Type 0} {g : Ghosts S} (old new : Window S g) (n : ℕ) (result : Result Bool HeadFault) : Type 0 where
   pub vals : Bytes
-  pub whole : length vals ≡ n
+  pub whole : OnOk result (length vals ≡ n)
   pub reads : Read old new (bytes n HeaderTruncated) (in_place vals result)
   pub last : IfOk result (λ is_nul. is_nul ≡ ends_with_nul vals)
 
 -- n bytes were read, and are listed as values
 pub record ChecksValues {S A : Type 0} {g : Ghosts S} (old new : Reader S g) (steps : List Step) (n : ℕ) (result : Result A HeadFault) : Type 0 where
   pub vals : Bytes
-  pub whole : length vals ≡ n
+  pub whole : OnOk result (length vals ≡ n)
   pub checked : Checked old new steps (bytes n HeaderTruncated) (in_place vals result)

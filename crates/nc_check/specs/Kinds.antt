@@ -1,0 +1,138 @@
+-- Definition. The kinds of findings, and how grave each is.
+use Rattle.std.specs.Prelude.{ℕ}
+use Rattle.nc_base.specs.declared.fault.FormatFault.{FormatFault}
+use Rattle.nc_base.specs.declared.fault.FormatFault.TheVariants as fault
+use Rattle.nc_layout.specs.declared.finding.LayoutFact.{LayoutFact}
+use Rattle.nc_layout.specs.declared.finding.LayoutFact.TheVariants as layout
+use Rattle.nc_check.specs.declared.{finding.Fact.Fact, kind.Kind.Kind, kind.Severity.Severity}
+use Rattle.nc_check.specs.declared.finding.Fact.TheVariants as fact
+use Rattle.nc_check.specs.declared.kind.Kind.TheVariants.{NotNetcdf, UnknownVersion, HeaderTruncated, BadTag, BadCount, BadName, FloatingType, BadType, BadShape, TwoRecordDims, TooLarge, BadOffset, Streaming, UnusedRecords, RecordCount, EmptyList, LongName, DuplicateName, NotNfc, Padding, EmptyAttribute, TrailingNul, FillValue, HighRank, Vsize, LargeVariable, BeginInHeader, Overlap, Unpadded, Order, AfterRecords, RecordPlace, Gap, Missing, EndPadding, Trailing}
+use Rattle.nc_check.specs.declared.kind.Severity.TheVariants.{Error, Violation, Note}
+
+-- ---- of facts
+
+abbrev pub kind_of_fault : FormatFault → Kind
+kind_of_fault fault.NotNetcdf = NotNetcdf
+kind_of_fault (fault.UnknownVersion version) = UnknownVersion
+kind_of_fault fault.HeaderTruncated = HeaderTruncated
+kind_of_fault fault.BadTag = BadTag
+kind_of_fault fault.BadCount = BadCount
+kind_of_fault fault.BadName = BadName
+kind_of_fault fault.FloatingType = FloatingType
+kind_of_fault fault.BadType = BadType
+kind_of_fault fault.BadShape = BadShape
+kind_of_fault fault.TwoRecordDims = TwoRecordDims
+kind_of_fault fault.BadOffset = BadOffset
+kind_of_fault fault.TooLarge = TooLarge
+
+abbrev pub kind_of_layout : LayoutFact → Kind
+kind_of_layout (layout.Streaming n) = Streaming
+kind_of_layout (layout.UnusedRecords n) = UnusedRecords
+kind_of_layout (layout.RecordCount n k) = RecordCount
+kind_of_layout (layout.LargeVariable n limit) = LargeVariable
+kind_of_layout (layout.BeginInHeader begin end) = BeginInHeader
+kind_of_layout (layout.Overlap begin end of) = Overlap
+kind_of_layout (layout.Unpadded begin end of) = Unpadded
+kind_of_layout (layout.Order begin least of) = Order
+kind_of_layout (layout.AfterRecords begin most) = AfterRecords
+kind_of_layout (layout.RecordPlace begin place) = RecordPlace
+kind_of_layout (layout.Gap n of) = Gap
+kind_of_layout (layout.Missing n end of) = Missing
+kind_of_layout (layout.EndPadding n end) = EndPadding
+kind_of_layout (layout.Trailing n end) = Trailing
+
+abbrev pub kind_of : Fact → Kind
+kind_of (fact.Fault fault) = kind_of_fault fault
+kind_of fact.EmptyList = EmptyList
+kind_of fact.LongName = LongName
+kind_of (fact.DuplicateName first) = DuplicateName
+kind_of fact.NotNfc = NotNfc
+kind_of fact.Padding = Padding
+kind_of fact.EmptyAttribute = EmptyAttribute
+kind_of fact.TrailingNul = TrailingNul
+kind_of (fact.FillType code) = FillValue
+kind_of fact.FillCount = FillValue
+kind_of fact.HighRank = HighRank
+kind_of (fact.Vsize size) = Vsize
+kind_of (fact.Layout fact) = kind_of_layout fact
+
+-- ---- of kinds
+
+-- Reading stops at an error, or values are missing. The specification forbids a violation, which can be read all the same. A note is legal,
+-- but odd.
+abbrev pub severity_of : Kind → Severity
+severity_of NotNetcdf = Error
+severity_of UnknownVersion = Error
+severity_of HeaderTruncated = Error
+severity_of BadTag = Error
+severity_of BadCount = Error
+severity_of BadName = Error
+severity_of FloatingType = Note
+severity_of BadType = Error
+severity_of BadShape = Error
+severity_of TwoRecordDims = Error
+severity_of TooLarge = Error
+severity_of BadOffset = Error
+severity_of Streaming = Note
+severity_of UnusedRecords = Note
+severity_of RecordCount = Violation
+severity_of EmptyList = Note
+severity_of LongName = Note
+severity_of DuplicateName = Violation
+severity_of NotNfc = Violation
+severity_of Padding = Violation
+severity_of EmptyAttribute = Note
+severity_of TrailingNul = Note
+severity_of FillValue = Violation
+severity_of HighRank = Note
+severity_of Vsize = Violation
+severity_of LargeVariable = Violation
+severity_of BeginInHeader = Violation
+severity_of Overlap = Violation
+severity_of Unpadded = Violation
+severity_of Order = Violation
+severity_of AfterRecords = Violation
+severity_of RecordPlace = Violation
+severity_of Gap = Note
+severity_of Missing = Error
+severity_of EndPadding = Violation
+severity_of Trailing = Violation
+
+-- the order of findings at one offset
+abbrev pub rank_of : Kind → ℕ
+rank_of NotNetcdf = 0
+rank_of UnknownVersion = 1
+rank_of HeaderTruncated = 2
+rank_of BadTag = 3
+rank_of BadCount = 4
+rank_of BadName = 5
+rank_of FloatingType = 6
+rank_of BadType = 7
+rank_of BadShape = 8
+rank_of TwoRecordDims = 9
+rank_of TooLarge = 10
+rank_of BadOffset = 11
+rank_of Streaming = 12
+rank_of UnusedRecords = 13
+rank_of RecordCount = 14
+rank_of EmptyList = 15
+rank_of LongName = 16
+rank_of DuplicateName = 17
+rank_of NotNfc = 18
+rank_of Padding = 19
+rank_of EmptyAttribute = 20
+rank_of TrailingNul = 21
+rank_of FillValue = 22
+rank_of HighRank = 23
+rank_of Vsize = 24
+rank_of LargeVariable = 25
+rank_of BeginInHeader = 26
+rank_of Overlap = 27
+rank_of Unpadded = 28
+rank_of Order = 29
+rank_of AfterRecords = 30
+rank_of RecordPlace = 31
+rank_of Gap = 32
+rank_of Missing = 33
+rank_of EndPadding = 34
+rank_of Trailing = 35

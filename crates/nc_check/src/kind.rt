@@ -1,0 +1,237 @@
+//! The kinds of findings, and how grave each is.
+
+ghost use Rattle.std.specs.Prelude.{◌≡◌};
+ghost use Rattle.nc_check.specs.Kinds.{kind_of, kind_of_fault, kind_of_layout, rank_of, severity_of};
+
+use crate::finding::Fact;
+use nc_base::FormatFault;
+use nc_layout::LayoutFact;
+
+/// How grave a finding is.
+#[derive(Clone, Copy, Debug, PartialEq, Eq)]
+pub enum Severity {
+    /// The file is legal, but odd.
+    Note,
+    /// The NetCDF Classic Format Specification forbids it, but the file can be read.
+    Violation,
+    /// Reading stops here, or values are missing.
+    Error,
+}
+
+/// The kinds of findings. Of those at one offset, a report has them in this order.
+#[derive(Clone, Copy, Debug, PartialEq, Eq)]
+pub enum Kind {
+    /// The file doesn't begin with `CDF`.
+    NotNetcdf,
+    /// The version byte is none of 1, 2 and 5.
+    UnknownVersion,
+    /// The file ends inside a field of the header.
+    HeaderTruncated,
+    /// The tag of a list is neither its own nor 0.
+    BadTag,
+    /// A count, a length or the number of records has its top bit set, or comes after a tag of 0 and isn't 0.
+    BadCount,
+    /// A name isn't valid.
+    BadName,
+    /// A type is `float` or `double`, which the programs that read values refuse. The first one is found.
+    FloatingType,
+    /// A type code isn't that of a type of the version.
+    BadType,
+    /// A dimension id is that of no dimension, or that of the record dimension in another place than the first.
+    BadShape,
+    /// A second dimension has length 0.
+    TwoRecordDims,
+    /// A variable passes a limit of the programs that read values.
+    TooLarge,
+    /// A begin has its top bit set.
+    BadOffset,
+    /// The number of records is the streaming mark.
+    Streaming,
+    /// There are records, but no record variable.
+    UnusedRecords,
+    /// The file has room for more records than it counts.
+    RecordCount,
+    /// A list without elements has its own tag.
+    EmptyList,
+    /// A name is longer than netCDF-C takes.
+    LongName,
+    /// An earlier element of the list has this name.
+    DuplicateName,
+    /// A name isn't in normal form NFC.
+    NotNfc,
+    /// A byte that fills up a name or an attribute isn't 0.
+    Padding,
+    /// An attribute of another type than `char` has no values.
+    EmptyAttribute,
+    /// An attribute of type `char` ends with a NUL.
+    TrailingNul,
+    /// A `_FillValue` hasn't the type of its variable, or not one value.
+    FillValue,
+    /// A variable has more dimensions than netCDF-C takes.
+    HighRank,
+    /// The size of a variable isn't that of its padded slab.
+    Vsize,
+    /// A slab is greater than the version allows for a variable in its position.
+    LargeVariable,
+    /// A variable begins inside of the header.
+    BeginInHeader,
+    /// A block begins before the values of an earlier one end.
+    Overlap,
+    /// A block begins before the padding of an earlier one ends.
+    Unpadded,
+    /// A variable begins before one that comes earlier in the header.
+    Order,
+    /// A variable that isn't a record variable begins after the records do.
+    AfterRecords,
+    /// A slab isn't in its place in the record.
+    RecordPlace,
+    /// There are unused bytes before a block.
+    Gap,
+    /// The file ends before its values do.
+    Missing,
+    /// The file ends before the padding of its values does.
+    EndPadding,
+    /// The file goes on after the padding of its values.
+    Trailing,
+}
+
+impl Kind {
+    /// Returns how grave findings of this kind are.
+    pub fn severity(self) -> Severity
+        ensures { result ≡ severity_of self }
+    {
+        match self {
+            Kind::FloatingType
+            | Kind::Streaming
+            | Kind::UnusedRecords
+            | Kind::EmptyList
+            | Kind::LongName
+            | Kind::EmptyAttribute
+            | Kind::TrailingNul
+            | Kind::HighRank
+            | Kind::Gap => Severity::Note,
+            Kind::NotNetcdf
+            | Kind::UnknownVersion
+            | Kind::HeaderTruncated
+            | Kind::BadTag
+            | Kind::BadCount
+            | Kind::BadName
+            | Kind::BadType
+            | Kind::BadShape
+            | Kind::TwoRecordDims
+            | Kind::TooLarge
+            | Kind::BadOffset
+            | Kind::Missing => Severity::Error,
+            _ => Severity::Violation,
+        }
+    }
+
+    /// Returns the position of this kind among all, from 0.
+    pub fn rank(self) -> u64
+        ensures { result ≡ rank_of self }
+    {
+        match self {
+            Kind::NotNetcdf => 0,
+            Kind::UnknownVersion => 1,
+            Kind::HeaderTruncated => 2,
+            Kind::BadTag => 3,
+            Kind::BadCount => 4,
+            Kind::BadName => 5,
+            Kind::FloatingType => 6,
+            Kind::BadType => 7,
+            Kind::BadShape => 8,
+            Kind::TwoRecordDims => 9,
+            Kind::TooLarge => 10,
+            Kind::BadOffset => 11,
+            Kind::Streaming => 12,
+            Kind::UnusedRecords => 13,
+            Kind::RecordCount => 14,
+            Kind::EmptyList => 15,
+            Kind::LongName => 16,
+            Kind::DuplicateName => 17,
+            Kind::NotNfc => 18,
+            Kind::Padding => 19,
+            Kind::EmptyAttribute => 20,
+            Kind::TrailingNul => 21,
+            Kind::FillValue => 22,
+            Kind::HighRank => 23,
+            Kind::Vsize => 24,
+            Kind::LargeVariable => 25,
+            Kind::BeginInHeader => 26,
+            Kind::Overlap => 27,
+            Kind::Unpadded => 28,
+            Kind::Order => 29,
+            Kind::AfterRecords => 30,
+            Kind::RecordPlace => 31,
+            Kind::Gap => 32,
+            Kind::Missing => 33,
+            Kind::EndPadding => 34,
+            Kind::Trailing => 35,
+        }
+    }
+}
+
+impl Fact {
+    /// Returns the kind of this fact.
+    pub fn kind(self) -> Kind
+        ensures { result ≡ kind_of self }
+    {
+        match self {
+            Fact::Fault(fault) => kind_of_fault(fault),
+            Fact::EmptyList => Kind::EmptyList,
+            Fact::LongName => Kind::LongName,
+            Fact::DuplicateName { .. } => Kind::DuplicateName,
+            Fact::NotNfc => Kind::NotNfc,
+            Fact::Padding => Kind::Padding,
+            Fact::EmptyAttribute => Kind::EmptyAttribute,
+            Fact::TrailingNul => Kind::TrailingNul,
+            Fact::FillType { .. } => Kind::FillValue,
+            Fact::FillCount => Kind::FillValue,
+            Fact::HighRank => Kind::HighRank,
+            Fact::Vsize { .. } => Kind::Vsize,
+            Fact::Layout(fact) => kind_of_layout(fact),
+        }
+    }
+}
+
+/// Returns the kind of this fault.
+fn kind_of_fault(fault: FormatFault) -> Kind
+    ensures { result ≡ kind_of_fault fault }
+{
+    match fault {
+        FormatFault::NotNetcdf => Kind::NotNetcdf,
+        FormatFault::UnknownVersion(_) => Kind::UnknownVersion,
+        FormatFault::HeaderTruncated => Kind::HeaderTruncated,
+        FormatFault::BadTag => Kind::BadTag,
+        FormatFault::BadCount => Kind::BadCount,
+        FormatFault::BadName => Kind::BadName,
+        FormatFault::FloatingType => Kind::FloatingType,
+        FormatFault::BadType => Kind::BadType,
+        FormatFault::BadShape => Kind::BadShape,
+        FormatFault::TwoRecordDims => Kind::TwoRecordDims,
+        FormatFault::BadOffset => Kind::BadOffset,
+        FormatFault::TooLarge => Kind::TooLarge,
+    }
+}
+
+/// Returns the kind of this fact about the layout.
+fn kind_of_layout(fact: LayoutFact) -> Kind
+    ensures { result ≡ kind_of_layout fact }
+{
+    match fact {
+        LayoutFact::Streaming { .. } => Kind::Streaming,
+        LayoutFact::UnusedRecords { .. } => Kind::UnusedRecords,
+        LayoutFact::RecordCount { .. } => Kind::RecordCount,
+        LayoutFact::LargeVariable { .. } => Kind::LargeVariable,
+        LayoutFact::BeginInHeader { .. } => Kind::BeginInHeader,
+        LayoutFact::Overlap { .. } => Kind::Overlap,
+        LayoutFact::Unpadded { .. } => Kind::Unpadded,
+        LayoutFact::Order { .. } => Kind::Order,
+        LayoutFact::AfterRecords { .. } => Kind::AfterRecords,
+        LayoutFact::RecordPlace { .. } => Kind::RecordPlace,
+        LayoutFact::Gap { .. } => Kind::Gap,
+        LayoutFact::Missing { .. } => Kind::Missing,
+        LayoutFact::EndPadding { .. } => Kind::EndPadding,
+        LayoutFact::Trailing { .. } => Kind::Trailing,
+    }
+}
