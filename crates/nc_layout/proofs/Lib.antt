@@ -11,3 +11,5 @@ pub mod QuietLayouts
 pub mod CanonicalBegins
 pub mod CanonicalLength
 pub mod SlabsApart
+pub mod HeaderSlots
+pub mod SpelledLayouts

@@ -5,5 +5,7 @@ pub mod SlotRules
 pub mod BlockRules
 pub mod FileEnd
 pub mod Findings
+pub mod HeaderLayout
 pub mod Laws
+pub mod HeaderLaws
 pub mod code

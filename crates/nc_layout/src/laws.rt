@@ -1,6 +1,7 @@
 //! Laws of the definitions in `specs/`, each the contract of a function that does nothing.
 
 ghost use Rattle.nc_layout.specs.Laws.{QuietBeginsAreCanonical, QuietLengthIsCanonical, QuietSlabsAreApart, MissingValuesHaveSlab};
+ghost use Rattle.nc_layout.specs.HeaderLaws.{SpelledHeadersHaveSoundLayouts};
 
 /// States two laws, and does nothing. `begins`: if nothing is found at the begins of variables and blocks, then each variable begins right
 /// after the header and the padded slabs that come before its own: first those of the variables that aren't record variables, in header
@@ -23,4 +24,10 @@ pub fn quiet_slabs_are_apart()
 /// is there exactly if the file ends before the values do.
 pub fn missing_values_have_slab()
     ensures { MissingValuesHaveSlab }
+{}
+
+/// States a law, and does nothing: a header that the bytes of a file spell, by whatever rules on names, types and values, has a sound layout
+/// ([`Layout::is_sound`](crate::Layout::is_sound)).
+pub fn spelled_headers_have_sound_layouts()
+    ensures { SpelledHeadersHaveSoundLayouts }
 {}

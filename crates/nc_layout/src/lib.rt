@@ -1,7 +1,8 @@
 //! The rules on the layout of a netCDF classic file.
 //!
 //! Everything here is about numbers: the begins and slabs of the variables, the number of records, the end of the header and the length of
-//! the file. Nothing reads a device, and no byte of a header or of a value is looked at. `specs/` has the definitions.
+//! the file. [`sound_layout`] takes them from a header. Nothing reads a device, and no byte of a header or of a value is looked at. `specs/`
+//! has the definitions.
 #![tactic(auto)]
 
 mod block_rules;
@@ -9,14 +10,17 @@ mod blocks;
 mod file_end;
 mod finding;
 mod findings;
+mod header_layout;
 pub mod laws;
 mod numrecs_rules;
 mod records;
 mod slot;
 mod slot_rules;
+mod sound;
 
 pub use finding::{Block, LayoutFact, LayoutFinding, LayoutPlace, Slab};
 pub use findings::layout_findings;
+pub use header_layout::sound_layout;
 pub use slot::{Layout, Slot};
 
 #[cfg(test)]

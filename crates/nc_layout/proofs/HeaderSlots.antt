@@ -1,0 +1,73 @@
+-- The slots of a header's variables: which have records, and how many bytes they take.
+use Rattle.std.proofs.Common.{◌≡◌, ℕ, ◌+◌, ◌<◌, ◌≤◌, Bool, true, false, List, [], ◌∷◌, ◌++◌, length, get_or, take, map, sum_by, refl, sym, ◌∙◌, ap, subst, All, if◌then◌else◌}
+use Rattle.std.proofs.lemmas.List.{take_more, map-append}
+use Rattle.std.proofs.lemmas.List.Elements.{All-append, All-cons, All-head, All-nil, All-tail}
+use Rattle.std.proofs.lemmas.List.Sums.{sum-map, sum_by-cons}
+use Rattle.nc_base.specs.declared.{header.Dim.Dim, header.Header.Header, header.Var.Var}
+use Rattle.nc_base.specs.Sizes.{is_record_var, record_vars, padded_size, padded_total, slab_size, slab_limit}
+use Rattle.nc_layout.specs.declared.slot.Slot.{Slot}
+use Rattle.nc_layout.specs.Slots.{padded_slab, record_slots}
+use Rattle.nc_layout.specs.Findings.{IsSoundSlot, IsSoundLayout}
+use Rattle.nc_layout.specs.HeaderLayout.{slot_of, layout_of}
+
+-- ---- the slots of a loop
+
+-- the slab of this variable keeps the limit
+abbrev pub HasSmallSlab : List Dim → Var → Type 0
+HasSmallSlab dims var = slab_size dims var ≤ slab_limit
+
+-- these are the slots of these variables, whose slabs keep the limit
+pub record AreSlots (dims : List Dim) (vars : List Var) (slots : List Slot) : Type 0 where
+  pub are : slots ≡ map (slot_of dims) vars
+  pub small : All (HasSmallSlab dims) vars
+
+slots-push : (dims : List Dim) (vars : List Var) (slots : List Slot) (x : Var) → HasSmallSlab dims x → AreSlots dims vars slots
+    → AreSlots dims (vars ++ x ∷ []) (slots ++ slot_of dims x ∷ [])
+slots-push dims vars slots x small so_far = record {
+  are = ap (λ (ss : List Slot). ss ++ slot_of dims x ∷ []) so_far.are ∙ sym (map-append (slot_of dims) vars (x ∷ []));
+  small = All-append (HasSmallSlab dims) vars (x ∷ []) so_far.small (All-cons (HasSmallSlab dims) x [] small (All-nil (HasSmallSlab dims)));
+}
+
+-- one more slot
+pub slots-more : (dims : List Dim) (vars : List Var) (i : ℕ) (slots : List Slot) (x : Var) → i < length vars → x ≡ get_or vars i x
+    → HasSmallSlab dims x → AreSlots dims (take i vars) slots → AreSlots dims (take (i + 1) vars) (slots ++ slot_of dims x ∷ [])
+slots-more dims vars i slots x lt at small so_far =
+    subst (λ (vs : List Var). AreSlots dims vs (slots ++ slot_of dims x ∷ []))
+    (ap (λ (var : Var). take i vars ++ var ∷ []) at ∙ sym (take_more vars i x lt))
+    (slots-push dims (take i vars) slots x small so_far)
+
+-- ---- their bytes
+
+-- the padded slabs of these variables
+slots-total : (dims : List Dim) (vars : List Var) → sum_by padded_slab (map (slot_of dims) vars) ≡ sum_by (padded_size dims) vars
+slots-total dims [] = refl
+slots-total dims (var ∷ vars) =
+    sum_by-cons padded_slab (slot_of dims var) (map (slot_of dims) vars) ∙ ap (λ n. padded_size dims var + n) (slots-total dims vars)
+    ∙ sym (sum_by-cons (padded_size dims) var vars)
+
+kept-slot : (keep : Bool) (dims : List Dim) (var : Var) (vars : List Var) (slots : List Slot) → slots ≡ map (slot_of dims) vars
+    → (if keep then slot_of dims var ∷ slots else slots) ≡ map (slot_of dims) (if keep then var ∷ vars else vars)
+kept-slot true dims var vars slots e = ap (λ (ss : List Slot). slot_of dims var ∷ ss) e
+kept-slot false dims var vars slots e = e
+
+pub record_slots-are : (dims : List Dim) (vars : List Var) → record_slots (map (slot_of dims) vars) ≡ map (slot_of dims) (record_vars dims vars)
+record_slots-are dims [] = refl
+record_slots-are dims (var ∷ vars) = kept-slot (is_record_var dims var) dims var (record_vars dims vars) _ (record_slots-are dims vars)
+
+pub record_slots-total : (dims : List Dim) (vars : List Var)
+    → sum_by padded_slab (record_slots (map (slot_of dims) vars)) ≡ padded_total dims (record_vars dims vars)
+record_slots-total dims vars =
+    ap (sum_by padded_slab) (record_slots-are dims vars) ∙ slots-total dims (record_vars dims vars)
+    ∙ sym (sum-map (padded_size dims) (record_vars dims vars))
+
+-- ---- sound layouts
+
+small_slabs-of : (dims : List Dim) (vars : List Var) → All IsSoundSlot (map (slot_of dims) vars) → All (HasSmallSlab dims) vars
+small_slabs-of dims [] sound = All-nil (HasSmallSlab dims)
+small_slabs-of dims (var ∷ vars) sound =
+    All-cons (HasSmallSlab dims) var vars (All-head IsSoundSlot (slot_of dims var) (map (slot_of dims) vars) sound).small_slab
+    (small_slabs-of dims vars (All-tail IsSoundSlot (slot_of dims var) (map (slot_of dims) vars) sound))
+
+-- the slabs of a sound layout keep the limit
+pub small_slabs : (h : Header) (header_end file_len : ℕ) → IsSoundLayout (layout_of h header_end file_len) → All (HasSmallSlab h.dims) h.vars
+small_slabs h header_end file_len sound = small_slabs-of h.dims h.vars sound.sound_slots

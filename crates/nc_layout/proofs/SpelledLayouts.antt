@@ -1,0 +1,129 @@
+-- A header that bytes spell, by whatever rules, has a sound layout.
+use Rattle.std.proofs.Common.{◌≡◌, ℕ, zero, suc, ◌+◌, ◌^◌, ◌<◌, ◌≤◌, Bool, true, false, List, [], ◌∷◌, ◌++◌, length, refl, sym, subst, append_assoc, append-nil, arith, ◌&&◌, ◌==◌, if◌then◌else◌, Result, Ok, Err, All}
+use Rattle.std.proofs.lemmas.Bool.{ltb-true, leb-true, eqb-true}
+use Rattle.std.proofs.lemmas.List.Elements.{All-nil, All-cons, All-append, All-map}
+use Rattle.nc_base.specs.declared.{fault.FormatFault.FormatFault, header.Dim.Dim, header.Var.Var, header.Header.Header, version.Version.Version}
+use Rattle.nc_base.specs.Bytes.{Bytes}
+use Rattle.nc_base.specs.Versions.{offset_limit}
+use Rattle.nc_base.specs.Sizes.{record_limit, record_vars, padded_total}
+use Rattle.nc_base.specs.Headers.{IsDimid, AreDimids}
+use Rattle.nc_base.specs.Parts.{Part, Spells}
+use Rattle.nc_base.specs.Grammar.{Rules, offset_part, each, counted, list_part, is_dimid, dimid_part, dimid_after, shape_part, is_within_limits, var_part, var_after, var_list, header_by}
+use Rattle.nc_base.proofs.SoundLaws.{some_product, some_count, some_size}
+use Rattle.nc_base.proofs.Printable.{total-append, one-total}
+use Rattle.nc_layout.specs.Findings.{IsSoundSlot, IsSoundLayout}
+use Rattle.nc_layout.specs.HeaderLayout.{slot_of, layout_of}
+use Rattle.nc_layout.proofs.HeaderSlots.{record_slots-total}
+
+-- a test that was passed
+passed : {A : Type 0} (b : Bool) (x y : A) (wrong : FormatFault) → ◌≡◌ {A = Result A FormatFault} (if b then Ok x else Err wrong) (Ok y)
+    → (b ≡ true) × (x ≡ y)
+passed true x y wrong e = (refl, cc)
+passed false x y wrong e = absurd cc
+
+-- ---- lists
+
+-- what holds of no elements, and of one more than it held of, holds of all
+each-keeps : {A : Type 0} (element : List A → Part A) (P : List A → Type 0)
+    → ((before : List A) (from : Bytes) (x : A) (rest : Bytes) → Spells (element before) from x rest → P before → P (before ++ x ∷ []))
+    → (n : ℕ) (before : List A) (from : Bytes) (all : List A) (rest : Bytes) → Spells (each element n before) from all rest → P before → P all
+unfolding Spells each
+each-keeps element P step zero before from all rest s kept = subst P (sym s.0) kept
+each-keeps element P step (suc n) before from all rest (x, middle, s, t) kept =
+    each-keeps element P step n (before ++ x ∷ []) middle all rest t (step before from x middle s kept)
+
+-- ---- shapes
+
+length-none : {A : Type 0} (xs : List A) → (length xs == 0) ≡ true → xs ≡ []
+length-none [] e = refl
+length-none (x ∷ xs) e = let none : length (x ∷ xs) ≡ 0 = eqb-true _ _ e in absurd (omega arith)
+
+is-dimid : (dims : List Dim) (before : List ℕ) (id : ℕ) → is_dimid dims (length before == 0) id ≡ true → IsDimid dims before id
+is-dimid dims before id e = grind (arith, length-none)
+
+dimid-spelled : (v : Version) (dims : List Dim) (before : List ℕ) (from : Bytes) (id : ℕ) (rest : Bytes)
+    → Spells (dimid_after v dims before) from id rest → IsDimid dims before id
+unfolding Spells dimid_part
+dimid-spelled v dims before from id rest (k, s, e) =
+    let p = passed _ k id _ e in is-dimid dims before id (subst (λ k. is_dimid dims (length before == 0) k ≡ true) p.1 p.0)
+
+dimids-push : (dims : List Dim) (before ids : List ℕ) (id : ℕ) → AreDimids dims before ids → IsDimid dims (before ++ ids) id
+    → AreDimids dims before (ids ++ id ∷ [])
+dimids-push dims before [] id known is = (subst (λ ids. IsDimid dims ids id) (append-nil before) is, tt)
+dimids-push dims before (next ∷ ids) id known is =
+    (known.0, dimids-push dims (before ++ next ∷ []) ids id known.1 (subst (λ ids. IsDimid dims ids id) (sym (append_assoc before (next ∷ []) ids)) is))
+
+shape-spelled : (v : Version) (dims : List Dim) (from : Bytes) (ids : List ℕ) (rest : Bytes) → Spells (shape_part v dims) from ids rest
+    → AreDimids dims [] ids
+unfolding Spells shape_part counted
+shape-spelled v dims from ids rest (n, m, c, t) =
+    each-keeps (dimid_after v dims) (AreDimids dims [])
+    (λ before from id rest s known. dimids-push dims [] before id known (dimid-spelled v dims before from id rest s))
+    n [] m ids rest t tt
+
+-- ---- variables
+
+offset-below : (v : Version) (from : Bytes) (n : ℕ) (rest : Bytes) → Spells (offset_part v) from n rest → n < offset_limit v
+unfolding Spells offset_part
+offset-below v from n rest (m, s, e) = let p = passed _ m n _ e in subst (λ k. k < offset_limit v) p.1 (ltb-true _ _ p.0)
+
+offset-small : (v : Version) → offset_limit v ≤ 2 ^ 63
+offset-small v = grind arith
+
+-- the slot of this variable is sound
+abbrev HasSoundSlot : List Dim → Var → Type 0
+HasSoundSlot dims var = IsSoundSlot (slot_of dims var)
+
+-- these variables have sound slots, and keep the limit on a record
+record AreWithinLimits (dims : List Dim) (vars : List Var) : Type 0 where
+  slots : All (HasSoundSlot dims) vars
+  small_record : padded_total dims (record_vars dims vars) ≤ record_limit
+
+both-true : (a b : Bool) → (a && b) ≡ true → (a ≡ true) × (b ≡ true)
+both-true a b e = grind arith
+
+var-sound : (dims : List Dim) (before : List Var) (var : Var) → AreDimids dims [] var.dimids → var.begin_at < 2 ^ 63
+    → is_within_limits dims (padded_total dims (record_vars dims before)) var.dimids var.ty ≡ true
+    → HasSoundSlot dims var × (padded_total dims (record_vars dims (before ++ var ∷ [])) ≤ record_limit)
+var-sound dims before var shape begin within =
+    let both = both-true _ _ within in
+    let below = leb-true _ _ both.1 in (
+      record {
+        some_bytes = some_product _ _ (some_count dims var.dimids shape) (some_size var.ty);
+        small_slab = leb-true _ _ both.0;
+        small_begin = begin;
+      },
+      omega (arith, total-append dims before (var ∷ []), one-total dims var, below),
+    )
+
+var-spelled : (r : Rules) (v : Version) (dims : List Dim) (before : List Var) (from : Bytes) (x : Var) (rest : Bytes)
+    → Spells (var_after r v dims before) from x rest → AreWithinLimits dims before → AreWithinLimits dims (before ++ x ∷ [])
+unfolding Spells var_part
+var-spelled r v dims before from x rest (text, m, s, (ids, m2, sh, (atts, m3, a, (ty, m4, (t, ts, e), (vsize, m5, vs, (begin, m6, b, (whole, end))))))) kept =
+    let p = passed _ t ty _ e in
+    let sound = var-sound dims before (record { name = text; dimids = ids; atts = atts; ty = ty; begin_at = begin })
+    (shape-spelled v dims m ids m2 sh) (omega (arith, offset-below v m5 begin m6 b, offset-small v))
+    (subst (λ k. is_within_limits dims (padded_total dims (record_vars dims before)) ids k ≡ true) p.1 p.0) in
+    subst (λ x. AreWithinLimits dims (before ++ x ∷ [])) (sym whole)
+    (record { slots = All-append (HasSoundSlot dims) before _ kept.slots (All-cons (HasSoundSlot dims) _ [] sound.0 (All-nil (HasSoundSlot dims))); small_record = sound.1 })
+
+-- ---- the whole
+
+vars-spelled : (r : Rules) (v : Version) (dims : List Dim) (from : Bytes) (vars : List Var) (rest : Bytes)
+    → Spells (var_list r v dims) from vars rest → AreWithinLimits dims vars
+unfolding Spells var_list list_part
+vars-spelled r v dims from vars rest (n, m, c, t) =
+    each-keeps (var_after r v dims) (AreWithinLimits dims) (var-spelled r v dims) n [] m vars rest t
+    (record { slots = All-nil (HasSoundSlot dims); small_record = omega arith })
+
+pub spelled-layout : (r : Rules) (bytes : Bytes) (h : Header) (rest : Bytes) (header_end : ℕ)
+    → Spells (header_by r) bytes h rest → header_end + length rest ≡ length bytes → IsSoundLayout (layout_of h header_end (length bytes))
+unfolding Spells header_by
+spelled-layout r bytes h rest header_end (v, m, s, (numrecs, m2, ns, (dims, m3, d, (gatts, m4, g, (vars, m5, vs, (whole, end)))))) ends =
+    let kept = vars-spelled r v dims m4 vars m5 vs in
+    subst (λ h. IsSoundLayout (layout_of h header_end (length bytes))) (sym whole)
+    (record {
+      sound_slots = All-map IsSoundSlot (slot_of dims) vars kept.slots;
+      small_record = subst (λ n. n ≤ record_limit) (sym (record_slots-total dims vars)) kept.small_record;
+      header_inside = omega (arith, ends);
+    })

@@ -1,0 +1,86 @@
+//! The layout of a file whose header has been read.
+
+ghost use Rattle.std.specs.Prelude.{◌≡◌, ◌≤◌, All, IfOk, SomeIff, map};
+ghost use Rattle.nc_base.specs.Sizes.{slab_size, slab_limit, is_narrow};
+ghost use Rattle.nc_layout.specs.Findings.{IsSoundLayout};
+ghost use Rattle.nc_layout.specs.HeaderLayout.{slot_of, layout_of};
+
+use crate::slot::{Layout, Slot};
+use nc_base::{Dim, Header, Sequence, Var, is_record_var, slab_of};
+use std::alloc::{AllocError, Global};
+
+/// Returns the layout of a file of `file_len` bytes with this header, which ends at the offset `header_end`. Returns `None` if the layout
+/// isn't sound ([`Layout::is_sound`]), as the rules need it. Errs only if an allocation fails.
+///
+/// If the bytes of the file spell the header, its layout is sound
+/// ([`spelled_headers_have_sound_layouts`](crate::laws::spelled_headers_have_sound_layouts)).
+pub fn sound_layout(
+    alloc: Global,
+    header: &Header,
+    header_end: u64,
+    file_len: u64,
+) -> Result<Option<Layout>, AllocError>
+    ensures { let layout = layout_of header.now header_end file_len in
+        IfOk result (λ found. SomeIff found (IsSoundLayout layout) layout) }
+{
+    match slots_of(alloc, header)? {
+        Some(slots) => {
+            let layout = Layout {
+                version: header.version,
+                numrecs: header.numrecs,
+                slots,
+                header_end,
+                file_len,
+            };
+            Ok(if_sound(layout))
+        }
+        None => Ok(None),
+    }
+}
+
+/// Returns the layout if it is sound.
+fn if_sound(layout: Layout) -> Option<Layout>
+    ensures { SomeIff result (IsSoundLayout layout) layout }
+{
+    if layout.is_sound() {
+        Some(layout)
+    } else {
+        None
+    }
+}
+
+/// Returns the slots of the variables, in the order of the header, or `None` if a slab passes 2^48 bytes.
+fn slots_of(alloc: Global, header: &Header) -> Result<Option<Sequence<Slot>>, AllocError>
+    ensures { let dims = header.now.dims in IfOk result (λ found.
+        SomeIff found (All (λ var. slab_size dims var ≤ slab_limit) header.now.vars) (map (slot_of dims) header.now.vars)) }
+{
+    let dims = header.dims.as_slice();
+    let mut slots = Sequence::new(alloc);
+    for var in header.vars.as_slice() {
+        match slot_of(dims, var) {
+            Some(slot) => slots.push(slot)?,
+            None => return Ok(None),
+        }
+    }
+    Ok(Some(slots))
+}
+
+/// Returns the slot of the variable, or `None` if its slab passes 2^48 bytes.
+fn slot_of(dims: &[Dim], var: &Var) -> Option<Slot>
+    ensures { SomeIff result (slab_size dims.now var.now ≤ slab_limit) (slot_of dims.now var.now) }
+{
+    let slab = slab_of(dims, var.dimids.as_slice(), var.ty)?;
+    Some(Slot {
+        begin: var.begin_at,
+        slab,
+        is_record: is_record_var(dims, var),
+        is_narrow: is_narrow(var),
+    })
+}
+
+/// Returns true if a value of the variable has less than four bytes.
+fn is_narrow(var: &Var) -> bool
+    ensures { result ≡ is_narrow var.now }
+{
+    var.ty.size() < 4
+}
