@@ -11,12 +11,8 @@ use std::process::Abort;
 pub enum Want {
     /// This number.
     Number(u64),
-    /// The letters.
-    Letters,
-    /// These bytes, which fill something up.
+    /// These bytes.
     Bytes(&'static [u8]),
-    /// A name, valid or not.
-    Name(bool),
     /// The values of an attribute, whose last byte is a NUL or not.
     Values(bool),
     /// The file ends inside the field.
@@ -30,12 +26,10 @@ pub type Field = (Owner, FieldName, u64, u128, Want);
 fn is_content(content: &Content, want: Want) -> bool {
     match content {
         Content::Number(n) => want == Want::Number(*n),
-        Content::Letters => want == Want::Letters,
         Content::Bytes(bytes) => match want {
             Want::Bytes(want) => bytes.as_slice() == want,
             _ => false,
         },
-        Content::Name { is_valid } => want == Want::Name(*is_valid),
         Content::Values { ends_with_nul } => want == Want::Values(*ends_with_nul),
         Content::Cut => want == Want::Cut,
     }

@@ -6,7 +6,7 @@ pub returns-clause-cause : goal.returns-clause-cause
 returns-clause-cause g c = let h = blamed _ _ _ _ _ _ c.header-answer.ensures c.answered.ensures in search rules
 
 pub returns-clause-listing : goal.returns-clause-listing
-returns-clause-listing g c = is-listing _ _ _ _ _ _ c.new.ensures refl c.offset_of_next.ensures c.len.ensures.length c.header-answer.ensures c.answered.ensures
+returns-clause-listing g c = is-listing _ _ _ _ _ _ c.new.ensures refl c.offset_of_next.ensures c.len-len.ensures.length c.header-answer.ensures c.answered.ensures
 
 pub returns-clause-forward : goal.returns-clause-forward
 returns-clause-forward g c = let h = reads-forward _ _ _ _ _ _ refl refl c.offset_of_next.ensures c.header-answer.ensures c.answered.ensures in search rules
