@@ -23,7 +23,7 @@ const ROWS: &[Row] = &[
     (
         b"HDF\x01\0\0\0\0",
         1,
-        (Owner::Header, FieldName::Magic, 0, 3, Want::Letters),
+        (Owner::Header, FieldName::Magic, 0, 3, Want::Bytes(b"HDF")),
         FormatFault::NotNetcdf,
     ),
     (
@@ -92,38 +92,44 @@ const ROWS: &[Row] = &[
     (
         b"CDF\x01\0\0\0\0\0\0\0\x0a\0\0\0\x01\0\0\0\0\0\0\0\x02",
         7,
-        (Owner::Dim(0), FieldName::Name, 20, 0, Want::Name(false)),
+        (Owner::Dim(0), FieldName::Name, 20, 0, Want::Bytes(b"")),
         FormatFault::BadName,
     ),
     (
         b"CDF\x01\0\0\0\0\0\0\0\x0a\0\0\0\x01\0\0\0\x02a\n\0\0\0\0\0\x02",
         7,
-        (Owner::Dim(0), FieldName::Name, 20, 2, Want::Name(false)),
+        (Owner::Dim(0), FieldName::Name, 20, 2, Want::Bytes(b"a\n")),
         FormatFault::BadName,
     ),
     // a NUL, DEL, a NUL inside, and a NUL alone
     (
         b"CDF\x01\0\0\0\0\0\0\0\x0a\0\0\0\x01\0\0\0\x02\0a\0\0\0\0\0\x02",
         7,
-        (Owner::Dim(0), FieldName::Name, 20, 2, Want::Name(false)),
+        (Owner::Dim(0), FieldName::Name, 20, 2, Want::Bytes(b"\0a")),
         FormatFault::BadName,
     ),
     (
         b"CDF\x01\0\0\0\0\0\0\0\x0a\0\0\0\x01\0\0\0\x02a\x7f\0\0\0\0\0\x02",
         7,
-        (Owner::Dim(0), FieldName::Name, 20, 2, Want::Name(false)),
+        (Owner::Dim(0), FieldName::Name, 20, 2, Want::Bytes(b"a\x7f")),
         FormatFault::BadName,
     ),
     (
         b"CDF\x01\0\0\0\0\0\0\0\x0a\0\0\0\x01\0\0\0\x04a\0\0b\0\0\0\x02",
         7,
-        (Owner::Dim(0), FieldName::Name, 20, 4, Want::Name(false)),
+        (
+            Owner::Dim(0),
+            FieldName::Name,
+            20,
+            4,
+            Want::Bytes(b"a\0\0b"),
+        ),
         FormatFault::BadName,
     ),
     (
         b"CDF\x01\0\0\0\0\0\0\0\x0a\0\0\0\x01\0\0\0\x01\0\0\0\0\0\0\0\x02",
         7,
-        (Owner::Dim(0), FieldName::Name, 20, 1, Want::Name(false)),
+        (Owner::Dim(0), FieldName::Name, 20, 1, Want::Bytes(b"\0")),
         FormatFault::BadName,
     ),
     (

@@ -26,14 +26,14 @@ const CDF1: &[u8] = b"CDF\x01\
     \x40\x09\x21\xfb";
 
 const FIELDS_OF_CDF1: &[Field] = &[
-    (Owner::Header, FieldName::Magic, 0, 3, Want::Letters),
+    (Owner::Header, FieldName::Magic, 0, 3, Want::Bytes(b"CDF")),
     (Owner::Header, FieldName::Version, 3, 1, Want::Number(1)),
     (Owner::Header, FieldName::NumRecs, 4, 4, Want::Number(0)),
     (Owner::Header, FieldName::DimsTag, 8, 4, Want::Number(10)),
     (Owner::Header, FieldName::DimsCount, 12, 4, Want::Number(1)),
     // the dimension x = 2
     (Owner::Dim(0), FieldName::NameLength, 16, 4, Want::Number(1)),
-    (Owner::Dim(0), FieldName::Name, 20, 1, Want::Name(true)),
+    (Owner::Dim(0), FieldName::Name, 20, 1, Want::Bytes(b"x")),
     (
         Owner::Dim(0),
         FieldName::NamePadding,
@@ -69,7 +69,7 @@ const FIELDS_OF_CDF1: &[Field] = &[
         FieldName::Name,
         40,
         1,
-        Want::Name(true),
+        Want::Bytes(b"f"),
     ),
     (
         Owner::GlobalAtt(0),
@@ -113,7 +113,7 @@ const FIELDS_OF_CDF1: &[Field] = &[
         FieldName::Name,
         60,
         2,
-        Want::Name(true),
+        Want::Bytes(b"nt"),
     ),
     (
         Owner::GlobalAtt(1),
@@ -148,7 +148,7 @@ const FIELDS_OF_CDF1: &[Field] = &[
     (Owner::Header, FieldName::VarsCount, 80, 4, Want::Number(1)),
     // the variable double depth(x)
     (Owner::Var(0), FieldName::NameLength, 84, 4, Want::Number(5)),
-    (Owner::Var(0), FieldName::Name, 88, 5, Want::Name(true)),
+    (Owner::Var(0), FieldName::Name, 88, 5, Want::Bytes(b"depth")),
     (
         Owner::Var(0),
         FieldName::NamePadding,
@@ -169,7 +169,7 @@ const FIELDS_OF_CDF1: &[Field] = &[
 const CDF2: &[u8] = b"CDF\x02\0\0\0\x03\0\0\0\x0a\0\0\0\0\0\0\0\x0c\0\0\0\0\0\0\0\x0b\0\0\0\0";
 
 const FIELDS_OF_CDF2: &[Field] = &[
-    (Owner::Header, FieldName::Magic, 0, 3, Want::Letters),
+    (Owner::Header, FieldName::Magic, 0, 3, Want::Bytes(b"CDF")),
     (Owner::Header, FieldName::Version, 3, 1, Want::Number(2)),
     (Owner::Header, FieldName::NumRecs, 4, 4, Want::Number(3)),
     (Owner::Header, FieldName::DimsTag, 8, 4, Want::Number(10)),
@@ -212,7 +212,7 @@ const CDF5: &[u8] = b"CDF\x05\
     \0\0\0\x05\0\0\0\0\0\0\0\x04\0\0\0\0\0\0\x01\x08";
 
 const FIELDS_OF_CDF5: &[Field] = &[
-    (Owner::Header, FieldName::Magic, 0, 3, Want::Letters),
+    (Owner::Header, FieldName::Magic, 0, 3, Want::Bytes(b"CDF")),
     (Owner::Header, FieldName::Version, 3, 1, Want::Number(5)),
     (
         Owner::Header,
@@ -225,7 +225,7 @@ const FIELDS_OF_CDF5: &[Field] = &[
     (Owner::Header, FieldName::DimsCount, 16, 8, Want::Number(2)),
     // the record dimension t
     (Owner::Dim(0), FieldName::NameLength, 24, 8, Want::Number(1)),
-    (Owner::Dim(0), FieldName::Name, 32, 1, Want::Name(true)),
+    (Owner::Dim(0), FieldName::Name, 32, 1, Want::Bytes(b"t")),
     (
         Owner::Dim(0),
         FieldName::NamePadding,
@@ -236,7 +236,7 @@ const FIELDS_OF_CDF5: &[Field] = &[
     (Owner::Dim(0), FieldName::Length, 36, 8, Want::Number(0)),
     // the dimension four = 4
     (Owner::Dim(1), FieldName::NameLength, 44, 8, Want::Number(4)),
-    (Owner::Dim(1), FieldName::Name, 52, 4, Want::Name(true)),
+    (Owner::Dim(1), FieldName::Name, 52, 4, Want::Bytes(b"four")),
     (
         Owner::Dim(1),
         FieldName::NamePadding,
@@ -263,7 +263,7 @@ const FIELDS_OF_CDF5: &[Field] = &[
     (Owner::Header, FieldName::VarsCount, 80, 8, Want::Number(2)),
     // the variable ubyte v(t, four)
     (Owner::Var(0), FieldName::NameLength, 88, 8, Want::Number(1)),
-    (Owner::Var(0), FieldName::Name, 96, 1, Want::Name(true)),
+    (Owner::Var(0), FieldName::Name, 96, 1, Want::Bytes(b"v")),
     (
         Owner::Var(0),
         FieldName::NamePadding,
@@ -289,7 +289,7 @@ const FIELDS_OF_CDF5: &[Field] = &[
         FieldName::Name,
         144,
         1,
-        Want::Name(true),
+        Want::Bytes(b"a"),
     ),
     (
         Owner::VarAtt { var: 0, att: 0 },
@@ -339,7 +339,7 @@ const FIELDS_OF_CDF5: &[Field] = &[
         FieldName::Name,
         176,
         1,
-        Want::Name(true),
+        Want::Bytes(b"b"),
     ),
     (
         Owner::VarAtt { var: 0, att: 1 },
@@ -393,7 +393,7 @@ const FIELDS_OF_CDF5: &[Field] = &[
         8,
         Want::Number(1),
     ),
-    (Owner::Var(1), FieldName::Name, 220, 1, Want::Name(true)),
+    (Owner::Var(1), FieldName::Name, 220, 1, Want::Bytes(b"w")),
     (
         Owner::Var(1),
         FieldName::NamePadding,

@@ -76,11 +76,13 @@ pub type HeaderRow = (
 
 /// Returns true if the listing is that of the header.
 pub fn is_listing_of(answer: &Result<Listing, ListFault>, row: &HeaderRow) -> bool {
-    let (_, _, version, numrecs, counts, fields) = *row;
+    let (bytes, end, version, numrecs, counts, fields) = *row;
     match answer {
         Ok(listing) => match &listing.header {
             Ok(header) => {
-                is_header(header, version, numrecs, counts)
+                listing.end == end
+                    && listing.file_len == bytes.len() as u64
+                    && is_header(header, version, numrecs, counts)
                     && are_entries(listing.entries.as_slice(), fields)
             }
             Err(_) => false,
@@ -104,6 +106,16 @@ fn ends_with(entries: &Sequence<Entry>, count: usize, field: &Field, fault: Form
         }
 }
 
+/// The offset at which reading stops with this field.
+fn end_of(field: &Field, file_len: u64) -> u64 {
+    let (_, _, offset, size, want) = *field;
+    if want == Want::Cut {
+        file_len
+    } else {
+        offset.saturating_add(size as u64)
+    }
+}
+
 /// Returns true if the listing has `count` entries and stops at this field with this fault.
 pub fn stops_at(
     answer: &Result<Listing, ListFault>,
@@ -114,7 +126,11 @@ pub fn stops_at(
     match answer {
         Ok(listing) => match &listing.header {
             Ok(_) => false,
-            Err(found) => *found == fault && ends_with(&listing.entries, count, field, fault),
+            Err(found) => {
+                *found == fault
+                    && ends_with(&listing.entries, count, field, fault)
+                    && listing.end == end_of(field, listing.file_len)
+            }
         },
         Err(_) => false,
     }
@@ -149,17 +165,17 @@ pub fn listing_by_bytes(
     listing_through(rt, alloc, &mut source, buf)
 }
 
-/// Returns true if the entries are those of a CDF-1 header with one dimension and no more, whose name has this size, is valid or not, and is
-/// filled up with these bytes.
-fn are_of_dimension(entries: &[Entry], size: u64, is_valid: bool, padding: &'static [u8]) -> bool {
-    let name = (
+/// Returns true if the entries are those of a CDF-1 header with one dimension and no more, whose name is this one, and is filled up
+/// with these bytes.
+fn are_of_dimension(entries: &[Entry], name: &'static [u8], padding: &'static [u8]) -> bool {
+    let text = (
         Owner::Dim(0),
         FieldName::Name,
         20,
-        size as u128,
-        Want::Name(is_valid),
+        name.len() as u128,
+        Want::Bytes(name),
     );
-    let end = 20_u64.saturating_add(size);
+    let end = 20_u64.saturating_add(name.len() as u64);
     let filling = (
         Owner::Dim(0),
         FieldName::NamePadding,
@@ -168,7 +184,7 @@ fn are_of_dimension(entries: &[Entry], size: u64, is_valid: bool, padding: &'sta
         Want::Bytes(padding),
     );
     entries.len() == 13
-        && is_entry(&entries[6], &name, None)
+        && is_entry(&entries[6], &text, None)
         && is_entry(&entries[7], &filling, None)
         && are_right(entries)
 }
@@ -176,14 +192,12 @@ fn are_of_dimension(entries: &[Entry], size: u64, is_valid: bool, padding: &'sta
 /// Returns true if the listing is that of such a header.
 pub fn names_dimension(
     answer: &Result<Listing, ListFault>,
-    size: u64,
-    is_valid: bool,
+    name: &'static [u8],
     padding: &'static [u8],
 ) -> bool {
     match answer {
         Ok(listing) => {
-            listing.header.is_ok()
-                && are_of_dimension(listing.entries.as_slice(), size, is_valid, padding)
+            listing.header.is_ok() && are_of_dimension(listing.entries.as_slice(), name, padding)
         }
         Err(_) => false,
     }
