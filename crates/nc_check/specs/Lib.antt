@@ -1,5 +1,4 @@
 pub mod Indexed
-pub mod FieldRules
-pub mod AttributeRules
-pub mod NameRules
-pub mod HeaderRules
+pub mod Kinds
+pub mod WholeHeader
+pub mod code

@@ -5,5 +5,9 @@
 #![tactic(auto)]
 
 mod finding;
+mod kind;
+mod number_fields;
+mod whole_header;
 
 pub use finding::{Fact, Finding};
+pub use kind::{Kind, Severity};

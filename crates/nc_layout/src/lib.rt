@@ -21,6 +21,7 @@ mod sound;
 pub use finding::{Block, LayoutFact, LayoutFinding, LayoutPlace, Slab};
 pub use findings::layout_findings;
 pub use header_layout::sound_layout;
+pub use records::padded_slab;
 pub use slot::{Layout, Slot};
 
 #[cfg(test)]

@@ -50,7 +50,7 @@ pub(crate) fn file_records(layout: &Layout) -> FileRecords
 }
 
 /// Returns the bytes of the slot's slab with the padding up to the next multiple of four.
-pub(crate) fn padded_slab(slot: Slot) -> u64
+pub fn padded_slab(slot: Slot) -> u64
     requires { slot.slab < 2 ^ 63 }
     ensures { result ≡ padded_slab slot }
 {

@@ -1,0 +1,14 @@
+use Rattle.std.proofs.Common.{◌≡◌, ◌++◌, List, map, drop, Bool}
+use Rattle.nc_fields.specs.declared.place.FieldName.{FieldName}
+use Rattle.nc_check.specs.declared.number_fields.NumberField.{NumberField}
+use Rattle.nc_check.specs.Indexed.{indexed_from}
+use Rattle.nc_check.specs.WholeHeader.{is_numrecs, is_vsize, is_begin, named}
+use Rattle.nc_check.specs.code.WholeHeaders.{number_field}
+use Rattle.nc_check.proofs.number_fields.number_fields.Given as goal
+
+abbrev pub invariant-loop-index : goal.invariant-loop-index
+invariant-loop-index l = record {
+  numrecs : l.fields.numrecs ++ map number_field (named is_numrecs (indexed_from l.index (drop l.index l.entries))) ≡ map number_field (named is_numrecs (indexed_from 0 l.entries));
+  vsizes : l.fields.vsizes ++ map number_field (named is_vsize (indexed_from l.index (drop l.index l.entries))) ≡ map number_field (named is_vsize (indexed_from 0 l.entries));
+  begins : l.fields.begins ++ map number_field (named is_begin (indexed_from l.index (drop l.index l.entries))) ≡ map number_field (named is_begin (indexed_from 0 l.entries));
+}

@@ -1,0 +1,64 @@
+//! The fields of a header at which findings about sizes and the layout lie.
+
+ghost use Rattle.std.specs.Prelude.{◌≡◌, IfOk};
+ghost use Rattle.nc_check.specs.Indexed.{indexed};
+ghost use Rattle.nc_check.specs.WholeHeader.{number_of};
+ghost use Rattle.nc_check.specs.code.WholeHeaders.{HoldsNumbers};
+
+use nc_base::Sequence;
+use nc_fields::{Content, Entry, FieldName};
+use std::alloc::{AllocError, Global};
+
+/// A field of a listing that is a number.
+#[derive(Clone, Copy, Debug)]
+pub(crate) struct NumberField {
+    /// Its index in the listing.
+    pub(crate) index: u64,
+    /// Its offset in the file.
+    pub(crate) offset: u64,
+    /// The number.
+    pub(crate) number: u64,
+}
+
+/// The number of records, the sizes and the begins of variables, in the order of the header.
+#[derive(Drop)]
+pub(crate) struct NumberFields {
+    pub(crate) numrecs: Sequence<NumberField>,
+    pub(crate) vsizes: Sequence<NumberField>,
+    pub(crate) begins: Sequence<NumberField>,
+}
+
+/// Returns the number of records, the sizes and the begins of a listing. Errs only if an allocation fails.
+pub(crate) fn number_fields(alloc: Global, entries: &[Entry]) -> Result<NumberFields, AllocError>
+    ensures { IfOk result (HoldsNumbers (indexed entries.now)) }
+{
+    let mut fields = NumberFields {
+        numrecs: Sequence::new(alloc),
+        vsizes: Sequence::new(alloc),
+        begins: Sequence::new(alloc),
+    };
+    for (index, entry) in entries.iter().enumerate() {
+        let field = NumberField {
+            index: index as u64,
+            offset: entry.offset,
+            number: number_of(&entry.content),
+        };
+        match entry.place.name {
+            FieldName::NumRecs => fields.numrecs.push(field)?,
+            FieldName::Vsize => fields.vsizes.push(field)?,
+            FieldName::Begin => fields.begins.push(field)?,
+            _ => {}
+        }
+    }
+    Ok(fields)
+}
+
+/// Returns the number that a field is, or 0 if it is none.
+fn number_of(content: &Content) -> u64
+    ensures { result ≡ number_of content.now }
+{
+    match content {
+        Content::Number(n) => *n,
+        _ => 0,
+    }
+}
