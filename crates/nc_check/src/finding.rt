@@ -1,7 +1,12 @@
 //! What can be found in a file.
 
-use nc_base::FormatFault;
+ghost use Rattle.std.specs.Prelude.{◌≡◌, ◌++◌, OnOk};
+ghost use Rattle.std.specs.Option.{option_to_list};
+ghost use Rattle.nc_check.specs.Indexed.{finding_at};
+
+use nc_base::{FormatFault, Sequence};
 use nc_layout::LayoutFact;
+use std::alloc::AllocError;
 
 /// What is found. Where something else is expected, the fact has it, unless the field alone tells it. What is found in its place is the
 /// content of the field.
@@ -53,4 +58,28 @@ pub struct Finding {
     pub field: Option<u64>,
     /// What is found.
     pub fact: Fact,
+}
+
+/// Returns a finding at the field of this index and offset.
+pub(crate) fn finding_at(index: u64, offset: u64, fact: Fact) -> Finding
+    ensures { result ≡ finding_at index offset fact }
+{
+    Finding {
+        offset,
+        field: Some(index),
+        fact,
+    }
+}
+
+/// Appends the finding, if there is one.
+pub(crate) fn push_some(
+    found: &mut Sequence<Finding>,
+    finding: Option<Finding>,
+) -> Result<(), AllocError>
+    ensures { OnOk result (found.new ≡ found.old ++ option_to_list finding) }
+{
+    if let Some(finding) = finding {
+        found.push(finding)?;
+    }
+    Ok(())
 }

@@ -4,6 +4,12 @@
 //! value is read. `specs/` has the definitions.
 #![tactic(auto)]
 
+mod ahead;
+mod attribute_rules;
+mod field_rules;
 mod finding;
+mod header_rules;
+mod name_rules;
+mod names;
 
 pub use finding::{Fact, Finding};

@@ -1,0 +1,2 @@
+mod IndexedLists
+mod NameKeys
