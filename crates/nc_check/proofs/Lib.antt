@@ -1,1 +1,4 @@
-pub mod Located
+mod IndexedLists
+mod NameKeys
+mod Located
+mod Reported

@@ -1,1 +1,4 @@
+pub mod Passes
+pub mod FirstNames
 pub mod WholeHeaders
+pub mod Reports

@@ -1,13 +1,28 @@
 //! What is wrong or odd in a netCDF classic file.
 //!
-//! The rules on a field of the header look at the fields that `nc_fields` lists, and the rules on the layout are those of `nc_layout`. No
-//! value is read. `specs/` has the definitions.
+//! [`check`] reads a header once, and returns a report: the listing of its fields, and all findings, each at a field or in the data, by
+//! offset. The rules on a field look at the listing (crate `nc_fields`), and the rules on begins, sizes and the length of the file are those
+//! of `nc_layout`. No value is read, so files with floats and doubles can be checked as any others. `specs/` has the definitions.
+//!
+//! ```
+//! let mut file = MemSource::new(b"CDF\x01\0\0\0\0\0\0\0\x0a\0\0\0\0");
+//! let mut buf = [0; 64];
+//! let report = check(alloc, &mut file, &mut buf)?;
+//! ```
 #![tactic(auto)]
 
+mod ahead;
+mod attribute_rules;
+mod field_rules;
 mod finding;
+mod header_rules;
 mod kind;
+mod name_rules;
+mod names;
 mod number_fields;
+mod report;
 mod whole_header;
 
 pub use finding::{Fact, Finding};
 pub use kind::{Kind, Severity};
+pub use report::{Report, check};

@@ -1,0 +1,166 @@
+-- Names of lists in a map, and the first fields that are they.
+use Rattle.std.proofs.Common.{◌≡◌, ℕ, Bool, true, false, cond, if◌then◌else◌, ◌&&◌, ◌==◌, List, [], ◌∷◌, ◌++◌, refl, ap, sym, ◌∙◌, arith, Option, Some, None, Bor}
+use Rattle.std.specs.Prelude.{find}
+use Rattle.std.specs.BTreeMap.{BTreeMap, Updates, is_at}
+use Rattle.std.specs.Cmp.Lexicographic.{slice_cmp, bytes_decides}
+use Rattle.std.specs.Map.{lookup}
+use Rattle.std.specs.Option.{option_map, option_map_or, option_or}
+use Rattle.std.specs.declared.cmp.Ordering.{Ordering}
+use Rattle.std.specs.declared.cmp.Ordering.TheVariants.{Less, Equal, Greater}
+use Rattle.std.specs.Ordering.{is_eq, nat_cmp, ordering_then}
+use Rattle.std.specs.Str.{bytes_eq}
+use Rattle.std.proofs.lemmas.Bool.{and_parts}
+use Rattle.std.proofs.lemmas.Grind.{common_steps}
+use Rattle.std.proofs.lemmas.List.Folds.{find-append}
+use Rattle.std.proofs.lemmas.Map.Text.{is_eq-slice_cmp}
+use Rattle.nc_check.specs.declared.names.NameList.{NameList}
+use Rattle.nc_check.specs.declared.names.NameList.TheVariants.{Dims, GlobalAtts, Vars, VarAtts}
+use Rattle.nc_check.specs.contracts.names.NameListOrd.TheImpl as lists
+use Rattle.nc_check.specs.Indexed.{Indexed}
+use Rattle.nc_check.specs.NameRules.{NameKey, is_same_key, is_same_list, key_of, has_key, first_index}
+
+-- ---- keys of the map
+
+-- a list, and the lent bytes of a name
+abbrev pub LentKey : Type 0
+LentKey = NameList × Bor (List ℕ)
+
+abbrev pub plain : LentKey → NameKey
+plain k = (k.0, k.1.now)
+
+-- the order of the keys
+abbrev pub key_cmp : LentKey → LentKey → Ordering
+key_cmp a b = ordering_then (lists.ghosts.cmp a.0 b.0) (slice_cmp nat_cmp a.1.now b.1.now)
+
+same_number : (i k : ℕ) → is_eq (nat_cmp i k) ≡ (i == k)
+same_number i k = grind (arith, common_steps)
+
+same_list : (a b : NameList) → is_eq (lists.ghosts.cmp a b) ≡ is_same_list a b
+same_list Dims Dims = refl
+same_list Dims GlobalAtts = refl
+same_list Dims Vars = refl
+same_list Dims (VarAtts k) = refl
+same_list GlobalAtts Dims = refl
+same_list GlobalAtts GlobalAtts = refl
+same_list GlobalAtts Vars = refl
+same_list GlobalAtts (VarAtts k) = refl
+same_list Vars Dims = refl
+same_list Vars GlobalAtts = refl
+same_list Vars Vars = refl
+same_list Vars (VarAtts k) = refl
+same_list (VarAtts i) Dims = refl
+same_list (VarAtts i) GlobalAtts = refl
+same_list (VarAtts i) Vars = refl
+same_list (VarAtts i) (VarAtts k) = same_number i k
+
+both : (a b : Ordering) → is_eq (ordering_then a b) ≡ (is_eq a && is_eq b)
+both Less b = refl
+both Equal b = refl
+both Greater b = refl
+
+pub same_key : (a b : LentKey) → is_at (key_cmp a) b ≡ is_same_key (plain a) (plain b)
+same_key a b =
+    both (lists.ghosts.cmp a.0 b.0) (slice_cmp nat_cmp a.1.now b.1.now) ∙ ap (λ x. x && is_eq (slice_cmp nat_cmp a.1.now b.1.now)) (same_list a.0 b.0)
+    ∙ ap (λ x. is_same_list a.0 b.0 && x) (is_eq-slice_cmp a.1.now b.1.now)
+
+-- two tests that say the same find the same
+pub lookup-same : {K X : Type 0} (p q : K → Bool) → ((k : K) → p k ≡ q k) → (es : List (K × X)) → lookup p es ≡ lookup q es
+lookup-same p q same [] = refl
+lookup-same {X = X} p q same (e ∷ es) =
+    ap (λ b. cond b (Some e.1) (lookup p es)) (same e.0) ∙ ap (λ (o : Option X). cond (q e.0) (Some e.1) o) (lookup-same p q same es)
+
+-- one name more
+pub added : (old new : BTreeMap LentKey ℕ) (key : LentKey) (i : ℕ) → Updates key_cmp old new key (Some i) → (other : NameKey)
+    → lookup (λ (k : LentKey). is_same_key other (plain k)) new.entries
+    ≡ (if is_same_key (plain key) other then Some i else lookup (λ (k : LentKey). is_same_key other (plain k)) old.entries)
+added old new key i updates other =
+    let q : LentKey = (other.0, record { ref_ptr = (0, 0); now = other.1 }) in
+    let had : Option ℕ = lookup (is_at (key_cmp q)) old.entries in
+    sym (lookup-same (is_at (key_cmp q)) (λ (k : LentKey). is_same_key other (plain k)) (same_key q) new.entries)
+    ∙ updates.0 q ∙ ap (λ b. cond b (Some i) had) (same_key key q)
+    ∙ ap (λ (o : Option ℕ). cond (is_same_key (plain key) other) (Some i) o)
+    (lookup-same (is_at (key_cmp q)) (λ (k : LentKey). is_same_key other (plain k)) (same_key q) old.entries)
+
+-- ---- equal keys
+
+same_lists : (a b : NameList) → is_same_list a b ≡ true → a ≡ b
+same_lists Dims Dims h = refl
+same_lists GlobalAtts GlobalAtts h = refl
+same_lists Vars Vars h = refl
+same_lists (VarAtts i) (VarAtts k) h = let e : i ≡ k = grind (arith, common_steps) in ap VarAtts e
+same_lists a b h = cc
+
+same_keys : (a b : NameKey) → is_same_key a b ≡ true → a ≡ b
+same_keys a b h =
+    let parts = and_parts (is_same_list a.0 b.0) (bytes_eq a.1 b.1) h in
+    let list : a.0 ≡ b.0 = same_lists a.0 b.0 parts.0 in
+    let bytes : a.1 ≡ b.1 = (bytes_decides a.1 b.1).0 parts.1 in
+    pair a.0 b.0 a.1 b.1 list bytes
+  where
+    pair : (l m : NameList) (x y : List ℕ) → l ≡ m → x ≡ y → (let one : NameKey = (l, x) in let other : NameKey = (m, y) in one ≡ other)
+    pair l m x y e f = cc
+
+-- ---- the first field that is a name
+
+first_index-push : (key : NameKey) (earlier : List Indexed) (f : Indexed)
+    → first_index key (earlier ++ f ∷ []) ≡ option_or (first_index key earlier) (if has_key key f then Some f.index else None)
+first_index-push key earlier f =
+    ap (option_map (λ (g : Indexed). g.index)) (find-append (has_key key) earlier (f ∷ [])) ∙ split (find (has_key key) earlier) (has_key key f)
+  where
+    split : (o : Option Indexed) (b : Bool)
+        → option_map (λ (g : Indexed). g.index) (option_or o (cond b (Some f) None))
+        ≡ option_or (option_map (λ (g : Indexed). g.index) o) (if b then Some f.index else None)
+    split None true = refl
+    split None false = refl
+    split (Some g) b = refl
+
+-- whether a field is a name, from the name that it is
+abbrev pub is_key : NameKey → Option NameKey → Bool
+is_key key o = option_map_or (λ (k : NameKey). is_same_key k key) o false
+
+or-none : (o : Option ℕ) → option_or o None ≡ o
+or-none None = refl
+or-none (Some n) = refl
+
+-- a field that is no name
+pub first_index-other : (key : NameKey) (earlier : List Indexed) (f : Indexed) → key_of f.entry ≡ None
+    → first_index key (earlier ++ f ∷ []) ≡ first_index key earlier
+first_index-other key earlier f none =
+    first_index-push key earlier f
+    ∙ ap (λ (o : Option NameKey). option_or (first_index key earlier) (if is_key key o then Some f.index else None)) none
+    ∙ or-none (first_index key earlier)
+
+-- a name that is there
+pub first_index-again : (key k : NameKey) (earlier : List Indexed) (f : Indexed) (first : ℕ) → key_of f.entry ≡ Some k
+    → first_index k earlier ≡ Some first → first_index key (earlier ++ f ∷ []) ≡ first_index key earlier
+first_index-again key k earlier f first is there =
+    first_index-push key earlier f
+    ∙ ap (λ (o : Option NameKey). option_or (first_index key earlier) (if is_key key o then Some f.index else None)) is
+    ∙ by_key (is_same_key k key) refl
+  where
+    by_key : (b : Bool) → is_same_key k key ≡ b
+        → option_or (first_index key earlier) (if is_same_key k key then Some f.index else None) ≡ first_index key earlier
+    by_key true same =
+        let found : first_index key earlier ≡ Some first = ap (λ x. first_index x earlier) (sym (same_keys k key same)) ∙ there in
+        ap (λ (o : Option ℕ). option_or o (if is_same_key k key then Some f.index else None)) found ∙ sym found
+    by_key false other =
+        ap (λ b. option_or (first_index key earlier) (if b then Some f.index else None)) other ∙ or-none (first_index key earlier)
+
+-- a new name
+pub first_index-new : (key k : NameKey) (earlier : List Indexed) (f : Indexed) → key_of f.entry ≡ Some k → first_index k earlier ≡ None
+    → (if is_same_key k key then Some f.index else first_index key earlier) ≡ first_index key (earlier ++ f ∷ [])
+first_index-new key k earlier f is none =
+    sym (first_index-push key earlier f
+    ∙ ap (λ (o : Option NameKey). option_or (first_index key earlier) (if is_key key o then Some f.index else None)) is
+    ∙ by_key (is_same_key k key) refl)
+  where
+    by_key : (b : Bool) → is_same_key k key ≡ b
+        → option_or (first_index key earlier) (if is_same_key k key then Some f.index else None)
+        ≡ (if is_same_key k key then Some f.index else first_index key earlier)
+    by_key true same =
+        let found : first_index key earlier ≡ None = ap (λ x. first_index x earlier) (sym (same_keys k key same)) ∙ none in
+        ap (λ (o : Option ℕ). option_or o (if is_same_key k key then Some f.index else None)) found
+        ∙ ap (λ b. if b then Some f.index else None) same ∙ sym (ap (λ b. if b then Some f.index else first_index key earlier) same)
+    by_key false other =
+        ap (λ b. option_or (first_index key earlier) (if b then Some f.index else None)) other ∙ or-none (first_index key earlier)
+        ∙ sym (ap (λ b. if b then Some f.index else first_index key earlier) other)

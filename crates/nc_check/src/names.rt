@@ -1,0 +1,74 @@
+//! The names of the lists of a header, with where each came first.
+
+ghost use Rattle.std.specs.Prelude.{◌≡◌, None, Some, OnOk, if◌then◌else◌};
+ghost use Rattle.nc_check.specs.NameRules.{NameKey, is_same_key, list_of};
+ghost use Rattle.nc_check.specs.code.FirstNames.{index_of};
+
+use nc_fields::Owner;
+use std::alloc::{AllocError, Global};
+use std::collections::BTreeMap;
+
+/// A list whose elements have names.
+#[derive(Clone, Copy, Debug, PartialEq, Eq, PartialOrd, Ord)]
+pub(crate) enum NameList {
+    /// The dimensions.
+    Dims,
+    /// The global attributes.
+    GlobalAtts,
+    /// The variables.
+    Vars,
+    /// The attributes of the variable of this number.
+    VarAtts(u64),
+}
+
+/// Returns the list that this is an element of, if it is one.
+pub(crate) fn list_of(owner: Owner) -> Option<NameList>
+    ensures { result ≡ list_of owner }
+{
+    match owner {
+        Owner::Header => None,
+        Owner::Dim(_) => Some(NameList::Dims),
+        Owner::GlobalAtt(_) => Some(NameList::GlobalAtts),
+        Owner::Var(_) => Some(NameList::Vars),
+        Owner::VarAtt { var, .. } => Some(NameList::VarAtts(var)),
+    }
+}
+
+/// The names of the lists of a header, with the index of the first field that is each of them. The time to find a name grows with the
+/// logarithm of the number of names.
+#[derive(Drop)]
+pub(crate) struct FirstNames<'a> {
+    first: BTreeMap<(NameList, &'a [u8]), u64>,
+}
+
+impl<'a> FirstNames<'a> {
+    /// Returns no names. Does not allocate.
+    pub(crate) fn new(alloc: Global) -> FirstNames<'a>
+        ensures { (key : NameKey) → index_of result key ≡ None }
+    {
+        FirstNames {
+            first: BTreeMap::new(alloc),
+        }
+    }
+
+    /// Returns the index that goes with this name of the list, if it is there.
+    pub(crate) fn index_of(&self, list: NameList, name: &'a [u8]) -> Option<u64>
+        ensures { result ≡ index_of self.now (list, name.now) }
+    {
+        self.first.get(&(list, name)).copied()
+    }
+
+    /// Adds a name of the list with this index. Errs only if an allocation failed.
+    pub(crate) fn add(
+        &mut self,
+        list: NameList,
+        name: &'a [u8],
+        index: u64,
+    ) -> Result<(), AllocError>
+        ensures { OnOk result ((key : NameKey) → index_of self.new key
+            ≡ (if is_same_key (list, name.now) key then Some index else index_of self.old key)) }
+    {
+        self.first.insert((list, name), index)?;
+        Ok(())
+    }
+}
