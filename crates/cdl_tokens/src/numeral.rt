@@ -84,9 +84,25 @@ fn decimal(version: Version, minus: bool, bytes: &[u8]) -> Option<Numeral>
 pub fn first_digits(bytes: &[u8]) -> (usize, u64)
     ensures { ReadsDigits bytes.now result.0 result.1 }
 {
+    // Except at the end of a text, the bound is a constant, so that the compiler unrolls the loop: each digit then has a branch of its own,
+    // and the bound none.
+    if bytes.len() >= SHORT {
+        digits_up_to(bytes, SHORT)
+    } else {
+        digits_up_to(bytes, bytes.len())
+    }
+}
+
+/// Reads the decimal digits at the start of the bytes, at most `most` of them, and returns how many it read, and their value. Needs so many
+/// bytes, and a `most` of at most 19.
+#[inline(always)]
+fn digits_up_to(bytes: &[u8], most: usize) -> (usize, u64)
+    requires within { most ≤ length bytes.now }
+    requires short { most ≤ 19 }
+    ensures { ReadsDigits bytes.now result.0 result.1 }
+{
     let mut value = 0;
     let mut at = 0;
-    let most = bytes.len().min(SHORT);
     'digits: while at < most {
         let b = bytes[at];
         if !is_digit(b) {

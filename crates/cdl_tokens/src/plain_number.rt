@@ -104,7 +104,7 @@ fn decimal_digits(bytes: &[u8]) -> Option<(usize, u64)>
     if len == 0 {
         return None;
     }
-    if len > 1 && bytes[0] == b'0' {
+    if bytes[0] == b'0' && len > 1 {
         return None;
     }
     Some((len, value))

@@ -1,6 +1,6 @@
 use Rattle.std.proofs.Common.{◌-◌, ◌≤◌, ◌<◌, ◌^◌, length}
 use Rattle.cdl_tokens.specs.code.Magnitudes.{ReadsDigits}
-use Rattle.cdl_tokens.proofs.numeral.first_digits.Given as goal
+use Rattle.cdl_tokens.proofs.numeral.digits_up_to.Given as goal
 
 abbrev pub invariant-digits : goal.invariant-digits
 invariant-digits l = record {

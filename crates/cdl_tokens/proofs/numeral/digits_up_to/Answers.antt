@@ -2,7 +2,7 @@ use Rattle.std.proofs.Common.{arith, rules, ◌≡◌, ◌<◌, ◌≤◌, lengt
 use Rattle.cdl_tokens.specs.Bytes.{is_digit}
 use Rattle.cdl_tokens.proofs.Decimals.{one_digit}
 use Rattle.cdl_tokens.proofs.Sizes.{one_longer, short_number}
-use Rattle.cdl_tokens.proofs.numeral.first_digits.Goals as goal
+use Rattle.cdl_tokens.proofs.numeral.digits_up_to.Goals as goal
 
 pub digits-preserved : goal.digits-preserved
 digits-preserved c =
@@ -10,10 +10,9 @@ digits-preserved c =
     let bs = c.args.bytes.now in
     let is : is_digit (slice_index_or bs l.at 0) ≡ true = search rules in
     let test = c.digits-test.true in
-    let most = c.min-most.ensures in
-    let room : l.at < length bs = omega (arith, test, most) in
+    let room : l.at < length bs = omega (arith, test, c.requires.within) in
     record {
-      short = omega (arith, test, most);
+      short = omega (arith, test, c.requires.short);
       small = one_longer l.at l.value (slice_index_or bs l.at 0) l.invariant.small is;
       read = one_digit bs l.at l.value room is l.invariant.read;
     }
@@ -22,8 +21,7 @@ pub overflow_mul-value : goal.overflow_mul-value
 overflow_mul-value c =
     let l = c.digits in
     let test = c.digits-test.true in
-    let most = c.min-most.ensures in
-    let short = short_number l.at l.value (omega (arith, test, most)) l.invariant.small in
+    let short = short_number l.at l.value (omega (arith, test, c.requires.short)) l.invariant.small in
     omega (arith, short)
 
 pub overflow_add-value : goal.overflow_add-value
@@ -33,6 +31,5 @@ overflow_add-value c =
     let is : is_digit (slice_index_or bs l.at 0) ≡ true = search rules in
     let digit : slice_index_or bs l.at 0 ≤ 0x39 = grind (arith, is) in
     let test = c.digits-test.true in
-    let most = c.min-most.ensures in
-    let short = short_number l.at l.value (omega (arith, test, most)) l.invariant.small in
+    let short = short_number l.at l.value (omega (arith, test, c.requires.short)) l.invariant.small in
     omega (arith, short, digit)
