@@ -13,3 +13,5 @@ pub mod CanonicalLength
 pub mod SlabsApart
 pub mod HeaderSlots
 pub mod SpelledLayouts
+pub mod GeneratedBegins
+pub mod GeneratedLength

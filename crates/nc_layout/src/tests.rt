@@ -104,6 +104,7 @@ fn has_slots(layout: &Option<Layout>, slots: Option<&[Slot]>) -> bool {
 
 /// Three int values, and their slot.
 const INTS: Shape<'static> = (&[1], NcType::Int, 100);
+
 const INTS_SLOT: Slot = Slot {
     begin: 100,
     slab: 12,
@@ -113,6 +114,7 @@ const INTS_SLOT: Slot = Slot {
 
 /// A short value in each record, and its slot.
 const SHORT: Shape<'static> = (&[0], NcType::Short, 112);
+
 const SHORT_SLOT: Slot = Slot {
     begin: 112,
     slab: 2,
@@ -122,6 +124,7 @@ const SHORT_SLOT: Slot = Slot {
 
 /// Three values of eight bytes in each record, and their slot.
 const LONGS: Shape<'static> = (&[0, 1], NcType::Int64, 116);
+
 const LONGS_SLOT: Slot = Slot {
     begin: 116,
     slab: 24,
