@@ -68,7 +68,8 @@ begin-same h file_len before var vars is canonical =
     ∙ ap (λ (ss : List Slot). slice_get ss (length before)) (map-append (slot_of h.dims) before (var ∷ vars))
     ∙ ap (slice_get (map (slot_of h.dims) before ++ map (slot_of h.dims) (var ∷ vars))) (sym (length-map before (slot_of h.dims)))
     ∙ slot-there (map (slot_of h.dims) before) (slot_of h.dims var) (map (slot_of h.dims) vars) in
-    let at = subst (λ o. IfSome o (λ (slot : Slot). slot.begin ≡ canonical_begin layout (length before) slot)) there (canonical (length before)) in
+    let at = subst (λ o. IfSome o (λ (slot : Slot). slot.begin ≡ canonical_begin layout (length before) slot)) there
+    (canonical (length before)) in
     sym (at ∙ begin-is h (length (header_spelling h)) file_len before var vars is)
 
 begins-same : (h : Header) (file_len : ℕ) (before vars : List Var) → h.vars ≡ before ++ vars

@@ -1,14 +1,15 @@
--- The length of a generated file is the canonical one.
+-- A file in which nothing is found at begins and at its end is as long as a generated one.
 use Rattle.std.proofs.Common.{◌≡◌, ℕ, zero, suc, ◌+◌, ◌*◌, ◌<◌, ◌≤◌, List, [], ◌∷◌, length, map, sum_by, refl, sym, ◌∙◌, ap, arith, length-append}
 use Rattle.std.specs.Prelude.{flat_map}
 use Rattle.std.specs.List.{range_with_len}
 use Rattle.std.proofs.lemmas.List.Sums.{sum-map}
 use Rattle.nc_base.specs.declared.{dataset.Dataset.Dataset, header.Dim.Dim, header.Header.Header, header.NumRecs.NumRecs, header.Var.Var}
 use Rattle.nc_base.specs.declared.header.NumRecs.TheVariants.{Known}
+use Rattle.nc_base.specs.Bytes.{Bytes}
 use Rattle.nc_base.specs.GeneratedFile.{blocks, data_of, file_of, fixed_vars, known_records, record_of, vars_with_begins, with_begins}
 use Rattle.nc_base.specs.GeneratedFile.{is_sole_narrow as is_sole_narrow_var}
 use Rattle.nc_base.specs.Grammar.{header_spelling}
-use Rattle.nc_base.specs.Headers.{AreArrays}
+use Rattle.nc_base.specs.Headers.{AreArrays, bare}
 use Rattle.nc_base.specs.Sizes.{padded_size, padded_total, record_size_of, record_vars}
 use Rattle.nc_base.proofs.FileHolds.{len-after}
 use Rattle.nc_base.proofs.FilePlaces.{length-blocks, length-record, record_size_of-slots}
@@ -16,10 +17,13 @@ use Rattle.nc_base.proofs.FilePlaces.{slots as record_bytes}
 use Rattle.nc_layout.specs.declared.{slot.Slot.Slot}
 use Rattle.nc_layout.specs.Slots.{is_sole_narrow, record_count, record_size, record_slots}
 use Rattle.nc_layout.specs.HeaderLayout.{slot_of, layout_of}
-use Rattle.nc_layout.specs.HeaderLaws.{QuietLengthIsGenerated}
+use Rattle.nc_layout.specs.HeaderLaws.{QuietFilesAreGenerated}
 use Rattle.nc_layout.specs.Laws.{canonical_len}
 use Rattle.nc_layout.specs.code.Records.{slab_if}
+use Rattle.nc_layout.proofs.BareHeaders.{arrays-bare, begins-bare, fixed_total-bare, len-bare, record_size-bare}
+use Rattle.nc_layout.proofs.CanonicalBegins.{quiet-begins}
 use Rattle.nc_layout.proofs.CanonicalLength.{quiet-length}
+use Rattle.nc_layout.proofs.GeneratedBegins.{canonical-generated}
 use Rattle.nc_layout.proofs.HeaderSlots.{slots-total, record_slots-are, fixed_slots-total}
 use Rattle.nc_layout.proofs.SlotLists.{record_size-is}
 
@@ -81,17 +85,18 @@ unfolding record_count
 count-known h header_end file_len n known =
     ap (λ (k : NumRecs). record_count (layout_of (record h { numrecs = k }) header_end file_len)) known
 
-canonical-is : (d : Dataset) (n file_len : ℕ) → d.header.numrecs ≡ Known n → AreArrays d.header.dims n d.header.vars d.arrays
-    → canonical_len (layout_of d.header (length (header_spelling d.header)) file_len) ≡ length (file_of d)
-canonical-is d n file_len known are =
-    let h = d.header in
+canonical-is : (h : Header) (arrays : List Bytes) (n file_len : ℕ) → h.numrecs ≡ Known n → AreArrays h.dims n h.vars arrays
+    → canonical_len (layout_of h (length (header_spelling h)) file_len) ≡ length (file_of (record { header = bare h n; arrays = arrays }))
+canonical-is h arrays n file_len known are =
     let end = length (header_spelling h) in
-    let bytes = padded_total h.dims (fixed_vars h.dims h.vars) in
     let records = ap (λ (m : ℕ). m * record_size (map (slot_of h.dims) h.vars)) (count-known h end file_len n known)
-    ∙ ap (λ (m : ℕ). n * m) (size-is h.dims h.vars) in
-    let file = file-length d n (ap known_records known) are in
-    omega (arith, records, file, fixed_slots-total h.dims h.vars)
+    ∙ ap (λ (m : ℕ). n * m) (size-is h.dims h.vars ∙ sym (record_size-bare h.dims h.vars)) in
+    let file = file-length (record { header = bare h n; arrays = arrays }) n refl (arrays-bare h.dims n h.vars arrays are) in
+    omega (arith, records, file, len-bare h n known, fixed_slots-total h.dims h.vars, fixed_total-bare h.dims h.vars)
 
-pub quiet-generated : QuietLengthIsGenerated
-quiet-generated d n file_len known are sound begins ends =
-    quiet-length (layout_of d.header (length (header_spelling d.header)) file_len) sound begins ends ∙ canonical-is d n file_len known are
+pub quiet-generated : QuietFilesAreGenerated
+quiet-generated h arrays n file_len known are sound begins ends =
+    let layout = layout_of h (length (header_spelling h)) file_len in (
+      begins-bare h n known ∙ canonical-generated h file_len (quiet-begins layout begins),
+      quiet-length layout sound begins ends ∙ canonical-is h arrays n file_len known are,
+    )

@@ -52,7 +52,8 @@ kept-slot : (keep : Bool) (dims : List Dim) (var : Var) (vars : List Var) (slots
 kept-slot true dims var vars slots e = ap (λ (ss : List Slot). slot_of dims var ∷ ss) e
 kept-slot false dims var vars slots e = e
 
-pub record_slots-are : (dims : List Dim) (vars : List Var) → record_slots (map (slot_of dims) vars) ≡ map (slot_of dims) (record_vars dims vars)
+pub record_slots-are : (dims : List Dim) (vars : List Var)
+    → record_slots (map (slot_of dims) vars) ≡ map (slot_of dims) (record_vars dims vars)
 record_slots-are dims [] = refl
 record_slots-are dims (var ∷ vars) = kept-slot (is_record_var dims var) dims var (record_vars dims vars) _ (record_slots-are dims vars)
 
@@ -62,7 +63,8 @@ record_slots-total dims vars =
     ap (sum_by padded_slab) (record_slots-are dims vars) ∙ slots-total dims (record_vars dims vars)
     ∙ sym (sum-map (padded_size dims) (record_vars dims vars))
 
-fixed_slots-are : (dims : List Dim) (vars : List Var) → filter is_fixed (map (slot_of dims) vars) ≡ map (slot_of dims) (fixed_vars dims vars)
+fixed_slots-are : (dims : List Dim) (vars : List Var)
+    → filter is_fixed (map (slot_of dims) vars) ≡ map (slot_of dims) (fixed_vars dims vars)
 fixed_slots-are dims [] = refl
 fixed_slots-are dims (var ∷ vars) =
     kept-slot (not (is_record_var dims var)) dims var (fixed_vars dims vars) _ (fixed_slots-are dims vars)
@@ -82,5 +84,6 @@ small_slabs-of dims (var ∷ vars) sound =
     (small_slabs-of dims vars (All-tail IsSoundSlot (slot_of dims var) (map (slot_of dims) vars) sound))
 
 -- the slabs of a sound layout keep the limit
-pub small_slabs : (h : Header) (header_end file_len : ℕ) → IsSoundLayout (layout_of h header_end file_len) → All (HasSmallSlab h.dims) h.vars
+pub small_slabs : (h : Header) (header_end file_len : ℕ) → IsSoundLayout (layout_of h header_end file_len)
+    → All (HasSmallSlab h.dims) h.vars
 small_slabs h header_end file_len sound = small_slabs-of h.dims h.vars sound.sound_slots

@@ -1,7 +1,7 @@
 //! Laws of the definitions in `specs/`, each the contract of a function that does nothing.
 
 ghost use Rattle.nc_layout.specs.Laws.{QuietBeginsAreCanonical, QuietLengthIsCanonical, QuietSlabsAreApart, MissingValuesHaveSlab};
-ghost use Rattle.nc_layout.specs.HeaderLaws.{SpelledHeadersHaveSoundLayouts, CanonicalBeginsAreGenerated, QuietLengthIsGenerated};
+ghost use Rattle.nc_layout.specs.HeaderLaws.{SpelledHeadersHaveSoundLayouts, CanonicalBeginsAreGenerated, QuietFilesAreGenerated};
 
 /// States two laws, and does nothing. `begins`: if nothing is found at the begins of variables and blocks, then each variable begins right
 /// after the header and the padded slabs that come before its own: first those of the variables that aren't record variables, in header
@@ -35,9 +35,9 @@ pub fn spelled_headers_have_sound_layouts()
 /// States two laws of files whose header ends where it does as it is written, and does nothing. `begins`: if each variable begins right after
 /// the header and the padded slabs that come before its own, then these are the begins of a generated file.
 ///
-/// `length`: if the number of records is known, and nothing is found at begins and at the end of the file, then the file has the length of
-/// the generated file with this header. Needs a layout within limits.
+/// `files`: if the number of records is known, and nothing is found at begins and at the end of the file, then the file has the header and
+/// the length of the file that is generated from its header without begins. Needs a layout within limits.
 pub fn quiet_files_are_as_generated()
     ensures begins { CanonicalBeginsAreGenerated }
-    ensures length { QuietLengthIsGenerated }
+    ensures files { QuietFilesAreGenerated }
 {}
