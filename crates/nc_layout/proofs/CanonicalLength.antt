@@ -17,7 +17,8 @@ use Rattle.nc_layout.specs.declared.finding.LayoutPlace.TheVariants as places
 use Rattle.nc_layout.specs.declared.finding.LayoutFact.TheVariants as facts
 use Rattle.nc_layout.specs.Slots.{padded_slab, is_sole_narrow, record_slots, slab_in_record, record_size, records_begin, record_count, least}
 use Rattle.nc_layout.specs.Blocks.{each_slot, slot_block, records_end, records_block, blocks, has_values}
-use Rattle.nc_layout.specs.NumRecsRules.{finding_if, numrecs_findings}
+use Rattle.nc_layout.specs.FindingIf.{finding_if}
+use Rattle.nc_layout.specs.NumRecsRules.{numrecs_findings}
 use Rattle.nc_layout.specs.SlotRules.{bytes_before}
 use Rattle.nc_layout.specs.FileEnd.{values_end, padding_end, used_end, first_of, first_slab, is_cut, record_slab, slabs_of, all_slabs, first_cut_slab, missing, end_padding, trailing, end_findings}
 use Rattle.nc_layout.specs.Findings.{IsSoundLayout, layout_findings}

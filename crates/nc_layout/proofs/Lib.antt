@@ -13,3 +13,6 @@ pub mod CanonicalLength
 pub mod SlabsApart
 pub mod HeaderSlots
 pub mod SpelledLayouts
+pub mod BareHeaders
+pub mod GeneratedBegins
+pub mod GeneratedLength

@@ -13,7 +13,7 @@ use Rattle.std.specs.Option.{ForSome}
 use Rattle.nc_layout.specs.declared.{slot.Slot.Slot, slot_rules.PassedSlots.PassedSlots, finding.LayoutFact.LayoutFact}
 use Rattle.nc_layout.specs.declared.finding.LayoutPlace.TheVariants as places
 use Rattle.nc_layout.specs.declared.finding.LayoutFact.TheVariants as facts
-use Rattle.nc_layout.specs.NumRecsRules.{finding_if}
+use Rattle.nc_layout.specs.FindingIf.{finding_if}
 use Rattle.nc_layout.specs.Slots.{padded_slab, is_fixed, record_slots, records_begin, least}
 use Rattle.nc_layout.specs.Findings.{IsSoundSlot}
 use Rattle.nc_layout.specs.SlotRules.{greatest_begin, fixed_slot_at, bytes_before, has_successor, order}

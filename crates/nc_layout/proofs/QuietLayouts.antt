@@ -11,7 +11,8 @@ use Rattle.nc_layout.specs.declared.finding.LayoutPlace.TheVariants as places
 use Rattle.nc_layout.specs.declared.finding.LayoutFact.TheVariants as facts
 use Rattle.nc_layout.specs.Slots.{is_fixed, records_begin}
 use Rattle.nc_layout.specs.Blocks.{each_slot, blocks, before}
-use Rattle.nc_layout.specs.NumRecsRules.{finding_if, numrecs_findings}
+use Rattle.nc_layout.specs.FindingIf.{finding_if}
+use Rattle.nc_layout.specs.NumRecsRules.{numrecs_findings}
 use Rattle.nc_layout.specs.SlotRules.{has_successor, large_variable, begin_in_header, order, after_records, record_place, slot_findings, greatest_begin, bytes_before}
 use Rattle.nc_layout.specs.BlockRules.{overlap, unpadded, gap, block_findings, greatest_end}
 use Rattle.nc_layout.specs.FileEnd.{end_findings}

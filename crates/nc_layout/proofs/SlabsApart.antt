@@ -14,7 +14,8 @@ use Rattle.nc_layout.specs.declared.finding.LayoutPlace.TheVariants as places
 use Rattle.nc_layout.specs.declared.finding.LayoutFact.TheVariants as facts
 use Rattle.nc_layout.specs.Slots.{padded_slab, is_sole_narrow, record_slots, slab_in_record, record_size, records_begin, record_count}
 use Rattle.nc_layout.specs.Blocks.{each_slot, slot_block, records_block, blocks, before, precedes}
-use Rattle.nc_layout.specs.NumRecsRules.{finding_if, numrecs_findings}
+use Rattle.nc_layout.specs.FindingIf.{finding_if}
+use Rattle.nc_layout.specs.NumRecsRules.{numrecs_findings}
 use Rattle.nc_layout.specs.SlotRules.{has_successor, large_variable, begin_in_header, order, after_records, record_place, slot_findings, bytes_before}
 use Rattle.nc_layout.specs.BlockRules.{overlap, unpadded, gap, block_findings, greatest_end}
 use Rattle.nc_layout.specs.FileEnd.{record_slab, slabs_of, all_slabs, end_findings}

@@ -26,7 +26,8 @@ passed false x y wrong e = absurd cc
 -- what holds of no elements, and of one more than it held of, holds of all
 each-keeps : {A : Type 0} (element : List A → Part A) (P : List A → Type 0)
     → ((before : List A) (from : Bytes) (x : A) (rest : Bytes) → Spells (element before) from x rest → P before → P (before ++ x ∷ []))
-    → (n : ℕ) (before : List A) (from : Bytes) (all : List A) (rest : Bytes) → Spells (each element n before) from all rest → P before → P all
+    → (n : ℕ) (before : List A) (from : Bytes) (all : List A) (rest : Bytes) → Spells (each element n before) from all rest → P before
+    → P all
 unfolding Spells each
 each-keeps element P step zero before from all rest s kept = subst P (sym s.0) kept
 each-keeps element P step (suc n) before from all rest (x, middle, s, t) kept =
@@ -50,8 +51,11 @@ dimid-spelled v dims before from id rest (k, s, e) =
 dimids-push : (dims : List Dim) (before ids : List ℕ) (id : ℕ) → AreDimids dims before ids → IsDimid dims (before ++ ids) id
     → AreDimids dims before (ids ++ id ∷ [])
 dimids-push dims before [] id known is = (subst (λ ids. IsDimid dims ids id) (append-nil before) is, tt)
-dimids-push dims before (next ∷ ids) id known is =
-    (known.0, dimids-push dims (before ++ next ∷ []) ids id known.1 (subst (λ ids. IsDimid dims ids id) (sym (append_assoc before (next ∷ []) ids)) is))
+dimids-push dims before (next ∷ ids) id known is = (
+  known.0,
+  dimids-push dims (before ++ next ∷ []) ids id known.1
+      (subst (λ ids. IsDimid dims ids id) (sym (append_assoc before (next ∷ []) ids)) is),
+)
 
 shape-spelled : (v : Version) (dims : List Dim) (from : Bytes) (ids : List ℕ) (rest : Bytes) → Spells (shape_part v dims) from ids rest
     → AreDimids dims [] ids
@@ -99,13 +103,17 @@ var-sound dims before var shape begin within =
 var-spelled : (r : Rules) (v : Version) (dims : List Dim) (before : List Var) (from : Bytes) (x : Var) (rest : Bytes)
     → Spells (var_after r v dims before) from x rest → AreWithinLimits dims before → AreWithinLimits dims (before ++ x ∷ [])
 unfolding Spells var_part
-var-spelled r v dims before from x rest (text, m, s, (ids, m2, sh, (atts, m3, a, (ty, m4, (t, ts, e), (vsize, m5, vs, (begin, m6, b, (whole, end))))))) kept =
+var-spelled r v dims before from x rest
+    (text, m, s, (ids, m2, sh, (atts, m3, a, (ty, m4, (t, ts, e), (vsize, m5, vs, (begin, m6, b, (whole, end))))))) kept =
     let p = passed _ t ty _ e in
     let sound = var-sound dims before (record { name = text; dimids = ids; atts = atts; ty = ty; begin_at = begin })
     (shape-spelled v dims m ids m2 sh) (omega (arith, offset-below v m5 begin m6 b, offset-small v))
     (subst (λ k. is_within_limits dims (padded_total dims (record_vars dims before)) ids k ≡ true) p.1 p.0) in
     subst (λ x. AreWithinLimits dims (before ++ x ∷ [])) (sym whole)
-    (record { slots = All-append (HasSoundSlot dims) before _ kept.slots (All-cons (HasSoundSlot dims) _ [] sound.0 (All-nil (HasSoundSlot dims))); small_record = sound.1 })
+    (record {
+      slots = All-append (HasSoundSlot dims) before _ kept.slots (All-cons (HasSoundSlot dims) _ [] sound.0 (All-nil (HasSoundSlot dims)));
+      small_record = sound.1;
+    })
 
 -- ---- the whole
 

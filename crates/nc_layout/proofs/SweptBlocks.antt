@@ -7,7 +7,7 @@ use Rattle.nc_layout.specs.declared.{finding.Block.Block, finding.LayoutPlace.La
 use Rattle.nc_layout.specs.declared.finding.Block.TheVariants.{Records}
 use Rattle.nc_layout.specs.declared.finding.LayoutPlace.TheVariants as places
 use Rattle.nc_layout.specs.declared.finding.LayoutFact.TheVariants as facts
-use Rattle.nc_layout.specs.NumRecsRules.{finding_if}
+use Rattle.nc_layout.specs.FindingIf.{finding_if}
 use Rattle.std.proofs.lemmas.Bool.{cases_lt, lt-ltb, le-ltb, false≢true, eqb-true}
 use Rattle.std.proofs.lemmas.List.{get_or_default}
 use Rattle.std.proofs.lemmas.List.Elements.{Contains-append_left, Contains-append_cases, Contains-push, Contains-push_cases}

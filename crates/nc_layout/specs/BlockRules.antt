@@ -10,7 +10,7 @@ use Rattle.nc_layout.specs.declared.finding.Block.TheVariants.{Records}
 use Rattle.nc_layout.specs.declared.finding.LayoutPlace.TheVariants as places
 use Rattle.nc_layout.specs.declared.finding.LayoutFact.TheVariants as facts
 use Rattle.nc_layout.specs.Blocks.{precedes, before}
-use Rattle.nc_layout.specs.NumRecsRules.{finding_if}
+use Rattle.nc_layout.specs.FindingIf.{finding_if}
 
 -- the greatest end of these blocks, with or without their padding (`end` says which); 0 if there are none
 abbrev pub greatest_end : (Extent → ℕ) → List Extent → ℕ

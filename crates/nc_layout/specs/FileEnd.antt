@@ -9,7 +9,7 @@ use Rattle.nc_layout.specs.declared.finding.LayoutPlace.TheVariants as places
 use Rattle.nc_layout.specs.declared.finding.LayoutFact.TheVariants as facts
 use Rattle.nc_layout.specs.Slots.{record_size, record_count}
 use Rattle.nc_layout.specs.Blocks.{each_slot, blocks, has_values}
-use Rattle.nc_layout.specs.NumRecsRules.{finding_if}
+use Rattle.nc_layout.specs.FindingIf.{finding_if}
 
 -- ---- ends
 

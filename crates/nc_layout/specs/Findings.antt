@@ -1,5 +1,6 @@
 -- Definition. All findings about the layout of a file, and the limits that a layout keeps.
 use Rattle.std.specs.Prelude.{◌≤◌, ◌<◌, ◌^◌, List, ◌++◌, All, sum_by, flat_map}
+use Rattle.nc_base.specs.Sizes.{slab_limit, record_limit}
 use Rattle.nc_layout.specs.declared.{slot.Slot.Slot, slot.Layout.Layout, finding.LayoutFinding.LayoutFinding}
 use Rattle.nc_layout.specs.Slots.{padded_slab, record_slots}
 use Rattle.nc_layout.specs.Blocks.{each_slot, blocks}
@@ -8,16 +9,16 @@ use Rattle.nc_layout.specs.SlotRules.{slot_findings}
 use Rattle.nc_layout.specs.BlockRules.{block_findings}
 use Rattle.nc_layout.specs.FileEnd.{end_findings}
 
--- a slab has at least one byte and at most 2^48, and an offset is below 2^63
+-- a slab has at least one byte and keeps the limit, and a begin is below 2^63
 pub record IsSoundSlot (slot : Slot) : Type 0 where
   pub some_bytes : 1 ≤ slot.slab
-  pub small_slab : slot.slab ≤ 2 ^ 48
+  pub small_slab : slot.slab ≤ slab_limit
   pub small_begin : slot.begin < 2 ^ 63
 
--- the slots are sound, the padded slabs of the record slots have at most 2^62 bytes together, and the header ends inside of the file
+-- the slots are sound, the padded slabs of the record slots keep the limit on a record, and the header ends inside of the file
 pub record IsSoundLayout (layout : Layout) : Type 0 where
   pub sound_slots : All IsSoundSlot layout.slots
-  pub small_record : sum_by padded_slab (record_slots layout.slots) ≤ 2 ^ 62
+  pub small_record : sum_by padded_slab (record_slots layout.slots) ≤ record_limit
   pub header_inside : layout.header_end ≤ layout.file_len
 
 -- those at the fields of the header, at the end of the file and at the begins of blocks

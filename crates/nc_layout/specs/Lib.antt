@@ -1,5 +1,6 @@
 pub mod Slots
 pub mod Blocks
+pub mod FindingIf
 pub mod NumRecsRules
 pub mod SlotRules
 pub mod BlockRules

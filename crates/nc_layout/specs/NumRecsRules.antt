@@ -1,17 +1,14 @@
 -- Definition. Findings at the number of records (`numrecs` of the NetCDF Classic Format Specification, which lets a writer put the mark
 -- `STREAMING` there).
-use Rattle.std.specs.Prelude.{Bool, true, nat_lt, ◌&&◌, if◌then◌else◌, List, ◌++◌, is_some, is_none, Option, None, Some}
+use Rattle.std.specs.Prelude.{true, nat_lt, ◌&&◌, List, ◌++◌, is_some, is_none, Option, None}
 use Rattle.std.specs.Option.{option_to_list}
 use Rattle.nc_base.specs.declared.header.NumRecs.{NumRecs}
 use Rattle.nc_base.specs.declared.header.NumRecs.TheVariants.{Known, Streaming}
-use Rattle.nc_layout.specs.declared.{slot.Layout.Layout, finding.LayoutPlace.LayoutPlace, finding.LayoutFact.LayoutFact, finding.LayoutFinding.LayoutFinding}
+use Rattle.nc_layout.specs.declared.{slot.Layout.Layout, finding.LayoutFinding.LayoutFinding}
 use Rattle.nc_layout.specs.declared.finding.LayoutPlace.TheVariants as places
 use Rattle.nc_layout.specs.declared.finding.LayoutFact.TheVariants as facts
 use Rattle.nc_layout.specs.Slots.{records_begin, records_by_length}
-
--- a finding, if the condition holds
-abbrev pub finding_if : Bool → LayoutPlace → LayoutFact → Option LayoutFinding
-finding_if holds place fact = if holds then Some (record { place = place; fact = fact }) else None
+use Rattle.nc_layout.specs.FindingIf.{finding_if}
 
 -- the mark in place of a number
 abbrev pub streaming : Layout → NumRecs → Option LayoutFinding

@@ -11,7 +11,7 @@ use Rattle.nc_layout.specs.declared.{slot.Slot.Slot, slot.Layout.Layout, finding
 use Rattle.nc_layout.specs.declared.finding.LayoutPlace.TheVariants as places
 use Rattle.nc_layout.specs.declared.finding.LayoutFact.TheVariants as facts
 use Rattle.nc_layout.specs.Slots.{padded_slab, is_fixed, record_slots, records_begin}
-use Rattle.nc_layout.specs.NumRecsRules.{finding_if}
+use Rattle.nc_layout.specs.FindingIf.{finding_if}
 
 -- ---- size
 

@@ -11,10 +11,10 @@ use crate::records::{FileRecords, padded_slab, slab_in_record};
 use crate::slot::{Layout, Slot};
 use std::alloc::{AllocError, Global};
 
-/// Where a block lies.
+/// Where a block lies, beside its name.
 #[derive(Clone, Copy, Debug, PartialEq, Eq)]
 pub(crate) struct Extent {
-    /// Whose values it has.
+    /// The block by its name.
     pub block: Block,
     /// The index of the variable that begins where the block begins: of several record variables, the first one.
     pub var: u64,

@@ -25,10 +25,10 @@ pub(crate) struct FileEnds {
     pub used: u128,
 }
 
-/// Where a slab lies.
+/// Where a slab lies, beside its name.
 #[derive(Clone, Copy, Debug, PartialEq, Eq)]
 pub(crate) struct SlabPlace {
-    /// Whose values it has.
+    /// The slab by its name.
     pub slab: Slab,
     /// The offset at which it begins.
     pub begin: u128,

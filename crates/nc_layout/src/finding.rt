@@ -2,7 +2,7 @@
 
 ghost use Rattle.std.specs.Prelude.{◌≡◌, ◌++◌, OnOk};
 ghost use Rattle.std.specs.Option.{option_to_list};
-ghost use Rattle.nc_layout.specs.NumRecsRules.{finding_if};
+ghost use Rattle.nc_layout.specs.FindingIf.{finding_if};
 
 use nc_base::Sequence;
 use std::alloc::AllocError;
@@ -20,7 +20,7 @@ pub enum LayoutPlace {
     Data(u64),
 }
 
-/// Whose values a block has.
+/// A block, named by the values in it. It doesn't say where the block lies.
 #[derive(Clone, Copy, Debug, PartialEq, Eq)]
 pub enum Block {
     /// Those of the variable with this index, which isn't a record variable.
@@ -29,7 +29,7 @@ pub enum Block {
     Records,
 }
 
-/// Whose values a slab has.
+/// A slab, named by the values in it. It doesn't say where the slab lies.
 #[derive(Clone, Copy, Debug, PartialEq, Eq)]
 pub enum Slab {
     /// Those of the variable with this index, which isn't a record variable.

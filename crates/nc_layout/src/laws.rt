@@ -1,7 +1,7 @@
 //! Laws of the definitions in `specs/`, each the contract of a function that does nothing.
 
 ghost use Rattle.nc_layout.specs.Laws.{QuietBeginsAreCanonical, QuietLengthIsCanonical, QuietSlabsAreApart, MissingValuesHaveSlab};
-ghost use Rattle.nc_layout.specs.HeaderLaws.{SpelledHeadersHaveSoundLayouts};
+ghost use Rattle.nc_layout.specs.HeaderLaws.{SpelledHeadersHaveSoundLayouts, CanonicalBeginsAreGenerated, QuietFilesAreGenerated};
 
 /// States two laws, and does nothing. `begins`: if nothing is found at the begins of variables and blocks, then each variable begins right
 /// after the header and the padded slabs that come before its own: first those of the variables that aren't record variables, in header
@@ -30,4 +30,14 @@ pub fn missing_values_have_slab()
 /// ([`Layout::is_sound`](crate::Layout::is_sound)).
 pub fn spelled_headers_have_sound_layouts()
     ensures { SpelledHeadersHaveSoundLayouts }
+{}
+
+/// States two laws of files whose header ends where it does as it is written, and does nothing. `begins`: if each variable begins right after
+/// the header and the padded slabs that come before its own, then these are the begins of a generated file.
+///
+/// `files`: if the number of records is known, and nothing is found at begins and at the end of the file, then the file has the header and
+/// the length of the file that is generated from its header without begins. Needs a layout within limits.
+pub fn quiet_files_are_as_generated()
+    ensures begins { CanonicalBeginsAreGenerated }
+    ensures files { QuietFilesAreGenerated }
 {}

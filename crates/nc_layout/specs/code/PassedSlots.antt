@@ -3,7 +3,7 @@ use Rattle.std.specs.Prelude.{◌≡◌, ◌<◌, ◌+◌, ◌-◌, ℕ, max, Bo
 use Rattle.nc_layout.specs.declared.{slot.Slot.Slot, slot_rules.PassedSlots.PassedSlots, finding.LayoutFinding.LayoutFinding}
 use Rattle.nc_layout.specs.declared.finding.LayoutPlace.TheVariants as places
 use Rattle.nc_layout.specs.declared.finding.LayoutFact.TheVariants as facts
-use Rattle.nc_layout.specs.NumRecsRules.{finding_if}
+use Rattle.nc_layout.specs.FindingIf.{finding_if}
 use Rattle.nc_layout.specs.Slots.{padded_slab, is_fixed}
 use Rattle.nc_layout.specs.SlotRules.{greatest_begin, fixed_slot_at, bytes_before}
 

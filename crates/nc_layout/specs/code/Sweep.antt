@@ -4,7 +4,7 @@ use Rattle.std.specs.Option.{option_to_list, option_and_then, option_map_or}
 use Rattle.nc_layout.specs.declared.{finding.LayoutFinding.LayoutFinding, blocks.Extent.Extent, block_rules.Reached.Reached}
 use Rattle.nc_layout.specs.declared.finding.LayoutPlace.TheVariants as places
 use Rattle.nc_layout.specs.declared.finding.LayoutFact.TheVariants as facts
-use Rattle.nc_layout.specs.NumRecsRules.{finding_if}
+use Rattle.nc_layout.specs.FindingIf.{finding_if}
 use Rattle.nc_layout.specs.BlockRules.{block_findings}
 
 abbrev pub value_end : Extent → ℕ

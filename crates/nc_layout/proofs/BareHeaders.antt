@@ -1,0 +1,157 @@
+-- A header without begins: what is generated from it is the same.
+use Rattle.std.proofs.Common.{◌≡◌, ℕ, ◌+◌, Bool, true, false, not, List, [], ◌∷◌, ◌++◌, length, map, sum_by, refl, sym, ◌∙◌, ap, arith, length-append, if◌then◌else◌}
+use Rattle.std.specs.Prelude.{flat_map}
+use Rattle.std.proofs.lemmas.List.{length-map, map-append}
+use Rattle.std.proofs.lemmas.List.Sums.{sum-map, sum_by-cons}
+use Rattle.nc_base.specs.declared.{header.Dim.Dim, header.Header.Header, header.NumRecs.NumRecs, header.Var.Var, version.Version.Version}
+use Rattle.nc_base.specs.declared.header.NumRecs.TheVariants.{Known}
+use Rattle.nc_base.specs.Bytes.{Bytes}
+use Rattle.nc_base.specs.GeneratedFile.{begin_after, fixed_vars, slabs_before, vars_with_begins, with_begins}
+use Rattle.nc_base.specs.Grammar.{variable_tag, number, offset_part, list_head, var_part, var_after, var_list, strict, header_by, header_spelling}
+use Rattle.nc_base.specs.Headers.{AreArrays, bare, bare_var}
+use Rattle.nc_base.specs.Parts.{print}
+use Rattle.nc_base.specs.Sizes.{is_record_var, padded_size, padded_total, record_size_of, record_vars}
+use Rattle.nc_base.proofs.FileHolds.{records-bare}
+use Rattle.nc_base.proofs.FilePlaces.{padded_total-append}
+use Rattle.nc_base.proofs.PrintedLists.{IsPrintedAs, list-printed}
+
+abbrev pub bare_vars : List Var → List Var
+bare_vars vars = map bare_var vars
+
+-- ---- sizes
+
+sizes-bare : (dims : List Dim) (vars : List Var) → sum_by (padded_size dims) (bare_vars vars) ≡ sum_by (padded_size dims) vars
+sizes-bare dims [] = refl
+sizes-bare dims (var ∷ vars) =
+    sum_by-cons (padded_size dims) (bare_var var) (bare_vars vars) ∙ ap (λ n. padded_size dims var + n) (sizes-bare dims vars)
+    ∙ sym (sum_by-cons (padded_size dims) var vars)
+
+total-bare : (dims : List Dim) (vars : List Var) → padded_total dims (bare_vars vars) ≡ padded_total dims vars
+total-bare dims vars = sum-map (padded_size dims) (bare_vars vars) ∙ sizes-bare dims vars ∙ sym (sum-map (padded_size dims) vars)
+
+kept-bare : (keep : Bool) (var : Var) (vars bares : List Var) → bares ≡ bare_vars vars
+    → (if keep then bare_var var ∷ bares else bares) ≡ bare_vars (if keep then var ∷ vars else vars)
+kept-bare true var vars bares e = ap (λ (vs : List Var). bare_var var ∷ vs) e
+kept-bare false var vars bares e = e
+
+fixed-bare : (dims : List Dim) (vars : List Var) → fixed_vars dims (bare_vars vars) ≡ bare_vars (fixed_vars dims vars)
+fixed-bare dims [] = refl
+fixed-bare dims (var ∷ vars) = kept-bare (not (is_record_var dims var)) var (fixed_vars dims vars) _ (fixed-bare dims vars)
+
+pub fixed_total-bare : (dims : List Dim) (vars : List Var)
+    → padded_total dims (fixed_vars dims (bare_vars vars)) ≡ padded_total dims (fixed_vars dims vars)
+fixed_total-bare dims vars = ap (padded_total dims) (fixed-bare dims vars) ∙ total-bare dims (fixed_vars dims vars)
+
+record_total-bare : (dims : List Dim) (vars : List Var)
+    → padded_total dims (record_vars dims (bare_vars vars)) ≡ padded_total dims (record_vars dims vars)
+record_total-bare dims vars = ap (padded_total dims) (records-bare dims vars) ∙ total-bare dims (record_vars dims vars)
+
+size-bare : (dims : List Dim) (vars : List Var) → record_size_of dims (bare_vars vars) ≡ record_size_of dims vars
+size-bare dims [] = refl
+size-bare dims (var ∷ []) = refl
+size-bare dims (var ∷ next ∷ vars) = total-bare dims (var ∷ next ∷ vars)
+
+pub record_size-bare : (dims : List Dim) (vars : List Var)
+    → record_size_of dims (record_vars dims (bare_vars vars)) ≡ record_size_of dims (record_vars dims vars)
+record_size-bare dims vars = ap (record_size_of dims) (records-bare dims vars) ∙ size-bare dims (record_vars dims vars)
+
+-- ---- arrays
+
+pub arrays-bare : (dims : List Dim) (n : ℕ) (vars : List Var) (arrays : List Bytes) → AreArrays dims n vars arrays
+    → AreArrays dims n (bare_vars vars) arrays
+arrays-bare dims n [] [] are = tt
+arrays-bare dims n [] (array ∷ arrays) are = are
+arrays-bare dims n (var ∷ vars) [] are = are
+arrays-bare dims n (var ∷ vars) (array ∷ arrays) are =
+    (record { bytes = are.0.bytes; whole = are.0.whole; small = are.0.small }, arrays-bare dims n vars arrays are.1)
+
+-- ---- the length of the header
+
+-- a variable's bytes, whatever stands before it
+abbrev var_bytes : Version → List Dim → Var → Bytes
+var_bytes v dims var = print (var_part strict v dims 0) var
+
+var-printed : (v : Version) (dims : List Dim) → IsPrintedAs (var_after strict v dims) (var_bytes v dims)
+unfolding print var_part
+var-printed v dims before var = refl
+
+var-len : (v : Version) (dims : List Dim) (var : Var) → length (var_bytes v dims (bare_var var)) ≡ length (var_bytes v dims var)
+unfolding print var_part offset_part number
+var-len v dims var = grind (arith, length-append)
+
+vars-len : (v : Version) (dims : List Dim) (vars : List Var)
+    → length (flat_map (var_bytes v dims) (bare_vars vars)) ≡ length (flat_map (var_bytes v dims) vars)
+vars-len v dims [] = refl
+vars-len v dims (var ∷ vars) =
+    length-append (var_bytes v dims (bare_var var)) (flat_map (var_bytes v dims) (bare_vars vars))
+    ∙ ap (λ (n : ℕ). n + length (flat_map (var_bytes v dims) (bare_vars vars))) (var-len v dims var)
+    ∙ ap (λ (n : ℕ). length (var_bytes v dims var) + n) (vars-len v dims vars)
+    ∙ sym (length-append (var_bytes v dims var) (flat_map (var_bytes v dims) vars))
+
+list-len : (v : Version) (dims : List Dim) (vars : List Var)
+    → length (print (var_list strict v dims) (bare_vars vars)) ≡ length (print (var_list strict v dims) vars)
+unfolding var_list
+list-len v dims vars =
+    let printed = list-printed v variable_tag (var_after strict v dims) (var_bytes v dims) in
+    let head : ℕ → Bytes = print (list_head v variable_tag) in
+    ap length (printed (bare_vars vars) (var-printed v dims))
+    ∙ length-append (head (length (bare_vars vars))) (flat_map (var_bytes v dims) (bare_vars vars))
+    ∙ ap (λ (n : ℕ). length (head n) + length (flat_map (var_bytes v dims) (bare_vars vars))) (length-map vars bare_var)
+    ∙ ap (λ (n : ℕ). length (head (length vars)) + n) (vars-len v dims vars)
+    ∙ sym (length-append (head (length vars)) (flat_map (var_bytes v dims) vars))
+    ∙ ap length (sym (printed vars (var-printed v dims)))
+
+header-len : (h : Header) → length (header_spelling (record h { vars = bare_vars h.vars })) ≡ length (header_spelling h)
+unfolding print header_by
+header-len h = grind (arith, length-append, list-len)
+
+bare-is : (h : Header) (n : ℕ) → h.numrecs ≡ Known n → bare h n ≡ (let x : Header = record h { vars = bare_vars h.vars } in x)
+bare-is h n known = ap (λ (k : NumRecs). let x : Header = record h { numrecs = k; vars = bare_vars h.vars } in x) (sym known)
+
+pub len-bare : (h : Header) (n : ℕ) → h.numrecs ≡ Known n → length (header_spelling (bare h n)) ≡ length (header_spelling h)
+len-bare h n known = ap (λ (k : Header). length (header_spelling k)) (bare-is h n known) ∙ header-len h
+
+-- ---- begins
+
+slabs-bare : (h : Header) (n : ℕ) (before : List Var) (var : Var)
+    → padded_total h.dims (slabs_before (bare h n) (bare_vars before) (bare_var var)) ≡ padded_total h.dims (slabs_before h before var)
+slabs-bare h n before var = by_kind (is_record_var h.dims var)
+  where
+    fixed : List Var → List Var
+    fixed vars = fixed_vars h.dims vars
+
+    records : List Var → List Var
+    records vars = record_vars h.dims vars
+
+    by_kind : (b : Bool)
+        → padded_total h.dims (if b then fixed (bare_vars h.vars) ++ records (bare_vars before) else fixed (bare_vars before))
+        ≡ padded_total h.dims (if b then fixed h.vars ++ records before else fixed before)
+    by_kind true =
+        omega (
+          arith,
+          padded_total-append h.dims (fixed (bare_vars h.vars)) (records (bare_vars before)),
+          padded_total-append h.dims (fixed h.vars) (records before),
+          fixed_total-bare h.dims h.vars,
+          record_total-bare h.dims before,
+        )
+    by_kind false = fixed_total-bare h.dims before
+
+begin-bare : (h : Header) (n : ℕ) (before : List Var) (var : Var) → h.numrecs ≡ Known n
+    → begin_after (bare h n) (bare_vars before) (bare_var var) ≡ begin_after h before var
+begin-bare h n before var known = omega (arith, len-bare h n known, slabs-bare h n before var)
+
+vars-bare : (h : Header) (n : ℕ) (before vars : List Var) → h.numrecs ≡ Known n
+    → vars_with_begins (bare h n) (bare_vars before) (bare_vars vars) ≡ vars_with_begins h before vars
+vars-bare h n before [] known = refl
+vars-bare h n before (var ∷ vars) known =
+    let others = vars_with_begins (bare h n) (bare_vars before ++ bare_var var ∷ []) (bare_vars vars) in
+    ap (λ (at : ℕ). let x : Var = record var { begin_at = at } in x ∷ others) (begin-bare h n before var known)
+    ∙ ap (λ (vs : List Var). let x : Var = record var { begin_at = begin_after h before var } in x ∷ vs)
+    (ap (λ (bs : List Var). vars_with_begins (bare h n) bs (bare_vars vars)) (sym (map-append bare_var before (var ∷ [])))
+    ∙ vars-bare h n (before ++ var ∷ []) vars known)
+
+pub begins-bare : (h : Header) (n : ℕ) → h.numrecs ≡ Known n → with_begins (bare h n) ≡ with_begins h
+unfolding with_begins
+begins-bare h n known =
+    ap (λ (vs : List Var). let x : Header = record h { numrecs = Known n; vars = vs } in x) (vars-bare h n [] h.vars known)
+    ∙ ap (λ (k : NumRecs). let x : Header = record h { numrecs = k; vars = vars_with_begins h [] h.vars } in x) (sym known)
