@@ -1,6 +1,6 @@
 -- A generated file holds its dataset.
-use Rattle.std.proofs.Common.{◌≡◌, ℕ, suc, ◌+◌, ◌*◌, ◌<◌, List, [], ◌∷◌, ◌++◌, length, map, refl, sym, ◌∙◌, ap, subst, arith, length-append, All, sum}
-use Rattle.nc_base.proofs.Prelude.{flat_map, range_with_len, append-nil, length-map, All-nil, All-cons, All-head, All-tail, Att, Dim, Var, Header, NumRecs, Known, Dataset, Version, count_limit, IsName, padded_size, record_size_of, record_vars, record_size, record_count, IsSoundVar, IsSound, HasValidNames, bare_var, AreArrays, IsGood, HoldsDataset, header_spelling, blocks, is_sole_narrow, record_of, known_records, data_of, vars_with_begins, with_begins, Fits, file_of}
+use Rattle.std.proofs.Common.{◌≡◌, ℕ, suc, ◌+◌, ◌*◌, ◌<◌, List, [], ◌∷◌, ◌++◌, length, map, refl, sym, ◌∙◌, ap, subst, arith, length-append, All, sum, zip}
+use Rattle.nc_base.proofs.Prelude.{flat_map, range_with_len, append-nil, length-map, All-nil, All-cons, All-head, All-tail, Att, Dim, Var, Header, NumRecs, Known, Dataset, Version, count_limit, IsName, padded_size, record_size_of, record_vars, record_size, record_count, IsSoundVar, IsSound, HasValidNames, bare_var, AreArrays, IsGood, HoldsDataset, header_spelling, block, is_sole_narrow, record_part, known_records, data_of, vars_with_begins, with_begins, Fits, file_of}
 use Rattle.nc_base.proofs.IsAt.{IsAt, stands-here, stands-after, stands-in, stands-at, stands-first, stands-second, stands-row}
 use Rattle.nc_base.proofs.FilePlaces.{slots, fixed_total, record_size_of-slots, length-blocks, length-record, IsPlaced, agree-all, agree-arrays, agree-whole}
 use Rattle.nc_base.specs.Parts.{print}
@@ -112,8 +112,8 @@ all-placed d n are known =
     let stride_is : slots is_sole dims h.vars ≡ stride = sym (record_size_of-slots dims h.vars) ∙ sym (size-after h) in
     let head = header_spelling (record h { vars = vars_with_begins h [] h.vars }) in
     let head_len = len-after h in
-    let prefix = blocks dims h.vars d.arrays in
-    let f : ℕ → List ℕ = λ r. record_of is_sole dims r h.vars d.arrays in
+    let prefix = flat_map (block dims) (zip h.vars d.arrays) in
+    let f : ℕ → List ℕ = λ r. flat_map (record_part is_sole dims r) (zip h.vars d.arrays) in
     let back = flat_map f (range_with_len 0 (known_records h.numrecs)) in
     let file = head ++ (prefix ++ back) in
     let data_stands : IsAt (prefix ++ back) (length head + 0) file = stands-after head (prefix ++ back) 0 (prefix ++ back)

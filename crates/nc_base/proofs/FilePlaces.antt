@@ -1,6 +1,6 @@
 -- Each value of a generated file stands where the offsets by index vectors say.
-use Rattle.std.proofs.Common.{◌≡◌, ℕ, zero, suc, ◌+◌, ◌*◌, ◌/◌, ◌<◌, ◌≤◌, Bool, true, false, cond, not, List, [], ◌∷◌, ◌++◌, length, take, drop, replicate, map, refl, sym, ◌∙◌, ap, arith, append_assoc, length-append, length-take, length-drop, None, if◌then◌else◌, All, ℤ}
-use Rattle.nc_base.proofs.Prelude.{concat, flat_map, range_with_len, sum_by, mul-le-mul_right, filter-append, All-nil, sum-map, sum_by-append, Dim, Var, Header, NcType, padding_len, size_of, bytes_of_number, is_record_var, is_narrow, slab_count, slab_size, padded_size, padded_total, record_size_of, record_vars, record_size, IsArray, AreArrays, stored_bytes, first_missing, header_spelling, fill_bytes, padded_slab, blocks, is_sole_narrow, slab_in, record_of, fixed_vars, begin_after, vars_with_begins}
+use Rattle.std.proofs.Common.{◌≡◌, ℕ, zero, suc, ◌+◌, ◌*◌, ◌/◌, ◌<◌, ◌≤◌, Bool, true, false, cond, not, List, [], ◌∷◌, ◌++◌, length, take, drop, replicate, map, refl, sym, ◌∙◌, ap, arith, append_assoc, length-append, length-take, length-drop, None, if◌then◌else◌, All, ℤ, zip}
+use Rattle.nc_base.proofs.Prelude.{concat, flat_map, range_with_len, sum_by, mul-le-mul_right, filter-append, All-nil, sum-map, sum_by-append, Dim, Var, Header, NcType, padding_len, size_of, bytes_of_number, is_record_var, is_narrow, slab_count, slab_size, padded_size, padded_total, record_size_of, record_vars, record_size, IsArray, AreArrays, stored_bytes, first_missing, header_spelling, fill_bytes, padded_slab, block, is_sole_narrow, slab_in, record_part, fixed_vars, begin_after, vars_with_begins}
 use Rattle.nc_base.proofs.SlabBytes.{fixed-bytes, record-bytes, fixed-whole, record-whole}
 use Rattle.nc_base.proofs.IsAt.{IsAt, stands-at, stands-first, stands-second, stands-read, stands-within, runs-all}
 
@@ -92,32 +92,25 @@ record-len dims n var array is growing =
 length-slab : (dims : List Dim) (n : ℕ) (var : Var) (array : List ℕ) (r : ℕ) → IsArray dims n var array → is_record_var dims var ≡ true → r < n → length (slab_in dims var array r) ≡ slab_size dims var
 length-slab dims n var array r is growing lt = grind (arith, record-len, mul-le-mul_right, length-take, length-drop)
 
-abbrev placed_slab : Bool → Var → List ℕ → List ℕ
-placed_slab is_sole var slab = if is_sole then slab else padded_slab var slab
-
-stands-placed : (is_sole : Bool) (var : Var) (slab bytes : List ℕ) (at : ℕ) → IsAt (placed_slab is_sole var slab) at bytes → IsAt slab at bytes
-unfolding padded_slab
-stands-placed is_sole var slab bytes at h = grind (arith, stands-first)
-
 -- ---- lengths
 
 length-block : (dims : List Dim) (n : ℕ) (var : Var) (array : List ℕ) → IsArray dims n var array
-    → length (if is_record_var dims var then [] else padded_slab var array) ≡ (if is_record_var dims var then 0 else padded_size dims var)
+    → length (block dims (var, array)) ≡ (if is_record_var dims var then 0 else padded_size dims var)
 unfolding padded_slab fill_bytes
 length-block dims n var array is = grind (arith, length-append, length-replicated)
 
 length-part : (is_sole : Bool) (dims : List Dim) (n : ℕ) (var : Var) (array : List ℕ) (r : ℕ) → r < n → IsArray dims n var array
-    → length (if is_record_var dims var then placed_slab is_sole var (slab_in dims var array r) else []) ≡ (if is_record_var dims var then slot is_sole dims var else 0)
+    → length (record_part is_sole dims r (var, array)) ≡ (if is_record_var dims var then slot is_sole dims var else 0)
 unfolding padded_slab fill_bytes
 length-part is_sole dims n var array r lt is = grind (arith, length-append, length-replicated, length-slab)
 
-pub length-blocks : (dims : List Dim) (n : ℕ) (vars : List Var) (arrays : List (List ℕ)) → AreArrays dims n vars arrays → length (blocks dims vars arrays) ≡ fixed_total dims vars
+pub length-blocks : (dims : List Dim) (n : ℕ) (vars : List Var) (arrays : List (List ℕ)) → AreArrays dims n vars arrays → length (flat_map (block dims) (zip vars arrays)) ≡ fixed_total dims vars
 length-blocks dims n (var ∷ vars) (array ∷ arrays) are =
     grind (arith, length-append, length-block, fixed-cons, length-blocks dims n vars arrays are.1)
 length-blocks dims n _ _ are = grind arith
 
 pub length-record : (is_sole : Bool) (dims : List Dim) (n r : ℕ) (vars : List Var) (arrays : List (List ℕ)) → r < n → AreArrays dims n vars arrays
-    → length (record_of is_sole dims r vars arrays) ≡ slots is_sole dims vars
+    → length (flat_map (record_part is_sole dims r) (zip vars arrays)) ≡ slots is_sole dims vars
 length-record is_sole dims n r (var ∷ vars) (array ∷ arrays) lt are =
     grind (arith, length-append, length-part, slots-cons, length-record is_sole dims n r vars arrays lt are.1)
 length-record is_sole dims n r _ _ lt are = grind arith
@@ -141,27 +134,18 @@ flat_map-below f g k (suc n) same = grind (arith, flat_map-below f g (k + 1) n)
 
 -- what is left of the variables stands after those before them
 pub record IsPlaced (h : Header) (bytes : List ℕ) (n stride : ℕ) (is_sole : Bool) (before vars : List Var) (arrays : List (List ℕ)) : Type 0 where
-  pub fixed : IsAt (blocks h.dims vars arrays) (length (header_spelling h) + fixed_total h.dims before) bytes
+  pub fixed : IsAt (flat_map (block h.dims) (zip vars arrays)) (length (header_spelling h) + fixed_total h.dims before) bytes
   pub growing : (r : ℕ) → r < n
-      → IsAt (record_of is_sole h.dims r vars arrays) (length (header_spelling h) + (fixed_total h.dims h.vars + (slots is_sole h.dims before + r * stride))) bytes
+      → IsAt (flat_map (record_part is_sole h.dims r) (zip vars arrays)) (length (header_spelling h) + (fixed_total h.dims h.vars + (slots is_sole h.dims before + r * stride))) bytes
 
 placed-next : (h : Header) (bytes : List ℕ) (n stride : ℕ) (is_sole : Bool) (before : List Var) (var : Var) (vars : List Var) (array : List ℕ) (arrays : List (List ℕ))
     → IsArray h.dims n var array → IsPlaced h bytes n stride is_sole before (var ∷ vars) (array ∷ arrays) → IsPlaced h bytes n stride is_sole (before ++ var ∷ []) vars arrays
-placed-next h bytes n stride is_sole before var vars array arrays is placed =
-    let dims = h.dims in
-    let head : ℕ = length (header_spelling h) in
-    let a = fixed-push dims before var in
-    let b = length-block dims n var array is in
-    record {
-      fixed = stands-at (blocks dims vars arrays) bytes _ _ (omega (arith, a, b))
-          (stands-second (if is_record_var dims var then [] else padded_slab var array) (blocks dims vars arrays) bytes (head + fixed_total dims before) placed.fixed);
-      growing = λ r lt.
-          let c = slots-push is_sole dims before var in
-          let d = length-part is_sole dims n var array r lt is in
-          stands-at (record_of is_sole dims r vars arrays) bytes _ _ (omega (arith, c, d))
-          (stands-second (if is_record_var dims var then placed_slab is_sole var (slab_in dims var array r) else []) (record_of is_sole dims r vars arrays) bytes
-          (head + (fixed_total dims h.vars + (slots is_sole dims before + r * stride))) (placed.growing r lt));
-    }
+placed-next h bytes n stride is_sole before var vars array arrays is placed = record {
+  fixed = stands-at _ bytes _ _ (omega (arith, fixed-push h.dims before var, length-block h.dims n var array is)) (stands-second (block h.dims (var, array)) _ bytes _ placed.fixed);
+  growing = λ r lt.
+      stands-at _ bytes _ _ (omega (arith, slots-push is_sole h.dims before var, length-part is_sole h.dims n var array r lt is))
+      (stands-second (record_part is_sole h.dims r (var, array)) _ bytes _ (placed.growing r lt));
+}
 
 -- a variable without records, whose array stands at its begin
 agrees-fixed : (h : Header) (bytes : List ℕ) (n : ℕ) (var : Var) (array : List ℕ) → is_record_var h.dims var ≡ false
@@ -185,12 +169,15 @@ agrees-record h bytes n var array growing is stands =
           omega (arith, stands-within (slab_in h.dims var array r) (var.begin_at + r * record_size h) bytes (stands r lt), length-slab h.dims n var array r is growing lt));
     }
 
--- the prefix of what stands there, of either kind
-prefix-unless : (kind : Bool) (piece rest bytes : List ℕ) (at : ℕ) → kind ≡ false → IsAt ((if kind then [] else piece) ++ rest) at bytes → IsAt piece at bytes
-prefix-unless kind piece rest bytes at h h2 = grind (arith, stands-first)
+-- the array or the slab stands where its piece does
+block-stands : (dims : List Dim) (var : Var) (array rest bytes : List ℕ) (at : ℕ) → is_record_var dims var ≡ false → IsAt (block dims (var, array) ++ rest) at bytes → IsAt array at bytes
+unfolding padded_slab
+block-stands dims var array rest bytes at fixed s = grind (arith, stands-first)
 
-prefix-if : (kind : Bool) (piece rest bytes : List ℕ) (at : ℕ) → kind ≡ true → IsAt ((if kind then piece else []) ++ rest) at bytes → IsAt piece at bytes
-prefix-if kind piece rest bytes at h h2 = grind (arith, stands-first)
+slab-stands : (is_sole : Bool) (dims : List Dim) (r : ℕ) (var : Var) (array rest bytes : List ℕ) (at : ℕ) → is_record_var dims var ≡ true
+    → IsAt (record_part is_sole dims r (var, array) ++ rest) at bytes → IsAt (slab_in dims var array r) at bytes
+unfolding padded_slab
+slab-stands is_sole dims r var array rest bytes at growing s = grind (arith, stands-first)
 
 agrees-one : (h : Header) (vs : List Var) (bytes : List ℕ) (n : ℕ) (before : List Var) (var : Var) (vars : List Var) (array : List ℕ) (arrays : List (List ℕ))
     → h.vars ≡ before ++ var ∷ vars → IsArray h.dims n var array
@@ -218,23 +205,18 @@ agrees-one h vs bytes n before var vars array arrays all is placed = of_kind (is
 
     of_kind : (kind : Bool) → is_record_var dims var ≡ kind → Agrees (record h { vars = vs }) bytes n (record var { begin_at = begin_after h before var }) array
     of_kind false e =
-        let len = fixed-len dims n var array is e in
-        let block : IsAt (padded_slab var array) (head + fixed_total dims before) bytes =
-        prefix-unless (is_record_var dims var) (padded_slab var array) (blocks dims vars arrays) bytes (head + fixed_total dims before) e placed.fixed in
-        let own = stands-placed false var array bytes (head + fixed_total dims before) block in
-        agrees-fixed (record h { vars = vs }) bytes n (record var { begin_at = begin_after h before var }) array e len
+        let own = block-stands dims var array (flat_map (block dims) (zip vars arrays)) bytes (head + fixed_total dims before) e placed.fixed in
+        agrees-fixed (record h { vars = vs }) bytes n (record var { begin_at = begin_after h before var }) array e (fixed-len dims n var array is e)
         (stands-at array bytes (head + fixed_total dims before) (begin_after h before var) (sym (begin-is false e)) own)
     of_kind true e =
         agrees-record (record h { vars = vs }) bytes n (record var { begin_at = begin_after h before var }) array e
         (record { bytes = is.bytes; whole = is.whole; small = is.small })
         (λ r lt.
         let at : ℕ = head + (fixed_total dims h.vars + (slots is_sole dims before + r * stride)) in
-        let slab = slab_in dims var array r in
-        let part = prefix-if (is_record_var dims var) (placed_slab is_sole var slab) (record_of is_sole dims r vars arrays) bytes at e (placed.growing r lt) in
-        let own = stands-placed is_sole var slab bytes at part in
+        let own = slab-stands is_sole dims r var array (flat_map (record_part is_sole dims r) (zip vars arrays)) bytes at e (placed.growing r lt) in
         let sum_is = before-slots dims h.vars before var vars all e in
         let begin = begin-is true e in
-        stands-at slab bytes at (begin_after h before var + r * stride) (omega (arith, sum_is, begin)) own)
+        stands-at (slab_in dims var array r) bytes at (begin_after h before var + r * stride) (omega (arith, sum_is, begin)) own)
 
 pub agree-all : (h : Header) (vs : List Var) (bytes : List ℕ) (n : ℕ) (before vars : List Var) (arrays : List (List ℕ))
     → h.vars ≡ before ++ vars → AreArrays h.dims n vars arrays

@@ -6,7 +6,7 @@ pub use Rattle.nc_base.specs.Datasets.{Fits, HoldsDataset, IsText, is_shown, is_
 unfoldable pub use Rattle.nc_base.specs.Dump.{closing_word, data_word}
 unfoldable pub use Rattle.nc_base.specs.Escapes.{escaped_name, escaped_text, is_reserved}
 unfoldable pub use Rattle.nc_base.specs.Fill.{fill_value}
-pub use Rattle.nc_base.specs.GeneratedFile.{begin_after, blocks, fits, fixed_vars, is_sole_narrow, known_records, record_of, slab_in, vars_with_begins}
+pub use Rattle.nc_base.specs.GeneratedFile.{begin_after, block, fits, fixed_vars, is_sole_narrow, known_records, record_part, slab_in, vars_with_begins}
 unfoldable pub use Rattle.nc_base.specs.GeneratedFile.{data_of, file_of, fill_bytes, padded_slab, with_begins}
 pub use Rattle.nc_base.specs.Grammar.{SpellsHeader, StopsAt, header_spelling, vsize_of}
 pub use Rattle.nc_base.specs.Headers.{AreArrays, AreDimids, IsDimid, HasValidNames, HasWholeValues, IsArray, IsGood, IsSound, IsSoundAtt, IsSoundDim, IsSoundNumRecs, IsSoundVar, bare, bare_var}

@@ -1,5 +1,5 @@
 -- Definition. The file of a dataset: the one spelling of its header, and its values as one concatenation.
-use Rattle.std.specs.Prelude.{ℕ, ◌+◌, ◌*◌, ◌/◌, Bool, false, nat_lt, not, if◌then◌else◌, List, [], ◌∷◌, ◌++◌, length, filter, take, drop, replicate}
+use Rattle.std.specs.Prelude.{ℕ, ◌+◌, ◌*◌, ◌/◌, Bool, false, nat_lt, not, if◌then◌else◌, List, [], ◌∷◌, ◌++◌, length, filter, take, drop, replicate, zip}
 use Rattle.std.specs.List.{concat, flat_map, list_all, range_with_len}
 use Rattle.nc_base.specs.declared.{header.Dim.Dim, header.Var.Var, header.Header.Header, header.NumRecs.NumRecs, dataset.Dataset.Dataset}
 use Rattle.nc_base.specs.declared.header.NumRecs.TheVariants.{Known, Streaming}
@@ -21,10 +21,9 @@ fill_bytes var n = concat (replicate (n / size_of var.ty) (bytes_of_number var.t
 unfoldable pub padded_slab : Var → Bytes → Bytes
 padded_slab var slab = slab ++ fill_bytes var (padding_len (length slab))
 
--- the padded slabs of the variables that aren't record variables, in header order
-abbrev pub blocks : List Dim → List Var → List Bytes → Bytes
-blocks dims (var ∷ vars) (array ∷ arrays) = (if is_record_var dims var then [] else padded_slab var array) ++ blocks dims vars arrays
-blocks dims _ _ = []
+-- the padded slab of a variable; nothing of a record variable
+abbrev pub block : List Dim → Var × Bytes → Bytes
+block dims (var, array) = if is_record_var dims var then [] else padded_slab var array
 
 -- there is only one of these record variables, and it is narrow: its slabs have no padding
 abbrev pub is_sole_narrow : List Var → Bool
@@ -34,23 +33,22 @@ is_sole_narrow vars = false
 abbrev pub slab_in : List Dim → Var → Bytes → ℕ → Bytes
 slab_in dims var array r = take (slab_size dims var) (drop (r * slab_size dims var) array)
 
--- record r: a slab of each record variable, in header order
-abbrev pub record_of : Bool → List Dim → ℕ → List Var → List Bytes → Bytes
-record_of unpadded dims r (var ∷ vars) (array ∷ arrays) =
-    (if is_record_var dims var then (if unpadded then slab_in dims var array r else padded_slab var (slab_in dims var array r)) else [])
-    ++ record_of unpadded dims r vars arrays
-record_of unpadded dims r _ _ = []
+-- the slab of a record variable in record r; nothing of another variable
+abbrev pub record_part : Bool → List Dim → ℕ → Var × Bytes → Bytes
+record_part unpadded dims r (var, array) =
+    if is_record_var dims var then (if unpadded then slab_in dims var array r else padded_slab var (slab_in dims var array r)) else []
 
 -- the number of records, which is known in a dataset
 abbrev pub known_records : NumRecs → ℕ
 known_records (Known n) = n
 known_records Streaming = 0
 
--- the blocks, and after them one record after the other
+-- the blocks in header order, and after them one record after the other: its slabs in header order
 unfoldable pub data_of : Header → List Bytes → Bytes
 data_of h arrays =
+    let pairs = zip h.vars arrays in
     let unpadded = is_sole_narrow (record_vars h.dims h.vars) in
-    blocks h.dims h.vars arrays ++ flat_map (λ r. record_of unpadded h.dims r h.vars arrays) (range_with_len 0 (known_records h.numrecs))
+    flat_map (block h.dims) pairs ++ flat_map (λ r. flat_map (record_part unpadded h.dims r) pairs) (range_with_len 0 (known_records h.numrecs))
 
 -- ---- the file
 

@@ -1,5 +1,5 @@
 -- The data part of a file, as it is written.
-use Rattle.std.proofs.Common.{◌≡◌, ℕ, suc, ◌+◌, ◌-◌, ◌<◌, ◌≤◌, List, [], ◌∷◌, ◌++◌, length, get_or, map, drop, refl, ap, arith, append_assoc, if◌then◌else◌}
+use Rattle.std.proofs.Common.{◌≡◌, ℕ, suc, ◌+◌, ◌-◌, ◌<◌, ◌≤◌, List, [], ◌++◌, length, get_or, map, drop, ap, arith, if◌then◌else◌}
 use Rattle.nc_walk.proofs.Prelude.{flat_map, range_with_len, drop_more, drop_all, Dim, Var, is_record_var, RecordSlab, ArrayView, array_view, filled_slab, filled_blocks, filled_record, filled_records, array_of}
 
 -- ---- what is left of a list of variables and one of their arrays
@@ -11,10 +11,6 @@ pub blocks-left : (dims : List Dim) (vars : List Var) (arrays : List (List ℕ))
 blocks-left dims vars arrays v var array p q at held = grind (arith, drop_more)
 
 -- ---- records
-
-pub records-append : (r : ℕ) (xs ys : List ArrayView) → filled_records r (xs ++ ys) ≡ filled_records r xs ++ filled_records r ys
-records-append r [] ys = refl
-records-append r (x ∷ xs) ys = grind (arith, append_assoc, records-append r xs ys)
 
 -- one slab more of a list, of this array
 pub slab-left : (r : ℕ) (arrays : List (List ℕ)) (slabs : List RecordSlab) (i : ℕ) (d : RecordSlab) (array : ArrayView) → i < length slabs → array ≡ array_of arrays (get_or slabs i d)

@@ -10,7 +10,7 @@ pub use Rattle.nc_base.proofs.SoundLaws.{some_count, some_size}
 pub use Rattle.nc_base.proofs.WholeValues.{length-whole, map-map, none-found, numbers-concat, range-add}
 pub use Rattle.nc_base.specs.Bytes.{padding_len}
 unfoldable pub use Rattle.nc_base.specs.Fill.{fill_value}
-pub use Rattle.nc_base.specs.GeneratedFile.{blocks, is_sole_narrow, known_records, record_of, slab_in}
+pub use Rattle.nc_base.specs.GeneratedFile.{block, is_sole_narrow, known_records, record_part, slab_in}
 unfoldable pub use Rattle.nc_base.specs.GeneratedFile.{data_of, fill_bytes, padded_slab}
 pub use Rattle.nc_base.specs.Headers.{IsSound, IsSoundVar}
 pub use Rattle.nc_base.specs.Sizes.{value_count, is_narrow, is_record_var, product, record_size, record_vars, slab_count, slab_lens, slab_size}

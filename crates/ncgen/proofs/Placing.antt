@@ -1,29 +1,19 @@
 -- The begins of a header change nothing of its values.
-use Rattle.std.proofs.Common.{◌≡◌, ◌∙◌, ℕ, List, [], ◌∷◌, ◌++◌, Bool, if◌then◌else◌, map, refl, sym, ap}
+use Rattle.std.proofs.Common.{◌≡◌, ◌∙◌, ℕ, List, [], ◌∷◌, ◌++◌, Bool, map, refl, sym, ap, ap₂, zip}
 use Rattle.std.specs.List.{flat_map, range_with_len}
 use Rattle.nc_base.specs.declared.{header.Dim.Dim, header.Var.Var}
-use Rattle.ncgen.proofs.Prelude.{Header, blocks, data_of, fill_bytes, is_sole_narrow, known_records, padded_slab, record_of, slab_in, vars_with_begins, with_begins, bare_var, AreListed, whole_array, whole_arrays, listed_data, flat_map-same}
+use Rattle.ncgen.proofs.Prelude.{Header, block, data_of, fill_bytes, is_sole_narrow, known_records, padded_slab, record_part, vars_with_begins, with_begins, bare_var, AreListed, whole_arrays, listed_data, flat_map-same}
 use Rattle.nc_base.specs.Fill.{fill_value}
-use Rattle.nc_base.specs.Sizes.{is_record_var, record_vars}
+use Rattle.nc_base.specs.Sizes.{record_vars}
 use Rattle.nc_base.proofs.FileHolds.{bare-after, records-bare}
 
 module _ (h : Header) (dims : List Dim) (n : ℕ) where
-  blocks-after : (before vars : List Var) (listed : List (List ℕ))
-      → blocks dims (vars_with_begins h before vars) (whole_arrays dims n (vars_with_begins h before vars) listed) ≡ blocks dims vars (whole_arrays dims n vars listed)
-  unfolding fill_value padded_slab fill_bytes
-  blocks-after before [] listed = refl
-  blocks-after before (var ∷ vars) [] = refl
-  blocks-after before (var ∷ vars) (l ∷ ls) = ap (λ (bytes : List ℕ). (if is_record_var dims var then [] else padded_slab var (whole_array dims n var l)) ++ bytes) (blocks-after (before ++ var ∷ []) vars ls)
-
-  record-after : (is_sole : Bool) (r : ℕ) (before vars : List Var) (listed : List (List ℕ))
-      → record_of is_sole dims r (vars_with_begins h before vars) (whole_arrays dims n (vars_with_begins h before vars) listed) ≡ record_of is_sole dims r vars (whole_arrays dims n vars listed)
-  unfolding fill_value padded_slab fill_bytes
-  record-after is_sole r before [] listed = refl
-  record-after is_sole r before (var ∷ vars) [] = refl
-  record-after is_sole r before (var ∷ vars) (l ∷ ls) =
-      let slab = slab_in dims var (whole_array dims n var l) r in
-      ap (λ (bytes : List ℕ). (if is_record_var dims var then (if is_sole then slab else padded_slab var slab) else []) ++ bytes)
-      (record-after is_sole r (before ++ var ∷ []) vars ls)
+  -- pieces that no begin changes
+  pieces-after : (f : Var × List ℕ → List ℕ) → ((var : Var) (at : ℕ) (array : List ℕ) → f (record var { begin_at = at }, array) ≡ f (var, array)) → (before vars : List Var) (listed : List (List ℕ))
+      → flat_map f (zip (vars_with_begins h before vars) (whole_arrays dims n (vars_with_begins h before vars) listed)) ≡ flat_map f (zip vars (whole_arrays dims n vars listed))
+  unfolding fill_value
+  pieces-after f same before (var ∷ vars) (l ∷ ls) = ap₂ (λ (a b : List ℕ). a ++ b) (same var _ _) (pieces-after f same (before ++ var ∷ []) vars ls)
+  pieces-after f same before _ _ = refl
 
   pub listed-after : (before vars : List Var) (listed : List (List ℕ)) → AreListed dims n vars listed → AreListed dims n (vars_with_begins h before vars) listed
   listed-after before [] [] are = tt
@@ -51,13 +41,11 @@ sole-after h =
 -- ---- all values
 
 pub data-after : (h : Header) (listed : List (List ℕ)) → listed_data (with_begins h) listed ≡ listed_data h listed
-unfolding data_of with_begins
+unfolding data_of with_begins fill_value padded_slab fill_bytes
 data-after h listed =
     let n = known_records h.numrecs in
-    let vars = vars_with_begins h [] h.vars in
-    let arrays = whole_arrays h.dims n vars listed in
-    let records : (Bool → List Var → List (List ℕ) → List ℕ) = λ is_sole vs xs. flat_map (λ r. record_of is_sole h.dims r vs xs) (range_with_len 0 n) in
-    ap (λ (bytes : List ℕ). bytes ++ records (is_sole_narrow (record_vars h.dims vars)) vars arrays) (blocks-after h h.dims n [] h.vars listed)
-    ∙ ap (λ (is_sole : Bool). blocks h.dims h.vars (whole_arrays h.dims n h.vars listed) ++ records is_sole vars arrays) (sole-after h)
-    ∙ ap (λ (bytes : List ℕ). blocks h.dims h.vars (whole_arrays h.dims n h.vars listed) ++ bytes)
-    (flat_map-same _ _ (range_with_len 0 n) (λ r. record-after h h.dims n (is_sole_narrow (record_vars h.dims h.vars)) r [] h.vars listed))
+    let pairs : (List Var → List (Var × List ℕ)) = λ vars. zip vars (whole_arrays h.dims n vars listed) in
+    let records : (Bool → List Var → List ℕ) = λ is_sole vars. flat_map (λ r. flat_map (record_part is_sole h.dims r) (pairs vars)) (range_with_len 0 n) in
+    ap₂ (λ (a b : List ℕ). a ++ b) (pieces-after h h.dims n (block h.dims) (λ var at array. refl) [] h.vars listed)
+    (ap (λ (is_sole : Bool). records is_sole (vars_with_begins h [] h.vars)) (sole-after h)
+    ∙ flat_map-same _ _ (range_with_len 0 n) (λ r. pieces-after h h.dims n (record_part (is_sole_narrow (record_vars h.dims h.vars)) h.dims r) (λ var at array. refl) [] h.vars listed))

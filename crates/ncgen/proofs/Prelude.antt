@@ -11,7 +11,7 @@ pub use Rattle.devices.specs.Sinks.{FailedPartway, IsPrefix, IsPrefixIf, SinkVie
 unfoldable pub use Rattle.devices.specs.Sinks.{IsCut, append, is_transparent}
 pub use Rattle.nc_base.proofs.Fitting.{Fits-from_fits, IsSound-with_begins, begins-below}
 pub use Rattle.nc_base.specs.Bytes.{AreBytes}
-pub use Rattle.nc_base.specs.GeneratedFile.{blocks, fits, is_sole_narrow, known_records, record_of, slab_in, vars_with_begins}
+pub use Rattle.nc_base.specs.GeneratedFile.{block, fits, is_sole_narrow, known_records, record_part, vars_with_begins}
 unfoldable pub use Rattle.nc_base.specs.GeneratedFile.{data_of, file_of, fill_bytes, padded_slab, with_begins}
 pub use Rattle.nc_base.specs.Grammar.{header_spelling}
 pub use Rattle.nc_base.specs.Headers.{AreArrays, IsGood, IsSound, bare_var}

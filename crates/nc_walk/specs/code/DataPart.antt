@@ -1,8 +1,8 @@
 -- For contracts. The data part of a file whose arrays may lack values at their end, by its header and what is listed.
-use Rattle.std.specs.Prelude.{ℕ, List}
+use Rattle.std.specs.Prelude.{ℕ, List, zip}
 use Rattle.std.specs.List.{flat_map, range_with_len}
 use Rattle.nc_base.specs.declared.header.Header.{Header}
-use Rattle.nc_base.specs.GeneratedFile.{data_of, is_sole_narrow, known_records, record_of}
+use Rattle.nc_base.specs.GeneratedFile.{data_of, is_sole_narrow, known_records, record_part}
 use Rattle.nc_base.specs.code.OwedValues.{AreListed, whole_arrays}
 use Rattle.nc_base.specs.Sizes.{record_vars}
 
@@ -20,7 +20,7 @@ whole_data h listed = data_of h (whole_arrays_of h listed)
 
 -- its record r
 abbrev pub whole_record : Header → List (List ℕ) → ℕ → List ℕ
-whole_record h listed r = record_of (is_sole_narrow (record_vars h.dims h.vars)) h.dims r h.vars (whole_arrays_of h listed)
+whole_record h listed r = flat_map (record_part (is_sole_narrow (record_vars h.dims h.vars)) h.dims r) (zip h.vars (whole_arrays_of h listed))
 
 -- all of its records
 abbrev pub whole_records : Header → List (List ℕ) → List ℕ

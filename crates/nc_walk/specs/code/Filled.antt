@@ -1,5 +1,5 @@
 -- For contracts. What is written of a variable's array: the bytes that are listed, and fill values in place of those that are not.
-use Rattle.std.specs.Prelude.{ℕ, ◌+◌, ◌-◌, ◌*◌, List, [], ◌∷◌, ◌++◌, length, take, drop, replicate, if◌then◌else◌}
+use Rattle.std.specs.Prelude.{ℕ, ◌+◌, ◌-◌, ◌*◌, List, [], ◌∷◌, ◌++◌, length, take, drop, replicate, zip, if◌then◌else◌}
 use Rattle.std.specs.List.{concat, flat_map}
 use Rattle.nc_base.specs.declared.{header.Dim.Dim, header.Header.Header, header.Var.Var, listed_array.Run.Run}
 use Rattle.nc_base.specs.Bytes.{padding_len}
@@ -56,8 +56,7 @@ block_of dims var listed = if is_record_var dims var then [] else filled_slab (a
 
 -- the blocks of the variables that aren't record variables
 abbrev pub filled_blocks : List Dim → List Var → List (List ℕ) → List ℕ
-filled_blocks dims (var ∷ vars) (listed ∷ others) = block_of dims var listed ++ filled_blocks dims vars others
-filled_blocks dims _ _ = []
+filled_blocks dims vars arrays = flat_map (λ (p : Var × List ℕ). block_of dims p.0 p.1) (zip vars arrays)
 
 -- those of a file with this header
 abbrev pub blocks_of : Header → List (List ℕ) → List ℕ
@@ -65,8 +64,7 @@ blocks_of h arrays = filled_blocks h.dims h.vars arrays
 
 -- the arrays of the record variables
 abbrev pub record_arrays : List Dim → List Var → List (List ℕ) → List ArrayView
-record_arrays dims (var ∷ vars) (listed ∷ others) = (if is_record_var dims var then array_view dims var listed ∷ [] else []) ++ record_arrays dims vars others
-record_arrays dims _ _ = []
+record_arrays dims vars arrays = flat_map (λ (p : Var × List ℕ). if is_record_var dims p.0 then array_view dims p.0 p.1 ∷ [] else []) (zip vars arrays)
 
 -- a record of these variables: a slab of each
 abbrev pub filled_records : ℕ → List ArrayView → List ℕ
