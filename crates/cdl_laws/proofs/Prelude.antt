@@ -30,7 +30,7 @@ pub use Rattle.cdl_tokens.proofs.Strings.{or_zero, stands_for}
 pub use Rattle.cdl_tokens.specs.Bytes.{is_mark_byte, may_begin_word, digit_value, goes_on_number, goes_on_word, is_blank, is_digit, is_escapable, is_escape, is_hex, is_octal, is_sign, number_in}
 pub use Rattle.cdl_tokens.specs.Escapes.{up_to_255, inner, plain_escape, string_value, unescape}
 unfoldable pub use Rattle.cdl_tokens.specs.Escapes.{character, unescape_at, word_value}
-pub use Rattle.cdl_tokens.specs.Numerals.{Numeral, Parts, in_base, number, with_sign}
+pub use Rattle.cdl_tokens.specs.Numerals.{TypedNumber, Parts, in_base, number, with_sign}
 unfoldable pub use Rattle.cdl_tokens.specs.Numerals.{numeral, parts, type_of_suffix}
 pub use Rattle.cdl_tokens.specs.Scan.{begins_a_word, begins_number, begins_opening, scan_text, token}
 unfoldable pub use Rattle.cdl_tokens.specs.Scan.{scan, len_until, word_len}

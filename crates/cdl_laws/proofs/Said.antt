@@ -1,6 +1,6 @@
 -- What each statement of a text says, against the bytes of its tokens, and how many bytes and tokens all statements have.
 use Rattle.std.proofs.Common.{◌≡◌, ℕ, ◌+◌, ◌-◌, ◌≤◌, ◌<◌, Bool, true, false, List, [], ◌∷◌, length, arith, zero, suc, Option, None, Some, drop, ◌&&◌, not, ◌==◌, slice_index, codes, map, rules, ◌*◌, ◌∙◌, ap, refl, is_none, is_some, if◌then◌else◌}
-use Rattle.cdl_laws.proofs.Prelude.{length-take, length-drop, is_reserved, Version, has_type, character, unescape_at, word_value, or_zero, Lexeme, is_word_kind, is_mark, name_of, Parts, parts, Numeral, numeral, type_of_suffix, in_base, with_sign, Value, Number, Characters, Underscore, Dimension, Variable, both, at_end, after_member, in_parentheses, constant, constants, option_map, Each, scan, lexeme, is_opening_kind, is_end_kind, first_role, role, pieces_after, with_first, step, pieces_by_steps, Statement, Open, Enter, DeclareDimensions, DeclareVariables, Attribute, Listed, Close, End, attribute_or_mark, assigned, other_statement, section_number, section_mark, section_of, shape, tokens, tokens_at, statements, Section, Unopened, Globals, Dimensions, Variables, Values, Closed, Ended, CutState, Role, Token}
+use Rattle.cdl_laws.proofs.Prelude.{length-take, length-drop, is_reserved, Version, has_type, character, unescape_at, word_value, or_zero, Lexeme, is_word_kind, is_mark, name_of, Parts, parts, TypedNumber, numeral, type_of_suffix, in_base, with_sign, Value, Number, Characters, Underscore, Dimension, Variable, both, at_end, after_member, in_parentheses, constant, constants, option_map, Each, scan, lexeme, is_opening_kind, is_end_kind, first_role, role, pieces_after, with_first, step, pieces_by_steps, Statement, Open, Enter, DeclareDimensions, DeclareVariables, Attribute, Listed, Close, End, attribute_or_mark, assigned, other_statement, section_number, section_mark, section_of, shape, tokens, tokens_at, statements, Section, Unopened, Globals, Dimensions, Variables, Values, Closed, Ended, CutState, Role, Token}
 use Rattle.cdl_statements.specs.Shapes.{dimensions, variables}
 use Rattle.cdl_laws.proofs.Outcomes.{SomeIs, some_map, some_then, some_weaker, some_both, some_given, in_if, total, each_take, each_drop}
 use Rattle.cdl_statements.specs.Shapes as shapes
@@ -47,7 +47,7 @@ name_short l = in_if (SomeIs (λ name. length name ≤ length l.bytes)) (is_word
 
 -- ---- numbers
 
-abbrev pub HasTypeOf : Version → Numeral → Type 0
+abbrev pub HasTypeOf : Version → TypedNumber → Type 0
 HasTypeOf v n = has_type v n.ty ≡ true
 
 -- the same of its parts

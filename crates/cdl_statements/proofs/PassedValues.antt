@@ -6,7 +6,7 @@ use Rattle.cdl_statements.specs.code.ListedTokens.{PassesNumber, PassesUnderscor
 use Rattle.cdl_statements.specs.code.PassedValues.{PassesGood, PassesValues}
 use Rattle.cdl_statements.specs.declared.due.Due.TheVariants.{Separator}
 use Rattle.cdl_tokens.specs.code.Magnitudes.{held}
-use Rattle.cdl_tokens.specs.declared.numeral.Numeral.{Numeral as Held}
+use Rattle.cdl_tokens.specs.declared.numeral.Numeral.{Numeral}
 use Rattle.cdl_tokens.specs.declared.token.TokenKind.TheVariants as kinds
 use Rattle.cdl_statements.proofs.NumberLists.{at_same_comma, same_after, same_words}
 use Rattle.cdl_statements.proofs.ShapeChecks.{good_on}
@@ -37,11 +37,11 @@ token_on takes_fill v start rest l fault version at passes is none value =
     value_on takes_fill start rest l at passes (ap (λ (v : Version). token_fault v l.kind l.bytes) (sym version) ∙ sym is ∙ no_fault fault none) value
 
 -- a number is good
-pub good_number : (v : Version) (bytes : List ℕ) (n : Held) → Some n ≡ option_map held (parts v bytes) → token_fault v kinds.Number bytes ≡ None
+pub good_number : (v : Version) (bytes : List ℕ) (n : Numeral) → Some n ≡ option_map held (parts v bytes) → token_fault v kinds.Number bytes ≡ None
 unfolding numeral
 good_number v bytes n is = grind (arith, parts v bytes, held, is_none, number)
 
-pub number_on : (takes_fill : Bool) (start rest : Cutter) (n : Held) → IsAtComma start → PassesNumber start rest n → PassesValues takes_fill start rest
+pub number_on : (takes_fill : Bool) (start rest : Cutter) (n : Numeral) → IsAtComma start → PassesNumber start rest n → PassesValues takes_fill start rest
 number_on takes_fill start rest n at p = value_on takes_fill start rest (lexeme_with kinds.Number p.bytes) at p.passes (good_number (version_of start) p.bytes n (p.says (version_of start))) refl
 
 pub underscore_on : (start rest : Cutter) → IsAtComma start → PassesUnderscore start rest → PassesValues true start rest

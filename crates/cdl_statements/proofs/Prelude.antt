@@ -22,7 +22,7 @@ pub use Rattle.cdl_statements.specs.declared.piece.Role.TheVariants.{Colon, Othe
 pub use Rattle.cdl_statements.specs.declared.section.Section.TheVariants.{Dimensions, Ended, Globals, Unopened, Values, Variables}
 pub use Rattle.cdl_tokens.proofs.Words.{and_false}
 unfoldable pub use Rattle.cdl_tokens.specs.Escapes.{word_value}
-pub use Rattle.cdl_tokens.specs.Numerals.{Numeral, Parts, number}
+pub use Rattle.cdl_tokens.specs.Numerals.{TypedNumber, Parts, number}
 unfoldable pub use Rattle.cdl_tokens.specs.Numerals.{numeral, parts}
 pub use Rattle.cdl_tokens.specs.Tokens.{raw, tokens}
 pub use Rattle.cdl_tokens.specs.code.Scanners.{followed, is_end, left}

@@ -1,7 +1,7 @@
 -- A statement, one token on.
 use Rattle.std.proofs.Common.{◌≡◌, ℕ, true, false, List, [], ◌∷◌, refl, ap, ◌∙◌, Bool, Option, None, if◌then◌else◌, is_none, option_map, arith}
 use Rattle.cdl_tokens.specs.code.Magnitudes.{held}
-use Rattle.cdl_tokens.specs.declared.numeral.Numeral.{Numeral as Held}
+use Rattle.cdl_tokens.specs.declared.numeral.Numeral.{Numeral}
 use Rattle.cdl_statements.proofs.Prelude.{Version, Lexeme, parts, number, numeral, first_bad, option_or, token_fault, CdlKind}
 
 pub bad_on : (version : Version) (bad : Option CdlKind) (l : Lexeme) (ls : List Lexeme) →
@@ -30,6 +30,6 @@ pub good_end : (version : Version) (l : Lexeme) → token_fault version l.kind l
 good_end version l good = ap (λ b. option_or b None) good
 
 -- a number is bad where it has no parts
-pub bad_number : (version : Version) (bytes : List ℕ) (r : Option Held) → r ≡ option_map held (parts version bytes) → is_none r ≡ is_none (numeral version bytes)
+pub bad_number : (version : Version) (bytes : List ℕ) (r : Option Numeral) → r ≡ option_map held (parts version bytes) → is_none r ≡ is_none (numeral version bytes)
 unfolding numeral
 bad_number version bytes r is = grind (arith, parts version bytes, is_none, held, number)

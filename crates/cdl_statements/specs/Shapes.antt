@@ -6,7 +6,7 @@ use Rattle.nc_base.specs.Bytes.{Bytes}
 use Rattle.cdl_tokens.specs.Escapes.{inner, string_value}
 use Rattle.cdl_statements.specs.Lexemes.{Lexeme, is_mark, is_word, is_word_kind, is_opening_kind, is_end_kind, name_of}
 use Rattle.cdl_statements.specs.Pieces.{section_of}
-use Rattle.cdl_tokens.specs.Numerals.{Numeral, numeral}
+use Rattle.cdl_tokens.specs.Numerals.{TypedNumber, numeral}
 use Rattle.cdl_tokens.specs.declared.token.TokenKind.{TokenKind}
 use Rattle.cdl_tokens.specs.declared.token.TokenKind.TheVariants as kinds
 use Rattle.cdl_statements.specs.declared.{fault.CdlKind.CdlKind, section.Section.Section}
@@ -16,7 +16,7 @@ use Rattle.cdl_statements.specs.declared.section.Section.TheVariants.{Unopened, 
 
 -- a CONST or a VALUE
 pub data Value : Type 0 where
-  Number : (n : Numeral) → Value
+  Number : (n : TypedNumber) → Value
   Characters : (bytes : Bytes) → Value
   Underscore : Value
 
@@ -74,7 +74,7 @@ after_member others c ls = if is_mark (byte ",") c then others else if_so (is_ma
 
 -- LENGTH: l, with its kind beside it; Some None: the record dimension
 abbrev pub length_of : Version → Lexeme → TokenKind → Option (Option ℤ)
-length_of v l kinds.Number = option_map (λ (n : Numeral). Some n.value) (numeral v l.bytes)
+length_of v l kinds.Number = option_map (λ (n : TypedNumber). Some n.value) (numeral v l.bytes)
 length_of v l _ = if_so (is_word (codes "unlimited") l || is_word (codes "UNLIMITED") l) (Some None)
 
 -- NAME = LENGTH

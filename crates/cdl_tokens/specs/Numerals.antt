@@ -12,7 +12,7 @@ use Rattle.nc_base.specs.Types.{all_types, number_suffix}
 use Rattle.nc_base.specs.Versions.{has_type}
 
 -- what a number token says
-pub record Numeral : Type 0 where
+pub record TypedNumber : Type 0 where
   pub value : ℤ
   pub ty : NcType
 
@@ -51,8 +51,8 @@ parts v bs = if is_sign (slice_index bs 0) then with_sign v (slice_index bs 0 ==
 abbrev pub signed : Bool → ℕ → ℤ
 signed minus n = if minus then neg_ℤ (pos n) else pos n
 
-abbrev pub number : Parts → Numeral
+abbrev pub number : Parts → TypedNumber
 number p = record { value = signed p.minus p.magnitude; ty = p.ty }
 
-unfoldable pub numeral : Version → Bytes → Option Numeral
+unfoldable pub numeral : Version → Bytes → Option TypedNumber
 numeral v bs = option_map number (parts v bs)

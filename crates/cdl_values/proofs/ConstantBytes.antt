@@ -3,7 +3,7 @@ use Rattle.std.proofs.Common.{◌≡◌, ℕ, zero, suc, ◌-◌, ◌<◌, true,
 use Rattle.std.specs.Prelude.{⊤}
 use Rattle.cdl_values.proofs.Prelude.{bytes_of_number, NcType, Char, Version, value_of, values, Lexeme, TokenKind, character, inner, string_value, unescape_at, or_zero, word, held, Parts, number, Value, Number, Characters, CdlKind, NumberRange, add_constant, has_number, in_turn, same_type, type_said, unless, Adds, ContinuesRead, Leaves, char_bytes, held_bytes, joined, number_bytes, text_bytes, ReadError, OutOfMemory, Fault, Unlimited}
 use Rattle.cdl_tokens.specs.declared.token.TokenKind.TheVariants as kinds
-use Rattle.cdl_tokens.specs.declared.numeral.Numeral.{Numeral as Held}
+use Rattle.cdl_tokens.specs.declared.numeral.Numeral.{Numeral}
 use Rattle.cdl_meaning.specs.State.{◌>>=◌}
 use Rattle.cdl_values.proofs.PackedTokens.{one_char}
 use Rattle.cdl_values.proofs.Ranges.{held_is}
@@ -28,7 +28,7 @@ range_first ty before p = grind (arith, has_number ty (number p).value, number p
 pub number_of_type : (ty : NcType) (before : List ℕ) (p : Parts) → same_type p.ty ty ≡ true → add_constant ty before (Number (number p)) ≡ joined (Ok before) (held_bytes ty p.minus (word p.magnitude))
 number_of_type ty before p same = rw (same) (range_first ty before p ∙ ap (joined (Ok before)) (held_is ty p))
 
-pub number_left : (ty : NcType) (before after : List ℕ) (p : Parts) (n : Held) (r : Result ⊤ ReadError) → n ≡ held p → same_type n.ty ty ≡ true →
+pub number_left : (ty : NcType) (before after : List ℕ) (p : Parts) (n : Numeral) (r : Result ⊤ ReadError) → n ≡ held p → same_type n.ty ty ≡ true →
     Adds before after r (held_bytes ty n.minus n.magnitude) → Leaves after r (add_constant ty before (Number (number p)))
 number_left ty before after p n r is same h = search (rules, number, number_of_type, joined)
 

@@ -3,7 +3,7 @@ use Rattle.std.proofs.Common.{◌≡◌, ℕ, List, ◌∷◌, sym, ap, ◌∙�
 use Rattle.std.specs.Prelude.{⊤}
 use Rattle.cdl_values.proofs.Prelude.{NcType, Version, Cutter, CdlKind, Lexeme, IsAtComma, Passes, PassesNumber, parts, parts_or_zero, held, Parts, number, Number, value_of, values, words, version_of, add_constant, in_turn, ContinuesRead, ReadError, lexeme_with, past_mark, same_words, FailsRead, lexeme, next_token, text_of}
 use Rattle.cdl_values.specs.code.TokenValues.{AddsNumber, MovesOn, TakesConstants, constants_on}
-use Rattle.cdl_tokens.specs.declared.numeral.Numeral.{Numeral as Held}
+use Rattle.cdl_tokens.specs.declared.numeral.Numeral.{Numeral}
 use Rattle.cdl_tokens.specs.declared.token.TokenKind.TheVariants as kinds
 use Rattle.cdl_statements.proofs.Dues.{kind_of_mark}
 use Rattle.cdl_statements.specs.code.NumberLists as lists
@@ -33,12 +33,12 @@ pub token_turn : (ty : NcType) (v w : Version) (start rest : Cutter) (l : Lexeme
 token_turn ty v w start rest l before between same at passes h =
     ap (in_turn (add_constant ty) before) (words_past v start rest l at passes) ∙ subst (λ (u : Version). in_turn (add_constant ty) before (values u (l ∷ words rest)) ≡ constants_on ty u between rest) same h
 
-held_parts : (n : Held) (r : Option Parts) → Some n ≡ option_map held r → n ≡ held (parts_or_zero r)
+held_parts : (n : Numeral) (r : Option Parts) → Some n ≡ option_map held r → n ≡ held (parts_or_zero r)
 held_parts n None h = cc
 held_parts n (Some p) h = grind (arith, h)
 
 -- a number more
-pub number_turn : (ty : NcType) (v : Version) (start rest : Cutter) (n : Held) (before after : List ℕ) (r : Result ⊤ ReadError) → IsAtComma start → PassesNumber start rest n → AddsNumber ty n before after r →
+pub number_turn : (ty : NcType) (v : Version) (start rest : Cutter) (n : Numeral) (before after : List ℕ) (r : Result ⊤ ReadError) → IsAtComma start → PassesNumber start rest n → AddsNumber ty n before after r →
     ContinuesRead (λ (u : ⊤). constants_on ty v after rest) r (constants_on ty v before start)
 unfolding values value_of
 number_turn ty v start rest n before after r at p adds =

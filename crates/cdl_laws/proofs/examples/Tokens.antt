@@ -1,6 +1,6 @@
 -- The tokens of a few texts, their pieces, and what words and numbers say, by computation.
 use Rattle.std.proofs.Common.{◌≡◌, ℕ, List, [], ◌∷◌, refl, true, false, ℤ, pos, neg_ℤ, codes, length, map, Option, None, Some}
-use Rattle.cdl_laws.proofs.Prelude.{NcType, Byte, Short, Int, Ubyte, Ushort, Uint, Int64, Uint64, Cdf5, is_reserved, Scanned, Token, TokenKind, Word, Text, Bad, unescape_at, character, word_value, word_len, len_until, scan, tokens, tokens_at, pieces_at, is_section, is_word, is_mark, name_of, statements, Numeral, type_of_suffix, numeral, parts}
+use Rattle.cdl_laws.proofs.Prelude.{NcType, Byte, Short, Int, Ubyte, Ushort, Uint, Int64, Uint64, Cdf5, is_reserved, Scanned, Token, TokenKind, Word, Text, Bad, unescape_at, character, word_value, word_len, len_until, scan, tokens, tokens_at, pieces_at, is_section, is_word, is_mark, name_of, statements, TypedNumber, type_of_suffix, numeral, parts}
 use Rattle.cdl_tokens.specs.declared.token.TokenKind.TheVariants.{Opening, Number, Mark, End}
 
 -- f gives what stands beside the texts of each row
@@ -109,7 +109,7 @@ values_of_words = refl
 
 -- ---- numbers
 
-abbrev is : ℤ → NcType → Option Numeral
+abbrev is : ℤ → NcType → Option TypedNumber
 is n ty = Some (record { value = n; ty = ty })
 
 numerals : Gives (numeral Cdf5) (
