@@ -27,10 +27,10 @@ use Rattle.nc_check.specs.code.WholeHeaders.{HasSoundLayout}
 
 -- ---- the order
 
-pub cmp_pairs : ℕ × ℕ → ℕ × ℕ → Ordering
+abbrev pub cmp_pairs : ℕ × ℕ → ℕ × ℕ → Ordering
 cmp_pairs x y = ordering_then (nat_cmp x.0 y.0) (nat_cmp x.1 y.1)
 
-pub key : Finding → ℕ × ℕ
+abbrev pub key : Finding → ℕ × ℕ
 key f = (f.offset, rank_of (kind_of f.fact))
 
 not-before : (a b : ℕ × ℕ) → is_lt (cmp_pairs b a) ≡ false → (a.0 < b.0) ⊎ ((a.0 ≡ b.0) × (a.1 ≤ b.1))
