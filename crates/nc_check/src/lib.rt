@@ -13,3 +13,6 @@ mod name_rules;
 mod names;
 
 pub use finding::{Fact, Finding};
+
+#[cfg(test)]
+mod tests;
