@@ -24,15 +24,15 @@ empty_list f c next = None
 
 -- ---- values of attributes
 
--- no values (no text in CDL makes such an attribute of another type than char)
+-- no values, which no CDL text gives an attribute of another type than char
 abbrev pub empty_attribute : NumberAt → Option Finding
 empty_attribute count = finding_if (count.number == 0) (finding_at count.index count.offset EmptyAttribute)
 
--- the text of the attribute in CDL lacks the NUL
+-- a NUL at the end, which CDL texts leave out
 abbrev pub trailing_nul : ValuesAt → Option Finding
 trailing_nul values = finding_if values.ends_with_nul (finding_at values.index values.offset TrailingNul)
 
--- of an attribute with this type code; 2 is that of char
+-- at a type code of an attribute; 2 is that of char
 abbrev pub type_finding : Content → Ahead → Option Finding
 type_finding (content.Number code) ahead =
     if code == 2 then option_and_then trailing_nul ahead.values else option_and_then empty_attribute ahead.count
@@ -44,8 +44,8 @@ type_finding c ahead = None
 abbrev pub fill_count : NumberAt → Option Finding
 fill_count count = finding_if (not (count.number == 1)) (finding_at count.index count.offset FillCount)
 
--- Not the type of the variable, or not one value. (By the NetCDF Classic Format Specification a `_FillValue` is one value of the type of its
--- variable.)
+-- Not the type of the variable, or not one value. (By the NetCDF Classic Format Specification a `_FillValue` should be one value of the
+-- type of its variable.)
 abbrev pub fill_finding : Option NumberAt → Option NumberAt → Option NumberAt → Option Finding
 fill_finding (Some type_code) (Some var_type) count =
     if type_code.number == var_type.number
@@ -53,7 +53,7 @@ fill_finding (Some type_code) (Some var_type) count =
     else Some (finding_at type_code.index type_code.offset (FillType var_type.number))
 fill_finding type_code var_type count = None
 
--- of an attribute of a variable, with this name
+-- at a name of an attribute of a variable
 abbrev pub name_finding : Content → Ahead → Option Finding
 name_finding (content.Bytes bytes) ahead =
     if bytes_eq bytes (codes "_FillValue") then fill_finding ahead.type_code ahead.var_type ahead.count else None

@@ -13,7 +13,7 @@ use std::alloc::{AllocError, Global};
 
 /// Returns all findings at the fields of a header, in no order that is promised. Errs only if an allocation fails.
 ///
-/// It takes time in proportion to n log n for n fields, and to the bytes of the names, however many of them are equal.
+/// It takes time in proportion to n log n for n fields, however many names are equal.
 pub(crate) fn header_findings(
     alloc: Global,
     entries: &[Entry],

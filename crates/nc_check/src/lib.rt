@@ -26,3 +26,6 @@ mod whole_header;
 pub use finding::{Fact, Finding};
 pub use kind::{Kind, Severity};
 pub use report::{Report, check};
+
+#[cfg(test)]
+mod tests;
