@@ -1,4 +1,4 @@
-//! Tests of `nc_fields`: the fields that it lists of the headers of files.
+//! Tests of `nc_fields` and `nc_check`: the fields that are listed of the headers of files, and what is found in files.
 #![tactic(auto)]
 
 #[cfg(test)]
@@ -9,3 +9,5 @@ mod headers;
 mod listed;
 #[cfg(test)]
 mod names;
+#[cfg(test)]
+mod reports;
