@@ -40,7 +40,8 @@ made next type_code count var_type other_type other_count other_var values other
 
 pub ahead_with-is : (f : Indexed) (after : List Indexed) → ahead_with f (ahead_of after) ≡ ahead_of (f ∷ after)
 ahead_with-is f after =
-    made (number_at f) _ _ _ _ _ _ _ _ (picked number_at (is_type f) f (find is_type after)) (picked number_at (is_count f) f (find is_count after))
+    made (number_at f) _ _ _ _ _ _ _ _ (picked number_at (is_type f) f (find is_type after))
+    (picked number_at (is_count f) f (find is_count after))
     (picked values_at (is_values f) f (find is_values after)) (picked number_at (is_var_type f) f (find is_var_type after))
 
 -- ---- from the last field to the first

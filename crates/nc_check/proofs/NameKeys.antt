@@ -60,7 +60,8 @@ both Greater b = refl
 
 pub same_key : (a b : LentKey) → is_at (key_cmp a) b ≡ is_same_key (plain a) (plain b)
 same_key a b =
-    both (lists.ghosts.cmp a.0 b.0) (slice_cmp nat_cmp a.1.now b.1.now) ∙ ap (λ x. x && is_eq (slice_cmp nat_cmp a.1.now b.1.now)) (same_list a.0 b.0)
+    both (lists.ghosts.cmp a.0 b.0) (slice_cmp nat_cmp a.1.now b.1.now)
+    ∙ ap (λ x. x && is_eq (slice_cmp nat_cmp a.1.now b.1.now)) (same_list a.0 b.0)
     ∙ ap (λ x. is_same_list a.0 b.0 && x) (is_eq-slice_cmp a.1.now b.1.now)
 
 -- two tests that say the same find the same
@@ -105,7 +106,8 @@ same_keys a b h =
 first_index-push : (key : NameKey) (earlier : List Indexed) (f : Indexed)
     → first_index key (earlier ++ f ∷ []) ≡ option_or (first_index key earlier) (if has_key key f then Some f.index else None)
 first_index-push key earlier f =
-    ap (option_map (λ (g : Indexed). g.index)) (find-append (has_key key) earlier (f ∷ [])) ∙ split (find (has_key key) earlier) (has_key key f)
+    ap (option_map (λ (g : Indexed). g.index)) (find-append (has_key key) earlier (f ∷ []))
+    ∙ split (find (has_key key) earlier) (has_key key f)
   where
     split : (o : Option Indexed) (b : Bool)
         → option_map (λ (g : Indexed). g.index) (option_or o (cond b (Some f) None))

@@ -21,5 +21,6 @@ returns-in_ok-is_nfc-in-Ok c =
 
 pub returns-in-Err : goal.returns-in-Err
 returns-in-Err c =
-    let no : is_utf8 c.args.bytes.now ≡ false = false_from_ne_true _ (λ h. c.in-Err.ensures.cases.0 (IsUtf8-from_is_utf8 c.args.bytes.now h)) in
+    let none = λ (h : is_utf8 c.args.bytes.now ≡ true). c.in-Err.ensures.cases.0 (IsUtf8-from_is_utf8 c.args.bytes.now h) in
+    let no : is_utf8 c.args.bytes.now ≡ false = false_from_ne_true _ none in
     ap (λ t. t && not (is_nfc (chars c.args.bytes.now))) (sym no)

@@ -11,7 +11,8 @@ appended : (a b c d found start one two three : List Finding) → start ≡ [] �
 appended a b c d found start one two three is0 is1 is2 is3 same =
     let first : one ≡ a = is1 ∙ ap (λ (xs : List Finding). xs ++ a) is0 in
     let all : three ≡ a ++ b ++ c = is3 ∙ ap (λ (xs : List Finding). xs ++ c) (is2 ∙ ap (λ (xs : List Finding). xs ++ b) first) in
-    subst (λ (xs : List Finding). IsPermutation (a ++ b ++ c ++ d) (xs ++ found)) (sym all) (IsPermutation-append_right (a ++ b ++ c) d found same)
+    subst (λ (xs : List Finding). IsPermutation (a ++ b ++ c ++ d) (xs ++ found)) (sym all)
+    (IsPermutation-append_right (a ++ b ++ c) d found same)
 
 pub returns : goal.returns
 unfolding header_findings
