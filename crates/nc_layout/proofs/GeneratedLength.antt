@@ -1,12 +1,12 @@
 -- A file in which nothing is found at begins and at its end is as long as a generated one.
 use Rattle.std.proofs.Common.{◌≡◌, ℕ, zero, suc, ◌+◌, ◌*◌, ◌<◌, ◌≤◌, List, [], ◌∷◌, length, map, sum_by, refl, sym, ◌∙◌, ap, arith, length-append}
-use Rattle.std.specs.Prelude.{flat_map}
+use Rattle.std.specs.Prelude.{flat_map, zip}
 use Rattle.std.specs.List.{range_with_len}
 use Rattle.std.proofs.lemmas.List.Sums.{sum-map}
 use Rattle.nc_base.specs.declared.{dataset.Dataset.Dataset, header.Dim.Dim, header.Header.Header, header.NumRecs.NumRecs, header.Var.Var}
 use Rattle.nc_base.specs.declared.header.NumRecs.TheVariants.{Known}
 use Rattle.nc_base.specs.Bytes.{Bytes}
-use Rattle.nc_base.specs.GeneratedFile.{blocks, data_of, file_of, fixed_vars, known_records, record_of, vars_with_begins, with_begins}
+use Rattle.nc_base.specs.GeneratedFile.{block, data_of, file_of, fixed_vars, known_records, record_part, vars_with_begins, with_begins}
 use Rattle.nc_base.specs.GeneratedFile.{is_sole_narrow as is_sole_narrow_var}
 use Rattle.nc_base.specs.Grammar.{header_spelling}
 use Rattle.nc_base.specs.Headers.{AreArrays, bare}
@@ -58,11 +58,12 @@ unfolding data_of
 data-length h arrays n known are =
     let dims = h.dims in
     let is_sole = is_sole_narrow_var (record_vars dims h.vars) in
-    let row : ℕ → List ℕ = λ r. record_of is_sole dims r h.vars arrays in
+    let pairs : List (Var × Bytes) = zip h.vars arrays in
+    let row : ℕ → List ℕ = λ r. flat_map (record_part is_sole dims r) pairs in
     let rows = rows-length row (record_bytes is_sole dims h.vars) 0 n
     (λ r low high. length-record is_sole dims n r h.vars arrays (omega arith) are) in
     let all = ap (λ (m : ℕ). length (flat_map row (range_with_len 0 m))) known in
-    length-append (blocks dims h.vars arrays) (flat_map row (range_with_len 0 (known_records h.numrecs)))
+    length-append (flat_map (block dims) pairs) (flat_map row (range_with_len 0 (known_records h.numrecs)))
     ∙ ap (λ (k : ℕ). k + length (flat_map row (range_with_len 0 (known_records h.numrecs)))) (length-blocks dims n h.vars arrays are)
     ∙ ap (λ (k : ℕ). padded_total dims (fixed_vars dims h.vars) + k)
     (all ∙ rows ∙ ap (λ (k : ℕ). n * k) (sym (record_size_of-slots dims h.vars)))

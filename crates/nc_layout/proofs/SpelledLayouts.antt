@@ -1,6 +1,7 @@
 -- A header that bytes spell, by whatever rules, has a sound layout.
-use Rattle.std.proofs.Common.{◌≡◌, ℕ, zero, suc, ◌+◌, ◌^◌, ◌<◌, ◌≤◌, Bool, true, false, List, [], ◌∷◌, ◌++◌, length, refl, sym, subst, append_assoc, append-nil, arith, ◌&&◌, ◌==◌, if◌then◌else◌, Result, Ok, Err, All}
-use Rattle.std.proofs.lemmas.Bool.{ltb-true, leb-true, eqb-true}
+use Rattle.std.proofs.Common.{◌≡◌, ℕ, zero, suc, ◌+◌, ◌^◌, ◌<◌, ◌≤◌, Bool, true, false, List, [], ◌∷◌, ◌++◌, length, refl, sym, subst, append_assoc, append-nil, arith, ◌==◌, if◌then◌else◌, Result, Ok, Err, All}
+use Rattle.std.proofs.lemmas.Bool.{ltb-true, leb-true}
+use Rattle.std.proofs.lemmas.List.{nil_from_length}
 use Rattle.std.proofs.lemmas.List.Elements.{All-nil, All-cons, All-append, All-map}
 use Rattle.nc_base.specs.declared.{fault.FormatFault.FormatFault, header.Dim.Dim, header.Var.Var, header.Header.Header, version.Version.Version}
 use Rattle.nc_base.specs.Bytes.{Bytes}
@@ -11,6 +12,7 @@ use Rattle.nc_base.specs.Parts.{Part, Spells}
 use Rattle.nc_base.specs.Grammar.{Rules, offset_part, each, counted, list_part, is_dimid, dimid_part, dimid_after, shape_part, is_within_limits, var_part, var_after, var_list, header_by}
 use Rattle.nc_base.proofs.SoundLaws.{some_product, some_count, some_size}
 use Rattle.nc_base.proofs.Printable.{total-append, one-total}
+use Rattle.nc_base.proofs.Tests.{and_parts}
 use Rattle.nc_layout.specs.Findings.{IsSoundSlot, IsSoundLayout}
 use Rattle.nc_layout.specs.HeaderLayout.{slot_of, layout_of}
 use Rattle.nc_layout.proofs.HeaderSlots.{record_slots-total}
@@ -35,12 +37,8 @@ each-keeps element P step (suc n) before from all rest (x, middle, s, t) kept =
 
 -- ---- shapes
 
-length-none : {A : Type 0} (xs : List A) → (length xs == 0) ≡ true → xs ≡ []
-length-none [] e = refl
-length-none (x ∷ xs) e = let none : length (x ∷ xs) ≡ 0 = eqb-true _ _ e in absurd (omega arith)
-
 is-dimid : (dims : List Dim) (before : List ℕ) (id : ℕ) → is_dimid dims (length before == 0) id ≡ true → IsDimid dims before id
-is-dimid dims before id e = grind (arith, length-none)
+is-dimid dims before id e = grind (arith, nil_from_length)
 
 dimid-spelled : (v : Version) (dims : List Dim) (before : List ℕ) (from : Bytes) (id : ℕ) (rest : Bytes)
     → Spells (dimid_after v dims before) from id rest → IsDimid dims before id
@@ -83,14 +81,11 @@ record AreWithinLimits (dims : List Dim) (vars : List Var) : Type 0 where
   slots : All (HasSoundSlot dims) vars
   small_record : padded_total dims (record_vars dims vars) ≤ record_limit
 
-both-true : (a b : Bool) → (a && b) ≡ true → (a ≡ true) × (b ≡ true)
-both-true a b e = grind arith
-
 var-sound : (dims : List Dim) (before : List Var) (var : Var) → AreDimids dims [] var.dimids → var.begin_at < 2 ^ 63
     → is_within_limits dims (padded_total dims (record_vars dims before)) var.dimids var.ty ≡ true
     → HasSoundSlot dims var × (padded_total dims (record_vars dims (before ++ var ∷ [])) ≤ record_limit)
 var-sound dims before var shape begin within =
-    let both = both-true _ _ within in
+    let both = and_parts _ _ within in
     let below = leb-true _ _ both.1 in (
       record {
         some_bytes = some_product _ _ (some_count dims var.dimids shape) (some_size var.ty);

@@ -102,9 +102,10 @@ fn has_slots(layout: &Option<Layout>, slots: Option<&[Slot]>) -> bool {
     }
 }
 
-/// Three int values, and their slot.
+/// Three int values.
 const INTS: Shape<'static> = (&[1], NcType::Int, 100);
 
+/// The slot of [`INTS`].
 const INTS_SLOT: Slot = Slot {
     begin: 100,
     slab: 12,
@@ -112,9 +113,10 @@ const INTS_SLOT: Slot = Slot {
     is_narrow: false,
 };
 
-/// A short value in each record, and its slot.
+/// A short value in each record.
 const SHORT: Shape<'static> = (&[0], NcType::Short, 112);
 
+/// The slot of [`SHORT`].
 const SHORT_SLOT: Slot = Slot {
     begin: 112,
     slab: 2,
@@ -122,9 +124,10 @@ const SHORT_SLOT: Slot = Slot {
     is_narrow: true,
 };
 
-/// Three values of eight bytes in each record, and their slot.
+/// Three values of eight bytes in each record.
 const LONGS: Shape<'static> = (&[0, 1], NcType::Int64, 116);
 
+/// The slot of [`LONGS`].
 const LONGS_SLOT: Slot = Slot {
     begin: 116,
     slab: 24,
