@@ -3,12 +3,6 @@
 //! [`check`] reads a header once, and returns a report: the listing of its fields, and all findings, each at a field or in the data, by
 //! offset. The rules on a field look at the listing (crate `nc_fields`), and the rules on begins, sizes and the length of the file are those
 //! of `nc_layout`. No value is read, so files with floats and doubles can be checked as any others. `specs/` has the definitions.
-//!
-//! ```
-//! let mut file = MemSource::new(b"CDF\x01\0\0\0\0\0\0\0\x0a\0\0\0\0");
-//! let mut buf = [0; 64];
-//! let report = check(alloc, &mut file, &mut buf)?;
-//! ```
 #![tactic(auto)]
 
 mod ahead;
