@@ -5,3 +5,7 @@ pub mod Texts
 pub mod Elements
 pub mod Listed
 pub mod Passed
+pub mod Agreement
+pub mod OddNames
+pub mod AgreeingParts
+pub mod StrictHeaders

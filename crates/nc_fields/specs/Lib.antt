@@ -3,3 +3,4 @@ pub mod Lenient
 pub mod Entries
 pub mod Listings
 pub mod code
+pub mod Agreement

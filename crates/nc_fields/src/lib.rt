@@ -11,6 +11,7 @@ mod dimension;
 mod entry;
 mod fields;
 mod header;
+mod laws;
 mod list;
 mod list_fault;
 mod list_name;
@@ -21,5 +22,6 @@ mod variable;
 
 pub use entry::{Content, Entry};
 pub use header::{Listing, list_fields};
+pub use laws::strict_rules_refuse_fields;
 pub use list_fault::ListFault;
 pub use place::{FieldName, Owner, Place};
