@@ -60,11 +60,11 @@ found_at None fact = record { offset = 0; field = None; fact = fact }
 -- a finding about the layout, at its field
 abbrev pub located : List Indexed → LayoutFinding → Finding
 located fields l = elim l.place [
-    places.NumRecs ↦ found_at (slice_get (named is_numrecs fields) 0) (fact.Layout l.fact)
+  | places.NumRecs ↦ found_at (slice_get (named is_numrecs fields) 0) (fact.Layout l.fact)
   | places.Vsize i ↦ found_at (slice_get (named is_vsize fields) i) (fact.Layout l.fact)
   | places.Begin i ↦ found_at (slice_get (named is_begin fields) i) (fact.Layout l.fact)
   | places.Data offset ↦ record { offset = offset; field = None; fact = fact.Layout l.fact }
-  ]
+]
 
 -- ---- all of them
 

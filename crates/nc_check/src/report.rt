@@ -36,11 +36,7 @@ pub struct Report {
 ///
 /// [`ListFault::ReadFailed`] at once if the source fails, and [`ListFault::OutOfMemory`] at once if an allocation fails. What is wrong with
 /// the file is no error, but a part of the report.
-pub fn check<S: Source>(
-    alloc: Global,
-    source: &mut S,
-    buf: &mut [u8],
-) -> Result<Report, ListFault>
+pub fn check<S: Source>(alloc: Global, source: &mut S, buf: &mut [u8]) -> Result<Report, ListFault>
     requires { 16 ≤ length buf.old }
     ensures bytes { (S.view source.new).bytes ≡ (S.view source.old).bytes }
     ensures cause { Blames (S.view source.old).failures (S.view source.new) result }

@@ -62,11 +62,7 @@ fn vsize_finding(version: Version, padded: u64, vsize: Option<NumberField>) -> O
     if field.number == expected {
         return None;
     }
-    Some(finding_at(
-        field.index,
-        field.offset,
-        Fact::Vsize { expected },
-    ))
+    Some(finding_at(field.index, field.offset, Fact::Vsize { expected }))
 }
 
 /// Appends what is found about the layout, at the fields of the header.

@@ -33,11 +33,11 @@ found_at_number None fact = record { offset = 0; field = None; fact = fact }
 -- a finding about the layout, at its field
 abbrev pub located_number : NumberFields → LayoutFinding → Finding
 located_number ns l = elim l.place [
-    places.NumRecs ↦ found_at_number (slice_get ns.numrecs 0) (fact.Layout l.fact)
+  | places.NumRecs ↦ found_at_number (slice_get ns.numrecs 0) (fact.Layout l.fact)
   | places.Vsize i ↦ found_at_number (slice_get ns.vsizes i) (fact.Layout l.fact)
   | places.Begin i ↦ found_at_number (slice_get ns.begins i) (fact.Layout l.fact)
   | places.Data offset ↦ record { offset = offset; field = None; fact = fact.Layout l.fact }
-  ]
+]
 
 -- what is found of the size of a variable
 abbrev pub vsize_fact : Version → ℕ → Option NumberField → Option Finding
