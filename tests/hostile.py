@@ -8,6 +8,7 @@ Each run has 256 MiB of memory and 5 seconds. Of each answer:
 
 - the status is 0 and standard error is empty, or it is 1 and standard error is one line that names the file and a fault;
 - no dump begins where the header has a fault; where data are cut short the text is a prefix of that of the whole file;
+- a check of the file finds the fault of a dump first, missing values where data are cut short, and none of both where all is printed;
 - a refused text leaves no output, and the line that its fault names is one of the text;
 - what is generated is dumped; what is generated from that dump is dumped and generated once more, byte for byte;
 - a text whose rows pass the limit on an array is too large, however few strings it has;
@@ -28,7 +29,9 @@ from pathlib import Path
 
 from datasets import Datasets
 
-BIN = Path(__file__).resolve().parent.parent / "bin"
+TOP = Path(__file__).resolve().parent.parent
+BIN = TOP / "bin"
+CHECK = TOP / "crates/example_check/out/example_check"
 MEMORY = 256 << 20
 SECONDS = 5
 # how many cases one seed's dataset gives
@@ -37,6 +40,21 @@ HEADER_FAULT = re.compile(
     rb"not a netCDF classic file|unknown version \d+|header truncated|bad (tag|count|name|type|shape|offset)|floating type"
     rb"|two record dimensions|too large"
 )
+# the kinds of findings that are faults of a header, by the words for the fault
+KINDS = {
+    b"not a netCDF classic file": b"NotNetcdf",
+    b"unknown version": b"UnknownVersion",
+    b"header truncated": b"HeaderTruncated",
+    b"bad tag": b"BadTag",
+    b"bad count": b"BadCount",
+    b"bad name": b"BadName",
+    b"bad type": b"BadType",
+    b"bad shape": b"BadShape",
+    b"bad offset": b"BadOffset",
+    b"floating type": b"FloatingType",
+    b"two record dimensions": b"TwoRecordDims",
+    b"too large": b"TooLarge",
+}
 DATA_FAULT = re.compile(rb"variable \d+: data truncated at value \d+")
 NAME_FAULT = re.compile(rb"no such variable: item \d+ of -v")
 TEXT_FAULT = re.compile(
@@ -123,12 +141,24 @@ class Cases:
             options += ["-v", pick.choice(["nope", "x,y", "a"])]
         return options
 
+    def check(self, fault):
+        """The check of a file finds what a dump of all has found."""
+        kinds = [line.split()[1] for line in run(CHECK, "case.nc").stdout.splitlines()]
+        faults = [kind for kind in kinds if kind in KINDS.values()]
+        wanted = KINDS.get(re.sub(rb" \d+$", b"", fault))
+        if faults[:1] != ([wanted] if wanted else []):
+            raise Broken(f"a dump has the fault {fault!r}, and a check finds {faults}")
+        if (b"Missing" in kinds) != bool(DATA_FAULT.fullmatch(fault)):
+            raise Broken(f"a dump has the fault {fault!r}, and a check finds {kinds}")
+
     def dumped(self, some, options):
         Path("case.nc").write_bytes(some)
         ran = run(BIN / "ncdump", *options, "case.nc")
-        if ran.returncode == 0:
-            return ran.stdout, b""
-        fault = fault_of("ncdump", "case.nc", ran)
+        fault = b"" if ran.returncode == 0 else fault_of("ncdump", "case.nc", ran)
+        if not {"-h", "-c", "-v"} & set(options):
+            self.check(fault)
+        if not fault:
+            return ran.stdout, fault
         if not any(kind.fullmatch(fault) for kind in (HEADER_FAULT, DATA_FAULT, NAME_FAULT)):
             raise Broken(f"the fault of a file is {fault!r}")
         if ran.stdout and not DATA_FAULT.fullmatch(fault):

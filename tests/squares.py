@@ -3,8 +3,8 @@
 
     tests/squares.py
 
-Each text is generated, and each file that is made so is dumped, with n parts and with 4n. The processor time for 4n has to keep a
-bound, far above what it takes, and to be less than 8 times that for n, or than 8 times FLOOR. A time that grows in step with the parts
+Each text is generated, and each file that is made so is dumped, with n parts and with 4n. Headers with many parts, most of them with as
+many findings, are checked by the program of crates/example_check. The processor time for 4n has to keep a bound, far above what it takes, and to be less than 8 times that for n, or than 8 times FLOOR. A time that grows in step with the parts
 is 4 times as long, and one that grows with their square 16 times. The last line is 'N passed, M failed'.
 """
 
@@ -16,7 +16,9 @@ import sys
 import tempfile
 from pathlib import Path
 
-BIN = Path(__file__).resolve().parent.parent / "bin"
+TOP = Path(__file__).resolve().parent.parent
+BIN = TOP / "bin"
+CHECK = TOP / "crates/example_check/out/example_check"
 # seconds of processor time; a run that took less counts as this
 FLOOR = 0.01
 # how often each time is taken; the least counts
@@ -211,6 +213,74 @@ KINDS = {
     name_of_an_attribute: (250_000, 1, 1),
     name_of_escapes: (250_000, 1, 1),
 }
+
+
+# ---- files that are checked
+
+
+def number(value):
+    return value.to_bytes(4, "big")
+
+
+def padded(text):
+    return text + bytes(-len(text) % 4)
+
+
+def named(text):
+    return number(len(text)) + padded(text)
+
+
+def list_of(tag, elements):
+    return number(tag if elements else 0) + number(len(elements)) + b"".join(elements)
+
+
+def dimension(text, length):
+    return named(text) + number(length)
+
+
+def attribute(text, code):
+    """An attribute with one value of four bytes."""
+    return named(text) + number(code) + number(1) + number(0)
+
+
+def variable(text, dim, begin, atts=()):
+    """A variable of type byte with this dimension, and its size."""
+    return named(text) + number(1) + number(dim) + list_of(12, atts) + number(1) + number(4) + number(begin)
+
+
+def header(dims, variables=()):
+    return b"CDF\1" + number(0) + list_of(10, dims) + list_of(12, ()) + list_of(11, variables)
+
+
+def one_name(n):
+    return header([dimension(b"d", 2)] * n)
+
+
+def fill_values_of_a_variable(n):
+    return header([dimension(b"x", 4)], [variable(b"v", 0, 0, [attribute(b"_FillValue", 4)] * n)])
+
+
+def variables_at(begin_of, length):
+    """A file of n variables, each of which begins where the function says, if the header ends there."""
+
+    def made(n):
+        dims = [dimension(b"x", length), dimension(b"y", 16 * n)]
+        end = len(header(dims, [variable(b"%08d" % i, 0, 0) for i in range(n)]))
+        return header(dims, [variable(b"%08d" % i, int(i == 0 and length > 0), begin_of(end, i, n)) for i in range(n)]) + bytes(16 * n)
+
+    return made
+
+
+# what has many parts, n, and the seconds that checking 4n parts may take
+CHECKED = {
+    "dimensions of one name": (one_name, 10_000, 2),
+    "fill values of one variable": (fill_values_of_a_variable, 10_000, 3),
+    "variables one after the other": (variables_at(lambda end, i, n: end + 4 * i, 4), 10_000, 3),
+    "variables within the first": (variables_at(lambda end, i, n: end + 8 * i, 4), 10_000, 3),
+    "variables in the other order": (variables_at(lambda end, i, n: end + 4 * (n - i), 4), 10_000, 3),
+    "variables at one place": (variables_at(lambda end, i, n: end, 4), 10_000, 3),
+    "record variables in the other order": (variables_at(lambda end, i, n: end + 4 * (n - i), 0), 10_000, 3),
+}
 # the words of a dump, if they are more than the path
 WORDS = {named_variables: all_names}
 
@@ -273,19 +343,38 @@ def times(kind):
     return f"{generated} generated, {compared(few[1], many[1], to_dump)} dumped"
 
 
+def checked(kind):
+    """The times in which the files of n parts and of 4n are checked."""
+    build, n, seconds = CHECKED[kind]
+
+    def taken(parts):
+        Path("many.nc").write_bytes(build(parts))
+        return least_time(seconds, CHECK, "many.nc")
+
+    return compared(taken(n), taken(4 * n), seconds) + " checked"
+
+
+def verdicts():
+    """What is tried, and what says how long it took."""
+    for kind in KINDS:
+        yield kind.__name__, lambda kind=kind: times(kind)
+    for kind in CHECKED:
+        yield kind, lambda kind=kind: checked(kind)
+
+
 def main():
-    failed = 0
+    passed = failed = 0
     with tempfile.TemporaryDirectory() as folder:
         os.chdir(folder)
-        for kind in KINDS:
-            what = kind.__name__
+        for what, said in verdicts():
             try:
-                print(f"ok {what}: {times(kind)}")
+                print(f"ok {what}: {said()}")
+                passed += 1
             except Broken as why:
                 failed += 1
                 print(f"FAILED {what}: {why}")
         os.chdir("/")
-    print(f"{len(KINDS) - failed} passed, {failed} failed")
+    print(f"{passed} passed, {failed} failed")
     return 1 if failed else 0
 
 
