@@ -260,13 +260,13 @@ def fill_values_of_a_variable(n):
     return header([dimension(b"x", 4)], [variable(b"v", 0, 0, [attribute(b"_FillValue", 4)] * n)])
 
 
-def variables_at(begin_of, length):
+def variables_at(begin_of, length, first_is_long=False):
     """A file of n variables, each of which begins where the function says, if the header ends there."""
 
     def made(n):
         dims = [dimension(b"x", length), dimension(b"y", 16 * n)]
         end = len(header(dims, [variable(b"%08d" % i, 0, 0) for i in range(n)]))
-        return header(dims, [variable(b"%08d" % i, int(i == 0 and length > 0), begin_of(end, i, n)) for i in range(n)]) + bytes(16 * n)
+        return header(dims, [variable(b"%08d" % i, int(first_is_long and i == 0), begin_of(end, i, n)) for i in range(n)]) + bytes(16 * n)
 
     return made
 
@@ -276,7 +276,7 @@ CHECKED = {
     "dimensions of one name": (one_name, 10_000, 2),
     "fill values of one variable": (fill_values_of_a_variable, 10_000, 3),
     "variables one after the other": (variables_at(lambda end, i, n: end + 4 * i, 4), 10_000, 3),
-    "variables within the first": (variables_at(lambda end, i, n: end + 8 * i, 4), 10_000, 3),
+    "variables within the first": (variables_at(lambda end, i, n: end + 8 * i, 4, True), 10_000, 3),
     "variables in the other order": (variables_at(lambda end, i, n: end + 4 * (n - i), 4), 10_000, 3),
     "variables at one place": (variables_at(lambda end, i, n: end, 4), 10_000, 3),
     "record variables in the other order": (variables_at(lambda end, i, n: end + 4 * (n - i), 0), 10_000, 3),
