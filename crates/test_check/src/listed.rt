@@ -107,12 +107,12 @@ fn ends_with(entries: &Sequence<Entry>, count: usize, field: &Field, fault: Form
 }
 
 /// The offset at which reading stops with this field.
-fn end_of(field: &Field, file_len: u64) -> u64 {
+fn end_of(field: &Field, file_len: u64) -> u128 {
     let (_, _, offset, size, want) = *field;
     if want == Want::Cut {
-        file_len
+        file_len as u128
     } else {
-        offset.saturating_add(size as u64)
+        size.saturating_add(offset as u128)
     }
 }
 
@@ -129,7 +129,7 @@ pub fn stops_at(
             Err(found) => {
                 *found == fault
                     && ends_with(&listing.entries, count, field, fault)
-                    && listing.end == end_of(field, listing.file_len)
+                    && listing.end as u128 == end_of(field, listing.file_len)
             }
         },
         Err(_) => false,
