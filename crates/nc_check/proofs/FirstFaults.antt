@@ -1,5 +1,5 @@
 -- The first fault of a report is that of the first entry that the strict rules refuse.
-use Rattle.std.proofs.Common.{◌≡◌, ℕ, zero, suc, ◌+◌, ◌≤◌, ◌⊎◌, inl, inr, Bool, true, false, cond, List, [], ◌∷◌, ◌++◌, length, map, flat_map, find, Option, Some, None, refl, sym, ap, ◌∙◌, subst, arith, le_refl}
+use Rattle.std.proofs.Common.{◌-◌, min, ◌≡◌, ℕ, zero, suc, ◌+◌, ◌≤◌, ◌⊎◌, inl, inr, Bool, true, false, cond, List, [], ◌∷◌, ◌++◌, length, map, flat_map, find, Option, Some, None, refl, sym, ap, ◌∙◌, subst, arith, le_refl}
 use Rattle.std.specs.List.{All, Contains}
 use Rattle.std.specs.Option.{option_to_list, option_map}
 use Rattle.std.proofs.lemmas.List.Elements.{All-cons, All-contains, Contains-append_left, Contains-append_right, Contains-append_cases}
@@ -7,11 +7,12 @@ use Rattle.std.proofs.lemmas.List.Sorted.{Contains-permutation, All-permutation}
 use Rattle.nc_base.specs.declared.{fault.FormatFault.FormatFault}
 use Rattle.nc_base.specs.declared.fault.FormatFault.TheVariants.{FloatingType}
 use Rattle.nc_base.specs.Bytes.{Bytes}
-use Rattle.nc_base.specs.Grammar.{header_by}
+use Rattle.nc_base.specs.Grammar.{header_part, header_by}
 use Rattle.nc_base.specs.code.PartRuns.{left_after, run}
 use Rattle.nc_fields.specs.declared.{entry.Entry.Entry, header.Listing.Listing}
 use Rattle.nc_fields.specs.Lenient.{lenient}
 use Rattle.nc_fields.specs.Agreement.{first_refusal, header_fields}
+use Rattle.nc_base.proofs.PartPlaces.{stops-in}
 use Rattle.nc_fields.proofs.FieldOrder.{fields-descend}
 use Rattle.nc_fields.proofs.StrictHeaders.{strict-headers, unrefused-headers, strict-faults}
 use Rattle.nc_check.specs.declared.{finding.Fact.Fact, finding.Finding.Finding, report.Report.Report}
@@ -82,15 +83,15 @@ finds-floating i (x ∷ front) e back none is =
     (finds-floating (i + 1) front e back (λ y has. none y (Contains-append_right (x ∷ []) front y has)) is)
 
 -- of those at fields alone, or of the one at a floating type
-finds-shown : (es : List Entry) (fault : FormatFault) (r : FirstRefused es fault)
+finds-shown : (len : ℕ) (es : List Entry) (fault : FormatFault) (rest : Bytes) (r : FirstRefused len es fault rest)
     → ShowsFault r.entry.place.name r.entry.content r.entry.fault fault
     → Finds (field_findings (indexed es) ++ floating_findings (indexed es)) fault r.entry.offset
 unfolding field_findings floating_findings
-finds-shown es fault r (inl has) =
+finds-shown len es fault rest r (inl has) =
     finds-left (flat_map findings_at (indexed es)) (option_to_list (floating_finding (indexed es)))
     (subst (λ es. Finds (flat_map findings_at (indexed es)) fault r.entry.offset) (sym r.is)
     (finds-field 0 r.front r.entry r.back fault has))
-finds-shown es fault r (inr (is, same)) =
+finds-shown len es fault rest r (inr (is, same)) =
     finds-right (flat_map findings_at (indexed es)) (option_to_list (floating_finding (indexed es)))
     (subst (λ f. Finds (option_to_list (floating_finding (indexed es))) f r.entry.offset) (sym same)
     (subst (λ es. Finds (option_to_list (floating_finding (indexed es))) FloatingType r.entry.offset) (sym r.is)
@@ -108,9 +109,9 @@ finds-among_all l fault offset f =
 
 -- ---- no fault before it
 
-after-first : (es : List Entry) (fault : FormatFault) (r : FirstRefused es fault) (x : Entry) → Contains es x
-    → RefusedLiesAt (λ n. r.entry.offset ≤ n) x
-after-first es fault r x has = by-cases (Contains-append_cases r.front (r.entry ∷ r.back) x (subst (λ es. Contains es x) r.is has))
+after-first : (len : ℕ) (es : List Entry) (fault : FormatFault) (rest : Bytes) (r : FirstRefused len es fault rest) (x : Entry)
+    → Contains es x → RefusedLiesAt (λ n. r.entry.offset ≤ n) x
+after-first len es fault rest r x has = by-cases (Contains-append_cases r.front (r.entry ∷ r.back) x (subst (λ es. Contains es x) r.is has))
   where
     by-cases : Contains r.front x ⊎ Contains (r.entry ∷ r.back) x → RefusedLiesAt (λ n. r.entry.offset ≤ n) x
     by-cases (inl before) = inl (All-contains (λ (e : Entry). refusal_of e ≡ None) r.front x r.before before)
@@ -121,39 +122,55 @@ after-first es fault r x has = by-cases (Contains-append_cases r.front (r.entry 
 -- ---- the laws
 
 refused-first : (bytes : Bytes) (r : Report) (fault : FormatFault) (rest : Bytes) → IsReport bytes r
-    → first_refusal (header_fields bytes) ≡ Some (fault, rest)
-    → FirstRefused r.listing.entries fault
+    → first_refusal (header_fields bytes) ≡ Some (fault, rest) → FirstRefused (length bytes) r.listing.entries fault rest
 refused-first bytes r fault rest report refused =
     first-refused (length bytes) (length bytes) (left_after (run (header_by lenient) bytes))
     (header_fields bytes) r.listing.entries fault rest report.listing.entries
-    (fields-descend [] (header_by lenient) bytes) refused
+    (le_refl (length bytes)) (fields-descend [] (header_by lenient) bytes) refused
 
-finds-first : (bytes : Bytes) (r : Report) (fault : FormatFault) → IsReport bytes r → FirstRefused r.listing.entries fault
-    → FindsFirst r fault
-finds-first bytes r fault report first =
-    let shown = finds-shown r.listing.entries fault first (refused-shown first.entry fault first.refused) in
+-- where an entry ends
+end-of : (len end offset size left : ℕ) → end + left ≡ len → offset ≤ len → left ≡ len - offset - size → end ≡ min (offset + size) len
+end-of len end offset size left at within is = grind arith
+
+finds-first : (bytes : Bytes) (r : Report) (fault : FormatFault) (rest : Bytes) (end : ℕ) → IsReport bytes r
+    → FirstRefused (length bytes) r.listing.entries fault rest → end + length rest ≡ length bytes → FindsFirst r fault end
+finds-first bytes r fault rest end report first at =
+    let entries = r.listing.entries in
+    let low = λ (n : ℕ). first.entry.offset ≤ n in
+    let shown = finds-shown (length bytes) entries fault rest first (refused-shown first.entry fault first.refused) in
     let found = finds-among_all r.listing fault first.entry.offset shown in
+    let ended = end-of (length bytes) end first.entry.offset first.entry.size (length rest) at first.ends.within first.ends.left in
     record {
       found = found.finding;
       in_report = Contains-permutation (all_findings r.listing) r.findings found.finding report.all found.has;
       fact = found.is;
       first = subst (λ n. All (λ (f : Finding). is_fault f.fact ≡ true → n ≤ f.offset) r.findings) (sym found.at)
-          (All-permutation (FaultsLieAt (λ n. first.entry.offset ≤ n)) (all_findings r.listing) r.findings report.all
-          (all-lie (λ n. first.entry.offset ≤ n) r.listing (after-first r.listing.entries fault first)));
+          (All-permutation (FaultsLieAt low) (all_findings r.listing) r.findings report.all
+          (all-lie low r.listing (after-first (length bytes) entries fault rest first)));
+      field = first.entry;
+      in_listing = subst (λ (es : List Entry). Contains es first.entry) (sym first.is)
+          (Contains-append_right first.front (first.entry ∷ first.back) first.entry (contains-first first.entry first.back));
+      begins = found.at;
+      ends = subst (λ n. end ≡ min (first.entry.offset + first.entry.size) n) (sym report.listing.file_len) ended;
     }
 
 pub first-fault : FirstFaultIsReaders
-first-fault bytes r fault rest report stopped =
-    finds-first bytes r fault report (refused-first bytes r fault rest report ((strict-faults bytes fault rest).0 stopped))
+first-fault bytes r fault end report stop =
+    let stopped = (stops-in header_part bytes stop.steps stop.from_start fault stop.rest stop.stops).0 in
+    finds-first bytes r fault stop.rest end report
+    (refused-first bytes r fault stop.rest report ((strict-faults bytes fault stop.rest).0 stopped)) stop.ends
 
 -- a report without a fault
 readable : (bytes : Bytes) (r : Report) → IsReport bytes r → HasNoFault r → (o : Option (FormatFault × Bytes))
     → first_refusal (header_fields bytes) ≡ o → IsReadable bytes
 readable bytes r report none None is = unrefused-headers bytes is
 readable bytes r report none (Some (fault, rest)) is =
-    let first = finds-first bytes r fault report (refused-first bytes r fault rest report is) in
-    let quiet = All-contains (λ (f : Finding). is_fault f.fact ≡ false) r.findings first.found none first.in_report in
-    absurd (let never : true ≡ false = sym (ap is_fault first.fact) ∙ quiet in cc)
+    let refused = refused-first bytes r fault rest report is in
+    let shown = finds-shown (length bytes) r.listing.entries fault rest refused (refused-shown refused.entry fault refused.refused) in
+    let found = finds-among_all r.listing fault refused.entry.offset shown in
+    let has = Contains-permutation (all_findings r.listing) r.findings found.finding report.all found.has in
+    let quiet = All-contains (λ (f : Finding). is_fault f.fact ≡ false) r.findings found.finding none has in
+    absurd (let never : true ≡ false = sym (ap is_fault found.is) ∙ quiet in cc)
 
 not-true : (b : Bool) → (b ≡ true → ⊥) → b ≡ false
 not-true true never = absurd (never refl)

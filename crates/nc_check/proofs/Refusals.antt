@@ -1,6 +1,7 @@
 -- The first entry of a listing that the strict rules refuse.
-use Rattle.std.proofs.Common.{◌≡◌, ℕ, ◌-◌, ◌≤◌, Bool, true, false, cond, nat_lt, List, [], ◌∷◌, ◌++◌, length, map, take, drop, Option, Some, None, refl, sym, ap, ◌∙◌, subst, arith}
+use Rattle.std.proofs.Common.{le_trans, ◌≡◌, ℕ, ◌-◌, ◌≤◌, Bool, true, false, cond, nat_lt, List, [], ◌∷◌, ◌++◌, length, map, take, drop, Option, Some, None, refl, sym, ap, ◌∙◌, subst, arith}
 use Rattle.std.specs.List.{All}
+use Rattle.std.proofs.lemmas.List.{length-drop}
 use Rattle.std.proofs.lemmas.List.Elements.{All-nil, All-cons}
 use Rattle.nc_base.specs.declared.fault.FormatFault.{FormatFault}
 use Rattle.nc_base.specs.Bytes.{Bytes}
@@ -77,8 +78,13 @@ later len top bottom (f ∷ fs) (e ∷ es) is d =
     below : {n low high : ℕ} → len - low ≤ n → low ≤ high → len - high ≤ n
     below a b = omega (arith, a, b)
 
+-- the rest after an entry, in a file of this length, which may end inside of it
+pub record Ends (len : ℕ) (e : Entry) (rest : Bytes) : Type 0 where
+  pub within : e.offset ≤ len
+  pub left : length rest ≡ len - e.offset - e.size
+
 -- the first entry that is refused, those before it, and those after it, which don't begin before it
-pub record FirstRefused (es : List Entry) (fault : FormatFault) : Type 0 where
+pub record FirstRefused (len : ℕ) (es : List Entry) (fault : FormatFault) (rest : Bytes) : Type 0 where
   pub front : List Entry
   pub entry : Entry
   pub back : List Entry
@@ -86,9 +92,11 @@ pub record FirstRefused (es : List Entry) (fault : FormatFault) : Type 0 where
   pub before : All (λ (e : Entry). refusal_of e ≡ None) front
   pub refused : refusal_of entry ≡ Some fault
   pub after : All (λ (e : Entry). entry.offset ≤ e.offset) back
+  pub ends : Ends len entry rest
 
-one-more : (e : Entry) (es : List Entry) (fault : FormatFault) → refusal_of e ≡ None → FirstRefused es fault → FirstRefused (e ∷ es) fault
-one-more e es fault none r = record {
+one-more : {len : ℕ} {es : List Entry} {fault : FormatFault} {rest : Bytes} (e : Entry) → refusal_of e ≡ None
+    → FirstRefused len es fault rest → FirstRefused len (e ∷ es) fault rest
+one-more e none r = record {
   front = e ∷ r.front;
   entry = r.entry;
   back = r.back;
@@ -96,11 +104,12 @@ one-more e es fault none r = record {
   before = All-cons (λ (e : Entry). refusal_of e ≡ None) e r.front none r.before;
   refused = r.refused;
   after = r.after;
+  ends = r.ends;
 }
 
-here : (e : Entry) (es : List Entry) (fault : FormatFault) → refusal_of e ≡ Some fault → All (λ (x : Entry). e.offset ≤ x.offset) es
-    → FirstRefused (e ∷ es) fault
-here e es fault refused after = record {
+here : {len : ℕ} {fault : FormatFault} {rest : Bytes} (e : Entry) (es : List Entry) → refusal_of e ≡ Some fault
+    → All (λ (x : Entry). e.offset ≤ x.offset) es → Ends len e rest → FirstRefused len (e ∷ es) fault rest
+here e es refused after ends = record {
   front = [];
   entry = e;
   back = es;
@@ -108,26 +117,39 @@ here e es fault refused after = record {
   before = All-nil (λ (e : Entry). refusal_of e ≡ None);
   refused = refused;
   after = after;
+  ends = ends;
 }
 
-by-refusal : (f : Field) (e : Entry) (es : List Entry) (fault : FormatFault) (rest : Bytes) (o : Option FormatFault)
-    (others : Option (FormatFault × Bytes))
-    → refusal_of e ≡ o → first_of f o others ≡ Some (fault, rest) → All (λ (x : Entry). e.offset ≤ x.offset) es
-    → (others ≡ Some (fault, rest) → FirstRefused es fault) → FirstRefused (e ∷ es) fault
-by-refusal f e es fault rest (Some found) others is refused after go =
+same-size : (len : ℕ) (f : Field) (e : Entry) → seen_by e ≡ seen len f → e.size ≡ f.size
+unfolding seen
+same-size len f e is = ap (λ (s : Seen). s.size) is
+
+ends-at : (len : ℕ) (f : Field) (e : Entry) → seen_by e ≡ seen len f → length f.start ≤ len → Ends len e (drop f.size f.start)
+ends-at len f e is within =
+    let offset = same-offset len f e is in
+    let size = same-size len f e is in
+    record { within = omega (arith, offset); left = omega (arith, offset, size, within, length-drop f.size f.start) }
+
+by-refusal : (len : ℕ) (f : Field) (e : Entry) (es : List Entry) (fault : FormatFault) (rest : Bytes) (o : Option FormatFault)
+    (others : Option (FormatFault × Bytes)) → refusal_of e ≡ o → first_of f o others ≡ Some (fault, rest)
+    → All (λ (x : Entry). e.offset ≤ x.offset) es → Ends len e (drop f.size f.start)
+    → (others ≡ Some (fault, rest) → FirstRefused len es fault rest) → FirstRefused len (e ∷ es) fault rest
+by-refusal len f e es fault rest (Some found) others is refused after ends go =
     let pair : (found, drop f.size f.start) ≡ (fault, rest) = cc in
-    here e es fault (is ∙ ap (λ (p : FormatFault × Bytes). Some (p.0)) pair) after
-by-refusal f e es fault rest None others is refused after go = one-more e es fault is (go refused)
+    here e es (is ∙ ap (λ (p : FormatFault × Bytes). Some (p.0)) pair) after
+    (subst (Ends len e) (ap (λ (p : FormatFault × Bytes). p.1) pair) ends)
+by-refusal len f e es fault rest None others is refused after ends go = one-more e is (go refused)
 
 pub first-refused : (len top bottom : ℕ) (fs : List Field) (es : List Entry) (fault : FormatFault) (rest : Bytes) → AreEntriesOf len fs es
-    → Descend top bottom fs
-    → first_refusal fs ≡ Some (fault, rest) → FirstRefused es fault
-first-refused len top bottom [] es fault rest is d refused = absurd cc
-first-refused len top bottom (f ∷ fs) [] fault rest is d refused = absurd cc
-first-refused len top bottom (f ∷ fs) (e ∷ es) fault rest is d refused =
+    → top ≤ len → Descend top bottom fs → first_refusal fs ≡ Some (fault, rest) → FirstRefused len es fault rest
+first-refused len top bottom [] es fault rest is le d refused = absurd cc
+first-refused len top bottom (f ∷ fs) [] fault rest is le d refused = absurd cc
+first-refused len top bottom (f ∷ fs) (e ∷ es) fault rest is le d refused =
     let same = first-same len f fs e es is in
     let others = others-same len f fs e es is in
-    by-refusal f e es fault rest (refusal f) (first_refusal fs) (same-refusal len f e same) refused
+    let within = le_trans d.0 le in
+    by-refusal len f e es fault rest (refusal f) (first_refusal fs) (same-refusal len f e same) refused
     (subst (λ n. All (λ (x : Entry). n ≤ x.offset) es) (sym (same-offset len f e same))
     (later len (length f.start) bottom fs es others d.1))
-    (first-refused len (length f.start) bottom fs es fault rest others d.1)
+    (ends-at len f e same within)
+    (first-refused len (length f.start) bottom fs es fault rest others within d.1)
