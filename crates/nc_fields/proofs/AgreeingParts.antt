@@ -1,5 +1,5 @@
 -- The parts of a header agree by the strict and the lenient rules, up to the first field that the strict rules refuse.
-use Rattle.std.proofs.Common.{◌≡◌, ℕ, ◌*◌, ◌==◌, ◌||◌, ◌&&◌, not, Bool, true, false, List, [], ◌∷◌, length, map, Option, Some, Result, Ok, Err, refl, sym, ◌∙◌, subst, arith, replicate, nat_lt, codes, if◌then◌else◌}
+use Rattle.std.proofs.Common.{◌≡◌, ℕ, ◌*◌, ◌==◌, ◌||◌, ◌&&◌, not, Bool, true, false, List, [], ◌∷◌, length, map, Option, Some, None, Result, Ok, Err, refl, sym, ◌∙◌, subst, arith, replicate, nat_lt, codes, if◌then◌else◌}
 use Rattle.std.specs.Int.{Width, byte_len, from_be_bytes, to_be_bytes, w32}
 use Rattle.std.specs.Str.{bytes_eq}
 use Rattle.nc_base.specs.declared.{fault.FormatFault.FormatFault, header.Dim.Dim, header.Var.Var, nc_type.NcType.NcType, version.Version.Version}
@@ -13,8 +13,9 @@ use Rattle.nc_base.specs.Sizes.{has_record_dim, padded_total, record_vars}
 use Rattle.nc_base.specs.Parts.{Step, Part, bytes, decoded, Magic, VersionByte, Records, Dims, Gatts, Vars, Tag, Count, Item, Name, Length, Text, Padding, TypeCode, Values, Shape, Atts, Vsize, Begin}
 use Rattle.nc_base.specs.Grammar.{strict, checked, type_in, version_in, numrecs_in, number_of_numrecs, is_dimid, is_within_limits, dimension_tag, attribute_tag, variable_tag, dim_after, att_after, dimid_after, var_after}
 unfoldable use Rattle.nc_base.specs.Grammar.{number, count_part, offset_part, ignored, name_part, type_part, counted, list_head, list_part, dim_part, dim_list, att_part, att_list, dimid_part, shape_part, var_part, var_list, version_part, magic_part, numrecs_part, header_by}
+use Rattle.nc_fields.specs.declared.entry.Content.TheVariants as content
 use Rattle.nc_fields.specs.Lenient.{lenient, may_be_name, sized_type_in}
-use Rattle.nc_fields.specs.Agreement.{att_without_values, var_without_values, without_values}
+use Rattle.nc_fields.specs.Agreement.{refusal_in, att_without_values, var_without_values, without_values}
 use Rattle.nc_base.proofs.Printable.{total-append, one-total}
 use Rattle.nc_fields.proofs.Prelude.{judged_then}
 use Rattle.nc_fields.proofs.Checks.{IsJudged, itself, raw-bytes, decoded-judged}
@@ -88,9 +89,9 @@ agree-magic : (steps : List Step) → Agree (λ v. v) steps magic_part magic_par
 unfolding magic_part
 agree-magic steps =
     agree-chain
-    (agree-under Magic (agree-plain (λ bs fault. refl)
+    (agree-under Magic (agree-plain (λ n bs fault. refl)
     (then-judged (λ letters. if bytes_eq letters (codes "CDF") then Ok letters else Err NotNetcdf) (λ bs. bs) (bytes-judged 3 NotNetcdf))))
-    (λ letters. agree-under VersionByte (agree-version _ (λ bs fault. refl)))
+    (λ letters. agree-under VersionByte (agree-version _ (λ n bs fault. refl)))
 
 -- ---- names and types
 
@@ -98,11 +99,22 @@ agree-magic steps =
 abbrev judge_name : Bool → Bytes → Result Bytes FormatFault
 judge_name test bs = if test then Ok bs else Err BadName
 
+abbrev name_refusal : Bool → Option FormatFault → Option FormatFault
+name_refusal test None = if test then None else Some BadName
+name_refusal test fault = fault
+
 text-judges : (bs : Bytes) (is may : Bool) → is_name bs ≡ is → may_be_name bs ≡ may
-    → Judges (λ x. x) (judge_name is bs) (judge_name may bs) (if is then fault_of (judge_name may bs) else Some BadName)
+    → Judges (λ x. x) (judge_name is bs) (judge_name may bs) (name_refusal is (fault_of (judge_name may bs)))
 text-judges bs true true e d = (refl, refl)
 text-judges bs true false e d = let may = name-may-be bs e in absurd cc
-text-judges bs false may e d = refl
+text-judges bs false true e d = refl
+text-judges bs false false e d = refl
+
+-- what the strict rules make of a name
+same-refusal : (bs : Bytes) (steps : List Step) (fault : Option FormatFault)
+    → name_refusal (is_name bs) fault ≡ refusal_in (content.Bytes bs) (Text ∷ steps) fault
+same-refusal bs steps None = refl
+same-refusal bs steps (Some fault) = refl
 
 agree-text : (n : ℕ) (steps : List Step)
     → Agree (λ text. text) (Text ∷ steps) (checked is_name BadName (bytes n HeaderTruncated))
@@ -111,14 +123,17 @@ agree-text n steps =
     agree-field (λ text. text) (Text ∷ steps) n HeaderTruncated _ _ _ _
     (then-judged (λ bs. judge_name (is_name bs) bs) (λ bs. bs) (bytes-judged n HeaderTruncated))
     (then-judged (λ bs. judge_name (may_be_name bs) bs) (λ bs. bs) (bytes-judged n HeaderTruncated))
-    (λ bs. text-judges bs (is_name bs) (may_be_name bs) refl refl)
+    (λ bs.
+    subst (Judges (λ text. text) (judge_name (is_name bs) bs) (judge_name (may_be_name bs) bs))
+    (same-refusal bs steps (fault_of (judge_name (may_be_name bs) bs)))
+    (text-judges bs (is_name bs) (may_be_name bs) refl refl))
 
 pub agree-name : (v : Version) (steps : List Step) → Agree (λ text. text) steps (name_part strict v) (name_part lenient v)
 unfolding name_part
 agree-name v steps =
-    agree-chain (agree-under Length (agree-count v _ (λ bs fault. refl)))
+    agree-chain (agree-under Length (agree-count v _ (λ n bs fault. refl)))
     (λ n. agree-chain (agree-under Text (agree-text n steps))
-    (λ text. agree-chain (agree-under Padding (agree-ignored (padding_len n) _ (λ bs fault. refl)))
+    (λ text. agree-chain (agree-under Padding (agree-ignored (padding_len n) _ (λ n bs fault. refl)))
     (λ padding. agree-done refl)))
 
 -- the type with a code, after a test of the type
@@ -176,8 +191,8 @@ agree-tested_type v test steps =
 agree-list_head : (v : Version) (tag : ℕ) (steps : List Step) → Agree (λ n. n) steps (list_head v tag) (list_head v tag)
 unfolding list_head
 agree-list_head v tag steps =
-    agree-chain (agree-under Tag (agree-plain (λ bs fault. refl) (tested-judged w32 (λ t. (t == 0) || (t == tag)) BadTag)))
-    (λ found. agree-under Count (agree-tested_count v (λ n. not (found == 0) || (n == 0)) BadCount _ (λ bs fault. refl)))
+    agree-chain (agree-under Tag (agree-plain (λ n bs fault. refl) (tested-judged w32 (λ t. (t == 0) || (t == tag)) BadTag)))
+    (λ found. agree-under Count (agree-tested_count v (λ n. not (found == 0) || (n == 0)) BadCount _ (λ n bs fault. refl)))
 
 agree-list : {A B : Type 0} {f : A → B} {g : List A → List B} (v : Version) (tag : ℕ) (steps : List Step) (element : List A → Part A)
     (other : List B → Part B) → Extends f g
@@ -192,7 +207,7 @@ agree-counted : {A B : Type 0} {f : A → B} {g : List A → List B} (v : Versio
     → Agree g steps (counted v element) (counted v other)
 unfolding counted
 agree-counted v steps element other extends go =
-    agree-chain (agree-under Count (agree-count v _ (λ bs fault. refl))) (λ n. agree-elements element other extends go n)
+    agree-chain (agree-under Count (agree-count v _ (λ n bs fault. refl))) (λ n. agree-elements element other extends go n)
 
 -- ---- dimensions and attributes
 
@@ -202,7 +217,7 @@ unfolding dim_part
 agree-dim v has_record steps =
     agree-chain (agree-under Name (agree-name v _))
     (λ name. agree-chain (agree-under Length
-    (agree-tested_count v (λ len. not (has_record && (len == 0))) TwoRecordDims _ (λ bs fault. refl)))
+    (agree-tested_count v (λ len. not (has_record && (len == 0))) TwoRecordDims _ (λ n bs fault. refl)))
     (λ len. agree-done refl))
 
 agree-dims : (v : Version) (steps : List Step) → Agree (λ dims. dims) steps (dim_list strict v) (dim_list lenient v)
@@ -216,9 +231,9 @@ unfolding att_part
 agree-att v steps =
     agree-chain (agree-under Name (agree-name v _))
     (λ name. agree-chain (agree-under TypeCode (agree-type v _))
-    (λ ty. agree-chain (agree-under Count (agree-count v _ (λ bs fault. refl)))
-    (λ n. agree-chain (agree-under Values (agree-plain (λ bs fault. refl) (bytes-judged (n * size_of ty) HeaderTruncated)))
-    (λ vals. agree-chain (agree-under Padding (agree-ignored (padding_len (length vals)) _ (λ bs fault. refl)))
+    (λ ty. agree-chain (agree-under Count (agree-count v _ (λ n bs fault. refl)))
+    (λ n. agree-chain (agree-under Values (agree-plain (λ n bs fault. refl) (bytes-judged (n * size_of ty) HeaderTruncated)))
+    (λ vals. agree-chain (agree-under Padding (agree-ignored (padding_len (length vals)) _ (λ n bs fault. refl)))
     (λ padding. agree-done refl)))))
 
 agree-atts : (v : Version) (steps : List Step) → Agree (map att_without_values) steps (att_list strict v) (att_list lenient v)
@@ -232,7 +247,7 @@ agree-shape : (v : Version) (dims : List Dim) (steps : List Step) → Agree (λ 
 unfolding shape_part
 agree-shape v dims steps =
     agree-counted v steps (dimid_after v dims) (dimid_after v dims) extends-same
-    (λ before k. agree-dimid v dims (length before == 0) _ (λ bs fault. refl))
+    (λ before k. agree-dimid v dims (length before == 0) _ (λ n bs fault. refl))
 
 agree-var : (v : Version) (dims : List Dim) (total : ℕ) (steps : List Step)
     → Agree var_without_values steps (var_part strict v dims total) (var_part lenient v dims total)
@@ -242,8 +257,8 @@ agree-var v dims total steps =
     (λ name. agree-chain (agree-under Shape (agree-shape v dims _))
     (λ dimids. agree-chain (agree-under Atts (agree-atts v _))
     (λ atts. agree-chain (agree-under TypeCode (agree-tested_type v (is_within_limits dims total dimids) _))
-    (λ ty. agree-chain (agree-under Vsize (agree-plain (λ bs fault. refl) (number-judged (count_width v))))
-    (λ vsize. agree-chain (agree-under Begin (agree-offset v _ (λ bs fault. refl)))
+    (λ ty. agree-chain (agree-under Vsize (agree-plain (λ n bs fault. refl) (number-judged (count_width v))))
+    (λ vsize. agree-chain (agree-under Begin (agree-offset v _ (λ n bs fault. refl)))
     (λ begin. agree-done refl))))))
 
 -- the bytes of a record don't depend on values of attributes
@@ -271,7 +286,7 @@ pub agree-header : (steps : List Step) → Agree without_values steps (header_by
 unfolding header_by
 agree-header steps =
     agree-chain (agree-magic steps)
-    (λ v. agree-chain (agree-under Records (agree-numrecs v _ (λ bs fault. refl)))
+    (λ v. agree-chain (agree-under Records (agree-numrecs v _ (λ n bs fault. refl)))
     (λ numrecs. agree-chain (agree-under Dims (agree-dims v _))
     (λ dims. agree-chain (agree-under Gatts (agree-atts v _))
     (λ gatts. agree-chain (agree-under Vars (agree-vars v dims _))

@@ -3,7 +3,8 @@ use Rattle.std.proofs.Common.{◌≡◌, ℕ, suc, zero, ◌<◌, Bool, true, fa
 use Rattle.nc_fields.proofs.Prelude.{Bytes, Step, Part, done, bytes, under, chain, Outcome, and_then, with_rest, run, FormatFault, Field, fields, le-ltb, lt-ltb, leb-true, leb-false}
 use Rattle.nc_base.specs.Parts.{Item}
 unfoldable use Rattle.nc_base.specs.Grammar.{each}
-use Rattle.nc_fields.specs.Agreement.{refusal_of_whole, refusal, first_refusal}
+use Rattle.nc_fields.specs.Agreement.{refusal_in, refusal, first_refusal}
+use Rattle.nc_fields.specs.Entries.{whole_content}
 use Rattle.nc_fields.proofs.Checks.{IsJudged, fault_in}
 use Rattle.std.proofs.lemmas.List.{map-append}
 use Rattle.std.proofs.lemmas.Grind.{common_steps}
@@ -39,17 +40,20 @@ refused_at f o = elim o [ Some fault ↦ Some (fault, drop f.size f.start) | Non
 only-refusal : (f : Field) (o : Option FormatFault) → refusal f ≡ o → first_refusal (f ∷ []) ≡ refused_at f o
 only-refusal f o e = ap (refused_at f) e
 
-whole-refusal : (f : Field) → nat_lt (length f.start) f.size ≡ false → refusal f ≡ refusal_of_whole f.steps (take f.size f.start) f.fault
-whole-refusal f whole = ap (λ b. cond b f.fault (refusal_of_whole f.steps (take f.size f.start) f.fault)) whole
+whole-refusal : (f : Field) → nat_lt (length f.start) f.size ≡ false
+    → refusal f ≡ refusal_in (whole_content f.steps f.size (take f.size f.start)) f.steps f.fault
+whole-refusal f whole =
+    ap (λ b. cond b f.fault (refusal_in (whole_content f.steps f.size (take f.size f.start)) f.steps f.fault)) whole
 
 cut-refusal : (f : Field) → nat_lt (length f.start) f.size ≡ true → refusal f ≡ f.fault
-cut-refusal f cut = ap (λ b. cond b f.fault (refusal_of_whole f.steps (take f.size f.start) f.fault)) cut
+cut-refusal f cut =
+    ap (λ b. cond b f.fault (refusal_in (whole_content f.steps f.size (take f.size f.start)) f.steps f.fault)) cut
 
 abbrev field_with : List Step → Bytes → ℕ → Option FormatFault → Field
 field_with steps from n fault = record { steps = steps; start = from; size = n; fault = fault }
 
 whole-agrees : {A B : Type 0} (f : A → B) (steps : List Step) (n : ℕ) (from : Bytes) (x : Result A FormatFault) (y : Result B FormatFault)
-    → nat_lt (length from) n ≡ false → Judges f x y (refusal_of_whole steps (take n from) (fault_of y))
+    → nat_lt (length from) n ≡ false → Judges f x y (refusal_in (whole_content steps n (take n from)) steps (fault_of y))
     → Agrees f (with_rest x (drop n from)) (with_rest y (drop n from))
     (first_refusal (field_with steps from n (fault_in (with_rest y (drop n from))) ∷ []))
 whole-agrees f steps n from (Ok x) (Ok y) whole (same, none) =
@@ -73,7 +77,7 @@ cut-agrees steps n cut from lt =
 pub agree-field : {A B : Type 0} (f : A → B) (steps : List Step) (n : ℕ) (cut : FormatFault) (p : Part A) (q : Part B)
     (judge : Bytes → Result A FormatFault) (other : Bytes → Result B FormatFault)
     → IsJudged n (bytes n cut) p judge → IsJudged n (bytes n cut) q other
-    → ((bs : Bytes) → Judges f (judge bs) (other bs) (refusal_of_whole steps bs (fault_of (other bs))))
+    → ((bs : Bytes) → Judges f (judge bs) (other bs) (refusal_in (whole_content steps n bs) steps (fault_of (other bs))))
     → Agree f steps p q
 unfolding run
 agree-field {A = A} {B = B} f steps n cut p q judge other is too judges = record {
@@ -100,13 +104,13 @@ same-judges (Err e) refused is = is
 
 -- a field of these steps is refused only if it is wrong
 abbrev pub IsPlain : List Step → Type 0
-IsPlain steps = (bs : Bytes) (fault : Option FormatFault) → refusal_of_whole steps bs fault ≡ fault
+IsPlain steps = (n : ℕ) (bs : Bytes) (fault : Option FormatFault) → refusal_in (whole_content steps n bs) steps fault ≡ fault
 
 -- a field that both read alike
 pub agree-plain : {A : Type 0} {steps : List Step} {n : ℕ} {cut : FormatFault} {p : Part A} {judge : Bytes → Result A FormatFault}
     → IsPlain steps → IsJudged n (bytes n cut) p judge → Agree (λ x. x) steps p p
 agree-plain {steps = steps} {n = n} {cut = cut} {p = p} {judge = judge} plain is =
-    agree-field (λ x. x) steps n cut p p judge judge is is (λ bs. same-judges (judge bs) _ (plain bs (fault_of (judge bs))))
+    agree-field (λ x. x) steps n cut p p judge judge is is (λ bs. same-judges (judge bs) _ (plain n bs (fault_of (judge bs))))
 
 -- ---- parts that are made of others
 

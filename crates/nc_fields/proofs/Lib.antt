@@ -9,3 +9,4 @@ pub mod Agreement
 pub mod OddNames
 pub mod AgreeingParts
 pub mod StrictHeaders
+pub mod FieldOrder
