@@ -11,7 +11,7 @@ mod field_rules;
 mod finding;
 mod header_rules;
 mod kind;
-mod laws;
+pub mod laws;
 mod name_rules;
 mod names;
 mod number_fields;
@@ -20,7 +20,6 @@ mod whole_header;
 
 pub use finding::{Fact, Finding};
 pub use kind::{Kind, Severity};
-pub use laws::first_fault_is_the_readers;
 pub use report::{Report, check};
 
 #[cfg(test)]
