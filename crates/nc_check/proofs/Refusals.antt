@@ -11,6 +11,7 @@ use Rattle.nc_fields.specs.Fields.{Field}
 unfoldable use Rattle.nc_fields.specs.Entries.{seen}
 use Rattle.nc_fields.specs.Entries.{Seen, seen_by, steps_of, whole_content}
 use Rattle.nc_fields.specs.Agreement.{refusal_in, refusal, first_refusal}
+use Rattle.nc_fields.proofs.Agreement.{first_of}
 use Rattle.nc_fields.proofs.FieldOrder.{Descend}
 
 -- why the strict rules refuse an entry
@@ -45,10 +46,6 @@ first-same len f fs e es is = cc
 others-same : (len : ℕ) (f : Field) (fs : List Field) (e : Entry) (es : List Entry) → AreEntriesOf len (f ∷ fs) (e ∷ es)
     → AreEntriesOf len fs es
 others-same len f fs e es is = cc
-
--- the first refusal of a field with this refusal, and others
-abbrev first_of : Field → Option FormatFault → Option (FormatFault × Bytes) → Option (FormatFault × Bytes)
-first_of f o others = elim o [ Some fault ↦ Some (fault, drop f.size f.start) | None ↦ others ]
 
 -- none is refused
 none-of : (f : Field) (o : Option FormatFault) (others : Option (FormatFault × Bytes)) → first_of f o others ≡ None

@@ -124,7 +124,7 @@ unfolding run fields
 agree-under other a = record { at = λ from. a.at from }
 
 -- the first refusal of a field with this refusal, and others
-abbrev first_of : Field → Option FormatFault → Option (FormatFault × Bytes) → Option (FormatFault × Bytes)
+abbrev pub first_of : Field → Option FormatFault → Option (FormatFault × Bytes) → Option (FormatFault × Bytes)
 first_of f o others = elim o [ Some fault ↦ Some (fault, drop f.size f.start) | None ↦ others ]
 
 none-of : (f : Field) (o : Option FormatFault) (few all more : Option (FormatFault × Bytes)) → (few ≡ None → all ≡ more)
