@@ -148,7 +148,7 @@ class Cases:
         wanted = KINDS.get(re.sub(rb" \d+$", b"", fault))
         if faults[:1] != ([wanted] if wanted else []):
             raise Broken(f"a dump has the fault {fault!r}, and a check finds {faults}")
-        if (b"Missing" in kinds) != bool(DATA_FAULT.fullmatch(fault)):
+        if not wanted and (b"Missing" in kinds) != bool(DATA_FAULT.fullmatch(fault)):
             raise Broken(f"a dump has the fault {fault!r}, and a check finds {kinds}")
 
     def dumped(self, some, options):
