@@ -193,7 +193,7 @@ ROWS = [
     Row("ncgen, int64s of 18 digits", LOOP, 1.3, lambda: read_to_loop(numbers(10**17, 10**18, MANY // 2), "int64", kind="nc5")),
     Row("ncgen, ints of 6 and 7 digits", TUNED, 1.3, lambda: read_to_tuned(numbers(10**5, 10**7, LONG), "int")),
     # 1.3 is the aim here; what is lacking is eight digits at once, so that no branch depends on how many there are
-    Row("ncgen, shorts", TUNED, 1.6, lambda: read_to_tuned(numbers(-(2**15), 2**15, LONG), "short")),
+    Row("ncgen, shorts", TUNED, 1.3, lambda: read_to_tuned(numbers(-(2**15), 2**15, LONG), "short")),
     Row("ncgen, bytes", TUNED, 1.3, lambda: read_to_tuned(numbers(-128, 128, LONG), "byte")),
     Row("ncgen, int64s of 18 digits", TUNED, 1.3, lambda: read_to_tuned(numbers(10**17, 10**18, LONG // 2), "int64", "nc5")),
     Row("ncgen, rows of 80 characters", TEXT_BYTE, 8, lambda: a_byte(rows(30_000, 80))),
