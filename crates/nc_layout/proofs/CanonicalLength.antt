@@ -1,22 +1,22 @@
 -- If nothing is found at the begins and at the end of the file, the file has the length of a generated one.
-use Rattle.std.proofs.Common.{◌≡◌, ℕ, zero, suc, ◌+◌, ◌-◌, ◌*◌, ◌<◌, ◌≤◌, max, Bool, true, false, List, [], ◌∷◌, ◌++◌, length, get_or, take, drop, map, fold, filter, sum_by, sym, ◌∙◌, ap, subst, arith, Option, Some, None, nat_lt, nat_le, ◌==◌, inl, inr, ◌⊎◌, if◌then◌else◌, refl, le-leb, eq-eqb}
+use Rattle.std.proofs.Common.{◌≡◌, ℕ, zero, suc, ◌+◌, ◌-◌, ◌*◌, ◌<◌, ◌≤◌, Bool, true, false, List, [], ◌∷◌, ◌++◌, length, get_or, take, drop, map, filter, sum_by, sym, ◌∙◌, ap, subst, arith, Option, Some, None, nat_lt, nat_le, inl, inr, ◌⊎◌, if◌then◌else◌, refl, le-leb}
 use Rattle.std.specs.List.{Contains, range_with_len}
 use Rattle.std.specs.Prelude.{flat_map, IsSome}
 use Rattle.nc_layout.specs.SlotRules.{slot_findings}
 use Rattle.nc_layout.specs.BlockRules.{block_findings}
 use Rattle.std.specs.Option.{option_to_list, option_and_then}
-use Rattle.std.proofs.lemmas.Bool.{false≢true, cases_lt, lt-ltb, ltb-false, ltb-true}
+use Rattle.std.proofs.lemmas.Bool.{false≢true, cases_lt, lt-ltb, ltb-false}
 use Rattle.std.proofs.lemmas.List.{take_more, length-append, append-nil, get_or_default}
 use Rattle.std.proofs.lemmas.List.Elements.{Contains-append_left, Contains-append_right, filter-append}
 use Rattle.std.proofs.lemmas.List.Sums.{sum_by-append, sum_by-cons}
 use Rattle.std.proofs.Math.ListN.{take-append-drop}
 use Rattle.std.proofs.Math.Seq.{take-length}
-use Rattle.nc_layout.specs.declared.{slot.Slot.Slot, slot.Layout.Layout, blocks.Extent.Extent, file_end.SlabPlace.SlabPlace}
+use Rattle.nc_layout.specs.declared.{slot.Slot.Slot, slot.Layout.Layout, finding.LayoutFact.LayoutFact, finding.Slab.Slab, blocks.Extent.Extent, file_end.SlabPlace.SlabPlace}
 use Rattle.nc_layout.specs.declared.finding.Slab.TheVariants as slabs
 use Rattle.nc_layout.specs.declared.finding.LayoutPlace.TheVariants as places
 use Rattle.nc_layout.specs.declared.finding.LayoutFact.TheVariants as facts
 use Rattle.nc_layout.specs.Slots.{padded_slab, is_sole_narrow, record_slots, slab_in_record, record_size, records_begin, record_count, least}
-use Rattle.nc_layout.specs.Blocks.{each_slot, slot_block, records_end, records_block, blocks, has_values}
+use Rattle.nc_layout.specs.Blocks.{each_slot, slot_block, records_block, blocks, has_values}
 use Rattle.nc_layout.specs.FindingIf.{finding_if}
 use Rattle.nc_layout.specs.NumRecsRules.{numrecs_findings}
 use Rattle.nc_layout.specs.SlotRules.{bytes_before}
@@ -25,9 +25,10 @@ use Rattle.nc_layout.specs.Findings.{IsSoundLayout, layout_findings}
 use Rattle.nc_layout.specs.Laws.{is_of_begin, is_of_end, FindsNone, canonical_len, QuietLengthIsCanonical, MissingValuesHaveSlab}
 use Rattle.nc_layout.specs.code.PassedSlots.{is_record_slot}
 use Rattle.nc_layout.proofs.SlotLists.{rest, rest-taken}
-use Rattle.nc_layout.proofs.BlockOrder.{contains-none, contains-here, contains-there, contains-cases, contains-filter, filter-contains}
+use Rattle.nc_layout.proofs.BlockOrder.{contains-none, contains-here, contains-there, contains-filter}
 use Rattle.nc_layout.proofs.SweptBlocks.{greatest_from-ge, greatest_from-above, greatest_from-least}
 use Rattle.nc_layout.proofs.QuietLayouts.{Quiet, quiet-left, quiet-right, quiet-if, both}
+use Rattle.nc_layout.proofs.WholeSlots.{AreWholeSlots, IsRecordAt, record-at, records_end-none, records_end-some, slots-above, slots-least, values-whole}
 use Rattle.nc_layout.proofs.CanonicalBegins.{IsFixedAt, IsRecordsAt, HasLast, block-cases, fixed-there, records-there, bytes-fixed, bytes-le, last-before, all_bytes, all_bytes-is, fixed-canonical, record-canonical, records-canonical}
 
 -- ---- slabs that are whole
@@ -103,92 +104,34 @@ whole-record layout k r d none lt is in_count =
     (contains-range (record_slab size (0 + k) slot) 0 n r in_count)) in
     none-cut layout.file_len (all_slabs layout) place none (contains-each (slabs_of size n) layout.slots 0 k d place lt here)
 
--- ---- the greatest over slots
-
-slots-least : (f : Slot → ℕ) (a m : ℕ) (rs : List Slot) → a ≤ m → ((c : Slot) → Contains rs c → f c ≤ m) → fold max a (map f rs) ≤ m
-slots-least f a m [] le h = le
-slots-least f a m (x ∷ rs) le h =
-    let here = h x (contains-here x rs) in slots-least f (max a (f x)) m rs (omega arith) (λ c has. h c (contains-there x c rs has))
-
-slots-ge : (f : Slot → ℕ) (a : ℕ) (rs : List Slot) → a ≤ fold max a (map f rs)
-slots-ge f a [] = omega arith
-slots-ge f a (x ∷ rs) = let h = slots-ge f (max a (f x)) rs in omega arith
-
-pub slots-above : (f : Slot → ℕ) (a : ℕ) (rs : List Slot) (c : Slot) → Contains rs c → f c ≤ fold max a (map f rs)
-slots-above f a [] c has = absurd (contains-none c has)
-slots-above f a (x ∷ rs) c has = by_place (contains-cases x c rs has) (λ h. slots-above f (max a (f x)) rs c h)
-  where
-    by_place : (x ≡ c) ⊎ Contains rs c → (Contains rs c → f c ≤ fold max (max a (f x)) (map f rs)) → f c ≤ fold max (max a (f x)) (map f rs)
-    by_place (inl same) ih = let h = slots-ge f (max a (f x)) rs in let e = ap f same in omega arith
-    by_place (inr later) ih = ih later
-
--- a record slot is the slot at some index
-pub record IsRecordAt (slots : List Slot) (c : Slot) : Type 0 where
-  pub index : ℕ
-  pub within : index < length slots
-  pub at : get_or slots index c ≡ c
-  pub is : (get_or slots index c).is_record ≡ true
-
-record-at : (slots : List Slot) (c : Slot) → Contains (record_slots slots) c → IsRecordAt slots c
-record-at slots c has = placed (filter-contains is_record_slot slots c has).0 (filter-contains is_record_slot slots c has).1
-  where
-    placed : Contains slots c → c.is_record ≡ true → IsRecordAt slots c
-    placed (k, lt, at) is = record { index = k; within = lt; at = at; is = ap (λ (x : Slot). x.is_record) at ∙ is }
-
--- where records end, without records and with some
-records_end-none : (slots : List Slot) (n begin : ℕ) (f : Slot → ℕ) → n ≡ 0 → records_end slots n begin f ≡ begin
-records_end-none slots n begin f none =
-    ap (λ b. if b then begin else fold max 0 (map (λ slot. slot.begin + (n - 1) * record_size slots + f slot) (record_slots slots)))
-    (eq-eqb n 0 none)
-
-pub records_end-some : (slots : List Slot) (n begin : ℕ) (f : Slot → ℕ) → 0 < n
-    → records_end slots n begin f ≡ fold max 0 (map (λ slot. slot.begin + (n - 1) * record_size slots + f slot) (record_slots slots))
-records_end-some slots n begin f some =
-    ap (λ b. if b then begin else fold max 0 (map (λ slot. slot.begin + (n - 1) * record_size slots + f slot) (record_slots slots)))
-    (apart n some)
-  where
-    apart : (k : ℕ) → 0 < k → (k == 0) ≡ false
-    apart k h = grind arith
-
 -- ---- nothing found at the end
 
 pub record IsQuietEnd (layout : Layout) : Type 0 where
   pub no_more : layout.file_len ≤ used_end layout
   pub no_less : padding_end layout ≤ layout.file_len
 
-values-whole : (layout : Layout) → IsSoundLayout layout → first_cut_slab layout ≡ None → values_end layout ≤ layout.file_len
-values-whole layout sound none =
-    greatest_from-least (λ (b : Extent). b.end) layout.header_end layout.file_len (filter has_values (blocks layout)) sound.header_inside
-    (λ c has. let k = filter-contains has_values (blocks layout) c has in one c (ltb-true c.begin c.end k.1) (block-cases layout d c k.0))
-  where
-    d : Slot
-    d = record { begin = 0; slab = 0; is_record = false; is_narrow = false }
+uncut-whole : (layout : Layout) → first_cut_slab layout ≡ None → AreWholeSlots layout
+uncut-whole layout none k d lt = record {
+  fixed = whole-fixed layout k d none lt;
+  records = λ is r in_count. whole-record layout k r d none lt is in_count;
+}
 
-    one : (c : Extent) → c.begin < c.end → IsFixedAt layout.slots 0 d c ⊎ IsRecordsAt layout c → c.end ≤ layout.file_len
-    one c some (inl h) =
-        let here = ap (λ (x : Extent). x.end) h.is in
-        let whole = whole-fixed layout h.index d none h.within h.fixed in omega arith
-    one c some (inr h) = by_count (cases_lt 0 (record_count layout))
-      where
-        by_count : (0 < record_count layout) ⊎ (record_count layout ≤ 0) → c.end ≤ layout.file_len
-        by_count (inr zero_records) =
-            let no_records : record_count layout ≡ 0 = omega arith in
-            let begin = ap (λ (x : Extent). x.begin) h.is in
-            let end = ap (λ (x : Extent). x.end) h.is
-            ∙ records_end-none layout.slots (record_count layout) h.begin (λ slot. slot.slab) no_records in
-            absurd (omega arith)
-        by_count (inl more) =
-            let end = ap (λ (x : Extent). x.end) h.is
-            ∙ records_end-some layout.slots (record_count layout) h.begin (λ slot. slot.slab) more in
-            let least = slots-least
-            (λ slot. slot.begin + (record_count layout - 1) * record_size layout.slots + slot.slab) 0 layout.file_len
-            (record_slots layout.slots) (omega arith) (λ s has. whole s (record-at layout.slots s has)) in omega arith
-          where
-            whole : (s : Slot) → IsRecordAt layout.slots s
-                → s.begin + (record_count layout - 1) * record_size layout.slots + s.slab ≤ layout.file_len
-            whole s k =
-                subst (λ (x : Slot). x.begin + (record_count layout - 1) * record_size layout.slots + x.slab ≤ layout.file_len) k.at
-                (whole-record layout k.index (record_count layout - 1) s none k.within k.is (omega arith))
+uncut-values : (layout : Layout) → IsSoundLayout layout → first_cut_slab layout ≡ None → values_end layout ≤ layout.file_len
+uncut-values layout sound none = values-whole layout sound.header_inside (uncut-whole layout none)
+
+-- where the finding that values are missing is of the kind, and nothing of the kind is found, the values end in the file
+pub quiet-values : (kind : LayoutFact → Bool) (layout : Layout) → IsSoundLayout layout
+    → ((file_len end : ℕ) (slab : Slab) → kind (facts.Missing file_len end slab) ≡ true) → Quiet kind (option_to_list (missing layout))
+    → values_end layout ≤ layout.file_len
+quiet-values kind layout sound is h = by_slab (first_cut_slab layout) refl
+  where
+    by_slab : (o : Option SlabPlace) → first_cut_slab layout ≡ o → values_end layout ≤ layout.file_len
+    by_slab None at = uncut-values layout sound at
+    by_slab (Some cut) at =
+        ltb-false layout.file_len (values_end layout) (quiet-if kind _ _ _ (is layout.file_len (values_end layout) cut.slab)
+        (subst (λ (o : Option SlabPlace). Quiet kind
+        (option_to_list (option_and_then (λ (c : SlabPlace). finding_if (nat_lt layout.file_len (values_end layout))
+        (places.Data layout.file_len) (facts.Missing layout.file_len (values_end layout) c.slab)) o))) at h))
 
 quiet-end : (layout : Layout) → IsSoundLayout layout → Quiet is_of_end (end_findings layout) → IsQuietEnd layout
 unfolding end_findings
@@ -199,21 +142,12 @@ quiet-end layout sound h =
     let first = quiet-left is_of_end (one ++ two) three h in
     let more = quiet-if is_of_end _ _ _ refl (quiet-right is_of_end (one ++ two) three h) in
     let less = quiet-if is_of_end _ _ _ refl (quiet-right is_of_end one two first) in
-    let whole = values (first_cut_slab layout) refl (quiet-left is_of_end one two first) in
+    let whole = quiet-values is_of_end layout sound (λ file_len end slab. refl) (quiet-left is_of_end one two first) in
     record {
       no_more = ltb-false (used_end layout) layout.file_len more;
       no_less = ltb-false layout.file_len (padding_end layout)
           (both (nat_le (values_end layout) layout.file_len) _ less (le-leb _ _ whole));
     }
-  where
-    values : (o : Option SlabPlace) → first_cut_slab layout ≡ o → Quiet is_of_end (option_to_list (missing layout))
-        → values_end layout ≤ layout.file_len
-    values None at h = values-whole layout sound at
-    values (Some cut) at h =
-        ltb-false layout.file_len (values_end layout) (quiet-if is_of_end _ _ _ refl
-        (subst (λ (o : Option SlabPlace). Quiet is_of_end
-        (option_to_list (option_and_then (λ (c : SlabPlace). finding_if (nat_lt layout.file_len (values_end layout))
-        (places.Data layout.file_len) (facts.Missing layout.file_len (values_end layout) c.slab)) o))) at h))
 
 -- ---- a slab in the record
 
@@ -475,5 +409,5 @@ pub missing-slab : MissingValuesHaveSlab
 missing-slab layout sound less = by_slab (first_cut_slab layout) refl
   where
     by_slab : (o : Option SlabPlace) → first_cut_slab layout ≡ o → IsSome o
-    by_slab None none = let whole = values-whole layout sound none in absurd (omega arith)
+    by_slab None none = let whole = uncut-values layout sound none in absurd (omega arith)
     by_slab (Some cut) at = refl

@@ -1,45 +1,28 @@
 -- A file in which nothing is found at begins and at its end is as long as a generated one.
-use Rattle.std.proofs.Common.{◌≡◌, ℕ, zero, suc, ◌+◌, ◌*◌, ◌<◌, ◌≤◌, List, [], ◌∷◌, length, map, sum_by, refl, sym, ◌∙◌, ap, arith, length-append}
+use Rattle.std.proofs.Common.{◌≡◌, ℕ, zero, suc, ◌+◌, ◌*◌, ◌<◌, ◌≤◌, List, [], length, map, refl, sym, ◌∙◌, ap, arith, length-append}
 use Rattle.std.specs.Prelude.{flat_map, zip}
 use Rattle.std.specs.List.{range_with_len}
-use Rattle.std.proofs.lemmas.List.Sums.{sum-map}
-use Rattle.nc_base.specs.declared.{dataset.Dataset.Dataset, header.Dim.Dim, header.Header.Header, header.NumRecs.NumRecs, header.Var.Var}
+use Rattle.nc_base.specs.declared.{dataset.Dataset.Dataset, header.Header.Header, header.NumRecs.NumRecs, header.Var.Var}
 use Rattle.nc_base.specs.declared.header.NumRecs.TheVariants.{Known}
 use Rattle.nc_base.specs.Bytes.{Bytes}
 use Rattle.nc_base.specs.GeneratedFile.{block, data_of, file_of, fixed_vars, known_records, record_part, vars_with_begins, with_begins}
 use Rattle.nc_base.specs.GeneratedFile.{is_sole_narrow as is_sole_narrow_var}
 use Rattle.nc_base.specs.Grammar.{header_spelling}
 use Rattle.nc_base.specs.Headers.{AreArrays, bare}
-use Rattle.nc_base.specs.Sizes.{padded_size, padded_total, record_size_of, record_vars}
+use Rattle.nc_base.specs.Sizes.{padded_total, record_size_of, record_vars}
 use Rattle.nc_base.proofs.FileHolds.{len-after}
 use Rattle.nc_base.proofs.FilePlaces.{length-blocks, length-record, record_size_of-slots}
 use Rattle.nc_base.proofs.FilePlaces.{slots as record_bytes}
-use Rattle.nc_layout.specs.declared.{slot.Slot.Slot}
-use Rattle.nc_layout.specs.Slots.{is_sole_narrow, record_count, record_size, record_slots}
+use Rattle.nc_layout.specs.Slots.{record_count, record_size}
 use Rattle.nc_layout.specs.HeaderLayout.{slot_of, layout_of}
 use Rattle.nc_layout.specs.HeaderLaws.{QuietFilesAreGenerated}
 use Rattle.nc_layout.specs.Laws.{canonical_len}
-use Rattle.nc_layout.specs.code.Records.{slab_if}
 use Rattle.nc_layout.proofs.BareHeaders.{arrays-bare, begins-bare, fixed_total-bare, len-bare, record_size-bare}
 use Rattle.nc_layout.proofs.CanonicalBegins.{quiet-begins}
 use Rattle.nc_layout.proofs.CanonicalLength.{quiet-length}
 use Rattle.nc_layout.proofs.GeneratedBegins.{canonical-generated}
-use Rattle.nc_layout.proofs.HeaderSlots.{slots-total, record_slots-are, fixed_slots-total}
-use Rattle.nc_layout.proofs.SlotLists.{record_size-is}
-
--- ---- the record size
-
-slots-size : (dims : List Dim) (vars : List Var)
-    → sum_by (slab_if (is_sole_narrow (map (slot_of dims) vars))) (map (slot_of dims) vars) ≡ record_size_of dims vars
-slots-size dims [] = refl
-slots-size dims (var ∷ []) = omega arith
-slots-size dims (var ∷ next ∷ vars) = slots-total dims (var ∷ next ∷ vars) ∙ sym (sum-map (padded_size dims) (var ∷ next ∷ vars))
-
-size-is : (dims : List Dim) (vars : List Var) → record_size (map (slot_of dims) vars) ≡ record_size_of dims (record_vars dims vars)
-size-is dims vars =
-    sym (record_size-is (map (slot_of dims) vars) (is_sole_narrow (record_slots (map (slot_of dims) vars))) refl)
-    ∙ ap (λ (ss : List Slot). sum_by (slab_if (is_sole_narrow ss)) ss) (record_slots-are dims vars)
-    ∙ slots-size dims (record_vars dims vars)
+use Rattle.nc_layout.proofs.HeaderRecords.{size-is}
+use Rattle.nc_layout.proofs.HeaderSlots.{fixed_slots-total}
 
 -- ---- the length of the generated file
 

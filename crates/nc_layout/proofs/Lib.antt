@@ -9,10 +9,14 @@ pub mod ListedBlocks
 pub mod SweptBlocks
 pub mod QuietLayouts
 pub mod CanonicalBegins
+pub mod WholeSlots
 pub mod CanonicalLength
 pub mod SlabsApart
 pub mod HeaderSlots
 pub mod SpelledLayouts
 pub mod BareHeaders
+pub mod HeaderRecords
 pub mod GeneratedBegins
 pub mod GeneratedLength
+pub mod WholeVariables
+pub mod MissingValues

@@ -28,7 +28,8 @@ use Rattle.nc_layout.proofs.BlockOrder.{before-precedes, contains-none, contains
 use Rattle.nc_layout.proofs.SweptBlocks.{greatest-above}
 use Rattle.nc_layout.proofs.QuietLayouts.{Quiet, quiet-left, quiet-right, quiet-if, quiet-slot, quiet-block, both, equal}
 use Rattle.nc_layout.proofs.CanonicalBegins.{fixed-there, records-there, record-begins}
-use Rattle.nc_layout.proofs.CanonicalLength.{record-split, records_end-some, slots-above}
+use Rattle.nc_layout.proofs.CanonicalLength.{record-split}
+use Rattle.nc_layout.proofs.WholeSlots.{records_end-some, slots-above}
 
 -- ---- what holds of slots and blocks
 
