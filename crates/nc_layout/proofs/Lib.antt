@@ -20,3 +20,4 @@ pub mod GeneratedBegins
 pub mod GeneratedLength
 pub mod WholeVariables
 pub mod MissingValues
+pub mod TruncatedDumps

@@ -20,7 +20,7 @@ use Rattle.nc_layout.specs.BlockRules.{block_findings}
 use Rattle.nc_layout.specs.FileEnd.{end_findings, end_padding, first_cut_slab, missing, trailing, values_end}
 use Rattle.nc_layout.specs.FindingIf.{finding_if}
 use Rattle.nc_layout.specs.Findings.{IsSoundLayout, IsSoundSlot, layout_findings}
-use Rattle.nc_layout.specs.HeaderLaws.{MissingValuesStopDumps, ShortFilesLackValues, finds, is_of_missing, lacks_values}
+use Rattle.nc_layout.specs.HeaderLaws.{MissingValuesAreFound, ShortFilesLackValues, finds, is_of_missing, lacks_values}
 use Rattle.nc_layout.specs.HeaderLayout.{layout_of, slot_of}
 use Rattle.nc_layout.specs.NumRecsRules.{numrecs_findings, streaming, uncounted_records, unused_records}
 use Rattle.nc_layout.specs.SlotRules.{slot_findings}
@@ -33,7 +33,7 @@ use Rattle.nc_layout.proofs.WholeVariables.{whole-slot, whole-variable}
 -- ---- slots and variables
 
 -- what holds of the slots of variables
-unmapped : (P : Slot → Type 0) (dims : List Dim) (vars : List Var) → All P (map (slot_of dims) vars)
+pub unmapped : (P : Slot → Type 0) (dims : List Dim) (vars : List Var) → All P (map (slot_of dims) vars)
     → All (λ (var : Var). P (slot_of dims var)) vars
 unmapped P dims [] all = All-nil _
 unmapped P dims (var ∷ vars) all =
@@ -193,8 +193,8 @@ quiet-within layout sound none =
     quiet-values is_of_missing layout sound (λ file_len end slab. refl)
     (quiet-left is_of_missing one two (quiet-left is_of_missing (one ++ two) three ends))
 
-pub missing-stops : MissingValuesStopDumps
-missing-stops h bytes header_end sound =
+pub missing-found : MissingValuesAreFound
+missing-found h bytes header_end sound =
     let layout = layout_of h header_end (length bytes) in
     same-test (finds is_of_missing layout) (list_any (lacks_values h bytes) h.vars)
     (λ no. all-have h bytes h.vars (all-present h bytes header_end sound (quiet-within layout sound no)))

@@ -142,7 +142,7 @@ record-ends h b var n some growing none = at_kind (is_record_var h.dims var) gro
         let e : (0 + r) * record_size h ≡ r * record_size h = ap (λ k. k * record_size h) (let z : 0 + r ≡ r = omega arith in z) in
         omega arith
 
-some-values : (count size : ℕ) → 1 ≤ count * size → 0 < count
+pub some-values : (count size : ℕ) → 1 ≤ count * size → 0 < count
 some-values zero size some = absurd (omega arith)
 some-values (suc n) size some = omega arith
 

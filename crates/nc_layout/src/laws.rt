@@ -2,7 +2,7 @@
 
 ghost use Rattle.nc_layout.specs.Laws.{QuietBeginsAreCanonical, QuietLengthIsCanonical, QuietSlabsAreApart, MissingValuesHaveSlab};
 ghost use Rattle.nc_layout.specs.HeaderLaws.{SpelledHeadersHaveSoundLayouts, CanonicalBeginsAreGenerated, QuietFilesAreGenerated};
-ghost use Rattle.nc_layout.specs.HeaderLaws.{ShortFilesLackValues, MissingValuesStopDumps};
+ghost use Rattle.nc_layout.specs.HeaderLaws.{ShortFilesLackValues, MissingValuesAreFound, MissingValuesStopDumps};
 
 /// States two laws, and does nothing. `begins`: if nothing is found at the begins of variables and blocks, then each variable begins right
 /// after the header and the padded slabs that come before its own: first those of the variables that aren't record variables, in header
@@ -43,11 +43,14 @@ pub fn quiet_files_are_as_generated()
     ensures files { QuietFilesAreGenerated }
 {}
 
-/// States two laws of files in which a header has a layout within limits, and does nothing. `ends`: the file ends before its values do
-/// exactly if some variable has a first missing value, which is where a dump of its values stops.
+/// States three laws of files, and does nothing. `ends`: if a header has a layout within limits in a file, the file ends before its values
+/// do exactly if some variable has a first missing value.
 ///
-/// `found`: the finding that values are missing is there exactly if some variable has a first missing value.
+/// `found`: in such a file, values are found to be missing exactly if some variable has a first missing value.
+///
+/// `dumps`: in a file that begins with a header, values are found to be missing exactly if the dump of all values ends at a missing value.
 pub fn missing_values_stop_dumps()
     ensures ends { ShortFilesLackValues }
-    ensures found { MissingValuesStopDumps }
+    ensures found { MissingValuesAreFound }
+    ensures dumps { MissingValuesStopDumps }
 {}

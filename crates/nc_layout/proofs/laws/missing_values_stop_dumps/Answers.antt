@@ -1,8 +1,12 @@
-use Rattle.nc_layout.proofs.MissingValues.{missing-stops, short-lacks}
+use Rattle.nc_layout.proofs.MissingValues.{missing-found, short-lacks}
+use Rattle.nc_layout.proofs.TruncatedDumps.{missing-stops}
 use Rattle.nc_layout.proofs.laws.missing_values_stop_dumps.Goals as goal
 
 pub returns-clause-ends : goal.returns-clause-ends
 returns-clause-ends c = short-lacks
 
 pub returns-clause-found : goal.returns-clause-found
-returns-clause-found c = missing-stops
+returns-clause-found c = missing-found
+
+pub returns-clause-dumps : goal.returns-clause-dumps
+returns-clause-dumps c = missing-stops
