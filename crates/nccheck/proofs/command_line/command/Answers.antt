@@ -1,0 +1,16 @@
+use Rattle.std.proofs.Common.{rules, ◌≡◌, ◌∙◌, ap₂, codes}
+use Rattle.std.proofs.lemmas.Result.{IfOk-weaker}
+use Rattle.clap.specs.Words.{app_of, new_app, rule_of, with_rule}
+use Rattle.cli_base.specs.Arguments.{flag, option, quiet}
+use Rattle.nccheck.specs.CommandLine.{nccheck}
+use Rattle.nccheck.proofs.command_line.command.Goals as goal
+
+pub returns : goal.returns
+unfolding nccheck
+returns c =
+    let quiet_is : rule_of c.flag.result ≡ flag (codes "quiet") (codes "q") = search rules in
+    let level_is : rule_of c.option.result ≡ option (codes "level") (codes "l") = search rules in
+    let none : app_of c.disable_version_flag.result ≡ quiet (new_app (codes "nccheck")) = search (rules, c.new.ensures.app) in
+    let one = c.in_ok-arg.ensures.shape c.flag.ensures.local ∙ ap₂ with_rule none quiet_is in
+    let two = c.in_ok-arg-2.ensures.shape c.option.ensures.local ∙ ap₂ with_rule one level_is in
+    IfOk-weaker c.arg-3.result _ _ (λ command adds. adds.shape c.files.ensures.local ∙ ap₂ with_rule two c.files.ensures.rule) c.arg-3.ensures

@@ -1,0 +1,52 @@
+-- Definition. What the words of the command line ask for.
+use Rattle.std.specs.Prelude.{Bool, List, [], ◌∷◌, codes, Option, Some, None, fold, if◌then◌else◌}
+use Rattle.std.specs.Str.{bytes_eq}
+use Rattle.clap.specs.Words.{App, Row, Rule, all_of, fault_of, first_of, matches_of, new_app, new_rule, with_rule}
+use Rattle.clap.specs.declared.builder.ArgAction.TheVariants.{Append}
+use Rattle.cli_base.specs.Arguments.{flag, if_faultless, is_given, option, quiet}
+use Rattle.nc_base.specs.Bytes.{Bytes}
+use Rattle.nc_check.specs.declared.kind.Severity.{Severity}
+use Rattle.nc_check.specs.declared.kind.Severity.TheVariants.{Error, Violation, Note}
+
+-- ---- the command, as a parse reads it
+
+-- words that may stand more than once
+abbrev pub files_rule : Rule
+files_rule = record (new_rule (codes "file")) { action = Some Append }
+
+-- `nccheck [-q] [-l level] file ...`
+unfoldable pub nccheck : App
+nccheck = fold with_rule (quiet (new_app (codes "nccheck"))) (
+    flag (codes "quiet") (codes "q") ∷ option (codes "level") (codes "l") ∷ files_rule ∷ [])
+
+-- ---- what its entries ask for
+
+abbrev pub level_said : Bytes → Option Severity
+level_said word =
+    if bytes_eq word (codes "error") then Some Error
+    else if bytes_eq word (codes "violation") then Some Violation
+    else if bytes_eq word (codes "note") then Some Note
+    else None
+
+-- that of `-l`, otherwise violations
+abbrev pub level_in : Option Bytes → Option Severity
+level_in None = Some Violation
+level_in (Some word) = level_said word
+
+-- the paths of files, and what to report of them
+pub record Asked : Type 0 where
+  pub files : List Bytes
+  pub level : Severity
+  pub is_quiet : Bool
+
+-- the files and the level of the entries, and whether they ask for quiet
+abbrev pub asked_with : Option (List Bytes) → Option Severity → Bool → Option Asked
+asked_with (Some files) (Some level) is_quiet = Some (record { files = files; level = level; is_quiet = is_quiet })
+asked_with files level is_quiet = None
+
+unfoldable pub asked_in : List Row → Option Asked
+asked_in rows = asked_with (all_of (codes "file") rows) (level_in (first_of (codes "level") rows)) (is_given rows (codes "quiet"))
+
+-- the first word is the program's name
+unfoldable pub asked_by : List Bytes → Option Asked
+asked_by words = if_faultless (fault_of nccheck words) (asked_in (matches_of nccheck words))

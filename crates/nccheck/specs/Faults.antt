@@ -1,0 +1,33 @@
+-- Definition. The faults of a run, and the lines that tell them.
+use Rattle.std.specs.Prelude.{[], ◌∷◌, codes}
+use Rattle.nc_base.specs.Bytes.{Bytes, concat_parts}
+use Rattle.nc_fields.specs.declared.list_fault.ListFault.{ListFault}
+use Rattle.nc_fields.specs.declared.list_fault.ListFault.TheVariants as list
+use Rattle.cli_base.specs.declared.fault.OptFault.{OptFault}
+use Rattle.cli_base.specs.declared.fault.OptFault.TheVariants as opt
+use Rattle.nccheck.specs.declared.fault.FileFault.{FileFault}
+use Rattle.nccheck.specs.declared.fault.FileFault.TheVariants.{CannotOpen, ReadFailed, OutOfMemory, WriteFailed}
+
+abbrev pub fault_of_list : ListFault → FileFault
+fault_of_list list.OutOfMemory = OutOfMemory
+fault_of_list list.ReadFailed = ReadFailed
+
+unfoldable pub fault_words : FileFault → Bytes
+fault_words CannotOpen = codes "cannot open"
+fault_words ReadFailed = codes "read failed"
+fault_words OutOfMemory = codes "out of memory"
+fault_words WriteFailed = codes "write failed"
+
+unfoldable pub file_line : Bytes → FileFault → Bytes
+file_line file fault = concat_parts (codes "nccheck: " ∷ file ∷ codes ": " ∷ fault_words fault ∷ codes "\n" ∷ [])
+
+-- the last lines were held back, and could not be written
+unfoldable pub flush_line : Bytes
+flush_line = codes "nccheck: write failed\n"
+
+unfoldable pub usage_line : Bytes
+usage_line = codes "usage: nccheck [-q] [-l level] file ...\n"
+
+unfoldable pub opt_fault_line : OptFault → Bytes
+opt_fault_line opt.OutOfMemory = codes "nccheck: out of memory\n"
+opt_fault_line opt.Usage = usage_line

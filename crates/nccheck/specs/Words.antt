@@ -1,0 +1,85 @@
+-- Definition. The words of severities, of kinds of findings, and of fields.
+use Rattle.std.specs.Prelude.{ℕ, List, [], ◌∷◌, codes, decimal, map}
+use Rattle.nc_base.specs.Bytes.{Bytes, concat_parts}
+use Rattle.nc_fields.specs.declared.place.FieldName.{FieldName}
+use Rattle.nc_fields.specs.declared.place.FieldName.TheVariants as name
+use Rattle.nc_check.specs.declared.{kind.Kind.Kind, kind.Severity.Severity}
+use Rattle.nc_check.specs.declared.kind.Kind.TheVariants.{NotNetcdf, UnknownVersion, HeaderTruncated, BadTag, BadCount, BadName, FloatingType, BadType, BadShape, TwoRecordDims, TooLarge, BadOffset, Streaming, UnusedRecords, RecordCount, EmptyList, LongName, DuplicateName, NotNfc, Padding, EmptyAttribute, TrailingNul, FillValue, HighRank, Vsize, LargeVariable, BeginInHeader, Overlap, Unpadded, Order, AfterRecords, RecordPlace, Gap, Missing, EndPadding, Trailing}
+use Rattle.nc_check.specs.declared.kind.Severity.TheVariants.{Error, Violation, Note}
+
+unfoldable pub severity_word : Severity → Bytes
+severity_word Error = codes "error"
+severity_word Violation = codes "violation"
+severity_word Note = codes "note"
+
+unfoldable pub kind_word : Kind → Bytes
+kind_word NotNetcdf = codes "not-netcdf"
+kind_word UnknownVersion = codes "unknown-version"
+kind_word HeaderTruncated = codes "header-truncated"
+kind_word BadTag = codes "bad-tag"
+kind_word BadCount = codes "bad-count"
+kind_word BadName = codes "bad-name"
+kind_word FloatingType = codes "floating-type"
+kind_word BadType = codes "bad-type"
+kind_word BadShape = codes "bad-shape"
+kind_word TwoRecordDims = codes "two-record-dims"
+kind_word TooLarge = codes "too-large"
+kind_word BadOffset = codes "bad-offset"
+kind_word Streaming = codes "streaming"
+kind_word UnusedRecords = codes "unused-records"
+kind_word RecordCount = codes "record-count"
+kind_word EmptyList = codes "empty-list"
+kind_word LongName = codes "long-name"
+kind_word DuplicateName = codes "duplicate-name"
+kind_word NotNfc = codes "not-nfc"
+kind_word Padding = codes "padding"
+kind_word EmptyAttribute = codes "empty-attribute"
+kind_word TrailingNul = codes "trailing-nul"
+kind_word FillValue = codes "fill-value"
+kind_word HighRank = codes "high-rank"
+kind_word Vsize = codes "vsize"
+kind_word LargeVariable = codes "large-variable"
+kind_word BeginInHeader = codes "begin-in-header"
+kind_word Overlap = codes "overlap"
+kind_word Unpadded = codes "unpadded"
+kind_word Order = codes "order"
+kind_word AfterRecords = codes "after-records"
+kind_word RecordPlace = codes "record-place"
+kind_word Gap = codes "gap"
+kind_word Missing = codes "missing"
+kind_word EndPadding = codes "end-padding"
+kind_word Trailing = codes "trailing"
+
+-- the texts of these elements, one after the other
+abbrev pub each_of : {X : Type 0} → (X → Bytes) → List X → Bytes
+each_of text xs = concat_parts (map text xs)
+
+-- a number between two words
+unfoldable pub around : Bytes → ℕ → Bytes → Bytes
+around before n after = concat_parts (before ∷ decimal n ∷ after ∷ [])
+
+-- a field, without what it belongs to
+unfoldable pub field_word : FieldName → Bytes
+field_word name.Magic = codes "magic"
+field_word name.Version = codes "version"
+field_word name.NumRecs = codes "numrecs"
+field_word name.DimsTag = codes "dims tag"
+field_word name.DimsCount = codes "dims count"
+field_word name.GlobalAttsTag = codes "gatts tag"
+field_word name.GlobalAttsCount = codes "gatts count"
+field_word name.VarsTag = codes "vars tag"
+field_word name.VarsCount = codes "vars count"
+field_word name.NameLength = codes "name length"
+field_word name.Name = codes "name"
+field_word name.NamePadding = codes "name padding"
+field_word name.Length = codes "length"
+field_word name.Type = codes "type"
+field_word name.Count = codes "count"
+field_word name.Values = codes "values"
+field_word name.Padding = codes "padding"
+field_word name.Rank = codes "rank"
+field_word (name.DimId k) = around (codes "dimid[") k (codes "]")
+field_word name.AttsTag = codes "atts tag"
+field_word name.AttsCount = codes "atts count"
+field_word name.Vsize = codes "vsize"
+field_word name.Begin = codes "begin"

@@ -1,0 +1,13 @@
+-- For contracts. What options ask for.
+use Rattle.std.specs.Borrow.{Bor}
+use Rattle.std.specs.Prelude.{ℕ, List, Option, option_map}
+use Rattle.cli_base.specs.Arguments.{texts_of}
+use Rattle.nccheck.specs.CommandLine.{Asked}
+use Rattle.nccheck.specs.declared.options.CheckOptions.{CheckOptions}
+
+abbrev pub asked_for : CheckOptions → Asked
+asked_for o = record { files = texts_of o.files; level = o.level; is_quiet = o.is_quiet }
+
+-- the texts behind references
+abbrev pub texts_in : Option (Bor (List (Bor (List ℕ)))) → Option (List (List ℕ))
+texts_in texts = option_map (λ (all : Bor (List (Bor (List ℕ)))). texts_of all.now) texts

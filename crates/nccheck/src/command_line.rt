@@ -1,0 +1,109 @@
+//! The words of the command line.
+
+ghost use Rattle.std.specs.Prelude.{◌≡◌, false, IfOk};
+ghost use Rattle.clap.specs.Words.{all_of, app_of, found_of, rows_of, rule_of};
+ghost use Rattle.cli_base.specs.Arguments.{texts_of};
+ghost use Rattle.cli_base.specs.code.Answers.{AnswersBy, text_of};
+ghost use Rattle.nccheck.specs.CommandLine.{asked_by, asked_in, files_rule, level_in, level_said, nccheck};
+ghost use Rattle.nccheck.specs.code.Options.{asked_for, texts_in};
+
+use crate::options::CheckOptions;
+use clap::{Arg, ArgAction, ArgMatches, Command};
+use cli_base::{OptFault, flag, is_given, option, value_of};
+use nc_base::Sequence;
+use nc_check::Severity;
+use std::alloc::{AllocError, Global};
+
+/// Returns the command `nccheck [-q] [-l level] file ...` of nccheck(1).
+///
+/// The command takes each option at most once, before, between or after the files. [`options_of`] reads the matches of the command.
+///
+/// # Errors
+///
+/// An allocation failed.
+pub fn command<'a>(alloc: Global) -> Result<Command<'a>, AllocError>
+    ensures { IfOk result (λ command. app_of command ≡ nccheck) }
+{
+    Command::new(alloc, "nccheck")
+        .disable_help_flag(true)
+        .disable_version_flag(true)
+        .arg(flag(alloc, "quiet", 'q'))?
+        .arg(option(alloc, "level", 'l'))?
+        .arg(files(alloc))
+}
+
+/// Returns the argument that takes the files, one a word.
+fn files<'a>(alloc: Global) -> Arg<'a>
+    ensures rule { rule_of result ≡ files_rule }
+    ensures local { result.global ≡ false }
+{
+    Arg::new(alloc, "file").action(ArgAction::Append)
+}
+
+/// Returns the options that the words of a command line ask for. The first word is the program's name.
+///
+/// # Errors
+///
+/// Those of [`options_of`], and [`OptFault::Usage`] for words that the command doesn't take.
+pub(crate) fn options_of_words<'a>(
+    alloc: Global,
+    words: &'a [&'a str],
+) -> Result<CheckOptions<'a>, OptFault>
+    ensures { AnswersBy asked_for (asked_by (texts_of words.entry.now)) result }
+{
+    let matches = command(alloc)?.try_get_matches_from(words)?;
+    options_of(alloc, &matches)
+}
+
+/// Returns the options that the matches of [`command`] ask for. [`CheckOptions`] says which field each option gives. Without `-l`, violations
+/// and errors are reported.
+///
+/// # Errors
+///
+/// [`OptFault::Usage`] if no file is named, or if the value of `-l` isn't `error`, `violation` or `note`. [`OptFault::OutOfMemory`] only if
+/// an allocation failed.
+#[tactic(auto, unfolding(crate::specs::CommandLine::asked_in))]
+pub fn options_of<'a>(alloc: Global, matches: &ArgMatches<'a>) -> Result<CheckOptions<'a>, OptFault>
+    ensures { AnswersBy asked_for (asked_in (rows_of (found_of matches.now))) result }
+{
+    let files = values_of(matches, "file").ok_or(OptFault::Usage)?;
+    let level = level_in(value_of(matches, "level")).ok_or(OptFault::Usage)?;
+    Ok(CheckOptions {
+        files: Sequence::from_vec(Vec::from_slice(alloc, files)?),
+        level,
+        is_quiet: is_given(matches, "quiet"),
+    })
+}
+
+/// Returns the values of the argument with this id, or `None` if it isn't given.
+fn values_of<'a, 'b>(matches: &'b ArgMatches<'a>, id: &str) -> Option<&'b [&'a str]>
+    ensures { texts_in result ≡ all_of id.now (rows_of (found_of matches.entry.now)) }
+{
+    matches.get_strs(id)
+}
+
+/// Returns the level that `word`, the value of `-l`, asks for, or that of violations if there is no word. Returns `None` if the word is no
+/// level.
+fn level_in(word: Option<&str>) -> Option<Severity>
+    ensures { result ≡ level_in (text_of word.entry) }
+{
+    match word {
+        Some(word) => level_of(word),
+        None => Some(Severity::Violation),
+    }
+}
+
+/// Returns the level that `word` says, if it is one.
+fn level_of(word: &str) -> Option<Severity>
+    ensures { result ≡ level_said word.now }
+{
+    if word == "error" {
+        Some(Severity::Error)
+    } else if word == "violation" {
+        Some(Severity::Violation)
+    } else if word == "note" {
+        Some(Severity::Note)
+    } else {
+        None
+    }
+}

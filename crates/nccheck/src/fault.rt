@@ -1,0 +1,51 @@
+//! Why a file could not be checked.
+
+ghost use Rattle.std.specs.Prelude.{◌≡◌};
+ghost use Rattle.nccheck.specs.Faults.{fault_of_list};
+ghost use Rattle.nccheck.specs.declared.fault.FileFault.TheVariants.{CannotOpen, WriteFailed as write_failed};
+
+use devices::{OpenFailed, WriteFailed};
+use nc_fields::ListFault;
+
+/// Why a file could not be checked, or its lines not written.
+#[derive(Clone, Copy, Debug, PartialEq, Eq)]
+pub enum FileFault {
+    /// The path can't be opened.
+    CannotOpen,
+    /// The file could not be read.
+    ReadFailed,
+    /// An allocation failed.
+    OutOfMemory,
+    /// The sink failed. It took some prefix of the lines.
+    WriteFailed,
+}
+
+impl From<OpenFailed> for FileFault {
+    ghost from_gives = { λ _ e. e ≡ CannotOpen };
+
+    /// Turns a file that can't be opened into [`FileFault::CannotOpen`], for the `?` after the opening.
+    fn from(_failure: OpenFailed) -> FileFault {
+        FileFault::CannotOpen
+    }
+}
+
+impl From<ListFault> for FileFault {
+    ghost from_gives = { λ fault e. e ≡ fault_of_list fault };
+
+    /// Turns a fault of the check into the same fault of the file, for the `?` after `check`.
+    fn from(fault: ListFault) -> FileFault {
+        match fault {
+            ListFault::OutOfMemory => FileFault::OutOfMemory,
+            ListFault::ReadFailed => FileFault::ReadFailed,
+        }
+    }
+}
+
+impl From<WriteFailed> for FileFault {
+    ghost from_gives = { λ _ e. e ≡ write_failed };
+
+    /// Turns a failed write into [`FileFault::WriteFailed`], for the `?` after the write.
+    fn from(_failure: WriteFailed) -> FileFault {
+        FileFault::WriteFailed
+    }
+}

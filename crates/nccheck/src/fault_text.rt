@@ -1,0 +1,77 @@
+//! The line of each trouble, on standard error.
+
+ghost use Rattle.std.specs.Prelude.{◌≡◌};
+ghost use Rattle.devices.specs.code.SinkWrites.{Wrote};
+ghost use Rattle.nccheck.specs.Faults.{fault_words, file_line, flush_line, opt_fault_line, usage_line};
+
+use crate::fault::FileFault;
+use cli_base::OptFault;
+use devices::{Sink, WriteFailed, put};
+
+/// Writes the line that says why a file could not be checked: `nccheck: FILE: MESSAGE`.
+///
+/// # Errors
+///
+/// The sink failed. It took some prefix of the line.
+#[tactic(auto, using(devices::proofs::Writes::writes), unfolding(crate::specs::Faults::file_line))]
+pub(crate) fn put_file_fault<W: Sink>(
+    sink: &mut W,
+    file: &[u8],
+    fault: FileFault,
+) -> Result<(), WriteFailed>
+    ensures { Wrote W.view sink.old sink.new (file_line file.now fault) result }
+{
+    put(sink, b"nccheck: ")?;
+    put(sink, file)?;
+    put(sink, b": ")?;
+    put(sink, fault_words(fault).as_bytes())?;
+    put(sink, b"\n")
+}
+
+/// Returns the words for a fault of a file.
+#[tactic(auto, unfolding(crate::specs::Faults::fault_words))]
+fn fault_words(fault: FileFault) -> &'static str
+    ensures { result.now ≡ fault_words fault }
+{
+    match fault {
+        FileFault::CannotOpen => "cannot open",
+        FileFault::ReadFailed => "read failed",
+        FileFault::OutOfMemory => "out of memory",
+        FileFault::WriteFailed => "write failed",
+    }
+}
+
+/// Writes the line for a flush of standard output that failed.
+///
+/// # Errors
+///
+/// The sink failed. It took some prefix of the line.
+#[tactic(auto, unfolding(crate::specs::Faults::flush_line))]
+pub(crate) fn put_flush_fault<W: Sink>(sink: &mut W) -> Result<(), WriteFailed>
+    ensures { Wrote W.view sink.old sink.new flush_line result }
+{
+    put(sink, b"nccheck: write failed\n")
+}
+
+/// Writes the line of a fault of the command line: `nccheck: out of memory`, or how the program is used.
+///
+/// # Errors
+///
+/// The sink failed. It took some prefix of the line.
+#[tactic(auto, unfolding(crate::specs::Faults::opt_fault_line))]
+pub fn put_command_line_fault<W: Sink>(sink: &mut W, fault: OptFault) -> Result<(), WriteFailed>
+    ensures { Wrote W.view sink.old sink.new (opt_fault_line fault) result }
+{
+    match fault {
+        OptFault::OutOfMemory => put(sink, b"nccheck: out of memory\n"),
+        OptFault::Usage => put(sink, usage_line()),
+    }
+}
+
+/// Returns the line that says how the program is used.
+#[tactic(auto, unfolding(crate::specs::Faults::usage_line))]
+fn usage_line() -> &'static [u8]
+    ensures { result.now ≡ usage_line }
+{
+    b"usage: nccheck [-q] [-l level] file ...\n"
+}

@@ -1,0 +1,37 @@
+//! The program `nccheck`, which says what is wrong or odd in netCDF classic files: its lines, its options, and its whole run.
+//!
+//! [`put_lines`] writes a line for each finding of a report that is grave enough, and [`has_reported`] says whether there is one.
+//! [`options_of`] reads the matches of [`command`]. [`run_with`] is the whole program, but its caller gives it the opener of files and the
+//! standard streams, and flushes standard error.
+//!
+//! ```
+//! let report = check(alloc, &mut source, &mut buf)?;
+//! put_lines(out, b"a.nc", &report, Severity::Violation)?;
+//! let is_clean = !has_reported(&report, Severity::Violation);
+//! ```
+#![tactic(auto)]
+
+mod command_line;
+mod content;
+mod details;
+mod escaped;
+mod fault;
+mod fault_details;
+mod fault_text;
+mod field_path;
+mod known_names;
+mod layout_details;
+mod line;
+mod number;
+mod options;
+mod passed;
+mod report_lines;
+mod running;
+mod words;
+
+pub use cli_base::OptFault;
+pub use command_line::{command, options_of};
+pub use fault_text::put_command_line_fault;
+pub use options::CheckOptions;
+pub use report_lines::{has_reported, put_lines};
+pub use running::run_with;

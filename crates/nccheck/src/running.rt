@@ -1,0 +1,169 @@
+//! A run of the program.
+
+ghost use Rattle.std.specs.Prelude.{◌≡◌, ◌≤◌, IfOk, true};
+ghost use Rattle.std.specs.Bool.{OnTrue};
+ghost use Rattle.devices.specs.code.SinkWrites.{Wrote};
+ghost use Rattle.nccheck.specs.Runs.{Checks, ChecksNamed, shown};
+
+use crate::command_line::options_of_words;
+use crate::fault::FileFault;
+use crate::fault_text::{put_command_line_fault, put_file_fault, put_flush_fault};
+use crate::options::CheckOptions;
+use crate::report_lines::{has_reported, put_lines};
+use devices::{Flush, Opener, Sink, Source, WriteFailed};
+use nc_check::{Report, Severity, check};
+use std::alloc::Global;
+
+/// The status of a run in which nothing was reported of any file.
+const CLEAN: u8 = 0;
+
+/// The status of a run in which something was reported.
+const REPORTED: u8 = 1;
+
+/// The status of a run in which something could not be done.
+const TROUBLE: u8 = 2;
+
+/// Runs the program, and returns its exit status. `words` is the command line, with the program's name first; `opener` opens the files;
+/// `out` is standard output, and `err` is standard error.
+///
+/// The status is 2 if the words are no command line, if a file can't be opened or read, if standard output fails, or if an allocation fails;
+/// a line on standard error says so. Otherwise it is 1 if something was reported of a file, and 0 if nothing was. Files are checked in the
+/// order of the words. After a file that can't be opened or read the run goes on with the next one; a failure of standard output or of an
+/// allocation ends it. Standard output is flushed in any case. Standard error is not flushed.
+pub fn run_with<P: Opener, O: Flush, E: Sink>(
+    opener: &mut P,
+    alloc: Global,
+    words: &[&str],
+    out: &mut O,
+    err: &mut E,
+) -> u8
+    ensures status { result ≤ 2 }
+    ensures flushed { result ≤ 1 → O.is_flushed out.new ≡ true }
+{
+    let status = check_for_words(opener, alloc, words, out, err);
+    match out.flush() {
+        Ok(()) => status,
+        Err(_) => {
+            let _ = put_flush_fault(err);
+            TROUBLE
+        }
+    }
+}
+
+/// Checks the files that the words name, and returns the status.
+fn check_for_words<P: Opener, O: Sink, E: Sink>(
+    opener: &mut P,
+    alloc: Global,
+    words: &[&str],
+    out: &mut O,
+    err: &mut E,
+) -> u8
+    ensures { result ≤ 2 }
+{
+    match options_of_words(alloc, words) {
+        Ok(options) => check_files(opener, alloc, &options, out, err),
+        Err(fault) => {
+            let _ = put_command_line_fault(err, fault);
+            TROUBLE
+        }
+    }
+}
+
+/// Checks the files of the options, and returns the status.
+fn check_files<P: Opener, O: Sink, E: Sink>(
+    opener: &mut P,
+    alloc: Global,
+    options: &CheckOptions<'_>,
+    out: &mut O,
+    err: &mut E,
+) -> u8
+    ensures { result ≤ 2 }
+{
+    let mut status = CLEAN;
+    for file in options.files.as_slice() {
+        let answer = check_file(opener, alloc, file, options.level, options.is_quiet, out);
+        status = status.max(status_of(answer));
+        if let Err(fault) = answer {
+            let _ = put_file_fault(err, file.as_bytes(), fault);
+            if ends_run(fault) {
+                break;
+            }
+        }
+    }
+    status
+}
+
+/// Returns the status of a run over one file, with this answer.
+fn status_of(answer: Result<bool, FileFault>) -> u8
+    ensures { result ≤ 2 }
+{
+    match answer {
+        Ok(false) => CLEAN,
+        Ok(true) => REPORTED,
+        Err(_) => TROUBLE,
+    }
+}
+
+/// Returns true if a run doesn't go on after this fault.
+fn ends_run(fault: FileFault) -> bool {
+    matches!(fault, FileFault::OutOfMemory | FileFault::WriteFailed)
+}
+
+/// Checks the file at this path, writes its lines unless `is_quiet`, and gives the file back to the opener. Returns true if something was
+/// reported.
+fn check_file<P: Opener, O: Sink>(
+    opener: &mut P,
+    alloc: Global,
+    file: &str,
+    level: Severity,
+    is_quiet: bool,
+    out: &mut O,
+) -> Result<bool, FileFault>
+    ensures { OnTrue P.Source.is_transparent (ChecksNamed
+        (P.named opener.old file.now) file.now level is_quiet (O.view out.old) (O.view out.new) result) }
+{
+    let mut source = opener.open(file)?;
+    let answer = check_source(&mut source, alloc, file, level, is_quiet, out);
+    opener.close(source);
+    answer
+}
+
+/// The length of the buffer that a file is read through, in bytes.
+const BUFFER_LEN: usize = 4096;
+
+/// Checks the source's file through a buffer of 4096 bytes, and writes its lines unless `is_quiet`. Returns true if something was reported.
+fn check_source<S: Source, O: Sink>(
+    source: &mut S,
+    alloc: Global,
+    file: &str,
+    level: Severity,
+    is_quiet: bool,
+    out: &mut O,
+) -> Result<bool, FileFault>
+    ensures { OnTrue S.is_transparent (IfOk result (Checks
+        (S.view source.old).bytes file.now level is_quiet (O.view out.old) (O.view out.new))) }
+{
+    let mut buf = [0u8; BUFFER_LEN];
+    let report = check(alloc, source, &mut buf)?;
+    put_unless_quiet(out, file, &report, level, is_quiet)?;
+    Ok(has_reported(&report, level))
+}
+
+/// Writes the lines of a report, unless `is_quiet`.
+#[tactic(auto, using(devices::proofs::Writes::writes))]
+fn put_unless_quiet<O: Sink>(
+    out: &mut O,
+    file: &str,
+    report: &Report,
+    level: Severity,
+    is_quiet: bool,
+) -> Result<(), WriteFailed>
+    ensures { Wrote O.view out.old out.new
+        (shown level is_quiet file.now report.now.listing report.now.findings) result }
+{
+    if is_quiet {
+        Ok(())
+    } else {
+        put_lines(out, file.as_bytes(), report, level)
+    }
+}

@@ -1,0 +1,56 @@
+//! The program `nccheck [-q] [-l level] file ...`: what is wrong or odd in netCDF classic files.
+//!
+//! A line on standard output tells each finding, and a line on standard error each trouble. The exit status is 0 if nothing was reported,
+//! 1 if something was, and 2 after trouble.
+//!
+//! [`nccheck::run_with`] does all of this. This crate gives it the words of the command line, the files of the system, and the standard
+//! streams through buffers.
+#![tactic(auto)]
+
+use cli_base::OptFault;
+use devices::{Flush, IoSink, SystemFiles};
+use nccheck::{put_command_line_fault, run_with};
+use std::fs::File;
+use std::io::{BufWriter, Write};
+use std::process::ExitCode;
+use std::rt::{Env, Files};
+use std::{env, io};
+
+/// The capacity, in bytes, of the buffer between the lines and standard output.
+const LINES_HELD_BACK: usize = 65536;
+
+/// The capacity, in bytes, of the buffer before standard error. Lines that fit in the buffer are passed on in one write.
+const TROUBLE_HELD_BACK: usize = 4096;
+
+/// The exit status after trouble.
+const TROUBLE: u8 = 2;
+
+/// Runs the program, and returns its exit status.
+fn main(rt: HostRuntime) -> ExitCode {
+    match run_words(&rt, rt.stderr()) {
+        Ok(status) => ExitCode::from(status),
+        Err(fault) => {
+            // A line that standard error doesn't take changes no status.
+            let _ = put_command_line_fault(&mut IoSink::new(rt.stderr()), fault);
+            ExitCode::from(TROUBLE)
+        }
+    }
+}
+
+/// Runs the program on the words that it was called with, with `stderr` as standard error, and returns its exit status. Errs with
+/// `Usage` if a word isn't UTF-8, and with `OutOfMemory` if an allocation failed before the run. Trouble in the run is no error:
+/// [`run_with`] tells it on `stderr`, and the status is 2.
+fn run_words<R: Env + Files<File = File> + Print + AllocGlobal, E: Write + Drop>(
+    rt: &R,
+    stderr: E,
+) -> Result<u8, OptFault> {
+    let alloc = rt.alloc();
+    let arguments: Vec<String> = env::args(rt)?.collect(alloc)?;
+    let words: Vec<&str> = arguments.iter().map(|word| word.as_str()).collect(alloc)?;
+    let mut files = SystemFiles::new(rt);
+    let mut out = IoSink::new(BufWriter::with_capacity(alloc, LINES_HELD_BACK, io::writer(rt))?);
+    let mut err = IoSink::new(BufWriter::with_capacity(alloc, TROUBLE_HELD_BACK, stderr)?);
+    let status = run_with(&mut files, alloc, words.as_slice(), &mut out, &mut err);
+    let _ = err.flush();
+    Ok(status)
+}
