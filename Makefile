@@ -1,4 +1,4 @@
-# ncdump and ncgen for the netCDF classic formats. Everything is proved before it is built.
+# ncdump, ncgen and nccheck for the netCDF classic formats. Everything is proved before it is built.
 
 sample = samples/stations
 keep = mkdir -p bin && cp crates/$(1)_cli/out/$(1)_cli bin/$(1)
@@ -14,16 +14,16 @@ release = juniperbrick-$(shell cat VERSION)-linux-x86_64
 # the day of the newest version
 day = $(shell sed -n 's/^## .*(\(.*\))$$/\1/p' CHANGELOG.md | head -n 1)
 
-# Proves and builds the programs, makes a file of the sample's text, and prints it as CDL again.
-all: bin/ncdump bin/ncgen
+# Proves and builds the programs, makes a file of the sample's text, checks it, and prints it as CDL again.
+all: bin/ncdump bin/ncgen bin/nccheck
 	bin/ncgen -k nc6 -o bin/stations.nc $(sample).cdl
+	bin/nccheck bin/stations.nc
 	bin/ncdump bin/stations.nc
 
-# Proves and builds both programs, if anything has changed.
-# (tests, examples, edits, and libraries that no program uses are no part of them)
-bin/ncdump bin/ncgen &: $(wildcard build.sh HANDLES crates.txt) $(shell find crates \( -name out -o -name must-fail -o -name wrong-bodies \
-		-o -name 'test_*' -o -name 'example_*' -o -name uses -o -name nc_variable \
-		-o -name nc_fields -o -name nc_layout \) -prune -o -type f -print 2>/dev/null)
+# Proves and builds the programs, if anything has changed.
+# (tests, examples, edits, and a library that no program uses are no part of them)
+bin/ncdump bin/ncgen bin/nccheck &: $(wildcard build.sh HANDLES crates.txt) $(shell find crates \( -name out -o -name must-fail -o -name wrong-bodies \
+		-o -name 'test_*' -o -name 'example_*' -o -name uses -o -name nc_variable \) -prune -o -type f -print 2>/dev/null)
 	./build.sh
 
 # The merge gate, in parts that run side by side where none waits for another. A release has neither tests nor the sources that they prove.
@@ -41,6 +41,7 @@ test-proofs:
 	rt ci
 	$(call keep,ncdump)
 	$(call keep,ncgen)
+	$(call keep,nccheck)
 
 # Wrong definitions, which the laws have to refuse: they stand on nothing that is built here, and give way to the proofs.
 test-definitions:
@@ -77,8 +78,9 @@ unexport MAKEFLAGS
 install:
 	test -x bin/ncdump || $(MAKE) bin/ncdump
 	test -x bin/ncgen || $(MAKE) bin/ncgen
+	test -x bin/nccheck || $(MAKE) bin/nccheck
 	install -d $(programs) $(pages)/man1 $(pages)/man5 $(completions) $(documents)/docs $(documents)/samples
-	for name in ncdump ncgen; do \
+	for name in ncdump ncgen nccheck; do \
 		install -m 755 bin/$$name $(programs)/$(NAMES)$$name && \
 		install -m 644 man/$$name.1 $(pages)/man1/$(NAMES)$$name.1 && \
 		sed 's/ '$$name'$$/ $(NAMES)'$$name'/' completions/$$name >$(completions)/$(NAMES)$$name || exit 1; \
@@ -90,8 +92,8 @@ install:
 
 # Removes what `make install` has put there, if PREFIX and NAMES are the same.
 uninstall:
-	rm -f $(addprefix $(programs)/$(NAMES),ncdump ncgen) $(addprefix $(completions)/$(NAMES),ncdump ncgen)
-	rm -f $(addprefix $(pages)/man1/$(NAMES),ncdump.1 ncgen.1) $(pages)/man5/$(NAMES)cdl.5
+	rm -f $(addprefix $(programs)/$(NAMES),ncdump ncgen nccheck) $(addprefix $(completions)/$(NAMES),ncdump ncgen nccheck)
+	rm -f $(addprefix $(pages)/man1/$(NAMES),ncdump.1 ncgen.1 nccheck.1) $(pages)/man5/$(NAMES)cdl.5
 	rm -rf $(documents)
 
 # Packs the programs, the manual pages, the documents with the definitions that they lead to, and the samples into dist/RELEASE.tar.gz, the
@@ -100,11 +102,12 @@ uninstall:
 dist:
 	test -x bin/ncdump || $(MAKE) bin/ncdump
 	test -x bin/ncgen || $(MAKE) bin/ncgen
+	test -x bin/nccheck || $(MAKE) bin/nccheck
 	rm -rf dist
 	mkdir dist
 	folder=$$(mktemp -d) && trap 'rm -rf "$$folder"' EXIT && to=$$folder/$(release) && \
 		install -d $$to/bin $$to/man $$to/docs $$to/samples $$to/completions && \
-		install -s -m 755 bin/ncdump bin/ncgen $$to/bin && \
+		install -s -m 755 bin/ncdump bin/ncgen bin/nccheck $$to/bin && \
 		install -m 644 man/* $$to/man && \
 		install -m 644 docs/* $$to/docs && \
 		install -m 644 completions/* $$to/completions && \

@@ -1,6 +1,6 @@
 #!/usr/bin/env bash
 # Proves and builds the programs into bin/. rt ci keeps what it has proved: `make test` doesn't prove it again, nor does this after `make
-# test`. Here it runs in a copy without the crates of tests and examples, and without the libraries that no program uses. A crate gets two
+# test`. Here it runs in a copy without the crates of tests and examples, and without the library that no program uses. A crate gets two
 # processors if nothing else can be proved at the same time. So it runs for the longest chain of crates alone, and beside that, a little less
 # urgently, for the others.
 set -euo pipefail
@@ -12,15 +12,16 @@ fi
 
 copy=$(mktemp -d)
 trap 'rm -rf "$copy"' EXIT
-grep -v '^test_\|^example_\|^uses\|^nc_variable\|^nc_fields\|^nc_layout' crates.txt >"$copy/crates.txt"
-tar -c --exclude=out --exclude=must-fail --exclude=crates/test_\* --exclude=crates/example_\* --exclude=crates/uses --exclude=crates/nc_variable --exclude=crates/nc_fields \
-    --exclude=crates/nc_layout HANDLES crates | tar -x -C "$copy"
+grep -v '^test_\|^example_\|^uses\|^nc_variable' crates.txt >"$copy/crates.txt"
+tar -c --exclude=out --exclude=must-fail --exclude=crates/test_\* --exclude=crates/example_\* --exclude=crates/uses --exclude=crates/nc_variable \
+    HANDLES crates | tar -x -C "$copy"
 
 prove() {
     trap 'kill $(jobs -p) 2>/dev/null || true' EXIT
     cd "$copy"
     rt ci nc_base || return
     nice -n 5 rt ci ncdump_cli &
+    nice -n 5 rt ci nccheck_cli &
     rt ci cdl_meaning || return
     nice -n 5 rt ci cdl_laws &
     rt ci cdl_parse || return
@@ -35,6 +36,6 @@ if ! (prove) 2>&1 | tee bin/build.log | grep '^rt: '; then
     echo "The programs are not built. bin/build.log has all that was said."
     exit 1
 fi
-for program in ncdump ncgen; do
+for program in ncdump ncgen nccheck; do
     cp "$copy/crates/${program}_cli/out/${program}_cli" bin/$program
 done

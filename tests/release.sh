@@ -1,5 +1,5 @@
 #!/usr/bin/env bash
-# Packs a release of bin/ncdump and bin/ncgen, unpacks it, installs it as one does who has no kit, and runs what is installed.
+# Packs a release of the programs in bin/, unpacks it, installs it as one does who has no kit, and runs what is installed.
 set -u
 . "$(dirname "$0")/verdicts.sh"
 version=$(cat "$top/VERSION")
@@ -40,7 +40,7 @@ run "$work/usr/bin/ncdump" "$work/note.nc"
 verdict installed_ncdump 0
 
 run ls "$work/usr/share/man/man1" "$work/usr/share/man/man5"
-stdout "$work/usr/share/man/man1:\nncdump.1\nncgen.1\n\n$work/usr/share/man/man5:\ncdl.5\n"
+stdout "$work/usr/share/man/man1:\nnccheck.1\nncdump.1\nncgen.1\n\n$work/usr/share/man/man5:\ncdl.5\n"
 verdict installed_pages 0
 run cmp samples/note.nc "$work/usr/share/doc/juniperbrick/samples/note.nc"
 verdict installed_samples 0
@@ -69,8 +69,8 @@ run env PATH="$work/path" make -s install DESTDIR="$work" PREFIX=/usr NAMES=juni
 verdict installs_under_other_names 0
 run find "$work/usr" -type f -not -path '*/doc/*' -printf '%P\n'
 sort -o "$work/got/stdout" "$work/got/stdout"
-stdout "$(printf '%s\n' bin/juniper-{ncdump,ncgen} share/bash-completion/completions/juniper-{ncdump,ncgen} \
-    share/man/man1/juniper-{ncdump,ncgen}.1 share/man/man5/juniper-cdl.5)\n"
+stdout "$(printf '%s\n' bin/juniper-{nccheck,ncdump,ncgen} share/bash-completion/completions/juniper-{nccheck,ncdump,ncgen} \
+    share/man/man1/juniper-{nccheck,ncdump,ncgen}.1 share/man/man5/juniper-cdl.5)\n"
 verdict other_names 0
 run completed juniper-ncgen -k nc5
 stdout 'nc5\n'
