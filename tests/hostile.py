@@ -8,7 +8,8 @@ Each run has 256 MiB of memory and 5 seconds. Of each answer:
 
 - the status is 0 and standard error is empty, or it is 1 and standard error is one line that names the file and a fault;
 - no dump begins where the header has a fault; where data are cut short the text is a prefix of that of the whole file;
-- a check of the file finds the fault of a dump first, missing values where data are cut short, and none of both where all is printed;
+- each line of a check is that of a finding; a check finds the fault of a dump first, missing values where data are cut short, and none of
+  both where all is printed;
 - a refused text leaves no output, and the line that its fault names is one of the text;
 - what is generated is dumped; what is generated from that dump is dumped and generated once more, byte for byte;
 - a text whose rows pass the limit on an array is too large, however few strings it has;
@@ -29,9 +30,7 @@ from pathlib import Path
 
 from datasets import Datasets
 
-TOP = Path(__file__).resolve().parent.parent
-BIN = TOP / "bin"
-CHECK = TOP / "crates/example_check/out/example_check"
+BIN = Path(__file__).resolve().parent.parent / "bin"
 MEMORY = 256 << 20
 SECONDS = 5
 # how many cases one seed's dataset gives
@@ -42,19 +41,20 @@ HEADER_FAULT = re.compile(
 )
 # the kinds of findings that are faults of a header, by the words for the fault
 KINDS = {
-    b"not a netCDF classic file": b"NotNetcdf",
-    b"unknown version": b"UnknownVersion",
-    b"header truncated": b"HeaderTruncated",
-    b"bad tag": b"BadTag",
-    b"bad count": b"BadCount",
-    b"bad name": b"BadName",
-    b"bad type": b"BadType",
-    b"bad shape": b"BadShape",
-    b"bad offset": b"BadOffset",
-    b"floating type": b"FloatingType",
-    b"two record dimensions": b"TwoRecordDims",
-    b"too large": b"TooLarge",
+    b"not a netCDF classic file": b"not-netcdf",
+    b"unknown version": b"unknown-version",
+    b"header truncated": b"header-truncated",
+    b"bad tag": b"bad-tag",
+    b"bad count": b"bad-count",
+    b"bad name": b"bad-name",
+    b"bad type": b"bad-type",
+    b"bad shape": b"bad-shape",
+    b"bad offset": b"bad-offset",
+    b"floating type": b"floating-type",
+    b"two record dimensions": b"two-record-dims",
+    b"too large": b"too-large",
 }
+FINDING = re.compile(rb"case\.nc:\d+: (?:error|violation|note): ([a-z-]+): .*")
 DATA_FAULT = re.compile(rb"variable \d+: data truncated at value \d+")
 NAME_FAULT = re.compile(rb"no such variable: item \d+ of -v")
 TEXT_FAULT = re.compile(
@@ -143,12 +143,18 @@ class Cases:
 
     def check(self, fault):
         """The check of a file finds what a dump of all has found."""
-        kinds = [line.split()[1] for line in run(CHECK, "case.nc").stdout.splitlines()]
+        ran = subprocess.run([BIN / "nccheck", "-l", "note", "case.nc"], capture_output=True, timeout=SECONDS)
+        if ran.stderr or ran.returncode != (1 if ran.stdout else 0):
+            raise Broken(f"nccheck: status {ran.returncode} with {ran.stderr!r}")
+        lines = [FINDING.fullmatch(line) for line in ran.stdout.splitlines()]
+        if None in lines:
+            raise Broken(f"nccheck: {ran.stdout!r} has something else than lines of findings")
+        kinds = [line[1] for line in lines]
         faults = [kind for kind in kinds if kind in KINDS.values()]
         wanted = KINDS.get(re.sub(rb" \d+$", b"", fault))
         if faults[:1] != ([wanted] if wanted else []):
             raise Broken(f"a dump has the fault {fault!r}, and a check finds {faults}")
-        if not wanted and (b"Missing" in kinds) != bool(DATA_FAULT.fullmatch(fault)):
+        if not wanted and (b"missing" in kinds) != bool(DATA_FAULT.fullmatch(fault)):
             raise Broken(f"a dump has the fault {fault!r}, and a check finds {kinds}")
 
     def dumped(self, some, options):

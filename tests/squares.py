@@ -4,7 +4,7 @@
     tests/squares.py
 
 Each text is generated, and each file that is made so is dumped, with n parts and with 4n. Headers with many parts, most of them with as
-many findings, are checked by the program of crates/example_check. The processor time for 4n has to keep a bound, far above what it takes, and to be less than 8 times that for n, or than 8 times FLOOR. A time that grows in step with the parts
+many findings, are checked. The processor time for 4n has to keep a bound, far above what it takes, and to be less than 8 times that for n, or than 8 times FLOOR. A time that grows in step with the parts
 is 4 times as long, and one that grows with their square 16 times. The last line is 'N passed, M failed'.
 """
 
@@ -16,9 +16,7 @@ import sys
 import tempfile
 from pathlib import Path
 
-TOP = Path(__file__).resolve().parent.parent
-BIN = TOP / "bin"
-CHECK = TOP / "crates/example_check/out/example_check"
+BIN = Path(__file__).resolve().parent.parent / "bin"
 # seconds of processor time; a run that took less counts as this
 FLOOR = 0.01
 # how often each time is taken; the least counts
@@ -306,9 +304,9 @@ def usage_of(seconds, words, status=0):
     return usage
 
 
-def least_time(seconds, *words):
-    """The least processor time of a program that is run TIMES times."""
-    usages = [usage_of(seconds, words) for _ in range(TIMES)]
+def least_time(seconds, *words, status=0):
+    """The least processor time of a program that is run TIMES times, and ends with this status."""
+    usages = [usage_of(seconds, words, status) for _ in range(TIMES)]
     return min(it.ru_utime + it.ru_stime for it in usages)
 
 
@@ -349,7 +347,7 @@ def checked(kind):
 
     def taken(parts):
         Path("many.nc").write_bytes(build(parts))
-        return least_time(seconds, CHECK, "many.nc")
+        return least_time(seconds, BIN / "nccheck", "-l", "note", "many.nc", status=1)
 
     return compared(taken(n), taken(4 * n), seconds) + " checked"
 
