@@ -3,12 +3,6 @@
 //! [`put_lines`] writes a line for each finding of a report that is grave enough, and [`has_reported`] says whether there is one.
 //! [`options_of`] reads the matches of [`command`]. [`run_with`] is the whole program, but its caller gives it the opener of files and the
 //! standard streams, and flushes standard error.
-//!
-//! ```
-//! let report = check(alloc, &mut source, &mut buf)?;
-//! put_lines(out, b"a.nc", &report, Severity::Violation)?;
-//! let is_clean = !has_reported(&report, Severity::Violation);
-//! ```
 #![tactic(auto)]
 
 mod command_line;
