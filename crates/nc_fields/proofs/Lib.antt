@@ -9,3 +9,5 @@ pub mod Agreement
 pub mod OddNames
 pub mod AgreeingParts
 pub mod StrictHeaders
+pub mod Written
+pub mod WrittenParts
