@@ -11,3 +11,4 @@ pub mod AgreeingParts
 pub mod StrictHeaders
 pub mod Written
 pub mod WrittenParts
+pub mod Vsizes

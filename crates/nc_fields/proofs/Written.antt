@@ -24,14 +24,14 @@ whole_field steps from n = record { steps = steps; start = from; size = n; fault
 at-start : (content rest : Bytes) (n : ℕ) → length content ≡ n → take n (content ++ rest) ≡ content
 at-start content rest n count = rw (← count) (take-append_seam content rest)
 
-bytes-fields : (steps : List Step) (n : ℕ) (cut : FormatFault) (from content rest : Bytes) → length content ≡ n → from ≡ content ++ rest
+pub bytes-fields : (steps : List Step) (n : ℕ) (cut : FormatFault) (from content rest : Bytes) → length content ≡ n → from ≡ content ++ rest
     → fields steps (bytes n cut) from ≡ whole_field steps from n ∷ []
 unfolding fields
 bytes-fields steps n cut from content rest count is =
     let enough : leb n (length from) ≡ true = le-leb _ _ (omega (arith, count, ap length is, length-append content rest)) in
     ap (λ (b : Bool). record { steps = steps; start = from; size = n; fault = if b then None else Some cut } ∷ []) enough
 
-decoded-fields : {A B : Type 0} (steps : List Step) (decode : A → Result B FormatFault) (encode : B → A) (p : Part A)
+pub decoded-fields : {A B : Type 0} (steps : List Step) (decode : A → Result B FormatFault) (encode : B → A) (p : Part A)
     (from : Bytes) (x : A) (y : B) (rest : Bytes) → Spells p from x rest → decode x ≡ Ok y
     → fields steps (decoded decode encode p) from ≡ fields steps p from
 unfolding fields
@@ -42,7 +42,7 @@ decoded-fields {A = A} steps decode encode p from x y rest s e =
     ]) (reads p from x rest s)
     ∙ ap (λ r. judged r (fields steps p from)) e
 
-chain-fields : {A B : Type 0} (steps : List Step) (get : B → Option A) (p : Part A) (next : A → Part B)
+pub chain-fields : {A B : Type 0} (steps : List Step) (get : B → Option A) (p : Part A) (next : A → Part B)
     (from : Bytes) (x : A) (middle : Bytes) → Spells p from x middle
     → fields steps (chain get p next) from ≡ fields steps p from ++ fields steps (next x) middle
 unfolding fields

@@ -4,7 +4,7 @@ use Rattle.std.specs.Prelude.{ℕ, ◌≡◌, ◌==◌, ◌&&◌, not, false, Li
 use Rattle.nc_base.specs.declared.{header.Var.Var, header.Header.Header}
 use Rattle.nc_base.specs.Bytes.{Bytes, AreBytes}
 use Rattle.nc_base.specs.Sizes.{padded_size}
-use Rattle.nc_base.specs.Parts.{Step, Tag, Item, Padding, Vsize}
+use Rattle.nc_base.specs.Parts.{Step, Tag, Count, Item, Padding, Vsize}
 use Rattle.nc_base.specs.Grammar.{vsize_of, SpellsHeader, header_spelling}
 use Rattle.nc_fields.specs.Fields.{Field}
 use Rattle.nc_fields.specs.Entries.{number_in}
@@ -18,10 +18,15 @@ bytes_of f = take f.size f.start
 abbrev pub number_of : Field → ℕ
 number_of f = number_in f.size (bytes_of f)
 
--- of a tag that these fields follow: it isn't that of a list without elements, unless it is 0
+-- of a list's tag, and the field with these steps and this number: a list without elements has the tag 0
+abbrev pub IsWrittenCount : ℕ → List Step → ℕ → Type 0
+IsWrittenCount tag (Count ∷ steps) count = (not (tag == 0) && (count == 0)) ≡ false
+IsWrittenCount tag steps count = Unit {0}
+
+-- of a list's tag that these fields follow
 abbrev pub IsWrittenTag : ℕ → List Field → Type 0
 IsWrittenTag tag [] = Unit {0}
-IsWrittenTag tag (count ∷ after) = (not (tag == 0) && (number_of count == 0)) ≡ false
+IsWrittenTag tag (f ∷ after) = IsWrittenCount tag f.steps (number_of f)
 
 -- of the vsize of the variable at this index
 abbrev pub IsWrittenVsize : Header → ℕ → ℕ → Type 0
