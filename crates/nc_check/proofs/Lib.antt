@@ -2,3 +2,5 @@ mod IndexedLists
 mod NameKeys
 mod Located
 mod Reported
+mod QuietFields
+mod QuietHeaders

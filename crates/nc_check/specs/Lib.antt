@@ -8,3 +8,4 @@ pub mod WholeHeader
 pub mod Kinds
 pub mod Reports
 pub mod code
+pub mod Laws

@@ -11,6 +11,7 @@ mod field_rules;
 mod finding;
 mod header_rules;
 mod kind;
+mod laws;
 mod name_rules;
 mod names;
 mod number_fields;
@@ -19,6 +20,7 @@ mod whole_header;
 
 pub use finding::{Fact, Finding};
 pub use kind::{Kind, Severity};
+pub use laws::quiet_spellings_are_canonical;
 pub use report::{Report, check};
 
 #[cfg(test)]
