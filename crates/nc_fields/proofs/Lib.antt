@@ -12,3 +12,4 @@ pub mod StrictHeaders
 pub mod Written
 pub mod WrittenParts
 pub mod Vsizes
+pub mod TypeSizes

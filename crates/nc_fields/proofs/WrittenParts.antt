@@ -39,7 +39,8 @@ passed true wrong e = (refl, cc)
 passed false wrong e = absurd cc
 
 writes-tested : {A : Type 0} {h : Header} {steps : List Step} (test : A → Bool) (fault : FormatFault) {p q : Part A} {from : Bytes}
-    {x y : A} {rest : Bytes} → Writes h (λ x. x) steps p q from x rest → ◌≡◌ {A = Result A FormatFault} (if test x then Ok x else Err fault) (Ok y)
+    {x y : A} {rest : Bytes} → Writes h (λ x. x) steps p q from x rest
+    → ◌≡◌ {A = Result A FormatFault} (if test x then Ok x else Err fault) (Ok y)
     → Writes h (λ x. x) steps (checked test fault p) (checked test fault q) from y rest
 writes-tested test fault {x = x} w e =
     writes-decoded (λ x. if test x then Ok x else Err fault) (λ x. x) (λ x. if test x then Ok x else Err fault) (λ x. x) w e
