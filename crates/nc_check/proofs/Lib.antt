@@ -4,3 +4,4 @@ mod Located
 mod Reported
 mod QuietFields
 mod QuietHeaders
+mod Unfaulted

@@ -59,7 +59,8 @@ AreQuiet (s ∷ after) = (s.fault ≡ None → Shows s.steps s.content after) ×
 
 -- ---- from the findings
 
-padding-shows : (b : Bool) (f : Indexed) (more : List Fact) → AreOther (map (finding f) (option_to_list (if b then Some fact.Padding else None) ++ more)) → b ≡ false
+padding-shows : (b : Bool) (f : Indexed) (more : List Fact)
+    → AreOther (map (finding f) (option_to_list (if b then Some fact.Padding else None) ++ more)) → b ≡ false
 padding-shows true f more e = absurd cc
 padding-shows false f more e = refl
 
@@ -112,13 +113,15 @@ place-shows name.VarsCount o f k after e d = tt
 place-shows name.NameLength o f k after e d = tt
 place-shows name.Name o f k after e d = tt
 place-shows name.NamePadding o f k after e d =
-    filling-shows (Name ∷ owner_steps o) name.NamePadding f f.entry.content (map seen_by after) (λ bs e. padding-shows (has_nonzero bs) f _ e) e
+    filling-shows (Name ∷ owner_steps o) name.NamePadding f f.entry.content (map seen_by after)
+    (λ bs e. padding-shows (has_nonzero bs) f _ e) e
 place-shows name.Length o f k after e d = tt
 place-shows name.Type o f k after e d = tt
 place-shows name.Count o f k after e d = tt
 place-shows name.Values o f k after e d = tt
 place-shows name.Padding o f k after e d =
-    filling-shows (owner_steps o) name.Padding f f.entry.content (map seen_by after) (λ bs e. padding-shows (has_nonzero bs) f _ e) e
+    filling-shows (owner_steps o) name.Padding f f.entry.content (map seen_by after)
+    (λ bs e. padding-shows (has_nonzero bs) f _ e) e
 place-shows name.Rank o f k after e d = tt
 place-shows (name.DimId i) o f k after e d = tt
 place-shows name.AttsTag o f k after e d = tag-shows (Atts ∷ owner_steps o) f f.entry.content k after d
@@ -133,7 +136,8 @@ quiet-entries k [] e d = tt
 quiet-entries k (entry ∷ entries) e d =
     let f = field_at k entry in
     let at = both-other (findings_at f) (field_findings (indexed_from (k + 1) entries)) e in
-    let by = both-other (option_to_list (attribute_finding f (indexed_from (k + 1) entries))) (attribute_findings (indexed_from (k + 1) entries)) d in (
+    let by =
+    both-other (option_to_list (attribute_finding f (indexed_from (k + 1) entries))) (attribute_findings (indexed_from (k + 1) entries)) d in (
       λ sound.
           place-shows entry.place.name entry.place.owner f (k + 1) entries
           (subst (λ fault. AreOther (map (finding f) (facts_with fault entry.place.name entry.content))) sound at.0)

@@ -60,9 +60,12 @@ named-seen len k (e ∷ es) (f ∷ fs) same =
   where
     by-test : (a b : Bool) → a ≡ b → seen_by e ≡ seen len f
         → map (λ (f : Indexed). seen_by f.entry) (named is_vsize (indexed_from (k + 1) es)) ≡ map (seen len) (vsizes fs)
-        → map (λ (f : Indexed). seen_by f.entry) (cond a (field_at k e ∷ named is_vsize (indexed_from (k + 1) es)) (named is_vsize (indexed_from (k + 1) es)))
+        → map (λ (f : Indexed). seen_by f.entry)
+        (cond a (field_at k e ∷ named is_vsize (indexed_from (k + 1) es)) (named is_vsize (indexed_from (k + 1) es)))
         ≡ map (seen len) (cond b (f ∷ vsizes fs) (vsizes fs))
-    by-test true true kind first more = ap (λ (s : Seen). s ∷ map (λ (f : Indexed). seen_by f.entry) (named is_vsize (indexed_from (k + 1) es))) first ∙ ap (λ (ss : List Seen). seen len f ∷ ss) more
+    by-test true true kind first more =
+        ap (λ (s : Seen). s ∷ map (λ (f : Indexed). seen_by f.entry) (named is_vsize (indexed_from (k + 1) es))) first
+        ∙ ap (λ (ss : List Seen). seen len f ∷ ss) more
     by-test true false kind first more = absurd cc
     by-test false true kind first more = absurd cc
     by-test false false kind first more = more
@@ -140,9 +143,11 @@ sizes-other : (h : Header) (end len : ℕ) (entries : List Indexed)
     (option_to_list (vsize_finding h.version (padded_size h.dims var) (slice_get (named is_vsize entries) i))))
 unfolding vsize_findings
 sizes-other h end len entries other i =
-    let find : ℕ → Slot → List Finding = λ (i : ℕ) (slot : Slot). option_to_list (vsize_finding h.version (padded_slab slot) (slice_get (named is_vsize entries) i)) in
+    let find : ℕ → Slot → List Finding = λ (i : ℕ) (slot : Slot).
+    option_to_list (vsize_finding h.version (padded_slab slot) (slice_get (named is_vsize entries) i)) in
     some-mapped (λ (var : Var). AreOther (find i (slot_of h.dims var))) var_without_values (slice_get h.vars i)
-    (subst (λ (o : Option Var). IfSome o (λ (var : Var). AreOther (find i (slot_of h.dims var)))) (slice_get-map var_without_values h.vars i)
+    (subst (λ (o : Option Var). IfSome o (λ (var : Var). AreOther (find i (slot_of h.dims var))))
+    (slice_get-map var_without_values h.vars i)
     (subst (λ j. IfSome (slice_get (map var_without_values h.vars) i) (λ (var : Var). AreOther (find j (slot_of h.dims var)))) (from-zero i)
     (slots-other find h.dims (map var_without_values h.vars) 0 i other)))
 
@@ -151,7 +156,8 @@ found-size : (v : Version) (padded : ℕ) (o : Option Indexed) (f : Indexed) (n 
 found-size v padded o f n is number other =
     let there = subst (λ (o : Option Indexed). AreOther (option_to_list (vsize_finding v padded o))) is other in
     let same : content_number f.entry.content ≡ n = ap content_number number in
-    sym same ∙ size-expected (content_number f.entry.content) (vsize_of v padded) f (content_number f.entry.content == vsize_of v padded) refl there
+    sym same
+    ∙ size-expected (content_number f.entry.content) (vsize_of v padded) f (content_number f.entry.content == vsize_of v padded) refl there
 
 size-at : (h : Header) (len i : ℕ) (entries : List Indexed) (fs : List Field)
     → map (λ (x : Indexed). seen_by x.entry) (named is_vsize entries) ≡ map (seen len) fs → AreWhole fs → AreNumbered 0 fs
@@ -187,7 +193,9 @@ read-header from h rest end (Ok k) is told =
     let both : (k, end) ≡ (h, rest) = cc in
     ap (λ (x : Header × Bytes). Ok x.0) both
 read-header from h rest end (Err fault) is told =
-    absurd (let same : ◌≡◌ {A = Outcome Header} (Err (fault, end)) (Ok (h, rest)) = sym (stops (header_by lenient) from fault end told) ∙ is in cc)
+    absurd
+    (let same : ◌≡◌ {A = Outcome Header} (Err (fault, end)) (Ok (h, rest)) = sym (stops (header_by lenient) from fault end told) ∙ is in
+    cc)
 
 entries-quiet : (l : Listing) → AreOther (header_findings l.entries) → AreQuiet (map seen_by l.entries)
 unfolding header_findings
@@ -208,7 +216,8 @@ quiet-spellings from r h rest are report s quiet =
     let at = header-numbered lenient from k rest spelled in
     let other = both-other (header_findings l.entries) (whole_findings l)
     (list_any-IsPermutation (λ (f : Finding). is_of_spelling f.fact) (all_findings l) r.findings report.all ∙ quiet) in
-    let header = read-header from k rest report.listing.rest l.header (reads (header_by lenient) from k rest spelled) report.listing.header in
+    let header =
+    read-header from k rest report.listing.rest l.header (reads (header_by lenient) from k rest spelled) report.listing.header in
     let sizes = sizes-other h l.end l.file_len (indexed l.entries) (whole-other l k header other.1) in
     let same = named-seen (length from) 0 l.entries fs report.listing.entries in
     written-fields from h rest are s

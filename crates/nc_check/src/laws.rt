@@ -1,10 +1,16 @@
-//! A law of the definitions in `specs/`, the contract of a function that does nothing.
+//! Laws of the definitions in `specs/`, each the contract of a function that does nothing.
 
-ghost use Rattle.nc_check.specs.Laws.{QuietSpellingsAreCanonical};
+ghost use Rattle.nc_check.specs.Laws.{QuietSpellingsAreCanonical, UnfaultedHeadersAreSpelled, QuietHeadersAreCanonical};
 
-/// States a law, and does nothing: if bytes spell a header by the strict rules, those by which values are read, and their report has no
-/// finding of padding that isn't zeros, of a list that has its own tag without elements, or of a wrong size of a variable, then they begin
-/// with the one spelling in which the header is written.
-pub fn quiet_spellings_are_canonical()
-    ensures { QuietSpellingsAreCanonical }
+/// States three laws of the report of a file, and does nothing. `spelled`: if it has no fault, then the file begins with a header by the
+/// strict rules, those by which values are read.
+///
+/// `spelling`: if the file begins with such a header, and the report has no padding that isn't zeros, no list that has its own tag without
+/// elements, and no wrong size of a variable, then the file begins with the one spelling in which this header is written.
+///
+/// `canonical`: so a file begins with the one spelling of its header if its report has no finding of these kinds and no fault.
+pub fn quiet_headers_are_canonical()
+    ensures spelled { UnfaultedHeadersAreSpelled }
+    ensures spelling { QuietSpellingsAreCanonical }
+    ensures canonical { QuietHeadersAreCanonical }
 {}

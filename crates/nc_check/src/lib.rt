@@ -20,7 +20,7 @@ mod whole_header;
 
 pub use finding::{Fact, Finding};
 pub use kind::{Kind, Severity};
-pub use laws::quiet_spellings_are_canonical;
+pub use laws::quiet_headers_are_canonical;
 pub use report::{Report, check};
 
 #[cfg(test)]
