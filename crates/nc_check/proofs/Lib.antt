@@ -6,3 +6,6 @@ mod Refusals
 mod FaultFindings
 mod QuietRules
 mod FirstFaults
+mod QuietFields
+mod QuietHeaders
+mod Unfaulted

@@ -9,3 +9,4 @@ pub mod Kinds
 pub mod Reports
 pub mod code
 pub mod FaultLaws
+pub mod Laws

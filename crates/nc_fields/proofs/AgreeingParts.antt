@@ -262,7 +262,7 @@ agree-var v dims total steps =
     (λ begin. agree-done refl))))))
 
 -- the bytes of a record don't depend on values of attributes
-same-total : (dims : List Dim) (vars : List Var)
+pub same-total : (dims : List Dim) (vars : List Var)
     → padded_total dims (record_vars dims (map var_without_values vars)) ≡ padded_total dims (record_vars dims vars)
 same-total dims [] = refl
 same-total dims (var ∷ vars) =

@@ -10,3 +10,7 @@ pub mod OddNames
 pub mod AgreeingParts
 pub mod StrictHeaders
 pub mod FieldOrder
+pub mod Written
+pub mod WrittenParts
+pub mod Vsizes
+pub mod TypeSizes

@@ -6,7 +6,7 @@ use Rattle.nc_base.specs.Grammar.{is_within_limits, record_bytes}
 use Rattle.nc_fields.proofs.Checks.{IsFieldOf, IsJudged, raw-number, itself, decoded-judged}
 
 -- a number of as many bytes as counts have
-number-in_count : (v : Version) (bs : Bytes) → number_in (byte_len (count_width v)) bs ≡ from_be_bytes (count_width v) bs
+pub number-in_count : (v : Version) (bs : Bytes) → number_in (byte_len (count_width v)) bs ≡ from_be_bytes (count_width v) bs
 number-in_count Cdf1 bs = refl
 number-in_count Cdf2 bs = refl
 number-in_count Cdf5 bs = refl

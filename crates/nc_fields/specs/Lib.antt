@@ -4,3 +4,4 @@ pub mod Entries
 pub mod Listings
 pub mod code
 pub mod Agreement
+pub mod Written

@@ -22,6 +22,6 @@ mod variable;
 
 pub use entry::{Content, Entry};
 pub use header::{Listing, list_fields};
-pub use laws::strict_rules_refuse_fields;
+pub use laws::{strict_rules_refuse_fields, written_fields_are_canonical};
 pub use list_fault::ListFault;
 pub use place::{FieldName, Owner, Place};
