@@ -103,6 +103,7 @@ vars-typed r v dims steps =
 pub header-type-sizes : (r : Rules) (from : Bytes) → HaveTypeSizes (fields [] (header_by r) from)
 unfolding header_by magic_part version_part numrecs_part number
 header-type-sizes r from =
-    typed-fields [] (header_by r) from
-    ((tt, λ letters. tt),
-    λ v. (tt, λ n. (dims-typed r v (Dims ∷ []), λ dims. (atts-typed r v (Gatts ∷ []), λ gatts. (vars-typed r v dims (Vars ∷ []), λ vars. tt)))))
+    typed-fields [] (header_by r) from (
+      (tt, λ letters. tt),
+      λ v. (tt, λ n. (dims-typed r v (Dims ∷ []), λ dims. (atts-typed r v (Gatts ∷ []), λ gatts. (vars-typed r v dims (Vars ∷ []), λ vars. tt)))),
+    )
