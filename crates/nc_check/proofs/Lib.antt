@@ -6,3 +6,4 @@ mod Refusals
 mod FaultFindings
 mod QuietRules
 mod FirstFaults
+mod MissingFindings

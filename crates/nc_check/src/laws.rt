@@ -1,6 +1,6 @@
-//! A law of the definitions in `specs/`, the contract of a function that does nothing.
+//! Laws of the definitions in `specs/`, the contracts of functions that do nothing.
 
-ghost use Rattle.nc_check.specs.FaultLaws.{FaultlessHeadersAreReadable, FirstFaultIsReaders};
+ghost use Rattle.nc_check.specs.FaultLaws.{FaultlessHeadersAreReadable, FirstFaultIsReaders, ReportsTellMissingValues};
 
 /// States two laws, and does nothing. `faultless`: no finding of a report is a fault ([`Fact::Fault`](crate::Fact::Fault)) exactly if
 /// `nc_file::read_header` can read the header.
@@ -10,4 +10,11 @@ ghost use Rattle.nc_check.specs.FaultLaws.{FaultlessHeadersAreReadable, FirstFau
 pub fn first_fault_is_the_readers()
     ensures faultless { FaultlessHeadersAreReadable }
     ensures first { FirstFaultIsReaders }
+{}
+
+/// States a law, and does nothing: if `nc_file::read_header` can read the header of a file, then a finding of its report is that values are
+/// missing ([`LayoutFact::Missing`](nc_layout::LayoutFact::Missing)) exactly if some variable has a first missing value, at which `ncdump`
+/// stops. So, by `faultless` above, no finding is a fault or of missing values exactly if every value of the file can be read.
+pub fn reports_tell_missing_values()
+    ensures { ReportsTellMissingValues }
 {}
