@@ -24,10 +24,10 @@ use Rattle.nc_check.proofs.Refusals.{refusal_of}
 abbrev NoFault : Fact → Type 0
 NoFault fact = is_fault fact ≡ false
 
-only : {X : Type 0} (P : X → Type 0) (x : X) → P x → All P (x ∷ [])
+pub only : {X : Type 0} (P : X → Type 0) (x : X) → P x → All P (x ∷ [])
 only P x is = All-cons P x [] is (All-nil P)
 
-if-none : (P : Fact → Type 0) (b : Bool) (fact : Fact) → P fact → All P (option_to_list (fact_if b fact))
+pub if-none : (P : Fact → Type 0) (b : Bool) (fact : Fact) → P fact → All P (option_to_list (fact_if b fact))
 if-none P true fact is = only P fact is
 if-none P false fact is = All-nil P
 

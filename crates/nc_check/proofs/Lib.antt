@@ -8,4 +8,4 @@ mod QuietRules
 mod FirstFaults
 mod QuietFields
 mod QuietHeaders
-mod Unfaulted
+mod MissingFindings

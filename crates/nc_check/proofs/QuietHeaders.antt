@@ -25,6 +25,7 @@ use Rattle.nc_layout.specs.Slots.{padded_slab}
 use Rattle.nc_layout.specs.Blocks.{each_slot}
 use Rattle.nc_layout.specs.Findings.{layout_findings}
 use Rattle.nc_layout.specs.HeaderLayout.{slot_of, layout_of}
+use Rattle.nc_check.proofs.FirstFaults.{faultless}
 use Rattle.nc_check.specs.declared.{finding.Finding.Finding}
 use Rattle.nc_check.specs.declared.finding.Fact.TheVariants as fact
 use Rattle.nc_check.specs.Indexed.{Indexed, field_at, indexed_from, indexed, finding}
@@ -36,7 +37,7 @@ use Rattle.nc_check.specs.WholeHeader.{number_of as content_number}
 use Rattle.nc_check.specs.WholeHeader.{is_vsize, named, vsize_finding, layout_facts, located}
 unfoldable use Rattle.nc_check.specs.WholeHeader.{vsize_findings, whole_findings}
 unfoldable use Rattle.nc_check.specs.Reports.{all_findings}
-use Rattle.nc_check.specs.Laws.{is_of_spelling, QuietSpellingsAreCanonical}
+use Rattle.nc_check.specs.Laws.{is_of_spelling, QuietSpellingsAreCanonical, QuietHeadersAreCanonical}
 use Rattle.nc_check.proofs.QuietFields.{AreOther, both-other, AreQuiet, quiet-entries, quiet-written, seen-content}
 
 -- ---- the sizes of variables among entries and fields
@@ -226,3 +227,8 @@ quiet-spellings from r h rest are report s quiet =
     (λ i.
     subst (λ j. IfSome (slice_get (vsizes fs) i) (λ (f : Field). IsWrittenVsize h j (number_of f))) (sym (from-zero i))
     (size-at h (length from) i (indexed l.entries) (vsizes fs) same (whole-sizes fs whole) at (sizes i) (slice_get (vsizes fs) i) refl))))
+
+-- and a header without a fault is read
+pub quiet-headers : QuietHeadersAreCanonical
+quiet-headers from r are report sound quiet =
+    let s = (faultless from r report).0 sound in (s.0, s.1, s.2, quiet-spellings from r s.0 s.1 are report s.2 quiet)

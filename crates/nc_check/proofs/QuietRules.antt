@@ -30,7 +30,7 @@ unfoldable use Rattle.nc_check.specs.WholeHeader.{vsize_findings, whole_findings
 use Rattle.nc_check.specs.WholeHeader.{number_of, is_numrecs, is_vsize, is_begin, named, vsize_finding, found_at, located, layout_facts}
 unfoldable use Rattle.nc_check.specs.HeaderRules.{header_findings}
 unfoldable use Rattle.nc_check.specs.Reports.{all_findings}
-use Rattle.nc_check.specs.FaultLaws.{is_fault}
+use Rattle.nc_check.specs.FaultLaws.{is_fault, is_missing}
 use Rattle.nc_check.proofs.Refusals.{refusal_of}
 use Rattle.nc_check.proofs.FaultFindings.{quiet-facts, quiet-type, contains-first}
 
@@ -39,112 +39,120 @@ use Rattle.nc_check.proofs.FaultFindings.{quiet-facts, quiet-type, contains-firs
 abbrev pub Quiet : Finding → Type 0
 Quiet f = is_fault f.fact ≡ false
 
--- none, or one that is no fault
-abbrev QuietOption : Option Finding → Type 0
-QuietOption o = All Quiet (option_to_list o)
+-- it is neither a fault nor of missing values
+abbrev pub Plain : Finding → Type 0
+Plain f = Quiet f × (is_missing f.fact ≡ false)
 
-quiet-one : (f : Finding) → Quiet f → QuietOption (Some f)
-quiet-one f q = All-cons Quiet f [] q (All-nil Quiet)
+all-quiet : (fs : List Finding) → All Plain fs → All Quiet fs
+all-quiet fs plain k x lt = (plain k x lt).0
 
-quiet-none : QuietOption None
-quiet-none = All-nil Quiet
+-- none, or one that is neither
+abbrev PlainOption : Option Finding → Type 0
+PlainOption o = All Plain (option_to_list o)
 
-quiet-before : (rule : Indexed → List Indexed → Option Finding) → ((f : Indexed) (after : List Indexed) → QuietOption (rule f after))
+plain-one : (f : Finding) → Plain f → PlainOption (Some f)
+plain-one f q = All-cons Plain f [] q (All-nil Plain)
+
+plain-none : PlainOption None
+plain-none = All-nil Plain
+
+plain-before : (rule : Indexed → List Indexed → Option Finding) → ((f : Indexed) (after : List Indexed) → PlainOption (rule f after))
     → (fs : List Indexed)
-    → All Quiet (each_before rule fs)
-quiet-before rule quiet [] = All-nil Quiet
-quiet-before rule quiet (f ∷ after) = All-append Quiet _ _ (quiet f after) (quiet-before rule quiet after)
+    → All Plain (each_before rule fs)
+plain-before rule plain [] = All-nil Plain
+plain-before rule plain (f ∷ after) = All-append Plain _ _ (plain f after) (plain-before rule plain after)
 
-quiet-after : (rule : List Indexed → Indexed → Option Finding) → ((earlier : List Indexed) (f : Indexed) → QuietOption (rule earlier f))
+plain-after : (rule : List Indexed → Indexed → Option Finding) → ((earlier : List Indexed) (f : Indexed) → PlainOption (rule earlier f))
     → (fs earlier : List Indexed)
-    → All Quiet (each_after rule earlier fs)
-quiet-after rule quiet [] earlier = All-nil Quiet
-quiet-after rule quiet (f ∷ fs) earlier = All-append Quiet _ _ (quiet earlier f) (quiet-after rule quiet fs (earlier ++ f ∷ []))
+    → All Plain (each_after rule earlier fs)
+plain-after rule plain [] earlier = All-nil Plain
+plain-after rule plain (f ∷ fs) earlier = All-append Plain _ _ (plain earlier f) (plain-after rule plain fs (earlier ++ f ∷ []))
 
 -- ---- names
 
-quiet-name : (earlier : List Indexed) (f : Indexed) → QuietOption (duplicate_name earlier f)
-quiet-name earlier f = by-key (key_of f.entry)
+plain-name : (earlier : List Indexed) (f : Indexed) → PlainOption (duplicate_name earlier f)
+plain-name earlier f = by-key (key_of f.entry)
   where
-    by-index : (o : Option ℕ) → QuietOption (option_map (λ first. finding f (fact.DuplicateName first)) o)
-    by-index (Some first) = quiet-one _ refl
-    by-index None = quiet-none
+    by-index : (o : Option ℕ) → PlainOption (option_map (λ first. finding f (fact.DuplicateName first)) o)
+    by-index (Some first) = plain-one _ (refl, refl)
+    by-index None = plain-none
 
     by-key : (o : Option NameKey)
-        → QuietOption (option_and_then (λ key. option_map (λ first. finding f (fact.DuplicateName first)) (first_index key earlier)) o)
+        → PlainOption (option_and_then (λ key. option_map (λ first. finding f (fact.DuplicateName first)) (first_index key earlier)) o)
     by-key (Some key) = by-index (first_index key earlier)
-    by-key None = quiet-none
+    by-key None = plain-none
 
-quiet-names : (fs : List Indexed) → All Quiet (name_findings fs)
+pub plain-names : (fs : List Indexed) → All Plain (name_findings fs)
 unfolding name_findings
-quiet-names fs = quiet-after duplicate_name quiet-name fs []
+plain-names fs = plain-after duplicate_name plain-name fs []
 
 -- ---- attributes
 
-quiet-if : (b : Bool) (f : Finding) → Quiet f → QuietOption (finding_if b f)
-quiet-if true f q = quiet-one f q
-quiet-if false f q = quiet-none
+plain-if : (b : Bool) (f : Finding) → Plain f → PlainOption (finding_if b f)
+plain-if true f q = plain-one f q
+plain-if false f q = plain-none
 
-quiet-then : {A : Type 0} (rule : A → Option Finding) → ((x : A) → QuietOption (rule x)) → (o : Option A)
-    → QuietOption (option_and_then rule o)
-quiet-then rule quiet (Some x) = quiet x
-quiet-then rule quiet None = quiet-none
+plain-then : {A : Type 0} (rule : A → Option Finding) → ((x : A) → PlainOption (rule x)) → (o : Option A)
+    → PlainOption (option_and_then rule o)
+plain-then rule plain (Some x) = plain x
+plain-then rule plain None = plain-none
 
-quiet-choice : (b : Bool) (x y : Option Finding) → QuietOption x → QuietOption y → QuietOption (cond b x y)
-quiet-choice true x y p q = p
-quiet-choice false x y p q = q
+plain-choice : (b : Bool) (x y : Option Finding) → PlainOption x → PlainOption y → PlainOption (cond b x y)
+plain-choice true x y p q = p
+plain-choice false x y p q = q
 
-quiet-list : (f : Indexed) (c : Content) (next : Option NumberAt) → QuietOption (empty_list f c next)
-quiet-list f (content.Number tag) (Some next) = quiet-if _ _ refl
-quiet-list f c next = quiet-none
+plain-list : (f : Indexed) (c : Content) (next : Option NumberAt) → PlainOption (empty_list f c next)
+plain-list f (content.Number tag) (Some next) = plain-if _ _ (refl, refl)
+plain-list f c next = plain-none
 
-quiet-type_finding : (c : Content) (ahead : Ahead) → QuietOption (type_finding c ahead)
-quiet-type_finding (content.Number code) ahead =
-    quiet-choice (code == 2) _ _ (quiet-then trailing_nul (λ values. quiet-if _ _ refl) ahead.values)
-    (quiet-then empty_attribute (λ count. quiet-if _ _ refl) ahead.count)
-quiet-type_finding c ahead = quiet-none
+plain-type_finding : (c : Content) (ahead : Ahead) → PlainOption (type_finding c ahead)
+plain-type_finding (content.Number code) ahead =
+    plain-choice (code == 2) _ _ (plain-then trailing_nul (λ values. plain-if _ _ (refl, refl)) ahead.values)
+    (plain-then empty_attribute (λ count. plain-if _ _ (refl, refl)) ahead.count)
+plain-type_finding c ahead = plain-none
 
-quiet-fill : (type_code var_type count : Option NumberAt) → QuietOption (fill_finding type_code var_type count)
-quiet-fill (Some type_code) (Some var_type) count =
-    quiet-choice (type_code.number == var_type.number) _ _ (quiet-then fill_count (λ count. quiet-if _ _ refl) count) (quiet-one _ refl)
-quiet-fill type_code var_type count = quiet-none
+plain-fill : (type_code var_type count : Option NumberAt) → PlainOption (fill_finding type_code var_type count)
+plain-fill (Some type_code) (Some var_type) count =
+    plain-choice (type_code.number == var_type.number) _ _ (plain-then fill_count (λ count. plain-if _ _ (refl, refl)) count)
+    (plain-one _ (refl, refl))
+plain-fill type_code var_type count = plain-none
 
-quiet-name_finding : (c : Content) (ahead : Ahead) → QuietOption (name_finding c ahead)
-quiet-name_finding (content.Bytes bytes) ahead =
-    quiet-choice (bytes_eq bytes (codes "_FillValue")) _ _ (quiet-fill ahead.type_code ahead.var_type ahead.count) quiet-none
-quiet-name_finding c ahead = quiet-none
+plain-name_finding : (c : Content) (ahead : Ahead) → PlainOption (name_finding c ahead)
+plain-name_finding (content.Bytes bytes) ahead =
+    plain-choice (bytes_eq bytes (codes "_FillValue")) _ _ (plain-fill ahead.type_code ahead.var_type ahead.count) plain-none
+plain-name_finding c ahead = plain-none
 
-quiet-by_name : (place : FieldName) (f : Indexed) (ahead : Ahead) → QuietOption (finding_by_name place f ahead)
-quiet-by_name name.DimsTag f ahead = quiet-list f f.entry.content ahead.next
-quiet-by_name name.GlobalAttsTag f ahead = quiet-list f f.entry.content ahead.next
-quiet-by_name name.VarsTag f ahead = quiet-list f f.entry.content ahead.next
-quiet-by_name name.AttsTag f ahead = quiet-list f f.entry.content ahead.next
-quiet-by_name name.Type f ahead = quiet-choice (is_attribute f.entry.place.owner) _ _ (quiet-type_finding f.entry.content ahead) quiet-none
-quiet-by_name name.Name f ahead =
-    quiet-choice (is_var_attribute f.entry.place.owner) _ _ (quiet-name_finding f.entry.content ahead) quiet-none
-quiet-by_name place f ahead = quiet-none
+plain-by_name : (place : FieldName) (f : Indexed) (ahead : Ahead) → PlainOption (finding_by_name place f ahead)
+plain-by_name name.DimsTag f ahead = plain-list f f.entry.content ahead.next
+plain-by_name name.GlobalAttsTag f ahead = plain-list f f.entry.content ahead.next
+plain-by_name name.VarsTag f ahead = plain-list f f.entry.content ahead.next
+plain-by_name name.AttsTag f ahead = plain-list f f.entry.content ahead.next
+plain-by_name name.Type f ahead = plain-choice (is_attribute f.entry.place.owner) _ _ (plain-type_finding f.entry.content ahead) plain-none
+plain-by_name name.Name f ahead =
+    plain-choice (is_var_attribute f.entry.place.owner) _ _ (plain-name_finding f.entry.content ahead) plain-none
+plain-by_name place f ahead = plain-none
 
-quiet-attributes : (fs : List Indexed) → All Quiet (attribute_findings fs)
+pub plain-attributes : (fs : List Indexed) → All Plain (attribute_findings fs)
 unfolding attribute_findings
-quiet-attributes fs = quiet-before attribute_finding (λ f after. quiet-by_name f.entry.place.name f (ahead_of after)) fs
+plain-attributes fs = plain-before attribute_finding (λ f after. plain-by_name f.entry.place.name f (ahead_of after)) fs
 
 -- ---- a whole header
 
-quiet-vsize : (v : Version) (padded : ℕ) (o : Option Indexed) → QuietOption (vsize_finding v padded o)
-quiet-vsize v padded None = quiet-none
-quiet-vsize v padded (Some f) =
-    quiet-choice (number_of f.entry.content == vsize_of v padded) None (Some (finding f (fact.Vsize (vsize_of v padded)))) quiet-none
-    (quiet-one _ refl)
+plain-vsize : (v : Version) (padded : ℕ) (o : Option Indexed) → PlainOption (vsize_finding v padded o)
+plain-vsize v padded None = plain-none
+plain-vsize v padded (Some f) =
+    plain-choice (number_of f.entry.content == vsize_of v padded) None (Some (finding f (fact.Vsize (vsize_of v padded)))) plain-none
+    (plain-one _ (refl, refl))
 
-quiet-slots : (f : ℕ → Slot → List Finding) → ((i : ℕ) (slot : Slot) → All Quiet (f i slot)) → (i : ℕ) (slots : List Slot)
-    → All Quiet (each_slot f i slots)
-quiet-slots f quiet i [] = All-nil Quiet
-quiet-slots f quiet i (slot ∷ slots) = All-append Quiet _ _ (quiet i slot) (quiet-slots f quiet (i + 1) slots)
+plain-slots : (f : ℕ → Slot → List Finding) → ((i : ℕ) (slot : Slot) → All Plain (f i slot)) → (i : ℕ) (slots : List Slot)
+    → All Plain (each_slot f i slots)
+plain-slots f plain i [] = All-nil Plain
+plain-slots f plain i (slot ∷ slots) = All-append Plain _ _ (plain i slot) (plain-slots f plain (i + 1) slots)
 
-quiet-vsizes : (layout : Layout) (fs : List Indexed) → All Quiet (vsize_findings layout fs)
+pub plain-vsizes : (layout : Layout) (fs : List Indexed) → All Plain (vsize_findings layout fs)
 unfolding vsize_findings
-quiet-vsizes layout fs =
-    quiet-slots _ (λ i slot. quiet-vsize layout.version (padded_slab slot) (slice_get (named is_vsize fs) i)) 0 layout.slots
+plain-vsizes layout fs =
+    plain-slots _ (λ i slot. plain-vsize layout.version (padded_slab slot) (slice_get (named is_vsize fs) i)) 0 layout.slots
 
 quiet-found : (o : Option Indexed) (l : LayoutFinding) → Quiet (found_at o (fact.Layout l.fact))
 quiet-found (Some f) l = refl
@@ -161,7 +169,8 @@ quiet-located fs l = by-place l.place
 
 quiet-layout : (layout : Layout) (fs : List Indexed) → All Quiet (layout_facts layout fs)
 quiet-layout layout fs =
-    All-append Quiet _ _ (quiet-vsizes layout fs) (All-map Quiet (located fs) (layout_findings layout) (λ k x lt. quiet-located fs _))
+    All-append Quiet _ _ (all-quiet _ (plain-vsizes layout fs))
+    (All-map Quiet (located fs) (layout_findings layout) (λ k x lt. quiet-located fs _))
 
 quiet-whole : (l : Listing) → All Quiet (whole_findings l)
 unfolding whole_findings
@@ -222,6 +231,6 @@ all-lie Q l lies =
     (All-append (FaultsLieAt Q) _ _
     (All-append (FaultsLieAt Q) _ _
     (All-append (FaultsLieAt Q) _ _ (fields-lie Q 0 l.entries lies) (floating-lies Q 0 l.entries lies))
-    (quiet-lies Q _ (quiet-names (indexed l.entries))))
-    (quiet-lies Q _ (quiet-attributes (indexed l.entries))))
+    (quiet-lies Q _ (all-quiet _ (plain-names (indexed l.entries)))))
+    (quiet-lies Q _ (all-quiet _ (plain-attributes (indexed l.entries)))))
     (quiet-lies Q _ (quiet-whole l))

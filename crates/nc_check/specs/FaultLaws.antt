@@ -1,17 +1,27 @@
--- Law. The faults in a report, and what the programs do that read the values of the file.
+-- Law. The faults in a report and the values that it finds to be missing, and what the programs do that read the values of the file.
 use Rattle.std.specs.Prelude.{ℕ, ◌≡◌, ◌+◌, ◌≤◌, ◌↔◌, min, Bool, true, false}
-use Rattle.std.specs.List.{All, Contains}
+use Rattle.std.specs.List.{All, Contains, list_any}
 use Rattle.nc_base.specs.declared.{fault.FormatFault.FormatFault, header.Header.Header}
 use Rattle.nc_base.specs.Bytes.{Bytes}
 use Rattle.nc_base.specs.Grammar.{SpellsHeader, StopsAt}
 use Rattle.nc_fields.specs.declared.entry.Entry.{Entry}
+use Rattle.nc_layout.specs.HeaderLaws.{is_of_missing, lacks_values}
 use Rattle.nc_check.specs.declared.{finding.Fact.Fact, finding.Finding.Finding, report.Report.Report}
-use Rattle.nc_check.specs.declared.finding.Fact.TheVariants.{Fault}
+use Rattle.nc_check.specs.declared.finding.Fact.TheVariants.{Fault, Layout}
 use Rattle.nc_check.specs.Reports.{IsReport}
 
 abbrev pub is_fault : Fact → Bool
 is_fault (Fault fault) = true
 is_fault fact = false
+
+-- the fact is that values are missing
+abbrev pub is_missing : Fact → Bool
+is_missing (Layout fact) = is_of_missing fact
+is_missing fact = false
+
+-- a finding is that values are missing
+abbrev pub finds_missing : Report → Bool
+finds_missing r = list_any (λ (f : Finding). is_missing f.fact) r.findings
 
 -- no finding is a fault
 abbrev pub HasNoFault : Report → Type 0
@@ -41,3 +51,9 @@ FaultlessHeadersAreReadable = (bytes : Bytes) (r : Report) → IsReport bytes r 
 abbrev pub FirstFaultIsReaders : Type 0
 FirstFaultIsReaders = (bytes : Bytes) (r : Report) (fault : FormatFault) (end : ℕ) → IsReport bytes r → StopsAt bytes fault end
     → FindsFirst r fault end
+
+-- if the header can be read, then a finding of the report is that values are missing exactly if some variable has a first missing value, at
+-- which a dump stops
+abbrev pub ReportsTellMissingValues : Type 0
+ReportsTellMissingValues = (bytes : Bytes) (r : Report) (h : Header) (rest : Bytes) → IsReport bytes r → SpellsHeader bytes h rest
+    → finds_missing r ≡ list_any (lacks_values h bytes) h.vars

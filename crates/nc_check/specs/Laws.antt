@@ -1,6 +1,5 @@
 -- Law. If nothing is found about the spelling of a header that the strict rules read, then the file begins with the one spelling in which
--- this header is written: the rules on padding, on lists without elements and on the sizes of variables are complete. If no fault is found,
--- then the strict rules read the header.
+-- this header is written: the rules on padding, on lists without elements and on the sizes of variables are complete.
 use Rattle.std.specs.Prelude.{◌≡◌, Bool, true, false, List, ◌++◌}
 use Rattle.std.specs.List.{list_any}
 use Rattle.nc_base.specs.declared.header.Header.{Header}
@@ -9,6 +8,7 @@ use Rattle.nc_base.specs.Grammar.{SpellsHeader, header_spelling}
 use Rattle.nc_check.specs.declared.{finding.Fact.Fact, finding.Finding.Finding, report.Report.Report}
 use Rattle.nc_check.specs.declared.finding.Fact.TheVariants as fact
 use Rattle.nc_check.specs.Reports.{IsReport}
+use Rattle.nc_check.specs.FaultLaws.{HasNoFault}
 
 -- a fact about the spelling of a header: it says the same as the header's own spelling, in other bytes
 abbrev pub is_of_spelling : Fact → Bool
@@ -26,22 +26,6 @@ is_of_spelling fact.HighRank = false
 is_of_spelling (fact.Vsize expected) = true
 is_of_spelling (fact.Layout fact) = false
 
--- a fault, at which the programs that read values stop
-abbrev pub is_of_fault : Fact → Bool
-is_of_fault (fact.Fault fault) = true
-is_of_fault fact.EmptyList = false
-is_of_fault fact.LongName = false
-is_of_fault (fact.DuplicateName first) = false
-is_of_fault fact.NotNfc = false
-is_of_fault fact.Padding = false
-is_of_fault fact.EmptyAttribute = false
-is_of_fault fact.TrailingNul = false
-is_of_fault (fact.FillType code) = false
-is_of_fault fact.FillCount = false
-is_of_fault fact.HighRank = false
-is_of_fault (fact.Vsize expected) = false
-is_of_fault (fact.Layout fact) = false
-
 -- one of the findings is a fact of this kind
 abbrev pub has_any : (Fact → Bool) → List Finding → Bool
 has_any kind findings = list_any (λ (f : Finding). kind f.fact) findings
@@ -50,12 +34,8 @@ abbrev pub QuietSpellingsAreCanonical : Type 0
 QuietSpellingsAreCanonical = (bytes : Bytes) (r : Report) (h : Header) (rest : Bytes) → AreBytes bytes → IsReport bytes r
     → SpellsHeader bytes h rest → has_any is_of_spelling r.findings ≡ false → bytes ≡ header_spelling h ++ rest
 
-abbrev pub UnfaultedHeadersAreSpelled : Type 0
-UnfaultedHeadersAreSpelled = (bytes : Bytes) (r : Report) → IsReport bytes r → has_any is_of_fault r.findings ≡ false
-    → (h : Header) × (rest : Bytes) × SpellsHeader bytes h rest
-
 -- if no fault and nothing about the spelling is found, then the file begins with the one spelling of its header
 abbrev pub QuietHeadersAreCanonical : Type 0
-QuietHeadersAreCanonical = (bytes : Bytes) (r : Report) → AreBytes bytes → IsReport bytes r → has_any is_of_fault r.findings ≡ false
+QuietHeadersAreCanonical = (bytes : Bytes) (r : Report) → AreBytes bytes → IsReport bytes r → HasNoFault r
     → has_any is_of_spelling r.findings ≡ false
     → (h : Header) × (rest : Bytes) × SpellsHeader bytes h rest × (bytes ≡ header_spelling h ++ rest)

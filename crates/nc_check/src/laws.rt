@@ -1,7 +1,7 @@
 //! Laws of the definitions in `specs/`, each the contract of a function that does nothing.
 
-ghost use Rattle.nc_check.specs.FaultLaws.{FaultlessHeadersAreReadable, FirstFaultIsReaders};
-ghost use Rattle.nc_check.specs.Laws.{QuietSpellingsAreCanonical, UnfaultedHeadersAreSpelled, QuietHeadersAreCanonical};
+ghost use Rattle.nc_check.specs.FaultLaws.{FaultlessHeadersAreReadable, FirstFaultIsReaders, ReportsTellMissingValues};
+ghost use Rattle.nc_check.specs.Laws.{QuietSpellingsAreCanonical, QuietHeadersAreCanonical};
 
 /// States two laws, and does nothing. `faultless`: no finding of a report is a fault ([`Fact::Fault`](crate::Fact::Fault)) exactly if
 /// `nc_file::read_header` can read the header.
@@ -13,15 +13,19 @@ pub fn first_fault_is_the_readers()
     ensures first { FirstFaultIsReaders }
 {}
 
-/// States three laws of the report of a file, and does nothing. `spelled`: if it has no fault, then the file begins with a header by the
-/// strict rules, those by which values are read.
-///
-/// `spelling`: if the file begins with such a header, and the report has no padding that isn't zeros, no list that has its own tag without
-/// elements, and no wrong size of a variable, then the file begins with the one spelling in which this header is written.
+/// States a law, and does nothing: if `nc_file::read_header` can read the header of a file, then a finding of its report is that values are
+/// missing ([`LayoutFact::Missing`](nc_layout::LayoutFact::Missing)) exactly if some variable has a first missing value, at which `ncdump`
+/// stops. So, by `faultless` above, no finding is a fault or of missing values exactly if every value of the file can be read.
+pub fn reports_tell_missing_values()
+    ensures { ReportsTellMissingValues }
+{}
+
+/// States two laws of the report of a file, and does nothing. `spelling`: if the file begins with a header that `nc_file::read_header` can
+/// read, and the report has no padding that isn't zeros, no list that has its own tag without elements, and no wrong size of a variable,
+/// then the file begins with the one spelling in which this header is written.
 ///
 /// `canonical`: so a file begins with the one spelling of its header if its report has no finding of these kinds and no fault.
 pub fn quiet_headers_are_canonical()
-    ensures spelled { UnfaultedHeadersAreSpelled }
     ensures spelling { QuietSpellingsAreCanonical }
     ensures canonical { QuietHeadersAreCanonical }
 {}

@@ -13,4 +13,3 @@ pub mod FieldOrder
 pub mod Written
 pub mod WrittenParts
 pub mod Vsizes
-pub mod TypeSizes
