@@ -62,6 +62,7 @@ test-programs:
 	tests/memory.py
 	tests/ncdump.sh
 	tests/ncgen.sh
+	tests/nccheck.sh
 	tests/calls.sh
 	tests/lengths.py 8
 	tests/squares.py

@@ -6,8 +6,8 @@ samples=$top/samples
 passed=0
 failed=0
 
-if ! [ -x "$ncdump" ] || ! [ -x "$ncgen" ]; then
-    echo "$0: no bin/ncdump or no bin/ncgen: run make first" >&2
+if ! [ -x "$ncdump" ] || ! [ -x "$ncgen" ] || ! [ -x "$top/bin/nccheck" ]; then
+    echo "$0: a program in bin/ is missing: run make first" >&2
     exit 1
 fi
 work=$(mktemp -d)

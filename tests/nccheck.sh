@@ -1,0 +1,59 @@
+#!/usr/bin/env bash
+# Runs bin/nccheck on files on disk, and compares its standard output, its standard error and its status.
+set -u
+. "$(dirname "$0")/verdicts.sh"
+nccheck=$top/bin/nccheck
+missing='missing: var[2] "temperature" record 2: found 500 bytes, expected at least 504'
+
+cp "$samples/stations.nc" "$samples/records.nc" .
+head -c 500 stations.nc >cut.nc
+
+run "$nccheck" stations.nc records.nc
+verdict whole_files 0
+stdout "cut.nc:500: error: $missing\n"
+run "$nccheck" cut.nc
+verdict cut_file 1
+run "$nccheck" -q cut.nc
+verdict quiet 1
+stdout 'records.nc:4: note: unused-records: numrecs: found 2, expected 0\n'
+run "$nccheck" -l note stations.nc records.nc
+verdict notes 1
+stdout "cut.nc:500: error: $missing\ncut.nc:500: error: $missing\n"
+run "$nccheck" -l error cut.nc records.nc cut.nc
+verdict files_in_order 1
+stdout "cut.nc:500: error: $missing\n"
+stderr 'nccheck: none.nc: cannot open\nnccheck: dir: cannot open\n'
+run "$nccheck" none.nc dir cut.nc
+verdict trouble_and_a_cut_file 2
+stderr 'nccheck: -q: cannot open\n'
+run "$nccheck" -- -q
+verdict file_that_begins_with_a_dash 2
+for words in '' '-x cut.nc' '-l bad cut.nc' '-l' '-l note -l error cut.nc'; do
+    stderr 'usage: nccheck [-q] [-l level] file ...\n'
+    # shellcheck disable=SC2086
+    run "$nccheck" $words
+    verdict "usage_of${words:+_}${words// /_}" 2
+done
+stderr 'nccheck: write failed\n'
+run bash -c '"$0" cut.nc >/dev/full' "$nccheck"
+verdict full_device 2
+
+# A file of 4 TiB, of which nothing is read but the header.
+cp stations.nc sparse.nc
+truncate -s 4T sparse.nc
+stdout "sparse.nc:4: violation: record-count: numrecs: found 3, expected 549755813828 by the file's length
+sparse.nc:504: violation: trailing: data: found 4398046511104 bytes, expected 504\n"
+run bash -c 'ulimit -t 1 && "$0" sparse.nc' "$nccheck"
+verdict sparse_file 1
+
+# A thousand files take the memory of one.
+mkdir many
+for n in {1..1000}; do cp cut.nc "many/$n.nc"; done
+run bash -c 'ulimit -v 20000 && "$0" -q many/*.nc' "$nccheck"
+verdict many_files 1
+
+# A file of the system is given back: more files than may be open at a time.
+run bash -c 'ulimit -n 16 && "$0" -q many/*.nc' "$nccheck"
+verdict more_files_than_may_be_open 1
+
+summary
