@@ -4,7 +4,8 @@
     tests/roundtrip.py [DATASETS [SEED]] [--unidata]
 
 For each dataset of tests/datasets.py, bin/ncgen has to make, from what bin/ncdump prints of its file, at some width, the file of the
-same dataset without the NULs at the end of its attributes, byte for byte; and the dump of that file has to be the same text.
+same dataset without the NULs at the end of its attributes, byte for byte; the dump of that file has to be the same text; and bin/nccheck
+has to find no violation in it but those that a text can declare.
 
 With --unidata the same text is given to Unidata's ncgen too (Debian's netcdf-bin), and it is said how many of its files have the
 same bytes. It makes others where it is known to differ (docs/DIFFERENCES.md).
@@ -19,6 +20,10 @@ from pathlib import Path
 from datasets import Datasets
 
 BIN = Path(__file__).resolve().parent.parent / "bin"
+
+
+# the violations that a text can declare
+ALLOWED = [b"not-nfc", b"fill-value", b"large-variable"]
 
 
 def run(*words):
@@ -52,6 +57,9 @@ class Trips:
             self.fail(number, "another file")
         elif run(BIN / "ncdump", *options, "second.nc").stdout != dump.stdout:
             self.fail(number, "another text")
+        found = run(BIN / "nccheck", "second.nc").stdout
+        if any(line.split(b": ")[2] not in ALLOWED for line in found.splitlines()):
+            self.fail(number, f"a check finds {found}")
         return True
 
     def unidata(self, kind):
