@@ -45,10 +45,8 @@ pub fn check<S: Source>(alloc: Global, source: &mut S, buf: &mut [u8]) -> Result
         ReadUpTo (S.view source.old).handed (S.view source.new).handed r.listing.end (length buf.old)) }
 {
     let listing = list_fields(alloc, source, buf)?;
-    match findings_of(alloc, &listing) {
-        Ok(findings) => Ok(Report { listing, findings }),
-        Err(_) => Err(ListFault::OutOfMemory),
-    }
+    let findings = findings_of(alloc, &listing)?;
+    Ok(Report { listing, findings })
 }
 
 /// Returns all that is found in a file with this listing, in the order of a report. Errs only if an allocation fails.

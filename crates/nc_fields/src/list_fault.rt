@@ -1,5 +1,9 @@
 //! Why the fields of a header could not be listed.
 
+ghost use Rattle.std.specs.Prelude.{◌≡◌};
+ghost use Rattle.nc_fields.specs.declared.list_fault.ListFault.TheVariants.{OutOfMemory};
+
+use std::alloc::AllocError;
 use std::error::Error;
 use std::fmt;
 
@@ -10,6 +14,15 @@ pub enum ListFault {
     OutOfMemory,
     /// The source failed.
     ReadFailed,
+}
+
+impl From<AllocError> for ListFault {
+    ghost from_gives = { λ _ e. e ≡ OutOfMemory };
+
+    /// Turns a failed allocation into [`ListFault::OutOfMemory`], for the `?` after a call that allocates.
+    fn from(_e: AllocError) -> ListFault {
+        ListFault::OutOfMemory
+    }
 }
 
 impl fmt::Display for ListFault {

@@ -106,7 +106,10 @@ fn status_of(answer: Result<bool, FileFault>) -> u8
 
 /// Returns true if a run doesn't go on after this fault.
 fn ends_run(fault: FileFault) -> bool {
-    matches!(fault, FileFault::OutOfMemory | FileFault::WriteFailed)
+    match fault {
+        FileFault::OutOfMemory | FileFault::WriteFailed => true,
+        _ => false,
+    }
 }
 
 /// Checks the file at this path, writes its lines unless `is_quiet`, and gives the file back to the opener. Returns true if something was
