@@ -8,4 +8,6 @@ mod QuietRules
 mod FirstFaults
 mod QuietFields
 mod QuietHeaders
+mod LayoutFacts
+mod QuietFiles
 mod MissingFindings

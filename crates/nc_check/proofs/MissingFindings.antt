@@ -1,28 +1,25 @@
 -- A report finds that values are missing exactly if some variable of the header has a first missing value.
-use Rattle.std.proofs.Common.{◌≡◌, ℕ, ◌+◌, ◌||◌, Bool, false, List, [], ◌∷◌, ◌++◌, length, map, flat_map, find, slice_get, Option, Some, None, Result, Ok, Err, refl, sym, ap, ◌∙◌, subst}
+use Rattle.std.proofs.Common.{◌≡◌, ℕ, ◌+◌, ◌||◌, Bool, false, List, [], ◌∷◌, ◌++◌, length, map, flat_map, find, Option, Some, None, Ok, refl, sym, ap, ◌∙◌, subst}
 use Rattle.std.specs.List.{All, list_any}
 use Rattle.std.specs.Option.{option_to_list, option_map}
 use Rattle.std.proofs.lemmas.List.Elements.{All-nil, All-append, All-map}
 use Rattle.std.proofs.lemmas.List.Folds.{list_any-append, list_any_none}
 use Rattle.std.proofs.lemmas.List.Sorted.{list_any-IsPermutation}
-use Rattle.nc_base.specs.declared.{fault.FormatFault.FormatFault, header.Dim.Dim, header.Header.Header, header.Var.Var}
+use Rattle.nc_base.specs.declared.{fault.FormatFault.FormatFault, header.Header.Header}
 use Rattle.nc_base.specs.declared.fault.FormatFault.TheVariants.{FloatingType}
 use Rattle.nc_base.specs.Bytes.{Bytes}
 use Rattle.nc_base.specs.Grammar.{strict, header_by}
-use Rattle.nc_base.specs.code.PartRuns.{run}
-use Rattle.nc_base.proofs.PartOutcomes.{reads, stops}
+use Rattle.nc_base.proofs.PartOutcomes.{reads}
 use Rattle.nc_fields.specs.declared.{entry.Entry.Entry, entry.Content.Content, place.FieldName.FieldName, header.Listing.Listing}
 use Rattle.nc_fields.specs.declared.entry.Content.TheVariants as content
 use Rattle.nc_fields.specs.declared.place.FieldName.TheVariants as name
 use Rattle.nc_fields.specs.Lenient.{lenient}
-use Rattle.nc_fields.specs.Listings.{IsOutcome}
-use Rattle.nc_fields.specs.Agreement.{var_without_values, without_values}
+use Rattle.nc_fields.specs.Agreement.{without_values}
 use Rattle.nc_fields.proofs.StrictHeaders.{strict-headers}
-use Rattle.nc_layout.specs.declared.{slot.Slot.Slot, slot.Layout.Layout, finding.LayoutFinding.LayoutFinding, finding.LayoutPlace.LayoutPlace}
-use Rattle.nc_layout.specs.declared.finding.LayoutPlace.TheVariants as places
+use Rattle.nc_layout.specs.declared.{slot.Layout.Layout}
 use Rattle.nc_layout.specs.Findings.{layout_findings}
 use Rattle.nc_layout.specs.HeaderLaws.{finds, is_of_missing}
-use Rattle.nc_layout.specs.HeaderLayout.{layout_of, slot_of}
+use Rattle.nc_layout.specs.HeaderLayout.{layout_of}
 use Rattle.nc_layout.proofs.MissingValues.{missing-found}
 use Rattle.nc_layout.proofs.SpelledLayouts.{spelled-layout}
 use Rattle.nc_check.specs.declared.{finding.Fact.Fact, finding.Finding.Finding}
@@ -31,11 +28,11 @@ use Rattle.nc_check.specs.Indexed.{Indexed, field_at, indexed_from, indexed, fin
 use Rattle.nc_check.specs.FieldRules.{number_fact, bytes_fact, form_fact, content_facts, facts_with, facts_of, findings_at, is_floating}
 unfoldable use Rattle.nc_check.specs.FieldRules.{field_findings, floating_findings}
 unfoldable use Rattle.nc_check.specs.HeaderRules.{header_findings}
-use Rattle.nc_check.specs.WholeHeader.{vsize_findings, is_numrecs, is_vsize, is_begin, named, found_at, located, layout_facts}
-unfoldable use Rattle.nc_check.specs.WholeHeader.{whole_findings}
+use Rattle.nc_check.specs.WholeHeader.{vsize_findings, located, layout_facts, whole_findings}
 unfoldable use Rattle.nc_check.specs.Reports.{all_findings}
 use Rattle.nc_check.specs.FaultLaws.{is_missing, ReportsTellMissingValues}
 use Rattle.nc_check.proofs.FaultFindings.{only, if-none}
+use Rattle.nc_check.proofs.LayoutFacts.{all-located, is-read, whole-header, same-layout}
 use Rattle.nc_check.proofs.QuietRules.{Plain, plain-names, plain-attributes, plain-vsizes}
 
 -- the finding is that values are missing
@@ -102,26 +99,6 @@ other-header es =
 
 -- ---- about the layout
 
-found-tells : (o : Option Indexed) (l : LayoutFinding) → tells_missing (found_at o (fact.Layout l.fact)) ≡ is_of_missing l.fact
-found-tells (Some f) l = refl
-found-tells None l = refl
-
-located-tells : (fs : List Indexed) (l : LayoutFinding) → tells_missing (located fs l) ≡ is_of_missing l.fact
-located-tells fs l = by-place l.place
-  where
-    by-place : (p : LayoutPlace) → tells_missing (located fs (record l { place = p })) ≡ is_of_missing l.fact
-    by-place places.NumRecs = found-tells (slice_get (named is_numrecs fs) 0) l
-    by-place (places.Vsize i) = found-tells (slice_get (named is_vsize fs) i) l
-    by-place (places.Begin i) = found-tells (slice_get (named is_begin fs) i) l
-    by-place (places.Data offset) = refl
-
-all-located : (fs : List Indexed) (ls : List LayoutFinding)
-    → list_any tells_missing (map (located fs) ls) ≡ list_any (λ (l : LayoutFinding). is_of_missing l.fact) ls
-all-located fs [] = refl
-all-located fs (l ∷ ls) =
-    ap (λ b. b || list_any tells_missing (map (located fs) ls)) (located-tells fs l)
-    ∙ ap (λ b. is_of_missing l.fact || b) (all-located fs ls)
-
 -- what comes after findings of other facts
 after-others : (xs ys : List Finding) → All Other xs → list_any tells_missing (xs ++ ys) ≡ list_any tells_missing ys
 after-others xs ys others =
@@ -130,38 +107,7 @@ after-others xs ys others =
 layout-tells : (layout : Layout) (fs : List Indexed) → list_any tells_missing (layout_facts layout fs) ≡ finds is_of_missing layout
 layout-tells layout fs =
     after-others (vsize_findings layout fs) (map (located fs) (layout_findings layout)) (all-other _ (plain-vsizes layout fs))
-    ∙ all-located fs (layout_findings layout)
-
--- ---- the header of the listing
-
--- what these bytes spell is what was read
-is-read : (bytes rest : Bytes) (o : Result Header FormatFault) (h : Header) (after : Bytes) → IsOutcome bytes rest o
-    → run (header_by lenient) bytes ≡ Ok (h, after)
-    → (o ≡ Ok h) × (rest ≡ after)
-is-read bytes rest (Ok x) h after told read =
-    let both : ◌≡◌ {A = Result (Header × Bytes) (FormatFault × Bytes)} (Ok (x, rest)) (Ok (h, after)) =
-    sym (reads (header_by lenient) bytes x rest told) ∙ read in
-    let same : (x, rest) ≡ (h, after) = cc in
-    (ap (λ (p : Header × Bytes). Ok p.0) same, ap (λ (p : Header × Bytes). p.1) same)
-is-read bytes rest (Err fault) h after told read =
-    absurd (let never : ◌≡◌ {A = Result (Header × Bytes) (FormatFault × Bytes)} (Err (fault, rest)) (Ok (h, after)) =
-    sym (stops (header_by lenient) bytes fault rest told) ∙ read in cc)
-
-whole-header : (l : Listing) (h : Header) → l.header ≡ Ok h
-    → whole_findings l ≡ layout_facts (layout_of h l.end l.file_len) (indexed l.entries)
-unfolding whole_findings
-whole-header l h same =
-    ap (λ r. elim r as
-    (λ r. List Finding) [ Ok h ↦ layout_facts (layout_of h l.end l.file_len) (indexed l.entries) | Err fault ↦ [] ]) same
-
--- the values of attributes take no part in the layout
-same-slots : (dims : List Dim) (vars : List Var) → map (slot_of dims) (map var_without_values vars) ≡ map (slot_of dims) vars
-same-slots dims [] = refl
-same-slots dims (var ∷ vars) = ap (λ slots. slot_of dims var ∷ slots) (same-slots dims vars)
-
-same-layout : (h : Header) (header_end file_len : ℕ) → layout_of (without_values h) header_end file_len ≡ layout_of h header_end file_len
-same-layout h header_end file_len =
-    ap (λ (slots : List Slot). record (layout_of h header_end file_len) { slots = slots }) (same-slots h.dims h.vars)
+    ∙ all-located is_missing is_of_missing (λ fact. refl) fs (layout_findings layout)
 
 -- ---- the law
 

@@ -1,3 +1,4 @@
+use Rattle.nc_check.proofs.QuietFiles.{quiet-files}
 use Rattle.nc_check.proofs.QuietHeaders.{quiet-spellings, quiet-headers}
 use Rattle.nc_check.proofs.laws.quiet_headers_are_canonical.Goals as goal
 
@@ -6,3 +7,6 @@ returns-clause-spelling c = quiet-spellings
 
 pub returns-clause-canonical : goal.returns-clause-canonical
 returns-clause-canonical c = quiet-headers
+
+pub returns-clause-files : goal.returns-clause-files
+returns-clause-files c = quiet-files
