@@ -1,5 +1,5 @@
 -- What a report finds about the layout of a whole header, and the header whose layout it is.
-use Rattle.std.proofs.Common.{◌≡◌, ℕ, ◌+◌, ◌||◌, Bool, true, false, List, [], ◌∷◌, ◌++◌, length, map, slice_get, Option, Some, None, Result, Ok, Err, refl, sym, ap, ◌∙◌, subst, arith}
+use Rattle.std.proofs.Common.{◌≡◌, ℕ, ◌+◌, ◌||◌, Bool, false, List, [], ◌∷◌, ◌++◌, length, map, slice_get, Option, Some, None, Result, Ok, Err, refl, sym, ap, ◌∙◌, subst, arith}
 use Rattle.std.specs.List.{list_any}
 use Rattle.std.proofs.lemmas.List.Folds.{list_any-append}
 use Rattle.std.proofs.lemmas.List.Sorted.{list_any-IsPermutation}
@@ -27,6 +27,7 @@ unfoldable use Rattle.nc_check.specs.WholeHeader.{whole_findings}
 unfoldable use Rattle.nc_check.specs.Reports.{all_findings}
 use Rattle.nc_check.specs.Reports.{IsReport}
 use Rattle.nc_check.specs.Laws.{is_of_layout, has_any}
+use Rattle.nc_check.proofs.QuietFields.{neither}
 
 -- ---- findings at their fields
 
@@ -90,14 +91,10 @@ same-layout h header_end file_len =
 
 -- ---- reports without findings about the layout
 
-none-later : (a b : Bool) → (a || b) ≡ false → b ≡ false
-none-later true b e = absurd cc
-none-later false b e = e
-
 -- the later findings have none of this kind
 none-after : (test : Fact → Bool) (xs ys : List Finding) → has_any test (xs ++ ys) ≡ false → has_any test ys ≡ false
 none-after test xs ys none =
-    none-later (has_any test xs) (has_any test ys) (sym (list_any-append (λ (f : Finding). test f.fact) xs ys) ∙ none)
+    (neither (has_any test xs) (has_any test ys) (sym (list_any-append (λ (f : Finding). test f.fact) xs ys) ∙ none)).1
 
 listing-finds-none : (kind : LayoutFact → Bool) (l : Listing) (h : Header) → l.header ≡ Ok (without_values h)
     → has_any (is_of_layout kind) (all_findings l) ≡ false → FindsNone kind (layout_of h l.end l.file_len)

@@ -11,3 +11,4 @@ mod QuietHeaders
 mod LayoutFacts
 mod QuietFiles
 mod MissingFindings
+mod WholeFiles

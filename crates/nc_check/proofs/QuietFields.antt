@@ -27,7 +27,7 @@ use Rattle.nc_check.specs.Laws.{is_of_spelling, has_any}
 abbrev pub AreOther : List Finding → Type 0
 AreOther findings = has_any is_of_spelling findings ≡ false
 
-neither : (a b : Bool) → (a || b) ≡ false → (a ≡ false) × (b ≡ false)
+pub neither : (a b : Bool) → (a || b) ≡ false → (a ≡ false) × (b ≡ false)
 neither true b e = absurd cc
 neither false b e = (refl, e)
 

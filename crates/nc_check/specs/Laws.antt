@@ -1,22 +1,24 @@
 -- Law. If nothing is found about the spelling of a header that the strict rules read, then the file begins with the one spelling in which
 -- this header is written: the rules on padding, on lists without elements and on the sizes of variables are complete. If nothing is found
 -- at begins and at the end of the file either, then the file has the header and the length of a generated file. Without the findings that
--- let slabs share bytes, no byte lies in two slabs, or in a slab and the header.
-use Rattle.std.specs.Prelude.{ℕ, ◌≡◌, ◌+◌, Bool, true, false, List, ◌++◌, length}
+-- let slabs share bytes, no byte lies in two slabs, or in a slab and the header. Without faults and missing values, the file holds a
+-- dataset.
+use Rattle.std.specs.Prelude.{ℕ, ◌≡◌, ◌↔◌, ◌+◌, Bool, true, false, List, ◌++◌, length}
 use Rattle.std.specs.List.{list_any}
-use Rattle.nc_base.specs.declared.header.Header.{Header}
+use Rattle.nc_base.specs.declared.{dataset.Dataset.Dataset, header.Header.Header}
 use Rattle.nc_base.specs.declared.header.NumRecs.TheVariants.{Known}
 use Rattle.nc_base.specs.Bytes.{Bytes, AreBytes}
+use Rattle.nc_base.specs.Datasets.{HoldsDataset, Fits}
 use Rattle.nc_base.specs.GeneratedFile.{file_of, with_begins}
 use Rattle.nc_base.specs.Grammar.{SpellsHeader, header_spelling}
-use Rattle.nc_base.specs.Headers.{AreArrays, bare}
+use Rattle.nc_base.specs.Headers.{AreArrays, IsGood, bare}
 use Rattle.nc_layout.specs.declared.finding.LayoutFact.{LayoutFact}
 use Rattle.nc_layout.specs.Laws.{is_of_begin, is_of_end, is_of_shared_bytes, SharesNoByte}
 use Rattle.nc_layout.specs.HeaderLayout.{layout_of}
 use Rattle.nc_check.specs.declared.{finding.Fact.Fact, finding.Finding.Finding, report.Report.Report}
 use Rattle.nc_check.specs.declared.finding.Fact.TheVariants as fact
 use Rattle.nc_check.specs.Reports.{IsReport}
-use Rattle.nc_check.specs.FaultLaws.{HasNoFault}
+use Rattle.nc_check.specs.FaultLaws.{HasNoFault, finds_missing}
 
 -- a fact about the spelling of a header: it says the same as the header's own spelling, in other bytes
 abbrev pub is_of_spelling : Fact → Bool
@@ -78,3 +80,16 @@ abbrev pub QuietReportsHaveSlabsApart : Type 0
 QuietReportsHaveSlabsApart = (bytes : Bytes) (r : Report) (h : Header) (rest : Bytes) (header_end : ℕ) → IsReport bytes r
     → SpellsHeader bytes h rest → header_end + length rest ≡ length bytes → has_any (is_of_layout is_of_shared_bytes) r.findings ≡ false
     → SharesNoByte (layout_of h header_end (length bytes))
+
+-- a report has no fault, and finds no missing values
+pub record FindsWholeFile (r : Report) : Type 0 where
+  pub no_fault : HasNoFault r
+  pub no_missing : finds_missing r ≡ false
+
+-- that is so exactly if the file holds a dataset
+abbrev pub WholeFilesHoldDatasets : Type 0
+WholeFilesHoldDatasets = (bytes : Bytes) (r : Report) → IsReport bytes r → FindsWholeFile r ↔ ((d : Dataset) × HoldsDataset bytes d)
+
+-- and so it is in the file of each good dataset that fits
+abbrev pub GeneratedFilesAreFoundWhole : Type 0
+GeneratedFilesAreFoundWhole = (d : Dataset) (r : Report) → IsGood d → Fits d.header → IsReport (file_of d) r → FindsWholeFile r

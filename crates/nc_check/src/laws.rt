@@ -3,6 +3,7 @@
 ghost use Rattle.nc_check.specs.FaultLaws.{FaultlessHeadersAreReadable, FirstFaultIsReaders, ReportsTellMissingValues};
 ghost use Rattle.nc_check.specs.Laws.{QuietSpellingsAreCanonical, QuietHeadersAreCanonical};
 ghost use Rattle.nc_check.specs.Laws.{QuietFilesAreCanonical, QuietReportsHaveSlabsApart};
+ghost use Rattle.nc_check.specs.Laws.{WholeFilesHoldDatasets, GeneratedFilesAreFoundWhole};
 
 /// States two laws, and does nothing. `faultless`: no finding of a report is a fault ([`Fact::Fault`](crate::Fact::Fault)) exactly if
 /// `nc_file::read_header` can read the header.
@@ -41,4 +42,13 @@ pub fn quiet_headers_are_canonical()
 /// record, then no byte of the file lies in two slabs, or in a slab and the header.
 pub fn quiet_reports_have_slabs_apart()
     ensures { QuietReportsHaveSlabsApart }
+{}
+
+/// States two laws, and does nothing. `holds`: the report of a file has no fault, and doesn't find values to be missing, exactly if the
+/// file holds a dataset: the one whose text `ncdump` prints.
+///
+/// `generated`: the report of a file that `ncgen` writes has no fault, and doesn't find values to be missing.
+pub fn whole_files_hold_datasets()
+    ensures holds { WholeFilesHoldDatasets }
+    ensures generated { GeneratedFilesAreFoundWhole }
 {}
