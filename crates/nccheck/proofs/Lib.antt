@@ -1,2 +1,4 @@
 pub mod CommandLines
+pub mod InTurn
+pub mod Openings
 pub mod Parts

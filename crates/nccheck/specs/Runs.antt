@@ -1,11 +1,22 @@
--- Definition. What the check of one file has done.
-use Rattle.std.specs.Prelude.{◌≡◌, Bool, if◌then◌else◌, List, [], Option, Some, None, Result, Ok, Err}
+-- Definition. What a run of the program has done.
+use Rattle.std.specs.Prelude.{ℕ, ◌≡◌, ◌⊎◌, max, Bool, true, false, if◌then◌else◌, List, [], ◌∷◌, Option, Some, None, IsSomeAnd, Result, Ok, Err}
+use Rattle.std.specs.Bool.{OnTrue}
 use Rattle.nc_base.specs.Bytes.{Bytes}
-use Rattle.devices.specs.Sinks.{SinkView, Appended}
+use Rattle.devices.specs.Failures.{HasFailed, one_more}
+use Rattle.devices.specs.Openers.{OpenerView}
+use Rattle.devices.specs.Sinks.{SinkView, Appended, FailedPartway}
 use Rattle.nc_check.specs.Reports.{IsReport}
 use Rattle.nc_fields.specs.declared.header.Listing.{Listing}
 use Rattle.nc_check.specs.declared.{finding.Finding.Finding, kind.Severity.Severity, report.Report.Report}
+use Rattle.cli_base.specs.declared.fault.OptFault.{OptFault}
+use Rattle.cli_base.specs.declared.fault.OptFault.TheVariants as opt
+use Rattle.nccheck.specs.CommandLine.{Asked}
+use Rattle.nccheck.specs.Faults.{file_line, flush_line, opt_fault_line}
 use Rattle.nccheck.specs.Lines.{has_reported, lines}
+use Rattle.nccheck.specs.declared.fault.FileFault.{FileFault}
+use Rattle.nccheck.specs.declared.fault.FileFault.TheVariants.{CannotOpen, ReadFailed, OutOfMemory, WriteFailed}
+
+-- ---- the check of one file
 
 -- the lines of these findings; none in a quiet run
 abbrev pub shown : Severity → Bool → Bytes → Listing → List Finding → Bytes
@@ -18,8 +29,154 @@ pub record Checks (bytes file : Bytes) (level : Severity) (is_quiet : Bool) (old
   pub text : Appended old new (shown level is_quiet file report.listing report.findings)
   pub said : reported ≡ has_reported level report.findings
 
--- the same of a path that names these bytes; one that names none isn't checked
-abbrev pub ChecksNamed : {E : Type 0} → Option Bytes → Bytes → Severity → Bool → SinkView → SinkView → Result Bool E → Type 0
-ChecksNamed (Some bytes) file level is_quiet old new (Ok reported) = Checks bytes file level is_quiet old new reported
-ChecksNamed None file level is_quiet old new (Ok reported) = ⊥
-ChecksNamed bytes file level is_quiet old new (Err fault) = Unit {0}
+-- the file has these bytes, and a prefix of its lines was written before standard output failed
+pub record BreaksOff (bytes file : Bytes) (level : Severity) (is_quiet : Bool) (old new : SinkView) : Type 0 where
+  pub report : Report
+  pub is_report : IsReport bytes report
+  pub partway : FailedPartway old new (shown level is_quiet file report.listing report.findings)
+
+-- what was written of a file with these bytes
+abbrev pub ChecksBytes : Bytes → Bytes → Severity → Bool → SinkView → SinkView → Result Bool FileFault → Type 0
+ChecksBytes bytes file level is_quiet old new (Ok reported) = Checks bytes file level is_quiet old new reported
+ChecksBytes bytes file level is_quiet old new (Err WriteFailed) = BreaksOff bytes file level is_quiet old new
+ChecksBytes bytes file level is_quiet old new (Err CannotOpen) = ⊥
+ChecksBytes bytes file level is_quiet old new (Err ReadFailed) = new ≡ old
+ChecksBytes bytes file level is_quiet old new (Err OutOfMemory) = new ≡ old
+
+-- the path can't be opened, and nothing was written
+abbrev pub Unopened : SinkView → SinkView → Result Bool FileFault → Type 0
+Unopened old new (Ok reported) = ⊥
+Unopened old new (Err CannotOpen) = new ≡ old
+Unopened old new (Err ReadFailed) = ⊥
+Unopened old new (Err OutOfMemory) = ⊥
+Unopened old new (Err WriteFailed) = ⊥
+
+-- what was written of a path that names these bytes, or none
+abbrev pub ChecksNamed : Option Bytes → Bytes → Severity → Bool → SinkView → SinkView → Result Bool FileFault → Type 0
+ChecksNamed (Some bytes) file level is_quiet old new answer = ChecksBytes bytes file level is_quiet old new answer
+ChecksNamed None file level is_quiet old new answer = Unopened old new answer
+
+-- a source has failed exactly if the answer says so
+abbrev pub ReadFailsOnly : {A : Type 0} → ℕ → ℕ → Result A FileFault → Type 0
+ReadFailsOnly old new (Err ReadFailed) = HasFailed old new
+ReadFailsOnly old new _ = new ≡ old
+
+-- standard output has failed exactly if the answer says so; with any other fault nothing was written
+abbrev pub WriteFailsOnly : {A : Type 0} → SinkView → SinkView → Result A FileFault → Type 0
+WriteFailsOnly old new (Ok done) = new.failures ≡ old.failures
+WriteFailsOnly old new (Err WriteFailed) = HasFailed old.failures new.failures
+WriteFailsOnly old new (Err _) = new ≡ old
+
+-- the opener was asked for one path, and a source has failed exactly if the answer says so
+pub record OpensFile {A : Type 0} (old new : OpenerView) (answer : Result A FileFault) : Type 0 where
+  pub opens : new.opens ≡ one_more old.opens
+  pub reads : ReadFailsOnly old.failures new.failures answer
+
+-- ---- one path of a run
+
+-- how a run sees what opens paths
+pub record Openings (P : Type 0) : Type 0 where
+  pub is_transparent : Bool
+  pub named : P → Bytes → Option Bytes
+  pub view : P → OpenerView
+
+-- what opens paths, standard output and standard error, at some time of a run
+pub record State (P : Type 0) : Type 0 where
+  pub opener : P
+  pub out : SinkView
+  pub err : SinkView
+
+abbrev pub openings : {P : Type 0} → Bool → (P → Bytes → Option Bytes) → (P → OpenerView) → Openings P
+openings is_transparent named view = record { is_transparent = is_transparent; named = named; view = view }
+
+abbrev pub state : {P O E : Type 0} → (O → SinkView) → (E → SinkView) → P → O → E → State P
+state out_view err_view opener out err = record { opener = opener; out = out_view out; err = err_view err }
+
+-- it was written, or a prefix of it
+abbrev pub IsTold : SinkView → SinkView → Bytes → Type 0
+IsTold old new text = Appended old new text ⊎ FailedPartway old new text
+
+-- the line of a fault was written to standard error, or a prefix of it
+abbrev pub Tells : Bytes → SinkView → SinkView → Result Bool FileFault → Type 0
+Tells file old new (Ok reported) = new ≡ old
+Tells file old new (Err fault) = IsTold old new (file_line file fault)
+
+-- the path was checked with this answer, and a fault was told
+pub record ChecksPath {P : Type 0} (o : Openings P) (a : Asked) (file : Bytes) (old new : State P) (answer : Result Bool FileFault) : Type 0 where
+  pub opens : OpensFile (o.view old.opener) (o.view new.opener) answer
+  pub writes : WriteFailsOnly old.out new.out answer
+  pub checks : OnTrue o.is_transparent (ChecksNamed (o.named old.opener file) file a.level a.is_quiet old.out new.out answer)
+  pub tells : Tells file old.err new.err answer
+
+-- ---- the paths of a run, in turn
+
+-- the status of a run over one path, with this answer
+abbrev pub status_of : Result Bool FileFault → ℕ
+status_of (Ok false) = 0
+status_of (Ok true) = 1
+status_of (Err fault) = 2
+
+-- a failed allocation and a failed standard output end the run
+abbrev pub ends_run : Result Bool FileFault → Bool
+ends_run (Ok reported) = false
+ends_run (Err CannotOpen) = false
+ends_run (Err ReadFailed) = false
+ends_run (Err OutOfMemory) = true
+ends_run (Err WriteFailed) = true
+
+-- of the two, the first exactly on true
+abbrev pub Either : Bool → Type 0 → Type 0 → Type 0
+Either true First Second = First
+Either false First Second = Second
+
+-- no path was checked
+pub record ChecksNone {P : Type 0} (old new : State P) (status : ℕ) : Type 0 where
+  pub same : new ≡ old
+  pub none : status ≡ 0
+
+-- the path was checked, and then, unless the run ended there, what `Others` says
+pub record ChecksFirst {P : Type 0} (o : Openings P) (a : Asked) (file : Bytes) (old new : State P) (status : ℕ) (Others : State P → State P → ℕ → Type 0) : Type 0 where
+  pub mid : State P
+  pub answer : Result Bool FileFault
+  pub others : ℕ
+  pub first : ChecksPath o a file old mid answer
+  pub goes_on : Either (ends_run answer) (ChecksNone mid new others) (Others mid new others)
+  pub greatest : status ≡ max (status_of answer) others
+
+-- the paths were checked in turn, up to one whose fault ends the run; the status is the greatest
+abbrev pub RunsOver : {P : Type 0} → Openings P → Asked → List Bytes → State P → State P → ℕ → Type 0
+RunsOver o a [] old new status = ChecksNone old new status
+RunsOver o a (file ∷ files) old new status = ChecksFirst o a file old new status (RunsOver o a files)
+
+-- ---- the whole run
+
+-- the words ask for nothing, or memory ran out while they were read
+abbrev pub Refuses : Option Asked → OptFault → Type 0
+Refuses asked opt.Usage = asked ≡ None
+Refuses asked opt.OutOfMemory = Unit {0}
+
+-- nothing was opened or written, but the line of a fault of the command line to standard error, or a prefix of it
+pub record RefusesWords {P : Type 0} (asked : Option Asked) (old new : State P) (status : ℕ) : Type 0 where
+  pub fault : OptFault
+  pub refuses : Refuses asked fault
+  pub opener : new.opener ≡ old.opener
+  pub out : new.out ≡ old.out
+  pub tells : IsTold old.err new.err (opt_fault_line fault)
+  pub trouble : status ≡ 2
+
+-- the words were refused, or the paths that they name were checked
+abbrev pub RunsAsked : {P : Type 0} → Openings P → Option Asked → State P → State P → ℕ → Type 0
+RunsAsked o asked old new status = RefusesWords asked old new status ⊎ IsSomeAnd asked (λ a. RunsOver o a a.files old new status)
+
+-- standard output was flushed after the run had this status; if that failed, its line was written to standard error, or a prefix of it
+abbrev pub Flushes : {P : Type 0} → State P → State P → ℕ → ℕ → Type 0
+Flushes mid new before status =
+    (Appended mid.out new.out [] × (new.err ≡ mid.err) × (status ≡ before)) ⊎ (FailedPartway mid.out new.out [] × IsTold mid.err new.err flush_line × (status ≡ 2))
+
+-- the run, and then the flush
+pub record Runs {P : Type 0} (o : Openings P) (asked : Option Asked) (old new : State P) (status : ℕ) : Type 0 where
+  pub mid : State P
+  pub before : ℕ
+  pub runs : RunsAsked o asked old mid before
+  pub opener : new.opener ≡ mid.opener
+  pub flushes : Flushes mid new before status

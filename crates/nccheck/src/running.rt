@@ -1,9 +1,12 @@
 //! A run of the program.
 
-ghost use Rattle.std.specs.Prelude.{◌≡◌, ◌≤◌, IfOk, true};
+ghost use Rattle.std.specs.Prelude.{◌≡◌, ◌≤◌, true};
 ghost use Rattle.std.specs.Bool.{OnTrue};
 ghost use Rattle.devices.specs.code.SinkWrites.{Wrote};
-ghost use Rattle.nccheck.specs.Runs.{Checks, ChecksNamed, shown};
+ghost use Rattle.cli_base.specs.Arguments.{texts_of};
+ghost use Rattle.nccheck.specs.CommandLine.{asked_by};
+ghost use Rattle.nccheck.specs.code.Options.{asked_for};
+ghost use Rattle.nccheck.specs.Runs.{ChecksBytes, ChecksNamed, ChecksPath, ends_run, openings, OpensFile, ReadFailsOnly, Runs, RunsAsked, RunsOver, shown, state, status_of, WriteFailsOnly};
 
 use crate::command_line::options_of_words;
 use crate::fault::FileFault;
@@ -30,6 +33,7 @@ const TROUBLE: u8 = 2;
 /// a line on standard error says so. Otherwise it is 1 if something was reported of a file, and 0 if nothing was. Files are checked in the
 /// order of the words. After a file that can't be opened or read the run goes on with the next one; a failure of standard output or of an
 /// allocation ends it. Standard output is flushed in any case. Standard error is not flushed.
+#[tactic(auto, using(crate::proofs::InTurn::is_told))]
 pub fn run_with<P: Opener, O: Flush, E: Sink>(
     opener: &mut P,
     alloc: Global,
@@ -37,6 +41,10 @@ pub fn run_with<P: Opener, O: Flush, E: Sink>(
     out: &mut O,
     err: &mut E,
 ) -> u8
+    ensures runs { Runs
+        (openings P.Source.is_transparent P.named P.view) (asked_by (texts_of words.now))
+        (state O.Sink.view E.view opener.old out.old err.old)
+        (state O.Sink.view E.view opener.new out.new err.new) result }
     ensures status { result ≤ 2 }
     ensures flushed { result ≤ 1 → O.is_flushed out.new ≡ true }
 {
@@ -51,6 +59,7 @@ pub fn run_with<P: Opener, O: Flush, E: Sink>(
 }
 
 /// Checks the files that the words name, and returns the status.
+#[tactic(auto, using(crate::proofs::InTurn::is_told))]
 fn check_for_words<P: Opener, O: Sink, E: Sink>(
     opener: &mut P,
     alloc: Global,
@@ -58,7 +67,11 @@ fn check_for_words<P: Opener, O: Sink, E: Sink>(
     out: &mut O,
     err: &mut E,
 ) -> u8
-    ensures { result ≤ 2 }
+    ensures runs { RunsAsked
+        (openings P.Source.is_transparent P.named P.view) (asked_by (texts_of words.now))
+        (state O.view E.view opener.old out.old err.old)
+        (state O.view E.view opener.new out.new err.new) result }
+    ensures status { result ≤ 2 }
 {
     match options_of_words(alloc, words) {
         Ok(options) => check_files(opener, alloc, &options, out, err),
@@ -77,25 +90,50 @@ fn check_files<P: Opener, O: Sink, E: Sink>(
     out: &mut O,
     err: &mut E,
 ) -> u8
-    ensures { result ≤ 2 }
+    ensures runs { RunsOver
+        (openings P.Source.is_transparent P.named P.view) (asked_for options.now)
+        (texts_of options.now.files)
+        (state O.view E.view opener.old out.old err.old)
+        (state O.view E.view opener.new out.new err.new) result }
+    ensures status { result ≤ 2 }
 {
+    let files = options.files.as_slice();
     let mut status = CLEAN;
-    for file in options.files.as_slice() {
-        let answer = check_file(opener, alloc, file, options.level, options.is_quiet, out);
+    for file in files {
+        let answer = check_and_tell(opener, alloc, file, options, out, err);
         status = status.max(status_of(answer));
-        if let Err(fault) = answer {
-            let _ = put_file_fault(err, file.as_bytes(), fault);
-            if ends_run(fault) {
-                break;
-            }
+        if ends_run(answer) {
+            return status;
         }
     }
     status
 }
 
+/// Checks the file at this path as the options ask, writes the line of a fault to standard error, and returns the answer.
+#[tactic(auto, using(crate::proofs::InTurn::is_told))]
+fn check_and_tell<P: Opener, O: Sink, E: Sink>(
+    opener: &mut P,
+    alloc: Global,
+    file: &str,
+    options: &CheckOptions<'_>,
+    out: &mut O,
+    err: &mut E,
+) -> Result<bool, FileFault>
+    ensures { ChecksPath
+        (openings P.Source.is_transparent P.named P.view) (asked_for options.now) file.now
+        (state O.view E.view opener.old out.old err.old)
+        (state O.view E.view opener.new out.new err.new) result }
+{
+    let answer = check_file(opener, alloc, file, options.level, options.is_quiet, out);
+    if let Err(fault) = answer {
+        let _ = put_file_fault(err, file.as_bytes(), fault);
+    }
+    answer
+}
+
 /// Returns the status of a run over one file, with this answer.
 fn status_of(answer: Result<bool, FileFault>) -> u8
-    ensures { result ≤ 2 }
+    ensures { result ≡ status_of answer }
 {
     match answer {
         Ok(false) => CLEAN,
@@ -104,10 +142,12 @@ fn status_of(answer: Result<bool, FileFault>) -> u8
     }
 }
 
-/// Returns true if a run doesn't go on after this fault.
-fn ends_run(fault: FileFault) -> bool {
-    match fault {
-        FileFault::OutOfMemory | FileFault::WriteFailed => true,
+/// Returns true if a run doesn't go on after this answer.
+fn ends_run(answer: Result<bool, FileFault>) -> bool
+    ensures { result ≡ ends_run answer }
+{
+    match answer {
+        Err(FileFault::OutOfMemory | FileFault::WriteFailed) => true,
         _ => false,
     }
 }
@@ -122,7 +162,9 @@ fn check_file<P: Opener, O: Sink>(
     is_quiet: bool,
     out: &mut O,
 ) -> Result<bool, FileFault>
-    ensures { OnTrue P.Source.is_transparent (ChecksNamed
+    ensures opens { OpensFile (P.view opener.old) (P.view opener.new) result }
+    ensures writes { WriteFailsOnly (O.view out.old) (O.view out.new) result }
+    ensures checks { OnTrue P.Source.is_transparent (ChecksNamed
         (P.named opener.old file.now) file.now level is_quiet (O.view out.old) (O.view out.new) result) }
 {
     let mut source = opener.open(file)?;
@@ -143,8 +185,10 @@ fn check_source<S: Source, O: Sink>(
     is_quiet: bool,
     out: &mut O,
 ) -> Result<bool, FileFault>
-    ensures { OnTrue S.is_transparent (IfOk result (Checks
-        (S.view source.old).bytes file.now level is_quiet (O.view out.old) (O.view out.new))) }
+    ensures reads { ReadFailsOnly (S.view source.old).failures (S.view source.new).failures result }
+    ensures writes { WriteFailsOnly (O.view out.old) (O.view out.new) result }
+    ensures checks { OnTrue S.is_transparent (ChecksBytes
+        (S.view source.old).bytes file.now level is_quiet (O.view out.old) (O.view out.new) result) }
 {
     let mut buf = [0u8; BUFFER_LEN];
     let report = check(alloc, source, &mut buf)?;
