@@ -14,6 +14,7 @@ It makes texts and files, runs the programs on them, and prints a line for each:
   of bytes.
 - times the same list as values of a variable: our instructions for a list in an attribute, divided by those for the list in a variable.
   Where there is a known figure of an earlier program, it is the goal, so that nothing gets slower;
+- times the instructions of ncdump -h: those of a check divided by those of a dump of the head.
 - percent in the heaviest function: its part of all instructions, those of the functions that it calls left out.
 - times as fast as Unidata's (Debian's netcdf-bin): its instructions divided by ours, and its seconds divided by ours, each the least of
   RUNS runs, one program after the other. The seconds alone can be spoilt by a busy machine.
@@ -32,11 +33,12 @@ from pathlib import Path
 from typing import Callable, NamedTuple
 
 from generate import listed, text
-from measure import DUMP, GENERATE, THEIR_DUMP, built, heaviest, instructions, least
+from measure import CHECK, DUMP, GENERATE, THEIR_DUMP, built, heaviest, instructions, least
 from run import BYTE, INT, INT64, SHORT, UBYTE, fixed, records
 
 HEAVIEST = "percent in the heaviest function"
 LOOP, VALUE, TEXT_BYTE = "times the plain loop", "instructions a value", "instructions a byte of text"
+OF_HEAD = "times the instructions of ncdump -h"
 PLAIN = "times a plain number's instructions"
 TUNED = "times the tuned loop's seconds"
 FILE_BYTE, AS_VALUES = "instructions a byte of the file", "times the same list as values of a variable"
@@ -125,6 +127,12 @@ def a_file_byte(row):
     lines = ",\n".join([f'  "{row}"'] * 20_000)
     file = made(text("\tr = 20000 ;\n\tx = 80 ;\n", "\tchar c(r, x) ;\n", f" c =\n{lines} ;\n"))
     return instructions(DUMP, file) / Path(file).stat().st_size
+
+
+def checked():
+    """Of a check of 20,000 variables."""
+    file = made(text("\tx = 2 ;\n", "".join(f"\tint v{number}(x) ;\n" for number in range(20_000)), ""))
+    return instructions(CHECK, file) / instructions(DUMP, "-h", file)
 
 
 def attribute(values, suffix):
@@ -231,6 +239,7 @@ ROWS = [
     Row("ncdump, rows with an escape in eight", FILE_BYTE, 20, lambda: a_file_byte(r"abcdefg\n" * 10)),
     Row("ncdump, an attribute of ints", AS_VALUES, 1, lambda: attribute_as_values("int", "", -(10**6), 10**6)),
     Row("ncdump, an attribute of shorts", AS_VALUES, 1.3, lambda: attribute_as_values("short", "s", -(2**15), 2**15)),
+    Row("nccheck, 20,000 variables", OF_HEAD, 3.5, checked),
     Row("ncdump, 20 interleaved variables", FASTER, 5, lambda: faster(20, 5_000)),
     Row("ncdump, 100 interleaved variables", FASTER, 5, lambda: faster(100, 1_000)),
     Row("ncdump, 20 interleaved variables", FASTER_SECONDS, 5, lambda: faster_seconds(20, 50_000)),

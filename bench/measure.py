@@ -8,7 +8,7 @@ import time
 from pathlib import Path
 
 TOP = Path(__file__).resolve().parent.parent
-DUMP, GENERATE = TOP / "bin" / "ncdump", TOP / "bin" / "ncgen"
+DUMP, GENERATE, CHECK = TOP / "bin" / "ncdump", TOP / "bin" / "ncgen", TOP / "bin" / "nccheck"
 # those of Debian's netcdf-bin
 THEIR_DUMP, THEIR_GENERATE = Path("/usr/bin/ncdump"), Path("/usr/bin/ncgen")
 
