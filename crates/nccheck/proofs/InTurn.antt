@@ -1,5 +1,6 @@
 -- A run over one path after another.
-use Rattle.std.proofs.Common.{◌≡◌, ℕ, ◌+◌, ◌<◌, ◌≤◌, inl, inr, max, true, false, Bool, List, [], ◌∷◌, length, get_or, drop, refl, sym, ap, subst, Result, Ok, Err, arith}
+use Rattle.std.proofs.Common.{◌≡◌, ℕ, ◌+◌, ◌<◌, ◌≤◌, inl, inr, max, true, false, Bool, List}
+use Rattle.std.proofs.Common.{[], ◌∷◌, length, get_or, drop, refl, sym, ap, subst, Result, Ok, Err, arith}
 use Rattle.std.proofs.lemmas.List.{drop_all, drop_more}
 use Rattle.std.specs.Borrow.{Bor}
 use Rattle.nc_base.specs.Bytes.{Bytes}
@@ -38,7 +39,8 @@ max_none : (a : ℕ) → max a 0 ≡ a
 max_none a = omega arith
 
 -- one more path was checked, and the run goes on
-up_next : {P : Type 0} (o : Openings P) (a : Asked) (files : List Bytes) (file : Bytes) (others : List Bytes) (old now next : State P) (status : ℕ) (answer : Result Bool FileFault)
+up_next : {P : Type 0} (o : Openings P) (a : Asked) (files : List Bytes) (file : Bytes) (others : List Bytes)
+    (old now next : State P) (status : ℕ) (answer : Result Bool FileFault)
     → RunsUpTo o a files (file ∷ others) old now status → ChecksPath o a file now next answer → ends_run answer ≡ false
     → RunsUpTo o a files others old next (max status (status_of answer))
 up_next {P = P} o a files file others old now next status answer up checks goes_on new more runs =
@@ -53,7 +55,8 @@ up_next {P = P} o a files file others old now next status answer up checks goes_
     }))
 
 -- one more path was checked, and the run ends there
-up_end : {P : Type 0} (o : Openings P) (a : Asked) (files : List Bytes) (file : Bytes) (others : List Bytes) (old now next : State P) (status : ℕ) (answer : Result Bool FileFault)
+up_end : {P : Type 0} (o : Openings P) (a : Asked) (files : List Bytes) (file : Bytes) (others : List Bytes)
+    (old now next : State P) (status : ℕ) (answer : Result Bool FileFault)
     → RunsUpTo o a files (file ∷ others) old now status → ChecksPath o a file now next answer → ends_run answer ≡ true
     → RunsOver o a files old next (max status (status_of answer))
 up_end {P = P} o a files file others old now next status answer up checks ends =
@@ -74,19 +77,24 @@ up_all {P = P} o a files others old now status none up =
     (up now 0 (subst (λ (left : List Bytes). RunsOver o a left now now 0) (sym none) (record { same = refl; none = refl })))
 
 -- the next path of those that are left
-texts_left : (xs : List (Bor Bytes)) (i : ℕ) (d : Bor Bytes) → i < length xs → texts_of (drop i xs) ≡ (get_or xs i d).now ∷ texts_of (drop (i + 1) xs)
+texts_left : (xs : List (Bor Bytes)) (i : ℕ) (d : Bor Bytes) → i < length xs
+    → texts_of (drop i xs) ≡ (get_or xs i d).now ∷ texts_of (drop (i + 1) xs)
 texts_left xs i d lt = ap texts_of (drop_more xs i d lt)
 
 -- the same in a loop over the paths
-pub loop_next : {P : Type 0} (o : Openings P) (a : Asked) (files : List Bytes) (xs : List (Bor Bytes)) (i : ℕ) (d : Bor Bytes) (old now next : State P) (status : ℕ) (answer : Result Bool FileFault)
-    → i < length xs → RunsUpTo o a files (texts_of (drop i xs)) old now status → ChecksPath o a (get_or xs i d).now now next answer → ends_run answer ≡ false
+pub loop_next : {P : Type 0} (o : Openings P) (a : Asked) (files : List Bytes) (xs : List (Bor Bytes)) (i : ℕ) (d : Bor Bytes)
+    (old now next : State P) (status : ℕ) (answer : Result Bool FileFault)
+    → i < length xs → RunsUpTo o a files (texts_of (drop i xs)) old now status → ChecksPath o a (get_or xs i d).now now next answer
+    → ends_run answer ≡ false
     → RunsUpTo o a files (texts_of (drop (i + 1) xs)) old next (max status (status_of answer))
 loop_next o a files xs i d old now next status answer lt up checks goes_on =
     up_next o a files (get_or xs i d).now (texts_of (drop (i + 1) xs)) old now next status answer
     (subst (λ (left : List Bytes). RunsUpTo o a files left old now status) (texts_left xs i d lt) up) checks goes_on
 
-pub loop_end : {P : Type 0} (o : Openings P) (a : Asked) (files : List Bytes) (xs : List (Bor Bytes)) (i : ℕ) (d : Bor Bytes) (old now next : State P) (status : ℕ) (answer : Result Bool FileFault)
-    → i < length xs → RunsUpTo o a files (texts_of (drop i xs)) old now status → ChecksPath o a (get_or xs i d).now now next answer → ends_run answer ≡ true
+pub loop_end : {P : Type 0} (o : Openings P) (a : Asked) (files : List Bytes) (xs : List (Bor Bytes)) (i : ℕ) (d : Bor Bytes)
+    (old now next : State P) (status : ℕ) (answer : Result Bool FileFault)
+    → i < length xs → RunsUpTo o a files (texts_of (drop i xs)) old now status → ChecksPath o a (get_or xs i d).now now next answer
+    → ends_run answer ≡ true
     → RunsOver o a files old next (max status (status_of answer))
 loop_end o a files xs i d old now next status answer lt up checks ends =
     up_end o a files (get_or xs i d).now (texts_of (drop (i + 1) xs)) old now next status answer

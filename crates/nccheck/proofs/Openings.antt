@@ -9,7 +9,8 @@ use Rattle.nccheck.specs.declared.fault.FileFault.{FileFault}
 use Rattle.nccheck.specs.Runs.{OpensFile, ReadFailsOnly}
 
 -- the source's failure is the opener's, once it has the source back
-pub opens_file : {A : Type 0} (old mid new : OpenerView) (start source : SourceView) (result : Result A FileFault) → OpensOnce old mid → start.failures ≡ 0
+pub opens_file : {A : Type 0} (old mid new : OpenerView) (start source : SourceView) (result : Result A FileFault)
+    → OpensOnce old mid → start.failures ≡ 0
     → ReadFailsOnly start.failures source.failures result → HasBack mid new source.failures → OpensFile old new result
 unfolding HasFailed
 opens_file old mid new start source result h h2 h3 h4 = grind (arith, one_failure, no_failure)

@@ -1,5 +1,6 @@
 -- Definition. What a run of the program has done.
-use Rattle.std.specs.Prelude.{ℕ, ◌≡◌, ◌⊎◌, max, Bool, true, false, if◌then◌else◌, List, [], ◌∷◌, Option, Some, None, IsSomeAnd, Result, Ok, Err}
+use Rattle.std.specs.Prelude.{ℕ, ◌≡◌, ◌⊎◌, max, Bool, true, false, if◌then◌else◌, List, [], ◌∷◌}
+use Rattle.std.specs.Prelude.{Option, Some, None, IsSomeAnd, Result, Ok, Err}
 use Rattle.std.specs.Bool.{OnTrue}
 use Rattle.nc_base.specs.Bytes.{Bytes}
 use Rattle.devices.specs.Failures.{HasFailed, one_more}
@@ -102,7 +103,8 @@ Tells file old new (Ok reported) = new ≡ old
 Tells file old new (Err fault) = IsTold old new (file_line file fault)
 
 -- the path was checked with this answer, and a fault was told
-pub record ChecksPath {P : Type 0} (o : Openings P) (a : Asked) (file : Bytes) (old new : State P) (answer : Result Bool FileFault) : Type 0 where
+pub record ChecksPath {P : Type 0} (o : Openings P) (a : Asked) (file : Bytes) (old new : State P) (answer : Result Bool FileFault)
+    : Type 0 where
   pub opens : OpensFile (o.view old.opener) (o.view new.opener) answer
   pub writes : WriteFailsOnly old.out new.out answer
   pub checks : OnTrue o.is_transparent (ChecksNamed (o.named old.opener file) file a.level a.is_quiet old.out new.out answer)
@@ -135,7 +137,8 @@ pub record ChecksNone {P : Type 0} (old new : State P) (status : ℕ) : Type 0 w
   pub none : status ≡ 0
 
 -- the path was checked, and then, unless the run ended there, what `Others` says
-pub record ChecksFirst {P : Type 0} (o : Openings P) (a : Asked) (file : Bytes) (old new : State P) (status : ℕ) (Others : State P → State P → ℕ → Type 0) : Type 0 where
+pub record ChecksFirst {P : Type 0} (o : Openings P) (a : Asked) (file : Bytes) (old new : State P) (status : ℕ)
+    (Others : State P → State P → ℕ → Type 0) : Type 0 where
   pub mid : State P
   pub answer : Result Bool FileFault
   pub others : ℕ
@@ -171,7 +174,8 @@ RunsAsked o asked old new status = RefusesWords asked old new status ⊎ IsSomeA
 -- standard output was flushed after the run had this status; if that failed, its line was written to standard error, or a prefix of it
 abbrev pub Flushes : {P : Type 0} → State P → State P → ℕ → ℕ → Type 0
 Flushes mid new before status =
-    (Appended mid.out new.out [] × (new.err ≡ mid.err) × (status ≡ before)) ⊎ (FailedPartway mid.out new.out [] × IsTold mid.err new.err flush_line × (status ≡ 2))
+    (Appended mid.out new.out [] × (new.err ≡ mid.err) × (status ≡ before))
+    ⊎ (FailedPartway mid.out new.out [] × IsTold mid.err new.err flush_line × (status ≡ 2))
 
 -- the run, and then the flush
 pub record Runs {P : Type 0} (o : Openings P) (asked : Option Asked) (old new : State P) (status : ℕ) : Type 0 where

@@ -6,7 +6,8 @@ ghost use Rattle.devices.specs.code.SinkWrites.{Wrote};
 ghost use Rattle.cli_base.specs.Arguments.{texts_of};
 ghost use Rattle.nccheck.specs.CommandLine.{asked_by};
 ghost use Rattle.nccheck.specs.code.Options.{asked_for};
-ghost use Rattle.nccheck.specs.Runs.{ChecksBytes, ChecksNamed, ChecksPath, ends_run, openings, OpensFile, ReadFailsOnly, Runs, RunsAsked, RunsOver, shown, state, status_of, WriteFailsOnly};
+ghost use Rattle.nccheck.specs.Runs.{ChecksBytes, ChecksNamed, ChecksPath, ends_run, OpensFile, openings};
+ghost use Rattle.nccheck.specs.Runs.{ReadFailsOnly, Runs, RunsAsked, RunsOver, shown, state, status_of, WriteFailsOnly};
 
 use crate::command_line::options_of_words;
 use crate::fault::FileFault;
@@ -165,7 +166,8 @@ fn check_file<P: Opener, O: Sink>(
     ensures opens { OpensFile (P.view opener.old) (P.view opener.new) result }
     ensures writes { WriteFailsOnly (O.view out.old) (O.view out.new) result }
     ensures checks { OnTrue P.Source.is_transparent (ChecksNamed
-        (P.named opener.old file.now) file.now level is_quiet (O.view out.old) (O.view out.new) result) }
+        (P.named opener.old file.now) file.now level is_quiet
+        (O.view out.old) (O.view out.new) result) }
 {
     let mut source = opener.open(file)?;
     let answer = check_source(&mut source, alloc, file, level, is_quiet, out);
@@ -188,7 +190,8 @@ fn check_source<S: Source, O: Sink>(
     ensures reads { ReadFailsOnly (S.view source.old).failures (S.view source.new).failures result }
     ensures writes { WriteFailsOnly (O.view out.old) (O.view out.new) result }
     ensures checks { OnTrue S.is_transparent (ChecksBytes
-        (S.view source.old).bytes file.now level is_quiet (O.view out.old) (O.view out.new) result) }
+        (S.view source.old).bytes file.now level is_quiet
+        (O.view out.old) (O.view out.new) result) }
 {
     let mut buf = [0u8; BUFFER_LEN];
     let report = check(alloc, source, &mut buf)?;
