@@ -1,6 +1,6 @@
 //! A run of the program.
 
-ghost use Rattle.std.specs.Prelude.{◌≡◌, ◌≤◌, true};
+ghost use Rattle.std.specs.Prelude.{◌≡◌, ◌≤◌, true, Err};
 ghost use Rattle.std.specs.Bool.{OnTrue};
 ghost use Rattle.devices.specs.code.SinkWrites.{Wrote};
 ghost use Rattle.cli_base.specs.Arguments.{texts_of};
@@ -148,8 +148,20 @@ fn ends_run(answer: Result<bool, FileFault>) -> bool
     ensures { result ≡ ends_run answer }
 {
     match answer {
-        Err(FileFault::OutOfMemory | FileFault::WriteFailed) => true,
-        _ => false,
+        Ok(_) => false,
+        Err(fault) => is_fatal(fault),
+    }
+}
+
+/// Returns true if a run doesn't go on after this fault.
+fn is_fatal(fault: FileFault) -> bool
+    ensures { result ≡ ends_run (Err fault) }
+{
+    match fault {
+        FileFault::CannotOpen => false,
+        FileFault::ReadFailed => false,
+        FileFault::OutOfMemory => true,
+        FileFault::WriteFailed => true,
     }
 }
 
