@@ -21,3 +21,4 @@ pub mod GeneratedLength
 pub mod WholeVariables
 pub mod MissingValues
 pub mod TruncatedDumps
+pub mod CanonicalLayouts

@@ -1,6 +1,7 @@
 //! Laws of the definitions in `specs/`, each the contract of a function that does nothing.
 
 ghost use Rattle.nc_layout.specs.Laws.{QuietBeginsAreCanonical, QuietLengthIsCanonical, QuietSlabsAreApart, MissingValuesHaveSlab};
+ghost use Rattle.nc_layout.specs.Laws.{CanonicalBeginsAreQuiet, CanonicalLengthIsQuiet};
 ghost use Rattle.nc_layout.specs.HeaderLaws.{SpelledHeadersHaveSoundLayouts, CanonicalBeginsAreGenerated, QuietFilesAreGenerated};
 ghost use Rattle.nc_layout.specs.HeaderLaws.{ShortFilesLackValues, MissingValuesAreFound, MissingValuesStopDumps};
 
@@ -13,6 +14,15 @@ ghost use Rattle.nc_layout.specs.HeaderLaws.{ShortFilesLackValues, MissingValues
 pub fn quiet_layouts_are_canonical()
     ensures begins { QuietBeginsAreCanonical }
     ensures length { QuietLengthIsCanonical }
+{}
+
+/// States two laws of layouts within limits, and does nothing: the converses of [`quiet_layouts_are_canonical`]. `begins`: if each variable
+/// begins right after the header and the padded slabs that come before its own, then nothing is found at the begins of variables and blocks.
+///
+/// `length`: if the file also ends after the last of its padded slabs, then nothing is found at its end.
+pub fn canonical_layouts_are_quiet()
+    ensures begins { CanonicalBeginsAreQuiet }
+    ensures length { CanonicalLengthIsQuiet }
 {}
 
 /// States a law, and does nothing: if no variable begins inside of the header, no block begins before the values of an earlier one end, and
