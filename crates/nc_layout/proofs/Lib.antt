@@ -22,3 +22,4 @@ pub mod WholeVariables
 pub mod MissingValues
 pub mod TruncatedDumps
 pub mod CanonicalLayouts
+pub mod GeneratedLayouts
