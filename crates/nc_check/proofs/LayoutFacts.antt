@@ -109,7 +109,7 @@ listing-finds-none kind l h same none =
     (sym (all-located (is_of_layout kind) kind (λ x. refl) fs (layout_findings layout)) ∙ located)
 
 -- where the bytes end
-same-end : (a b n len : ℕ) → a + n ≡ len → b + n ≡ len → a ≡ b
+pub same-end : (a b n len : ℕ) → a + n ≡ len → b + n ≡ len → a ≡ b
 same-end a b n len at same = omega (arith, at, same)
 
 -- if a report has no finding of this kind about the layout, then the layout of the header that is read has none

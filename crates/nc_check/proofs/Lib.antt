@@ -12,3 +12,4 @@ mod LayoutFacts
 mod QuietFiles
 mod MissingFindings
 mod WholeFiles
+mod CleanLayouts

@@ -2,6 +2,7 @@
 use Rattle.std.proofs.Common.{◌≡◌, ℕ, ◌+◌, ◌||◌, Bool, false, List, [], ◌∷◌, ◌++◌, length, map, flat_map, find, Option, Some, None, Ok, refl, sym, ap, ◌∙◌, subst}
 use Rattle.std.specs.List.{All, list_any}
 use Rattle.std.specs.Option.{option_to_list, option_map}
+use Rattle.std.proofs.lemmas.Bool.{false≢true}
 use Rattle.std.proofs.lemmas.List.Elements.{All-nil, All-append, All-map}
 use Rattle.std.proofs.lemmas.List.Folds.{list_any-append, list_any_none}
 use Rattle.std.proofs.lemmas.List.Sorted.{list_any-IsPermutation}
@@ -33,7 +34,7 @@ unfoldable use Rattle.nc_check.specs.Reports.{all_findings}
 use Rattle.nc_check.specs.FaultLaws.{is_missing, ReportsTellMissingValues}
 use Rattle.nc_check.proofs.FaultFindings.{only, if-none}
 use Rattle.nc_check.proofs.LayoutFacts.{all-located, is-read, whole-header, same-layout}
-use Rattle.nc_check.proofs.QuietRules.{Plain, plain-names, plain-attributes, plain-vsizes}
+use Rattle.nc_check.proofs.QuietRules.{is_layout, Plain, plain-names, plain-attributes, plain-vsizes}
 
 -- the finding is that values are missing
 abbrev tells_missing : Finding → Bool
@@ -42,12 +43,12 @@ tells_missing f = is_missing f.fact
 -- ---- findings of other facts
 
 abbrev OtherFact : Fact → Type 0
-OtherFact fact = is_missing fact ≡ false
+OtherFact fact = is_layout fact ≡ false
 
-abbrev Other : Finding → Type 0
+abbrev pub Other : Finding → Type 0
 Other f = OtherFact f.fact
 
-all-other : (fs : List Finding) → All Plain fs → All Other fs
+pub all-other : (fs : List Finding) → All Plain fs → All Other fs
 all-other fs plain k x lt = (plain k x lt).1
 
 -- ---- at fields alone
@@ -87,7 +88,7 @@ other-floating : (o : Option Indexed) → All Other (option_to_list (option_map 
 other-floating (Some f) = only Other (finding f (fact.Fault FloatingType)) refl
 other-floating None = All-nil Other
 
-other-header : (es : List Entry) → All Other (header_findings es)
+pub other-header : (es : List Entry) → All Other (header_findings es)
 unfolding header_findings field_findings floating_findings
 other-header es =
     let fs = indexed es in
@@ -99,10 +100,15 @@ other-header es =
 
 -- ---- about the layout
 
+not-missing : (x : Fact) → OtherFact x → is_missing x ≡ false
+not-missing (fact.Layout x) other = absurd (false≢true (sym other))
+not-missing x other = refl
+
 -- what comes after findings of other facts
 after-others : (xs ys : List Finding) → All Other xs → list_any tells_missing (xs ++ ys) ≡ list_any tells_missing ys
 after-others xs ys others =
-    list_any-append tells_missing xs ys ∙ ap (λ b. b || list_any tells_missing ys) (list_any_none tells_missing xs others)
+    list_any-append tells_missing xs ys ∙ ap (λ b. b || list_any tells_missing ys) (list_any_none tells_missing xs
+    (λ k d lt. not-missing _ (others k d lt)))
 
 layout-tells : (layout : Layout) (fs : List Indexed) → list_any tells_missing (layout_facts layout fs) ≡ finds is_of_missing layout
 layout-tells layout fs =

@@ -16,7 +16,7 @@ use Rattle.nc_layout.specs.Slots.{padded_slab}
 use Rattle.nc_layout.specs.Blocks.{each_slot}
 use Rattle.nc_layout.specs.Findings.{layout_findings}
 use Rattle.nc_layout.specs.HeaderLayout.{layout_of}
-use Rattle.nc_check.specs.declared.{finding.Finding.Finding, ahead.NumberAt.NumberAt, ahead.Ahead.Ahead}
+use Rattle.nc_check.specs.declared.{finding.Fact.Fact, finding.Finding.Finding, ahead.NumberAt.NumberAt, ahead.Ahead.Ahead}
 use Rattle.nc_check.specs.declared.finding.Fact.TheVariants as fact
 use Rattle.nc_check.specs.Indexed.{Indexed, field_at, indexed_from, indexed, finding, each_before, each_after}
 use Rattle.nc_check.specs.FieldRules.{facts_of, findings_at, is_floating, floating_finding}
@@ -30,7 +30,7 @@ unfoldable use Rattle.nc_check.specs.WholeHeader.{vsize_findings, whole_findings
 use Rattle.nc_check.specs.WholeHeader.{number_of, is_numrecs, is_vsize, is_begin, named, vsize_finding, found_at, located, layout_facts}
 unfoldable use Rattle.nc_check.specs.HeaderRules.{header_findings}
 unfoldable use Rattle.nc_check.specs.Reports.{all_findings}
-use Rattle.nc_check.specs.FaultLaws.{is_fault, is_missing}
+use Rattle.nc_check.specs.FaultLaws.{is_fault}
 use Rattle.nc_check.proofs.Refusals.{refusal_of}
 use Rattle.nc_check.proofs.FaultFindings.{quiet-facts, quiet-type, contains-first}
 
@@ -39,9 +39,14 @@ use Rattle.nc_check.proofs.FaultFindings.{quiet-facts, quiet-type, contains-firs
 abbrev pub Quiet : Finding → Type 0
 Quiet f = is_fault f.fact ≡ false
 
--- it is neither a fault nor of missing values
+-- the fact is about the layout
+abbrev pub is_layout : Fact → Bool
+is_layout (fact.Layout fact) = true
+is_layout fact = false
+
+-- it is neither a fault nor about the layout
 abbrev pub Plain : Finding → Type 0
-Plain f = Quiet f × (is_missing f.fact ≡ false)
+Plain f = Quiet f × (is_layout f.fact ≡ false)
 
 all-quiet : (fs : List Finding) → All Plain fs → All Quiet fs
 all-quiet fs plain k x lt = (plain k x lt).0

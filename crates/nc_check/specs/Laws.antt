@@ -93,3 +93,7 @@ WholeFilesHoldDatasets = (bytes : Bytes) (r : Report) → IsReport bytes r → F
 -- and so it is in the file of each good dataset that fits
 abbrev pub GeneratedFilesAreFoundWhole : Type 0
 GeneratedFilesAreFoundWhole = (d : Dataset) (r : Report) → IsGood d → Fits d.header → IsReport (file_of d) r → FindsWholeFile r
+
+-- nor is anything found at begins and at the end of such a file
+abbrev pub GeneratedFilesHaveQuietLayouts : Type 0
+GeneratedFilesHaveQuietLayouts = (d : Dataset) (r : Report) → IsGood d → Fits d.header → IsReport (file_of d) r → HasQuietLayout r

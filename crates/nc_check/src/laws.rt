@@ -3,7 +3,7 @@
 ghost use Rattle.nc_check.specs.FaultLaws.{FaultlessHeadersAreReadable, FirstFaultIsReaders, ReportsTellMissingValues};
 ghost use Rattle.nc_check.specs.Laws.{QuietSpellingsAreCanonical, QuietHeadersAreCanonical};
 ghost use Rattle.nc_check.specs.Laws.{QuietFilesAreCanonical, QuietReportsHaveSlabsApart};
-ghost use Rattle.nc_check.specs.Laws.{WholeFilesHoldDatasets, GeneratedFilesAreFoundWhole};
+ghost use Rattle.nc_check.specs.Laws.{WholeFilesHoldDatasets, GeneratedFilesAreFoundWhole, GeneratedFilesHaveQuietLayouts};
 
 /// States two laws, and does nothing. `faultless`: no finding of a report is a fault ([`Fact::Fault`](crate::Fact::Fault)) exactly if
 /// `nc_file::read_header` can read the header.
@@ -51,4 +51,10 @@ pub fn quiet_reports_have_slabs_apart()
 pub fn whole_files_hold_datasets()
     ensures holds { WholeFilesHoldDatasets }
     ensures generated { GeneratedFilesAreFoundWhole }
+{}
+
+/// States a law, and does nothing: the report of a file that `ncgen` writes has no finding at the begins of variables and blocks, and none
+/// at the end of the file.
+pub fn generated_files_have_quiet_layouts()
+    ensures { GeneratedFilesHaveQuietLayouts }
 {}

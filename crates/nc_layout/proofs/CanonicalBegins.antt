@@ -336,7 +336,7 @@ fixed-canonical layout i d quiet within is = fixed-below layout (length layout.s
 
 -- ---- the begin of the records
 
-least-ge : (m b : ℕ) (rs : List Slot) → ((c : Slot) → Contains rs c → m ≤ c.begin) → least (map (λ (slot : Slot). slot.begin) rs) ≡ Some b
+pub least-ge : (m b : ℕ) (rs : List Slot) → ((c : Slot) → Contains rs c → m ≤ c.begin) → least (map (λ (slot : Slot). slot.begin) rs) ≡ Some b
     → m ≤ b
 least-ge m b [] h is = cc
 least-ge m b (slot ∷ rs) h is =

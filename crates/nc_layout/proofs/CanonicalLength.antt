@@ -254,7 +254,7 @@ times-pred (suc n) m some = let same : suc n - 1 ≡ n = omega arith in ap (λ k
     one_more : (n m : ℕ) → n * m + m ≡ suc n * m
     one_more n m = grind arith
 
-used-le : (layout : Layout) → FindsNone is_of_begin layout → used_end layout ≤ canonical_len layout
+pub used-le : (layout : Layout) → FindsNone is_of_begin layout → used_end layout ≤ canonical_len layout
 used-le layout quiet =
     greatest_from-least (λ (b : Extent). b.padded_end) layout.header_end (canonical_len layout) (blocks layout) (omega arith)
     (λ c has. one c (block-cases layout d c has))
@@ -366,7 +366,7 @@ times-zero n m none = grind arith
 zero-times : (n m : ℕ) → n ≡ 0 → n * m ≡ 0
 zero-times n m none = grind arith
 
-padding-ge : (layout : Layout) → IsSoundLayout layout → FindsNone is_of_begin layout → canonical_len layout ≤ padding_end layout
+pub padding-ge : (layout : Layout) → IsSoundLayout layout → FindsNone is_of_begin layout → canonical_len layout ≤ padding_end layout
 padding-ge layout sound quiet = by_count (cases_lt 0 (record_count layout))
   where
     by_begin : (o : Option ℕ) → records_begin layout.slots ≡ o → 0 < record_count layout

@@ -24,7 +24,7 @@ taken-before [] slots = refl
 taken-before (x ∷ before) slots = ap (λ (ss : List Slot). x ∷ ss) (taken-before before slots)
 
 -- the bytes before a slot are those of the slabs before its variable
-begin-is : (h : Header) (header_end file_len : ℕ) (before : List Var) (var : Var) (vars : List Var) → h.vars ≡ before ++ var ∷ vars
+pub begin-is : (h : Header) (header_end file_len : ℕ) (before : List Var) (var : Var) (vars : List Var) → h.vars ≡ before ++ var ∷ vars
     → canonical_begin (layout_of h header_end file_len) (length before) (slot_of h.dims var)
     ≡ header_end + padded_total h.dims (slabs_before h before var)
 begin-is h header_end file_len before var vars is = by_kind (is_record_var h.dims var)

@@ -69,7 +69,7 @@ unfolding record_count
 count-known h header_end file_len n known =
     ap (λ (k : NumRecs). record_count (layout_of (record h { numrecs = k }) header_end file_len)) known
 
-canonical-is : (h : Header) (arrays : List Bytes) (n file_len : ℕ) → h.numrecs ≡ Known n → AreArrays h.dims n h.vars arrays
+pub canonical-is : (h : Header) (arrays : List Bytes) (n file_len : ℕ) → h.numrecs ≡ Known n → AreArrays h.dims n h.vars arrays
     → canonical_len (layout_of h (length (header_spelling h)) file_len) ≡ length (file_of (record { header = bare h n; arrays = arrays }))
 canonical-is h arrays n file_len known are =
     let end = length (header_spelling h) in

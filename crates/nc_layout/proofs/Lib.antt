@@ -21,3 +21,5 @@ pub mod GeneratedLength
 pub mod WholeVariables
 pub mod MissingValues
 pub mod TruncatedDumps
+pub mod CanonicalLayouts
+pub mod GeneratedLayouts

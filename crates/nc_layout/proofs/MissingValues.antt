@@ -109,12 +109,12 @@ short-lacks h bytes header_end sound =
 
 -- ---- findings of the other kinds, whether their conditions hold or not
 
-quiet-both : (kind : LayoutFact → Bool) (xs ys : List LayoutFinding) → Quiet kind xs → Quiet kind ys → Quiet kind (xs ++ ys)
+pub quiet-both : (kind : LayoutFact → Bool) (xs ys : List LayoutFinding) → Quiet kind xs → Quiet kind ys → Quiet kind (xs ++ ys)
 quiet-both kind [] ys q r = r
 quiet-both kind (x ∷ xs) ys q r =
     grind (arith, or-left (kind x.fact) (list_any (is_of kind) xs) q, quiet-both kind xs ys (or-right (kind x.fact) _ q) r)
 
-quiet-then : {A : Type 0} (kind : LayoutFact → Bool) (o : Option A) (f : A → Option LayoutFinding)
+pub quiet-then : {A : Type 0} (kind : LayoutFact → Bool) (o : Option A) (f : A → Option LayoutFinding)
     → ((a : A) → Quiet kind (option_to_list (f a))) → Quiet kind (option_to_list (option_and_then f o))
 quiet-then kind None f each = refl
 quiet-then kind (Some a) f each = each a

@@ -138,7 +138,7 @@ begins-below (x ∷ rs) begin c at has = by_place (contains-cases x c rs has)
     by_place (inl same) = let h = slots-below x.begin rs in let e = ap (λ (s : Slot). s.begin) same in omega (arith, is)
     by_place (inr later) = let h = least-le x.begin rs c later in omega (arith, is)
 
-records_begin-le : (slots : List Slot) (begin : ℕ) (c : Slot) → records_begin slots ≡ Some begin → Contains (record_slots slots) c
+pub records_begin-le : (slots : List Slot) (begin : ℕ) (c : Slot) → records_begin slots ≡ Some begin → Contains (record_slots slots) c
     → begin ≤ c.begin
 unfolding records_begin
 records_begin-le slots begin c at has = begins-below (record_slots slots) begin c at has

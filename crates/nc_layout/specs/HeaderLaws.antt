@@ -39,6 +39,14 @@ QuietFilesAreGenerated = (h : Header) (arrays : List Bytes) (n file_len : ℕ) �
     → FindsNone is_of_end (layout_of h (length (header_spelling h)) file_len)
     → (with_begins (bare h n) ≡ h) × (file_len ≡ length (file_of (record { header = bare h n; arrays = arrays })))
 
+-- the converse: nothing is found at begins and at the end of a file that has the begins and the length of the generated one
+abbrev pub GeneratedFilesAreQuiet : Type 0
+GeneratedFilesAreQuiet = (h : Header) (arrays : List Bytes) (n file_len : ℕ) → h.numrecs ≡ Known n → AreArrays h.dims n h.vars arrays
+    → IsSoundLayout (layout_of h (length (header_spelling h)) file_len)
+    → with_begins (bare h n) ≡ h → file_len ≡ length (file_of (record { header = bare h n; arrays = arrays }))
+    → FindsNone is_of_begin (layout_of h (length (header_spelling h)) file_len)
+    × FindsNone is_of_end (layout_of h (length (header_spelling h)) file_len)
+
 -- the finding that values are missing
 abbrev pub is_of_missing : LayoutFact → Bool
 is_of_missing (Streaming records) = false

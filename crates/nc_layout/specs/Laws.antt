@@ -1,7 +1,8 @@
 -- Law. If nothing is found at the begins of variables and blocks, then each variable begins right after what comes before it: those that
 -- aren't record variables follow the header in its order, each with its padding, and then come the slabs of the first record. If nothing
--- is found at the end of the file either, then the file ends after the last of its padded slabs. Without the findings that let slabs share
--- bytes, no two slabs have a byte in common. Where values are missing, a slab isn't whole.
+-- is found at the end of the file either, then the file ends after the last of its padded slabs. Such begins and such a length have no
+-- findings, in a layout within limits. Without the findings that let slabs share bytes, no two slabs have a byte in common. Where values are
+-- missing, a slab isn't whole.
 use Rattle.std.specs.Prelude.{◌≡◌, ◌≤◌, ◌<◌, IsSome, ◌⊎◌, ℕ, ◌+◌, ◌*◌, Bool, true, false, if◌then◌else◌, List, filter, take, sum_by, slice_get, IfSome}
 use Rattle.std.specs.List.{All, AllPairs, list_any}
 use Rattle.nc_layout.specs.declared.{slot.Slot.Slot, slot.Layout.Layout, finding.LayoutFact.LayoutFact, finding.LayoutFinding.LayoutFinding, file_end.SlabPlace.SlabPlace}
@@ -73,6 +74,14 @@ canonical_len layout = layout.header_end + fixed_bytes layout.slots + record_cou
 abbrev pub QuietLengthIsCanonical : Type 0
 QuietLengthIsCanonical = (layout : Layout) → IsSoundLayout layout → FindsNone is_of_begin layout → FindsNone is_of_end layout
     → layout.file_len ≡ canonical_len layout
+
+-- the converses: nothing is found at canonical begins, nor at the end of a file of the canonical length
+abbrev pub CanonicalBeginsAreQuiet : Type 0
+CanonicalBeginsAreQuiet = (layout : Layout) → IsSoundLayout layout → HasCanonicalBegins layout → FindsNone is_of_begin layout
+
+abbrev pub CanonicalLengthIsQuiet : Type 0
+CanonicalLengthIsQuiet = (layout : Layout) → IsSoundLayout layout → HasCanonicalBegins layout → layout.file_len ≡ canonical_len layout
+    → FindsNone is_of_end layout
 
 -- a finding at a begin that lets two slabs share a byte, or a slab and the header
 abbrev pub is_of_shared_bytes : LayoutFact → Bool

@@ -1,7 +1,9 @@
 //! Laws of the definitions in `specs/`, each the contract of a function that does nothing.
 
 ghost use Rattle.nc_layout.specs.Laws.{QuietBeginsAreCanonical, QuietLengthIsCanonical, QuietSlabsAreApart, MissingValuesHaveSlab};
+ghost use Rattle.nc_layout.specs.Laws.{CanonicalBeginsAreQuiet, CanonicalLengthIsQuiet};
 ghost use Rattle.nc_layout.specs.HeaderLaws.{SpelledHeadersHaveSoundLayouts, CanonicalBeginsAreGenerated, QuietFilesAreGenerated};
+ghost use Rattle.nc_layout.specs.HeaderLaws.{GeneratedFilesAreQuiet};
 ghost use Rattle.nc_layout.specs.HeaderLaws.{ShortFilesLackValues, MissingValuesAreFound, MissingValuesStopDumps};
 
 /// States two laws, and does nothing. `begins`: if nothing is found at the begins of variables and blocks, then each variable begins right
@@ -13,6 +15,15 @@ ghost use Rattle.nc_layout.specs.HeaderLaws.{ShortFilesLackValues, MissingValues
 pub fn quiet_layouts_are_canonical()
     ensures begins { QuietBeginsAreCanonical }
     ensures length { QuietLengthIsCanonical }
+{}
+
+/// States two laws of layouts within limits, and does nothing: the converses of [`quiet_layouts_are_canonical`]. `begins`: if each variable
+/// begins right after the header and the padded slabs that come before its own, then nothing is found at the begins of variables and blocks.
+///
+/// `length`: if the file also ends after the last of its padded slabs, then nothing is found at its end.
+pub fn canonical_layouts_are_quiet()
+    ensures begins { CanonicalBeginsAreQuiet }
+    ensures length { CanonicalLengthIsQuiet }
 {}
 
 /// States a law, and does nothing: if no variable begins inside of the header, no block begins before the values of an earlier one end, and
@@ -41,6 +52,13 @@ pub fn spelled_headers_have_sound_layouts()
 pub fn quiet_files_are_as_generated()
     ensures begins { CanonicalBeginsAreGenerated }
     ensures files { QuietFilesAreGenerated }
+{}
+
+/// States a law, and does nothing: the converse of `files` in [`quiet_files_are_as_generated`]. If a file's header has the begins of a
+/// generated one, and ends where it does as it is written, and the file has the length of the generated one, then nothing is found at begins
+/// and at the end of the file. Needs a layout within limits, and a known number of records.
+pub fn generated_files_are_quiet()
+    ensures { GeneratedFilesAreQuiet }
 {}
 
 /// States three laws of files, and does nothing. `ends`: if a header has a layout within limits in a file, the file ends before its values
