@@ -18,6 +18,7 @@ pub enum Version {
 impl Version {
     ghost use Rattle.nc_base.specs.Versions.{version_byte, count_limit, offset_limit, streaming_mark, has_type};
     ghost use Rattle.nc_base.specs.Versions.{version_of_byte};
+    ghost use Rattle.nc_base.specs.Grammar.{vsize_of};
 
     /// Returns the version with the version byte `b` (1, 2 or 5), which comes after `CDF` at a file's start, or `None` for any other byte.
     pub fn of_byte(b: u8) -> Option<Version>
@@ -71,6 +72,17 @@ impl Version {
         match self {
             Version::Cdf1 | Version::Cdf2 => u32::MAX as u64,
             Version::Cdf5 => u64::MAX,
+        }
+    }
+
+    /// Returns the size that a header has for a variable whose padded slab has `padded` bytes (`vsize`): `padded`, but in CDF-1 and CDF-2
+    /// the greatest number of 32 bits if `padded` is greater.
+    pub fn vsize_of(self, padded: u64) -> u64
+        ensures { result ≡ vsize_of self padded }
+    {
+        match self {
+            Version::Cdf1 | Version::Cdf2 => padded.min(u32::MAX as u64),
+            Version::Cdf5 => padded,
         }
     }
 

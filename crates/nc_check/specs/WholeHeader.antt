@@ -1,7 +1,7 @@
 -- Definition. Findings that need a whole header: the sizes of its variables, and the layout of the file.
-use Rattle.std.specs.Prelude.{ℕ, ◌==◌, Bool, true, false, if◌then◌else◌, List, [], ◌∷◌, ◌++◌, filter, map, slice_get, Option, Some, None, Ok, Err}
+use Rattle.std.specs.Prelude.{ℕ, ◌==◌, Bool, true, false, if◌then◌else◌, List, [], ◌++◌, filter, map, slice_get, Option, Some, None, Ok, Err}
 use Rattle.std.specs.Option.{option_to_list}
-use Rattle.nc_base.specs.declared.{header.Header.Header, version.Version.Version}
+use Rattle.nc_base.specs.declared.{version.Version.Version}
 use Rattle.nc_base.specs.Grammar.{vsize_of}
 use Rattle.nc_fields.specs.declared.{entry.Content.Content, place.FieldName.FieldName, header.Listing.Listing}
 use Rattle.nc_fields.specs.declared.entry.Content.TheVariants.{Number}
@@ -41,7 +41,7 @@ abbrev pub number_of : Content → ℕ
 number_of (Number n) = n
 number_of content = 0
 
--- the size of a variable isn't what is written for a padded slab of so many bytes (`vsize`; a whole header has the field)
+-- the size of a variable isn't what is written for a padded slab of this size (`vsize`; a whole header has the field)
 abbrev pub vsize_finding : Version → ℕ → Option Indexed → Option Finding
 vsize_finding v padded None = None
 vsize_finding v padded (Some f) =

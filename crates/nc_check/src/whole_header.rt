@@ -1,7 +1,6 @@
 //! Findings that need a whole header.
 
 ghost use Rattle.std.specs.Prelude.{◌≡◌, ◌++◌, map, slice_get, OnOk, IsPermutation};
-ghost use Rattle.nc_base.specs.Grammar.{vsize_of};
 ghost use Rattle.nc_layout.specs.Findings.{IsSoundLayout, layout_findings};
 ghost use Rattle.nc_check.specs.WholeHeader.{whole_findings};
 ghost use Rattle.nc_check.specs.code.WholeHeaders.{HasSoundLayout, found_at_number, located_number, vsize_fact, vsize_facts};
@@ -58,7 +57,7 @@ fn vsize_finding(version: Version, padded: u64, vsize: Option<NumberField>) -> O
     ensures { result ≡ vsize_fact version padded vsize }
 {
     let field = vsize?;
-    let expected = vsize_of(version, padded);
+    let expected = version.vsize_of(padded);
     if field.number == expected {
         return None;
     }
@@ -129,16 +128,5 @@ fn found_at(field: Option<NumberField>, fact: Fact) -> Finding
             field: None,
             fact,
         },
-    }
-}
-
-/// Returns the size that is written for a variable whose padded slab has `padded` bytes: `padded`, but in CDF-1 and CDF-2 the greatest number
-/// of 32 bits if `padded` is greater.
-fn vsize_of(version: Version, padded: u64) -> u64
-    ensures { result ≡ vsize_of version padded }
-{
-    match version {
-        Version::Cdf1 | Version::Cdf2 if padded >= 1 << 32 => u32::MAX as u64,
-        _ => padded,
     }
 }

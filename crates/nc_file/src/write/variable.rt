@@ -101,7 +101,7 @@ fn put_dimids<W: Sink>(sink: &mut W, version: Version, dimids: &[u64]) -> Result
 }
 
 /// Writes the `vsize` of a variable, as wide as a count: the number of bytes of its padded slab, or the greatest number of 32 bits if
-/// that is less and the version is CDF-1 or CDF-2 ([`vsize_of`]). Errs if the sink fails.
+/// that is less and the version is CDF-1 or CDF-2 ([`Version::vsize_of`]). Errs if the sink fails.
 fn put_vsize<W: Sink>(
     sink: &mut W,
     version: Version,
@@ -113,16 +113,5 @@ fn put_vsize<W: Sink>(
         (print (number (count_width version)) (vsize_of version (padded_size dims.now var.now)))
         result }
 {
-    put_count_field(sink, version, vsize_of(version, padded_slab_len(dims, var)))
-}
-
-/// Returns the `vsize` of a variable whose padded slab has `padded` bytes. It is `padded`, but in CDF-1 and CDF-2 the greatest number of 32
-/// bits if `padded` is greater.
-fn vsize_of(version: Version, padded: u64) -> u64
-    ensures { result ≡ vsize_of version padded }
-{
-    match version {
-        Version::Cdf1 | Version::Cdf2 if padded >= 1 << 32 => u32::MAX as u64,
-        _ => padded,
-    }
+    put_count_field(sink, version, version.vsize_of(padded_slab_len(dims, var)))
 }
