@@ -18,6 +18,7 @@ use Rattle.nc_check.specs.declared.names.NameList.TheVariants.{Dims, GlobalAtts,
 use Rattle.nc_check.specs.contracts.names.NameListOrd.TheImpl as lists
 use Rattle.nc_check.specs.Indexed.{Indexed}
 use Rattle.nc_check.specs.NameRules.{NameKey, is_same_key, is_same_list, key_of, has_key, first_index}
+use Rattle.nc_check.specs.code.FirstNames.{index_if}
 
 -- ---- keys of the map
 
@@ -58,20 +59,20 @@ both Less b = refl
 both Equal b = refl
 both Greater b = refl
 
-pub same_key : (a b : LentKey) → is_at (key_cmp a) b ≡ is_same_key (plain a) (plain b)
+same_key : (a b : LentKey) → is_at (key_cmp a) b ≡ is_same_key (plain a) (plain b)
 same_key a b =
     both (lists.ghosts.cmp a.0 b.0) (slice_cmp nat_cmp a.1.now b.1.now)
     ∙ ap (λ x. x && is_eq (slice_cmp nat_cmp a.1.now b.1.now)) (same_list a.0 b.0)
     ∙ ap (λ x. is_same_list a.0 b.0 && x) (is_eq-slice_cmp a.1.now b.1.now)
 
 -- two tests that say the same find the same
-pub lookup-same : {K X : Type 0} (p q : K → Bool) → ((k : K) → p k ≡ q k) → (es : List (K × X)) → lookup p es ≡ lookup q es
+lookup-same : {K X : Type 0} (p q : K → Bool) → ((k : K) → p k ≡ q k) → (es : List (K × X)) → lookup p es ≡ lookup q es
 lookup-same p q same [] = refl
 lookup-same {X = X} p q same (e ∷ es) =
     ap (λ b. cond b (Some e.1) (lookup p es)) (same e.0) ∙ ap (λ (o : Option X). cond (q e.0) (Some e.1) o) (lookup-same p q same es)
 
 -- one name more
-pub added : (old new : BTreeMap LentKey ℕ) (key : LentKey) (i : ℕ) → Updates key_cmp old new key (Some i) → (other : NameKey)
+added : (old new : BTreeMap LentKey ℕ) (key : LentKey) (i : ℕ) → Updates key_cmp old new key (Some i) → (other : NameKey)
     → lookup (λ (k : LentKey). is_same_key other (plain k)) new.entries
     ≡ (if is_same_key (plain key) other then Some i else lookup (λ (k : LentKey). is_same_key other (plain k)) old.entries)
 added old new key i updates other =
@@ -101,6 +102,58 @@ same_keys a b h =
     pair : (l m : NameList) (x y : List ℕ) → l ≡ m → x ≡ y → (let one : NameKey = (l, x) in let other : NameKey = (m, y) in one ≡ other)
     pair l m x y e f = cc
 
+-- ---- names that are added
+
+-- the index of this name in the map
+abbrev pub index_in : BTreeMap LentKey ℕ → NameKey → Option ℕ
+index_in names key = lookup (λ (k : LentKey). is_same_key key (plain k)) names.entries
+
+-- it is what a search of the map finds
+pub index-found : (names : BTreeMap LentKey ℕ) (key : LentKey) → lookup (is_at (key_cmp key)) names.entries ≡ index_in names (plain key)
+index-found names key =
+    lookup-same (is_at (key_cmp key)) (λ (k : LentKey). is_same_key (plain key) (plain k)) (same_key key) names.entries
+
+or-none : (o : Option ℕ) → option_or o None ≡ o
+or-none None = refl
+or-none (Some n) = refl
+
+-- a new name
+pub added-new : (old new : BTreeMap LentKey ℕ) (key : LentKey) (i : ℕ) → index_in old (plain key) ≡ None
+    → Updates key_cmp old new key (Some i) → (other : NameKey)
+    → index_in new other ≡ option_or (index_in old other) (index_if (is_same_key (plain key) other) i)
+added-new old new key i none updates other = added old new key i updates other ∙ by_key (is_same_key (plain key) other) refl
+  where
+    by_key : (b : Bool) → is_same_key (plain key) other ≡ b
+        → cond (is_same_key (plain key) other) (Some i) (index_in old other)
+        ≡ option_or (index_in old other) (index_if (is_same_key (plain key) other) i)
+    by_key true same =
+        let absent : index_in old other ≡ None = ap (index_in old) (sym (same_keys (plain key) other same)) ∙ none in
+        ap (λ b. cond b (Some i) (index_in old other)) same ∙ sym (ap (λ b. index_if b i) same)
+        ∙ sym (ap (λ (o : Option ℕ). option_or o (index_if (is_same_key (plain key) other) i)) absent)
+    by_key false differs =
+        ap (λ b. cond b (Some i) (index_in old other)) differs ∙ sym (or-none (index_in old other))
+        ∙ sym (ap (λ b. option_or (index_in old other) (index_if b i)) differs)
+
+-- a name that was there, and has got its first index back
+pub added-again : (old mid new : BTreeMap LentKey ℕ) (key : LentKey) (i first : ℕ) → index_in old (plain key) ≡ Some first
+    → Updates key_cmp old mid key (Some i) → Updates key_cmp mid new key (Some first) → (other : NameKey)
+    → index_in new other ≡ option_or (index_in old other) (index_if (is_same_key (plain key) other) i)
+added-again old mid new key i first there updates back other =
+    added mid new key first back other
+    ∙ ap (λ (o : Option ℕ). cond (is_same_key (plain key) other) (Some first) o) (added old mid key i updates other)
+    ∙ by_key (is_same_key (plain key) other) refl
+  where
+    by_key : (b : Bool) → is_same_key (plain key) other ≡ b
+        → cond (is_same_key (plain key) other) (Some first) (cond (is_same_key (plain key) other) (Some i) (index_in old other))
+        ≡ option_or (index_in old other) (index_if (is_same_key (plain key) other) i)
+    by_key true same =
+        let found : index_in old other ≡ Some first = ap (index_in old) (sym (same_keys (plain key) other same)) ∙ there in
+        ap (λ b. cond b (Some first) (cond b (Some i) (index_in old other))) same
+        ∙ sym (ap (λ (o : Option ℕ). option_or o (index_if (is_same_key (plain key) other) i)) found)
+    by_key false differs =
+        ap (λ b. cond b (Some first) (cond b (Some i) (index_in old other))) differs ∙ sym (or-none (index_in old other))
+        ∙ sym (ap (λ b. option_or (index_in old other) (index_if b i)) differs)
+
 -- ---- the first field that is a name
 
 first_index-push : (key : NameKey) (earlier : List Indexed) (f : Indexed)
@@ -120,10 +173,6 @@ first_index-push key earlier f =
 abbrev pub is_key : NameKey → Option NameKey → Bool
 is_key key o = option_map_or (λ (k : NameKey). is_same_key k key) o false
 
-or-none : (o : Option ℕ) → option_or o None ≡ o
-or-none None = refl
-or-none (Some n) = refl
-
 -- a field that is no name
 pub first_index-other : (key : NameKey) (earlier : List Indexed) (f : Indexed) → key_of f.entry ≡ None
     → first_index key (earlier ++ f ∷ []) ≡ first_index key earlier
@@ -132,37 +181,9 @@ first_index-other key earlier f none =
     ∙ ap (λ (o : Option NameKey). option_or (first_index key earlier) (if is_key key o then Some f.index else None)) none
     ∙ or-none (first_index key earlier)
 
--- a name that is there
-pub first_index-again : (key k : NameKey) (earlier : List Indexed) (f : Indexed) (first : ℕ) → key_of f.entry ≡ Some k
-    → first_index k earlier ≡ Some first → first_index key (earlier ++ f ∷ []) ≡ first_index key earlier
-first_index-again key k earlier f first is there =
-    first_index-push key earlier f
-    ∙ ap (λ (o : Option NameKey). option_or (first_index key earlier) (if is_key key o then Some f.index else None)) is
-    ∙ by_key (is_same_key k key) refl
-  where
-    by_key : (b : Bool) → is_same_key k key ≡ b
-        → option_or (first_index key earlier) (if is_same_key k key then Some f.index else None) ≡ first_index key earlier
-    by_key true same =
-        let found : first_index key earlier ≡ Some first = ap (λ x. first_index x earlier) (sym (same_keys k key same)) ∙ there in
-        ap (λ (o : Option ℕ). option_or o (if is_same_key k key then Some f.index else None)) found ∙ sym found
-    by_key false other =
-        ap (λ b. option_or (first_index key earlier) (if b then Some f.index else None)) other ∙ or-none (first_index key earlier)
-
--- a new name
-pub first_index-new : (key k : NameKey) (earlier : List Indexed) (f : Indexed) → key_of f.entry ≡ Some k → first_index k earlier ≡ None
-    → (if is_same_key k key then Some f.index else first_index key earlier) ≡ first_index key (earlier ++ f ∷ [])
-first_index-new key k earlier f is none =
+-- a name
+pub first_index-name : (key k : NameKey) (earlier : List Indexed) (f : Indexed) → key_of f.entry ≡ Some k
+    → option_or (first_index key earlier) (index_if (is_same_key k key) f.index) ≡ first_index key (earlier ++ f ∷ [])
+first_index-name key k earlier f is =
     sym (first_index-push key earlier f
-    ∙ ap (λ (o : Option NameKey). option_or (first_index key earlier) (if is_key key o then Some f.index else None)) is
-    ∙ by_key (is_same_key k key) refl)
-  where
-    by_key : (b : Bool) → is_same_key k key ≡ b
-        → option_or (first_index key earlier) (if is_same_key k key then Some f.index else None)
-        ≡ (if is_same_key k key then Some f.index else first_index key earlier)
-    by_key true same =
-        let found : first_index key earlier ≡ None = ap (λ x. first_index x earlier) (sym (same_keys k key same)) ∙ none in
-        ap (λ (o : Option ℕ). option_or o (if is_same_key k key then Some f.index else None)) found
-        ∙ ap (λ b. if b then Some f.index else None) same ∙ sym (ap (λ b. if b then Some f.index else first_index key earlier) same)
-    by_key false other =
-        ap (λ b. option_or (first_index key earlier) (if b then Some f.index else None)) other ∙ or-none (first_index key earlier)
-        ∙ sym (ap (λ b. if b then Some f.index else first_index key earlier) other)
+    ∙ ap (λ (o : Option NameKey). option_or (first_index key earlier) (index_if (is_key key o) f.index)) is)

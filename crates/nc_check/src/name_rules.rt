@@ -43,13 +43,8 @@ fn duplicate_name<'a>(
     let Some((list, name)) = key_of(entry) else {
         return Ok(None);
     };
-    match names.index_of(list, name) {
-        Some(first) => Ok(Some(finding_at(i, entry.offset, Fact::DuplicateName { first }))),
-        None => {
-            names.add(list, name, i)?;
-            Ok(None)
-        }
-    }
+    let first = names.add(list, name, i)?;
+    Ok(first.map(|first| finding_at(i, entry.offset, Fact::DuplicateName { first })))
 }
 
 /// Returns the name that the field is, if it is one and has no fault, and the list that it is in.

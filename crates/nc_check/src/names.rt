@@ -1,8 +1,9 @@
 //! The names of the lists of a header, with where each came first.
 
-ghost use Rattle.std.specs.Prelude.{◌≡◌, None, Some, OnOk, if◌then◌else◌};
+ghost use Rattle.std.specs.Prelude.{◌≡◌, None, IfOk, OnOk};
+ghost use Rattle.std.specs.Option.{option_or};
 ghost use Rattle.nc_check.specs.NameRules.{NameKey, is_same_key, list_of};
-ghost use Rattle.nc_check.specs.code.FirstNames.{index_of};
+ghost use Rattle.nc_check.specs.code.FirstNames.{index_if, index_of};
 
 use nc_fields::Owner;
 use std::alloc::{AllocError, Global};
@@ -51,24 +52,23 @@ impl<'a> FirstNames<'a> {
         }
     }
 
-    /// Returns the index that goes with this name of the list, if it is there.
-    pub(crate) fn index_of(&self, list: NameList, name: &'a [u8]) -> Option<u64>
-        ensures { result ≡ index_of self.now (list, name.now) }
-    {
-        self.first.get(&(list, name)).copied()
-    }
-
-    /// Adds a name of the list with this index. Errs only if an allocation failed.
+    /// Adds a name of the list with this index, if it isn't there. Returns the index that went with the name before. Errs only if an
+    /// allocation failed.
     pub(crate) fn add(
         &mut self,
         list: NameList,
         name: &'a [u8],
         index: u64,
-    ) -> Result<(), AllocError>
-        ensures { OnOk result ((key : NameKey) → index_of self.new key
-            ≡ (if is_same_key (list, name.now) key then Some index else index_of self.old key)) }
+    ) -> Result<Option<u64>, AllocError>
+        ensures first { IfOk result (λ first. first ≡ index_of self.old (list, name.now)) }
+        ensures names { OnOk result ((key : NameKey) → index_of self.new key
+            ≡ option_or (index_of self.old key) (index_if (is_same_key (list, name.now) key) index)) }
     {
-        self.first.insert((list, name), index)?;
-        Ok(())
+        // the name is searched for once, unless it was there
+        let earlier = self.first.insert((list, name), index)?;
+        if let Some(first) = earlier {
+            self.first.insert((list, name), first)?;
+        }
+        Ok(earlier)
     }
 }
