@@ -23,7 +23,7 @@ all: bin/ncdump bin/ncgen bin/nccheck
 # Proves and builds the programs, if anything has changed.
 # (tests, examples, edits, and a library that no program uses are no part of them)
 bin/ncdump bin/ncgen bin/nccheck &: $(wildcard build.sh HANDLES crates.txt) $(shell find crates \( -name out -o -name must-fail -o -name wrong-bodies \
-		-o -name 'test_*' -o -name 'example_*' -o -name uses -o -name nc_variable \) -prune -o -type f -print 2>/dev/null)
+		-o -name 'test_*' -o -name 'example_*' -o -name uses -o -name nc_variable -o -name layout_laws -o -name check_laws \) -prune -o -type f -print 2>/dev/null)
 	./build.sh
 
 # The merge gate, in parts that run side by side where none waits for another. A release has neither tests nor the sources that they prove.

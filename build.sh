@@ -1,8 +1,8 @@
 #!/usr/bin/env bash
 # Proves and builds the programs into bin/. rt ci keeps what it has proved: `make test` doesn't prove it again, nor does this after `make
-# test`. Here it runs in a copy without the crates of tests and examples, and without the library that no program uses. A crate gets two
-# processors if nothing else can be proved at the same time. So it runs for the longest chain of crates alone, and beside that, a little less
-# urgently, for the others.
+# test`. Here it runs in a copy without the crates of tests and examples, and without the library and the laws that no program needs. A crate
+# gets two processors if nothing else can be proved at the same time. So it runs for the longest chain of crates alone, and beside that, a
+# little less urgently, for the others.
 set -euo pipefail
 cd "$(dirname "$0")"
 if ! command -v rt >/dev/null; then
@@ -12,9 +12,9 @@ fi
 
 copy=$(mktemp -d)
 trap 'rm -rf "$copy"' EXIT
-grep -v '^test_\|^example_\|^uses\|^nc_variable' crates.txt >"$copy/crates.txt"
+grep -v '^test_\|^example_\|^uses\|^nc_variable\|^layout_laws\|^check_laws' crates.txt >"$copy/crates.txt"
 tar -c --exclude=out --exclude=must-fail --exclude=crates/test_\* --exclude=crates/example_\* --exclude=crates/uses --exclude=crates/nc_variable \
-    HANDLES crates | tar -x -C "$copy"
+    --exclude=crates/layout_laws --exclude=crates/check_laws HANDLES crates | tar -x -C "$copy"
 
 prove() {
     trap 'kill $(jobs -p) 2>/dev/null || true' EXIT

@@ -1,15 +1,4 @@
-mod IndexedLists
-mod NameKeys
-mod Located
-mod Reported
-mod Refusals
-mod FaultFindings
-mod QuietRules
-mod FirstFaults
-mod QuietFields
-mod QuietHeaders
-mod LayoutFacts
-mod QuietFiles
-mod MissingFindings
-mod WholeFiles
-mod CleanLayouts
+pub mod IndexedLists
+pub mod NameKeys
+pub mod Located
+pub mod Reported

@@ -1,5 +1,5 @@
 -- What a report says of a listing.
-use Rattle.std.proofs.Common.{◌≡◌, ℕ, ◌⊎◌, ◌<◌, ◌≤◌, ◌++◌, Bool, false, List, map, length, get_or, Result, Ok, Err, IfOk, refl, sym, ap, subst, ◌∙◌, arith, inl, inr}
+use Rattle.std.proofs.Common.{◌≡◌, ℕ, ◌⊎◌, ◌<◌, ◌≤◌, ◌++◌, Bool, false, List, get_or, Result, Ok, Err, IfOk, refl, sym, subst, arith, inl, inr}
 use Rattle.std.specs.Prelude.{IsPermutation, IsSortedByKey}
 use Rattle.std.specs.List.{AllPairs}
 use Rattle.std.specs.declared.cmp.Ordering.{Ordering}

@@ -21,10 +21,18 @@ use Rattle.nc_check.specs.Indexed.{Indexed, finding}
 abbrev pub fact_if : Bool → Fact → Option Fact
 fact_if holds fact = if holds then Some fact else None
 
--- of a number. Names of netCDF-C have at most 256 bytes (`NC_MAX_NAME`), and its variables at most 1024 dimensions (`NC_MAX_VAR_DIMS`).
+-- the most bytes of a name of netCDF-C (`NC_MAX_NAME`)
+abbrev pub longest_name : ℕ
+longest_name = 256
+
+-- the most dimensions of a variable of netCDF-C (`NC_MAX_VAR_DIMS`)
+abbrev pub highest_rank : ℕ
+highest_rank = 1024
+
+-- of a number
 abbrev pub number_fact : FieldName → ℕ → Option Fact
-number_fact name.NameLength n = fact_if (nat_lt 256 n) LongName
-number_fact name.Rank n = fact_if (nat_lt 1024 n) HighRank
+number_fact name.NameLength n = fact_if (nat_lt longest_name n) LongName
+number_fact name.Rank n = fact_if (nat_lt highest_rank n) HighRank
 number_fact place n = None
 
 -- a byte isn't 0

@@ -8,5 +8,3 @@ pub mod WholeHeader
 pub mod Kinds
 pub mod Reports
 pub mod code
-pub mod FaultLaws
-pub mod Laws

@@ -9,7 +9,7 @@ use nc_fields::{Content, Entry, FieldName, Owner};
 
 /// A field that is a number.
 #[derive(Clone, Copy, Debug, PartialEq, Eq)]
-pub(crate) struct NumberAt {
+pub struct NumberAt {
     /// The index of the field in the listing.
     pub index: u64,
     /// The offset of the field.
@@ -20,7 +20,7 @@ pub(crate) struct NumberAt {
 
 /// The values of an attribute.
 #[derive(Clone, Copy, Debug, PartialEq, Eq)]
-pub(crate) struct ValuesAt {
+pub struct ValuesAt {
     /// The index of the field in the listing.
     pub index: u64,
     /// The offset of the field.
@@ -31,7 +31,7 @@ pub(crate) struct ValuesAt {
 
 /// What lies ahead of a field: the next fields that the rules on lists and attributes look at.
 #[derive(Clone, Copy, Debug, PartialEq, Eq)]
-pub(crate) struct Ahead {
+pub struct Ahead {
     /// The next field, if it is a number.
     pub next: Option<NumberAt>,
     /// The next type of an attribute or a variable.

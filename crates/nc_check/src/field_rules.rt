@@ -12,11 +12,11 @@ use nc_fields::{Content, Entry, FieldName};
 use std::alloc::{AllocError, Global};
 use unicode_normalization::is_nfc;
 
-/// The most bytes that a name of netCDF-C has.
-const LONGEST_NAME: u64 = 256;
+/// The most bytes that a name of netCDF-C has (`NC_MAX_NAME`).
+pub const LONGEST_NAME: u64 = 256;
 
-/// The most dimensions that a variable of netCDF-C has.
-const HIGHEST_RANK: u64 = 1024;
+/// The most dimensions that a variable of netCDF-C has (`NC_MAX_VAR_DIMS`).
+pub const HIGHEST_RANK: u64 = 1024;
 
 /// Appends the findings at fields alone.
 #[tactic(auto, unfolding(crate::specs::FieldRules::field_findings))]

@@ -16,7 +16,7 @@ pub enum Fact {
     Fault(FormatFault),
     /// A list has its own tag, but no elements. (The tag of an empty list is written as 0.)
     EmptyList,
-    /// A name has more than 256 bytes, the most that netCDF-C takes (`NC_MAX_NAME`).
+    /// A name has more bytes than netCDF-C takes ([`LONGEST_NAME`](crate::LONGEST_NAME)).
     LongName,
     /// An earlier dimension, variable or attribute of the same list has this name.
     DuplicateName {
@@ -38,7 +38,7 @@ pub enum Fact {
     },
     /// An attribute `_FillValue` hasn't one value.
     FillCount,
-    /// A variable has more than 1024 dimensions, the most that netCDF-C takes (`NC_MAX_VAR_DIMS`).
+    /// A variable has more dimensions than netCDF-C takes ([`HIGHEST_RANK`](crate::HIGHEST_RANK)).
     HighRank,
     /// The size of a variable isn't that of its padded slab.
     Vsize {

@@ -11,13 +11,14 @@ mod field_rules;
 mod finding;
 mod header_rules;
 mod kind;
-pub mod laws;
 mod name_rules;
 mod names;
 mod number_fields;
 mod report;
 mod whole_header;
 
+pub use ahead::{Ahead, NumberAt, ValuesAt};
+pub use field_rules::{HIGHEST_RANK, LONGEST_NAME};
 pub use finding::{Fact, Finding};
 pub use kind::{Kind, Severity};
 pub use report::{Report, check};

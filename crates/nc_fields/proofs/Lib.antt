@@ -5,11 +5,3 @@ pub mod Texts
 pub mod Elements
 pub mod Listed
 pub mod Passed
-pub mod Agreement
-pub mod OddNames
-pub mod AgreeingParts
-pub mod StrictHeaders
-pub mod FieldOrder
-pub mod Written
-pub mod WrittenParts
-pub mod Vsizes

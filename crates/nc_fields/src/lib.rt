@@ -11,7 +11,6 @@ mod dimension;
 mod entry;
 mod fields;
 mod header;
-mod laws;
 mod list;
 mod list_fault;
 mod list_name;
@@ -22,6 +21,5 @@ mod variable;
 
 pub use entry::{Content, Entry};
 pub use header::{Listing, list_fields};
-pub use laws::{strict_rules_refuse_fields, written_fields_are_canonical};
 pub use list_fault::ListFault;
 pub use place::{FieldName, Owner, Place};

@@ -1,16 +1,14 @@
 -- The slots of a header's variables: which have records, and how many bytes they take.
-use Rattle.std.proofs.Common.{◌≡◌, ℕ, ◌+◌, ◌<◌, ◌≤◌, Bool, true, false, List, [], ◌∷◌, ◌++◌, length, get_or, take, map, sum_by, refl, sym, ◌∙◌, ap, subst, All, if◌then◌else◌, not, filter}
+use Rattle.std.proofs.Common.{◌≡◌, ℕ, ◌+◌, ◌<◌, ◌≤◌, Bool, true, false, List, [], ◌∷◌, ◌++◌, length, get_or, take, map, sum_by, refl, sym, ◌∙◌, ap, subst, All, if◌then◌else◌}
 use Rattle.std.proofs.lemmas.List.{take_more, map-append}
 use Rattle.std.proofs.lemmas.List.Elements.{All-append, All-cons, All-head, All-nil, All-tail}
 use Rattle.std.proofs.lemmas.List.Sums.{sum-map, sum_by-cons}
 use Rattle.nc_base.specs.declared.{header.Dim.Dim, header.Header.Header, header.Var.Var}
-use Rattle.nc_base.specs.GeneratedFile.{fixed_vars}
 use Rattle.nc_base.specs.Sizes.{is_record_var, record_vars, padded_size, padded_total, slab_size, slab_limit}
 use Rattle.nc_layout.specs.declared.slot.Slot.{Slot}
-use Rattle.nc_layout.specs.Slots.{padded_slab, is_fixed, record_slots}
+use Rattle.nc_layout.specs.Slots.{padded_slab, record_slots}
 use Rattle.nc_layout.specs.Findings.{IsSoundSlot, IsSoundLayout}
 use Rattle.nc_layout.specs.HeaderLayout.{slot_of, layout_of}
-use Rattle.nc_layout.specs.Laws.{fixed_bytes}
 
 -- ---- the slots of a loop
 
@@ -47,7 +45,7 @@ slots-total dims (var ∷ vars) =
     sum_by-cons padded_slab (slot_of dims var) (map (slot_of dims) vars) ∙ ap (λ n. padded_size dims var + n) (slots-total dims vars)
     ∙ sym (sum_by-cons (padded_size dims) var vars)
 
-kept-slot : (keep : Bool) (dims : List Dim) (var : Var) (vars : List Var) (slots : List Slot) → slots ≡ map (slot_of dims) vars
+pub kept-slot : (keep : Bool) (dims : List Dim) (var : Var) (vars : List Var) (slots : List Slot) → slots ≡ map (slot_of dims) vars
     → (if keep then slot_of dims var ∷ slots else slots) ≡ map (slot_of dims) (if keep then var ∷ vars else vars)
 kept-slot true dims var vars slots e = ap (λ (ss : List Slot). slot_of dims var ∷ ss) e
 kept-slot false dims var vars slots e = e
@@ -62,18 +60,6 @@ pub record_slots-total : (dims : List Dim) (vars : List Var)
 record_slots-total dims vars =
     ap (sum_by padded_slab) (record_slots-are dims vars) ∙ slots-total dims (record_vars dims vars)
     ∙ sym (sum-map (padded_size dims) (record_vars dims vars))
-
-fixed_slots-are : (dims : List Dim) (vars : List Var)
-    → filter is_fixed (map (slot_of dims) vars) ≡ map (slot_of dims) (fixed_vars dims vars)
-fixed_slots-are dims [] = refl
-fixed_slots-are dims (var ∷ vars) =
-    kept-slot (not (is_record_var dims var)) dims var (fixed_vars dims vars) _ (fixed_slots-are dims vars)
-
-pub fixed_slots-total : (dims : List Dim) (vars : List Var)
-    → fixed_bytes (map (slot_of dims) vars) ≡ padded_total dims (fixed_vars dims vars)
-fixed_slots-total dims vars =
-    ap (sum_by padded_slab) (fixed_slots-are dims vars) ∙ slots-total dims (fixed_vars dims vars)
-    ∙ sym (sum-map (padded_size dims) (fixed_vars dims vars))
 
 -- ---- sound layouts
 

@@ -7,6 +7,4 @@ pub mod BlockRules
 pub mod FileEnd
 pub mod Findings
 pub mod HeaderLayout
-pub mod Laws
-pub mod HeaderLaws
 pub mod code

@@ -13,7 +13,7 @@ use std::alloc::{AllocError, Global};
 
 /// Where a block lies, beside its name.
 #[derive(Clone, Copy, Debug, PartialEq, Eq)]
-pub(crate) struct Extent {
+pub struct Extent {
     /// The block by its name.
     pub block: Block,
     /// The index of the variable that begins where the block begins: of several record variables, the first one.

@@ -27,7 +27,7 @@ pub(crate) struct FileEnds {
 
 /// Where a slab lies, beside its name.
 #[derive(Clone, Copy, Debug, PartialEq, Eq)]
-pub(crate) struct SlabPlace {
+pub struct SlabPlace {
     /// The slab by its name.
     pub slab: Slab,
     /// The offset at which it begins.

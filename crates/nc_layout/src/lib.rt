@@ -11,13 +11,14 @@ mod file_end;
 mod finding;
 mod findings;
 mod header_layout;
-pub mod laws;
 mod numrecs_rules;
 mod records;
 mod slot;
 mod slot_rules;
 mod sound;
 
+pub use blocks::Extent;
+pub use file_end::SlabPlace;
 pub use finding::{Block, LayoutFact, LayoutFinding, LayoutPlace, Slab};
 pub use findings::layout_findings;
 pub use header_layout::sound_layout;

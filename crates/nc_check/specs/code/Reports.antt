@@ -1,5 +1,5 @@
 -- For contracts. Who has failed, if there is no report.
-use Rattle.std.specs.Prelude.{◌≡◌, ℕ, Result, Ok, Err}
+use Rattle.std.specs.Prelude.{◌≡◌, ℕ, Result, Err}
 use Rattle.devices.specs.Failures.{HasFailed}
 use Rattle.devices.specs.Sources.{SourceView}
 use Rattle.nc_fields.specs.declared.list_fault.ListFault.{ListFault}

@@ -1,6 +1,4 @@
-use Rattle.std.proofs.Common.{◌≡◌, ◌++◌, List, map, drop, Bool}
-use Rattle.nc_fields.specs.declared.place.FieldName.{FieldName}
-use Rattle.nc_check.specs.declared.number_fields.NumberField.{NumberField}
+use Rattle.std.proofs.Common.{◌≡◌, ◌++◌, map, drop}
 use Rattle.nc_check.specs.Indexed.{indexed_from}
 use Rattle.nc_check.specs.WholeHeader.{is_numrecs, is_vsize, is_begin, named}
 use Rattle.nc_check.specs.code.WholeHeaders.{number_field}

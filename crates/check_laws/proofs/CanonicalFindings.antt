@@ -1,0 +1,220 @@
+-- Nothing is found about the spelling at the fields of a header that are as they are written.
+use Rattle.std.proofs.Common.{◌≡◌, ℕ, zero, suc, ◌+◌, ◌==◌, ◌&&◌, ◌||◌, not, Bool, true, false, List, [], ◌∷◌, ◌++◌, map, find, replicate, Option, Some, None, refl, sym, ap, ◌∙◌, subst, option_to_list, if◌then◌else◌, codes}
+use Rattle.std.specs.Option.{option_map, option_and_then}
+use Rattle.std.specs.Str.{bytes_eq}
+use Rattle.std.proofs.lemmas.List.Folds.{list_any-append}
+use Rattle.nc_base.specs.declared.{header.Header.Header}
+use Rattle.nc_base.specs.declared.fault.FormatFault.TheVariants.{BadName, FloatingType}
+use Rattle.nc_base.specs.Names.{is_name}
+use Rattle.nc_base.specs.Parts.{Step, Magic, Text, Padding, Values}
+use Rattle.nc_fields.specs.declared.{entry.Content.Content, entry.Entry.Entry, place.FieldName.FieldName, place.Owner.Owner}
+use Rattle.nc_fields.specs.declared.entry.Content.TheVariants as content
+use Rattle.nc_fields.specs.declared.place.FieldName.TheVariants as name
+use Rattle.nc_fields.specs.Fields.{Field}
+use Rattle.nc_fields.specs.Entries.{Seen, seen_by, steps_of, name_steps, owner_steps, whole_content}
+unfoldable use Rattle.nc_fields.specs.Entries.{seen}
+use Rattle.nc_check.specs.declared.{finding.Fact.Fact, finding.Finding.Finding, ahead.NumberAt.NumberAt, ahead.Ahead.Ahead}
+use Rattle.nc_check.specs.declared.finding.Fact.TheVariants as fact
+use Rattle.nc_check.specs.Indexed.{Indexed, field_at, indexed_from, indexed, finding, each_after}
+use Rattle.nc_check.specs.Ahead.{ahead_of, is_field, next_number, number_in}
+use Rattle.nc_check.specs.AttributeRules.{finding_if, empty_list, empty_attribute, trailing_nul, type_finding, fill_count, fill_finding, name_finding, is_attribute, is_var_attribute, finding_by_name, attribute_finding}
+unfoldable use Rattle.nc_check.specs.AttributeRules.{attribute_findings}
+use Rattle.nc_check.specs.FieldRules.{has_nonzero, is_not_nfc, fact_if, form_fact, content_facts, facts_with, findings_at, is_floating}
+unfoldable use Rattle.nc_check.specs.FieldRules.{field_findings, floating_findings}
+use Rattle.nc_check.specs.NameRules.{key_of, first_index, duplicate_name}
+unfoldable use Rattle.nc_check.specs.NameRules.{name_findings}
+unfoldable use Rattle.nc_check.specs.HeaderRules.{header_findings}
+use Rattle.check_laws.specs.Laws.{is_of_spelling, has_any}
+use Rattle.check_laws.specs.Written.{bytes_of, number_of}
+use Rattle.check_laws.proofs.Vsizes.{IsWhole, AreWhole}
+use Rattle.check_laws.proofs.QuietFields.{AreOther, seen-content}
+use Rattle.check_laws.proofs.CanonicalFields.{FollowsTag, IsCanonical, AreCanonical}
+
+pub other-then : (xs ys : List Finding) → AreOther xs → AreOther ys → AreOther (xs ++ ys)
+other-then xs ys e d =
+    list_any-append (λ (f : Finding). is_of_spelling f.fact) xs ys ∙ ap (λ b. b || has_any is_of_spelling ys) e ∙ d
+
+-- none, or one about something else
+abbrev IsOther : Option Finding → Type 0
+IsOther o = AreOther (option_to_list o)
+
+-- ---- a field alone
+
+fact-other : (f : Indexed) (b : Bool) (x : Fact) (more : List Fact) → is_of_spelling x ≡ false → AreOther (map (finding f) more)
+    → AreOther (map (finding f) (option_to_list (fact_if b x) ++ more))
+fact-other f true x more is rest = ap (λ b. b || has_any is_of_spelling (map (finding f) more)) is ∙ rest
+fact-other f false x more is rest = rest
+
+last-other : (f : Indexed) (b : Bool) (x : Fact) → is_of_spelling x ≡ false → AreOther (map (finding f) (option_to_list (fact_if b x)))
+last-other f true x is = ap (λ b. b || false) is
+last-other f false x is = refl
+
+filling-other : (f : Indexed) (b : Bool) → b ≡ false → AreOther (map (finding f) (option_to_list (fact_if b fact.Padding) ++ []))
+filling-other f true none = absurd cc
+filling-other f false none = refl
+
+no-nonzero : (n : ℕ) → has_nonzero (replicate n 0) ≡ false
+no-nonzero zero = refl
+no-nonzero (suc n) = no-nonzero n
+
+facts-other : (h : Header) (place : FieldName) (o : Owner) (g : Indexed) (f : Field) (fs : List Field)
+    → IsCanonical h (name_steps place ++ owner_steps o) f fs
+    → AreOther (map (finding g) (content_facts place (whole_content (name_steps place ++ owner_steps o) f.size (bytes_of f))))
+facts-other h name.NameLength o g f fs is = last-other g _ fact.LongName refl
+facts-other h name.Rank o g f fs is = last-other g _ fact.HighRank refl
+facts-other h name.Name o g f fs is =
+    fact-other g (not (is_name (bytes_of f))) (fact.Fault BadName) (option_to_list (form_fact name.Name (bytes_of f))) refl
+    (last-other g (is_not_nfc (bytes_of f)) fact.NotNfc refl)
+facts-other h name.NamePadding o g f fs is = filling-other g (has_nonzero (bytes_of f)) (ap has_nonzero is ∙ no-nonzero f.size)
+facts-other h name.Padding o g f fs is = filling-other g (has_nonzero (bytes_of f)) (ap has_nonzero is ∙ no-nonzero f.size)
+facts-other h place o g f fs is = refl
+
+-- ---- lists and attributes
+
+if-other : (b : Bool) (f : Finding) → is_of_spelling f.fact ≡ false → IsOther (finding_if b f)
+if-other true f is = ap (λ b. b || false) is
+if-other false f is = refl
+
+then-other : {A : Type 0} (rule : A → Option Finding) → ((x : A) → IsOther (rule x)) → (o : Option A) → IsOther (option_and_then rule o)
+then-other rule other (Some x) = other x
+then-other rule other None = refl
+
+choice-other : (b : Bool) (x y : Option Finding) → IsOther x → IsOther y → IsOther (if b then x else y)
+choice-other true x y p q = p
+choice-other false x y p q = q
+
+type-other : (c : Content) (ahead : Ahead) → IsOther (type_finding c ahead)
+type-other (content.Number code) ahead =
+    choice-other (code == 2) _ _ (then-other trailing_nul (λ values. if-other _ _ refl) ahead.values)
+    (then-other empty_attribute (λ count. if-other _ _ refl) ahead.count)
+type-other c ahead = refl
+
+fill-other : (type_code var_type count : Option NumberAt) → IsOther (fill_finding type_code var_type count)
+fill-other (Some type_code) (Some var_type) count =
+    choice-other (type_code.number == var_type.number) _ _ (then-other fill_count (λ count. if-other _ _ refl) count) refl
+fill-other type_code var_type count = refl
+
+name-other : (c : Content) (ahead : Ahead) → IsOther (name_finding c ahead)
+name-other (content.Bytes bytes) ahead =
+    choice-other (bytes_eq bytes (codes "_FillValue")) _ _ (fill-other ahead.type_code ahead.var_type ahead.count) refl
+name-other c ahead = refl
+
+-- what is found at a tag before this field
+empty-other : (tag : ℕ) (g : Indexed) (i offset : ℕ) (steps : List Step) (f : Field) → (not (tag == 0) && (number_of f == 0)) ≡ false
+    → IsOther (empty_list g (content.Number tag) (number_in i offset (whole_content steps f.size (bytes_of f))))
+empty-other tag g i offset (Magic ∷ steps) f is = refl
+empty-other tag g i offset (Text ∷ steps) f is = refl
+empty-other tag g i offset (Padding ∷ steps) f is = refl
+empty-other tag g i offset (Values ∷ steps) f is = refl
+empty-other tag g i offset steps f is = ap (λ b. has_any is_of_spelling (option_to_list (finding_if b (finding g fact.EmptyList)))) is
+
+-- an entry that shows this field
+record IsOf (len : ℕ) (e : Entry) (f : Field) : Type 0 where
+  steps : steps_of e.place ≡ f.steps
+  content : e.content ≡ whole_content f.steps f.size (bytes_of f)
+  sound : e.fault ≡ None
+
+is-of : (len : ℕ) (e : Entry) (f : Field) → IsWhole f → seen_by e ≡ seen len f → IsOf len e f
+unfolding seen
+is-of len e f whole same = record {
+  steps = ap (λ (s : Seen). s.steps) same;
+  content = ap (λ (s : Seen). s.content) same ∙ seen-content len f whole;
+  sound = ap (λ (s : Seen). s.fault) same ∙ whole.sound;
+}
+
+tag-other : (len tag : ℕ) (g : Indexed) (k : ℕ) (es : List Entry) (fs : List Field) → map seen_by es ≡ map (seen len) fs → AreWhole fs
+    → FollowsTag tag fs → IsOther (empty_list g (content.Number tag) (next_number is_field (indexed_from k es)))
+tag-other len tag g k [] fs same whole is = refl
+tag-other len tag g k (e ∷ es) [] same whole is = absurd cc
+tag-other len tag g k (e ∷ es) (f ∷ fs) same whole is =
+    let first : seen_by e ≡ seen len f = cc in
+    subst (λ c. IsOther (empty_list g (content.Number tag) (number_in k e.offset c))) (sym (is-of len e f whole.0 first).content)
+    (empty-other tag g k e.offset f.steps f is)
+
+-- what is found at an entry with this content, which shows this field
+rule-other : (h : Header) (len : ℕ) (place : FieldName) (o : Owner) (g : Indexed) (k : ℕ) (es : List Entry) (f : Field) (fs : List Field)
+    → map seen_by es ≡ map (seen len) fs → AreWhole fs → IsCanonical h (name_steps place ++ owner_steps o) f fs
+    → g.entry.content ≡ whole_content (name_steps place ++ owner_steps o) f.size (bytes_of f)
+    → IsOther (finding_by_name place g (ahead_of (indexed_from k es)))
+rule-other h len place o g k es f fs same whole is shows = by-place place is shows
+  where
+    at-tag : FollowsTag (number_of f) fs → g.entry.content ≡ content.Number (number_of f)
+        → IsOther (empty_list g g.entry.content (next_number is_field (indexed_from k es)))
+    at-tag is shows =
+        subst (λ c. IsOther (empty_list g c (next_number is_field (indexed_from k es)))) (sym shows)
+        (tag-other len (number_of f) g k es fs same whole is)
+
+    by-place : (place : FieldName) → IsCanonical h (name_steps place ++ owner_steps o) f fs
+        → g.entry.content ≡ whole_content (name_steps place ++ owner_steps o) f.size (bytes_of f)
+        → IsOther (finding_by_name place g (ahead_of (indexed_from k es)))
+    by-place name.DimsTag is shows = at-tag is shows
+    by-place name.GlobalAttsTag is shows = at-tag is shows
+    by-place name.VarsTag is shows = at-tag is shows
+    by-place name.AttsTag is shows = at-tag is shows
+    by-place name.Type is shows = choice-other (is_attribute g.entry.place.owner) _ _ (type-other g.entry.content _) refl
+    by-place name.Name is shows = choice-other (is_var_attribute g.entry.place.owner) _ _ (name-other g.entry.content _) refl
+    by-place place is shows = refl
+
+-- ---- all fields
+
+-- what is found at these fields alone, and about lists and attributes
+record FindNoSpelling (fs : List Indexed) : Type 0 where
+  alone : AreOther (field_findings fs)
+  attributes : AreOther (attribute_findings fs)
+
+fields-other : (h : Header) (len k : ℕ) (es : List Entry) (fs : List Field) → map seen_by es ≡ map (seen len) fs → AreWhole fs
+    → AreCanonical h fs → FindNoSpelling (indexed_from k es)
+unfolding field_findings attribute_findings
+fields-other h len k [] fs same whole are = record { alone = refl; attributes = refl }
+fields-other h len k (e ∷ es) [] same whole are = absurd cc
+fields-other h len k (e ∷ es) (f ∷ fs) same whole are =
+    let first : seen_by e ≡ seen len f = cc in
+    let rest : map seen_by es ≡ map (seen len) fs = cc in
+    let g = field_at k e in
+    let after = indexed_from (k + 1) es in
+    let of = is-of len e f whole.0 first in
+    let is = subst (λ steps. IsCanonical h steps f fs) (sym of.steps) are.0 in
+    let shows : e.content ≡ whole_content (steps_of e.place) f.size (bytes_of f) =
+    of.content ∙ ap (λ steps. whole_content steps f.size (bytes_of f)) (sym of.steps) in
+    let more = fields-other h len (k + 1) es fs rest whole.1 are.1 in
+    record {
+      alone = other-then (findings_at g) (field_findings after)
+          (subst (λ fault. AreOther (map (finding g) (facts_with fault e.place.name e.content))) (sym of.sound)
+          (subst (λ c. AreOther (map (finding g) (content_facts e.place.name c))) (sym shows)
+          (facts-other h e.place.name e.place.owner g f fs is)))
+          more.alone;
+      attributes = other-then (option_to_list (attribute_finding g after)) (attribute_findings after)
+          (rule-other h len e.place.name e.place.owner g (k + 1) es f fs rest whole.1 is shows) more.attributes;
+    }
+
+-- ---- names and floating types
+
+duplicate-other : (earlier : List Indexed) (f : Indexed) → IsOther (duplicate_name earlier f)
+duplicate-other earlier f = then-other _ (λ key. by-index (first_index key earlier)) (key_of f.entry)
+  where
+    by-index : (o : Option ℕ) → IsOther (option_map (λ first. finding f (fact.DuplicateName first)) o)
+    by-index (Some first) = refl
+    by-index None = refl
+
+names-other : (fs earlier : List Indexed) → AreOther (each_after duplicate_name earlier fs)
+names-other [] earlier = refl
+names-other (f ∷ fs) earlier =
+    other-then (option_to_list (duplicate_name earlier f)) (each_after duplicate_name (earlier ++ f ∷ []) fs) (duplicate-other earlier f)
+    (names-other fs (earlier ++ f ∷ []))
+
+floating-other : (o : Option Indexed) → IsOther (option_map (λ f. finding f (fact.Fault FloatingType)) o)
+floating-other (Some f) = refl
+floating-other None = refl
+
+-- ---- all findings at fields
+
+pub header-other : (h : Header) (len : ℕ) (es : List Entry) (fs : List Field) → map seen_by es ≡ map (seen len) fs → AreWhole fs
+    → AreCanonical h fs → AreOther (header_findings es)
+unfolding header_findings floating_findings name_findings
+header-other h len es fs same whole are =
+    let gs = indexed es in
+    let none = fields-other h len 0 es fs same whole are in
+    other-then (field_findings gs ++ floating_findings gs ++ name_findings gs) (attribute_findings gs)
+    (other-then (field_findings gs ++ floating_findings gs) (name_findings gs)
+    (other-then (field_findings gs) (floating_findings gs) none.alone (floating-other (find is_floating gs))) (names-other gs []))
+    none.attributes

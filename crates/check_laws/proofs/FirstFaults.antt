@@ -1,0 +1,190 @@
+-- The first fault of a report is that of the first entry that the strict rules refuse.
+use Rattle.std.proofs.Common.{◌-◌, min, ◌≡◌, ℕ, zero, suc, ◌+◌, ◌≤◌, ◌⊎◌, inl, inr, Bool, true, false, cond, List, [], ◌∷◌, ◌++◌, length, map, flat_map, find, Option, Some, None, refl, sym, ap, ◌∙◌, subst, arith, le_refl}
+use Rattle.std.specs.List.{All, Contains}
+use Rattle.std.specs.Option.{option_to_list, option_map}
+use Rattle.std.proofs.lemmas.List.Elements.{All-cons, All-contains, Contains-append_left, Contains-append_right, Contains-append_cases}
+use Rattle.std.proofs.lemmas.List.Sorted.{Contains-permutation, All-permutation}
+use Rattle.nc_base.specs.declared.{fault.FormatFault.FormatFault}
+use Rattle.nc_base.specs.declared.fault.FormatFault.TheVariants.{FloatingType}
+use Rattle.nc_base.specs.Bytes.{Bytes}
+use Rattle.nc_base.specs.Grammar.{header_part, header_by}
+use Rattle.nc_base.specs.code.PartRuns.{left_after, run}
+use Rattle.nc_fields.specs.declared.{entry.Entry.Entry, header.Listing.Listing}
+use Rattle.nc_fields.specs.Lenient.{lenient}
+use Rattle.check_laws.specs.Agreement.{first_refusal, header_fields}
+use Rattle.nc_base.proofs.PartPlaces.{stops-in}
+use Rattle.check_laws.proofs.FieldOrder.{fields-descend}
+use Rattle.check_laws.proofs.StrictHeaders.{strict-headers, unrefused-headers, strict-faults}
+use Rattle.nc_check.specs.declared.{finding.Fact.Fact, finding.Finding.Finding, report.Report.Report}
+use Rattle.nc_check.specs.declared.finding.Fact.TheVariants.{Fault}
+use Rattle.nc_check.specs.Indexed.{Indexed, field_at, indexed_from, indexed, finding}
+use Rattle.nc_check.specs.FieldRules.{facts_of, findings_at, is_floating_in, is_floating, floating_finding}
+unfoldable use Rattle.nc_check.specs.FieldRules.{field_findings, floating_findings}
+unfoldable use Rattle.nc_check.specs.HeaderRules.{header_findings}
+unfoldable use Rattle.nc_check.specs.Reports.{all_findings}
+use Rattle.nc_check.specs.Reports.{IsReport}
+use Rattle.nc_check.specs.NameRules.{name_findings}
+use Rattle.nc_check.specs.AttributeRules.{attribute_findings}
+use Rattle.nc_check.specs.WholeHeader.{whole_findings}
+use Rattle.check_laws.specs.FaultLaws.{is_fault, HasNoFault, IsReadable, FindsFirst, FaultlessHeadersAreReadable, FirstFaultIsReaders}
+use Rattle.check_laws.proofs.Refusals.{refusal_of, FirstRefused, none-refused, first-refused}
+use Rattle.check_laws.proofs.FaultFindings.{ShowsFault, quiet-type, refused-shown, contains-first}
+use Rattle.check_laws.proofs.QuietRules.{FaultsLieAt, RefusedLiesAt, all-lie}
+
+-- ---- a finding at the first entry that is refused
+
+-- this fault is found at this offset
+pub record Finds (found : List Finding) (fault : FormatFault) (offset : ℕ) : Type 0 where
+  pub finding : Finding
+  pub has : Contains found finding
+  pub is : finding.fact ≡ Fault fault
+  pub at : finding.offset ≡ offset
+
+finds-left : {fault : FormatFault} {offset : ℕ} (xs ys : List Finding) → Finds xs fault offset → Finds (xs ++ ys) fault offset
+finds-left xs ys f = record { finding = f.finding; has = Contains-append_left xs ys f.finding f.has; is = f.is; at = f.at }
+
+finds-right : {fault : FormatFault} {offset : ℕ} (xs ys : List Finding) → Finds ys fault offset → Finds (xs ++ ys) fault offset
+finds-right xs ys f = record { finding = f.finding; has = Contains-append_right xs ys f.finding f.has; is = f.is; at = f.at }
+
+finds-here : (i : Indexed) (fault : FormatFault) (others : List Finding) → Finds (finding i (Fault fault) ∷ others) fault i.entry.offset
+finds-here i fault others =
+    record { finding = finding i (Fault fault); has = contains-first (finding i (Fault fault)) others; is = refl; at = refl }
+
+finds-map : (f : Indexed) (facts : List Fact) (fault : FormatFault) → Contains facts (Fault fault)
+    → Finds (map (finding f) facts) fault f.entry.offset
+finds-map f [] fault (k, lt, is) = absurd (omega arith)
+finds-map f (fact ∷ facts) fault (zero, lt, is) =
+    record { finding = finding f fact; has = contains-first (finding f fact) (map (finding f) facts); is = is; at = refl }
+finds-map f (fact ∷ facts) fault (suc k, lt, is) =
+    finds-right (finding f fact ∷ []) (map (finding f) facts) (finds-map f facts fault (k, omega arith, is))
+
+finds-field : (i : ℕ) (front : List Entry) (e : Entry) (back : List Entry) (fault : FormatFault) → Contains (facts_of e) (Fault fault)
+    → Finds (flat_map findings_at (indexed_from i (front ++ e ∷ back))) fault e.offset
+finds-field i [] e back fault has =
+    finds-left (findings_at (field_at i e)) (flat_map findings_at (indexed_from (i + 1) back))
+    (finds-map (field_at i e) (facts_of e) fault has)
+finds-field i (x ∷ front) e back fault has =
+    finds-right (findings_at (field_at i x)) (flat_map findings_at (indexed_from (i + 1) (front ++ e ∷ back)))
+    (finds-field (i + 1) front e back fault has)
+
+-- the first floating type among these fields, the first of which passes the test or doesn't
+abbrev first_floating : Bool → Indexed → List Indexed → List Finding
+first_floating b f fs = option_to_list (option_map (λ f. finding f (Fault FloatingType)) (cond b (Some f) (find is_floating fs)))
+
+finds-floating : (i : ℕ) (front : List Entry) (e : Entry) (back : List Entry) → ((x : Entry) → Contains front x → refusal_of x ≡ None)
+    → is_floating_in e.place.name e.content ≡ true
+    → Finds (option_to_list (floating_finding (indexed_from i (front ++ e ∷ back)))) FloatingType e.offset
+finds-floating i [] e back none is =
+    subst (λ b. Finds (first_floating b (field_at i e) (indexed_from (i + 1) back)) FloatingType e.offset) (sym is)
+    (finds-here (field_at i e) FloatingType [])
+finds-floating i (x ∷ front) e back none is =
+    subst (λ b. Finds (first_floating b (field_at i x) (indexed_from (i + 1) (front ++ e ∷ back))) FloatingType e.offset)
+    (sym (quiet-type x (none x (contains-first x front))))
+    (finds-floating (i + 1) front e back (λ y has. none y (Contains-append_right (x ∷ []) front y has)) is)
+
+-- of those at fields alone, or of the one at a floating type
+finds-shown : (len : ℕ) (es : List Entry) (fault : FormatFault) (rest : Bytes) (r : FirstRefused len es fault rest)
+    → ShowsFault r.entry.place.name r.entry.content r.entry.fault fault
+    → Finds (field_findings (indexed es) ++ floating_findings (indexed es)) fault r.entry.offset
+unfolding field_findings floating_findings
+finds-shown len es fault rest r (inl has) =
+    finds-left (flat_map findings_at (indexed es)) (option_to_list (floating_finding (indexed es)))
+    (subst (λ es. Finds (flat_map findings_at (indexed es)) fault r.entry.offset) (sym r.is)
+    (finds-field 0 r.front r.entry r.back fault has))
+finds-shown len es fault rest r (inr (is, same)) =
+    finds-right (flat_map findings_at (indexed es)) (option_to_list (floating_finding (indexed es)))
+    (subst (λ f. Finds (option_to_list (floating_finding (indexed es))) f r.entry.offset) (sym same)
+    (subst (λ es. Finds (option_to_list (floating_finding (indexed es))) FloatingType r.entry.offset) (sym r.is)
+    (finds-floating 0 r.front r.entry r.back (λ x has. All-contains (λ (e : Entry). refusal_of e ≡ None) r.front x r.before has) is)))
+
+-- of all findings
+finds-among_all : (l : Listing) (fault : FormatFault) (offset : ℕ)
+    → Finds (field_findings (indexed l.entries) ++ floating_findings (indexed l.entries)) fault offset → Finds (all_findings l) fault offset
+unfolding all_findings header_findings
+finds-among_all l fault offset f =
+    let fs = indexed l.entries in
+    finds-left (header_findings l.entries) (whole_findings l)
+    (finds-left (field_findings fs ++ floating_findings fs ++ name_findings fs) (attribute_findings fs)
+    (finds-left (field_findings fs ++ floating_findings fs) (name_findings fs) f))
+
+-- ---- no fault before it
+
+after-first : (len : ℕ) (es : List Entry) (fault : FormatFault) (rest : Bytes) (r : FirstRefused len es fault rest) (x : Entry)
+    → Contains es x → RefusedLiesAt (λ n. r.entry.offset ≤ n) x
+after-first len es fault rest r x has = by-cases (Contains-append_cases r.front (r.entry ∷ r.back) x (subst (λ es. Contains es x) r.is has))
+  where
+    by-cases : Contains r.front x ⊎ Contains (r.entry ∷ r.back) x → RefusedLiesAt (λ n. r.entry.offset ≤ n) x
+    by-cases (inl before) = inl (All-contains (λ (e : Entry). refusal_of e ≡ None) r.front x r.before before)
+    by-cases (inr after) =
+        inr (All-contains (λ (e : Entry). r.entry.offset ≤ e.offset) (r.entry ∷ r.back) x
+        (All-cons (λ (e : Entry). r.entry.offset ≤ e.offset) r.entry r.back (le_refl r.entry.offset) r.after) after)
+
+-- ---- the laws
+
+refused-first : (bytes : Bytes) (r : Report) (fault : FormatFault) (rest : Bytes) → IsReport bytes r
+    → first_refusal (header_fields bytes) ≡ Some (fault, rest) → FirstRefused (length bytes) r.listing.entries fault rest
+refused-first bytes r fault rest report refused =
+    first-refused (length bytes) (length bytes) (left_after (run (header_by lenient) bytes))
+    (header_fields bytes) r.listing.entries fault rest report.listing.entries
+    (le_refl (length bytes)) (fields-descend [] (header_by lenient) bytes) refused
+
+-- where an entry ends
+end-of : (len end offset size left : ℕ) → end + left ≡ len → offset ≤ len → left ≡ len - offset - size → end ≡ min (offset + size) len
+end-of len end offset size left at within is = grind arith
+
+finds-first : (bytes : Bytes) (r : Report) (fault : FormatFault) (rest : Bytes) (end : ℕ) → IsReport bytes r
+    → FirstRefused (length bytes) r.listing.entries fault rest → end + length rest ≡ length bytes → FindsFirst r fault end
+finds-first bytes r fault rest end report first at =
+    let entries = r.listing.entries in
+    let low = λ (n : ℕ). first.entry.offset ≤ n in
+    let shown = finds-shown (length bytes) entries fault rest first (refused-shown first.entry fault first.refused) in
+    let found = finds-among_all r.listing fault first.entry.offset shown in
+    let ended = end-of (length bytes) end first.entry.offset first.entry.size (length rest) at first.ends.within first.ends.left in
+    record {
+      found = found.finding;
+      in_report = Contains-permutation (all_findings r.listing) r.findings found.finding report.all found.has;
+      fact = found.is;
+      first = subst (λ n. All (λ (f : Finding). is_fault f.fact ≡ true → n ≤ f.offset) r.findings) (sym found.at)
+          (All-permutation (FaultsLieAt low) (all_findings r.listing) r.findings report.all
+          (all-lie low r.listing (after-first (length bytes) entries fault rest first)));
+      field = first.entry;
+      in_listing = subst (λ (es : List Entry). Contains es first.entry) (sym first.is)
+          (Contains-append_right first.front (first.entry ∷ first.back) first.entry (contains-first first.entry first.back));
+      begins = found.at;
+      ends = subst (λ n. end ≡ min (first.entry.offset + first.entry.size) n) (sym report.listing.file_len) ended;
+    }
+
+pub first-fault : FirstFaultIsReaders
+first-fault bytes r fault end report stop =
+    let stopped = (stops-in header_part bytes stop.steps stop.from_start fault stop.rest stop.stops).0 in
+    finds-first bytes r fault stop.rest end report
+    (refused-first bytes r fault stop.rest report ((strict-faults bytes fault stop.rest).0 stopped)) stop.ends
+
+-- a report without a fault
+readable : (bytes : Bytes) (r : Report) → IsReport bytes r → HasNoFault r → (o : Option (FormatFault × Bytes))
+    → first_refusal (header_fields bytes) ≡ o → IsReadable bytes
+readable bytes r report none None is = unrefused-headers bytes is
+readable bytes r report none (Some (fault, rest)) is =
+    let refused = refused-first bytes r fault rest report is in
+    let shown = finds-shown (length bytes) r.listing.entries fault rest refused (refused-shown refused.entry fault refused.refused) in
+    let found = finds-among_all r.listing fault refused.entry.offset shown in
+    let has = Contains-permutation (all_findings r.listing) r.findings found.finding report.all found.has in
+    let quiet = All-contains (λ (f : Finding). is_fault f.fact ≡ false) r.findings found.finding none has in
+    absurd (let never : true ≡ false = sym (ap is_fault found.is) ∙ quiet in cc)
+
+not-true : (b : Bool) → (b ≡ true → ⊥) → b ≡ false
+not-true true never = absurd (never refl)
+not-true false never = refl
+
+no-fault : (bytes : Bytes) (r : Report) → IsReport bytes r → first_refusal (header_fields bytes) ≡ None → HasNoFault r
+no-fault bytes r report none =
+    let quiet = none-refused (length bytes) (header_fields bytes) r.listing.entries report.listing.entries none in
+    let lie = all-lie (λ n. ⊥) r.listing (λ x has. inl (All-contains (λ (e : Entry). refusal_of e ≡ None) r.listing.entries x quiet has)) in
+    let all = All-permutation (FaultsLieAt (λ n. ⊥)) (all_findings r.listing) r.findings report.all lie in
+    λ k x lt. not-true _ (all k x lt)
+
+pub faultless : FaultlessHeadersAreReadable
+faultless bytes r report = (
+  λ none. readable bytes r report none (first_refusal (header_fields bytes)) refl,
+  λ is. no-fault bytes r report (strict-headers bytes is.0 is.1 is.2).1,
+)

@@ -1,0 +1,190 @@
+-- What a field shows at which nothing is found about its spelling.
+use Rattle.std.proofs.Common.{◌≡◌, ℕ, ◌+◌, ◌==◌, ◌&&◌, ◌||◌, not, Bool, true, false, cond, List, [], ◌∷◌, ◌++◌, length, map, replicate, Some, None, refl, sym, ap, ◌∙◌, subst, arith, length-take-le, option_to_list, if◌then◌else◌}
+use Rattle.std.proofs.lemmas.Bool.{ltb-false}
+use Rattle.std.proofs.lemmas.List.Folds.{list_any-append}
+use Rattle.nc_base.specs.declared.{header.Header.Header}
+use Rattle.nc_base.specs.Bytes.{Bytes}
+use Rattle.nc_base.specs.Parts.{Step, Padding, Tag, Count, Vsize, Item, Dims, Gatts, Vars, Atts, Name}
+use Rattle.nc_fields.specs.declared.{entry.Content.Content, entry.Entry.Entry, place.FieldName.FieldName, place.Owner.Owner}
+use Rattle.nc_fields.specs.declared.entry.Content.TheVariants as content
+use Rattle.nc_fields.specs.declared.place.FieldName.TheVariants as name
+use Rattle.nc_fields.specs.Fields.{Field}
+use Rattle.nc_fields.specs.Entries.{Seen, seen_by, steps_of, name_steps, owner_steps, whole_content}
+unfoldable use Rattle.nc_fields.specs.Entries.{seen}
+use Rattle.check_laws.specs.Written.{bytes_of, number_of, IsWrittenCount, IsWrittenTag, IsWritten, AreWritten}
+use Rattle.check_laws.proofs.Vsizes.{IsWhole, AreWhole, IsVsizeWritten, AreVsizesWritten}
+use Rattle.nc_check.specs.declared.{finding.Fact.Fact, finding.Finding.Finding}
+use Rattle.nc_check.specs.declared.finding.Fact.TheVariants as fact
+use Rattle.nc_check.specs.Indexed.{Indexed, field_at, indexed_from, finding}
+use Rattle.nc_check.specs.Ahead.{ahead_of, is_field, next_number, number_in}
+use Rattle.nc_check.specs.AttributeRules.{empty_list, finding_by_name, attribute_finding}
+use Rattle.nc_check.specs.FieldRules.{has_nonzero, content_facts, facts_with, findings_at}
+unfoldable use Rattle.nc_check.specs.FieldRules.{field_findings}
+unfoldable use Rattle.nc_check.specs.AttributeRules.{attribute_findings}
+use Rattle.check_laws.specs.Laws.{is_of_spelling, has_any}
+
+-- nothing of these findings is about the spelling
+abbrev pub AreOther : List Finding → Type 0
+AreOther findings = has_any is_of_spelling findings ≡ false
+
+pub neither : (a b : Bool) → (a || b) ≡ false → (a ≡ false) × (b ≡ false)
+neither true b e = absurd cc
+neither false b e = (refl, e)
+
+pub both-other : (xs ys : List Finding) → AreOther (xs ++ ys) → AreOther xs × AreOther ys
+both-other xs ys e =
+    neither (has_any is_of_spelling xs) (has_any is_of_spelling ys)
+    (sym (list_any-append (λ (f : Finding). is_of_spelling f.fact) xs ys) ∙ e)
+
+-- ---- what is shown
+
+-- of the number of a list's elements, after its tag
+abbrev ShowsCount : ℕ → List Step → Content → Type 0
+ShowsCount tag (Count ∷ steps) (content.Number n) = (not (tag == 0) && (n == 0)) ≡ false
+ShowsCount tag steps c = Unit {0}
+
+abbrev ShowsAfter : ℕ → List Seen → Type 0
+ShowsAfter tag [] = Unit {0}
+ShowsAfter tag (s ∷ after) = ShowsCount tag s.steps s.content
+
+-- of a field with these steps and this content, before these
+abbrev Shows : List Step → Content → List Seen → Type 0
+Shows (Padding ∷ steps) (content.Bytes bs) after = has_nonzero bs ≡ false
+Shows (Tag ∷ steps) (content.Number tag) after = ShowsAfter tag after
+Shows steps c after = Unit {0}
+
+abbrev pub AreQuiet : List Seen → Type 0
+AreQuiet [] = Unit {0}
+AreQuiet (s ∷ after) = (s.fault ≡ None → Shows s.steps s.content after) × AreQuiet after
+
+-- ---- from the findings
+
+padding-shows : (b : Bool) (f : Indexed) (more : List Fact)
+    → AreOther (map (finding f) (option_to_list (if b then Some fact.Padding else None) ++ more)) → b ≡ false
+padding-shows true f more e = absurd cc
+padding-shows false f more e = refl
+
+empty-shows : (b : Bool) (f : Indexed) → AreOther (option_to_list (if b then Some (finding f fact.EmptyList) else None)) → b ≡ false
+empty-shows true f e = absurd cc
+empty-shows false f e = refl
+
+count-shows : (tag : ℕ) (steps : List Step) (f : Indexed) (i offset : ℕ) (c : Content)
+    → AreOther (option_to_list (empty_list f (content.Number tag) (number_in i offset c))) → ShowsCount tag steps c
+count-shows tag (Count ∷ steps) f i offset (content.Number n) e = empty-shows (not (tag == 0) && (n == 0)) f e
+count-shows tag (Count ∷ steps) f i offset (content.Bytes bs) e = tt
+count-shows tag (Count ∷ steps) f i offset (content.Values b) e = tt
+count-shows tag (Count ∷ steps) f i offset content.Cut e = tt
+count-shows tag steps f i offset c e = tt
+
+after-shows : (tag : ℕ) (f : Indexed) (k : ℕ) (after : List Entry)
+    → AreOther (option_to_list (empty_list f (content.Number tag) (next_number is_field (indexed_from k after))))
+    → ShowsAfter tag (map seen_by after)
+after-shows tag f k [] e = tt
+after-shows tag f k (g ∷ after) e = count-shows tag (steps_of g.place) f k g.offset g.content e
+
+tag-shows : (steps : List Step) (f : Indexed) (c : Content) (k : ℕ) (after : List Entry)
+    → AreOther (option_to_list (empty_list f c (next_number is_field (indexed_from k after)))) → Shows (Tag ∷ steps) c (map seen_by after)
+tag-shows steps f (content.Number tag) k after e = after-shows tag f k after e
+tag-shows steps f (content.Bytes bs) k after e = tt
+tag-shows steps f (content.Values b) k after e = tt
+tag-shows steps f content.Cut k after e = tt
+
+filling-shows : (steps : List Step) (place : FieldName) (f : Indexed) (c : Content) (after : List Seen)
+    → ((bs : Bytes) → AreOther (map (finding f) (content_facts place (content.Bytes bs))) → has_nonzero bs ≡ false)
+    → AreOther (map (finding f) (content_facts place c)) → Shows (Padding ∷ steps) c after
+filling-shows steps place f (content.Number n) after go e = tt
+filling-shows steps place f (content.Bytes bs) after go e = go bs e
+filling-shows steps place f (content.Values b) after go e = tt
+filling-shows steps place f content.Cut after go e = tt
+
+place-shows : (place : FieldName) (o : Owner) (f : Indexed) (k : ℕ) (after : List Entry)
+    → AreOther (map (finding f) (content_facts place f.entry.content))
+    → AreOther (option_to_list (finding_by_name place f (ahead_of (indexed_from k after))))
+    → Shows (name_steps place ++ owner_steps o) f.entry.content (map seen_by after)
+place-shows name.Magic o f k after e d = tt
+place-shows name.Version o f k after e d = tt
+place-shows name.NumRecs o f k after e d = tt
+place-shows name.DimsTag o f k after e d = tag-shows (Dims ∷ owner_steps o) f f.entry.content k after d
+place-shows name.DimsCount o f k after e d = tt
+place-shows name.GlobalAttsTag o f k after e d = tag-shows (Gatts ∷ owner_steps o) f f.entry.content k after d
+place-shows name.GlobalAttsCount o f k after e d = tt
+place-shows name.VarsTag o f k after e d = tag-shows (Vars ∷ owner_steps o) f f.entry.content k after d
+place-shows name.VarsCount o f k after e d = tt
+place-shows name.NameLength o f k after e d = tt
+place-shows name.Name o f k after e d = tt
+place-shows name.NamePadding o f k after e d =
+    filling-shows (Name ∷ owner_steps o) name.NamePadding f f.entry.content (map seen_by after)
+    (λ bs e. padding-shows (has_nonzero bs) f _ e) e
+place-shows name.Length o f k after e d = tt
+place-shows name.Type o f k after e d = tt
+place-shows name.Count o f k after e d = tt
+place-shows name.Values o f k after e d = tt
+place-shows name.Padding o f k after e d =
+    filling-shows (owner_steps o) name.Padding f f.entry.content (map seen_by after)
+    (λ bs e. padding-shows (has_nonzero bs) f _ e) e
+place-shows name.Rank o f k after e d = tt
+place-shows (name.DimId i) o f k after e d = tt
+place-shows name.AttsTag o f k after e d = tag-shows (Atts ∷ owner_steps o) f f.entry.content k after d
+place-shows name.AttsCount o f k after e d = tt
+place-shows name.Vsize o f k after e d = tt
+place-shows name.Begin o f k after e d = tt
+
+pub quiet-entries : (k : ℕ) (entries : List Entry) → AreOther (field_findings (indexed_from k entries))
+    → AreOther (attribute_findings (indexed_from k entries)) → AreQuiet (map seen_by entries)
+unfolding field_findings attribute_findings
+quiet-entries k [] e d = tt
+quiet-entries k (entry ∷ entries) e d =
+    let f = field_at k entry in
+    let at = both-other (findings_at f) (field_findings (indexed_from (k + 1) entries)) e in
+    let by =
+    both-other (option_to_list (attribute_finding f (indexed_from (k + 1) entries))) (attribute_findings (indexed_from (k + 1) entries)) d in (
+      λ sound.
+          place-shows entry.place.name entry.place.owner f (k + 1) entries
+          (subst (λ fault. AreOther (map (finding f) (facts_with fault entry.place.name entry.content))) sound at.0)
+          by.0,
+      quiet-entries (k + 1) entries at.1 by.1,
+    )
+
+-- ---- fields that are as they are written
+
+all-zeros : (bs : Bytes) → has_nonzero bs ≡ false → bs ≡ replicate (length bs) 0
+all-zeros [] e = refl
+all-zeros (b ∷ bs) e =
+    let d = neither (not (b == 0)) (has_nonzero bs) e in
+    let zero : b ≡ 0 = is-zero b d.0 in
+    rw zero (ap (λ (bs : Bytes). 0 ∷ bs) (all-zeros bs d.1))
+  where
+    is-zero : (b : ℕ) → not (b == 0) ≡ false → b ≡ 0
+    is-zero b e = grind arith
+
+pub seen-content : (len : ℕ) (f : Field) → IsWhole f → (seen len f).content ≡ whole_content f.steps f.size (bytes_of f)
+unfolding seen
+seen-content len f w = ap (λ b. cond b content.Cut (whole_content f.steps f.size (bytes_of f))) w.whole
+
+count-written : (tag : ℕ) (steps : List Step) (f : Field) → ShowsCount tag steps (whole_content steps f.size (bytes_of f))
+    → IsWrittenCount tag steps (number_of f)
+count-written tag (Count ∷ steps) f e = e
+count-written tag steps f e = tt
+
+tag-written : (len tag : ℕ) (fs : List Field) → AreWhole fs → ShowsAfter tag (map (seen len) fs) → IsWrittenTag tag fs
+unfolding seen
+tag-written len tag [] w e = tt
+tag-written len tag (f ∷ fs) w e = count-written tag f.steps f (subst (ShowsCount tag f.steps) (seen-content len f w.0) e)
+
+is-written : (h : Header) (len : ℕ) (steps : List Step) (f : Field) (fs : List Field) → IsWhole f → AreWhole fs → IsVsizeWritten h steps f
+    → Shows steps (whole_content steps f.size (bytes_of f)) (map (seen len) fs) → IsWritten h steps f fs
+is-written h len (Padding ∷ steps) f fs w whole size e =
+    all-zeros (bytes_of f) e ∙ ap (λ n. replicate n 0) (length-take-le f.size f.start (ltb-false _ _ w.whole))
+is-written h len (Tag ∷ steps) f fs w whole size e = tag-written len (number_of f) fs whole e
+is-written h len (Vsize ∷ Item i ∷ steps) f fs w whole size e = size
+is-written h len steps f fs w whole size e = tt
+
+pub quiet-written : (h : Header) (len : ℕ) (fs : List Field) → AreQuiet (map (seen len) fs) → AreWhole fs → AreVsizesWritten h fs
+    → AreWritten h fs
+unfolding seen
+quiet-written h len [] quiet whole sizes = tt
+quiet-written h len (f ∷ fs) quiet whole sizes = (
+  is-written h len f.steps f fs whole.0 whole.1 sizes.0
+      (subst (λ c. Shows f.steps c (map (seen len) fs)) (seen-content len f whole.0) (quiet.0 whole.0.sound)),
+  quiet-written h len fs quiet.1 whole.1 sizes.1,
+)

@@ -1,0 +1,5 @@
+pub mod Agreement
+pub mod Written
+pub mod FaultLaws
+pub mod Laws
+pub mod OneReport

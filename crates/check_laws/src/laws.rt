@@ -1,0 +1,110 @@
+//! Laws of the definitions in `specs/`, each the contract of a function that does nothing.
+
+ghost use Rattle.check_laws.specs.Agreement.{StrictHeadersAreLenient, LenientHeadersAreStrict, UnrefusedHeadersAreSpelled, StrictFaultsAreFirstRefusals};
+ghost use Rattle.check_laws.specs.Written.{WrittenFieldsAreCanonical, CanonicalFieldsAreWritten};
+ghost use Rattle.check_laws.specs.FaultLaws.{FaultlessHeadersAreReadable, FirstFaultIsReaders, ReportsTellMissingValues};
+ghost use Rattle.check_laws.specs.Laws.{QuietSpellingsAreCanonical, CanonicalSpellingsAreQuiet, QuietHeadersAreCanonical};
+ghost use Rattle.check_laws.specs.Laws.{QuietFilesAreCanonical, QuietReportsHaveSlabsApart};
+ghost use Rattle.check_laws.specs.Laws.{WholeFilesHoldDatasets, GeneratedFilesAreFoundWhole};
+ghost use Rattle.check_laws.specs.Laws.{GeneratedFilesHaveQuietLayouts, GeneratedFilesHaveQuietSpellings};
+ghost use Rattle.check_laws.specs.OneReport.{EachFileHasReport, ReportsAreOne, NoTwoShareOffsetAndKind};
+
+/// States four laws, and does nothing. They compare the rules by which `nc_file` reads a header, the strict ones, with those by which
+/// [`list_fields`](nc_fields::list_fields) lists its fields, which take floating types and odd names, and keep no values. `lenient`: if
+/// bytes spell a header by the strict rules, they spell it by the others, too, but for the values, and no field is refused.
+///
+/// `strict`: if bytes spell a header by the other rules, and no field is refused, they spell it by the strict ones, with some values.
+///
+/// `spelled`: if no field is refused, the bytes spell a header by the strict rules.
+///
+/// `faults`: strict reading stops with a fault exactly if the first field that is refused is refused with it, and it stops right after this
+/// field. A field is refused if it is wrong, if it is a name that isn't valid, or if it is the code of a floating type.
+pub fn strict_rules_refuse_fields()
+    ensures lenient { StrictHeadersAreLenient }
+    ensures strict { LenientHeadersAreStrict }
+    ensures spelled { UnrefusedHeadersAreSpelled }
+    ensures faults { StrictFaultsAreFirstRefusals }
+{}
+
+/// States two laws, and does nothing. `canonical`: if the fields of a header show what is written, then its bytes are the one spelling in
+/// which the header is written. A field shows it unless it is padding that isn't zeros, the tag of a list that has no elements, other than
+/// 0, or a vsize that isn't that of its variable.
+///
+/// `written`: if the bytes of a header are the one spelling in which it is written, then its fields show what is written.
+pub fn written_fields_are_canonical()
+    ensures canonical { WrittenFieldsAreCanonical }
+    ensures written { CanonicalFieldsAreWritten }
+{}
+
+/// States three laws of the report of a file, and does nothing. `exists`: each list of bytes has a report, also one that isn't a file of
+/// the format.
+///
+/// `one`: two reports of the same bytes are the same, so [`check`](nc_check::check) can answer with no other one.
+///
+/// `strict`: no two findings of a report share offset and kind. Each lies at a lesser offset than those after it, or at the same one, and is
+/// of an earlier kind.
+pub fn one_report()
+    ensures exists { EachFileHasReport }
+    ensures one { ReportsAreOne }
+    ensures strict { NoTwoShareOffsetAndKind }
+{}
+
+/// States two laws, and does nothing. `faultless`: no finding of a report is a fault ([`Fact::Fault`](nc_check::Fact::Fault)) exactly if
+/// `nc_file::read_header` can read the header.
+///
+/// `first`: if reading the header stops with a fault, then a finding of the report is this fault, no finding at a lesser offset is a fault,
+/// and the field that it lies at ends where reading stops.
+pub fn first_fault_is_the_readers()
+    ensures faultless { FaultlessHeadersAreReadable }
+    ensures first { FirstFaultIsReaders }
+{}
+
+/// States a law, and does nothing: if `nc_file::read_header` can read the header of a file, then a finding of its report is that values are
+/// missing ([`LayoutFact::Missing`](nc_layout::LayoutFact::Missing)) exactly if some variable has a first missing value, at which `ncdump`
+/// stops. So, by `faultless` above, no finding is a fault or of missing values exactly if every value of the file can be read.
+pub fn reports_tell_missing_values()
+    ensures { ReportsTellMissingValues }
+{}
+
+/// States four laws of the report of a file, and does nothing. `spelling`: if the file begins with a header that `nc_file::read_header`
+/// can read, and the report has no padding that isn't zeros, no list that has its own tag without elements, and no wrong size of a
+/// variable, then the file begins with the one spelling in which this header is written.
+///
+/// `quiet`: if the file begins with the one spelling of the header that is read, then the report has no finding of these kinds.
+///
+/// `canonical`: so a file begins with the one spelling of its header if its report has no finding of these kinds and no fault.
+///
+/// `files`: if its report has no finding at begins and at the end of the file either, then the begins in its header are those of a
+/// generated file. If the number of records is known too, then the file has, byte for byte, the header that `ncgen` writes for the same
+/// dimensions, attributes and variables, and the same length.
+pub fn quiet_headers_are_canonical()
+    ensures spelling { QuietSpellingsAreCanonical }
+    ensures quiet { CanonicalSpellingsAreQuiet }
+    ensures canonical { QuietHeadersAreCanonical }
+    ensures files { QuietFilesAreCanonical }
+{}
+
+/// States a law, and does nothing: if `nc_file::read_header` can read the header of a file, and its report has no variable that begins
+/// inside of the header, no block that begins before the values of an earlier one end, and no record variable out of its place in the
+/// record, then no byte of the file lies in two slabs, or in a slab and the header.
+pub fn quiet_reports_have_slabs_apart()
+    ensures { QuietReportsHaveSlabsApart }
+{}
+
+/// States two laws, and does nothing. `holds`: the report of a file has no fault, and doesn't find values to be missing, exactly if the
+/// file holds a dataset: the one whose text `ncdump` prints.
+///
+/// `generated`: the report of a file that `ncgen` writes has no fault, and doesn't find values to be missing.
+pub fn whole_files_hold_datasets()
+    ensures holds { WholeFilesHoldDatasets }
+    ensures generated { GeneratedFilesAreFoundWhole }
+{}
+
+/// States two laws of the report of a file that `ncgen` writes, and does nothing. `layouts`: it has no finding at the begins of variables
+/// and blocks, and none at the end of the file.
+///
+/// `spellings`: it has no padding that isn't zeros, no list that has its own tag without elements, and no wrong size of a variable.
+pub fn generated_files_are_quiet()
+    ensures layouts { GeneratedFilesHaveQuietLayouts }
+    ensures spellings { GeneratedFilesHaveQuietSpellings }
+{}

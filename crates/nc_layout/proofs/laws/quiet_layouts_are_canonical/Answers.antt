@@ -1,9 +1,0 @@
-use Rattle.nc_layout.proofs.CanonicalBegins.{quiet-begins}
-use Rattle.nc_layout.proofs.CanonicalLength.{quiet-length}
-use Rattle.nc_layout.proofs.laws.quiet_layouts_are_canonical.Goals as goal
-
-pub returns-clause-begins : goal.returns-clause-begins
-returns-clause-begins c = quiet-begins
-
-pub returns-clause-length : goal.returns-clause-length
-returns-clause-length c = quiet-length
