@@ -36,6 +36,7 @@ mod trailing_nuls;
 mod variable;
 mod word;
 
+pub use escaped::put_escaped;
 pub use head::put_head;
 pub use name::put_name;
 pub use number_row::Gathered;

@@ -1,4 +1,4 @@
-//! What the command lines of `ncdump` and `ncgen` have in common: options of one letter, the values that clap's matches have for them,
+//! What the command lines of the programs have in common: options of one letter, the values that clap's matches have for them,
 //! and the fault of a command line.
 //!
 //! ```
@@ -12,7 +12,7 @@
 //! Ok(header_only || width.is_some())
 //! ```
 //!
-//! This crate is internal: `ncdump`, `ncgen` and their programs alone call it.
+//! This crate is internal: `ncdump`, `ncgen`, `nccheck` and their programs alone call it.
 #![tactic(auto)]
 
 mod arguments;

@@ -2,14 +2,15 @@
 
 ghost use Rattle.std.specs.Prelude.{◌≡◌, List, ℕ, Option, IfOk};
 ghost use Rattle.devices.specs.Openers.{OpenerView};
-ghost use Rattle.devices.specs.code.PathOpens.{OpensSource, HasBack, OpensOnce};
+ghost use Rattle.devices.specs.code.PathOpens.{OpensSource, HasBack, NamesAsBefore, OpensOnce};
 
 use crate::{OpenFailed, Source};
 
 /// What opens paths as sources.
 ///
 /// Contracts see how often the opener was asked to open a path, and how many failures all the sources had that it has taken back. If its
-/// sources are transparent, contracts also know which bytes a path names, and which paths can't be opened.
+/// sources are transparent, contracts also know which bytes a path names, and which paths can't be opened; this doesn't change while it
+/// opens paths and takes sources back.
 pub trait Opener {
     /// The type of source that a path is opened as.
     type Source: Source + Drop;
@@ -30,9 +31,11 @@ pub trait Opener {
         ensures failures { IfOk result (λ source. (Self.Source.view source).failures ≡ 0) }
         ensures handed { IfOk result (λ source. (Self.Source.view source).handed ≡ 0) }
         ensures path { OpensSource Self.Source.is_transparent Self.Source.view
-            (named self.old path.now) result };
+            (named self.old path.now) result }
+        ensures names { NamesAsBefore (named self.old) (named self.new) };
 
     /// Takes back a source that it opened, adds the source's failures to its own, and drops the source.
     fn close(&mut self, source: Self::Source)
-        ensures { HasBack (view self.old) (view self.new) (Self.Source.view source).failures };
+        ensures back { HasBack (view self.old) (view self.new) (Self.Source.view source).failures }
+        ensures names { NamesAsBefore (named self.old) (named self.new) };
 }

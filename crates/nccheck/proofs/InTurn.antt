@@ -1,14 +1,16 @@
 -- A run over one path after another.
 use Rattle.std.proofs.Common.{◌≡◌, ℕ, ◌+◌, ◌<◌, ◌≤◌, inl, inr, max, true, false, Bool, List}
-use Rattle.std.proofs.Common.{[], ◌∷◌, length, get_or, drop, refl, sym, ap, subst, Result, Ok, Err, arith}
+use Rattle.std.proofs.Common.{[], ◌∷◌, length, get_or, drop, refl, sym, ap, subst, Option, Result, Ok, Err, arith}
+use Rattle.std.specs.Bool.{OnTrue}
 use Rattle.std.proofs.lemmas.List.{drop_all, drop_more}
 use Rattle.std.specs.Borrow.{Bor}
 use Rattle.nc_base.specs.Bytes.{Bytes}
 use Rattle.cli_base.specs.Arguments.{texts_of}
+use Rattle.devices.specs.Openers.{OpenerView}
 use Rattle.devices.specs.Sinks.{SinkView}
 use Rattle.devices.specs.code.SinkWrites.{Written}
 use Rattle.nccheck.specs.CommandLine.{Asked}
-use Rattle.nccheck.specs.Runs.{ChecksNone, ChecksPath, Either, ends_run, IsTold, Openings, RunsOver, State, status_of}
+use Rattle.nccheck.specs.Runs.{ChecksNamed, ChecksNone, ChecksPath, Either, ends_run, IsTold, Openings, openings, RunsOver, State, status_of}
 use Rattle.nccheck.specs.declared.fault.FileFault.{FileFault}
 
 pub status_most : (answer : Result Bool FileFault) → status_of answer ≤ 2
@@ -20,6 +22,17 @@ status_most (Err fault) = omega arith
 pub is_told : {X E : Type 0} (old new : SinkView) (text : Bytes) (result : Result X E) → Written old new text result → IsTold old new text
 is_told old new text (Ok done) written = inl written
 is_told old new text (Err failure) written = inr written
+
+-- what a path names at this time is what it named at first
+pub from_first : {P : Type 0} (is_transparent : Bool) (first now : Bytes → Option Bytes) (view : P → OpenerView) (a : Asked) (file : Bytes)
+    (old new : State P) (answer : Result Bool FileFault) → now file ≡ first file
+    → ChecksPath (openings is_transparent now view) a file old new answer → ChecksPath (openings is_transparent first view) a file old new answer
+from_first is_transparent first now view a file old new answer same c = record {
+  opens = c.opens;
+  writes = c.writes;
+  checks = subst (λ (bytes : Option Bytes). OnTrue is_transparent (ChecksNamed a bytes file old.out new.out answer)) same c.checks;
+  tells = c.tells;
+}
 
 -- what a run over the paths so far keeps: whatever a run over the others does, all has been done by both
 abbrev pub RunsUpTo : {P : Type 0} → Openings P → Asked → List Bytes → List Bytes → State P → State P → ℕ → Type 0

@@ -1,10 +1,11 @@
 -- Definition. What a line says of what is found, and of what is expected in its place.
-use Rattle.std.specs.Prelude.{ℕ, ◌-◌, ◌+◌, ◌/◌, ◌%◌, ◌==◌, nat_lt, if◌then◌else◌, List, [], ◌∷◌, codes, decimal, Option, Some, None, slice_get, Result}
+use Rattle.std.specs.Prelude.{ℕ, ◌-◌, ◌+◌, ◌/◌, ◌%◌, ◌^◌, ◌==◌, nat_lt, if◌then◌else◌, List, [], ◌∷◌, codes, decimal, Option, Some, None, slice_get, Result}
 use Rattle.std.specs.Option.{option_map_or}
 use Rattle.std.specs.Str.{byte}
 use Rattle.nc_base.specs.Bytes.{Bytes, concat_parts}
 use Rattle.nc_base.specs.declared.{fault.FormatFault.FormatFault, header.Header.Header}
 use Rattle.nc_base.specs.declared.fault.FormatFault.TheVariants as fault
+use Rattle.nc_base.specs.Grammar.{attribute_tag, dimension_tag, variable_tag}
 use Rattle.nc_fields.specs.declared.{place.Owner.Owner, place.FieldName.FieldName, entry.Content.Content, entry.Entry.Entry, header.Listing.Listing}
 use Rattle.nc_fields.specs.declared.place.Owner.TheVariants as owner
 use Rattle.nc_fields.specs.declared.place.FieldName.TheVariants as name
@@ -14,6 +15,7 @@ use Rattle.nc_layout.specs.declared.finding.LayoutFact.{LayoutFact}
 use Rattle.nc_layout.specs.declared.finding.LayoutFact.TheVariants as layout
 use Rattle.nc_check.specs.declared.finding.Fact.{Fact}
 use Rattle.nc_check.specs.declared.finding.Fact.TheVariants as fact
+use Rattle.nc_check.specs.FieldRules.{highest_rank, longest_name}
 use Rattle.nccheck.specs.Paths.{block_path, var_path}
 use Rattle.nccheck.specs.Words.{around, each_of}
 
@@ -77,13 +79,13 @@ found_with_fault file_len e other = found_content e.content
 
 -- the tag of a list with elements
 abbrev pub tag_of : FieldName → ℕ
-tag_of name.DimsTag = 10
-tag_of name.VarsTag = 11
-tag_of field = 12
+tag_of name.DimsTag = dimension_tag
+tag_of name.VarsTag = variable_tag
+tag_of field = attribute_tag
 
 -- the numbers of this many bytes whose top bit is 0 are below this
 abbrev pub top_bit : ℕ → ℕ
-top_bit size = if size == 8 then 9223372036854775808 else 2147483648
+top_bit size = if size == 8 then 2 ^ 63 else 2 ^ 31
 
 abbrev pub expected_below : ℕ → Bytes
 expected_below n = around (codes ", expected below ") n []
@@ -221,7 +223,7 @@ expected_type code = around (codes ", expected ") code (codes ", the variable's 
 unfoldable pub expected_at : Listing → Entry → Fact → Bytes
 expected_at l e (fact.Fault fault) = expected_with_fault l.entries e fault
 expected_at l e fact.EmptyList = expected_number 0
-expected_at l e fact.LongName = expected_at_most 256 []
+expected_at l e fact.LongName = expected_at_most longest_name []
 expected_at l e (fact.DuplicateName first) = []
 expected_at l e fact.NotNfc = []
 expected_at l e fact.Padding = expected_zeros e.content
@@ -229,7 +231,7 @@ expected_at l e fact.EmptyAttribute = expected_at_least 1 []
 expected_at l e fact.TrailingNul = []
 expected_at l e (fact.FillType code) = expected_type code
 expected_at l e fact.FillCount = expected_number 1
-expected_at l e fact.HighRank = expected_at_most 1024 []
+expected_at l e fact.HighRank = expected_at_most highest_rank []
 expected_at l e (fact.Vsize size) = expected_number size
 expected_at l e (fact.Layout x) = expected_in_layout l.header x
 

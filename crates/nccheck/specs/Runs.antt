@@ -8,7 +8,7 @@ use Rattle.devices.specs.Openers.{OpenerView}
 use Rattle.devices.specs.Sinks.{SinkView, Appended, FailedPartway}
 use Rattle.nc_check.specs.Reports.{IsReport}
 use Rattle.nc_fields.specs.declared.header.Listing.{Listing}
-use Rattle.nc_check.specs.declared.{finding.Finding.Finding, kind.Severity.Severity, report.Report.Report}
+use Rattle.nc_check.specs.declared.{finding.Finding.Finding, report.Report.Report}
 use Rattle.cli_base.specs.declared.fault.OptFault.{OptFault}
 use Rattle.cli_base.specs.declared.fault.OptFault.TheVariants as opt
 use Rattle.nccheck.specs.CommandLine.{Asked}
@@ -19,30 +19,31 @@ use Rattle.nccheck.specs.declared.fault.FileFault.TheVariants.{CannotOpen, ReadF
 
 -- ---- the check of one file
 
--- the lines of these findings; none in a quiet run
-abbrev pub shown : Severity → Bool → Bytes → Listing → List Finding → Bytes
-shown level is_quiet file l findings = if is_quiet then [] else lines level file l findings
+-- the lines of these findings that are asked for; none in a quiet run
+abbrev pub shown : Asked → Bytes → Listing → List Finding → Bytes
+shown a file l findings = if a.is_quiet then [] else lines a.level file l findings
 
 -- the file has these bytes; its lines were written, unless it was quiet, and it is said whether something was reported
-pub record Checks (bytes file : Bytes) (level : Severity) (is_quiet : Bool) (old new : SinkView) (reported : Bool) : Type 0 where
+pub record Checks (a : Asked) (bytes file : Bytes) (old new : SinkView) (reported : Bool) : Type 0 where
   pub report : Report
   pub is_report : IsReport bytes report
-  pub text : Appended old new (shown level is_quiet file report.listing report.findings)
-  pub said : reported ≡ has_reported level report.findings
+  pub text : Appended old new (shown a file report.listing report.findings)
+  pub said : reported ≡ has_reported a.level report.findings
 
--- the file has these bytes, and a prefix of its lines was written before standard output failed
-pub record BreaksOff (bytes file : Bytes) (level : Severity) (is_quiet : Bool) (old new : SinkView) : Type 0 where
+-- the file has these bytes, and a prefix of its lines was written before standard output failed (a quiet run writes none)
+pub record BreaksOff (a : Asked) (bytes file : Bytes) (old new : SinkView) : Type 0 where
   pub report : Report
   pub is_report : IsReport bytes report
-  pub partway : FailedPartway old new (shown level is_quiet file report.listing report.findings)
+  pub not_quiet : a.is_quiet ≡ false
+  pub partway : FailedPartway old new (shown a file report.listing report.findings)
 
 -- what was written of a file with these bytes
-abbrev pub ChecksBytes : Bytes → Bytes → Severity → Bool → SinkView → SinkView → Result Bool FileFault → Type 0
-ChecksBytes bytes file level is_quiet old new (Ok reported) = Checks bytes file level is_quiet old new reported
-ChecksBytes bytes file level is_quiet old new (Err WriteFailed) = BreaksOff bytes file level is_quiet old new
-ChecksBytes bytes file level is_quiet old new (Err CannotOpen) = ⊥
-ChecksBytes bytes file level is_quiet old new (Err ReadFailed) = new ≡ old
-ChecksBytes bytes file level is_quiet old new (Err OutOfMemory) = new ≡ old
+abbrev pub ChecksBytes : Asked → Bytes → Bytes → SinkView → SinkView → Result Bool FileFault → Type 0
+ChecksBytes a bytes file old new (Ok reported) = Checks a bytes file old new reported
+ChecksBytes a bytes file old new (Err WriteFailed) = BreaksOff a bytes file old new
+ChecksBytes a bytes file old new (Err CannotOpen) = ⊥
+ChecksBytes a bytes file old new (Err ReadFailed) = new ≡ old
+ChecksBytes a bytes file old new (Err OutOfMemory) = new ≡ old
 
 -- the path can't be opened, and nothing was written
 abbrev pub Unopened : SinkView → SinkView → Result Bool FileFault → Type 0
@@ -53,9 +54,9 @@ Unopened old new (Err OutOfMemory) = ⊥
 Unopened old new (Err WriteFailed) = ⊥
 
 -- what was written of a path that names these bytes, or none
-abbrev pub ChecksNamed : Option Bytes → Bytes → Severity → Bool → SinkView → SinkView → Result Bool FileFault → Type 0
-ChecksNamed (Some bytes) file level is_quiet old new answer = ChecksBytes bytes file level is_quiet old new answer
-ChecksNamed None file level is_quiet old new answer = Unopened old new answer
+abbrev pub ChecksNamed : Asked → Option Bytes → Bytes → SinkView → SinkView → Result Bool FileFault → Type 0
+ChecksNamed a (Some bytes) file old new answer = ChecksBytes a bytes file old new answer
+ChecksNamed a None file old new answer = Unopened old new answer
 
 -- a source has failed exactly if the answer says so
 abbrev pub ReadFailsOnly : {A : Type 0} → ℕ → ℕ → Result A FileFault → Type 0
@@ -75,10 +76,10 @@ pub record OpensFile {A : Type 0} (old new : OpenerView) (answer : Result A File
 
 -- ---- one path of a run
 
--- how a run sees what opens paths
+-- how a run sees what opens paths; the bytes that a path names, if any, are known where what is opened is transparent
 pub record Openings (P : Type 0) : Type 0 where
   pub is_transparent : Bool
-  pub named : P → Bytes → Option Bytes
+  pub named : Bytes → Option Bytes
   pub view : P → OpenerView
 
 -- what opens paths, standard output and standard error, at some time of a run
@@ -87,7 +88,7 @@ pub record State (P : Type 0) : Type 0 where
   pub out : SinkView
   pub err : SinkView
 
-abbrev pub openings : {P : Type 0} → Bool → (P → Bytes → Option Bytes) → (P → OpenerView) → Openings P
+abbrev pub openings : {P : Type 0} → Bool → (Bytes → Option Bytes) → (P → OpenerView) → Openings P
 openings is_transparent named view = record { is_transparent = is_transparent; named = named; view = view }
 
 abbrev pub state : {P O E : Type 0} → (O → SinkView) → (E → SinkView) → P → O → E → State P
@@ -107,7 +108,7 @@ pub record ChecksPath {P : Type 0} (o : Openings P) (a : Asked) (file : Bytes) (
     : Type 0 where
   pub opens : OpensFile (o.view old.opener) (o.view new.opener) answer
   pub writes : WriteFailsOnly old.out new.out answer
-  pub checks : OnTrue o.is_transparent (ChecksNamed (o.named old.opener file) file a.level a.is_quiet old.out new.out answer)
+  pub checks : OnTrue o.is_transparent (ChecksNamed a (o.named file) file old.out new.out answer)
   pub tells : Tells file old.err new.err answer
 
 -- ---- the paths of a run, in turn

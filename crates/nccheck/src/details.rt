@@ -8,11 +8,11 @@ ghost use Rattle.nccheck.specs.code.Names.{entry_in};
 use crate::content::{put_expected_zeros, put_found_content};
 use crate::fault_details::{put_expected_with_fault, put_found_with_fault};
 use crate::layout_details::{
-    put_expected, put_expected_in_layout, put_found_in_layout, put_layout_details,
+    put_at_most, put_expected, put_expected_in_layout, put_found_in_layout, put_layout_details,
 };
 use crate::number::put_around;
 use devices::{Sink, WriteFailed};
-use nc_check::Fact;
+use nc_check::{Fact, HIGHEST_RANK, LONGEST_NAME};
 use nc_fields::{Entry, Listing, Owner};
 
 /// Writes what a fact says of what is found at a field, or in the data, and of what is expected in its place.
@@ -74,13 +74,13 @@ fn put_expected_at<W: Sink>(
             put_expected_with_fault(sink, listing.entries.as_slice(), entry, fault)
         }
         Fact::EmptyList => put_expected(sink, 0),
-        Fact::LongName => put_around(sink, b", expected at most ", 256, b""),
+        Fact::LongName => put_at_most(sink, LONGEST_NAME),
         Fact::DuplicateName { .. } | Fact::NotNfc | Fact::TrailingNul => Ok(()),
         Fact::Padding => put_expected_zeros(sink, &entry.content),
         Fact::EmptyAttribute => put_around(sink, b", expected at least ", 1, b""),
         Fact::FillType { expected } => put_expected_type(sink, expected),
         Fact::FillCount => put_expected(sink, 1),
-        Fact::HighRank => put_around(sink, b", expected at most ", 1024, b""),
+        Fact::HighRank => put_at_most(sink, HIGHEST_RANK),
         Fact::Vsize { expected } => put_expected(sink, expected as u128),
         Fact::Layout(fact) => put_expected_in_layout(sink, &listing.header, fact),
     }

@@ -5,12 +5,12 @@ ghost use Rattle.devices.specs.code.SinkWrites.{Wrote};
 ghost use Rattle.nccheck.specs.Paths.{block_path, element, element_part, field_path, owner_path, quoted, slab_path, var_name, var_path};
 ghost use Rattle.nccheck.specs.code.Names.{bytes_of, known};
 
-use crate::escaped::put_escaped;
 use crate::known_names::Names;
 use crate::number::put_around;
 use crate::words::put_field_word;
+use cdl_print::put_escaped;
 use devices::{Sink, WriteFailed, put};
-use nc_base::{FormatFault, Header};
+use nc_base::{FormatFault, Header, Quoting};
 use nc_fields::{Owner, Place};
 use nc_layout::{Block, Slab};
 
@@ -73,7 +73,7 @@ fn put_element<W: Sink>(
 }
 
 /// Writes a name between quotes after a space, with the escapes of a string in a dump; nothing if there is no name.
-#[tactic(auto, using(devices::proofs::Writes::writes), unfolding(crate::specs::Paths::quoted))]
+#[tactic(auto, using(devices::proofs::Writes::writes), unfolding(crate::specs::Paths::quoted, nc_base::specs::Escapes::escaped_text))]
 fn put_quoted<W: Sink>(sink: &mut W, name: Option<&[u8]>) -> Result<(), WriteFailed>
     ensures { Wrote W.view sink.old sink.new (quoted (bytes_of name.entry)) result }
 {
@@ -81,7 +81,7 @@ fn put_quoted<W: Sink>(sink: &mut W, name: Option<&[u8]>) -> Result<(), WriteFai
         return Ok(());
     };
     put(sink, b" \"")?;
-    put_escaped(sink, name)?;
+    put_escaped(sink, Quoting::InString, name)?;
     put(sink, b"\"")
 }
 

@@ -1,7 +1,8 @@
 //! What a line says of the layout of a file.
 
+ghost use Rattle.std.specs.Prelude.{[]};
 ghost use Rattle.devices.specs.code.SinkWrites.{Wrote};
-ghost use Rattle.nccheck.specs.Details.{expected_after_block, expected_after_header, expected_after_var, expected_at_least, expected_before_records, expected_begin, expected_by_length, expected_end, expected_in_layout, expected_number, found_bytes, found_in_layout, found_streaming, found_unused, found_unused_bytes, layout_details};
+ghost use Rattle.nccheck.specs.Details.{expected_after_block, expected_after_header, expected_after_var, expected_at_least, expected_at_most, expected_before_records, expected_begin, expected_by_length, expected_end, expected_in_layout, expected_number, found_bytes, found_in_layout, found_streaming, found_unused, found_unused_bytes, layout_details};
 
 use crate::field_path::{put_block_path, put_var_path};
 use crate::number::put_around;
@@ -64,9 +65,7 @@ pub(crate) fn put_expected_in_layout<W: Sink>(
         LayoutFact::Streaming { .. } | LayoutFact::Gap { .. } => Ok(()),
         LayoutFact::UnusedRecords { .. } => put_expected(sink, 0),
         LayoutFact::RecordCount { by_length, .. } => put_by_length(sink, by_length),
-        LayoutFact::LargeVariable { limit, .. } => {
-            put_around(sink, b", expected at most ", limit as u128, b"")
-        }
+        LayoutFact::LargeVariable { limit, .. } => put_at_most(sink, limit),
         LayoutFact::BeginInHeader { header_end, .. } => put_after_header(sink, header_end),
         LayoutFact::Overlap { end, of, .. } | LayoutFact::Unpadded { end, of, .. } => {
             put_after_block(sink, header, end, of)
@@ -87,6 +86,13 @@ fn put_at_least<W: Sink>(sink: &mut W, n: u128, after: &[u8]) -> Result<(), Writ
     put_around(sink, b", expected at least ", n, after)
 }
 
+/// Writes that this number is expected, or a smaller one.
+pub(crate) fn put_at_most<W: Sink>(sink: &mut W, n: u64) -> Result<(), WriteFailed>
+    ensures { Wrote W.view sink.old sink.new (expected_at_most n []) result }
+{
+    put_around(sink, b", expected at most ", n as u128, b"")
+}
+
 /// Writes that this number is expected.
 pub(crate) fn put_expected<W: Sink>(sink: &mut W, n: u128) -> Result<(), WriteFailed>
     ensures { Wrote W.view sink.old sink.new (expected_number n) result }
@@ -94,7 +100,7 @@ pub(crate) fn put_expected<W: Sink>(sink: &mut W, n: u128) -> Result<(), WriteFa
     put_around(sink, b", expected ", n, b"")
 }
 
-/// Writes that the streaming mark is found, for so many records.
+/// Writes that the streaming mark is found, for this number of records.
 #[tactic(auto, unfolding(crate::specs::Details::found_streaming))]
 fn put_found_streaming<W: Sink>(sink: &mut W, records: u64) -> Result<(), WriteFailed>
     ensures { Wrote W.view sink.old sink.new (found_streaming records) result }
@@ -107,7 +113,7 @@ fn put_found_streaming<W: Sink>(sink: &mut W, records: u64) -> Result<(), WriteF
     )
 }
 
-/// Writes that so many bytes are found.
+/// Writes that this number of bytes is found.
 #[tactic(auto, unfolding(crate::specs::Details::found_bytes))]
 fn put_found_bytes<W: Sink>(sink: &mut W, n: u64) -> Result<(), WriteFailed>
     ensures { Wrote W.view sink.old sink.new (found_bytes n) result }
@@ -115,7 +121,7 @@ fn put_found_bytes<W: Sink>(sink: &mut W, n: u64) -> Result<(), WriteFailed>
     put_around(sink, b": found ", n as u128, b" bytes")
 }
 
-/// Writes that so many unused bytes are found before a block.
+/// Writes that this number of unused bytes is found before a block.
 #[tactic(auto, using(devices::proofs::Writes::writes), unfolding(crate::specs::Details::found_unused))]
 fn put_found_unused<W: Sink>(
     sink: &mut W,
@@ -129,7 +135,7 @@ fn put_found_unused<W: Sink>(
     put_block_path(sink, header, before)
 }
 
-/// Writes that so many records are expected by the length of the file.
+/// Writes that this number of records is expected by the length of the file.
 #[tactic(auto, unfolding(crate::specs::Details::expected_by_length))]
 fn put_by_length<W: Sink>(sink: &mut W, n: u64) -> Result<(), WriteFailed>
     ensures { Wrote W.view sink.old sink.new (expected_by_length n) result }
@@ -186,7 +192,7 @@ fn put_before_records<W: Sink>(sink: &mut W, most: u64) -> Result<(), WriteFaile
     )
 }
 
-/// Writes that so many unused bytes are found before what comes next.
+/// Writes that this number of unused bytes is found before what comes next.
 #[tactic(auto, unfolding(crate::specs::Details::found_unused_bytes))]
 fn put_found_unused_bytes<W: Sink>(sink: &mut W, n: u64) -> Result<(), WriteFailed>
     ensures { Wrote W.view sink.old sink.new (found_unused_bytes n) result }

@@ -8,7 +8,6 @@
 mod command_line;
 mod content;
 mod details;
-mod escaped;
 mod fault;
 mod fault_details;
 mod fault_text;

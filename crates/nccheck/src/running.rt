@@ -1,7 +1,8 @@
 //! A run of the program.
 
-ghost use Rattle.std.specs.Prelude.{◌≡◌, ◌≤◌, true, Err};
+ghost use Rattle.std.specs.Prelude.{◌≡◌, ◌≤◌, true, false, Err, OnErr};
 ghost use Rattle.std.specs.Bool.{OnTrue};
+ghost use Rattle.devices.specs.code.PathOpens.{NamesAsBefore};
 ghost use Rattle.devices.specs.code.SinkWrites.{Wrote};
 ghost use Rattle.cli_base.specs.Arguments.{texts_of};
 ghost use Rattle.nccheck.specs.CommandLine.{asked_by};
@@ -15,7 +16,7 @@ use crate::fault_text::{put_command_line_fault, put_file_fault, put_flush_fault}
 use crate::options::CheckOptions;
 use crate::report_lines::{has_reported, put_lines};
 use devices::{Flush, Opener, Sink, Source, WriteFailed};
-use nc_check::{Report, Severity, check};
+use nc_check::{Report, check};
 use std::alloc::Global;
 
 /// The status of a run in which nothing was reported of any file.
@@ -43,7 +44,8 @@ pub fn run_with<P: Opener, O: Flush, E: Sink>(
     err: &mut E,
 ) -> u8
     ensures runs { Runs
-        (openings P.Source.is_transparent P.named P.view) (asked_by (texts_of words.now))
+        (openings P.Source.is_transparent (P.named opener.old) P.view)
+        (asked_by (texts_of words.now))
         (state O.Sink.view E.view opener.old out.old err.old)
         (state O.Sink.view E.view opener.new out.new err.new) result }
     ensures status { result ≤ 2 }
@@ -69,7 +71,8 @@ fn check_for_words<P: Opener, O: Sink, E: Sink>(
     err: &mut E,
 ) -> u8
     ensures runs { RunsAsked
-        (openings P.Source.is_transparent P.named P.view) (asked_by (texts_of words.now))
+        (openings P.Source.is_transparent (P.named opener.old) P.view)
+        (asked_by (texts_of words.now))
         (state O.view E.view opener.old out.old err.old)
         (state O.view E.view opener.new out.new err.new) result }
     ensures status { result ≤ 2 }
@@ -92,7 +95,7 @@ fn check_files<P: Opener, O: Sink, E: Sink>(
     err: &mut E,
 ) -> u8
     ensures runs { RunsOver
-        (openings P.Source.is_transparent P.named P.view) (asked_for options.now)
+        (openings P.Source.is_transparent (P.named opener.old) P.view) (asked_for options.now)
         (texts_of options.now.files)
         (state O.view E.view opener.old out.old err.old)
         (state O.view E.view opener.new out.new err.new) result }
@@ -120,12 +123,13 @@ fn check_and_tell<P: Opener, O: Sink, E: Sink>(
     out: &mut O,
     err: &mut E,
 ) -> Result<bool, FileFault>
-    ensures { ChecksPath
-        (openings P.Source.is_transparent P.named P.view) (asked_for options.now) file.now
-        (state O.view E.view opener.old out.old err.old)
+    ensures checks { ChecksPath
+        (openings P.Source.is_transparent (P.named opener.old) P.view) (asked_for options.now)
+        file.now (state O.view E.view opener.old out.old err.old)
         (state O.view E.view opener.new out.new err.new) result }
+    ensures names { NamesAsBefore (P.named opener.old) (P.named opener.new) }
 {
-    let answer = check_file(opener, alloc, file, options.level, options.is_quiet, out);
+    let answer = check_file(opener, alloc, file, options, out);
     if let Err(fault) = answer {
         let _ = put_file_fault(err, file.as_bytes(), fault);
     }
@@ -165,24 +169,24 @@ fn is_fatal(fault: FileFault) -> bool
     }
 }
 
-/// Checks the file at this path, writes its lines unless `is_quiet`, and gives the file back to the opener. Returns true if something was
+/// Checks the file at this path, writes its lines as the options ask, and gives the file back to the opener. Returns true if something was
 /// reported.
 fn check_file<P: Opener, O: Sink>(
     opener: &mut P,
     alloc: Global,
     file: &str,
-    level: Severity,
-    is_quiet: bool,
+    options: &CheckOptions<'_>,
     out: &mut O,
 ) -> Result<bool, FileFault>
     ensures opens { OpensFile (P.view opener.old) (P.view opener.new) result }
     ensures writes { WriteFailsOnly (O.view out.old) (O.view out.new) result }
     ensures checks { OnTrue P.Source.is_transparent (ChecksNamed
-        (P.named opener.old file.now) file.now level is_quiet
+        (asked_for options.now) (P.named opener.old file.now) file.now
         (O.view out.old) (O.view out.new) result) }
+    ensures names { NamesAsBefore (P.named opener.old) (P.named opener.new) }
 {
     let mut source = opener.open(file)?;
-    let answer = check_source(&mut source, alloc, file, level, is_quiet, out);
+    let answer = check_source(&mut source, alloc, file, options, out);
     opener.close(source);
     answer
 }
@@ -190,42 +194,42 @@ fn check_file<P: Opener, O: Sink>(
 /// The length of the buffer that a file is read through, in bytes.
 const BUFFER_LEN: usize = 4096;
 
-/// Checks the source's file through a buffer of 4096 bytes, and writes its lines unless `is_quiet`. Returns true if something was reported.
+/// Checks the source's file through a buffer of 4096 bytes, and writes its lines as the options ask. Returns true if something was
+/// reported.
 fn check_source<S: Source, O: Sink>(
     source: &mut S,
     alloc: Global,
     file: &str,
-    level: Severity,
-    is_quiet: bool,
+    options: &CheckOptions<'_>,
     out: &mut O,
 ) -> Result<bool, FileFault>
     ensures reads { ReadFailsOnly (S.view source.old).failures (S.view source.new).failures result }
     ensures writes { WriteFailsOnly (O.view out.old) (O.view out.new) result }
     ensures checks { OnTrue S.is_transparent (ChecksBytes
-        (S.view source.old).bytes file.now level is_quiet
+        (asked_for options.now) (S.view source.old).bytes file.now
         (O.view out.old) (O.view out.new) result) }
 {
     let mut buf = [0u8; BUFFER_LEN];
     let report = check(alloc, source, &mut buf)?;
-    put_unless_quiet(out, file, &report, level, is_quiet)?;
-    Ok(has_reported(&report, level))
+    put_unless_quiet(out, file, &report, options)?;
+    Ok(has_reported(&report, options.level))
 }
 
-/// Writes the lines of a report, unless `is_quiet`.
+/// Writes the lines of a report, unless the options ask for none: then it doesn't err.
 #[tactic(auto, using(devices::proofs::Writes::writes))]
 fn put_unless_quiet<O: Sink>(
     out: &mut O,
     file: &str,
     report: &Report,
-    level: Severity,
-    is_quiet: bool,
+    options: &CheckOptions<'_>,
 ) -> Result<(), WriteFailed>
-    ensures { Wrote O.view out.old out.new
-        (shown level is_quiet file.now report.now.listing report.now.findings) result }
+    ensures text { Wrote O.view out.old out.new
+        (shown (asked_for options.now) file.now report.now.listing report.now.findings) result }
+    ensures not_quiet { OnErr result (options.now.is_quiet ≡ false) }
 {
-    if is_quiet {
+    if options.is_quiet {
         Ok(())
     } else {
-        put_lines(out, file.as_bytes(), report, level)
+        put_lines(out, file.as_bytes(), report, options.level)
     }
 }

@@ -22,6 +22,10 @@ pub record HasBack (old new : OpenerView) (failures : ℕ) : Type 0 where
   pub unfailed : failures ≡ 0 → new.failures ≡ old.failures
   pub failed : new.failures ≡ min (old.failures + failures) (2 ^ 128 - 1)
 
+-- each path names what it named before
+abbrev pub NamesAsBefore : (List ℕ → Option (List ℕ)) → (List ℕ → Option (List ℕ)) → Type 0
+NamesAsBefore old new = (path : List ℕ) → new path ≡ old path
+
 -- what was opened has the bytes that the path names, if it names any, and otherwise it is a failure
 abbrev pub Opened : {Device E : Type 0} → (Device → List ℕ → Type 0) → Option (List ℕ) → Result Device E → Type 0
 Opened Has (Some bytes) (Ok device) = Has device bytes

@@ -1,4 +1,4 @@
--- For contracts. Names and fields behind references, and what is known of the fields that were passed.
+-- For contracts. Names and fields that are borrowed, and what is known of the fields that were passed.
 use Rattle.std.specs.Borrow.{Bor}
 use Rattle.std.specs.Prelude.{ℕ, ◌≡◌, ◌≤◌, List, length, take, Option, option_map}
 use Rattle.nc_fields.specs.declared.entry.Entry.{Entry}

@@ -8,6 +8,6 @@ use Rattle.nccheck.specs.declared.options.CheckOptions.{CheckOptions}
 abbrev pub asked_for : CheckOptions → Asked
 asked_for o = record { files = texts_of o.files; level = o.level; is_quiet = o.is_quiet }
 
--- the texts behind references
+-- the texts that are borrowed
 abbrev pub texts_in : Option (Bor (List (Bor (List ℕ)))) → Option (List (List ℕ))
 texts_in texts = option_map (λ (all : Bor (List (Bor (List ℕ)))). texts_of all.now) texts
