@@ -15,6 +15,9 @@ It makes texts and files, runs the programs on them, and prints a line for each:
 - times the same list as values of a variable: our instructions for a list in an attribute, divided by those for the list in a variable.
   Where there is a known figure of an earlier program, it is the goal, so that nothing gets slower;
 - times the instructions of ncdump -h: those of a check divided by those of a dump of the head.
+- times the instructions of a small file: those of a check of a sparse file with the same header divided by those of one of the small file.
+- times the seconds of reading the files: our seconds for a check of many files, divided by those of a program in C that opens and reads
+  each (read_files.c), each the least of RUNS runs, one program after the other.
 - percent in the heaviest function: its part of all instructions, those of the functions that it calls left out.
 - times as fast as Unidata's (Debian's netcdf-bin): its instructions divided by ours, and its seconds divided by ours, each the least of
   RUNS runs, one program after the other. The seconds alone can be spoilt by a busy machine.
@@ -39,6 +42,7 @@ from run import BYTE, INT, INT64, SHORT, UBYTE, fixed, records
 HEAVIEST = "percent in the heaviest function"
 LOOP, VALUE, TEXT_BYTE = "times the plain loop", "instructions a value", "instructions a byte of text"
 OF_HEAD = "times the instructions of ncdump -h"
+OF_SMALL, OF_READING = "times the instructions of a small file", "times the seconds of reading the files"
 PLAIN = "times a plain number's instructions"
 TUNED = "times the tuned loop's seconds"
 FILE_BYTE, AS_VALUES = "instructions a byte of the file", "times the same list as values of a variable"
@@ -133,6 +137,24 @@ def checked():
     """Of a check of 20,000 variables."""
     file = made(text("\tx = 2 ;\n", "".join(f"\tint v{number}(x) ;\n" for number in range(20_000)), ""))
     return instructions(CHECK, file) / instructions(DUMP, "-h", file)
+
+
+def checked_sparse():
+    """Of a check of a file that has been made longer, to 4 TiB."""
+    file = made(text("\tx = 2 ;\n", "\tint v(x) ;\n", ""))
+    sparse = Path("sparse.nc")
+    shutil.copy(file, sparse)
+    os.truncate(sparse, 2**42)
+    return instructions(CHECK, "-q", "-l", "error", sparse) / instructions(CHECK, "-q", "-l", "error", file)
+
+
+def checked_many():
+    """Of a check of a thousand small files in one call."""
+    file = made(text("\tt = UNLIMITED ;\n\tx = 12 ;\n", "".join(f"\tint v{number}(t, x) ;\n" for number in range(5)), ""))
+    files = [Path(f"small{number}.nc") for number in range(1000)]
+    for small in files:
+        shutil.copy(file, small)
+    return ratio_of_seconds([CHECK, *files], [built("read_files"), *files])
 
 
 def attribute(values, suffix):
@@ -240,6 +262,8 @@ ROWS = [
     Row("ncdump, an attribute of ints", AS_VALUES, 1, lambda: attribute_as_values("int", "", -(10**6), 10**6)),
     Row("ncdump, an attribute of shorts", AS_VALUES, 1.3, lambda: attribute_as_values("short", "s", -(2**15), 2**15)),
     Row("nccheck, 20,000 variables", OF_HEAD, 3.5, checked),
+    Row("nccheck, a sparse file of 4 TiB", OF_SMALL, 1.05, checked_sparse),
+    Row("nccheck, a thousand small files", OF_READING, 2, checked_many),
     Row("ncdump, 20 interleaved variables", FASTER, 5, lambda: faster(20, 5_000)),
     Row("ncdump, 100 interleaved variables", FASTER, 5, lambda: faster(100, 1_000)),
     Row("ncdump, 20 interleaved variables", FASTER_SECONDS, 5, lambda: faster_seconds(20, 50_000)),
