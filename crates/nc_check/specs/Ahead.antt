@@ -24,8 +24,12 @@ is_type_name place = false
 abbrev pub is_type : Indexed → Bool
 is_type f = is_type_name f.entry.place.name
 
+abbrev pub is_var : Owner → Bool
+is_var (owner.Var i) = true
+is_var o = false
+
 abbrev pub is_var_type_in : FieldName → Owner → Bool
-is_var_type_in name.Type (owner.Var i) = true
+is_var_type_in name.Type o = is_var o
 is_var_type_in place o = false
 
 -- the type of a variable

@@ -2,7 +2,7 @@
 
 ghost use Rattle.std.specs.Prelude.{◌≡◌, [], None};
 ghost use Rattle.nc_check.specs.Indexed.{field_at};
-ghost use Rattle.nc_check.specs.Ahead.{ahead_of, is_count_name, is_type_name, is_values_name, is_var_type_in, number_at, values_at};
+ghost use Rattle.nc_check.specs.Ahead.{ahead_of, is_type_name, is_var, number_at, values_at};
 ghost use Rattle.nc_check.specs.code.Passes.{ahead_with};
 
 use nc_fields::{Content, Entry, FieldName, Owner};
@@ -57,30 +57,24 @@ pub(crate) fn nothing_ahead() -> Ahead
     }
 }
 
-/// Returns what lies ahead of the field before this one, which has this index, from what lies ahead of this one.
-pub(crate) fn ahead_with(i: u64, entry: &Entry, ahead: Ahead) -> Ahead
-    ensures { result ≡ ahead_with (field_at i entry.now) ahead }
-{
-    let name = entry.place.name;
-    let number = number_at(i, entry);
-    Ahead {
-        next: number,
-        type_code: if is_type(name) {
-            number
-        } else {
-            ahead.type_code
-        },
-        count: if is_count(name) { number } else { ahead.count },
-        values: if is_values(name) {
-            values_at(i, entry)
-        } else {
-            ahead.values
-        },
-        var_type: if is_var_type(entry) {
-            number
-        } else {
-            ahead.var_type
-        },
+impl Ahead {
+    /// Puts this field, which has this index, before what lies ahead.
+    pub(crate) fn put_before(&mut self, i: u64, entry: &Entry)
+        ensures { self.new ≡ ahead_with (field_at i entry.now) self.old }
+    {
+        let number = number_at(i, entry);
+        self.next = number;
+        match entry.place.name {
+            FieldName::Type => {
+                self.type_code = number;
+                if is_var(entry.place.owner) {
+                    self.var_type = number;
+                }
+            }
+            FieldName::Count => self.count = number,
+            FieldName::Values => self.values = values_at(i, entry),
+            _ => {}
+        }
     }
 }
 
@@ -119,23 +113,9 @@ pub(crate) fn is_type(name: FieldName) -> bool
     matches!(name, FieldName::Type)
 }
 
-/// Returns true if the field is the type of a variable.
-fn is_var_type(entry: &Entry) -> bool
-    ensures { result ≡ is_var_type_in entry.now.place.name entry.now.place.owner }
+/// Returns true if this is a variable.
+fn is_var(owner: Owner) -> bool
+    ensures { result ≡ is_var owner }
 {
-    is_type(entry.place.name) && matches!(entry.place.owner, Owner::Var(_))
-}
-
-/// Returns true if the field of this name is the number of an attribute's values.
-fn is_count(name: FieldName) -> bool
-    ensures { result ≡ is_count_name name }
-{
-    matches!(name, FieldName::Count)
-}
-
-/// Returns true if the field of this name is the values of an attribute.
-fn is_values(name: FieldName) -> bool
-    ensures { result ≡ is_values_name name }
-{
-    matches!(name, FieldName::Values)
+    matches!(owner, Owner::Var(_))
 }

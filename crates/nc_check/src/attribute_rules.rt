@@ -6,7 +6,7 @@ ghost use Rattle.nc_check.specs.Indexed.{field_at, indexed};
 ghost use Rattle.nc_check.specs.AttributeRules.{attribute_findings, empty_attribute, empty_list, fill_count, fill_finding, finding_by_name, finding_if, is_attribute, is_var_attribute, name_finding, trailing_nul, type_finding};
 ghost use Rattle.nc_check.specs.code.Passes.{Appended};
 
-use crate::ahead::{Ahead, NumberAt, ValuesAt, ahead_with, nothing_ahead};
+use crate::ahead::{Ahead, NumberAt, ValuesAt, nothing_ahead};
 use crate::finding::{Fact, Finding, finding_at, push_some};
 use nc_base::Sequence;
 use nc_fields::{Content, Entry, FieldName, Owner};
@@ -25,15 +25,15 @@ pub(crate) fn push_attribute_findings(
     let mut ahead = nothing_ahead();
     for i in (0..entries.len()).rev() {
         let entry = &entries[i];
-        push_some(found, attribute_finding(i as u64, entry, ahead))?;
-        ahead = ahead_with(i as u64, entry, ahead);
+        push_some(found, attribute_finding(i as u64, entry, &ahead))?;
+        ahead.put_before(i as u64, entry);
     }
     Ok(())
 }
 
 /// Returns the finding about a list or an attribute at the field of this index, if this lies ahead.
-fn attribute_finding(i: u64, entry: &Entry, ahead: Ahead) -> Option<Finding>
-    ensures { result ≡ finding_by_name entry.now.place.name (field_at i entry.now) ahead }
+fn attribute_finding(i: u64, entry: &Entry, ahead: &Ahead) -> Option<Finding>
+    ensures { result ≡ finding_by_name entry.now.place.name (field_at i entry.now) ahead.now }
 {
     match entry.place.name {
         FieldName::DimsTag | FieldName::GlobalAttsTag | FieldName::VarsTag | FieldName::AttsTag =>
@@ -75,8 +75,8 @@ fn empty_list(i: u64, entry: &Entry, next: Option<NumberAt>) -> Option<Finding>
 }
 
 /// Returns the finding about the values of an attribute of this type.
-fn type_finding(code: &Content, ahead: Ahead) -> Option<Finding>
-    ensures { result ≡ type_finding code.now ahead }
+fn type_finding(code: &Content, ahead: &Ahead) -> Option<Finding>
+    ensures { result ≡ type_finding code.now ahead.now }
 {
     match code {
         Content::Number(CHAR) => trailing_nul(ahead.values?),
@@ -106,8 +106,8 @@ fn trailing_nul(values: ValuesAt) -> Option<Finding>
 }
 
 /// Returns the finding about an attribute of a variable that has this name.
-fn name_finding(name: &Content, ahead: Ahead) -> Option<Finding>
-    ensures { result ≡ name_finding name.now ahead }
+fn name_finding(name: &Content, ahead: &Ahead) -> Option<Finding>
+    ensures { result ≡ name_finding name.now ahead.now }
 {
     match name {
         Content::Bytes(name) if name.as_slice() == b"_FillValue".as_slice() => fill_finding(ahead),
@@ -116,8 +116,8 @@ fn name_finding(name: &Content, ahead: Ahead) -> Option<Finding>
 }
 
 /// Returns the finding that a fill value isn't one value of the type of its variable.
-fn fill_finding(ahead: Ahead) -> Option<Finding>
-    ensures { result ≡ fill_finding ahead.type_code ahead.var_type ahead.count }
+fn fill_finding(ahead: &Ahead) -> Option<Finding>
+    ensures { result ≡ fill_finding ahead.now.type_code ahead.now.var_type ahead.now.count }
 {
     let type_code = ahead.type_code?;
     let expected = ahead.var_type?.number;

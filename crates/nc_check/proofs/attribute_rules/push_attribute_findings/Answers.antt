@@ -20,7 +20,7 @@ loop-i-preserved c =
     let next = rest-before es n c.index-entries-i.result c.loop-i-test.true c.loop-i.auto.i c.index-entries-i.is in
     let here = c.attribute_finding.result in
     record {
-      ahead = c.ahead_with-ahead.ensures ∙ ap (ahead_with f) c.loop-i.invariant.ahead ∙ ahead_with-is f after ∙ ap ahead_of (sym next);
+      ahead = c.put_before.ensures ∙ ap (ahead_with f) c.loop-i.invariant.ahead ∙ ahead_with-is f after ∙ ap ahead_of (sym next);
       found = c.in_ok-push_some.ensures ∙ ap (λ (xs : List Finding). xs ++ option_to_list here) c.loop-i.invariant.found
           ∙ append_assoc old later (option_to_list here)
           ∙ ap (λ (o : Option Finding). old ++ (later ++ option_to_list o))
