@@ -27,6 +27,34 @@ impl ReadAhead<OpenFile> {
         ensures failures { IfOk result (λ source. source.failures ≡ 0) }
         ensures handed { IfOk result (λ source. source.handed ≡ 0) }
     {
+        let source = OpenFile::open(rt, path)?;
+        Ok(ReadAhead::new(source))
+    }
+}
+
+/// A source over a file of the system, which is opaque. Each read is one call of the system.
+///
+/// The length of the source is that of the file when it was opened. A call that fails is not tried again.
+#[derive(Drop)]
+pub struct OpenFile {
+    file: File,
+    len: u64,
+    /// How often a read has failed, at most `u128::MAX`.
+    pub(crate) failures: u128,
+    /// How many bytes were read.
+    handed: u128,
+}
+
+impl OpenFile {
+    /// Opens the regular file at the path as a source, which keeps the length that the file has now. `rt` stands for the system.
+    ///
+    /// # Errors
+    ///
+    /// The path names no regular file, the file can't be opened for reading, or the system doesn't tell its kind or its length.
+    pub fn open(rt: &impl Files<File = File>, path: &str) -> Result<OpenFile, OpenFailed>
+        ensures failures { IfOk result (λ source. source.failures ≡ 0) }
+        ensures handed { IfOk result (λ source. source.handed ≡ 0) }
+    {
         // asked of the path, since to open a pipe is to wait for its writer
         let named = fs::metadata(rt, path).map_err(|_| OpenFailed)?;
         if !named.is_file() {
@@ -34,25 +62,13 @@ impl ReadAhead<OpenFile> {
         }
         let file = File::open(rt, path).map_err(|_| OpenFailed)?;
         let metadata = file.metadata().map_err(|_| OpenFailed)?;
-        let source = OpenFile {
+        Ok(OpenFile {
             file,
             len: metadata.len(),
             failures: 0,
             handed: 0,
-        };
-        Ok(ReadAhead::new(source))
+        })
     }
-}
-
-/// An open file of the system, with its length at the time when it was opened. Each read is one call of the system.
-#[derive(Drop)]
-pub struct OpenFile {
-    file: File,
-    len: u64,
-    /// How often a read has failed, at most `u128::MAX`.
-    failures: u128,
-    /// How many bytes were read.
-    handed: u128,
 }
 
 impl Source for OpenFile {

@@ -5,8 +5,8 @@
 //! writes to any writer of the standard library. [`put`] writes all of the bytes that it is given, and [`put_decimal`] a number.
 //!
 //! An [`Opener`] opens paths as sources, and [`TextOpener`] opens them as readers. A [`CountedRead`] counts what a reader does.
-//! [`SystemFiles`] opens the files of the system in both ways. A [`Creator`] creates outputs at paths: [`SystemOutputs`] in the
-//! files of the system.
+//! [`SystemFiles`] opens the files of the system in both ways, and [`DirectFiles`] as sources that don't read ahead. A
+//! [`Creator`] creates outputs at paths: [`SystemOutputs`] in the files of the system.
 //!
 //! For tests, [`DripSource`] gives few bytes a read and fails on request, and [`SliceSink`] fills a slice, a few bytes a call.
 //! [`MemFiles`] opens files of a list in memory, and [`MadeFiles`] creates outputs in memory.
@@ -40,13 +40,13 @@ pub use ahead::ReadAhead;
 pub use creator::Creator;
 pub use decimal::put_decimal;
 pub use fault::{CloseFailed, CreateFailed, OpenFailed, SinkFailed, SourceFailed, WriteFailed};
-pub use file::{FileSource, IoSink};
+pub use file::{FileSource, IoSink, OpenFile};
 pub use memory::{MemSink, MemSource};
 pub use opener::Opener;
 pub use output::SystemOutputs;
 pub use reader::CountedRead;
 pub use sink::{Flush, Sink, put};
 pub use source::Source;
-pub use system::SystemFiles;
+pub use system::{DirectFiles, SystemFiles};
 pub use testing::{DripSource, FailWhen, MadeFile, MadeFiles, MemFile, MemFiles, SliceSink};
 pub use text_opener::TextOpener;

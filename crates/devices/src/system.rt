@@ -4,7 +4,7 @@ ghost use Rattle.std.specs.Prelude.{◌≡◌, None, false};
 ghost use Rattle.devices.specs.code.PathOpens.{HasBack, unopened};
 ghost use Rattle.devices.specs.code.System.{view_of};
 
-use crate::{CountedRead, FileSource, OpenFailed, Opener, TextOpener};
+use crate::{CountedRead, FileSource, OpenFailed, OpenFile, Opener, TextOpener};
 use std::fs::File;
 use std::io::Read;
 use std::rt::Files;
@@ -87,5 +87,43 @@ impl<R: Files<File = File>> TextOpener for SystemFiles<'_, R> {
     {
         // `text` is dropped, which closes the file
         self.failures = self.failures.saturating_add(text.failures());
+    }
+}
+
+/// The files of the system, which are opaque, without reading ahead: for a caller that reads only a little of each file, through a buffer of
+/// its own. So a file takes no time but that of its calls of the system.
+#[derive(Drop)]
+pub struct DirectFiles<'a, R: Files<File = File>> {
+    files: SystemFiles<'a, R>,
+}
+
+impl<'a, R: Files<File = File>> DirectFiles<'a, R> {
+    /// Creates `DirectFiles` for the files of the system that `rt` stands for. None of them has been opened.
+    pub fn new(rt: &'a R) -> DirectFiles<'a, R>
+        ensures { view_of result.files ≡ unopened }
+    {
+        DirectFiles {
+            files: SystemFiles::new(rt),
+        }
+    }
+}
+
+impl<R: Files<File = File>> Opener for DirectFiles<'_, R> {
+    type Source = OpenFile;
+
+    ghost named = { λ _ _. None };
+
+    ghost view = { λ direct. view_of direct.files };
+
+    /// Opens the regular file at the path as a source, which keeps the length that the file has now. Errs if the path names no regular
+    /// file, the file can't be opened for reading, or the system doesn't tell its kind or its length. The attempt is counted in any case.
+    fn open(&mut self, path: &str) -> Result<OpenFile, OpenFailed> {
+        self.files.opens = self.files.opens.saturating_add(1);
+        OpenFile::open(self.files.rt, path)
+    }
+
+    /// Adds the failures of the source to its own, up to `u128::MAX`, and drops the source, which closes the file.
+    fn close(&mut self, source: OpenFile) {
+        self.files.failures = self.files.failures.saturating_add(source.failures);
     }
 }

@@ -8,7 +8,7 @@
 #![tactic(auto)]
 
 use cli_base::OptFault;
-use devices::{Flush, IoSink, SystemFiles};
+use devices::{DirectFiles, Flush, IoSink};
 use nccheck::{put_command_line_fault, run_with};
 use std::fs::File;
 use std::io::{BufWriter, Write};
@@ -47,7 +47,7 @@ fn run_words<R: Env + Files<File = File> + Print + AllocGlobal, E: Write + Drop>
     let alloc = rt.alloc();
     let arguments: Vec<String> = env::args(rt)?.collect(alloc)?;
     let words: Vec<&str> = arguments.iter().map(|word| word.as_str()).collect(alloc)?;
-    let mut files = SystemFiles::new(rt);
+    let mut files = DirectFiles::new(rt);
     let mut out = IoSink::new(BufWriter::with_capacity(alloc, LINES_HELD_BACK, io::writer(rt))?);
     let mut err = IoSink::new(BufWriter::with_capacity(alloc, TROUBLE_HELD_BACK, stderr)?);
     let status = run_with(&mut files, alloc, words.as_slice(), &mut out, &mut err);

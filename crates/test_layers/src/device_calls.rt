@@ -6,8 +6,8 @@ use crate::device_rows::{
     Read, drip_of, expect_put, expect_read, expect_reads, expect_write, source_of,
 };
 use devices::{
-    CountedRead, FailWhen, FileSource, Flush, IoSink, MemFile, MemFiles, MemSink, MemSource,
-    OpenFailed, Opener, ReadAhead, Sink, SinkFailed, Source, SourceFailed, SystemFiles,
+    CountedRead, DirectFiles, FailWhen, FileSource, Flush, IoSink, MemFile, MemFiles, MemSink,
+    MemSource, OpenFailed, Opener, ReadAhead, Sink, SinkFailed, Source, SourceFailed, SystemFiles,
     WriteFailed,
 };
 use std::fs::File;
@@ -242,5 +242,19 @@ fn only_a_file_of_the_system_opens(rt: HostRuntime) -> Result<(), Fail> {
     assert!(rt; files.open(path).is_err());
     is_no_file(&rt, "no_such_file.nc");
     is_no_file(&rt, ".");
+    Ok(())
+}
+
+#[test]
+fn file_of_the_system_is_read_directly(rt: HostRuntime) -> Result<(), Fail> {
+    let path = "devices_direct_files.bin";
+    fs::write(&rt, path, b"abcdefg".as_slice())?;
+    let mut files = DirectFiles::new(&rt);
+    let mut source = files.open(path)?;
+    fs::remove_file(&rt, path)?;
+    expect_read(&rt, &mut source, 4, &(2, Ok(4), b"cdef"));
+    expect_read(&rt, &mut source, 4, &(5, Ok(2), b"fg"));
+    files.close(source);
+    assert!(rt; files.open(path).is_err());
     Ok(())
 }
