@@ -51,6 +51,8 @@ SIZE = {"byte": 1, "short": 2, "int": 4, "int64": 8}
 MANY, LONG = 300_000, 3_000_000
 # parts of a header
 PARTS = 20_000
+# attributes of the variable NAME, as files have them
+ATTRIBUTES = '\t\tNAME:units = "mm" ;\n\t\tNAME:long_name = "sea level of station NAME" ;\n'
 MB = 1_000_000
 # runs of each program where seconds are taken
 RUNS = 9
@@ -133,9 +135,10 @@ def a_file_byte(row):
     return instructions(DUMP, file) / Path(file).stat().st_size
 
 
-def checked():
-    """Of a check of 20,000 variables."""
-    file = made(text("\tx = 2 ;\n", "".join(f"\tint v{number}(x) ;\n" for number in range(20_000)), ""))
+def checked(attributes=""):
+    """Of a check of 20,000 variables, each with these attributes."""
+    variables = "".join(f"\tint v{number}(x) ;\n{attributes.replace('NAME', f'v{number}')}" for number in range(PARTS))
+    file = made(text("\tx = 2 ;\n", variables, ""))
     return instructions(CHECK, file) / instructions(DUMP, "-h", file)
 
 
@@ -261,7 +264,8 @@ ROWS = [
     Row("ncdump, rows with an escape in eight", FILE_BYTE, 20, lambda: a_file_byte(r"abcdefg\n" * 10)),
     Row("ncdump, an attribute of ints", AS_VALUES, 1, lambda: attribute_as_values("int", "", -(10**6), 10**6)),
     Row("ncdump, an attribute of shorts", AS_VALUES, 1.3, lambda: attribute_as_values("short", "s", -(2**15), 2**15)),
-    Row("nccheck, 20,000 variables", OF_HEAD, 3, checked),
+    Row("nccheck, 20,000 variables with two attributes", OF_HEAD, 2, lambda: checked(ATTRIBUTES)),
+    Row("nccheck, 20,000 variables without attributes", OF_HEAD, 2.5, checked),
     Row("nccheck, a sparse file of 4 TiB", OF_SMALL, 1.05, checked_sparse),
     Row("nccheck, a thousand small files", OF_READING, 2, checked_many),
     Row("ncdump, 20 interleaved variables", FASTER, 5, lambda: faster(20, 5_000)),

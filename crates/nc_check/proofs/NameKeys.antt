@@ -18,20 +18,31 @@ use Rattle.nc_check.specs.declared.names.NameList.TheVariants.{Dims, GlobalAtts,
 use Rattle.nc_check.specs.contracts.names.NameListOrd.TheImpl as lists
 use Rattle.nc_check.specs.Indexed.{Indexed}
 use Rattle.nc_check.specs.NameRules.{NameKey, is_same_key, is_same_list, key_of, has_key, first_index}
-use Rattle.nc_check.specs.code.FirstNames.{index_if}
+use Rattle.nc_check.specs.code.FirstNames.{index_if, is_key_of, mixed}
 
 -- ---- keys of the map
 
--- a list, and the lent bytes of a name
+-- the list that a name is in, and its lent bytes
+abbrev pub LentName : Type 0
+LentName = NameList × Bor (List ℕ)
+
+abbrev pub lent : LentName → NameKey
+lent name = (name.0, name.1.now)
+
+-- the mixed number of a name, and the name
 abbrev pub LentKey : Type 0
-LentKey = NameList × Bor (List ℕ)
+LentKey = ℕ × LentName
 
 abbrev pub plain : LentKey → NameKey
-plain k = (k.0, k.1.now)
+plain k = lent k.1
+
+-- the number is that of the name
+abbrev pub IsMixed : LentKey → Type 0
+IsMixed k = k.0 ≡ mixed k.1.1.now
 
 -- the order of the keys
 abbrev pub key_cmp : LentKey → LentKey → Ordering
-key_cmp a b = ordering_then (lists.ghosts.cmp a.0 b.0) (slice_cmp nat_cmp a.1.now b.1.now)
+key_cmp a b = ordering_then (nat_cmp a.0 b.0) (ordering_then (lists.ghosts.cmp a.1.0 b.1.0) (slice_cmp nat_cmp a.1.1.now b.1.1.now))
 
 same_number : (i k : ℕ) → is_eq (nat_cmp i k) ≡ (i == k)
 same_number i k = grind (arith, common_steps)
@@ -59,29 +70,28 @@ both Less b = refl
 both Equal b = refl
 both Greater b = refl
 
-same_key : (a b : LentKey) → is_at (key_cmp a) b ≡ is_same_key (plain a) (plain b)
+same_name : (a b : LentKey)
+    → is_eq (ordering_then (lists.ghosts.cmp a.1.0 b.1.0) (slice_cmp nat_cmp a.1.1.now b.1.1.now)) ≡ is_same_key (plain a) (plain b)
+same_name a b =
+    both (lists.ghosts.cmp a.1.0 b.1.0) (slice_cmp nat_cmp a.1.1.now b.1.1.now)
+    ∙ ap (λ x. x && is_eq (slice_cmp nat_cmp a.1.1.now b.1.1.now)) (same_list a.1.0 b.1.0)
+    ∙ ap (λ x. is_same_list a.1.0 b.1.0 && x) (is_eq-slice_cmp a.1.1.now b.1.1.now)
+
+same_key : (a b : LentKey) → is_at (key_cmp a) b ≡ ((a.0 == b.0) && is_same_key (plain a) (plain b))
 same_key a b =
-    both (lists.ghosts.cmp a.0 b.0) (slice_cmp nat_cmp a.1.now b.1.now)
-    ∙ ap (λ x. x && is_eq (slice_cmp nat_cmp a.1.now b.1.now)) (same_list a.0 b.0)
-    ∙ ap (λ x. is_same_list a.0 b.0 && x) (is_eq-slice_cmp a.1.now b.1.now)
+    both (nat_cmp a.0 b.0) (ordering_then (lists.ghosts.cmp a.1.0 b.1.0) (slice_cmp nat_cmp a.1.1.now b.1.1.now))
+    ∙ ap (λ x. x && is_eq (ordering_then (lists.ghosts.cmp a.1.0 b.1.0) (slice_cmp nat_cmp a.1.1.now b.1.1.now))) (same_number a.0 b.0)
+    ∙ ap (λ x. (a.0 == b.0) && x) (same_name a b)
+
+-- a search for a name finds the keys that are that of it
+searched : (a b : LentKey) → IsMixed a → is_at (key_cmp a) b ≡ is_key_of (plain a) b
+searched a b is = same_key a b ∙ ap (λ n. (n == b.0) && is_same_key (plain a) (plain b)) is
 
 -- two tests that say the same find the same
 lookup-same : {K X : Type 0} (p q : K → Bool) → ((k : K) → p k ≡ q k) → (es : List (K × X)) → lookup p es ≡ lookup q es
 lookup-same p q same [] = refl
 lookup-same {X = X} p q same (e ∷ es) =
     ap (λ b. cond b (Some e.1) (lookup p es)) (same e.0) ∙ ap (λ (o : Option X). cond (q e.0) (Some e.1) o) (lookup-same p q same es)
-
--- one name more
-added : (old new : BTreeMap LentKey ℕ) (key : LentKey) (i : ℕ) → Updates key_cmp old new key (Some i) → (other : NameKey)
-    → lookup (λ (k : LentKey). is_same_key other (plain k)) new.entries
-    ≡ (if is_same_key (plain key) other then Some i else lookup (λ (k : LentKey). is_same_key other (plain k)) old.entries)
-added old new key i updates other =
-    let q : LentKey = (other.0, record { ref_ptr = (0, 0); now = other.1 }) in
-    let had : Option ℕ = lookup (is_at (key_cmp q)) old.entries in
-    sym (lookup-same (is_at (key_cmp q)) (λ (k : LentKey). is_same_key other (plain k)) (same_key q) new.entries)
-    ∙ updates.0 q ∙ ap (λ b. cond b (Some i) had) (same_key key q)
-    ∙ ap (λ (o : Option ℕ). cond (is_same_key (plain key) other) (Some i) o)
-    (lookup-same (is_at (key_cmp q)) (λ (k : LentKey). is_same_key other (plain k)) (same_key q) old.entries)
 
 -- ---- equal keys
 
@@ -102,26 +112,55 @@ same_keys a b h =
     pair : (l m : NameList) (x y : List ℕ) → l ≡ m → x ≡ y → (let one : NameKey = (l, x) in let other : NameKey = (m, y) in one ≡ other)
     pair l m x y e f = cc
 
+-- names of one key have one number
+same_mixed : (k other : NameKey) → ((mixed k.1 == mixed other.1) && is_same_key k other) ≡ is_same_key k other
+same_mixed k other = by_key (is_same_key k other) refl
+  where
+    same : (n : ℕ) → (n == n) ≡ true
+    same n = grind (arith, common_steps)
+
+    no_more : (a : Bool) → (a && false) ≡ false
+    no_more true = refl
+    no_more false = refl
+
+    by_key : (b : Bool) → is_same_key k other ≡ b → ((mixed k.1 == mixed other.1) && is_same_key k other) ≡ is_same_key k other
+    by_key true e =
+        ap (λ (o : NameKey). (mixed k.1 == mixed o.1) && is_same_key k other) (sym (same_keys k other e))
+        ∙ ap (λ b. b && is_same_key k other) (same (mixed k.1))
+    by_key false e = ap (λ b. (mixed k.1 == mixed other.1) && b) e ∙ no_more (mixed k.1 == mixed other.1) ∙ sym e
+
 -- ---- names that are added
 
 -- the index of this name in the map
 abbrev pub index_in : BTreeMap LentKey ℕ → NameKey → Option ℕ
-index_in names key = lookup (λ (k : LentKey). is_same_key key (plain k)) names.entries
+index_in names key = lookup (is_key_of key) names.entries
 
 -- it is what a search of the map finds
-pub index-found : (names : BTreeMap LentKey ℕ) (key : LentKey) → lookup (is_at (key_cmp key)) names.entries ≡ index_in names (plain key)
-index-found names key =
-    lookup-same (is_at (key_cmp key)) (λ (k : LentKey). is_same_key (plain key) (plain k)) (same_key key) names.entries
+pub index-found : (names : BTreeMap LentKey ℕ) (key : LentKey) → IsMixed key
+    → lookup (is_at (key_cmp key)) names.entries ≡ index_in names (plain key)
+index-found names key is =
+    lookup-same (is_at (key_cmp key)) (is_key_of (plain key)) (λ k. searched key k is) names.entries
+
+-- one name more
+added : (old new : BTreeMap LentKey ℕ) (key : LentKey) (i : ℕ) → IsMixed key → Updates key_cmp old new key (Some i) → (other : NameKey)
+    → index_in new other ≡ (if is_same_key (plain key) other then Some i else index_in old other)
+added old new key i is updates other =
+    let q : LentKey = (mixed other.1, (other.0, record { ref_ptr = (0, 0); now = other.1 })) in
+    let had : Option ℕ = lookup (is_at (key_cmp q)) old.entries in
+    let at : is_at (key_cmp key) q ≡ is_same_key (plain key) other =
+    searched key q is ∙ same_mixed (plain key) other in
+    sym (index-found new q refl) ∙ updates.0 q ∙ ap (λ b. cond b (Some i) had) at
+    ∙ ap (λ (o : Option ℕ). cond (is_same_key (plain key) other) (Some i) o) (index-found old q refl)
 
 or-none : (o : Option ℕ) → option_or o None ≡ o
 or-none None = refl
 or-none (Some n) = refl
 
 -- a new name
-pub added-new : (old new : BTreeMap LentKey ℕ) (key : LentKey) (i : ℕ) → index_in old (plain key) ≡ None
+pub added-new : (old new : BTreeMap LentKey ℕ) (key : LentKey) (i : ℕ) → IsMixed key → index_in old (plain key) ≡ None
     → Updates key_cmp old new key (Some i) → (other : NameKey)
     → index_in new other ≡ option_or (index_in old other) (index_if (is_same_key (plain key) other) i)
-added-new old new key i none updates other = added old new key i updates other ∙ by_key (is_same_key (plain key) other) refl
+added-new old new key i is none updates other = added old new key i is updates other ∙ by_key (is_same_key (plain key) other) refl
   where
     by_key : (b : Bool) → is_same_key (plain key) other ≡ b
         → cond (is_same_key (plain key) other) (Some i) (index_in old other)
@@ -135,12 +174,12 @@ added-new old new key i none updates other = added old new key i updates other �
         ∙ sym (ap (λ b. option_or (index_in old other) (index_if b i)) differs)
 
 -- a name that was there, and has got its first index back
-pub added-again : (old mid new : BTreeMap LentKey ℕ) (key : LentKey) (i first : ℕ) → index_in old (plain key) ≡ Some first
+pub added-again : (old mid new : BTreeMap LentKey ℕ) (key : LentKey) (i first : ℕ) → IsMixed key → index_in old (plain key) ≡ Some first
     → Updates key_cmp old mid key (Some i) → Updates key_cmp mid new key (Some first) → (other : NameKey)
     → index_in new other ≡ option_or (index_in old other) (index_if (is_same_key (plain key) other) i)
-added-again old mid new key i first there updates back other =
-    added mid new key first back other
-    ∙ ap (λ (o : Option ℕ). cond (is_same_key (plain key) other) (Some first) o) (added old mid key i updates other)
+added-again old mid new key i first is there updates back other =
+    added mid new key first is back other
+    ∙ ap (λ (o : Option ℕ). cond (is_same_key (plain key) other) (Some first) o) (added old mid key i is updates other)
     ∙ by_key (is_same_key (plain key) other) refl
   where
     by_key : (b : Bool) → is_same_key (plain key) other ≡ b

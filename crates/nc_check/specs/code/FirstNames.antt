@@ -1,13 +1,23 @@
 -- For contracts. The names of fields that were passed, with the first index of each.
-use Rattle.std.specs.Prelude.{◌≡◌, ℕ, Bool, if◌then◌else◌, List, Option, Some, None}
+use Rattle.std.specs.Borrow.{Bor}
+use Rattle.std.specs.Prelude.{◌≡◌, ◌+◌, ◌*◌, ◌%◌, ◌^◌, ◌==◌, ◌&&◌, ℕ, Bool, if◌then◌else◌, List, fold, Option, Some, None}
 use Rattle.std.specs.Map.{lookup}
-use Rattle.nc_check.specs.declared.{names.FirstNames.FirstNames}
+use Rattle.nc_base.specs.Bytes.{Bytes}
+use Rattle.nc_check.specs.declared.{names.FirstNames.FirstNames, names.NameList.NameList}
 use Rattle.nc_check.specs.Indexed.{Indexed}
 use Rattle.nc_check.specs.NameRules.{NameKey, is_same_key, first_index}
 
+-- a number that two names seldom share
+abbrev pub mixed : Bytes → ℕ
+mixed name = fold (λ (sum b : ℕ). (sum * 31 + b) % 2 ^ 32) 0 name
+
+-- a key of the map is that of this name
+abbrev pub is_key_of : NameKey → ℕ × (NameList × Bor (List ℕ)) → Bool
+is_key_of key k = (mixed key.1 == k.0) && is_same_key key (k.1.0, k.1.1.now)
+
 -- the index that goes with this name, if it is there
 abbrev pub index_of : FirstNames → NameKey → Option ℕ
-index_of names key = lookup (λ k. is_same_key key (k.0, k.1.now)) names.first.entries
+index_of names key = lookup (is_key_of key) names.first.entries
 
 -- the index, if the condition holds
 abbrev pub index_if : Bool → ℕ → Option ℕ
