@@ -21,7 +21,7 @@ all: bin/ncdump bin/ncgen bin/nccheck
 	bin/ncdump bin/stations.nc
 
 # Proves and builds the programs, if anything has changed.
-# (tests, examples, edits, and a library that no program uses are no part of them)
+# (tests, examples, edits, and the library and the laws that no program needs are no part of them)
 bin/ncdump bin/ncgen bin/nccheck &: $(wildcard build.sh HANDLES crates.txt) $(shell find crates \( -name out -o -name must-fail -o -name wrong-bodies \
 		-o -name 'test_*' -o -name 'example_*' -o -name uses -o -name nc_variable -o -name layout_laws -o -name check_laws \) -prune -o -type f -print 2>/dev/null)
 	./build.sh

@@ -1,5 +1,5 @@
 #!/usr/bin/env python3
-"""Counts the instructions of bin/ncgen and bin/ncdump, which are the same on each run, whatever else the machine does.
+"""Counts the instructions of bin/ncgen, bin/ncdump and bin/nccheck, which are the same on each run, whatever else the machine does.
 
     bench/instructions.py [WORD ...]
 
@@ -23,7 +23,7 @@ It makes texts and files, runs the programs on them, and prints a line for each:
   RUNS runs, one program after the other. The seconds alone can be spoilt by a busy machine.
 
 With words, only the lines that have one of them are measured. The last line says how many goals are met and missed. The run fails
-where one is missed. It wants valgrind, a C compiler, Unidata's ncdump, and both programs built.
+where one is missed. It wants valgrind, a C compiler, Unidata's ncdump, and the programs built.
 """
 
 import os
