@@ -21,7 +21,7 @@ prove() {
     cd "$copy"
     rt ci nc_base || return
     nice -n 5 rt ci ncdump_cli &
-    nice -n 5 rt ci nccheck_cli &
+    rt ci nccheck_cli &
     rt ci cdl_meaning || return
     nice -n 5 rt ci cdl_laws &
     rt ci cdl_parse || return

@@ -7,6 +7,7 @@ use Rattle.std.proofs.lemmas.Bool.{false≢true, cases_lt, lt-ltb, ltb-true}
 use Rattle.std.proofs.lemmas.List.{get_or_default}
 use Rattle.std.proofs.lemmas.List.Elements.{Contains-get_or}
 use Rattle.std.proofs.lemmas.List.Sums.{passes_at_first, fails_before_first}
+use Rattle.nc_base.proofs.Tests.{and_left}
 use Rattle.nc_layout.specs.declared.{slot.Slot.Slot, slot.Layout.Layout, finding.LayoutFinding.LayoutFinding, blocks.Extent.Extent}
 use Rattle.nc_layout.specs.declared.finding.Block.TheVariants.{Var}
 use Rattle.nc_layout.specs.declared.finding.LayoutPlace.TheVariants as places
@@ -75,10 +76,6 @@ first-passes p slots k d lt is = by_order (cases_lt (position_or_len p slots) (l
         (sym (lt-ltb (position_or_len p slots) (length slots) less)) (passes_at_first p slots d less)
     by_order (inr more) = absurd (false≢true (sym (fails_before_first p slots k d (omega arith)) ∙ is))
 
-left-true : (a b : Bool) → (a && b) ≡ true → a ≡ true
-left-true true b h = refl
-left-true false b h = absurd (false≢true h)
-
 -- the block of the records has the index of a record slot
 records-var : (slots : List Slot) (begin : ℕ) (d : Slot) → records_begin slots ≡ Some begin
     → (get_or slots (record_slot_at slots begin) d).is_record ≡ true
@@ -89,7 +86,7 @@ records-var slots begin d is =
     let record_slot : h.slot.is_record ≡ true = sym (ap (λ (x : Slot). x.is_record) k.at) ∙ k.is in
     let passes = ap (λ (x : Slot). x.is_record && (x.begin == begin)) same
     ∙ ap (λ b. b && (h.slot.begin == begin)) record_slot ∙ eq-eqb h.slot.begin begin h.at in
-    left-true (get_or slots (record_slot_at slots begin) d).is_record _
+    and_left (get_or slots (record_slot_at slots begin) d).is_record _
     (first-passes (λ (x : Slot). x.is_record && (x.begin == begin)) slots k.index d k.within passes)
 
 -- ---- two blocks

@@ -18,7 +18,7 @@ use Rattle.nc_check.specs.declared.names.NameList.TheVariants.{Dims, GlobalAtts,
 use Rattle.nc_check.specs.contracts.names.NameListOrd.TheImpl as lists
 use Rattle.nc_check.specs.Indexed.{Indexed}
 use Rattle.nc_check.specs.NameRules.{NameKey, is_same_key, is_same_list, key_of, has_key, first_index}
-use Rattle.nc_check.specs.code.FirstNames.{index_if, is_key_of, mixed}
+use Rattle.nc_check.specs.code.FirstNames.{hash, index_if, is_key_of}
 
 -- ---- keys of the map
 
@@ -29,16 +29,16 @@ LentName = NameList × Bor (List ℕ)
 abbrev pub lent : LentName → NameKey
 lent name = (name.0, name.1.now)
 
--- the mixed number of a name, and the name
+-- the hash of a name, and the name
 abbrev pub LentKey : Type 0
 LentKey = ℕ × LentName
 
 abbrev pub plain : LentKey → NameKey
 plain k = lent k.1
 
--- the number is that of the name
-abbrev pub IsMixed : LentKey → Type 0
-IsMixed k = k.0 ≡ mixed k.1.1.now
+-- the hash is that of the name
+abbrev pub IsHashed : LentKey → Type 0
+IsHashed k = k.0 ≡ hash (plain k)
 
 -- the order of the keys
 abbrev pub key_cmp : LentKey → LentKey → Ordering
@@ -84,7 +84,7 @@ same_key a b =
     ∙ ap (λ x. (a.0 == b.0) && x) (same_name a b)
 
 -- a search for a name finds the keys that are that of it
-searched : (a b : LentKey) → IsMixed a → is_at (key_cmp a) b ≡ is_key_of (plain a) b
+searched : (a b : LentKey) → IsHashed a → is_at (key_cmp a) b ≡ is_key_of (plain a) b
 searched a b is = same_key a b ∙ ap (λ n. (n == b.0) && is_same_key (plain a) (plain b)) is
 
 -- two tests that say the same find the same
@@ -112,9 +112,9 @@ same_keys a b h =
     pair : (l m : NameList) (x y : List ℕ) → l ≡ m → x ≡ y → (let one : NameKey = (l, x) in let other : NameKey = (m, y) in one ≡ other)
     pair l m x y e f = cc
 
--- names of one key have one number
-same_mixed : (k other : NameKey) → ((mixed k.1 == mixed other.1) && is_same_key k other) ≡ is_same_key k other
-same_mixed k other = by_key (is_same_key k other) refl
+-- names of one key have one hash
+same_hash : (k other : NameKey) → ((hash k == hash other) && is_same_key k other) ≡ is_same_key k other
+same_hash k other = by_key (is_same_key k other) refl
   where
     same : (n : ℕ) → (n == n) ≡ true
     same n = grind (arith, common_steps)
@@ -123,11 +123,11 @@ same_mixed k other = by_key (is_same_key k other) refl
     no_more true = refl
     no_more false = refl
 
-    by_key : (b : Bool) → is_same_key k other ≡ b → ((mixed k.1 == mixed other.1) && is_same_key k other) ≡ is_same_key k other
+    by_key : (b : Bool) → is_same_key k other ≡ b → ((hash k == hash other) && is_same_key k other) ≡ is_same_key k other
     by_key true e =
-        ap (λ (o : NameKey). (mixed k.1 == mixed o.1) && is_same_key k other) (sym (same_keys k other e))
-        ∙ ap (λ b. b && is_same_key k other) (same (mixed k.1))
-    by_key false e = ap (λ b. (mixed k.1 == mixed other.1) && b) e ∙ no_more (mixed k.1 == mixed other.1) ∙ sym e
+        ap (λ (o : NameKey). (hash k == hash o) && is_same_key k other) (sym (same_keys k other e))
+        ∙ ap (λ b. b && is_same_key k other) (same (hash k))
+    by_key false e = ap (λ b. (hash k == hash other) && b) e ∙ no_more (hash k == hash other) ∙ sym e
 
 -- ---- names that are added
 
@@ -136,19 +136,19 @@ abbrev pub index_in : BTreeMap LentKey ℕ → NameKey → Option ℕ
 index_in names key = lookup (is_key_of key) names.entries
 
 -- it is what a search of the map finds
-pub index-found : (names : BTreeMap LentKey ℕ) (key : LentKey) → IsMixed key
+pub index-found : (names : BTreeMap LentKey ℕ) (key : LentKey) → IsHashed key
     → lookup (is_at (key_cmp key)) names.entries ≡ index_in names (plain key)
 index-found names key is =
     lookup-same (is_at (key_cmp key)) (is_key_of (plain key)) (λ k. searched key k is) names.entries
 
 -- one name more
-added : (old new : BTreeMap LentKey ℕ) (key : LentKey) (i : ℕ) → IsMixed key → Updates key_cmp old new key (Some i) → (other : NameKey)
+added : (old new : BTreeMap LentKey ℕ) (key : LentKey) (i : ℕ) → IsHashed key → Updates key_cmp old new key (Some i) → (other : NameKey)
     → index_in new other ≡ (if is_same_key (plain key) other then Some i else index_in old other)
 added old new key i is updates other =
-    let q : LentKey = (mixed other.1, (other.0, record { ref_ptr = (0, 0); now = other.1 })) in
+    let q : LentKey = (hash other, (other.0, record { ref_ptr = (0, 0); now = other.1 })) in
     let had : Option ℕ = lookup (is_at (key_cmp q)) old.entries in
     let at : is_at (key_cmp key) q ≡ is_same_key (plain key) other =
-    searched key q is ∙ same_mixed (plain key) other in
+    searched key q is ∙ same_hash (plain key) other in
     sym (index-found new q refl) ∙ updates.0 q ∙ ap (λ b. cond b (Some i) had) at
     ∙ ap (λ (o : Option ℕ). cond (is_same_key (plain key) other) (Some i) o) (index-found old q refl)
 
@@ -157,7 +157,7 @@ or-none None = refl
 or-none (Some n) = refl
 
 -- a new name
-pub added-new : (old new : BTreeMap LentKey ℕ) (key : LentKey) (i : ℕ) → IsMixed key → index_in old (plain key) ≡ None
+pub added-new : (old new : BTreeMap LentKey ℕ) (key : LentKey) (i : ℕ) → IsHashed key → index_in old (plain key) ≡ None
     → Updates key_cmp old new key (Some i) → (other : NameKey)
     → index_in new other ≡ option_or (index_in old other) (index_if (is_same_key (plain key) other) i)
 added-new old new key i is none updates other = added old new key i is updates other ∙ by_key (is_same_key (plain key) other) refl
@@ -174,7 +174,7 @@ added-new old new key i is none updates other = added old new key i is updates o
         ∙ sym (ap (λ b. option_or (index_in old other) (index_if b i)) differs)
 
 -- a name that was there, and has got its first index back
-pub added-again : (old mid new : BTreeMap LentKey ℕ) (key : LentKey) (i first : ℕ) → IsMixed key → index_in old (plain key) ≡ Some first
+pub added-again : (old mid new : BTreeMap LentKey ℕ) (key : LentKey) (i first : ℕ) → IsHashed key → index_in old (plain key) ≡ Some first
     → Updates key_cmp old mid key (Some i) → Updates key_cmp mid new key (Some first) → (other : NameKey)
     → index_in new other ≡ option_or (index_in old other) (index_if (is_same_key (plain key) other) i)
 added-again old mid new key i first is there updates back other =

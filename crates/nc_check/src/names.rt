@@ -3,7 +3,7 @@
 ghost use Rattle.std.specs.Prelude.{◌≡◌, None, IfOk, OnOk};
 ghost use Rattle.std.specs.Option.{option_or};
 ghost use Rattle.nc_check.specs.NameRules.{NameKey, is_same_key, list_of};
-ghost use Rattle.nc_check.specs.code.FirstNames.{index_if, index_of, mixed};
+ghost use Rattle.nc_check.specs.code.FirstNames.{hash, index_if, index_of, list_number};
 
 use nc_fields::Owner;
 use std::alloc::{AllocError, Global};
@@ -35,12 +35,24 @@ pub(crate) fn list_of(owner: Owner) -> Option<NameList>
     }
 }
 
-/// Returns a number below 2^32 that two names seldom share.
-#[tactic(auto, using(std::proofs::lemmas::List::Sums::fold_more))]
-fn mixed(name: &[u8]) -> u64
-    ensures { result ≡ mixed name.now }
+/// Returns a number that goes with the list. Few lists share it.
+fn list_number(list: NameList) -> u64
+    ensures { result ≡ list_number list }
 {
-    let mut sum = 0;
+    match list {
+        NameList::Dims => 0,
+        NameList::GlobalAtts => 1,
+        NameList::Vars => 2,
+        NameList::VarAtts(var) => var,
+    }
+}
+
+/// Returns the hash of a name of the list, a number below 2^32.
+#[tactic(auto, using(std::proofs::lemmas::List::Sums::fold_more))]
+fn hash(list: NameList, name: &[u8]) -> u64
+    ensures { result ≡ hash (list, name.now) }
+{
+    let mut sum = list_number(list) % (1 << 32);
     for b in name {
         sum = (sum * 31 + *b as u64) % (1 << 32);
     }
@@ -49,8 +61,8 @@ fn mixed(name: &[u8]) -> u64
 
 /// The names of the lists of a header, with the index of the first field that is each of them. The time to find a name grows with the
 /// logarithm of the number of names.
-// A name's mixed number comes first in its key: most names of a list begin alike, and two numbers are compared sooner than two names. Names
-// that share this number cost what they would without it.
+// The hash comes first in a key: most names of a list begin alike, and two numbers are compared sooner than two names. Names that share a
+// hash cost what they would without it.
 #[derive(Drop)]
 pub(crate) struct FirstNames<'a> {
     first: BTreeMap<(u64, (NameList, &'a [u8])), u64>,
@@ -79,7 +91,7 @@ impl<'a> FirstNames<'a> {
             ≡ option_or (index_of self.old key) (index_if (is_same_key (list, name.now) key) index)) }
     {
         // the name is searched for once, unless it was there
-        let key = (mixed(name), (list, name));
+        let key = (hash(list, name), (list, name));
         let earlier = self.first.insert(key, index)?;
         if let Some(first) = earlier {
             self.first.insert(key, first)?;

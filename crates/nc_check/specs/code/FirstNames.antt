@@ -2,18 +2,25 @@
 use Rattle.std.specs.Borrow.{Bor}
 use Rattle.std.specs.Prelude.{◌≡◌, ◌+◌, ◌*◌, ◌%◌, ◌^◌, ◌==◌, ◌&&◌, ℕ, Bool, if◌then◌else◌, List, fold, Option, Some, None}
 use Rattle.std.specs.Map.{lookup}
-use Rattle.nc_base.specs.Bytes.{Bytes}
 use Rattle.nc_check.specs.declared.{names.FirstNames.FirstNames, names.NameList.NameList}
+use Rattle.nc_check.specs.declared.names.NameList.TheVariants.{Dims, GlobalAtts, Vars, VarAtts}
 use Rattle.nc_check.specs.Indexed.{Indexed}
 use Rattle.nc_check.specs.NameRules.{NameKey, is_same_key, first_index}
 
--- a number that two names seldom share
-abbrev pub mixed : Bytes → ℕ
-mixed name = fold (λ (sum b : ℕ). (sum * 31 + b) % 2 ^ 32) 0 name
+-- a number that goes with a list
+abbrev pub list_number : NameList → ℕ
+list_number Dims = 0
+list_number GlobalAtts = 1
+list_number Vars = 2
+list_number (VarAtts var) = var
+
+-- the hash of a name
+abbrev pub hash : NameKey → ℕ
+hash key = fold (λ (sum b : ℕ). (sum * 31 + b) % 2 ^ 32) (list_number key.0 % 2 ^ 32) key.1
 
 -- a key of the map is that of this name
 abbrev pub is_key_of : NameKey → ℕ × (NameList × Bor (List ℕ)) → Bool
-is_key_of key k = (mixed key.1 == k.0) && is_same_key key (k.1.0, k.1.1.now)
+is_key_of key k = (hash key == k.0) && is_same_key key (k.1.0, k.1.1.now)
 
 -- the index that goes with this name, if it is there
 abbrev pub index_of : FirstNames → NameKey → Option ℕ
