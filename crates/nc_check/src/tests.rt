@@ -8,7 +8,7 @@ use nc_fields::FieldName::{
     Type, VarsCount, VarsTag,
 };
 use nc_fields::Owner::{Dim, GlobalAtt, Header, Var, VarAtt};
-use nc_fields::{Content, Entry, FieldName, Owner, Place};
+use nc_fields::{Content, Entry, FieldBytes, FieldName, Owner, Place};
 use std::alloc::{AllocError, Global};
 use std::test::Fail;
 
@@ -253,7 +253,7 @@ fn listed(
 fn content_of(alloc: Global, given: Given) -> Result<Content, AllocError> {
     Ok(match given {
         Number(n) => Content::Number(n),
-        Bytes(bytes) => Content::Bytes(Sequence::from_vec(Vec::from_slice(alloc, bytes)?)),
+        Bytes(bytes) => Content::Bytes(FieldBytes::from_slice(alloc, bytes)?),
         Values(ends_with_nul) => Content::Values { ends_with_nul },
         Cut => Content::Cut,
     })

@@ -16,7 +16,7 @@ pub use Rattle.nc_fields.specs.Fields.{Field, judged}
 unfoldable pub use Rattle.nc_fields.specs.Fields.{fields}
 pub use Rattle.nc_fields.specs.Entries.{Seen, ends_with_nul, owner_steps, seen_by, steps_of, whole_content, number_in}
 unfoldable pub use Rattle.nc_fields.specs.Entries.{seen}
-pub use Rattle.nc_fields.specs.code.Checks.{Lists, Reader, at, Checked, IsStart, Finished, ListsCut, IsBegun, Began, entry_of, judged_then, IsNumeric, IsFilling}
+pub use Rattle.nc_fields.specs.code.Checks.{Lists, Reader, at, Checked, IsStart, Finished, ListsCut, IsBegun, Began, entry_of, judged_then, IsHeld, IsNumeric, IsFilling}
 unfoldable pub use Rattle.nc_fields.specs.code.Checks.{listed}
 pub use Rattle.std.proofs.lemmas.Bool.{OnTrue_at, OnTrue_from, lt-leb, le-leb, le-ltb, lt-ltb, leb-true, leb-false}
 pub use Rattle.std.proofs.lemmas.List.{append-nil, drop-drop, length-drop, length-take, map-append}

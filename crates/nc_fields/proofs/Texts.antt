@@ -1,6 +1,6 @@
 -- The fields that are bytes.
-use Rattle.std.proofs.Common.{◌≡◌, ℕ, Bool, if◌then◌else◌, List, [], ◌∷◌, slice_index, replicate, Result, Ok, Err, subst}
-use Rattle.nc_fields.proofs.Prelude.{Ghosts, Reader, HeadFault, Step, Checked, Number, version_part, version_in, version_byte, Bytes, Part, bytes, decoded, FormatFault, HeaderTruncated, Place, Content, IsFilling, checked, ignored}
+use Rattle.std.proofs.Common.{◌≡◌, ℕ, Bool, if◌then◌else◌, List, [], ◌∷◌, slice_index, replicate, Result, Ok, Err, subst, sym, ap, arith}
+use Rattle.nc_fields.proofs.Prelude.{Ghosts, Reader, HeadFault, Window, Step, Checked, Read, Outcome, left_after, OnTrue_at, OnTrue_from, IsHeld, Number, version_part, version_in, version_byte, Bytes, Part, bytes, decoded, FormatFault, HeaderTruncated, Place, Content, IsFilling, checked, ignored}
 use Rattle.nc_fields.specs.declared.entry.Content.TheVariants as content
 use Rattle.nc_fields.proofs.Checks.{IsFieldOf, IsContent, IsJudged, raw-bytes, itself, decoded-judged}
 
@@ -21,6 +21,20 @@ filling-field n place filling = bytes-field place n HeaderTruncated _ _ content.
 pub tested-field : (n : ℕ) (cut : FormatFault) (place : Place) (test : Bytes → Bool) (fault : FormatFault) (matter : Bytes → Content) → IsContent place n (λ bs. bs) matter
     → IsFieldOf place n (bytes n cut) (checked test fault (bytes n cut)) (λ bs. if test bs then Ok bs else Err fault) matter
 tested-field n cut place test fault matter matters = bytes-field place n cut _ _ matter matters (bytes-decoded n cut (λ bs. if test bs then Ok bs else Err fault) (λ bs. bs))
+
+-- bytes that were read are held, unless memory runs out
+pub held-read : {S : Type 0} {g : Ghosts S} {old new : Window S g} {n : ℕ} {bs : Bytes} {result : Result Bytes HeadFault} → Read old new (bytes n HeaderTruncated) (Ok bs) → IsHeld bs result
+    → Read old new (bytes n HeaderTruncated) result
+unfolding left_after
+held-read {old = old} {new = new} {n = n} {result = Ok held} r is = subst (λ (xs : Bytes). Read old new (bytes n HeaderTruncated) (Ok xs)) (sym is) r
+held-read {g = g} {result = Err e} r is =
+    rw is
+    (record {
+      kept = r.kept;
+      cause = r.cause;
+      reads = OnTrue_from g.is_transparent _ (λ known. omega (arith, ap (λ (o : Outcome Bytes). left_after o) (OnTrue_at known r.reads)));
+      used = tt;
+    })
 
 -- bytes that may be any
 pub bytes-itself : (n : ℕ) (cut : FormatFault) (place : Place) (matter : Bytes → Content) → IsContent place n (λ bs. bs) matter → IsFieldOf place n (bytes n cut) (bytes n cut) (λ bs. Ok bs) matter

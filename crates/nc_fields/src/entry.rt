@@ -1,7 +1,8 @@
 //! The fields of a header, as the rules look at them.
 
+use crate::field_bytes::FieldBytes;
 use crate::place::Place;
-use nc_base::{FormatFault, Sequence};
+use nc_base::FormatFault;
 
 /// What the rules look at in the content of a field.
 #[derive(Debug, Drop)]
@@ -9,7 +10,7 @@ pub enum Content {
     /// The field is a number.
     Number(u64),
     /// The field is these bytes: a name, what fills a field up, or what stands in the place of the letters `CDF`.
-    Bytes(Sequence<u8>),
+    Bytes(FieldBytes),
     /// The field is the values of an attribute.
     Values {
         /// The last byte is a NUL.

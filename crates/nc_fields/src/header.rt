@@ -12,10 +12,10 @@ ghost use Rattle.nc_fields.specs.Listings.{Blames, IsListing};
 ghost use Rattle.nc_fields.specs.code.Answers.{Answers};
 
 use crate::entry::{Content, Entry};
+use crate::field_bytes::FieldBytes;
 use crate::fields::{Fields, start_at};
 use crate::list_fault::ListFault;
 use crate::list_name::ListName;
-use crate::name::copy_of;
 use crate::place::{FieldName, Owner, Place};
 use devices::Source;
 use nc_base::{FormatFault, Header, Sequence, Version};
@@ -121,7 +121,7 @@ impl Fields {
         };
         let start = start_at(window, place, 3);
         let letters = start.unless_cut(&mut self.entries, window.magic_word())?;
-        let content = Content::Bytes(copy_of(alloc, &letters)?);
+        let content = Content::Bytes(FieldBytes::from_slice(alloc, &letters)?);
         start.list(&mut self.entries, content, letters_in(letters))
     }
 

@@ -9,6 +9,7 @@
 mod attribute;
 mod dimension;
 mod entry;
+mod field_bytes;
 mod fields;
 mod header;
 mod list;
@@ -20,6 +21,7 @@ mod place;
 mod variable;
 
 pub use entry::{Content, Entry};
+pub use field_bytes::FieldBytes;
 pub use header::{Listing, list_fields};
 pub use list_fault::ListFault;
 pub use place::{FieldName, Owner, Place};

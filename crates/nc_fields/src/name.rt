@@ -1,19 +1,22 @@
 //! Names, and the bytes that fill a field up.
 
-ghost use Rattle.std.specs.Prelude.{◌≡◌, ◌≤◌, ◌∷◌, ◌==◌, if◌then◌else◌, length, IfOk, Ok, Err};
+ghost use Rattle.std.specs.Prelude.{◌≡◌, ◌≤◌, ◌∷◌, ◌==◌, if◌then◌else◌, length, Ok, Err};
 ghost use Rattle.std.specs.List.{list_all};
 ghost use Rattle.nc_base.specs.Grammar.{checked, ignored, name_part};
 ghost use Rattle.nc_base.specs.Parts.{Name, Text, bytes};
 ghost use Rattle.nc_base.specs.declared.fault.FormatFault.TheVariants.{BadName, HeaderTruncated};
+ghost use Rattle.nc_file.specs.code.Window.{Read};
+ghost use Rattle.nc_fields.specs.code.Checks.{IsHeld};
 ghost use Rattle.nc_fields.specs.Lenient.{is_no_control, len_before_nul, lenient, may_be_name};
 
 use crate::entry::Content;
+use crate::field_bytes::FieldBytes;
 use crate::fields::{Fields, start_at};
 use crate::place::{FieldName, Owner, Place};
 use devices::Source;
 use nc_base::{FormatFault, Sequence, Version, padding_len};
 use nc_file::{HeadFault, Window};
-use std::alloc::{AllocError, Global};
+use std::alloc::Global;
 
 impl Fields {
     ghost use Rattle.nc_fields.specs.Entries.{owner_steps, steps_of};
@@ -37,7 +40,7 @@ impl Fields {
         };
         let start = start_at(window, place, n as u128);
         let text = start.unless_cut(&mut self.entries, window.bytes(alloc, n as u128))?;
-        let content = Content::Bytes(copy_of(alloc, text.as_slice())?);
+        let content = Content::Bytes(FieldBytes::from_slice(alloc, text.as_slice())?);
         start.list(&mut self.entries, content, name_in(text))
     }
 
@@ -54,7 +57,7 @@ impl Fields {
             (steps_of place) (ignored n) result }
     {
         let start = start_at(window, place, n as u128);
-        let filling = start.unless_cut(&mut self.entries, window.bytes(alloc, n as u128))?;
+        let filling = start.unless_cut(&mut self.entries, filling_bytes(window, alloc, n))?;
         start.list(&mut self.entries, Content::Bytes(filling), Ok(()))
     }
 
@@ -84,11 +87,27 @@ impl Fields {
     }
 }
 
-/// Returns a copy of the bytes.
-pub(crate) fn copy_of(alloc: Global, bytes: &[u8]) -> Result<Sequence<u8>, AllocError>
-    ensures { IfOk result (λ copy. copy ≡ bytes.now) }
+/// Reads `n` bytes. The up to three that fill a field up take no allocation.
+fn filling_bytes<S: Source>(
+    window: &mut Window<'_, S>,
+    alloc: Global,
+    n: u64,
+) -> Result<FieldBytes, HeadFault>
+    ensures { Read window.old window.new (bytes n HeaderTruncated) result }
 {
-    Ok(Sequence::from_vec(Vec::from_slice(alloc, bytes)?))
+    match n {
+        1 => held(alloc, &window.array::<1>()?),
+        2 => held(alloc, &window.array::<2>()?),
+        3 => held(alloc, &window.array::<3>()?),
+        _ => held(alloc, window.bytes(alloc, n as u128)?.as_slice()),
+    }
+}
+
+/// Returns a copy of the bytes. Errs with `OutOfMemory` if an allocation fails.
+fn held(alloc: Global, bytes: &[u8]) -> Result<FieldBytes, HeadFault>
+    ensures { IsHeld bytes.now result }
+{
+    Ok(FieldBytes::from_slice(alloc, bytes)?)
 }
 
 /// Returns the bytes, or errs with `BadName` if they show that the fields are out of step.

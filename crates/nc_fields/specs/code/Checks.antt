@@ -51,6 +51,11 @@ IsNumeric place = (size : ℕ) (bs : Bytes) → whole_content (steps_of place) s
 abbrev pub IsFilling : Place → Type 0
 IsFilling place = (size : ℕ) (bs : Bytes) → whole_content (steps_of place) size bs ≡ content.Bytes bs
 
+-- these bytes are returned, unless memory ran out
+abbrev pub IsHeld : Bytes → Result Bytes HeadFault → Type 0
+IsHeld bytes (Ok held) = held ≡ bytes
+IsHeld bytes (Err e) = e ≡ OutOfMemory
+
 -- one judge after another
 abbrev pub judged_then : {C A B : Type 0} → (C → Result A FormatFault) → (A → Result B FormatFault) → C → Result B FormatFault
 judged_then {A = A} {B = B} judge decode x = elim (judge x) as (λ y. Result B FormatFault) [ Ok y ↦ decode y | Err f ↦ Err f ]

@@ -14,9 +14,9 @@ returns-in_err-letters g c =
 pub returns : goal.returns
 returns g c =
     let matters = tested-field 3 NotNetcdf _ (λ letters. bytes_eq letters (codes "CDF")) NotNetcdf content.Bytes (λ bs. refl) in
-    listed-whole matters c.start_at-start.ensures refl c.magic_word.ensures c.in_ok-letters.ensures (ap content.Bytes c.in_ok-copy_of.ensures) c.letters_in.ensures c.list.ensures
+    listed-whole matters c.start_at-start.ensures refl c.magic_word.ensures c.in_ok-letters.ensures (ap content.Bytes c.in_ok-from_slice.ensures.copy) c.letters_in.ensures c.list.ensures
 
-pub returns-in_err-copy_of : goal.returns-in_err-copy_of
-returns-in_err-copy_of g c =
-    let p = err_from_is_err_and c.from_residual-in_err-copy_of.result c.from_residual-in_err-copy_of.ensures.1 in
+pub returns-in_err-from_slice : goal.returns-in_err-from_slice
+returns-in_err-from_slice g c =
+    let p = err_from_is_err_and c.from_residual-in_err-from_slice.result c.from_residual-in_err-from_slice.ensures.1 in
     listed-memory (tested-field 3 NotNetcdf _ (λ letters. bytes_eq letters (codes "CDF")) NotNetcdf content.Bytes (λ bs. refl)) c.start_at-start.ensures refl c.magic_word.ensures c.in_ok-letters.ensures p.1 p.2

@@ -13,9 +13,9 @@ returns-in_err-text g c =
 pub returns : goal.returns
 returns g c =
     let matters = tested-field c.args.n HeaderTruncated _ may_be_name BadName content.Bytes (λ bs. refl) in
-    listed-whole matters c.start_at-start.ensures refl c.bytes.ensures.read c.in_ok-text.ensures (ap content.Bytes (c.in_ok-copy_of.ensures ∙ c.as_slice.ensures)) c.name_in.ensures c.list.ensures
+    listed-whole matters c.start_at-start.ensures refl c.bytes.ensures.read c.in_ok-text.ensures (ap content.Bytes (c.in_ok-from_slice.ensures.copy ∙ c.as_slice.ensures)) c.name_in.ensures c.list.ensures
 
-pub returns-in_err-copy_of : goal.returns-in_err-copy_of
-returns-in_err-copy_of g c =
-    let p = err_from_is_err_and c.from_residual-in_err-copy_of.result c.from_residual-in_err-copy_of.ensures.1 in
+pub returns-in_err-from_slice : goal.returns-in_err-from_slice
+returns-in_err-from_slice g c =
+    let p = err_from_is_err_and c.from_residual-in_err-from_slice.result c.from_residual-in_err-from_slice.ensures.1 in
     listed-memory (tested-field c.args.n HeaderTruncated _ may_be_name BadName content.Bytes (λ bs. refl)) c.start_at-start.ensures refl c.bytes.ensures.read c.in_ok-text.ensures p.1 p.2
