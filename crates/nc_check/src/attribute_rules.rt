@@ -1,7 +1,7 @@
 //! Findings about an empty list and about an attribute.
 
-ghost use Rattle.std.specs.Prelude.{◌≡◌, OnOk};
-ghost use Rattle.std.specs.Option.{option_and_then};
+ghost use Rattle.std.specs.Prelude.{◌≡◌, ◌++◌, OnOk};
+ghost use Rattle.std.specs.Option.{option_and_then, option_to_list};
 ghost use Rattle.nc_check.specs.Indexed.{field_at, indexed};
 ghost use Rattle.nc_check.specs.AttributeRules.{attribute_findings, empty_attribute, empty_list, fill_count, fill_finding, finding_by_name, finding_if, is_attribute, is_var_attribute, name_finding, trailing_nul, type_finding};
 ghost use Rattle.nc_check.specs.code.Passes.{Appended};
@@ -25,24 +25,33 @@ pub(crate) fn push_attribute_findings(
     let mut ahead = nothing_ahead();
     for i in (0..entries.len()).rev() {
         let entry = &entries[i];
-        push_some(found, attribute_finding(i as u64, entry, &ahead))?;
+        push_finding_at(found, i as u64, entry, &ahead)?;
         ahead.put_before(i as u64, entry);
     }
     Ok(())
 }
 
-/// Returns the finding about a list or an attribute at the field of this index, if this lies ahead.
-fn attribute_finding(i: u64, entry: &Entry, ahead: &Ahead) -> Option<Finding>
-    ensures { result ≡ finding_by_name entry.now.place.name (field_at i entry.now) ahead.now }
+/// Appends the finding about a list or an attribute at the field of this index, if there is one. `ahead` lies ahead of the field.
+fn push_finding_at(
+    found: &mut Sequence<Finding>,
+    i: u64,
+    entry: &Entry,
+    ahead: &Ahead,
+) -> Result<(), AllocError>
+    ensures { OnOk result (found.new ≡ found.old
+        ++ option_to_list (finding_by_name entry.now.place.name (field_at i entry.now) ahead.now)) }
 {
     match entry.place.name {
-        FieldName::DimsTag | FieldName::GlobalAttsTag | FieldName::VarsTag | FieldName::AttsTag =>
-            empty_list(i, entry, ahead.next),
-        FieldName::Type if is_attribute(entry.place.owner) => type_finding(&entry.content, ahead),
-        FieldName::Name if is_var_attribute(entry.place.owner) => {
-            name_finding(&entry.content, ahead)
+        FieldName::DimsTag | FieldName::GlobalAttsTag | FieldName::VarsTag | FieldName::AttsTag => {
+            push_some(found, empty_list(i, entry, ahead.next))
         }
-        _ => None,
+        FieldName::Type if is_attribute(entry.place.owner) => {
+            push_some(found, type_finding(&entry.content, ahead))
+        }
+        FieldName::Name if is_var_attribute(entry.place.owner) => {
+            push_some(found, name_finding(&entry.content, ahead))
+        }
+        _ => Ok(()),
     }
 }
 

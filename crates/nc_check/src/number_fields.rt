@@ -1,9 +1,9 @@
 //! The fields of a header at which findings about sizes and the layout lie.
 
 ghost use Rattle.std.specs.Prelude.{◌≡◌, IfOk};
-ghost use Rattle.nc_check.specs.Indexed.{indexed};
+ghost use Rattle.nc_check.specs.Indexed.{field_at, indexed};
 ghost use Rattle.nc_check.specs.WholeHeader.{number_of};
-ghost use Rattle.nc_check.specs.code.WholeHeaders.{HoldsNumbers};
+ghost use Rattle.nc_check.specs.code.WholeHeaders.{HoldsNumbers, number_field};
 
 use nc_base::Sequence;
 use nc_fields::{Content, Entry, FieldName};
@@ -38,19 +38,26 @@ pub(crate) fn number_fields(alloc: Global, entries: &[Entry]) -> Result<NumberFi
         begins: Sequence::new(alloc),
     };
     for (index, entry) in entries.iter().enumerate() {
-        let field = NumberField {
-            index: index as u64,
-            offset: entry.offset,
-            number: number_of(&entry.content),
-        };
+        let index = index as u64;
         match entry.place.name {
-            FieldName::NumRecs => fields.numrecs.push(field)?,
-            FieldName::Vsize => fields.vsizes.push(field)?,
-            FieldName::Begin => fields.begins.push(field)?,
+            FieldName::NumRecs => fields.numrecs.push(number_field(index, entry))?,
+            FieldName::Vsize => fields.vsizes.push(number_field(index, entry))?,
+            FieldName::Begin => fields.begins.push(number_field(index, entry))?,
             _ => {}
         }
     }
     Ok(fields)
+}
+
+/// Returns the field of this index.
+fn number_field(index: u64, entry: &Entry) -> NumberField
+    ensures { result ≡ number_field (field_at index entry.now) }
+{
+    NumberField {
+        index,
+        offset: entry.offset,
+        number: number_of(&entry.content),
+    }
 }
 
 /// Returns the number that a field is, or 0 if it is none.

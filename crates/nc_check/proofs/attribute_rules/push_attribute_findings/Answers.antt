@@ -1,4 +1,4 @@
-use Rattle.std.proofs.Common.{◌≡◌, ◌-◌, ◌++◌, List, drop, ap, sym, ◌∙◌, append_assoc, arith, Option}
+use Rattle.std.proofs.Common.{◌≡◌, ◌-◌, ◌++◌, List, drop, ap, sym, ◌∙◌, append_assoc, arith}
 use Rattle.std.specs.Option.{option_to_list}
 use Rattle.nc_check.specs.declared.finding.Finding.{Finding}
 use Rattle.nc_check.specs.declared.ahead.Ahead.{Ahead}
@@ -18,13 +18,12 @@ loop-i-preserved c =
     let old : List Finding = c.args.found.now in
     let later = each_backward attribute_finding after in
     let next = rest-before es n c.index-entries-i.result c.loop-i-test.true c.loop-i.auto.i c.index-entries-i.is in
-    let here = c.attribute_finding.result in
     record {
       ahead = c.put_before.ensures ∙ ap (ahead_with f) c.loop-i.invariant.ahead ∙ ahead_with-is f after ∙ ap ahead_of (sym next);
-      found = c.in_ok-push_some.ensures ∙ ap (λ (xs : List Finding). xs ++ option_to_list here) c.loop-i.invariant.found
-          ∙ append_assoc old later (option_to_list here)
-          ∙ ap (λ (o : Option Finding). old ++ (later ++ option_to_list o))
-          (c.attribute_finding.ensures ∙ ap (λ (a : Ahead). finding_by_name f.entry.place.name f a) c.loop-i.invariant.ahead)
+      found = c.in_ok-push_finding_at.ensures
+          ∙ ap (λ (xs : List Finding). xs ++ option_to_list (finding_by_name f.entry.place.name f c.loop-i.ahead)) c.loop-i.invariant.found
+          ∙ append_assoc old later _
+          ∙ ap (λ (a : Ahead). old ++ (later ++ option_to_list (finding_by_name f.entry.place.name f a))) c.loop-i.invariant.ahead
           ∙ ap (λ (fs : List Indexed). old ++ each_backward attribute_finding fs) (sym next);
     }
 
