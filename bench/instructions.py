@@ -264,10 +264,8 @@ ROWS = [
     Row("ncdump, rows with an escape in eight", FILE_BYTE, 20, lambda: a_file_byte(r"abcdefg\n" * 10)),
     Row("ncdump, an attribute of ints", AS_VALUES, 1, lambda: attribute_as_values("int", "", -(10**6), 10**6)),
     Row("ncdump, an attribute of shorts", AS_VALUES, 1.3, lambda: attribute_as_values("short", "s", -(2**15), 2**15)),
-    # 2 is the aim of the next two; what is lacking is the list of an attribute in the number that comes first in the key of its name, and
-    # padding that isn't allocated
-    Row("nccheck, 20,000 variables with two attributes", OF_HEAD, 2.2, lambda: checked(ATTRIBUTES)),
-    Row("nccheck, 20,000 variables without attributes", OF_HEAD, 2.5, checked),
+    Row("nccheck, 20,000 variables with two attributes", OF_HEAD, 2, lambda: checked(ATTRIBUTES)),
+    Row("nccheck, 20,000 variables without attributes", OF_HEAD, 2, checked),
     Row("nccheck, a sparse file of 4 TiB", OF_SMALL, 1.05, checked_sparse),
     # 2 is the aim
     Row("nccheck, a thousand small files", OF_READING, 4.5, checked_many),
