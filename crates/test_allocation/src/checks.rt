@@ -5,14 +5,16 @@ use nc_check::{Kind, check};
 use nc_fields::ListFault;
 use std::alloc::AllocError;
 
-/// A file with two variables of one name.
+/// A file with two variables of one name, which is longer than what is kept without an allocation.
 const FILE: &[u8] = b"CDF\x01\0\0\0\0\
     \0\0\0\x0a\0\0\0\x01\
     \0\0\0\x01x\0\0\0\0\0\0\x03\
     \0\0\0\0\0\0\0\0\
     \0\0\0\x0b\0\0\0\x02\
-    \0\0\0\x01a\0\0\0\0\0\0\x01\0\0\0\0\0\0\0\0\0\0\0\0\0\0\0\x04\0\0\0\x0c\0\0\0\x74\
-    \0\0\0\x01a\0\0\0\0\0\0\x01\0\0\0\0\0\0\0\0\0\0\0\0\0\0\0\x04\0\0\0\x0c\0\0\0\x80\
+    \0\0\0\x11station_elevation\0\0\0\
+    \0\0\0\x01\0\0\0\0\0\0\0\0\0\0\0\0\0\0\0\x04\0\0\0\x0c\0\0\0\x94\
+    \0\0\0\x11station_elevation\0\0\0\
+    \0\0\0\x01\0\0\0\0\0\0\0\0\0\0\0\0\0\0\0\x04\0\0\0\x0c\0\0\0\xa0\
     \0\0\0\0\0\0\0\0\0\0\0\0\
     \0\0\0\0\0\0\0\0\0\0\0\0";
 
