@@ -29,11 +29,11 @@ prove() {
     trap 'kill $(jobs -p) 2>/dev/null || true' EXIT
     cd "$copy"
     in_turn nc_base || return
-    (renice -n 10 $BASHPID >/dev/null; in_turn nc_layout cdl_parse cdl_laws) &
+    (renice -n 10 $BASHPID >/dev/null; in_turn nc_layout cdl_tokens) &
     in_turn devices nc_file || return
     in_turn nc_fields nc_check nccheck nccheck_cli &
     in_turn cdl_print ncdump ncdump_cli &
-    in_turn nc_walk ncgen ncgen_cli || return
+    in_turn cdl_parse ncgen ncgen_cli || return
     wait
     rt ci
 }
