@@ -25,14 +25,14 @@ pub(crate) fn push_attribute_findings(
     let mut ahead = nothing_ahead();
     for i in (0..entries.len()).rev() {
         let entry = &entries[i];
-        push_finding_at(found, i as u64, entry, &ahead)?;
+        push_attribute_finding(found, i as u64, entry, &ahead)?;
         ahead.put_before(i as u64, entry);
     }
     Ok(())
 }
 
 /// Appends the finding about a list or an attribute at the field of this index, if there is one. `ahead` lies ahead of the field.
-fn push_finding_at(
+fn push_attribute_finding(
     found: &mut Sequence<Finding>,
     i: u64,
     entry: &Entry,

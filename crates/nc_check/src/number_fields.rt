@@ -49,7 +49,7 @@ pub(crate) fn number_fields(alloc: Global, entries: &[Entry]) -> Result<NumberFi
     Ok(fields)
 }
 
-/// Returns the field of this index.
+/// Returns what is kept of the field of this index: its offset and the number that it is, or 0 if it is none.
 fn number_field(index: u64, entry: &Entry) -> NumberField
     ensures { result ≡ number_field (field_at index entry.now) }
 {

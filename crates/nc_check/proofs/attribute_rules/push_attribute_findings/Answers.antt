@@ -20,7 +20,7 @@ loop-i-preserved c =
     let next = rest-before es n c.index-entries-i.result c.loop-i-test.true c.loop-i.auto.i c.index-entries-i.is in
     record {
       ahead = c.put_before.ensures ∙ ap (ahead_with f) c.loop-i.invariant.ahead ∙ ahead_with-is f after ∙ ap ahead_of (sym next);
-      found = c.in_ok-push_finding_at.ensures
+      found = c.in_ok-push_attribute_finding.ensures
           ∙ ap (λ (xs : List Finding). xs ++ option_to_list (finding_by_name f.entry.place.name f c.loop-i.ahead)) c.loop-i.invariant.found
           ∙ append_assoc old later _
           ∙ ap (λ (a : Ahead). old ++ (later ++ option_to_list (finding_by_name f.entry.place.name f a))) c.loop-i.invariant.ahead
