@@ -28,8 +28,9 @@ Then the edit is to name a test, which fails under it. An edit with neither is p
 the same body the prover may say less if the machine is busy. Where no contract can speak of what an edit changes (std's say nothing of
 what a writer's flush reaches), the body is still proved, and an edit that names no test fails.
 
-What was said of the wrong bodies of a crate is kept in bin/wrong-bodies, by a checksum of all that it follows from, unless one of them
-was not refused: a later run in the same folder says it again, and tries only those of crates that changed or that stand on such.
+What was said of the wrong bodies of a crate is kept in ~/.cache/juniperbrick, by a checksum of all that it follows from, unless one of
+them was not refused: a later run in any checkout says it again, and tries only those of crates that changed or that stand on such. (rt ci
+keeps its proofs so, too.) Where that folder can't be made nothing is kept; remove it, and all are tried again.
 
 The second form runs these tests, with the edit and without (`named_tests.py`): those of all edits, or of N edits. These are drawn by a
 checksum of the code and of all edits, so that a commit draws the same ones each day, and another commit others. The last line of both
@@ -38,12 +39,14 @@ forms is 'N passed, M failed'.
 
 import hashlib
 import json
+import os
 import random
 import re
 import shutil
 import sys
 import tempfile
 from concurrent.futures import ThreadPoolExecutor
+from contextlib import suppress
 from pathlib import Path
 
 import named_tests
@@ -52,7 +55,7 @@ from edits import BadEdit, apply, crates_with_edits, edits_of
 from prover import CRATES, TOP
 
 # what earlier runs said
-KEPT = TOP / "bin" / "wrong-bodies"
+KEPT = Path(os.environ.get("XDG_CACHE_HOME") or Path.home() / ".cache", "juniperbrick", "wrong-bodies")
 
 # the prover's line on a function
 VERDICT = re.compile(r"^fn (\S+): (.+)$", re.M)
@@ -227,9 +230,17 @@ def results_of(crate):
         return results
     results = try_crate(crate)
     if all(is_refused is not False for is_refused, _ in results):
-        KEPT.mkdir(parents=True, exist_ok=True)
-        kept.write_text(json.dumps(results))
+        keep(kept, json.dumps(results))
     return results
+
+
+def keep(path, text):
+    """Keeps a text in a file, whole or not at all."""
+    with suppress(OSError):
+        path.parent.mkdir(parents=True, exist_ok=True)
+        with tempfile.NamedTemporaryFile("w", dir=path.parent, delete=False) as file:
+            file.write(text)
+        os.replace(file.name, path)
 
 
 def work_in(crate):

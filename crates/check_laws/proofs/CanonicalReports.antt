@@ -22,7 +22,7 @@ use Rattle.nc_layout.specs.HeaderLayout.{slot_of, layout_of}
 use Rattle.nc_check.specs.declared.{finding.Finding.Finding}
 use Rattle.nc_check.specs.Indexed.{Indexed, indexed}
 use Rattle.nc_check.specs.HeaderRules.{header_findings}
-use Rattle.nc_check.specs.WholeHeader.{number_of as content_number}
+use Rattle.nc_fields.specs.Entries.{number_of as content_number}
 use Rattle.nc_check.specs.WholeHeader.{is_vsize, named, vsize_finding, located, layout_facts, whole_findings}
 unfoldable use Rattle.nc_check.specs.WholeHeader.{vsize_findings}
 unfoldable use Rattle.nc_check.specs.Reports.{all_findings}

@@ -33,7 +33,7 @@ use Rattle.nc_check.specs.FieldRules.{field_findings, floating_findings}
 use Rattle.nc_check.specs.NameRules.{name_findings}
 use Rattle.nc_check.specs.AttributeRules.{attribute_findings}
 unfoldable use Rattle.nc_check.specs.HeaderRules.{header_findings}
-use Rattle.nc_check.specs.WholeHeader.{number_of as content_number}
+use Rattle.nc_fields.specs.Entries.{number_of as content_number}
 use Rattle.nc_check.specs.WholeHeader.{is_vsize, named, vsize_finding, layout_facts, located}
 unfoldable use Rattle.nc_check.specs.WholeHeader.{vsize_findings, whole_findings}
 unfoldable use Rattle.nc_check.specs.Reports.{all_findings}

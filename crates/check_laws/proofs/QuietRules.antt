@@ -10,6 +10,7 @@ use Rattle.nc_base.specs.Grammar.{vsize_of}
 use Rattle.nc_fields.specs.declared.{entry.Entry.Entry, entry.Content.Content, place.FieldName.FieldName, header.Listing.Listing}
 use Rattle.nc_fields.specs.declared.entry.Content.TheVariants as content
 use Rattle.nc_fields.specs.declared.place.FieldName.TheVariants as name
+use Rattle.nc_fields.specs.Entries.{number_of}
 use Rattle.nc_layout.specs.declared.{slot.Slot.Slot, slot.Layout.Layout, finding.LayoutFinding.LayoutFinding, finding.LayoutPlace.LayoutPlace}
 use Rattle.nc_layout.specs.declared.finding.LayoutPlace.TheVariants as places
 use Rattle.nc_layout.specs.Slots.{padded_slab}
@@ -27,7 +28,7 @@ unfoldable use Rattle.nc_check.specs.AttributeRules.{attribute_findings}
 use Rattle.nc_check.specs.AttributeRules.{finding_if, empty_list, empty_attribute, trailing_nul, type_finding, fill_count, fill_finding, name_finding, is_attribute, is_var_attribute, finding_by_name, attribute_finding}
 use Rattle.nc_check.specs.Ahead.{ahead_of}
 unfoldable use Rattle.nc_check.specs.WholeHeader.{vsize_findings, whole_findings}
-use Rattle.nc_check.specs.WholeHeader.{number_of, is_numrecs, is_vsize, is_begin, named, vsize_finding, found_at, located, layout_facts}
+use Rattle.nc_check.specs.WholeHeader.{is_numrecs, is_vsize, is_begin, named, vsize_finding, found_at, located, layout_facts}
 unfoldable use Rattle.nc_check.specs.HeaderRules.{header_findings}
 unfoldable use Rattle.nc_check.specs.Reports.{all_findings}
 use Rattle.check_laws.specs.FaultLaws.{is_fault}

@@ -10,7 +10,7 @@ use Rattle.nc_base.specs.Parts.{Spells}
 use Rattle.nc_base.specs.Grammar.{header_by, vsize_of}
 use Rattle.nc_fields.specs.declared.{entry.Entry.Entry, place.FieldName.FieldName, place.Owner.Owner, place.Place.Place, header.Listing.Listing}
 use Rattle.nc_fields.specs.declared.place.FieldName.TheVariants as name
-use Rattle.nc_fields.specs.Entries.{name_steps, owner_steps}
+use Rattle.nc_fields.specs.Entries.{name_steps, number_of, owner_steps}
 use Rattle.nc_fields.specs.Lenient.{lenient}
 use Rattle.nc_fields.specs.Listings.{IsListing, IsOutcome}
 use Rattle.nc_layout.specs.declared.{slot.Slot.Slot, slot.Layout.Layout, finding.LayoutFinding.LayoutFinding, finding.LayoutPlace.LayoutPlace, finding.LayoutFact.LayoutFact}
@@ -28,7 +28,7 @@ use Rattle.nc_check.specs.declared.finding.Fact.TheVariants as fact
 use Rattle.nc_check.specs.Kinds.{kind_of, rank_of}
 use Rattle.nc_check.specs.Indexed.{Indexed, indexed, finding}
 use Rattle.nc_check.specs.HeaderRules.{header_findings}
-use Rattle.nc_check.specs.WholeHeader.{number_of, is_numrecs, is_vsize, is_begin, named, vsize_finding, found_at, located, layout_facts}
+use Rattle.nc_check.specs.WholeHeader.{is_numrecs, is_vsize, is_begin, named, vsize_finding, found_at, located, layout_facts}
 unfoldable use Rattle.nc_check.specs.WholeHeader.{vsize_findings, whole_findings}
 unfoldable use Rattle.nc_check.specs.Reports.{all_findings}
 use Rattle.check_laws.proofs.LayoutFacts.{whole-header}

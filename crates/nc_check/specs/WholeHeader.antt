@@ -3,9 +3,9 @@ use Rattle.std.specs.Prelude.{ℕ, ◌==◌, Bool, true, false, if◌then◌else
 use Rattle.std.specs.Option.{option_to_list}
 use Rattle.nc_base.specs.declared.{version.Version.Version}
 use Rattle.nc_base.specs.Grammar.{vsize_of}
-use Rattle.nc_fields.specs.declared.{entry.Content.Content, place.FieldName.FieldName, header.Listing.Listing}
-use Rattle.nc_fields.specs.declared.entry.Content.TheVariants.{Number}
+use Rattle.nc_fields.specs.declared.{place.FieldName.FieldName, header.Listing.Listing}
 use Rattle.nc_fields.specs.declared.place.FieldName.TheVariants as name
+use Rattle.nc_fields.specs.Entries.{number_of}
 use Rattle.nc_layout.specs.declared.{slot.Layout.Layout, finding.LayoutFinding.LayoutFinding}
 use Rattle.nc_layout.specs.declared.finding.LayoutPlace.TheVariants as places
 use Rattle.nc_layout.specs.Slots.{padded_slab}
@@ -35,11 +35,6 @@ abbrev pub named : (FieldName → Bool) → List Indexed → List Indexed
 named test fields = filter (λ (f : Indexed). test f.entry.place.name) fields
 
 -- ---- sizes
-
--- the number that a field is (0, if it is none)
-abbrev pub number_of : Content → ℕ
-number_of (Number n) = n
-number_of content = 0
 
 -- the size of a variable isn't what is written for a padded slab of this size (`vsize`; a whole header has the field)
 abbrev pub vsize_finding : Version → ℕ → Option Indexed → Option Finding

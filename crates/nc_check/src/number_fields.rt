@@ -2,11 +2,10 @@
 
 ghost use Rattle.std.specs.Prelude.{◌≡◌, IfOk};
 ghost use Rattle.nc_check.specs.Indexed.{field_at, indexed};
-ghost use Rattle.nc_check.specs.WholeHeader.{number_of};
 ghost use Rattle.nc_check.specs.code.WholeHeaders.{HoldsNumbers, number_field};
 
 use nc_base::Sequence;
-use nc_fields::{Content, Entry, FieldName};
+use nc_fields::{Entry, FieldName};
 use std::alloc::{AllocError, Global};
 
 /// A field of a listing that is a number.
@@ -56,16 +55,6 @@ fn number_field(index: u64, entry: &Entry) -> NumberField
     NumberField {
         index,
         offset: entry.offset,
-        number: number_of(&entry.content),
-    }
-}
-
-/// Returns the number that a field is, or 0 if it is none.
-fn number_of(content: &Content) -> u64
-    ensures { result ≡ number_of content.now }
-{
-    match content {
-        Content::Number(n) => *n,
-        _ => 0,
+        number: entry.content.number(),
     }
 }

@@ -4,7 +4,7 @@ use Rattle.nc_fields.proofs.Prelude.{Ghosts, Reader, Header, Bytes, HeadFault, F
 use Rattle.nc_base.specs.Grammar.{header_by}
 use Rattle.nc_base.proofs.PartOutcomes.{Tells, tells}
 use Rattle.nc_fields.specs.declared.{header.Listing.Listing, list_fault.ListFault.ListFault}
-use Rattle.nc_fields.specs.Listings.{Blames, IsListing, IsOutcome}
+use Rattle.nc_fields.specs.Listings.{Blames, IsListing}
 use Rattle.nc_file.specs.code.Answers.{ReadUpTo}
 use Rattle.nc_fields.specs.code.Answers.{Answers}
 

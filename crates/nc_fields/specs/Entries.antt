@@ -68,6 +68,11 @@ whole_content (Padding ∷ steps) size bytes = content.Bytes bytes
 whole_content (Values ∷ steps) size bytes = content.Values (ends_with_nul bytes)
 whole_content steps size bytes = content.Number (number_in size bytes)
 
+-- the number that a field is (0, if it is none)
+abbrev pub number_of : Content → ℕ
+number_of (content.Number n) = n
+number_of c = 0
+
 -- ---- entries
 
 -- what the rules look at in a field

@@ -20,9 +20,6 @@ use std::alloc::Global;
 /// The tag of a list of attributes (`NC_ATTRIBUTE`).
 const NC_ATTRIBUTE: u32 = 12;
 
-/// The bytes of values that are held at a time.
-const PIECE: u128 = 4096;
-
 impl Fields {
     ghost use Rattle.nc_fields.specs.Entries.{owner_steps};
     ghost use Rattle.nc_fields.specs.code.Checks.{at, Checked};
@@ -31,7 +28,6 @@ impl Fields {
     fn values<S: Source>(
         &mut self,
         window: &mut Window<'_, S>,
-        alloc: Global,
         owner: Owner,
         len: u128,
     ) -> Result<(), HeadFault>
@@ -43,7 +39,7 @@ impl Fields {
             name: FieldName::Values,
         };
         let start = start_at(window, place, len);
-        let passed = pass_values(window, alloc, len);
+        let passed = pass_values(window, len);
         let ends_with_nul = start.unless_cut(&mut self.entries, passed)?;
         let content = Content::Values { ends_with_nul };
         start.list(&mut self.entries, content, Ok(()))
@@ -72,7 +68,7 @@ impl Fields {
         let ty = self.att_type(window, version, owner)?;
         let n = self.count(window, version, count)?;
         let len = n as u128 * ty.size() as u128;
-        self.values(window, alloc, owner, len)?;
+        self.values(window, owner, len)?;
         self.filling(window, alloc, padding, padding_len(len))?;
         Ok(Att {
             name,
@@ -117,20 +113,19 @@ impl Fields {
     }
 }
 
-/// Passes over `n` bytes, and returns true if the last of them is a NUL. Holds one piece of them at a time.
-fn pass_values<S: Source>(
-    window: &mut Window<'_, S>,
-    alloc: Global,
-    n: u128,
-) -> Result<bool, HeadFault>
+/// Passes over `n` bytes, and returns true if the last of them is a NUL. Looks at what the window holds of them, and copies nothing.
+fn pass_values<S: Source>(window: &mut Window<'_, S>, n: u128) -> Result<bool, HeadFault>
     ensures { PassesValues window.old window.new n result }
 {
     let mut missing = n;
     let mut last_is_nul = false;
     while 0 < missing {
-        let piece = window.bytes(alloc, missing.min(PIECE))?;
-        last_is_nul = ends_with_nul(piece.as_slice());
-        missing -= piece.len() as u128;
+        window.ensure_byte()?;
+        let piece = window.ready(missing);
+        let len = piece.len();
+        last_is_nul = ends_with_nul(piece);
+        window.pos += len;
+        missing -= len as u128;
     }
     Ok(last_is_nul)
 }

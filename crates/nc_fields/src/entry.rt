@@ -1,5 +1,8 @@
 //! The fields of a header, as the rules look at them.
 
+ghost use Rattle.std.specs.Prelude.{◌≡◌};
+ghost use Rattle.nc_fields.specs.Entries.{number_of};
+
 use crate::field_bytes::FieldBytes;
 use crate::place::Place;
 use nc_base::FormatFault;
@@ -18,6 +21,18 @@ pub enum Content {
     },
     /// The file ends inside the field.
     Cut,
+}
+
+impl Content {
+    /// Returns the number that the field is, or 0 if it is none.
+    pub fn number(&self) -> u64
+        ensures { result ≡ number_of self.now }
+    {
+        match self {
+            Content::Number(n) => *n,
+            Content::Bytes(_) | Content::Values { .. } | Content::Cut => 0,
+        }
+    }
 }
 
 /// A field of a header that was read, or the first wrong one, at which reading stopped.

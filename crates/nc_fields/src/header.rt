@@ -36,6 +36,9 @@ pub struct Listing {
     pub file_len: u64,
 }
 
+/// The fields for which there is room in the first allocation of a listing: those of a header of a few variables.
+const FEW_FIELDS: usize = 128;
+
 /// Lists the fields of the header at the start of a source, through a caller's buffer of at least 16 bytes, which may hold anything before
 /// and after. All types of the format are taken, and names that aren't valid as long as the fields are in step.
 ///
@@ -68,7 +71,7 @@ pub fn list_fields<S: Source>(
         pos: 0,
     };
     let mut fields = Fields {
-        entries: Sequence::new(alloc),
+        entries: Sequence::from_vec(Vec::with_capacity(alloc, FEW_FIELDS)?),
     };
     let answer = fields.header(&mut window, alloc);
     answered(fields, window.offset_of_next(), len, answer)

@@ -10,6 +10,7 @@ use Rattle.nc_fields.specs.declared.{place.Owner.Owner, place.FieldName.FieldNam
 use Rattle.nc_fields.specs.declared.place.Owner.TheVariants as owner
 use Rattle.nc_fields.specs.declared.place.FieldName.TheVariants as name
 use Rattle.nc_fields.specs.declared.entry.Content.TheVariants as content
+use Rattle.nc_fields.specs.Entries.{number_of}
 use Rattle.nc_layout.specs.declared.finding.Block.{Block}
 use Rattle.nc_layout.specs.declared.finding.LayoutFact.{LayoutFact}
 use Rattle.nc_layout.specs.declared.finding.LayoutFact.TheVariants as layout
@@ -38,13 +39,9 @@ unfoldable pub zeros_text : Content → Bytes
 zeros_text (content.Bytes bytes) = each_of (λ b. codes "00") bytes
 zeros_text c = []
 
-abbrev pub number_in : Content → ℕ
-number_in (content.Number n) = n
-number_in c = 0
-
 -- the number that the field of this index is
 abbrev pub number_at : List Entry → ℕ → ℕ
-number_at entries i = option_map_or (λ (e : Entry). number_in e.content) (slice_get entries i) 0
+number_at entries i = option_map_or (λ (e : Entry). number_of e.content) (slice_get entries i) 0
 
 -- the greatest type code of the version, which the second field of a header has
 abbrev pub last_type : List Entry → ℕ
@@ -103,11 +100,11 @@ expected_with_fault entries e fault.NotNetcdf = codes ", expected 434446"
 expected_with_fault entries e (fault.UnknownVersion version) = codes ", expected 1, 2 or 5"
 expected_with_fault entries e fault.HeaderTruncated = around (codes ", expected ") e.size (codes " bytes")
 expected_with_fault entries e fault.BadTag = around (codes ", expected 0 or ") (tag_of e.place.name) []
-expected_with_fault entries e fault.BadCount = expected_count (top_bit e.size) (number_in e.content)
+expected_with_fault entries e fault.BadCount = expected_count (top_bit e.size) (number_of e.content)
 expected_with_fault entries e fault.BadName = []
 expected_with_fault entries e fault.FloatingType = []
 expected_with_fault entries e fault.BadType = around (codes ", expected 1 to ") (last_type entries) []
-expected_with_fault entries e fault.BadShape = expected_dimid (dim_count entries) (number_in e.content)
+expected_with_fault entries e fault.BadShape = expected_dimid (dim_count entries) (number_of e.content)
 expected_with_fault entries e fault.TwoRecordDims = codes ", expected at least 1"
 expected_with_fault entries e fault.BadOffset = expected_below (top_bit e.size)
 expected_with_fault entries e fault.TooLarge = []

@@ -2,7 +2,7 @@
 
 ghost use Rattle.std.specs.Prelude.{◌≡◌, ◌<◌, ◌∷◌, [], codes};
 ghost use Rattle.devices.specs.code.SinkWrites.{Wrote};
-ghost use Rattle.nccheck.specs.Details.{content_text, expected_word, expected_zeros, found_content, hex_byte, hex_digit, number_in, zeros_text};
+ghost use Rattle.nccheck.specs.Details.{content_text, expected_word, expected_zeros, found_content, hex_byte, hex_digit, zeros_text};
 ghost use Rattle.nccheck.specs.Words.{each_of};
 
 use devices::{Sink, WriteFailed, put, put_decimal};
@@ -95,14 +95,4 @@ fn hex_digit(n: u8) -> u8
     ensures { result ≡ hex_digit n }
 {
     if n < 10 { b'0' + n } else { b'a' + (n - 10) }
-}
-
-/// Returns the number that the content is, or 0 if it is none.
-pub(crate) fn number_in(content: &Content) -> u64
-    ensures { result ≡ number_in content.now }
-{
-    match content {
-        Content::Number(n) => *n,
-        _ => 0,
-    }
 }

@@ -4,7 +4,7 @@ ghost use Rattle.std.specs.Prelude.{◌≡◌};
 ghost use Rattle.devices.specs.code.SinkWrites.{Wrote};
 ghost use Rattle.nccheck.specs.Details.{dim_count, expected_below, expected_count, expected_dimid, expected_with_fault, found_number, found_with_fault, last_type, number_at, tag_of, top_bit};
 
-use crate::content::{number_in, put_found_content};
+use crate::content::put_found_content;
 use crate::number::put_around;
 use devices::{Sink, WriteFailed, put};
 use nc_base::FormatFault;
@@ -49,12 +49,12 @@ pub(crate) fn put_expected_with_fault<W: Sink>(
             put_around(sink, b", expected 0 or ", tag, b"")
         }
         FormatFault::BadCount => {
-            put_expected_count(sink, top_bit(entry.size), number_in(&entry.content))
+            put_expected_count(sink, top_bit(entry.size), entry.content.number())
         }
         FormatFault::BadName | FormatFault::FloatingType | FormatFault::TooLarge => Ok(()),
         FormatFault::BadType => put_around(sink, b", expected 1 to ", last_type(entries), b""),
         FormatFault::BadShape => {
-            put_expected_dimid(sink, number_at(entries, 4), number_in(&entry.content))
+            put_expected_dimid(sink, number_at(entries, 4), entry.content.number())
         }
         FormatFault::TwoRecordDims => put(sink, b", expected at least 1"),
         FormatFault::BadOffset => put_expected_below(sink, top_bit(entry.size)),
@@ -121,7 +121,7 @@ fn number_at(entries: &[Entry], i: usize) -> u64
     ensures { result ≡ number_at entries.now i }
 {
     match entries.get(i) {
-        Some(entry) => number_in(&entry.content),
+        Some(entry) => entry.content.number(),
         None => 0,
     }
 }

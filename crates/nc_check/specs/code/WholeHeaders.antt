@@ -4,6 +4,7 @@ use Rattle.std.specs.Option.{option_to_list}
 use Rattle.nc_base.specs.declared.version.Version.{Version}
 use Rattle.nc_base.specs.Grammar.{vsize_of}
 use Rattle.nc_fields.specs.declared.{header.Listing.Listing}
+use Rattle.nc_fields.specs.Entries.{number_of}
 use Rattle.nc_layout.specs.declared.{slot.Layout.Layout, finding.LayoutFinding.LayoutFinding}
 use Rattle.nc_layout.specs.declared.finding.LayoutPlace.TheVariants as places
 use Rattle.nc_layout.specs.Slots.{padded_slab}
@@ -13,7 +14,7 @@ use Rattle.nc_layout.specs.HeaderLayout.{layout_of}
 use Rattle.nc_check.specs.declared.{finding.Fact.Fact, finding.Finding.Finding, number_fields.NumberField.NumberField, number_fields.NumberFields.NumberFields}
 use Rattle.nc_check.specs.declared.finding.Fact.TheVariants as fact
 use Rattle.nc_check.specs.Indexed.{Indexed, finding_at}
-use Rattle.nc_check.specs.WholeHeader.{is_numrecs, is_vsize, is_begin, named, number_of}
+use Rattle.nc_check.specs.WholeHeader.{is_numrecs, is_vsize, is_begin, named}
 
 -- what is kept of a field that is a number
 abbrev pub number_field : Indexed → NumberField

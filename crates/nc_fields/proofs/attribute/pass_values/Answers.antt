@@ -1,18 +1,19 @@
-use Rattle.std.proofs.Common.{arith, ap, ◌∙◌}
-use Rattle.nc_fields.proofs.Prelude.{err_from_is_err_and, ends_with_nul}
+use Rattle.std.proofs.Common.{arith, rules}
+use Rattle.nc_fields.proofs.Prelude.{err_from_is_err_and}
 use Rattle.nc_fields.proofs.Passed.{passed-more, passed-all, passed-err}
 use Rattle.nc_fields.proofs.attribute.pass_values.Goals as goal
 
-pub returns-in_err-piece : goal.returns-in_err-piece
-returns-in_err-piece g c =
+pub returns-in_err-ensure_byte : goal.returns-in_err-ensure_byte
+returns-in_err-ensure_byte g c =
     let p = err_from_is_err_and c.from_residual.result c.from_residual.ensures.1 in
-    rw (p.1, p.2) (passed-err _ _ _ _ _ _ _ _ c.loop-missing.invariant (omega (arith, c.min.ensures)) c.in_err-piece.ensures.read)
+    let e = c.in_err-ensure_byte.ensures in
+    rw (p.1, p.2) (passed-err _ _ _ _ _ _ _ c.loop-missing.invariant (omega arith) (record { kept = e.kept; cause = e.cause; stuck = e.filled }))
 
 pub loop-missing-preserved : goal.loop-missing-preserved
 loop-missing-preserved g c =
-    let piece = c.in_ok-piece.ensures in
-    passed-more _ _ _ _ _ _ _ _ _ _ c.loop-missing.invariant piece.read piece.whole (c.ends_with_nul-last_is_nul.ensures ∙ ap ends_with_nul c.as_slice.ensures) (omega (arith, c.min.ensures))
-    (omega (arith, piece.whole, c.len.ensures, c.min.ensures))
+    let e = c.in_ok-ensure_byte.ensures in
+    passed-more _ _ _ _ _ _ _ _ _ _ c.loop-missing.invariant (record { kept = e.kept; failures = e.cause; used = omega (arith, e.filled.1) }) c.ready-piece.ensures
+    (search rules) c.ends_with_nul-last_is_nul.ensures (omega arith)
 
 pub returns : goal.returns
 returns g c = passed-all _ _ _ _ _ c.loop-missing.invariant (omega arith)

@@ -1,4 +1,4 @@
-use Rattle.std.proofs.Common.{refl, ap, ◌∙◌, subst, sym}
+use Rattle.std.proofs.Common.{refl, ap}
 use Rattle.nc_fields.proofs.Prelude.{HeaderTruncated, err_from_is_err_and, ends_with_nul}
 use Rattle.nc_fields.specs.declared.entry.Content.TheVariants as content
 use Rattle.nc_fields.specs.code.PassedValues.{in_place}
