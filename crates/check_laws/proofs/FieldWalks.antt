@@ -1,7 +1,7 @@
 -- A walk over the fields of a part: each is in its place, begins where the one before it ends, and is the last one if it is wrong.
 use Rattle.std.proofs.Common.{◌≡◌, ℕ, zero, suc, ◌+◌, ◌-◌, ◌<◌, ◌≤◌, ◌⊎◌, inl, Bool, true, false, cond, leb, nat_lt, if◌then◌else◌, List, [], ◌∷◌, ◌++◌, length, map, take, drop, Option, Some, None, Result, Ok, Err, refl, sym, ap, ap₂, ◌∙◌, subst, arith}
-use Rattle.std.proofs.lemmas.List.{map-append}
-use Rattle.nc_fields.proofs.Prelude.{Bytes, Step, Part, done, bytes, under, chain, Outcome, and_then, with_rest, run, FormatFault, Field, fields, le-ltb, lt-ltb, leb-true, leb-false, length-drop, length-take, seen_by, steps_of, whole_content, seen}
+use Rattle.std.proofs.lemmas.List.{length-take, map-append}
+use Rattle.nc_fields.proofs.Prelude.{Bytes, Step, Part, done, bytes, under, chain, Outcome, and_then, with_rest, run, FormatFault, Field, fields, le-ltb, lt-ltb, leb-true, leb-false, length-drop, seen_by, steps_of, whole_content, seen}
 use Rattle.nc_fields.specs.Entries.{Seen}
 use Rattle.nc_base.specs.Parts.{Item}
 unfoldable use Rattle.nc_base.specs.Grammar.{each}
