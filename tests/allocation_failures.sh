@@ -157,7 +157,7 @@ for row in one_variable=13 forty_shorts=17 rank_three=28 padded_records=19 three
     allocates "generated::${row%=*}_prepared" "${row#*=}"
 done
 allocates generated::text_read_in_three_parts 3
-allocates checks::check_of_equal_names 25
+allocates checks::check_of_equal_names 21
 printf '%s\n' "${names[@]}" | sort >"$work/want/stdout"
 run tests_of_the_crate
 verdict each_test_has_its_allocations 0
