@@ -1,8 +1,10 @@
 -- Definition. What lies ahead of a field: the next fields that the rules on lists and attributes look at. (In a header the field after the
 -- tag of a list is the number of its elements. After the name of an attribute come its type, the number of its values and the values, and
 -- after the attributes of a variable comes the type of the variable. So the next field of a kind is the one that belongs there.)
-use Rattle.std.specs.Prelude.{ℕ, Bool, true, false, List, find, Option, Some, None}
+use Rattle.std.specs.Prelude.{ℕ, Bool, true, false, if◌then◌else◌, List, find, Option, Some, None}
 use Rattle.std.specs.Option.{option_and_then}
+use Rattle.nc_base.specs.declared.fault.FormatFault.{FormatFault}
+use Rattle.nc_base.specs.declared.fault.FormatFault.TheVariants.{BadType}
 use Rattle.nc_fields.specs.declared.{entry.Content.Content, place.FieldName.FieldName, place.Owner.Owner}
 use Rattle.nc_fields.specs.declared.entry.Content.TheVariants as content
 use Rattle.nc_fields.specs.declared.place.FieldName.TheVariants as name
@@ -62,6 +64,14 @@ number_in index offset c = None
 abbrev pub number_at : Indexed → Option NumberAt
 number_at f = number_in f.index f.entry.offset f.entry.content
 
+abbrev pub is_bad_type : Option FormatFault → Bool
+is_bad_type (Some BadType) = true
+is_bad_type fault = false
+
+-- the type of a variable, if it is a type of the version
+abbrev pub known_type : Indexed → Option NumberAt
+known_type f = if is_bad_type f.entry.fault then None else number_at f
+
 abbrev pub values_in : ℕ → ℕ → Content → Option ValuesAt
 values_in index offset (content.Values ends_with_nul) =
     Some (record { index = index; offset = offset; ends_with_nul = ends_with_nul })
@@ -86,5 +96,5 @@ ahead_of after = record {
   type_code = next_number is_type after;
   count = next_number is_count after;
   values = next_values after;
-  var_type = next_number is_var_type after;
+  var_type = option_and_then known_type (find is_var_type after);
 }

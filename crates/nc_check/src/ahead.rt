@@ -2,9 +2,10 @@
 
 ghost use Rattle.std.specs.Prelude.{◌≡◌, [], None};
 ghost use Rattle.nc_check.specs.Indexed.{field_at};
-ghost use Rattle.nc_check.specs.Ahead.{ahead_of, is_type_name, is_var, number_at, values_at};
+ghost use Rattle.nc_check.specs.Ahead.{ahead_of, is_bad_type, is_type_name, is_var, known_type, number_at, values_at};
 ghost use Rattle.nc_check.specs.code.Passes.{ahead_with};
 
+use nc_base::FormatFault;
 use nc_fields::{Content, Entry, FieldName, Owner};
 
 /// A field that is a number.
@@ -40,7 +41,7 @@ pub struct Ahead {
     pub count: Option<NumberAt>,
     /// The next values of an attribute.
     pub values: Option<ValuesAt>,
-    /// The next type of a variable.
+    /// The next type of a variable, if the version has it.
     pub var_type: Option<NumberAt>,
 }
 
@@ -68,7 +69,7 @@ impl Ahead {
             FieldName::Type => {
                 self.type_code = number;
                 if is_var(entry.place.owner) {
-                    self.var_type = number;
+                    self.var_type = known_type(i, entry);
                 }
             }
             FieldName::Count => self.count = number,
@@ -90,6 +91,24 @@ fn number_at(i: u64, entry: &Entry) -> Option<NumberAt>
         }),
         _ => None,
     }
+}
+
+/// Returns the type of a variable that the field of this index is, if it is a type of the version.
+fn known_type(i: u64, entry: &Entry) -> Option<NumberAt>
+    ensures { result ≡ known_type (field_at i entry.now) }
+{
+    if is_bad_type(entry.fault) {
+        None
+    } else {
+        number_at(i, entry)
+    }
+}
+
+/// Returns true if the fault is that of a type that the version lacks.
+fn is_bad_type(fault: Option<FormatFault>) -> bool
+    ensures { result ≡ is_bad_type fault }
+{
+    matches!(fault, Some(FormatFault::BadType))
 }
 
 /// Returns the field of this index, if it is the values of an attribute.

@@ -186,6 +186,31 @@ const ROWS: &[Row] = &[
         found: &[(10, Fact::Fault(FormatFault::HeaderTruncated))],
     },
     Row {
+        about: "a fill value of a variable whose type is none of its version",
+        fields: &[
+            (ATT, Name, Bytes(b"_FillValue")),
+            (ATT, Type, Number(3)),
+            (ATT, Count, Number(1)),
+            (Var(0), Type, Number(12)),
+        ],
+        fault: Some(FormatFault::BadType),
+        found: &[(3, Fact::Fault(FormatFault::BadType))],
+    },
+    Row {
+        about: "a fill value of another type than its variable, which is too large",
+        fields: &[
+            (ATT, Name, Bytes(b"_FillValue")),
+            (ATT, Type, Number(3)),
+            (ATT, Count, Number(1)),
+            (Var(0), Type, Number(4)),
+        ],
+        fault: Some(FormatFault::TooLarge),
+        found: &[
+            (1, Fact::FillType { expected: 4 }),
+            (3, Fact::Fault(FormatFault::TooLarge)),
+        ],
+    },
+    Row {
         about: "one name in several lists, twice and three times in one",
         fields: &[
             (Dim(0), Name, Bytes(b"x")),

@@ -1,5 +1,5 @@
 -- Definition. What a line says of what is found, and of what is expected in its place.
-use Rattle.std.specs.Prelude.{ℕ, ◌-◌, ◌+◌, ◌/◌, ◌%◌, ◌^◌, ◌==◌, nat_lt, if◌then◌else◌, List, [], ◌∷◌, codes, decimal, Option, Some, None, slice_get, Result}
+use Rattle.std.specs.Prelude.{ℕ, ◌-◌, ◌+◌, ◌/◌, ◌%◌, ◌^◌, ◌==◌, ◌&&◌, Bool, true, false, nat_lt, if◌then◌else◌, List, [], ◌∷◌, length, codes, decimal, Option, Some, None, slice_get, Result}
 use Rattle.std.specs.Option.{option_map_or}
 use Rattle.std.specs.Str.{byte}
 use Rattle.nc_base.specs.Bytes.{Bytes, concat_parts}
@@ -87,9 +87,20 @@ top_bit size = if size == 8 then 2 ^ 63 else 2 ^ 31
 abbrev pub expected_below : ℕ → Bytes
 expected_below n = around (codes ", expected below ") n []
 
--- a count may be wrong only since a list with the tag 0 has it
-abbrev pub expected_count : ℕ → ℕ → Bytes
-expected_count limit n = if nat_lt n limit then codes ", expected 0" else expected_below limit
+-- the field of this name is the number of a list's elements
+abbrev pub is_list_count : FieldName → Bool
+is_list_count name.DimsCount = true
+is_list_count name.GlobalAttsCount = true
+is_list_count name.VarsCount = true
+is_list_count name.AttsCount = true
+is_list_count field = false
+
+-- the tag of a list is 0, if reading stops at the number of its elements: the tag is the last field but one
+abbrev pub has_zero_tag : List Entry → FieldName → Bool
+has_zero_tag entries field = is_list_count field && (number_at entries (length entries - 2) == 0)
+
+abbrev pub expected_count : Bool → ℕ → Bytes
+expected_count has_zero_tag limit = if has_zero_tag then codes ", expected 0" else expected_below limit
 
 -- a dimension id may be wrong only since it is that of the record dimension
 abbrev pub expected_dimid : ℕ → ℕ → Bytes
@@ -100,7 +111,7 @@ expected_with_fault entries e fault.NotNetcdf = codes ", expected 434446"
 expected_with_fault entries e (fault.UnknownVersion version) = codes ", expected 1, 2 or 5"
 expected_with_fault entries e fault.HeaderTruncated = around (codes ", expected ") e.size (codes " bytes")
 expected_with_fault entries e fault.BadTag = around (codes ", expected 0 or ") (tag_of e.place.name) []
-expected_with_fault entries e fault.BadCount = expected_count (top_bit e.size) (number_of e.content)
+expected_with_fault entries e fault.BadCount = expected_count (has_zero_tag entries e.place.name) (top_bit e.size)
 expected_with_fault entries e fault.BadName = []
 expected_with_fault entries e fault.FloatingType = []
 expected_with_fault entries e fault.BadType = around (codes ", expected 1 to ") (last_type entries) []

@@ -2,7 +2,7 @@
 
 ghost use Rattle.std.specs.Prelude.{◌≡◌};
 ghost use Rattle.devices.specs.code.SinkWrites.{Wrote};
-ghost use Rattle.nccheck.specs.Details.{dim_count, expected_below, expected_count, expected_dimid, expected_with_fault, found_number, found_with_fault, last_type, number_at, tag_of, top_bit};
+ghost use Rattle.nccheck.specs.Details.{dim_count, expected_below, expected_count, expected_dimid, expected_with_fault, found_number, found_with_fault, has_zero_tag, is_list_count, last_type, number_at, tag_of, top_bit};
 
 use crate::content::put_found_content;
 use crate::number::put_around;
@@ -49,7 +49,8 @@ pub(crate) fn put_expected_with_fault<W: Sink>(
             put_around(sink, b", expected 0 or ", tag, b"")
         }
         FormatFault::BadCount => {
-            put_expected_count(sink, top_bit(entry.size), entry.content.number())
+            let has_zero_tag = has_zero_tag(entries, entry.place.name);
+            put_expected_count(sink, has_zero_tag, top_bit(entry.size))
         }
         FormatFault::BadName | FormatFault::FloatingType | FormatFault::TooLarge => Ok(()),
         FormatFault::BadType => put_around(sink, b", expected 1 to ", last_type(entries), b""),
@@ -61,15 +62,39 @@ pub(crate) fn put_expected_with_fault<W: Sink>(
     }
 }
 
-/// Writes what is expected in place of this count: below the limit, it may be wrong only since a list with the tag 0 has it.
-fn put_expected_count<W: Sink>(sink: &mut W, limit: u64, n: u64) -> Result<(), WriteFailed>
-    ensures { Wrote W.view sink.old sink.new (expected_count limit n) result }
+/// Writes what is expected in place of a count: 0 of a list whose tag is 0, otherwise a number below the limit.
+fn put_expected_count<W: Sink>(
+    sink: &mut W,
+    has_zero_tag: bool,
+    limit: u64,
+) -> Result<(), WriteFailed>
+    ensures { Wrote W.view sink.old sink.new (expected_count has_zero_tag limit) result }
 {
-    if n < limit {
+    if has_zero_tag {
         put(sink, b", expected 0")
     } else {
         put_expected_below(sink, limit)
     }
+}
+
+/// Returns true if the tag of a list is 0, where reading stops at the field of this name, the number of the list's elements.
+fn has_zero_tag(entries: &[Entry], name: FieldName) -> bool
+    ensures { result ≡ has_zero_tag entries.now name }
+{
+    is_list_count(name) && number_at(entries, entries.len().saturating_sub(2)) == 0
+}
+
+/// Returns true if the field of this name is the number of a list's elements.
+fn is_list_count(name: FieldName) -> bool
+    ensures { result ≡ is_list_count name }
+{
+    matches!(
+        name,
+        FieldName::DimsCount
+            | FieldName::GlobalAttsCount
+            | FieldName::VarsCount
+            | FieldName::AttsCount
+    )
 }
 
 /// Writes what is expected in place of this dimension id: that of one of the dimensions, it may be wrong only since it is that of the record

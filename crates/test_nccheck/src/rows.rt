@@ -175,6 +175,13 @@ pub const CHANGED_FILES: &[ChangedRow<'_>] = &[
         lines: b"tag.nc:80: error: bad-tag: vars tag: found 10, expected 0 or 11\n",
     },
     ChangedRow {
+        path: "zero-tag.nc",
+        at: 11,
+        patch: b"\0\x80",
+        len: 416,
+        lines: b"zero-tag.nc:12: error: bad-count: dims count: found 2147483650, expected 0\n",
+    },
+    ChangedRow {
         path: "streaming.nc",
         at: 4,
         patch: b"\xff\xff\xff\xff",
