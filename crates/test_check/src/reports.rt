@@ -362,6 +362,13 @@ const ROWS: &[Row] = &[
         found: &[(68, Kind::FillValue)],
     },
     Row {
+        about: "a fill value of a variable whose type is none",
+        bytes: b"CDF\x01\0\0\0\0\0\0\0\0\0\0\0\0\0\0\0\0\0\0\0\0\0\0\0\x0b\0\0\0\x01\0\0\0\x01v\0\0\0\0\0\0\0\
+            \0\0\0\x0c\0\0\0\x01\0\0\0\x0a_FillValue\0\0\0\0\0\x03\0\0\0\x01\0\x01\0\0\0\0\0\x0c\0\0\0\x04\
+            \0\0\0\x5c\0\x07\x0e\x15",
+        found: &[(80, Kind::BadType)],
+    },
+    Row {
         about: "a name of 1100 letters",
         bytes: b"CDF\x01\0\0\0\0\0\0\0\0\0\0\0\0\0\0\0\0\0\0\0\0\0\0\0\x0b\0\0\0\x01\0\0\x04Laaaaaaaaaaaaaaaa\
             aaaaaaaaaaaaaaaaaaaaaaaaaaaaaaaaaaaaaaaaaaaaaaaaaaaaaaaaaaaaaaaaaaaaaaaaaaaaaaaaaaaaaaaaaaaa\
