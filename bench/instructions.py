@@ -152,7 +152,7 @@ def checked_sparse():
 
 
 def checked_many(records=0):
-    """Of a check of a thousand small files in one call, which have so many records of five variables."""
+    """Of a check of a thousand small files in one call, each with this number of records of five variables."""
     values = ", ".join(str(number) for number in range(12 * records))
     data = "".join(f" v{number} = {values} ;\n" for number in range(5)) if records else ""
     file = made(text("\tt = UNLIMITED ;\n\tx = 12 ;\n", "".join(f"\tint v{number}(t, x) ;\n" for number in range(5)), data))

@@ -7,7 +7,7 @@ use Rattle.std.specs.Option.{option_to_list, option_and_then}
 use Rattle.nc_fields.specs.declared.entry.Entry.{Entry}
 use Rattle.nc_check.specs.declared.{finding.Finding.Finding, ahead.Ahead.Ahead, ahead.NumberAt.NumberAt, ahead.ValuesAt.ValuesAt}
 use Rattle.nc_check.specs.Indexed.{Indexed, field_at, indexed, indexed_from, each_before}
-use Rattle.nc_check.specs.Ahead.{ahead_of, is_count, is_type, is_values, is_var_type, known_type, number_at, values_at}
+use Rattle.nc_check.specs.Ahead.{ahead_of, is_count, is_type, is_values, is_var_type, var_type_at, number_at, values_at}
 use Rattle.nc_check.specs.code.Passes.{ahead_with, each_backward}
 
 -- the fields from index i on are the one there, and those after it
@@ -42,7 +42,7 @@ pub ahead_with-is : (f : Indexed) (after : List Indexed) → ahead_with f (ahead
 ahead_with-is f after =
     made (number_at f) _ _ _ _ _ _ _ _ (picked number_at (is_type f) f (find is_type after))
     (picked number_at (is_count f) f (find is_count after))
-    (picked values_at (is_values f) f (find is_values after)) (picked known_type (is_var_type f) f (find is_var_type after))
+    (picked values_at (is_values f) f (find is_values after)) (picked var_type_at (is_var_type f) f (find is_var_type after))
 
 -- ---- from the last field to the first
 

@@ -64,13 +64,14 @@ number_in index offset c = None
 abbrev pub number_at : Indexed → Option NumberAt
 number_at f = number_in f.index f.entry.offset f.entry.content
 
+-- the version lacks the type
 abbrev pub is_bad_type : Option FormatFault → Bool
 is_bad_type (Some BadType) = true
 is_bad_type fault = false
 
--- the type of a variable, if it is a type of the version
-abbrev pub known_type : Indexed → Option NumberAt
-known_type f = if is_bad_type f.entry.fault then None else number_at f
+-- the field, the type of a variable, if the version has it
+abbrev pub var_type_at : Indexed → Option NumberAt
+var_type_at f = if is_bad_type f.entry.fault then None else number_at f
 
 abbrev pub values_in : ℕ → ℕ → Content → Option ValuesAt
 values_in index offset (content.Values ends_with_nul) =
@@ -96,5 +97,5 @@ ahead_of after = record {
   type_code = next_number is_type after;
   count = next_number is_count after;
   values = next_values after;
-  var_type = option_and_then known_type (find is_var_type after);
+  var_type = option_and_then var_type_at (find is_var_type after);
 }

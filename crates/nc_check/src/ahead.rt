@@ -2,7 +2,7 @@
 
 ghost use Rattle.std.specs.Prelude.{◌≡◌, [], None};
 ghost use Rattle.nc_check.specs.Indexed.{field_at};
-ghost use Rattle.nc_check.specs.Ahead.{ahead_of, is_bad_type, is_type_name, is_var, known_type, number_at, values_at};
+ghost use Rattle.nc_check.specs.Ahead.{ahead_of, is_bad_type, is_type_name, is_var, var_type_at, number_at, values_at};
 ghost use Rattle.nc_check.specs.code.Passes.{ahead_with};
 
 use nc_base::FormatFault;
@@ -69,7 +69,7 @@ impl Ahead {
             FieldName::Type => {
                 self.type_code = number;
                 if is_var(entry.place.owner) {
-                    self.var_type = known_type(i, entry);
+                    self.var_type = var_type_at(i, entry);
                 }
             }
             FieldName::Count => self.count = number,
@@ -93,9 +93,9 @@ fn number_at(i: u64, entry: &Entry) -> Option<NumberAt>
     }
 }
 
-/// Returns the type of a variable that the field of this index is, if it is a type of the version.
-fn known_type(i: u64, entry: &Entry) -> Option<NumberAt>
-    ensures { result ≡ known_type (field_at i entry.now) }
+/// Returns the field of this index, the type of a variable, if the version has it.
+fn var_type_at(i: u64, entry: &Entry) -> Option<NumberAt>
+    ensures { result ≡ var_type_at (field_at i entry.now) }
 {
     if is_bad_type(entry.fault) {
         None
@@ -104,7 +104,7 @@ fn known_type(i: u64, entry: &Entry) -> Option<NumberAt>
     }
 }
 
-/// Returns true if the fault is that of a type that the version lacks.
+/// Returns true if a field has this fault because the version lacks its type.
 fn is_bad_type(fault: Option<FormatFault>) -> bool
     ensures { result ≡ is_bad_type fault }
 {

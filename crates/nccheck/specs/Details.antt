@@ -95,12 +95,12 @@ is_list_count name.VarsCount = true
 is_list_count name.AttsCount = true
 is_list_count field = false
 
--- the tag of a list is 0, if reading stops at the number of its elements: the tag is the last field but one
-abbrev pub has_zero_tag : List Entry → FieldName → Bool
-has_zero_tag entries field = is_list_count field && (number_at entries (length entries - 2) == 0)
+-- the field of this name, at which reading stops, is the number of a list's elements, and the tag before it is 0
+abbrev pub is_after_zero_tag : List Entry → FieldName → Bool
+is_after_zero_tag entries field = is_list_count field && (number_at entries (length entries - 2) == 0)
 
 abbrev pub expected_count : Bool → ℕ → Bytes
-expected_count has_zero_tag limit = if has_zero_tag then codes ", expected 0" else expected_below limit
+expected_count is_zero limit = if is_zero then codes ", expected 0" else expected_below limit
 
 -- a dimension id may be wrong only since it is that of the record dimension
 abbrev pub expected_dimid : ℕ → ℕ → Bytes
@@ -111,7 +111,7 @@ expected_with_fault entries e fault.NotNetcdf = codes ", expected 434446"
 expected_with_fault entries e (fault.UnknownVersion version) = codes ", expected 1, 2 or 5"
 expected_with_fault entries e fault.HeaderTruncated = around (codes ", expected ") e.size (codes " bytes")
 expected_with_fault entries e fault.BadTag = around (codes ", expected 0 or ") (tag_of e.place.name) []
-expected_with_fault entries e fault.BadCount = expected_count (has_zero_tag entries e.place.name) (top_bit e.size)
+expected_with_fault entries e fault.BadCount = expected_count (is_after_zero_tag entries e.place.name) (top_bit e.size)
 expected_with_fault entries e fault.BadName = []
 expected_with_fault entries e fault.FloatingType = []
 expected_with_fault entries e fault.BadType = around (codes ", expected 1 to ") (last_type entries) []

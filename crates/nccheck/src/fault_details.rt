@@ -2,7 +2,7 @@
 
 ghost use Rattle.std.specs.Prelude.{◌≡◌};
 ghost use Rattle.devices.specs.code.SinkWrites.{Wrote};
-ghost use Rattle.nccheck.specs.Details.{dim_count, expected_below, expected_count, expected_dimid, expected_with_fault, found_number, found_with_fault, has_zero_tag, is_list_count, last_type, number_at, tag_of, top_bit};
+ghost use Rattle.nccheck.specs.Details.{dim_count, expected_below, expected_count, expected_dimid, expected_with_fault, found_number, found_with_fault, is_after_zero_tag, is_list_count, last_type, number_at, tag_of, top_bit};
 
 use crate::content::put_found_content;
 use crate::number::put_around;
@@ -49,8 +49,8 @@ pub(crate) fn put_expected_with_fault<W: Sink>(
             put_around(sink, b", expected 0 or ", tag, b"")
         }
         FormatFault::BadCount => {
-            let has_zero_tag = has_zero_tag(entries, entry.place.name);
-            put_expected_count(sink, has_zero_tag, top_bit(entry.size))
+            let is_zero = is_after_zero_tag(entries, entry.place.name);
+            put_expected_count(sink, is_zero, top_bit(entry.size))
         }
         FormatFault::BadName | FormatFault::FloatingType | FormatFault::TooLarge => Ok(()),
         FormatFault::BadType => put_around(sink, b", expected 1 to ", last_type(entries), b""),
@@ -62,24 +62,20 @@ pub(crate) fn put_expected_with_fault<W: Sink>(
     }
 }
 
-/// Writes what is expected in place of a count: 0 of a list whose tag is 0, otherwise a number below the limit.
-fn put_expected_count<W: Sink>(
-    sink: &mut W,
-    has_zero_tag: bool,
-    limit: u64,
-) -> Result<(), WriteFailed>
-    ensures { Wrote W.view sink.old sink.new (expected_count has_zero_tag limit) result }
+/// Writes that 0 is expected in place of a count, or a number below the limit.
+fn put_expected_count<W: Sink>(sink: &mut W, is_zero: bool, limit: u64) -> Result<(), WriteFailed>
+    ensures { Wrote W.view sink.old sink.new (expected_count is_zero limit) result }
 {
-    if has_zero_tag {
+    if is_zero {
         put(sink, b", expected 0")
     } else {
         put_expected_below(sink, limit)
     }
 }
 
-/// Returns true if the tag of a list is 0, where reading stops at the field of this name, the number of the list's elements.
-fn has_zero_tag(entries: &[Entry], name: FieldName) -> bool
-    ensures { result ≡ has_zero_tag entries.now name }
+/// Returns true if the field of this name, at which reading stops, is the number of a list's elements, and the tag before it is 0.
+fn is_after_zero_tag(entries: &[Entry], name: FieldName) -> bool
+    ensures { result ≡ is_after_zero_tag entries.now name }
 {
     is_list_count(name) && number_at(entries, entries.len().saturating_sub(2)) == 0
 }

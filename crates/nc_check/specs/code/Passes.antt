@@ -3,7 +3,7 @@ use Rattle.std.specs.Prelude.{◌≡◌, List, [], ◌∷◌, ◌++◌, if◌the
 use Rattle.std.specs.Option.{option_to_list}
 use Rattle.nc_check.specs.declared.{finding.Finding.Finding, ahead.Ahead.Ahead}
 use Rattle.nc_check.specs.Indexed.{Indexed}
-use Rattle.nc_check.specs.Ahead.{is_count, is_type, is_values, is_var_type, known_type, number_at, values_at}
+use Rattle.nc_check.specs.Ahead.{is_count, is_type, is_values, is_var_type, var_type_at, number_at, values_at}
 
 -- what lies ahead of the field before this one
 abbrev pub ahead_with : Indexed → Ahead → Ahead
@@ -12,7 +12,7 @@ ahead_with f ahead = record {
   type_code = if is_type f then number_at f else ahead.type_code;
   count = if is_count f then number_at f else ahead.count;
   values = if is_values f then values_at f else ahead.values;
-  var_type = if is_var_type f then known_type f else ahead.var_type;
+  var_type = if is_var_type f then var_type_at f else ahead.var_type;
 }
 
 -- what a rule finds at each field, by the fields after it, from the last field to the first
