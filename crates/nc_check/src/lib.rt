@@ -21,7 +21,4 @@ pub use ahead::{Ahead, NumberAt, ValuesAt};
 pub use field_rules::{HIGHEST_RANK, LONGEST_NAME};
 pub use finding::{Fact, Finding};
 pub use kind::{Kind, Severity};
-pub use report::{Report, check};
-
-#[cfg(test)]
-mod tests;
+pub use report::{Report, check, findings_of};

@@ -50,7 +50,7 @@ pub fn check<S: Source>(alloc: Global, source: &mut S, buf: &mut [u8]) -> Result
 }
 
 /// Returns all that is found in a file with this listing, in the order of a report. Errs only if an allocation fails.
-fn findings_of(alloc: Global, listing: &Listing) -> Result<Sequence<Finding>, AllocError>
+pub fn findings_of(alloc: Global, listing: &Listing) -> Result<Sequence<Finding>, AllocError>
     ensures all { IfOk result (λ found. HasSoundLayout listing.now
         → IsPermutation (all_findings listing.now) found) }
     ensures in_order { IfOk result (AllPairs IsInOrder) }

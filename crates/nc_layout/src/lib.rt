@@ -24,6 +24,3 @@ pub use findings::layout_findings;
 pub use header_layout::sound_layout;
 pub use records::padded_slab;
 pub use slot::{Layout, Slot};
-
-#[cfg(test)]
-mod tests;

@@ -1,4 +1,5 @@
-//! Tests of `nc_fields` and `nc_check`: the fields that are listed of the headers of files, and what is found in files.
+//! Tests of `nc_layout`, `nc_fields` and `nc_check`: the fields that are listed of the headers of files, and what is found in layouts, in
+//! listings and in files.
 #![tactic(auto)]
 
 #[cfg(test)]
@@ -6,7 +7,11 @@ mod faults;
 #[cfg(test)]
 mod headers;
 #[cfg(test)]
+mod layouts;
+#[cfg(test)]
 mod listed;
+#[cfg(test)]
+mod listings;
 #[cfg(test)]
 mod names;
 #[cfg(test)]

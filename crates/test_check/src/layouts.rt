@@ -1,11 +1,11 @@
-//! The findings of one file, and the layouts of some headers. `proofs/Examples.antt` has the findings of more files, by the definition that
-//! the function is proved against.
+//! The findings of one layout, and the layouts of some headers. `proofs/Examples.antt` of `nc_layout` has the findings of more files, by the
+//! definition that the function is proved against.
 
-use crate::{
+use nc_base::{Dim, Header, NcType, NumRecs, Sequence, Var, Version};
+use nc_layout::{
     Block, Layout, LayoutFact, LayoutFinding, LayoutPlace, Slab, Slot, layout_findings,
     sound_layout,
 };
-use nc_base::{Dim, Header, NcType, NumRecs, Sequence, Var, Version};
 use std::alloc::{AllocError, Global};
 use std::test::Fail;
 

@@ -1,14 +1,13 @@
-//! What is found in small listings, by the rules of `specs/`.
+//! What is found in small listings, by the rules of `nc_check`.
 
-use crate::finding::{Fact, Finding};
-use crate::header_rules::header_findings;
 use nc_base::{FormatFault, Sequence};
+use nc_check::{Fact, Finding, findings_of};
 use nc_fields::FieldName::{
     AttsCount, AttsTag, Count, DimsCount, DimsTag, Length, Name, NameLength, NamePadding, Rank,
     Type, VarsCount, VarsTag,
 };
 use nc_fields::Owner::{Dim, GlobalAtt, Header, Var, VarAtt};
-use nc_fields::{Content, Entry, FieldBytes, FieldName, Owner, Place};
+use nc_fields::{Content, Entry, FieldBytes, FieldName, Listing, Owner, Place};
 use std::alloc::{AllocError, Global};
 use std::test::Fail;
 
@@ -245,8 +244,13 @@ const ROWS: &[Row] = &[
 #[test]
 fn small_listings(rt: HostRuntime) -> Result<(), Fail> {
     for row in ROWS {
-        let entries = listed(rt.alloc(), row.fields, row.fault)?;
-        let found = header_findings(rt.alloc(), entries.as_slice())?;
+        let listing = Listing {
+            entries: listed(rt.alloc(), row.fields, row.fault)?,
+            header: Err(FormatFault::HeaderTruncated),
+            end: 0,
+            file_len: 0,
+        };
+        let found = findings_of(rt.alloc(), &listing)?;
         assert!(rt; is_found(found.as_slice(), row.found), "{}", row.about);
     }
     Ok(())
