@@ -1,7 +1,6 @@
 -- Where the rules on lists and attributes find something: at the field that they start from, or at one that follows it in the attribute.
-use Rattle.std.proofs.Common.{◌≡◌, ℕ, ◌+◌, ◌≤◌, ◌==◌, ◌&&◌, ◌⊎◌, inl, inr, not, if◌then◌else◌, Bool, true, false, cond, List, [], ◌∷◌, find, slice_get, Option, Some, None, refl, sym, ap, ap₂, ◌∙◌, subst, arith, codes}
+use Rattle.std.proofs.Common.{◌≡◌, ℕ, ◌+◌, ◌≤◌, ◌==◌, ◌&&◌, ◌⊎◌, inl, inr, not, if◌then◌else◌, Bool, true, false, cond, List, [], ◌∷◌, find, slice_get, Option, Some, None, refl, sym, ap, ap₂, ◌∙◌, subst, arith}
 use Rattle.std.specs.List.{All}
-use Rattle.std.specs.Str.{bytes_eq}
 use Rattle.std.specs.Option.{option_to_list, option_and_then}
 use Rattle.std.proofs.lemmas.List.Elements.{All-nil, All-cons}
 use Rattle.nc_fields.specs.declared.{entry.Entry.Entry, entry.Content.Content, place.FieldName.FieldName, place.Owner.Owner, place.Place.Place}
@@ -11,10 +10,11 @@ use Rattle.nc_fields.specs.declared.place.Owner.TheVariants as owner
 use Rattle.nc_check.specs.declared.{finding.Fact.Fact, finding.Finding.Finding, ahead.NumberAt.NumberAt}
 use Rattle.nc_check.specs.declared.finding.Fact.TheVariants as fact
 use Rattle.nc_check.specs.Kinds.{kind_of, rank_of}
-use Rattle.nc_check.specs.Indexed.{Indexed, field_at, indexed_from, finding, finding_at}
+use Rattle.nc_check.specs.Indexed.{Indexed, field_at, indexed, indexed_from, finding, finding_at, each_before}
 use Rattle.nc_check.specs.Ahead.{ahead_of, is_type_name, is_count_name, is_values_name, is_type, is_count, is_values, is_field, number_in, number_at, values_in, values_at, next_number, next_values}
-use Rattle.nc_check.specs.AttributeRules.{finding_if, empty_list, empty_attribute, trailing_nul, type_finding, fill_count, fill_finding, name_finding, is_attribute, is_var_attribute, finding_by_name, attribute_finding}
+use Rattle.nc_check.specs.AttributeRules.{finding_if, empty_list, empty_attribute, trailing_nul, type_finding, fill_count, fill_finding, is_fill_name, name_finding, is_attribute, is_var_attribute, finding_by_name, attribute_finding}
 unfoldable use Rattle.nc_check.specs.AttributeRules.{attribute_findings}
+use Rattle.nc_check.specs.NameRules.{is_first}
 use Rattle.check_laws.proofs.FieldWalks.{HasFault, IsSilent, AreInStep, place_after, of_attribute, next-in_step}
 use Rattle.check_laws.proofs.EntryOffsets.{Bears, LiesAt, same-index, same-entry}
 use Rattle.check_laws.proofs.DifferingFindings.{rank, Differ, class, IsOfClass, DifferLater, AreFrom, from-none, from-then, option-pairs, AreRest, rest-all, rest-next, rest-first}
@@ -260,21 +260,20 @@ type-starts all k o (content.Number code) es attribute f =
     (number-target all (k + 1) name.Count (find is_count (indexed_from (k + 1) es)) count) refl)
 type-starts all k o c es attribute f = starts-none all k
 
-name-starts : (all : List Entry) (k : ℕ) (o : Owner) (c : Content) (es : List Entry) → is_attribute o ≡ true
-    → Follow all o (k + 1) name.NamePadding es → Starts all k (name_finding c (ahead_of (indexed_from (k + 1) es)))
-name-starts all k o (content.Bytes bs) es attribute f =
+name-starts : (all : List Entry) (first : Bool) (k : ℕ) (o : Owner) (c : Content) (es : List Entry) → is_attribute o ≡ true
+    → Follow all o (k + 1) name.NamePadding es → Starts all k (name_finding first c (ahead_of (indexed_from (k + 1) es)))
+name-starts all first k o c es attribute f =
     let fs = indexed_from (k + 1) es in
     let types = find-later is_type_name all o (k + 1) name.NamePadding name.Type lead-type (k + 1 + 1) name.Type es refl attribute f
     (λ ds g. find-here is_type_name all o (k + 1 + 1) name.Type ds refl g) in
     let counts = find-later is_count_name all o (k + 1) name.NamePadding name.Type lead-type (k + 1 + 1 + 1) name.Count es refl attribute f
     (λ ds g. find-later is_count_name all o (k + 1 + 1) name.Type name.Count lead-count (k + 1 + 1 + 1) name.Count ds refl attribute g
     (λ cs h. find-here is_count_name all o (k + 1 + 1 + 1) name.Count cs refl h)) in
-    starts-choice all k (bytes_eq bs (codes "_FillValue"))
+    starts-choice all k (is_fill_name c && first)
     (fill_finding (next_number is_type fs) (ahead_of fs).var_type (next_number is_count fs)) None
     (fill-starts all k (k + 1 + 1) (k + 1 + 1 + 1) (next_number is_type fs) (ahead_of fs).var_type (next_number is_count fs)
     (number-target all (k + 1 + 1) name.Type (find is_type fs) types) (omega arith)
     (number-target all (k + 1 + 1 + 1) name.Count (find is_count fs) counts) (omega arith)) (starts-none all k)
-name-starts all k o c es attribute f = starts-none all k
 
 attribute-of_var : (o : Owner) → is_var_attribute o ≡ true → is_attribute o ≡ true
 attribute-of_var (owner.VarAtt i k) is = refl
@@ -300,44 +299,46 @@ following n m leads all expected at k e es named attribute s rest = record {
   rest = rest-next all k e es rest;
 }
 
-entry-starts : (all : List Entry) (expected : Option Place) (at k : ℕ) (e : Entry) (es : List Entry) → AreInStep expected at (e ∷ es)
-    → AreRest all k (e ∷ es) → (n : FieldName) → e.place.name ≡ n
-    → Starts all k (finding_by_name n (field_at k e) (ahead_of (indexed_from (k + 1) es)))
-entry-starts all expected at k e es s rest name.DimsTag is =
+entry-starts : (all : List Entry) (first : Bool) (expected : Option Place) (at k : ℕ) (e : Entry) (es : List Entry)
+    → AreInStep expected at (e ∷ es) → AreRest all k (e ∷ es) → (n : FieldName) → e.place.name ≡ n
+    → Starts all k (finding_by_name first n (field_at k e) (ahead_of (indexed_from (k + 1) es)))
+entry-starts all first expected at k e es s rest name.DimsTag is =
     empty-starts all k name.DimsTag e e.content (next_number is_field (indexed_from (k + 1) es)) (rest-first all k e es rest) is
     (heavy name.DimsTag (λ c silent. silent) e is s.0.shows)
-entry-starts all expected at k e es s rest name.GlobalAttsTag is =
+entry-starts all first expected at k e es s rest name.GlobalAttsTag is =
     empty-starts all k name.GlobalAttsTag e e.content (next_number is_field (indexed_from (k + 1) es)) (rest-first all k e es rest) is
     (heavy name.GlobalAttsTag (λ c silent. silent) e is s.0.shows)
-entry-starts all expected at k e es s rest name.VarsTag is =
+entry-starts all first expected at k e es s rest name.VarsTag is =
     empty-starts all k name.VarsTag e e.content (next_number is_field (indexed_from (k + 1) es)) (rest-first all k e es rest) is
     (heavy name.VarsTag (λ c silent. silent) e is s.0.shows)
-entry-starts all expected at k e es s rest name.AttsTag is =
+entry-starts all first expected at k e es s rest name.AttsTag is =
     empty-starts all k name.AttsTag e e.content (next_number is_field (indexed_from (k + 1) es)) (rest-first all k e es rest) is
     (heavy name.AttsTag (λ c silent. silent) e is s.0.shows)
-entry-starts all expected at k e es s rest name.Type is =
+entry-starts all first expected at k e es s rest name.Type is =
     starts-tested all k (is_attribute e.place.owner) (type_finding e.content (ahead_of (indexed_from (k + 1) es)))
     (λ attribute. type-starts all k e.place.owner e.content es attribute
     (following name.Type name.Count lead-count all expected at k e es is attribute s rest))
-entry-starts all expected at k e es s rest name.Name is =
-    starts-tested all k (is_var_attribute e.place.owner) (name_finding e.content (ahead_of (indexed_from (k + 1) es)))
+entry-starts all first expected at k e es s rest name.Name is =
+    starts-tested all k (is_var_attribute e.place.owner) (name_finding first e.content (ahead_of (indexed_from (k + 1) es)))
     (λ of_var. let attribute = attribute-of_var e.place.owner of_var in
-    name-starts all k e.place.owner e.content es attribute
+    name-starts all first k e.place.owner e.content es attribute
     (following name.Name name.NamePadding lead-padding all expected at k e es is attribute s rest))
-entry-starts all expected at k e es s rest n is = starts-none all k
+entry-starts all first expected at k e es s rest n is = starts-none all k
 
 -- ---- all of them
 
 attributes-from : (all : List Entry) → AreInStep None 0 all → (expected : Option Place) (at k : ℕ) (es : List Entry)
-    → AreInStep expected at es → AreRest all k es → AreFrom (StartsAt all) k (attribute_findings (indexed_from k es))
-unfolding attribute_findings
+    → AreInStep expected at es → AreRest all k es
+    → AreFrom (StartsAt all) k (each_before (attribute_finding (indexed all)) (indexed_from k es))
 attributes-from all whole expected at k [] s rest = from-none (StartsAt all) k
 attributes-from all whole expected at k (e ∷ es) s rest =
-    from-then (StartsAt all) (starts-later all whole) k (option_to_list (attribute_finding (field_at k e) (indexed_from (k + 1) es)))
-    (attribute_findings (indexed_from (k + 1) es)) (entry-starts all expected at k e es s rest e.place.name refl)
-    (option-pairs Differ (attribute_finding (field_at k e) (indexed_from (k + 1) es)))
+    let rule = attribute_finding (indexed all) in
+    let here = rule (field_at k e) (indexed_from (k + 1) es) in
+    from-then (StartsAt all) (starts-later all whole) k (option_to_list here) (each_before rule (indexed_from (k + 1) es))
+    (entry-starts all (is_first (indexed all) (field_at k e)) expected at k e es s rest e.place.name refl) (option-pairs Differ here)
     (attributes-from all whole (place_after e.place) (at + e.size) (k + 1) es (next-in_step expected at e es s) (rest-next all k e es rest))
 
 -- no two findings of the rules on lists and attributes share offset and kind
-pub attributes-differ : (es : List Entry) → AreInStep None 0 es → AreFrom (StartsAt es) 0 (attribute_findings (indexed_from 0 es))
+pub attributes-differ : (es : List Entry) → AreInStep None 0 es → AreFrom (StartsAt es) 0 (attribute_findings (indexed es))
+unfolding attribute_findings
 attributes-differ es s = attributes-from es s None 0 0 es s (rest-all es)

@@ -1,7 +1,6 @@
 -- Nothing is found about the spelling at the fields of a header that are as they are written.
-use Rattle.std.proofs.Common.{◌≡◌, ℕ, zero, suc, ◌+◌, ◌==◌, ◌&&◌, ◌||◌, not, Bool, true, false, List, [], ◌∷◌, ◌++◌, map, find, replicate, Option, Some, None, refl, sym, ap, ◌∙◌, subst, option_to_list, if◌then◌else◌, codes}
+use Rattle.std.proofs.Common.{◌≡◌, ℕ, zero, suc, ◌+◌, ◌==◌, ◌&&◌, ◌||◌, not, Bool, true, false, List, [], ◌∷◌, ◌++◌, map, find, replicate, Option, Some, None, refl, sym, ap, ◌∙◌, subst, option_to_list, if◌then◌else◌}
 use Rattle.std.specs.Option.{option_map, option_and_then}
-use Rattle.std.specs.Str.{bytes_eq}
 use Rattle.std.proofs.lemmas.List.Folds.{list_any-append}
 use Rattle.nc_base.specs.declared.{header.Header.Header}
 use Rattle.nc_base.specs.declared.fault.FormatFault.TheVariants.{BadName, FloatingType}
@@ -15,13 +14,13 @@ use Rattle.nc_fields.specs.Entries.{Seen, seen_by, steps_of, name_steps, owner_s
 unfoldable use Rattle.nc_fields.specs.Entries.{seen}
 use Rattle.nc_check.specs.declared.{finding.Fact.Fact, finding.Finding.Finding, ahead.NumberAt.NumberAt, ahead.Ahead.Ahead}
 use Rattle.nc_check.specs.declared.finding.Fact.TheVariants as fact
-use Rattle.nc_check.specs.Indexed.{Indexed, field_at, indexed_from, indexed, finding, each_after}
+use Rattle.nc_check.specs.Indexed.{Indexed, field_at, indexed_from, indexed, finding, each_before, each_after}
 use Rattle.nc_check.specs.Ahead.{ahead_of, is_field, next_number, number_in}
-use Rattle.nc_check.specs.AttributeRules.{finding_if, empty_list, empty_attribute, trailing_nul, type_finding, fill_count, fill_finding, name_finding, is_attribute, is_var_attribute, finding_by_name, attribute_finding}
+use Rattle.nc_check.specs.AttributeRules.{finding_if, empty_list, empty_attribute, trailing_nul, type_finding, fill_count, fill_finding, is_fill_name, name_finding, is_attribute, is_var_attribute, finding_by_name, attribute_finding}
 unfoldable use Rattle.nc_check.specs.AttributeRules.{attribute_findings}
 use Rattle.nc_check.specs.FieldRules.{has_nonzero, is_not_nfc, fact_if, form_fact, content_facts, facts_with, findings_at, is_floating}
 unfoldable use Rattle.nc_check.specs.FieldRules.{field_findings, floating_findings}
-use Rattle.nc_check.specs.NameRules.{key_of, first_index, duplicate_name}
+use Rattle.nc_check.specs.NameRules.{key_of, first_index, duplicate_name, is_first}
 unfoldable use Rattle.nc_check.specs.NameRules.{name_findings}
 unfoldable use Rattle.nc_check.specs.HeaderRules.{header_findings}
 use Rattle.check_laws.specs.Laws.{is_of_spelling, has_any}
@@ -94,10 +93,9 @@ fill-other (Some type_code) (Some var_type) count =
     choice-other (type_code.number == var_type.number) _ _ (then-other fill_count (λ count. if-other _ _ refl) count) refl
 fill-other type_code var_type count = refl
 
-name-other : (c : Content) (ahead : Ahead) → IsOther (name_finding c ahead)
-name-other (content.Bytes bytes) ahead =
-    choice-other (bytes_eq bytes (codes "_FillValue")) _ _ (fill-other ahead.type_code ahead.var_type ahead.count) refl
-name-other c ahead = refl
+name-other : (first : Bool) (c : Content) (ahead : Ahead) → IsOther (name_finding first c ahead)
+name-other first c ahead =
+    choice-other (is_fill_name c && first) _ _ (fill-other ahead.type_code ahead.var_type ahead.count) refl
 
 -- what is found at a tag before this field
 empty-other : (tag : ℕ) (g : Indexed) (i offset : ℕ) (steps : List Step) (f : Field) → (not (tag == 0) && (number_of f == 0)) ≡ false
@@ -132,11 +130,11 @@ tag-other len tag g k (e ∷ es) (f ∷ fs) same whole is =
     (empty-other tag g k e.offset f.steps f is)
 
 -- what is found at an entry with this content, which shows this field
-rule-other : (h : Header) (len : ℕ) (place : FieldName) (o : Owner) (g : Indexed) (k : ℕ) (es : List Entry) (f : Field) (fs : List Field)
+rule-other : (h : Header) (len : ℕ) (first : Bool) (place : FieldName) (o : Owner) (g : Indexed) (k : ℕ) (es : List Entry) (f : Field) (fs : List Field)
     → map seen_by es ≡ map (seen len) fs → AreWhole fs → IsCanonical h (name_steps place ++ owner_steps o) f fs
     → g.entry.content ≡ whole_content (name_steps place ++ owner_steps o) f.size (bytes_of f)
-    → IsOther (finding_by_name place g (ahead_of (indexed_from k es)))
-rule-other h len place o g k es f fs same whole is shows = by-place place is shows
+    → IsOther (finding_by_name first place g (ahead_of (indexed_from k es)))
+rule-other h len first place o g k es f fs same whole is shows = by-place place is shows
   where
     at-tag : FollowsTag (number_of f) fs → g.entry.content ≡ content.Number (number_of f)
         → IsOther (empty_list g g.entry.content (next_number is_field (indexed_from k es)))
@@ -146,28 +144,29 @@ rule-other h len place o g k es f fs same whole is shows = by-place place is sho
 
     by-place : (place : FieldName) → IsCanonical h (name_steps place ++ owner_steps o) f fs
         → g.entry.content ≡ whole_content (name_steps place ++ owner_steps o) f.size (bytes_of f)
-        → IsOther (finding_by_name place g (ahead_of (indexed_from k es)))
+        → IsOther (finding_by_name first place g (ahead_of (indexed_from k es)))
     by-place name.DimsTag is shows = at-tag is shows
     by-place name.GlobalAttsTag is shows = at-tag is shows
     by-place name.VarsTag is shows = at-tag is shows
     by-place name.AttsTag is shows = at-tag is shows
     by-place name.Type is shows = choice-other (is_attribute g.entry.place.owner) _ _ (type-other g.entry.content _) refl
-    by-place name.Name is shows = choice-other (is_var_attribute g.entry.place.owner) _ _ (name-other g.entry.content _) refl
+    by-place name.Name is shows =
+        choice-other (is_var_attribute g.entry.place.owner) _ _ (name-other first g.entry.content (ahead_of (indexed_from k es))) refl
     by-place place is shows = refl
 
 -- ---- all fields
 
--- what is found at these fields alone, and about lists and attributes
-record FindNoSpelling (fs : List Indexed) : Type 0 where
+-- what is found at these of all fields alone, and about lists and attributes
+record FindNoSpelling (all fs : List Indexed) : Type 0 where
   alone : AreOther (field_findings fs)
-  attributes : AreOther (attribute_findings fs)
+  attributes : AreOther (each_before (attribute_finding all) fs)
 
-fields-other : (h : Header) (len k : ℕ) (es : List Entry) (fs : List Field) → map seen_by es ≡ map (seen len) fs → AreWhole fs
-    → AreCanonical h fs → FindNoSpelling (indexed_from k es)
-unfolding field_findings attribute_findings
-fields-other h len k [] fs same whole are = record { alone = refl; attributes = refl }
-fields-other h len k (e ∷ es) [] same whole are = absurd cc
-fields-other h len k (e ∷ es) (f ∷ fs) same whole are =
+fields-other : (h : Header) (len : ℕ) (all : List Indexed) (k : ℕ) (es : List Entry) (fs : List Field) → map seen_by es ≡ map (seen len) fs → AreWhole fs
+    → AreCanonical h fs → FindNoSpelling all (indexed_from k es)
+unfolding field_findings
+fields-other h len all k [] fs same whole are = record { alone = refl; attributes = refl }
+fields-other h len all k (e ∷ es) [] same whole are = absurd cc
+fields-other h len all k (e ∷ es) (f ∷ fs) same whole are =
     let first : seen_by e ≡ seen len f = cc in
     let rest : map seen_by es ≡ map (seen len) fs = cc in
     let g = field_at k e in
@@ -176,15 +175,15 @@ fields-other h len k (e ∷ es) (f ∷ fs) same whole are =
     let is = subst (λ steps. IsCanonical h steps f fs) (sym of.steps) are.0 in
     let shows : e.content ≡ whole_content (steps_of e.place) f.size (bytes_of f) =
     of.content ∙ ap (λ steps. whole_content steps f.size (bytes_of f)) (sym of.steps) in
-    let more = fields-other h len (k + 1) es fs rest whole.1 are.1 in
+    let more = fields-other h len all (k + 1) es fs rest whole.1 are.1 in
     record {
       alone = other-then (findings_at g) (field_findings after)
           (subst (λ fault. AreOther (map (finding g) (facts_with fault e.place.name e.content))) (sym of.sound)
           (subst (λ c. AreOther (map (finding g) (content_facts e.place.name c))) (sym shows)
           (facts-other h e.place.name e.place.owner g f fs is)))
           more.alone;
-      attributes = other-then (option_to_list (attribute_finding g after)) (attribute_findings after)
-          (rule-other h len e.place.name e.place.owner g (k + 1) es f fs rest whole.1 is shows) more.attributes;
+      attributes = other-then (option_to_list (attribute_finding all g after)) (each_before (attribute_finding all) after)
+          (rule-other h len (is_first all g) e.place.name e.place.owner g (k + 1) es f fs rest whole.1 is shows) more.attributes;
     }
 
 -- ---- names and floating types
@@ -210,10 +209,10 @@ floating-other None = refl
 
 pub header-other : (h : Header) (len : ℕ) (es : List Entry) (fs : List Field) → map seen_by es ≡ map (seen len) fs → AreWhole fs
     → AreCanonical h fs → AreOther (header_findings es)
-unfolding header_findings floating_findings name_findings
+unfolding header_findings floating_findings name_findings attribute_findings
 header-other h len es fs same whole are =
     let gs = indexed es in
-    let none = fields-other h len 0 es fs same whole are in
+    let none = fields-other h len gs 0 es fs same whole are in
     other-then (field_findings gs ++ floating_findings gs ++ name_findings gs) (attribute_findings gs)
     (other-then (field_findings gs ++ floating_findings gs) (name_findings gs)
     (other-then (field_findings gs) (floating_findings gs) none.alone (floating-other (find is_floating gs))) (names-other gs []))

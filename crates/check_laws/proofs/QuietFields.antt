@@ -15,9 +15,10 @@ use Rattle.check_laws.specs.Written.{bytes_of, number_of, IsWrittenCount, IsWrit
 use Rattle.check_laws.proofs.Vsizes.{IsWhole, AreWhole, IsVsizeWritten, AreVsizesWritten}
 use Rattle.nc_check.specs.declared.{finding.Fact.Fact, finding.Finding.Finding}
 use Rattle.nc_check.specs.declared.finding.Fact.TheVariants as fact
-use Rattle.nc_check.specs.Indexed.{Indexed, field_at, indexed_from, finding}
+use Rattle.nc_check.specs.Indexed.{Indexed, field_at, indexed, indexed_from, finding, each_before}
 use Rattle.nc_check.specs.Ahead.{ahead_of, is_field, next_number, number_in}
 use Rattle.nc_check.specs.AttributeRules.{empty_list, finding_by_name, attribute_finding}
+use Rattle.nc_check.specs.NameRules.{is_first}
 use Rattle.nc_check.specs.FieldRules.{has_nonzero, content_facts, facts_with, findings_at}
 unfoldable use Rattle.nc_check.specs.FieldRules.{field_findings}
 unfoldable use Rattle.nc_check.specs.AttributeRules.{attribute_findings}
@@ -97,53 +98,58 @@ filling-shows steps place f (content.Bytes bs) after go e = go bs e
 filling-shows steps place f (content.Values b) after go e = tt
 filling-shows steps place f content.Cut after go e = tt
 
-place-shows : (place : FieldName) (o : Owner) (f : Indexed) (k : ℕ) (after : List Entry)
+place-shows : (first : Bool) (place : FieldName) (o : Owner) (f : Indexed) (k : ℕ) (after : List Entry)
     → AreOther (map (finding f) (content_facts place f.entry.content))
-    → AreOther (option_to_list (finding_by_name place f (ahead_of (indexed_from k after))))
+    → AreOther (option_to_list (finding_by_name first place f (ahead_of (indexed_from k after))))
     → Shows (name_steps place ++ owner_steps o) f.entry.content (map seen_by after)
-place-shows name.Magic o f k after e d = tt
-place-shows name.Version o f k after e d = tt
-place-shows name.NumRecs o f k after e d = tt
-place-shows name.DimsTag o f k after e d = tag-shows (Dims ∷ owner_steps o) f f.entry.content k after d
-place-shows name.DimsCount o f k after e d = tt
-place-shows name.GlobalAttsTag o f k after e d = tag-shows (Gatts ∷ owner_steps o) f f.entry.content k after d
-place-shows name.GlobalAttsCount o f k after e d = tt
-place-shows name.VarsTag o f k after e d = tag-shows (Vars ∷ owner_steps o) f f.entry.content k after d
-place-shows name.VarsCount o f k after e d = tt
-place-shows name.NameLength o f k after e d = tt
-place-shows name.Name o f k after e d = tt
-place-shows name.NamePadding o f k after e d =
+place-shows first name.Magic o f k after e d = tt
+place-shows first name.Version o f k after e d = tt
+place-shows first name.NumRecs o f k after e d = tt
+place-shows first name.DimsTag o f k after e d = tag-shows (Dims ∷ owner_steps o) f f.entry.content k after d
+place-shows first name.DimsCount o f k after e d = tt
+place-shows first name.GlobalAttsTag o f k after e d = tag-shows (Gatts ∷ owner_steps o) f f.entry.content k after d
+place-shows first name.GlobalAttsCount o f k after e d = tt
+place-shows first name.VarsTag o f k after e d = tag-shows (Vars ∷ owner_steps o) f f.entry.content k after d
+place-shows first name.VarsCount o f k after e d = tt
+place-shows first name.NameLength o f k after e d = tt
+place-shows first name.Name o f k after e d = tt
+place-shows first name.NamePadding o f k after e d =
     filling-shows (Name ∷ owner_steps o) name.NamePadding f f.entry.content (map seen_by after)
     (λ bs e. padding-shows (has_nonzero bs) f _ e) e
-place-shows name.Length o f k after e d = tt
-place-shows name.Type o f k after e d = tt
-place-shows name.Count o f k after e d = tt
-place-shows name.Values o f k after e d = tt
-place-shows name.Padding o f k after e d =
+place-shows first name.Length o f k after e d = tt
+place-shows first name.Type o f k after e d = tt
+place-shows first name.Count o f k after e d = tt
+place-shows first name.Values o f k after e d = tt
+place-shows first name.Padding o f k after e d =
     filling-shows (owner_steps o) name.Padding f f.entry.content (map seen_by after)
     (λ bs e. padding-shows (has_nonzero bs) f _ e) e
-place-shows name.Rank o f k after e d = tt
-place-shows (name.DimId i) o f k after e d = tt
-place-shows name.AttsTag o f k after e d = tag-shows (Atts ∷ owner_steps o) f f.entry.content k after d
-place-shows name.AttsCount o f k after e d = tt
-place-shows name.Vsize o f k after e d = tt
-place-shows name.Begin o f k after e d = tt
+place-shows first name.Rank o f k after e d = tt
+place-shows first (name.DimId i) o f k after e d = tt
+place-shows first name.AttsTag o f k after e d = tag-shows (Atts ∷ owner_steps o) f f.entry.content k after d
+place-shows first name.AttsCount o f k after e d = tt
+place-shows first name.Vsize o f k after e d = tt
+place-shows first name.Begin o f k after e d = tt
 
-pub quiet-entries : (k : ℕ) (entries : List Entry) → AreOther (field_findings (indexed_from k entries))
-    → AreOther (attribute_findings (indexed_from k entries)) → AreQuiet (map seen_by entries)
-unfolding field_findings attribute_findings
-quiet-entries k [] e d = tt
-quiet-entries k (entry ∷ entries) e d =
+quiet-from : (all : List Indexed) (k : ℕ) (entries : List Entry) → AreOther (field_findings (indexed_from k entries))
+    → AreOther (each_before (attribute_finding all) (indexed_from k entries)) → AreQuiet (map seen_by entries)
+unfolding field_findings
+quiet-from all k [] e d = tt
+quiet-from all k (entry ∷ entries) e d =
     let f = field_at k entry in
     let at = both-other (findings_at f) (field_findings (indexed_from (k + 1) entries)) e in
-    let by =
-    both-other (option_to_list (attribute_finding f (indexed_from (k + 1) entries))) (attribute_findings (indexed_from (k + 1) entries)) d in (
+    let after = indexed_from (k + 1) entries in
+    let by = both-other (option_to_list (attribute_finding all f after)) (each_before (attribute_finding all) after) d in (
       λ sound.
-          place-shows entry.place.name entry.place.owner f (k + 1) entries
+          place-shows (is_first all f) entry.place.name entry.place.owner f (k + 1) entries
           (subst (λ fault. AreOther (map (finding f) (facts_with fault entry.place.name entry.content))) sound at.0)
           by.0,
-      quiet-entries (k + 1) entries at.1 by.1,
+      quiet-from all (k + 1) entries at.1 by.1,
     )
+
+pub quiet-entries : (entries : List Entry) → AreOther (field_findings (indexed entries)) → AreOther (attribute_findings (indexed entries))
+    → AreQuiet (map seen_by entries)
+unfolding attribute_findings
+quiet-entries entries e d = quiet-from (indexed entries) 0 entries e d
 
 -- ---- fields that are as they are written
 

@@ -204,7 +204,7 @@ entries-quiet l other =
     let fs = indexed l.entries in
     let all = both-other (field_findings fs ++ floating_findings fs ++ name_findings fs) (attribute_findings fs) other in
     let some = both-other (field_findings fs ++ floating_findings fs) (name_findings fs) all.0 in
-    quiet-entries 0 l.entries (both-other (field_findings fs) (floating_findings fs) some.0).0 all.1
+    quiet-entries l.entries (both-other (field_findings fs) (floating_findings fs) some.0).0 all.1
 
 pub quiet-spellings : QuietSpellingsAreCanonical
 unfolding all_findings

@@ -1,7 +1,6 @@
 -- Which findings are faults: of those at fields alone, the ones at entries that the strict rules refuse; of all others, none.
-use Rattle.std.proofs.Common.{◌≡◌, ℕ, ◌+◌, ◌==◌, ◌⊎◌, inl, inr, Bool, true, false, cond, List, [], ◌∷◌, ◌++◌, flat_map, find, slice_get, Option, Some, None, Result, Ok, Err, refl, sym, ◌∙◌, codes}
+use Rattle.std.proofs.Common.{◌≡◌, ℕ, ◌+◌, ◌==◌, ◌&&◌, ◌⊎◌, inl, inr, Bool, true, false, cond, List, [], ◌∷◌, ◌++◌, flat_map, find, slice_get, Option, Some, None, Result, Ok, Err, refl, sym, ◌∙◌}
 use Rattle.std.specs.List.{All, Contains}
-use Rattle.std.specs.Str.{bytes_eq}
 use Rattle.std.specs.Option.{option_to_list, option_map, option_and_then}
 use Rattle.std.proofs.lemmas.List.Elements.{All-nil, All-cons, All-append, All-map, Contains-append_right}
 use Rattle.nc_base.specs.declared.{fault.FormatFault.FormatFault, header.Header.Header, version.Version.Version}
@@ -23,9 +22,9 @@ use Rattle.nc_check.specs.Indexed.{Indexed, field_at, indexed_from, indexed, fin
 use Rattle.nc_check.specs.FieldRules.{facts_of, findings_at, is_floating, floating_finding}
 unfoldable use Rattle.nc_check.specs.FieldRules.{field_findings, floating_findings}
 unfoldable use Rattle.nc_check.specs.NameRules.{name_findings}
-use Rattle.nc_check.specs.NameRules.{NameKey, key_of, first_index, duplicate_name}
+use Rattle.nc_check.specs.NameRules.{NameKey, key_of, first_index, duplicate_name, is_first}
 unfoldable use Rattle.nc_check.specs.AttributeRules.{attribute_findings}
-use Rattle.nc_check.specs.AttributeRules.{finding_if, empty_list, empty_attribute, trailing_nul, type_finding, fill_count, fill_finding, name_finding, is_attribute, is_var_attribute, finding_by_name, attribute_finding}
+use Rattle.nc_check.specs.AttributeRules.{finding_if, empty_list, empty_attribute, trailing_nul, type_finding, fill_count, fill_finding, is_fill_name, name_finding, is_attribute, is_var_attribute, finding_by_name, attribute_finding}
 use Rattle.nc_check.specs.Ahead.{ahead_of}
 unfoldable use Rattle.nc_check.specs.WholeHeader.{vsize_findings, whole_findings}
 use Rattle.nc_check.specs.WholeHeader.{is_numrecs, is_vsize, is_begin, named, vsize_finding, found_at, located, layout_facts}
@@ -123,24 +122,25 @@ plain-fill (Some type_code) (Some var_type) count =
     (plain-one _ (refl, refl))
 plain-fill type_code var_type count = plain-none
 
-plain-name_finding : (c : Content) (ahead : Ahead) → PlainOption (name_finding c ahead)
-plain-name_finding (content.Bytes bytes) ahead =
-    plain-choice (bytes_eq bytes (codes "_FillValue")) _ _ (plain-fill ahead.type_code ahead.var_type ahead.count) plain-none
-plain-name_finding c ahead = plain-none
+plain-name_finding : (first : Bool) (c : Content) (ahead : Ahead) → PlainOption (name_finding first c ahead)
+plain-name_finding first c ahead =
+    plain-choice (is_fill_name c && first) _ _ (plain-fill ahead.type_code ahead.var_type ahead.count) plain-none
 
-plain-by_name : (place : FieldName) (f : Indexed) (ahead : Ahead) → PlainOption (finding_by_name place f ahead)
-plain-by_name name.DimsTag f ahead = plain-list f f.entry.content ahead.next
-plain-by_name name.GlobalAttsTag f ahead = plain-list f f.entry.content ahead.next
-plain-by_name name.VarsTag f ahead = plain-list f f.entry.content ahead.next
-plain-by_name name.AttsTag f ahead = plain-list f f.entry.content ahead.next
-plain-by_name name.Type f ahead = plain-choice (is_attribute f.entry.place.owner) _ _ (plain-type_finding f.entry.content ahead) plain-none
-plain-by_name name.Name f ahead =
-    plain-choice (is_var_attribute f.entry.place.owner) _ _ (plain-name_finding f.entry.content ahead) plain-none
-plain-by_name place f ahead = plain-none
+plain-by_name : (first : Bool) (place : FieldName) (f : Indexed) (ahead : Ahead) → PlainOption (finding_by_name first place f ahead)
+plain-by_name first name.DimsTag f ahead = plain-list f f.entry.content ahead.next
+plain-by_name first name.GlobalAttsTag f ahead = plain-list f f.entry.content ahead.next
+plain-by_name first name.VarsTag f ahead = plain-list f f.entry.content ahead.next
+plain-by_name first name.AttsTag f ahead = plain-list f f.entry.content ahead.next
+plain-by_name first name.Type f ahead =
+    plain-choice (is_attribute f.entry.place.owner) _ _ (plain-type_finding f.entry.content ahead) plain-none
+plain-by_name first name.Name f ahead =
+    plain-choice (is_var_attribute f.entry.place.owner) _ _ (plain-name_finding first f.entry.content ahead) plain-none
+plain-by_name first place f ahead = plain-none
 
 pub plain-attributes : (fs : List Indexed) → All Plain (attribute_findings fs)
 unfolding attribute_findings
-plain-attributes fs = plain-before attribute_finding (λ f after. plain-by_name f.entry.place.name f (ahead_of after)) fs
+plain-attributes fs =
+    plain-before (attribute_finding fs) (λ f after. plain-by_name (is_first fs f) f.entry.place.name f (ahead_of after)) fs
 
 -- ---- a whole header
 

@@ -17,8 +17,9 @@ use Rattle.nc_check.specs.declared.names.NameList.{NameList}
 use Rattle.nc_check.specs.declared.names.NameList.TheVariants.{Dims, GlobalAtts, Vars, VarAtts}
 use Rattle.nc_check.specs.contracts.names.NameListOrd.TheImpl as lists
 use Rattle.nc_check.specs.Indexed.{Indexed}
-use Rattle.nc_check.specs.NameRules.{NameKey, is_same_key, is_same_list, key_of, has_key, first_index}
-use Rattle.nc_check.specs.code.FirstNames.{hash, index_if, is_key_of}
+use Rattle.nc_check.specs.NameRules.{NameKey, is_same_key, is_same_list, is_index, is_first, key_of, has_key, first_index}
+use Rattle.nc_check.specs.declared.names.FirstNames.{FirstNames}
+use Rattle.nc_check.specs.code.FirstNames.{HasFirst, hash, index_if, index_of, is_first_of, is_key_of}
 
 -- ---- keys of the map
 
@@ -226,3 +227,14 @@ pub first_index-name : (key k : NameKey) (earlier : List Indexed) (f : Indexed) 
 first_index-name key k earlier f is =
     sym (first_index-push key earlier f
     ∙ ap (λ (o : Option NameKey). option_or (first_index key earlier) (index_if (is_key key o) f.index)) is)
+
+-- ---- the first of a name
+
+pub first-of : (names : FirstNames) (fields : List Indexed) (f : Indexed) → HasFirst names fields → is_first_of names f ≡ is_first fields f
+first-of names fields f has = by-key (key_of f.entry)
+  where
+    by-key : (o : Option NameKey)
+        → option_map_or (λ key. is_index f.index (index_of names key)) o false
+        ≡ option_map_or (λ key. is_index f.index (first_index key fields)) o false
+    by-key None = refl
+    by-key (Some key) = ap (is_index f.index) (has key)

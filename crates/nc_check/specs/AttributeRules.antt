@@ -10,6 +10,7 @@ use Rattle.nc_check.specs.declared.{finding.Finding.Finding, ahead.NumberAt.Numb
 use Rattle.nc_check.specs.declared.finding.Fact.TheVariants.{EmptyList, EmptyAttribute, TrailingNul, FillType, FillCount}
 use Rattle.nc_check.specs.Indexed.{Indexed, finding_at, finding, each_before}
 use Rattle.nc_check.specs.Ahead.{ahead_of}
+use Rattle.nc_check.specs.NameRules.{is_first}
 
 -- a finding, if the condition holds
 abbrev pub finding_if : Bool → Finding → Option Finding
@@ -53,11 +54,14 @@ fill_finding (Some type_code) (Some var_type) count =
     else Some (finding_at type_code.index type_code.offset (FillType var_type.number))
 fill_finding type_code var_type count = None
 
--- at a name of an attribute of a variable
-abbrev pub name_finding : Content → Ahead → Option Finding
-name_finding (content.Bytes bytes) ahead =
-    if bytes_eq bytes (codes "_FillValue") then fill_finding ahead.type_code ahead.var_type ahead.count else None
-name_finding c ahead = None
+abbrev pub is_fill_name : Content → Bool
+is_fill_name (content.Bytes bytes) = bytes_eq bytes (codes "_FillValue")
+is_fill_name c = false
+
+-- at a name of an attribute of a variable, which is the first of the name or isn't
+abbrev pub name_finding : Bool → Content → Ahead → Option Finding
+name_finding is_first c ahead =
+    if is_fill_name c && is_first then fill_finding ahead.type_code ahead.var_type ahead.count else None
 
 -- ---- all fields
 
@@ -70,20 +74,21 @@ abbrev pub is_var_attribute : Owner → Bool
 is_var_attribute (owner.VarAtt i k) = true
 is_var_attribute o = false
 
--- the finding at a field of this name, if there is one
-abbrev pub finding_by_name : FieldName → Indexed → Ahead → Option Finding
-finding_by_name name.DimsTag f ahead = empty_list f f.entry.content ahead.next
-finding_by_name name.GlobalAttsTag f ahead = empty_list f f.entry.content ahead.next
-finding_by_name name.VarsTag f ahead = empty_list f f.entry.content ahead.next
-finding_by_name name.AttsTag f ahead = empty_list f f.entry.content ahead.next
-finding_by_name name.Type f ahead = if is_attribute f.entry.place.owner then type_finding f.entry.content ahead else None
-finding_by_name name.Name f ahead = if is_var_attribute f.entry.place.owner then name_finding f.entry.content ahead else None
-finding_by_name place f ahead = None
+-- the finding at a field of this name, if there is one; if it is a name of a list, it is the first of them or isn't
+abbrev pub finding_by_name : Bool → FieldName → Indexed → Ahead → Option Finding
+finding_by_name is_first name.DimsTag f ahead = empty_list f f.entry.content ahead.next
+finding_by_name is_first name.GlobalAttsTag f ahead = empty_list f f.entry.content ahead.next
+finding_by_name is_first name.VarsTag f ahead = empty_list f f.entry.content ahead.next
+finding_by_name is_first name.AttsTag f ahead = empty_list f f.entry.content ahead.next
+finding_by_name is_first name.Type f ahead = if is_attribute f.entry.place.owner then type_finding f.entry.content ahead else None
+finding_by_name is_first name.Name f ahead =
+    if is_var_attribute f.entry.place.owner then name_finding is_first f.entry.content ahead else None
+finding_by_name is_first place f ahead = None
 
--- the finding at a field that these follow
-abbrev pub attribute_finding : Indexed → List Indexed → Option Finding
-attribute_finding f after = finding_by_name f.entry.place.name f (ahead_of after)
+-- the finding at one of these fields, which others of them follow
+abbrev pub attribute_finding : List Indexed → Indexed → List Indexed → Option Finding
+attribute_finding fields f after = finding_by_name (is_first fields f) f.entry.place.name f (ahead_of after)
 
 -- all findings about lists and attributes
 unfoldable pub attribute_findings : List Indexed → List Finding
-attribute_findings fields = each_before attribute_finding fields
+attribute_findings fields = each_before (attribute_finding fields) fields

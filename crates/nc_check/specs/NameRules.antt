@@ -55,6 +55,14 @@ has_key key f = option_map_or (λ (k : NameKey). is_same_key k key) (key_of f.en
 abbrev pub first_index : NameKey → List Indexed → Option ℕ
 first_index key fields = option_map (λ (f : Indexed). f.index) (find (has_key key) fields)
 
+-- this index
+abbrev pub is_index : ℕ → Option ℕ → Bool
+is_index i o = option_map_or (λ (k : ℕ). k == i) o false
+
+-- of these fields, it is the first that is its name
+abbrev pub is_first : List Indexed → Indexed → Bool
+is_first fields f = option_map_or (λ key. is_index f.index (first_index key fields)) (key_of f.entry) false
+
 -- the finding that the name of a field is that of an earlier one
 abbrev pub duplicate_name : List Indexed → Indexed → Option Finding
 duplicate_name earlier f =

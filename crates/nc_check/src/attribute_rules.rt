@@ -3,11 +3,14 @@
 ghost use Rattle.std.specs.Prelude.{◌≡◌, ◌++◌, OnOk};
 ghost use Rattle.std.specs.Option.{option_and_then, option_to_list};
 ghost use Rattle.nc_check.specs.Indexed.{field_at, indexed};
-ghost use Rattle.nc_check.specs.AttributeRules.{attribute_findings, empty_attribute, empty_list, fill_count, fill_finding, finding_by_name, finding_if, is_attribute, is_var_attribute, name_finding, trailing_nul, type_finding};
+ghost use Rattle.nc_check.specs.AttributeRules.{attribute_findings, empty_attribute, empty_list, fill_count, fill_finding, finding_by_name, finding_if, is_attribute, is_fill_name, is_var_attribute, name_finding, trailing_nul, type_finding};
+ghost use Rattle.nc_check.specs.code.FirstNames.{HasFirst, is_first_of};
 ghost use Rattle.nc_check.specs.code.Passes.{Appended};
 
 use crate::ahead::{Ahead, NumberAt, ValuesAt, nothing_ahead};
 use crate::finding::{Fact, Finding, finding_at, push_some};
+use crate::name_rules::is_first;
+use crate::names::FirstNames;
 use nc_base::Sequence;
 use nc_fields::{Content, Entry, FieldName, Owner};
 use std::alloc::AllocError;
@@ -15,31 +18,34 @@ use std::alloc::AllocError;
 /// The type code of `char`.
 const CHAR: u64 = 2;
 
-/// Appends the findings about lists and attributes, in no order that is promised.
-pub(crate) fn push_attribute_findings(
+/// Appends the findings about lists and attributes, in no order that is promised. `names` are the names of the fields.
+pub(crate) fn push_attribute_findings<'a>(
     found: &mut Sequence<Finding>,
-    entries: &[Entry],
+    entries: &'a [Entry],
+    names: &FirstNames<'a>,
 ) -> Result<(), AllocError>
+    requires { HasFirst names.now (indexed entries.now) }
     ensures { OnOk result (Appended (attribute_findings (indexed entries.now)) found.old found.new) }
 {
     let mut ahead = nothing_ahead();
     for i in (0..entries.len()).rev() {
         let entry = &entries[i];
-        push_attribute_finding(found, i as u64, entry, &ahead)?;
+        push_attribute_finding(found, i as u64, entry, names, &ahead)?;
         ahead.put_before(i as u64, entry);
     }
     Ok(())
 }
 
 /// Appends the finding about a list or an attribute at the field of this index, if there is one. `ahead` lies ahead of the field.
-fn push_attribute_finding(
+fn push_attribute_finding<'a>(
     found: &mut Sequence<Finding>,
     i: u64,
-    entry: &Entry,
+    entry: &'a Entry,
+    names: &FirstNames<'a>,
     ahead: &Ahead,
 ) -> Result<(), AllocError>
-    ensures { OnOk result (found.new ≡ found.old
-        ++ option_to_list (finding_by_name entry.now.place.name (field_at i entry.now) ahead.now)) }
+    ensures { OnOk result (found.new ≡ found.old ++ option_to_list (finding_by_name
+        (is_first_of names.now (field_at i entry.now)) entry.now.place.name (field_at i entry.now) ahead.now)) }
 {
     match entry.place.name {
         FieldName::DimsTag | FieldName::GlobalAttsTag | FieldName::VarsTag | FieldName::AttsTag => {
@@ -49,7 +55,7 @@ fn push_attribute_finding(
             push_some(found, type_finding(&entry.content, ahead))
         }
         FieldName::Name if is_var_attribute(entry.place.owner) => {
-            push_some(found, name_finding(&entry.content, ahead))
+            push_some(found, name_finding(i, entry, names, ahead))
         }
         _ => Ok(()),
     }
@@ -114,14 +120,28 @@ fn trailing_nul(values: ValuesAt) -> Option<Finding>
     )
 }
 
-/// Returns the finding about an attribute of a variable that has this name.
-fn name_finding(name: &Content, ahead: &Ahead) -> Option<Finding>
-    ensures { result ≡ name_finding name.now ahead.now }
+/// Returns the finding about the attribute of a variable whose name is the field of this index.
+fn name_finding<'a>(
+    i: u64,
+    entry: &'a Entry,
+    names: &FirstNames<'a>,
+    ahead: &Ahead,
+) -> Option<Finding>
+    ensures { result ≡ name_finding (is_first_of names.now (field_at i entry.now))
+        entry.now.content ahead.now }
 {
-    match name {
-        Content::Bytes(name) if name.as_slice() == b"_FillValue".as_slice() => fill_finding(ahead),
-        _ => None,
+    if is_fill_name(&entry.content) && is_first(names, i, entry) {
+        fill_finding(ahead)
+    } else {
+        None
     }
+}
+
+/// Returns true if this is the name `_FillValue`.
+fn is_fill_name(name: &Content) -> bool
+    ensures { result ≡ is_fill_name name.now }
+{
+    matches!(name, Content::Bytes(name) if name.as_slice() == b"_FillValue".as_slice())
 }
 
 /// Returns the finding that a fill value isn't one value of the type of its variable.

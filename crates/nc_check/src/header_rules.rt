@@ -23,7 +23,7 @@ pub(crate) fn header_findings(
     let mut found = Sequence::new(alloc);
     push_field_findings(&mut found, alloc, entries)?;
     push_floating_finding(&mut found, entries)?;
-    push_name_findings(&mut found, alloc, entries)?;
-    push_attribute_findings(&mut found, entries)?;
+    let names = push_name_findings(&mut found, alloc, entries)?;
+    push_attribute_findings(&mut found, entries, &names)?;
     Ok(found)
 }

@@ -4,7 +4,7 @@ ghost use Rattle.std.specs.Prelude.{◌≡◌, ◌∷◌, ◌++◌, [], List, If
 ghost use Rattle.std.specs.Option.{option_map};
 ghost use Rattle.nc_check.specs.Indexed.{Indexed, field_at, indexed};
 ghost use Rattle.nc_check.specs.NameRules.{duplicate_name, is_name_name, key_of, name_findings};
-ghost use Rattle.nc_check.specs.code.FirstNames.{HasFirst};
+ghost use Rattle.nc_check.specs.code.FirstNames.{HasFirst, is_first_of};
 
 use crate::finding::{Fact, Finding, finding_at, push_some};
 use crate::names::{FirstNames, NameList, list_of};
@@ -12,21 +12,22 @@ use nc_base::Sequence;
 use nc_fields::{Content, Entry, FieldName};
 use std::alloc::{AllocError, Global};
 
-/// Appends the findings at names that an earlier element of the list has.
+/// Appends the findings at names that an earlier element of the list has. Returns the names.
 #[tactic(auto, unfolding(crate::specs::NameRules::name_findings))]
-pub(crate) fn push_name_findings(
+pub(crate) fn push_name_findings<'a>(
     found: &mut Sequence<Finding>,
     alloc: Global,
-    entries: &[Entry],
-) -> Result<(), AllocError>
-    ensures { OnOk result (found.new ≡ found.old ++ name_findings (indexed entries.now)) }
+    entries: &'a [Entry],
+) -> Result<FirstNames<'a>, AllocError>
+    ensures found { OnOk result (found.new ≡ found.old ++ name_findings (indexed entries.now)) }
+    ensures names { IfOk result (λ names. HasFirst names (indexed entries.now)) }
 {
     let mut names = FirstNames::new(alloc);
     for (i, entry) in entries.iter().enumerate() {
         let duplicate = duplicate_name(&mut names, i as u64, entry)?;
         push_some(found, duplicate)?;
     }
-    Ok(())
+    Ok(names)
 }
 
 /// Returns the finding that an earlier element of the list has the name that the field of this index is, and adds the name if none has it.
@@ -45,6 +46,16 @@ fn duplicate_name<'a>(
     };
     let first = names.add(list, name, i)?;
     Ok(first.map(|first| finding_at(i, entry.offset, Fact::DuplicateName { first })))
+}
+
+/// Returns true if the field of this index is the first that is its name.
+pub(crate) fn is_first<'a>(names: &FirstNames<'a>, i: u64, entry: &'a Entry) -> bool
+    ensures { result ≡ is_first_of names.now (field_at i entry.now) }
+{
+    let Some((list, name)) = key_of(entry) else {
+        return false;
+    };
+    names.is_first(list, name, i)
 }
 
 /// Returns the name that the field is, if it is one and has no fault, and the list that it is in.

@@ -2,7 +2,7 @@
 
 ghost use Rattle.std.specs.Prelude.{◌≡◌, None, IfOk, OnOk};
 ghost use Rattle.std.specs.Option.{option_or};
-ghost use Rattle.nc_check.specs.NameRules.{NameKey, is_same_key, list_of};
+ghost use Rattle.nc_check.specs.NameRules.{NameKey, is_index, is_same_key, list_of};
 ghost use Rattle.nc_check.specs.code.FirstNames.{hash, index_if, index_of, list_number};
 
 use nc_fields::Owner;
@@ -97,5 +97,16 @@ impl<'a> FirstNames<'a> {
             self.first.insert(key, first)?;
         }
         Ok(earlier)
+    }
+
+    /// Returns true if this index goes with this name of the list.
+    pub(crate) fn is_first(&self, list: NameList, name: &'a [u8], index: u64) -> bool
+        ensures { result ≡ is_index index (index_of self.now (list, name.now)) }
+    {
+        let key = (hash(list, name), (list, name));
+        let Some(first) = self.first.get(&key) else {
+            return false;
+        };
+        *first == index
     }
 }

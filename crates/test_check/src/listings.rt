@@ -185,6 +185,31 @@ const ROWS: &[Row] = &[
         found: &[(10, Fact::Fault(FormatFault::HeaderTruncated))],
     },
     Row {
+        about: "two fill values of a variable, of which the second is wrong, and of another one, whose first is",
+        fields: &[
+            (ATT, Name, Bytes(b"_FillValue")),
+            (ATT, Type, Number(3)),
+            (ATT, Count, Number(1)),
+            (VarAtt { var: 0, att: 1 }, Name, Bytes(b"_FillValue")),
+            (VarAtt { var: 0, att: 1 }, Type, Number(4)),
+            (VarAtt { var: 0, att: 1 }, Count, Number(2)),
+            (Var(0), Type, Number(3)),
+            (VarAtt { var: 1, att: 0 }, Name, Bytes(b"_FillValue")),
+            (VarAtt { var: 1, att: 0 }, Type, Number(3)),
+            (VarAtt { var: 1, att: 0 }, Count, Number(2)),
+            (VarAtt { var: 1, att: 1 }, Name, Bytes(b"_FillValue")),
+            (VarAtt { var: 1, att: 1 }, Type, Number(3)),
+            (VarAtt { var: 1, att: 1 }, Count, Number(1)),
+            (Var(1), Type, Number(3)),
+        ],
+        fault: None,
+        found: &[
+            (3, Fact::DuplicateName { first: 0 }),
+            (9, Fact::FillCount),
+            (10, Fact::DuplicateName { first: 7 }),
+        ],
+    },
+    Row {
         about: "a fill value of a variable whose type is none of its version",
         fields: &[
             (ATT, Name, Bytes(b"_FillValue")),

@@ -1,11 +1,12 @@
 -- For contracts. The names of fields that were passed, with the first index of each.
 use Rattle.std.specs.Borrow.{Bor}
-use Rattle.std.specs.Prelude.{◌≡◌, ◌+◌, ◌*◌, ◌%◌, ◌^◌, ◌==◌, ◌&&◌, ℕ, Bool, if◌then◌else◌, List, fold, Option, Some, None}
+use Rattle.std.specs.Prelude.{◌≡◌, ◌+◌, ◌*◌, ◌%◌, ◌^◌, ◌==◌, ◌&&◌, ℕ, Bool, if◌then◌else◌, false, List, fold, Option, Some, None}
 use Rattle.std.specs.Map.{lookup}
+use Rattle.std.specs.Option.{option_map_or}
 use Rattle.nc_check.specs.declared.{names.FirstNames.FirstNames, names.NameList.NameList}
 use Rattle.nc_check.specs.declared.names.NameList.TheVariants.{Dims, GlobalAtts, Vars, VarAtts}
 use Rattle.nc_check.specs.Indexed.{Indexed}
-use Rattle.nc_check.specs.NameRules.{NameKey, is_same_key, first_index}
+use Rattle.nc_check.specs.NameRules.{NameKey, is_same_key, is_index, key_of, first_index}
 
 -- a number that goes with a list
 abbrev pub list_number : NameList → ℕ
@@ -33,3 +34,7 @@ index_if holds index = if holds then Some index else None
 -- the first index of each name in these fields
 abbrev pub HasFirst : FirstNames → List Indexed → Type 0
 HasFirst names fields = (key : NameKey) → index_of names key ≡ first_index key fields
+
+-- the field has the index that goes with its name
+abbrev pub is_first_of : FirstNames → Indexed → Bool
+is_first_of names f = option_map_or (λ key. is_index f.index (index_of names key)) (key_of f.entry) false

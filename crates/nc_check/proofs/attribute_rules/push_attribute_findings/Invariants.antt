@@ -1,5 +1,5 @@
 use Rattle.std.proofs.Common.{◌≡◌, ◌++◌, drop}
-use Rattle.nc_check.specs.Indexed.{indexed_from}
+use Rattle.nc_check.specs.Indexed.{indexed, indexed_from}
 use Rattle.nc_check.specs.Ahead.{ahead_of}
 use Rattle.nc_check.specs.AttributeRules.{attribute_finding}
 use Rattle.nc_check.specs.code.Passes.{each_backward}
@@ -8,5 +8,5 @@ use Rattle.nc_check.proofs.attribute_rules.push_attribute_findings.Given as goal
 abbrev pub invariant-loop-i : goal.invariant-loop-i
 invariant-loop-i l = record {
   ahead : l.ahead ≡ ahead_of (indexed_from l.i (drop l.i l.entries));
-  found : l.found ≡ l.fn.found ++ each_backward attribute_finding (indexed_from l.i (drop l.i l.entries));
+  found : l.found ≡ l.fn.found ++ each_backward (attribute_finding (indexed l.entries)) (indexed_from l.i (drop l.i l.entries));
 }
