@@ -1,7 +1,7 @@
 -- A walk over the fields of a part: each is in its place, begins where the one before it ends, and is the last one if it is wrong.
 use Rattle.std.proofs.Common.{◌≡◌, ℕ, zero, suc, ◌+◌, ◌-◌, ◌<◌, ◌≤◌, ◌⊎◌, inl, Bool, true, false, cond, leb, nat_lt, if◌then◌else◌, List, [], ◌∷◌, ◌++◌, length, map, take, drop, Option, Some, None, Result, Ok, Err, refl, sym, ap, ap₂, ◌∙◌, subst, arith}
 use Rattle.std.proofs.lemmas.List.{length-take, map-append}
-use Rattle.nc_fields.proofs.Prelude.{Bytes, Step, Part, done, bytes, under, chain, Outcome, and_then, with_rest, run, FormatFault, Field, fields, le-ltb, lt-ltb, leb-true, leb-false, length-drop, seen_by, steps_of, whole_content, seen}
+use Rattle.nc_fields.proofs.Prelude.{Bytes, Step, Part, done, bytes, under, chain, Outcome, and_then, with_rest, run, FormatFault, Field, fields, le-ltb, lt-ltb, leb-true, leb-false, length-drop, seen_by, steps_of, whole_content, cut_content, seen}
 use Rattle.nc_fields.specs.Entries.{Seen}
 use Rattle.nc_base.specs.Parts.{Item}
 unfoldable use Rattle.nc_base.specs.Grammar.{each}
@@ -210,7 +210,7 @@ abbrev entry_with : Place → ℕ → ℕ → Content → Option FormatFault →
 entry_with place at n c fault = record { place = place; offset = at; size = n; content = c; fault = fault }
 
 entry-seen : (len : ℕ) (place : Place) (from : Bytes) (at n : ℕ) (c : Content) (fault : Option FormatFault) → at + length from ≡ len
-    → c ≡ cond (nat_lt (length from) n) content.Cut (whole_content (steps_of place) n (take n from))
+    → c ≡ cond (nat_lt (length from) n) (cut_content (steps_of place) from) (whole_content (steps_of place) n (take n from))
     → seen_by (entry_with place at n c fault) ∷ [] ≡ seen len (field_with (steps_of place) from n fault) ∷ []
 unfolding seen
 entry-seen len place from at n c fault left is =
@@ -231,7 +231,7 @@ whole-walked len expected place from at n (Ok x) left is enough shows =
     let e = entry_with place at n c None in
     record {
       entries = e ∷ [];
-      are = entry-seen len place from at n c None left (sym (ap (λ b. cond b content.Cut c) (le-ltb _ _ enough)));
+      are = entry-seen len place from at n c None left (sym (ap (λ b. cond b (cut_content (steps_of place) from) c) (le-ltb _ _ enough)));
       end = at + n;
       passed = (record { place = is; offset = refl; shows = shows.shows; lenient = shows.lenient }, refl, (refl, refl));
       left = omega (arith, left, enough, length-drop n from);
@@ -241,7 +241,7 @@ whole-walked len expected place from at n (Err fault) left is enough shows =
     let e = entry_with place at n c (Some fault) in
     record {
       entries = e ∷ [];
-      are = entry-seen len place from at n c (Some fault) left (sym (ap (λ b. cond b content.Cut c) (le-ltb _ _ enough)));
+      are = entry-seen len place from at n c (Some fault) left (sym (ap (λ b. cond b (cut_content (steps_of place) from) c) (le-ltb _ _ enough)));
       in_step = (record { place = is; offset = refl; shows = shows.shows; lenient = shows.lenient }, refl);
     }
 
@@ -249,10 +249,11 @@ cut-walked : (len : ℕ) (expected : Option Place) (place : Place) (from : Bytes
     → at + length from ≡ len → IsExpected expected place → length from < n → is_floating_fault (Some cut) ≡ false
     → StoppedFields len expected at (field_with (steps_of place) from n (Some cut) ∷ [])
 cut-walked len expected place from at n cut left is short lenient =
-    let c = whole_content (steps_of place) n (take n from) in
+    let c = cut_content (steps_of place) from in
     record {
-      entries = entry_with place at n content.Cut (Some cut) ∷ [];
-      are = entry-seen len place from at n content.Cut (Some cut) left (sym (ap (λ b. cond b content.Cut c) (lt-ltb _ _ short)));
+      entries = entry_with place at n c (Some cut) ∷ [];
+      are = entry-seen len place from at n c (Some cut) left
+          (sym (ap (λ b. cond b c (whole_content (steps_of place) n (take n from))) (lt-ltb _ _ short)));
       in_step = (record { place = is; offset = refl; shows = inl (omega (arith, short)); lenient = lenient }, refl);
     }
 

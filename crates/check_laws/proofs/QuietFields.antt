@@ -9,7 +9,7 @@ use Rattle.nc_fields.specs.declared.{entry.Content.Content, entry.Entry.Entry, p
 use Rattle.nc_fields.specs.declared.entry.Content.TheVariants as content
 use Rattle.nc_fields.specs.declared.place.FieldName.TheVariants as name
 use Rattle.nc_fields.specs.Fields.{Field}
-use Rattle.nc_fields.specs.Entries.{Seen, seen_by, steps_of, name_steps, owner_steps, whole_content}
+use Rattle.nc_fields.specs.Entries.{Seen, seen_by, steps_of, name_steps, owner_steps, whole_content, cut_content}
 unfoldable use Rattle.nc_fields.specs.Entries.{seen}
 use Rattle.check_laws.specs.Written.{bytes_of, number_of, IsWrittenCount, IsWrittenTag, IsWritten, AreWritten}
 use Rattle.check_laws.proofs.Vsizes.{IsWhole, AreWhole, IsVsizeWritten, AreVsizesWritten}
@@ -165,7 +165,7 @@ all-zeros (b ∷ bs) e =
 
 pub seen-content : (len : ℕ) (f : Field) → IsWhole f → (seen len f).content ≡ whole_content f.steps f.size (bytes_of f)
 unfolding seen
-seen-content len f w = ap (λ b. cond b content.Cut (whole_content f.steps f.size (bytes_of f))) w.whole
+seen-content len f w = ap (λ b. cond b (cut_content f.steps f.start) (whole_content f.steps f.size (bytes_of f))) w.whole
 
 count-written : (tag : ℕ) (steps : List Step) (f : Field) → ShowsCount tag steps (whole_content steps f.size (bytes_of f))
     → IsWrittenCount tag steps (number_of f)

@@ -5,11 +5,11 @@ use Rattle.std.proofs.lemmas.List.{length-drop}
 use Rattle.std.proofs.lemmas.List.Elements.{All-nil, All-cons}
 use Rattle.nc_base.specs.declared.fault.FormatFault.{FormatFault}
 use Rattle.nc_base.specs.Bytes.{Bytes}
+use Rattle.nc_base.specs.Parts.{Step, Magic}
 use Rattle.nc_fields.specs.declared.{entry.Entry.Entry}
-use Rattle.nc_fields.specs.declared.entry.Content.TheVariants.{Cut}
 use Rattle.nc_fields.specs.Fields.{Field}
 unfoldable use Rattle.nc_fields.specs.Entries.{seen}
-use Rattle.nc_fields.specs.Entries.{Seen, seen_by, steps_of, whole_content}
+use Rattle.nc_fields.specs.Entries.{Seen, seen_by, steps_of, whole_content, cut_content}
 use Rattle.check_laws.specs.Agreement.{refusal_in, refusal, first_refusal}
 use Rattle.check_laws.proofs.Agreement.{first_of}
 use Rattle.check_laws.proofs.FieldOrder.{Descend}
@@ -24,9 +24,14 @@ same-refusal : (len : ℕ) (f : Field) (e : Entry) → seen_by e ≡ seen len f 
 unfolding seen
 same-refusal len f e is = ap (λ (s : Seen). refusal_in s.content s.steps s.fault) is ∙ by-test (nat_lt (length f.start) f.size)
   where
-    by-test : (b : Bool) → refusal_in (cond b Cut (whole_content f.steps f.size (take f.size f.start))) f.steps f.fault
+    cut-refusal : (steps : List Step) → refusal_in (cut_content steps f.start) steps f.fault ≡ f.fault
+    cut-refusal (Magic ∷ steps) = refl
+    cut-refusal steps = refl
+
+    by-test : (b : Bool)
+        → refusal_in (cond b (cut_content f.steps f.start) (whole_content f.steps f.size (take f.size f.start))) f.steps f.fault
         ≡ cond b f.fault (refusal_in (whole_content f.steps f.size (take f.size f.start)) f.steps f.fault)
-    by-test true = refl
+    by-test true = cut-refusal f.steps
     by-test false = refl
 
 same-offset : (len : ℕ) (f : Field) (e : Entry) → seen_by e ≡ seen len f → e.offset ≡ len - length f.start

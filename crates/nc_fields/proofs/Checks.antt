@@ -1,6 +1,6 @@
 -- What readers of parts do that list their fields: for a part that is one field, and for parts that are made of others.
 use Rattle.std.proofs.Common.{◌≡◌, ℕ, ◌-◌, ◌<◌, ◌≤◌, Bool, true, false, cond, leb, nat_lt, List, [], ◌∷◌, ◌++◌, length, map, take, drop, Option, Some, None, Result, Ok, Err, refl, sym, inl, inr, ap, ◌∙◌, subst, arith, le_trans, append_assoc}
-use Rattle.nc_fields.proofs.Prelude.{Ghosts, Bytes, Step, Part, done, bytes, decoded, under, chain, Outcome, and_then, with_rest, run, left_after, number, FormatFault, HeaderTruncated, Read, Reads, left, next_of, source_of, HeadFault, Window, Format, OutOfMemory, ReadFailed, Entry, Content, Place, Reader, Start, Cut, Field, judged, fields, Seen, seen_by, steps_of, whole_content, seen, Checked, IsStart, Finished, ListsCut, Began, entry_of, judged_then, listed, OnTrue_at, OnTrue_from, le-ltb, lt-ltb, leb-true, leb-false, append-nil, length-drop, map-append, OnTrue, Width, byte_len, from_be_bytes, to_be_bytes}
+use Rattle.nc_fields.proofs.Prelude.{Ghosts, Bytes, Step, Part, done, bytes, decoded, under, chain, Outcome, and_then, with_rest, run, left_after, number, FormatFault, HeaderTruncated, Read, Reads, left, next_of, source_of, HeadFault, Window, Format, OutOfMemory, ReadFailed, Entry, Content, Place, Reader, Start, Cut, Field, judged, fields, Seen, seen_by, steps_of, whole_content, cut_content, seen, Checked, IsStart, Finished, ListsCut, Began, entry_of, judged_then, listed, OnTrue_at, OnTrue_from, le-ltb, lt-ltb, leb-true, leb-false, append-nil, length-drop, map-append, OnTrue, Width, byte_len, from_be_bytes, to_be_bytes}
 use Rattle.nc_file.proofs.Bytes.{kept-then, cause-then}
 use Rattle.nc_file.proofs.PartRuns.{after-decoded, after-chain}
 
@@ -128,7 +128,7 @@ judged-left (Ok y) rest = refl
 judged-left (Err e) rest = refl
 
 -- a part that is one field was listed
-listed-field : {A : Type 0} (len : ℕ) (steps : List Step) (p : Part A) (size : ℕ) (from : Bytes) (o : Outcome A) → IsField size p → run p from ≡ o
+pub listed-field : {A : Type 0} (len : ℕ) (steps : List Step) (p : Part A) (size : ℕ) (from : Bytes) (o : Outcome A) → IsField size p → run p from ≡ o
     → listed len steps p from ≡ seen len (record { steps = steps; start = from; size = size; fault = fault_in o }) ∷ []
 unfolding listed
 listed-field len steps p size from o is e = ap (map (seen len)) (is steps from) ∙ ap (λ o. seen len (record { steps = steps; start = from; size = size; fault = fault_in o }) ∷ []) e
@@ -140,7 +140,7 @@ one-more old mid e more same is = ap (λ es. map seen_by (es ++ e ∷ [])) same 
 le-along : {m n k : ℕ} → m ≡ n → n ≤ k → m ≤ k
 le-along e le = omega (arith, e, le)
 
-memory-left : {A : Type 0} (p : Part A) (from rest : Bytes) (y : Result A FormatFault) → run p from ≡ with_rest y rest → left_after (run p from) ≤ length rest
+pub memory-left : {A : Type 0} (p : Part A) (from rest : Bytes) (y : Result A FormatFault) → run p from ≡ with_rest y rest → left_after (run p from) ≤ length rest
 memory-left p from rest y e = omega (arith, ap left_after e, judged-left y rest)
 
 -- a part and what follows it
@@ -178,12 +178,16 @@ listed-then : (len : ℕ) (old mid new : List Entry) (xs ys all : List Seen) →
 listed-then len old mid new xs ys all a b is = b ∙ ap (λ ms. ms ++ ys) a ∙ append_assoc (map seen_by old) xs ys ∙ ap (λ ms. map seen_by old ++ ms) (sym is)
 
 module _ {S : Type 0} {g : Ghosts S} where
+  -- nothing is kept of the next field, which is in this place and has this many bytes, if fewer are left
+  abbrev pub IsDropped : Reader S g → Place → ℕ → Type 0
+  IsDropped r place size = length (left r.window) < size → cut_content (steps_of place) (left r.window) ≡ Cut
+
   offset-left : (w : Window S g) → length (source_of w).bytes - length (left w) ≡ next_of w
   offset-left w = omega (arith, length-drop (next_of w) (source_of w).bytes, w.within, w.used)
 
   -- the entry of a field that begins at the next byte, with this content and fault
   pub seen-entry : (old : Reader S g) (place : Place) (size : ℕ) (start : Start) (content : Content) (fault : Option FormatFault) → IsStart old.window place size start
-      → content ≡ cond (nat_lt (length (left old.window)) size) Cut (whole_content (steps_of place) size (take size (left old.window)))
+      → content ≡ cond (nat_lt (length (left old.window)) size) (cut_content (steps_of place) (left old.window)) (whole_content (steps_of place) size (take size (left old.window)))
       → seen_by (entry_of start content fault)
       ≡ seen (length (source_of old.window).bytes) (record { steps = steps_of place; start = left old.window; size = size; fault = fault })
   unfolding seen
@@ -206,59 +210,74 @@ module _ {S : Type 0} {g : Ghosts S} where
       let got = raw.read (left old.window) x (left mid.window) (OnTrue_at known r) in
       let whole : nat_lt (length (left old.window)) size ≡ false = le-ltb _ _ (leb-true _ _ got.0) in
       ap (λ x. x ∷ []) (seen-entry old place size start (content x) (fault_in (with_rest y (left mid.window))) s
-      (sym (ap (λ b. cond b Cut (whole_content (steps_of place) size (take size (left old.window)))) whole ∙ matters (take size (left old.window)) ∙ ap content got.1)))
+      (sym (ap (λ b. cond b (cut_content (steps_of place) (left old.window)) (whole_content (steps_of place) size (take size (left old.window)))) whole ∙ matters (take size (left old.window)) ∙ ap content got.1)))
       ∙ sym (listed-field _ (steps_of place) p size (left old.window) _ is.field (OnTrue_at known (judged-reads old mid size q p judge x is r) ∙ ap (λ y. with_rest y (left mid.window)) e))
+
+  -- the whole contract of a reader of a field that has this answer
+  pub checked-answer : {C A : Type 0} (old mid : Reader S g) (entries : List Entry) (steps : List Step) (start : Start) (q : Part C) (p : Part A) (content : Content) (x : C)
+      (answer : Result A FormatFault) (result : Result A HeadFault)
+      → Began old mid start q (Ok x) → (g.is_transparent ≡ true → run p (left old.window) ≡ with_rest answer (left mid.window))
+      → (g.is_transparent ≡ true
+      → seen_by (entry_of start content (fault_in (with_rest answer (left mid.window)))) ∷ [] ≡ listed (length (source_of old.window).bytes) steps p (left old.window))
+      → Finished mid.entries entries start content answer result → Checked old (record mid { entries = entries }) steps p result
+  checked-answer old mid entries steps start q p content x answer (Ok y) began reads entry (e, lists) = record {
+    kept = began.kept;
+    cause = began.cause;
+    reads = OnTrue_from g.is_transparent _ (λ known. reads known ∙ ap (λ y. with_rest y (left mid.window)) e);
+    lists = OnTrue_from g.is_transparent _ (λ known. ap (map seen_by) lists ∙ one-more old.entries mid.entries _ _ began.lists
+        (ap (λ y. seen_by (entry_of start content (fault_in (with_rest y (left mid.window)))) ∷ []) (sym e) ∙ entry known));
+  }
+  checked-answer old mid entries steps start q p content x answer (Err (Format f)) began reads entry (e, lists) = record {
+    kept = began.kept;
+    cause = began.cause;
+    reads = OnTrue_from g.is_transparent _ (λ known. reads known ∙ ap (λ y. with_rest y (left mid.window)) e);
+    lists = OnTrue_from g.is_transparent _ (λ known. ap (map seen_by) lists ∙ one-more old.entries mid.entries _ _ began.lists
+        (ap (λ y. seen_by (entry_of start content (fault_in (with_rest y (left mid.window)))) ∷ []) (sym e) ∙ entry known));
+  }
+  checked-answer old mid entries steps start q p content x answer (Err OutOfMemory) began reads entry fin = record {
+    kept = began.kept;
+    cause = began.cause;
+    reads = OnTrue_from g.is_transparent _ (λ known. memory-left p (left old.window) (left mid.window) answer (reads known));
+    lists = tt;
+  }
+  checked-answer old mid entries steps start q p content x answer (Err ReadFailed) began reads entry fin = absurd fin
 
   -- the whole contract of a reader of a field that is judged
   pub checked-field : {C A : Type 0} (old mid : Reader S g) (entries : List Entry) (place : Place) (start : Start) (size : ℕ) (q : Part C) (value : Bytes → C) (p : Part A)
       (judge : C → Result A FormatFault) (content : C → Content) (x : C) (answer : Result A FormatFault) (result : Result A HeadFault)
       → IsRaw size q value → IsJudged size q p judge → IsContent place size value content → IsStart old.window place size start → Began old mid start q (Ok x)
       → answer ≡ judge x → Finished mid.entries entries start (content x) answer result → Checked old (record mid { entries = entries }) (steps_of place) p result
-  checked-field old mid entries place start size q value p judge content x answer (Ok y) raw is matters s began same (e, lists) = record {
-    kept = began.kept;
-    cause = began.cause;
-    reads = OnTrue_from g.is_transparent _ (λ known. OnTrue_at known (judged-reads old mid size q p judge x is began.reads) ∙ ap (λ y. with_rest y (left mid.window)) (sym same ∙ e));
-    lists = OnTrue_from g.is_transparent _ (λ known. ap (map seen_by) lists
-        ∙ one-more old.entries mid.entries _ _ began.lists (field-entry old mid place start size q value p judge content x (Ok y) raw is matters s known began.reads (sym same ∙ e)));
-  }
-  checked-field old mid entries place start size q value p judge content x answer (Err (Format f)) raw is matters s began same (e, lists) = record {
-    kept = began.kept;
-    cause = began.cause;
-    reads = OnTrue_from g.is_transparent _ (λ known. OnTrue_at known (judged-reads old mid size q p judge x is began.reads) ∙ ap (λ y. with_rest y (left mid.window)) (sym same ∙ e));
-    lists = OnTrue_from g.is_transparent _ (λ known. ap (map seen_by) lists
-        ∙ one-more old.entries mid.entries _ _ began.lists (field-entry old mid place start size q value p judge content x (Err f) raw is matters s known began.reads (sym same ∙ e)));
-  }
-  checked-field old mid entries place start size q value p judge content x answer (Err OutOfMemory) raw is matters s began same fin = record {
-    kept = began.kept;
-    cause = began.cause;
-    reads = OnTrue_from g.is_transparent _ (λ known. memory-left p (left old.window) (left mid.window) (judge x) (OnTrue_at known (judged-reads old mid size q p judge x is began.reads)));
-    lists = tt;
-  }
-  checked-field old mid entries place start size q value p judge content x answer (Err ReadFailed) raw is matters s began same fin = absurd fin
+  checked-field old mid entries place start size q value p judge content x answer result raw is matters s began same fin =
+      checked-answer old mid entries (steps_of place) start q p (content x) x answer result began
+      (λ known. OnTrue_at known (judged-reads old mid size q p judge x is began.reads) ∙ ap (λ y. with_rest y (left mid.window)) (sym same))
+      (λ known. field-entry old mid place start size q value p judge content x answer raw is matters s known began.reads (sym same)) fin
 
   -- the same if the source has ended, or if the device or memory has failed
   pub checked-cut : {C A : Type 0} (old mid : Reader S g) (place : Place) (start : Start) (size : ℕ) (q : Part C) (value : Bytes → C) (p : Part A) (judge : C → Result A FormatFault) (e : HeadFault)
-      → IsRaw size q value → IsJudged size q p judge → IsStart old.window place size start → Began {A = C} old mid start q (Err e) → Checked {A = A} old mid (steps_of place) p (Err e)
-  checked-cut {A = A} old mid place start size q value p judge (Format f) raw is s began = record {
+      → IsRaw size q value → IsJudged size q p judge → IsDropped old place size → IsStart old.window place size start → Began {A = C} old mid start q (Err e) → Checked {A = A} old mid (steps_of place) p (Err e)
+  checked-cut {A = A} old mid place start size q value p judge (Format f) raw is dropped s began = record {
     kept = began.kept;
     cause = began.cause;
     reads = OnTrue_from g.is_transparent _ reads;
     lists = OnTrue_from g.is_transparent _ (λ known. ap (map seen_by) began.lists
         ∙ one-more old.entries old.entries _ _ refl
         (ap (λ x. x ∷ []) (seen-entry old place size start Cut (Some f) s
-        (sym (ap (λ b. cond b Cut (whole_content (steps_of place) size (take size (left old.window)))) (lt-ltb _ _ (raw.stopped (left old.window) _ (OnTrue_at known began.reads))))))
+        (sym (ap (λ b. cond b (cut_content (steps_of place) (left old.window)) (whole_content (steps_of place) size (take size (left old.window)))) (lt-ltb _ _ (short known)) ∙ dropped (short known))))
         ∙ sym (listed-field _ (steps_of place) p size (left old.window) _ is.field (reads known))));
   }
     where
+      short : g.is_transparent ≡ true → length (left old.window) < size
+      short known = raw.stopped (left old.window) _ (OnTrue_at known began.reads)
+
       reads : g.is_transparent ≡ true → run p (left old.window) ≡ Err (f, left mid.window)
       reads known = is.judged (left old.window) ∙ ap (λ o. and_then o (λ n rest. with_rest (judge n) rest)) (OnTrue_at known began.reads)
-  checked-cut old mid place start size q value p judge OutOfMemory raw is s began = record {
+  checked-cut old mid place start size q value p judge OutOfMemory raw is dropped s began = record {
     kept = began.kept;
     cause = began.cause;
     reads = OnTrue_from g.is_transparent _ (λ known. le-along (ap left_after (is.judged (left old.window)) ∙ after-decoded (run q (left old.window)) judge) (OnTrue_at known began.reads));
     lists = tt;
   }
-  checked-cut old mid place start size q value p judge ReadFailed raw is s began = record {
+  checked-cut old mid place start size q value p judge ReadFailed raw is dropped s began = record {
     kept = began.kept;
     cause = began.cause;
     reads = OnTrue_from g.is_transparent _ (λ known. le-along (ap left_after (is.judged (left old.window)) ∙ after-decoded (run q (left old.window)) judge) (OnTrue_at known began.reads));
@@ -305,11 +324,11 @@ module _ {S : Type 0} {g : Ghosts S} where
   -- it was listed as cut, or the device or memory has failed
   pub listed-cut : {C A : Type 0} {old : Reader S g} {window : Window S g} {cut : List Entry} {place : Place} {start : Start} {size n : ℕ} {q : Part C} {p : Part A}
       {judge : C → Result A FormatFault} {content : C → Content} {read : Result C HeadFault} {e f : HeadFault} {result : Result A HeadFault}
-      → IsFieldOf place size q p judge content → IsStart old.window place n start → n ≡ size → Read old.window window q read → ListsCut {A = C} old.entries cut start read (Err e)
+      → IsFieldOf place size q p judge content → IsDropped old place size → IsStart old.window place n start → n ≡ size → Read old.window window q read → ListsCut {A = C} old.entries cut start read (Err e)
       → result ≡ Err f → f ≡ e → Checked old (record { window = window; entries = cut }) (steps_of place) p result
-  listed-cut {C = C} {A = A} {old = old} {window = window} {cut = cut} {place = place} {start = start} {size = size} {q = q} {p = p} {judge = judge} {read = read} {e = e} is s same r of_cut is_err is_same =
+  listed-cut {C = C} {A = A} {old = old} {window = window} {cut = cut} {place = place} {start = start} {size = size} {q = q} {p = p} {judge = judge} {read = read} {e = e} is dropped s same r of_cut is_err is_same =
       rw (is_err, is_same)
-      (checked-cut old (record { window = window; entries = cut }) place start size q is.value p judge e is.raw is.judged
+      (checked-cut old (record { window = window; entries = cut }) place start size q is.value p judge e is.raw is.judged dropped
       (record { same_place = s.same_place; offset = s.offset; same_size = s.same_size ∙ same }) (began old window cut start q read (Err e) r of_cut))
 
   -- ---- parts of parts

@@ -1,7 +1,6 @@
 -- Values that are passed over, piece by piece.
 use Rattle.std.proofs.Common.{◌≡◌, ℕ, ◌+◌, ◌≤◌, ◌<◌, Bool, false, List, [], ◌++◌, length, take, drop, Result, Ok, Err, IfOk, OnOk, refl, sym, ap, subst, ◌∙◌, arith, rules, inl, inr, length-append}
 use Rattle.nc_fields.proofs.Prelude.{Ghosts, Window, HeadFault, Format, OutOfMemory, ReadFailed, Bytes, left, next_of, OnTrue, OnTrue_at, OnTrue_from, drop-drop, source_of, ends_with_nul, Entry, Content, Start, Finished, ListsCut}
-unfoldable use Rattle.nc_base.specs.code.PartRuns.{printed_len}
 use Rattle.std.proofs.lemmas.List.{get_or-append_right}
 use Rattle.nc_file.proofs.Bytes.{Progress, IsAdvanced, Stopped, on-by, chunk-next, read-content, stop-bytes}
 use Rattle.nc_file.specs.code.Window.{Ready}

@@ -14,7 +14,7 @@ pub use Rattle.nc_fields.specs.declared.{entry.Entry.Entry, entry.Content.Conten
 pub use Rattle.nc_fields.specs.declared.entry.Content.TheVariants.{Number, Cut}
 pub use Rattle.nc_fields.specs.Fields.{Field, judged}
 unfoldable pub use Rattle.nc_fields.specs.Fields.{fields}
-pub use Rattle.nc_fields.specs.Entries.{Seen, ends_with_nul, owner_steps, seen_by, steps_of, whole_content, number_in}
+pub use Rattle.nc_fields.specs.Entries.{Seen, ends_with_nul, owner_steps, seen_by, steps_of, whole_content, cut_content, number_in}
 unfoldable pub use Rattle.nc_fields.specs.Entries.{seen}
 pub use Rattle.nc_fields.specs.code.Checks.{Lists, Reader, at, Checked, IsStart, Finished, ListsCut, Began, entry_of, judged_then, IsHeld, IsNumeric, IsFilling}
 unfoldable pub use Rattle.nc_fields.specs.code.Checks.{listed}

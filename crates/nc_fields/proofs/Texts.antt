@@ -15,7 +15,7 @@ bytes-decoded n cut decode encode =
 
 pub filling-field : (n : ℕ) (place : Place) → IsFilling place → IsFieldOf place n (bytes n HeaderTruncated) (ignored n) (λ bs. Ok tt) content.Bytes
 unfolding ignored
-filling-field n place filling = bytes-field place n HeaderTruncated _ _ content.Bytes (filling n) (bytes-decoded n HeaderTruncated (λ any. Ok tt) (λ nothing. replicate n 0))
+filling-field n place filling = bytes-field place n HeaderTruncated _ _ content.Bytes (λ bs. (filling n bs).0) (bytes-decoded n HeaderTruncated (λ any. Ok tt) (λ nothing. replicate n 0))
 
 -- bytes that are tested
 pub tested-field : (n : ℕ) (cut : FormatFault) (place : Place) (test : Bytes → Bool) (fault : FormatFault) (matter : Bytes → Content) → IsContent place n (λ bs. bs) matter

@@ -68,6 +68,11 @@ whole_content (Padding ∷ steps) size bytes = content.Bytes bytes
 whole_content (Values ∷ steps) size bytes = content.Values (ends_with_nul bytes)
 whole_content steps size bytes = content.Number (number_in size bytes)
 
+-- what is kept of a field with these steps inside of which the file ends: the bytes that are there, of those that should be `CDF`
+abbrev pub cut_content : List Step → Bytes → Content
+cut_content (Magic ∷ steps) bytes = content.Bytes bytes
+cut_content steps bytes = content.Cut
+
 -- the number that a field is (0, if it is none)
 abbrev pub number_of : Content → ℕ
 number_of (content.Number n) = n
@@ -89,7 +94,7 @@ seen file_len f = record {
   steps = f.steps;
   offset = file_len - length f.start;
   size = f.size;
-  content = if nat_lt (length f.start) f.size then content.Cut else whole_content f.steps f.size (take f.size f.start);
+  content = if nat_lt (length f.start) f.size then cut_content f.steps f.start else whole_content f.steps f.size (take f.size f.start);
   fault = f.fault;
 }
 

@@ -12,14 +12,15 @@ use nc_base::FormatFault;
 pub enum Content {
     /// The field is a number.
     Number(u64),
-    /// The field is these bytes: a name, what fills a field up, or what stands in the place of the letters `CDF`.
+    /// The field is these bytes: a name, what fills a field up, or what stands in the place of the letters `CDF`, of which fewer than three
+    /// may be there.
     Bytes(FieldBytes),
     /// The field is the values of an attribute.
     Values {
         /// The last byte is a NUL.
         ends_with_nul: bool,
     },
-    /// The file ends inside the field.
+    /// The file ends inside the field, and nothing is kept of it.
     Cut,
 }
 

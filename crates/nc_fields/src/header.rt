@@ -1,6 +1,6 @@
 //! The whole header.
 
-ghost use Rattle.std.specs.Prelude.{◌≡◌, ◌≤◌, ◌∷◌, [], codes, if◌then◌else◌, length, IfOk, Ok, Err};
+ghost use Rattle.std.specs.Prelude.{◌≡◌, ◌≤◌, ◌∷◌, [], codes, if◌then◌else◌, length, min, IfOk, Ok, Err};
 ghost use Rattle.std.specs.Bool.{OnTrue};
 ghost use Rattle.std.specs.Str.{bytes_eq};
 ghost use Rattle.nc_base.specs.Grammar.{checked, header_by, magic_part, version_in, version_part};
@@ -8,14 +8,15 @@ ghost use Rattle.nc_base.specs.Parts.{Magic, VersionByte, bytes};
 ghost use Rattle.nc_base.specs.declared.fault.FormatFault.TheVariants.{NotNetcdf};
 ghost use Rattle.nc_fields.specs.Lenient.{lenient};
 ghost use Rattle.nc_file.specs.code.Answers.{ReadUpTo};
+ghost use Rattle.nc_file.specs.code.Window.{left};
 ghost use Rattle.nc_fields.specs.Listings.{Blames, IsListing};
 ghost use Rattle.nc_fields.specs.code.Answers.{Answers};
 
 use crate::entry::{Content, Entry};
-use crate::field_bytes::FieldBytes;
 use crate::fields::{Fields, start_at};
 use crate::list_fault::ListFault;
 use crate::list_name::ListName;
+use crate::name::filling_bytes;
 use crate::place::{FieldName, Owner, Place};
 use devices::Source;
 use nc_base::{FormatFault, Header, Sequence, Version};
@@ -108,7 +109,7 @@ fn answered(
 impl Fields {
     ghost use Rattle.nc_fields.specs.code.Checks.{at, Checked};
 
-    /// Reads the three bytes that should be `CDF`. Errs with `NotNetcdf` if they are others, or if there are fewer.
+    /// Reads the three bytes that should be `CDF`. Errs with `NotNetcdf` if they are others, or if there are fewer, which are listed too.
     fn letters<S: Source>(
         &mut self,
         window: &mut Window<'_, S>,
@@ -123,9 +124,10 @@ impl Fields {
             name: FieldName::Magic,
         };
         let start = start_at(window, place, 3);
-        let letters = start.unless_cut(&mut self.entries, window.magic_word())?;
-        let content = Content::Bytes(FieldBytes::from_slice(alloc, &letters)?);
-        start.list(&mut self.entries, content, letters_in(letters))
+        let there = letters_there(window);
+        let letters = start.unless_cut(&mut self.entries, filling_bytes(window, alloc, there))?;
+        let answer = letters_in(letters.as_slice());
+        start.list(&mut self.entries, Content::Bytes(letters), answer)
     }
 
     /// Reads the version byte. Errs with `UnknownVersion` if it is none of 1, 2 and 5.
@@ -182,14 +184,25 @@ impl Fields {
     }
 }
 
-/// Returns the letters, or errs with `NotNetcdf` if they aren't `CDF`.
-fn letters_in(letters: [u8; 3]) -> Result<[u8; 3], FormatFault>
-    ensures { result ≡ (if bytes_eq letters (codes "CDF") then Ok letters else Err NotNetcdf) }
+/// Returns how many of the three bytes that should be `CDF` are left.
+fn letters_there<S: Source>(window: &Window<'_, S>) -> u64
+    ensures { result ≡ min 3 (length (left window.now)) }
 {
-    if letters[..] != b"CDF"[..] {
-        return Err(FormatFault::NotNetcdf);
+    let used = window.pos as u64;
+    prove!(window.base <= window.len && used <= window.len - window.base);
+    let left = window.len - (window.base + used);
+    if left < 3 { left } else { 3 }
+}
+
+/// Returns the letters, or errs with `NotNetcdf` if they aren't `CDF`.
+fn letters_in(letters: &[u8]) -> Result<[u8; 3], FormatFault>
+    ensures { result ≡ (if bytes_eq letters.now (codes "CDF") then Ok letters.now else Err NotNetcdf) }
+{
+    if letters == b"CDF".as_slice() {
+        Ok(*b"CDF")
+    } else {
+        Err(FormatFault::NotNetcdf)
     }
-    Ok(letters)
 }
 
 /// Returns the version with this byte, or errs with `UnknownVersion` if there is none.

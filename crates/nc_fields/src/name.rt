@@ -87,8 +87,8 @@ impl Fields {
     }
 }
 
-/// Reads `n` bytes. The up to three that fill a field up take no allocation.
-fn filling_bytes<S: Source>(
+/// Reads `n` bytes. Up to three, such as those that fill a field up, take no allocation.
+pub(crate) fn filling_bytes<S: Source>(
     window: &mut Window<'_, S>,
     alloc: Global,
     n: u64,

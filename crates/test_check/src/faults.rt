@@ -11,13 +11,13 @@ const ROWS: &[Row] = &[
     (
         b"",
         1,
-        (Owner::Header, FieldName::Magic, 0, 3, Want::Cut),
+        (Owner::Header, FieldName::Magic, 0, 3, Want::Bytes(b"")),
         FormatFault::NotNetcdf,
     ),
     (
         b"CD",
         1,
-        (Owner::Header, FieldName::Magic, 0, 3, Want::Cut),
+        (Owner::Header, FieldName::Magic, 0, 3, Want::Bytes(b"CD")),
         FormatFault::NotNetcdf,
     ),
     (

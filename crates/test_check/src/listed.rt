@@ -108,12 +108,8 @@ fn ends_with(entries: &Sequence<Entry>, count: usize, field: &Field, fault: Form
 
 /// The offset at which reading stops with this field.
 fn end_of(field: &Field, file_len: u64) -> u128 {
-    let (_, _, offset, size, want) = *field;
-    if want == Want::Cut {
-        file_len as u128
-    } else {
-        size.saturating_add(offset as u128)
-    }
+    let (_, _, offset, size, _) = *field;
+    size.saturating_add(offset as u128).min(file_len as u128)
 }
 
 /// Returns true if the listing has `count` entries and stops at this field with this fault.

@@ -99,6 +99,21 @@ pub const FILES: &[Row<'_>] = &[
             \0\0\0\0\0\0\0\0\0\0\0\0\0\0\0\0\0\0\0\0",
         lines: b"floats.nc:60: note: floating-type: gatt[0] \"version\" type: found 5\n",
     },
+    Row {
+        path: "empty.nc",
+        bytes: b"",
+        lines: b"empty.nc:0: error: not-netcdf: magic: found , expected 434446\n",
+    },
+    Row {
+        path: "two-bytes.nc",
+        bytes: b"CD",
+        lines: b"two-bytes.nc:0: error: not-netcdf: magic: found 4344, expected 434446\n",
+    },
+    Row {
+        path: "hdf5.nc",
+        bytes: b"\x89HDF\r\n\x1a\n",
+        lines: b"hdf5.nc:0: error: not-netcdf: magic: found 894844, expected 434446\n",
+    },
 ];
 
 /// Files that are the clean one but for a change.

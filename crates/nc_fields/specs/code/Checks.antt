@@ -12,7 +12,7 @@ use Rattle.nc_fields.specs.declared.{entry.Entry.Entry, entry.Content.Content, p
 use Rattle.nc_fields.specs.declared.entry.Content.TheVariants.{Cut, Number}
 use Rattle.nc_fields.specs.declared.entry.Content.TheVariants as content
 use Rattle.nc_fields.specs.Fields.{fields}
-use Rattle.nc_fields.specs.Entries.{Seen, seen, seen_by, number_in, steps_of, whole_content}
+use Rattle.nc_fields.specs.Entries.{Seen, seen, seen_by, number_in, steps_of, whole_content, cut_content}
 
 -- a window, and the fields that were listed while it was read through
 pub record Reader (S : Type 0) (g : Ghosts S) : Type 0 where
@@ -47,9 +47,9 @@ pub record Checked {S A : Type 0} {g : Ghosts S} (old new : Reader S g) (steps :
 abbrev pub IsNumeric : Place → Type 0
 IsNumeric place = (size : ℕ) (bs : Bytes) → whole_content (steps_of place) size bs ≡ Number (number_in size bs)
 
--- the rules look at the bytes of a field in this place
+-- the rules look at the bytes of a field in this place, if all of them are there
 abbrev pub IsFilling : Place → Type 0
-IsFilling place = (size : ℕ) (bs : Bytes) → whole_content (steps_of place) size bs ≡ content.Bytes bs
+IsFilling place = (size : ℕ) (bs : Bytes) → (whole_content (steps_of place) size bs ≡ content.Bytes bs) × (cut_content (steps_of place) bs ≡ Cut)
 
 -- these bytes are returned, unless memory ran out
 abbrev pub IsHeld : Bytes → Result Bytes HeadFault → Type 0

@@ -8,7 +8,7 @@ use Rattle.nc_fields.proofs.fields.Fields.text.Goals as goal
 pub returns-in_err-text : goal.returns-in_err-text
 returns-in_err-text g c =
     let p = err_from_is_err_and c.from_residual.result c.from_residual.ensures.1 in
-    listed-cut (tested-field c.args.n HeaderTruncated _ may_be_name BadName content.Bytes (λ bs. refl)) c.start_at-start.ensures refl c.bytes.ensures.read c.in_err-text.ensures p.1 p.2
+    listed-cut (tested-field c.args.n HeaderTruncated _ may_be_name BadName content.Bytes (λ bs. refl)) (λ short. refl) c.start_at-start.ensures refl c.bytes.ensures.read c.in_err-text.ensures p.1 p.2
 
 pub returns : goal.returns
 returns g c =

@@ -14,7 +14,7 @@ returns-in_err-ends_with_nul g c =
     record {
       vals = passed.vals;
       whole = rw p.1 tt;
-      checked = rw p.1 (listed-cut (bytes-itself c.args.len HeaderTruncated _ (λ bs. content.Values (ends_with_nul bs)) (λ bs. refl)) c.start_at-start.ensures refl passed.reads
+      checked = rw p.1 (listed-cut (bytes-itself c.args.len HeaderTruncated _ (λ bs. content.Values (ends_with_nul bs)) (λ bs. refl)) (λ short. refl) c.start_at-start.ensures refl passed.reads
           (cut-in-place passed.vals _ _ _ _ _ c.in_err-ends_with_nul.ensures) refl p.2);
     }
 
