@@ -47,10 +47,11 @@ test-proofs:
 test-definitions:
 	nice -n 19 tests/definitions.py
 
-# Wrong bodies, which the prover or a test has to refuse. Of those tests a few are run, drawn by a checksum of the code and the edits.
+# Wrong bodies, which the prover has to refuse, or a test that they name. Of those tests a few are run, drawn by a checksum of the code and
+# the edits.
 test-bodies:
 	tests/wrong_bodies.py
-	tests/wrong_bodies.py --tests 4
+	tests/wrong_bodies.py --tests 8
 
 # Places where out of memory is made of anything but a failed allocation, or of one by a number that isn't known to be needed; the tests and
 # the programs that the gate has built, with each allocation failing in turn; how much memory the programs ask for; the programs from end to

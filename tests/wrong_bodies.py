@@ -7,10 +7,9 @@
 The first form asks the prover. crates/CRATE/wrong-bodies/NAME.edit changes the body of one function (`edits.py` has the format). A
 function is proved over the contracts of what it calls and never over their bodies, so a body is refused or not whatever the other
 bodies are. Wrong bodies of different functions are therefore tried in one check, which takes a fifth of the time that a check for
-each takes. Each changed function has to be refused for itself: where the prover waits for one that it calls, which is refused too, its
-body is tried again in a check without that one's. So is a body without a test, if the prover has not tried all of its goals. The second
-wrong body of a function is tried in a second check, where the other functions keep their first: the prover has kept what it said of
-these, and their own bodies it would have to prove.
+each takes. Each changed function has to be refused for itself: where the prover has not tried all of its goals, since it calls one that is
+refused too, its body is tried again in a check without that one's. The second wrong body of a function is tried in a second check, where
+the other functions keep their first: the prover has kept what it said of these, and their own bodies it would have to prove.
 
 What a check stands on are the crates below as rt ci has built them. It begins with what a check of the crate left in its folder, if
 there was one, which saves the proof of what no edit changes.
@@ -24,17 +23,18 @@ goals still fits:
   or one is stored.)
 
 Else only a proof doesn't fit: a stored one names what is gone, or has another type, or the search gave up at one of its limits.
-Then the edit is to name a test, which fails under it. An edit with neither is printed, and counts as neither passed nor failed: of
-the same body the prover may say less if the machine is busy. Where no contract can speak of what an edit changes (std's say nothing of
-what a writer's flush reaches), the body is still proved, and an edit that names no test fails.
+Then the edit is to name a test, which fails under it. So is one where no contract can speak of what it changes (std's say nothing of
+what a writer's flush reaches), and the body is still proved. The prover isn't asked about an edit that names a test. One that names none
+fails if its body is proved; if only a proof doesn't fit, it is printed, and counts as neither passed nor failed: of the same body the
+prover may say less if the machine is busy.
 
 What was said of the wrong bodies of a crate is kept in ~/.cache/juniperbrick, by a checksum of all that it follows from, unless one of
 them was not refused: a later run in any checkout says it again, and tries only those of crates that changed or that stand on such. (rt ci
 keeps its proofs so, too.) Where that folder can't be made nothing is kept; remove it, and all are tried again.
 
-The second form runs these tests, with the edit and without (`named_tests.py`): those of all edits, or of N edits. These are drawn by a
-checksum of the code and of all edits, so that a commit draws the same ones each day, and another commit others. The last line of both
-forms is 'N passed, M failed'.
+The second form runs the tests that edits name, with the edit and without (`named_tests.py`): those of all edits, or of N edits. These
+are drawn by a checksum of the code and of all edits, so that a commit draws the same ones each day, and another commit others. The last
+line of both forms is 'N passed, M failed'.
 """
 
 import hashlib
@@ -133,12 +133,10 @@ def is_of(name, function):
 def verdict_on(edit, said, found):
     """Whether an edit was refused (None if nothing shows it), and a line on it; `found`: its functions that are not proved."""
     why = next((it for it in map(said.why, found) if it), None)
-    if not found and not edit.test:
+    if not found:
         return False, f"{edit}: NOT REFUSED: {' '.join(edit.functions)} is still proved"
     if why:
         return True, f"{edit}: refused by its contract: {why}"
-    if edit.test:
-        return True, f"{edit}: refused by its test alone: {' '.join(edit.test)}"
     return None, f"{edit}: NO TEST: only a proof doesn't fit: {said.verdicts[found[0]]}"
 
 
@@ -153,8 +151,7 @@ def judge(crate, edits, earlier, text):
     for edit in edits:
         found = [name for name in refused if any(is_of(name, it) for it in edit.functions)]
         refused = [name for name in refused if name not in found]
-        is_undecided = said.waits if edit.test else said.has_more_to_say
-        if found and all(map(is_undecided, found)) and not any(map(said.why, found)):
+        if found and all(map(said.has_more_to_say, found)) and not any(map(said.why, found)):
             waiting.append(edit)
         else:
             verdicts.append(verdict_on(edit, said, found))
@@ -177,10 +174,10 @@ def try_round(crate, edits, earlier, kept):
 
 
 def try_crate(crate):
-    """Tries the wrong bodies of a crate, in as many checks as the function with the most of them needs."""
+    """Tries the wrong bodies of a crate that name no test, in as many checks as the function with the most of them needs."""
     results = []
     try:
-        edits = edits_of([crate])
+        edits = [it for it in edits_of([crate]) if not it.test]
     except BadEdit as why:
         return [(False, f"BAD EDIT: {why}")]
     with prover.copied(CRATES / crate / "out" / "incremental") as kept:
@@ -252,10 +249,8 @@ def try_crates(crates):
     """Tries the wrong bodies of these crates, several crates at once, and first of those that take longest."""
     with ThreadPoolExecutor(prover.at_once()) as pool:
         results = [it for part in pool.map(results_of, sorted(crates, key=work_in, reverse=True)) for it in part]
-    by_contract = sum("refused by its contract" in line for _, line in results)
-    by_test = sum("refused by its test alone" in line for _, line in results)
-    by_neither = sum(is_refused is None for is_refused, _ in results)
-    print(f"refused by their contracts: {by_contract}; by the tests that they name, which --tests runs: {by_test}; by neither: {by_neither}")
+    by_contract, by_neither = (sum(it[0] is said for it in results) for said in [True, None])
+    print(f"refused by their contracts: {by_contract}; by neither a contract nor a test that they name: {by_neither}")
     return [it for it in results if it[0] is not None]
 
 
