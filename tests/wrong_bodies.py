@@ -68,6 +68,10 @@ OPEN = re.compile(r"^note: src/\S+ it is not proved that .*\((`\S+`)\)(.*)$")
 UNFIT = re.compile(r"^\./proofs/(\S+?)/\w+\.antt:\S+ error(.*)$", re.M)
 OF_ANOTHER = re.compile(r"admitted|\.Met\b")
 FALSE = "the facts known there allow values at which this goal is false"
+# the processors that a check may take: when the last crate is tried, the others are free
+JOBS = 2
+# how many wrong bodies take as long as what a round takes besides, for each crate that its check reads
+ROUND = 2
 
 
 class Said:
@@ -169,15 +173,20 @@ def try_round(crate, edits, earlier, kept):
         apply([*earlier, *edits], Path(folder))
         only = [f"--only={it}" for edit in edits for it in sorted(edit.functions)]
         libraries = prover.built(["std", *prover.stands_on()[crate]])
-        said = prover.said([*prover.check_words(crate), *libraries, "--incremental", kept, *only], folder)
+        said = prover.said([*prover.check_words(crate, JOBS), *libraries, "--incremental", kept, *only], folder)
     return judge(crate, edits, earlier, said)
+
+
+def asked_about(crate):
+    """The wrong bodies of a crate that the prover is asked about: those that name no test."""
+    return [it for it in edits_of([crate]) if not it.test]
 
 
 def try_crate(crate):
     """Tries the wrong bodies of a crate that name no test, in as many checks as the function with the most of them needs."""
     results = []
     try:
-        edits = [it for it in edits_of([crate]) if not it.test]
+        edits = asked_about(crate)
     except BadEdit as why:
         return [(False, f"BAD EDIT: {why}")]
     with prover.copied(CRATES / crate / "out" / "incremental") as kept:
@@ -241,8 +250,13 @@ def keep(path, text):
 
 
 def work_in(crate):
-    """About how long the wrong bodies of a crate take beside those of others: a check takes longer, the more crates it stands on."""
-    return len(list((CRATES / crate / "wrong-bodies").glob("*.edit"))) * (1 + len({*prover.below([crate])}))
+    """About how long the wrong bodies of a crate take beside those of others, in the time of one body."""
+    try:
+        edits = asked_about(crate)
+    except BadEdit:
+        return 0
+    read = {crate, *prover.below([crate])} & prover.stands_on().keys()
+    return len(edits) + ROUND * len(rounds_of(edits)) * len(read)
 
 
 def try_crates(crates):
