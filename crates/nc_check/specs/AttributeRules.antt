@@ -58,7 +58,7 @@ abbrev pub is_fill_name : Content → Bool
 is_fill_name (content.Bytes bytes) = bytes_eq bytes (codes "_FillValue")
 is_fill_name c = false
 
--- at a name of an attribute of a variable, which is the first of the name or isn't
+-- at a name of an attribute of a variable (`is_first`: no field before it is the same name, so that of two fill values the first counts)
 abbrev pub name_finding : Bool → Content → Ahead → Option Finding
 name_finding is_first c ahead =
     if is_fill_name c && is_first then fill_finding ahead.type_code ahead.var_type ahead.count else None
@@ -74,7 +74,7 @@ abbrev pub is_var_attribute : Owner → Bool
 is_var_attribute (owner.VarAtt i k) = true
 is_var_attribute o = false
 
--- the finding at a field of this name, if there is one; if it is a name of a list, it is the first of them or isn't
+-- the finding at a field of this name, if there is one
 abbrev pub finding_by_name : Bool → FieldName → Indexed → Ahead → Option Finding
 finding_by_name is_first name.DimsTag f ahead = empty_list f f.entry.content ahead.next
 finding_by_name is_first name.GlobalAttsTag f ahead = empty_list f f.entry.content ahead.next

@@ -50,6 +50,8 @@ pub fn check<S: Source>(alloc: Global, source: &mut S, buf: &mut [u8]) -> Result
 }
 
 /// Returns all that is found in a file with this listing, in the order of a report. Errs only if an allocation fails.
+///
+/// A listing of [`list_fields`] has a header within the limits of the layout. Of any other header nothing is found about sizes and the layout.
 pub fn findings_of(alloc: Global, listing: &Listing) -> Result<Sequence<Finding>, AllocError>
     ensures all { IfOk result (λ found. HasSoundLayout listing.now
         → IsPermutation (all_findings listing.now) found) }

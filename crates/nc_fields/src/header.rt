@@ -188,9 +188,7 @@ impl Fields {
 fn letters_there<S: Source>(window: &Window<'_, S>) -> u64
     ensures { result ≡ min 3 (length (left window.now)) }
 {
-    let used = window.pos as u64;
-    prove!(window.base <= window.len && used <= window.len - window.base);
-    let left = window.len - (window.base + used);
+    let left = window.len - window.offset_of_next();
     if left < 3 { left } else { 3 }
 }
 
