@@ -5,13 +5,9 @@ and 'new: TEXT'. Here it may also have a line 'test: TESTCRATE MODULE::TEST', th
 """
 
 import re
-from pathlib import Path
 
+from functions import functions_in
 from prover import CRATES
-
-FUNCTION = re.compile(r"^( *)(?:pub(?:\(\w+\))? )?(?:const )?fn (\w+)", re.M)
-ONE_TYPE = re.compile(r"impl [A-Z]\w*<([A-Z]\w*)> \{")
-IMPL = re.compile(r"^impl\b(?:<[^{]*?>)? (?:(\w+)(?:<([\w:]*)[^{]*>)? for )?(\w+)", re.M)
 
 
 class BadEdit(Exception):
@@ -84,18 +80,5 @@ def place_of(crate, file, old):
 
 def function_at(crate, file, place):
     """The end of the prover's name of the function that stands at a place of a file, or None at a place before all."""
-    text = (CRATES / crate / file).read_text()
-    before = [it for it in FUNCTION.finditer(text) if it.start() <= place]
-    if not before:
-        return None
-    indent, name = before[-1].groups()
-    if indent:
-        # the prover says in which module the type stands, and not where this part of it does
-        block = [it for it in IMPL.finditer(text) if it.start() < before[-1].start()][-1]
-        trait, of, type_name = block.groups()
-        # an impl of one type of a generic one is called after both
-        one = ONE_TYPE.match(text, block.start())
-        type_name += f"+{one[1]}" if one else ""
-        of = "".join(it[0].upper() + it[1:] for it in (of or "").split("::") if it)
-        return f"{type_name}{trait or ''}{of}::{name}"
-    return "::".join([*(it for it in Path(file).with_suffix("").parts[1:] if it not in ["lib", "main"]), name])
+    before = [it for it in functions_in(file, (CRATES / crate / file).read_text()) if it.start <= place]
+    return before[-1].name() if before else None

@@ -28,11 +28,10 @@ def stands_on():
     return {name: rest.split() for name, _, rest in lines}
 
 
-def check_words(crate, jobs=1):
-    """The command line of a check of a crate, in its folder, but for the libraries that it stands on; `jobs`: how many processors it may
-    take."""
+def check_words(crate):
+    """The command line of a check of a crate, in its folder, but for the libraries that it stands on."""
     root = "src/main.rt" if (CRATES / crate / "src" / "main.rt").exists() else "src/lib.rt"
-    words = [f"{kit()}/bin/rattle", "check", "--crate-name", crate, root, "--links", f"{crate}=", "--jobs", str(jobs)]
+    words = [f"{kit()}/bin/rattle", "check", "--crate-name", crate, root, "--links", f"{crate}=", "--jobs", "1"]
     return words + ["--antt-project", f"{kit()}/rattle/logic/antt-project.json", "--logic-built", f"{kit()}/logic_built"]
 
 

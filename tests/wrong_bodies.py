@@ -7,12 +7,11 @@
 The first form asks the prover. crates/CRATE/wrong-bodies/NAME.edit changes the body of one function (`edits.py` has the format). A
 function is proved over the contracts of what it calls and never over their bodies, so a body is refused or not whatever the other
 bodies are. Wrong bodies of different functions are therefore tried in one check, which takes a fifth of the time that a check for
-each takes. Each changed function has to be refused for itself: where the prover has not tried all of its goals, since it calls one that is
-refused too, its body is tried again in a check without that one's. The second wrong body of a function is tried in a second check, where
-the other functions keep their first: the prover has kept what it said of these, and their own bodies it would have to prove.
+each takes. Of all other functions that check has only the contracts (`functions.py`), so none of them is proved once more. Each changed
+function has to be refused for itself: where the prover has not tried all of its goals, since it calls one that is refused too, its body
+is tried again in a check without that one's. The second wrong body of a function is tried in a second check.
 
-What a check stands on are the crates below as rt ci has built them. It begins with what a check of the crate left in its folder, if
-there was one, which saves the proof of what no edit changes.
+What a check stands on are the crates below as rt ci has built them.
 
 That a function isn't proved shows nothing by itself: a right body of another shape isn't proved by the stored proof either. So a
 body counts as refused by its contract only where the prover says so of a goal, and every stored answer to the function's other
@@ -52,6 +51,7 @@ from pathlib import Path
 import named_tests
 import prover
 from edits import BadEdit, apply, crates_with_edits, edits_of
+from functions import leave_contracts
 from prover import CRATES, TOP
 
 # what earlier runs said
@@ -59,7 +59,8 @@ KEPT = Path(os.environ.get("XDG_CACHE_HOME") or Path.home() / ".cache", "juniper
 
 # the prover's line on a function
 VERDICT = re.compile(r"^fn (\S+): (.+)$", re.M)
-PROVED = re.compile(r"proved|no holes")
+# (a function that has its contract alone has a hole for its proof)
+PROVED = re.compile(r"no holes|depends on a hole")
 # nothing is said of the function itself, since one that it calls isn't proved
 WAITS = re.compile(r"not proved; it calls|no proof: (it calls|the borrow checker's part in its proof is not made yet)")
 # a goal that stayed open, and what the search for a proof came to; such lines stand right before the line on their function
@@ -68,8 +69,6 @@ OPEN = re.compile(r"^note: src/\S+ it is not proved that .*\((`\S+`)\)(.*)$")
 UNFIT = re.compile(r"^\./proofs/(\S+?)/\w+\.antt:\S+ error(.*)$", re.M)
 OF_ANOTHER = re.compile(r"admitted|\.Met\b")
 FALSE = "the facts known there allow values at which this goal is false"
-# the processors that a check may take: when the last crate is tried, the others are free
-JOBS = 2
 # how many wrong bodies take as long as what a round takes besides, for each crate that its check reads
 ROUND = 2
 
@@ -144,9 +143,8 @@ def verdict_on(edit, said, found):
     return None, f"{edit}: NO TEST: only a proof doesn't fit: {said.verdicts[found[0]]}"
 
 
-def judge(crate, edits, earlier, text):
-    """Whether each edit of a round was refused, and a line on each; and the edits that are still undecided. `earlier`: those of earlier
-    rounds that were left in place."""
+def judge(crate, edits, text):
+    """Whether each edit of a round was refused, and a line on each; and the edits that are still undecided."""
     said = Said(crate, text)
     if not said.verdicts or not text.splitlines()[-1].startswith("only="):
         errors = [line for line in text.splitlines() if "error" in line] or text.splitlines()[-3:]
@@ -159,22 +157,23 @@ def judge(crate, edits, earlier, text):
             waiting.append(edit)
         else:
             verdicts.append(verdict_on(edit, said, found))
-    known = {it for edit in earlier for it in edit.functions}
-    others = [name for name in refused if not said.waits(name) and not any(is_of(name, it) for it in known)]
+    others = [name for name in refused if not said.waits(name)]
     return verdicts + [(False, f"{crate}: {name} isn't proved, and no edit changes it") for name in others], waiting
 
 
-def try_round(crate, edits, earlier, kept):
-    """Checks the functions that the edits change, beside edits of earlier rounds and over what those kept."""
+def try_round(crate, edits, kept):
+    """Checks the functions that the edits change, over what earlier rounds kept."""
     with tempfile.TemporaryDirectory() as folder:
         for part in ["src", "specs", "proofs"]:
             if (CRATES / crate / part).is_dir():
                 shutil.copytree(CRATES / crate / part, Path(folder, part))
-        apply([*earlier, *edits], Path(folder))
-        only = [f"--only={it}" for edit in edits for it in sorted(edit.functions)]
+        apply(edits, Path(folder))
+        functions = sorted({it for edit in edits for it in edit.functions})
+        leave_contracts(crate, Path(folder), functions)
         libraries = prover.built(["std", *prover.stands_on()[crate]])
-        said = prover.said([*prover.check_words(crate, JOBS), *libraries, "--incremental", kept, *only], folder)
-    return judge(crate, edits, earlier, said)
+        words = [*prover.check_words(crate), *libraries, "--incremental", kept, "--allow-holes"]
+        said = prover.said([*words, *(f"--only={it}" for it in functions)], folder)
+    return judge(crate, edits, said)
 
 
 def asked_about(crate):
@@ -186,21 +185,17 @@ def try_crate(crate):
     """Tries the wrong bodies of a crate that name no test, in as many checks as the function with the most of them needs."""
     results = []
     try:
-        edits = asked_about(crate)
+        rounds = rounds_of(asked_about(crate))
     except BadEdit as why:
         return [(False, f"BAD EDIT: {why}")]
-    with prover.copied(CRATES / crate / "out" / "incremental") as kept:
-        rounds, alone, earlier = rounds_of(edits), [], []
-        while rounds or alone:
-            round_, earlier = (rounds.pop(0), earlier) if rounds else (alone.pop(0), [])
-            earlier = [it for it in earlier if not any(it.changed & other.changed for other in round_)]
-            tried, waiting = try_round(crate, round_, earlier, kept)
-            if len(waiting) == len(round_) and not earlier:
+    with tempfile.TemporaryDirectory() as kept:
+        while rounds:
+            edits = rounds.pop(0)
+            tried, waiting = try_round(crate, edits, kept)
+            if len(waiting) == len(edits):
                 tried += [(False, f"{it}: BAD EDIT: what it calls isn't proved") for it in waiting]
             elif waiting:
-                alone.append(waiting)
-            if any(is_refused for is_refused, _ in tried):
-                earlier += round_
+                rounds.append(waiting)
             for _, line in tried:
                 print(line, flush=True)
             results += tried
@@ -213,7 +208,7 @@ def checksum(crate):
     folders = [CRATES / it / part for it in crates for part in ["src", "specs", "proofs"]]
     files = [it for folder in [*folders, CRATES / crate / "wrong-bodies"] for it in folder.rglob("*.*")]
     digest = hashlib.sha256((prover.kit() / "KIT-ID").read_bytes())
-    for file in sorted([*files, *(TOP / "tests" / f"{it}.py" for it in ["edits", "prover", "wrong_bodies"])]):
+    for file in sorted([*files, *(TOP / "tests" / f"{it}.py" for it in ["edits", "functions", "prover", "wrong_bodies"])]):
         digest.update(f"{file.relative_to(TOP)} {file.stat().st_size} ".encode() + file.read_bytes())
     return digest.hexdigest()
 

@@ -1,0 +1,91 @@
+"""The functions in a crate's sources: what the prover calls them, and how to leave of some their contracts alone.
+
+The sources are as `rt fmt` lays them out: each item begins at a line's start, and what stands in it is indented.
+"""
+
+import re
+from pathlib import Path
+
+FUNCTION = re.compile(r"^( *)(?:pub(?:\(\w+\))? )?(?:const )?fn (\w+)", re.M)
+TYPE = re.compile(r"^(?:pub(?:\(\w+\))? )?(?:struct|enum) (\w+)", re.M)
+# what functions can stand in
+BLOCK = re.compile(r"^(?:pub(?:\(\w+\))? )?(?:impl|trait|mod)\b.*", re.M)
+IMPL = re.compile(r"impl\b(?:<[^{]*?>)? (?:(\w+)(?:<([\w:]*)[^{]*>)? for )?(\w+)")
+ONE_TYPE = re.compile(r"impl [A-Z]\w*<([A-Z]\w*)> \{")
+# a body that is right by no contract and wrong by none, since it never ends
+NO_BODY = "{ loop {} }"
+# a proof with a hole, where the prover takes what is to be shown
+NO_PROOF = """use Rattle.{crate}.proofs.{path}.Statement.{{statement}}
+
+pub {name}_spec : {{M : Type 1}} → statement M
+{name}_spec = ?
+"""
+
+
+def module_of(file):
+    """The path of the module that a file src/FILE is."""
+    return [it for it in Path(file).with_suffix("").parts[1:] if it not in ["lib", "main"]]
+
+
+class Function:
+    """A function in the text of a file: what it is called, what it stands in, and where it begins."""
+
+    def __init__(self, file, text, found):
+        self.file, self.text, self.start = file, text, found.start()
+        self.indent, self.last = found.groups()
+        self.block = [it[0] for it in BLOCK.finditer(text) if it.start() < self.start][-1] if self.indent else ""
+
+    def name(self):
+        """The end of the prover's name of it: it begins with the module of a type, and not of this part of the type's functions."""
+        if not self.indent:
+            return "::".join([*module_of(self.file), self.last])
+        trait, of, type_name = IMPL.match(self.block).groups()
+        # an impl of one type of a generic one is called after both
+        one = ONE_TYPE.match(self.block)
+        type_name += f"+{one[1]}" if one else ""
+        of = "".join(it[0].upper() + it[1:] for it in (of or "").split("::") if it)
+        return f"{type_name}{trait or ''}{of}::{self.last}"
+
+    def path(self, types):
+        """The path of its proof, or None where it belongs to a trait or to another type than `types` has the modules of."""
+        impl = IMPL.match(self.block)
+        if not self.indent:
+            return [*module_of(self.file), self.last]
+        return [*types[impl[3]], impl[3], self.last] if impl and not impl[1] and impl[3] in types and not ONE_TYPE.match(self.block) else None
+
+    def body(self):
+        """Where its body stands, or None if it has none."""
+        after = FUNCTION.search(self.text, self.start + 1)
+        # after clauses a body begins on a line of its own, and else on that of the function's name or of its result
+        for before in [f"^{self.indent}", " "]:
+            shape = re.compile(rf"{before}(\{{$[^\0]*?^{self.indent}\}}$|\{{.*\}}$)", re.M)
+            if found := shape.search(self.text, self.start, after.start() if after else len(self.text)):
+                return found.span(1)
+        return None
+
+
+def functions_in(file, text):
+    """The functions in the text of a file."""
+    return [Function(file, text, it) for it in FUNCTION.finditer(text)]
+
+
+def leave_contracts(crate, folder, but):
+    """Leaves of the functions in a copy of a crate their contracts alone, but of those with names in `but`, and but for the functions of
+    traits."""
+    texts = {str(it.relative_to(folder)): it.read_text() for it in folder.glob("src/**/*.rt")}
+    types = {name: module_of(file) for file, text in texts.items() for name in TYPE.findall(text)}
+    for file, text in texts.items():
+        for it in reversed(functions_in(file, text)):
+            path, body = it.path(types), it.body()
+            if path and body and it.name() not in but:
+                text = text[:body[0]] + NO_BODY + text[body[1]:]
+                leave_no_proof(crate, folder.joinpath("proofs", *path), path)
+        (folder / file).write_text(text)
+
+
+def leave_no_proof(crate, folder, path):
+    """Puts a hole in the place of a function's proof."""
+    folder.mkdir(parents=True, exist_ok=True)
+    for part in ["Invariants", "Answers"]:
+        (folder / f"{part}.antt").unlink(missing_ok=True)
+    (folder / "Proof.antt").write_text(NO_PROOF.format(crate=crate, path=".".join(path), name=path[-1]))
