@@ -47,11 +47,12 @@ class Function:
         return f"{type_name}{trait or ''}{of}::{self.last}"
 
     def path(self, types):
-        """The path of its proof, or None where it belongs to a trait or to another type than `types` has the modules of."""
-        impl = IMPL.match(self.block)
+        """The path of its proof, or None unless it stands alone, or belongs to a type that `types` has the module of."""
         if not self.indent:
             return [*module_of(self.file), self.last]
-        return [*types[impl[3]], impl[3], self.last] if impl and not impl[1] and impl[3] in types and not ONE_TYPE.match(self.block) else None
+        impl = IMPL.match(self.block)
+        is_of_type = impl and not impl[1] and impl[3] in types and not ONE_TYPE.match(self.block)
+        return [*types[impl[3]], impl[3], self.last] if is_of_type else None
 
     def body(self):
         """Where its body stands, or None if it has none."""
