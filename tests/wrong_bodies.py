@@ -101,7 +101,8 @@ class Said:
 
     def has_more_to_say(self, function):
         """Whether a function that is not proved calls such a function: the prover has not tried all of its goals then."""
-        return "it calls `" in self.verdicts[function]
+        called = self.verdicts[function].partition("it calls ")[2]
+        return any(f"`{it}`" in called for it in self.refused())
 
     def why(self, function):
         """What the prover says of a goal of a function, or None where only a proof doesn't fit."""
