@@ -47,7 +47,7 @@ test-proofs:
 test-definitions:
 	nice -n 19 tests/definitions.py
 
-# A few of the tests that have to fail under a wrong body, drawn by a checksum of the code and of all wrong bodies. They take no proofs.
+# A few of the tests that have to fail under a wrong body, drawn by a checksum of the code and of all wrong bodies. They need no proof.
 test-named:
 	tests/wrong_bodies.py --tests 8
 

@@ -12,9 +12,9 @@ TYPE = re.compile(r"^(?:pub(?:\(\w+\))? )?(?:struct|enum) (\w+)", re.M)
 BLOCK = re.compile(r"^(?:pub(?:\(\w+\))? )?(?:impl|trait|mod)\b.*", re.M)
 IMPL = re.compile(r"impl\b(?:<[^{]*?>)? (?:(\w+)(?:<([\w:]*)[^{]*>)? for )?(\w+)")
 ONE_TYPE = re.compile(r"impl [A-Z]\w*<([A-Z]\w*)> \{")
-# a body that is right by no contract and wrong by none, since it never ends
+# a body of any type, in place of one that nobody asks about
 NO_BODY = "{ loop {} }"
-# a proof with a hole, where the prover takes what is to be shown
+# a proof that is a hole: under --allow-holes the prover takes as shown what it stands for
 NO_PROOF = """use Rattle.{crate}.proofs.{path}.Statement.{{statement}}
 
 pub {name}_spec : {{M : Type 1}} → statement M
@@ -71,8 +71,8 @@ def functions_in(file, text):
 
 
 def leave_contracts(crate, folder, but):
-    """Leaves of the functions in a copy of a crate their contracts alone, but of those with names in `but`, and but for the functions of
-    traits."""
+    """Takes the bodies and the proofs from the functions in a copy of a crate, so that their contracts are left. Functions that `but` names
+    keep theirs, and so do those of traits."""
     texts = {str(it.relative_to(folder)): it.read_text() for it in folder.glob("src/**/*.rt")}
     types = {name: module_of(file) for file, text in texts.items() for name in TYPE.findall(text)}
     for file, text in texts.items():

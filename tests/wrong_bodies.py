@@ -7,9 +7,9 @@
 The first form asks the prover. crates/CRATE/wrong-bodies/NAME.edit changes the body of one function (`edits.py` has the format). A
 function is proved over the contracts of what it calls and never over their bodies, so a body is refused or not whatever the other
 bodies are. Wrong bodies of different functions are therefore tried in one check, which takes a fifth of the time that a check for
-each takes. Of all other functions that check has only the contracts (`functions.py`), so none of them is proved once more. Each changed
-function has to be refused for itself: where the prover has not tried all of its goals, since it calls one that is refused too, its body
-is tried again in a check without that one's. The second wrong body of a function is tried in a second check.
+each takes. Of the other functions, but for those of traits, that check has only the contracts (`functions.py`), so they aren't proved
+once more. Each changed function has to be refused for itself: where the prover has not tried all of its goals, since it calls one that is
+refused too, its body is tried again in a check without that one's. The second wrong body of a function is tried in a second check.
 
 What a check stands on are the crates below as rt ci has built them.
 
@@ -69,7 +69,7 @@ OPEN = re.compile(r"^note: src/\S+ it is not proved that .*\((`\S+`)\)(.*)$")
 UNFIT = re.compile(r"^\./proofs/(\S+?)/\w+\.antt:\S+ error(.*)$", re.M)
 OF_ANOTHER = re.compile(r"admitted|\.Met\b")
 FALSE = "the facts known there allow values at which this goal is false"
-# how many wrong bodies take as long as what a round takes besides, for each crate that its check reads
+# for each crate that it reads, a check takes as long as this many wrong bodies
 ROUND = 2
 
 
