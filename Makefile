@@ -14,17 +14,25 @@ release = juniperbrick-$(shell cat VERSION)-linux-x86_64
 # the day of the newest version
 day = $(shell sed -n 's/^## .*(\(.*\))$$/\1/p' CHANGELOG.md | head -n 1)
 
-# Proves and builds the programs, makes a file of the sample's text, checks it, and prints it as CDL again.
+# Proves and builds the programs, makes a file of the sample's text, checks it, and prints it as CDL again. The first time, a program that
+# isn't proved yet prints the sample before.
 all: bin/ncdump bin/ncgen bin/nccheck
 	bin/ncgen -k nc6 -o bin/stations.nc $(sample).cdl
 	bin/nccheck bin/stations.nc
 	bin/ncdump bin/stations.nc
 
-# Proves and builds the programs, if anything has changed.
-# (tests, examples, edits, and the library and the laws that no program needs are no part of them)
-bin/ncdump bin/ncgen bin/nccheck &: $(wildcard build.sh HANDLES crates.txt) $(shell find crates \( -name out -o -name must-fail -o -name wrong-bodies \
-		-o -name 'test_*' -o -name 'example_*' -o -name uses -o -name nc_variable -o -name layout_laws -o -name check_laws \) -prune -o -type f -print 2>/dev/null)
+# Proves and builds the programs, if anything of the crates that they stand on has changed.
+program_crates := $(addprefix crates/,$(shell ./build.sh --crates 2>/dev/null))
+bin/ncdump bin/ncgen bin/nccheck &: $(wildcard build.sh kit.sh HANDLES crates.txt) $(if $(program_crates),$(shell find $(program_crates) \
+		\( -name out -o -name must-fail -o -name wrong-bodies \) -prune -o -type f -print))
+	@test -x bin/ncdump || { $(try); }
 	./build.sh
+
+# Prints the sample by a program that isn't proved.
+try = ./kit.sh && echo 'A first dump, in a minute or two, by a program that is not proved yet:' && \
+	cd crates/ncdump_cli && rt try -- $(abspath $(sample).nc)
+try:
+	@$(try)
 
 # The merge gate, in parts that run side by side where none waits for another. A release has neither tests nor the sources that they prove.
 test: $(if $(wildcard tests),test-proofs test-definitions test-named test-bodies test-programs,no-tests)
@@ -32,13 +40,19 @@ no-tests:
 	@echo 'make test needs the sources and the Rattle kit: this folder is a release, which only has the programs' >&2
 	@exit 1
 test-bodies test-programs: test-proofs
+test-proofs test-definitions test-named: kit
 ifeq ($(MAKECMDGOALS),test)
 MAKEFLAGS += --jobs=3
 endif
 
-# Each proof that no earlier run on this machine made from the same files, the tests and the programs' stored runs.
+# Says in a sentence what is wrong with the command rt, if anything is.
+kit:
+	./kit.sh
+
+# All proofs (the newer kit leaves out those that an earlier run on this machine made from the same files), the tests and the programs' stored
+# runs.
 test-proofs:
-	rt ci
+	./kit.sh rt ci
 	$(call keep,ncdump)
 	$(call keep,ncgen)
 	$(call keep,nccheck)
@@ -61,6 +75,7 @@ test-bodies:
 # slower way, on random datasets, and on mangled files and texts; the documents; and a release, unpacked and run.
 test-programs:
 	tests/refusals.py
+	tests/either_kit.sh
 	tests/allocation_failures.sh
 	tests/memory.py
 	tests/ncdump.sh
@@ -124,10 +139,10 @@ dist:
 
 # Proves every crate, over what earlier runs kept.
 check:
-	rt all check
+	./kit.sh rt all check
 
 # Removes what was built, and what earlier runs kept.
 clean:
 	rm -rf bin dist crates/*/out
 
-.PHONY: all test no-tests test-proofs test-definitions test-named test-bodies test-programs install uninstall dist check clean
+.PHONY: all try kit test no-tests test-proofs test-definitions test-named test-bodies test-programs install uninstall dist check clean

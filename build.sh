@@ -1,49 +1,71 @@
 #!/usr/bin/env bash
-# Proves and builds the programs into bin/. rt ci keeps what it has proved: `make test` doesn't prove it again, nor does this after `make
-# test`. Here it runs in a copy without the crates of tests and examples, and without the library and the laws that no program needs. A crate
-# gets the processors that no other crate of the same rt ci waits for. So each of the large crates has an rt ci of its own, and what isn't
-# waited for soon gives way to the devices and the header, on which all programs stand.
+# Proves and builds the programs into bin/: rt ci, in a copy that has only the crates that the programs stand on, and so no tests, examples or
+# laws. Standard error says how far it is, and bin/build.log has all that rt says.
+#     build.sh --crates    prints those crates
 set -euo pipefail
 cd "$(dirname "$0")"
-if ! command -v rt >/dev/null; then
-    echo 'build.sh: no command rt: README.md says what is needed' >&2
-    exit 1
-fi
 
-copy=$(mktemp -d)
-trap 'rm -rf "$copy"' EXIT
-grep -v '^test_\|^example_\|^uses\|^nc_variable\|^layout_laws\|^check_laws' crates.txt >"$copy/crates.txt"
-tar -c --exclude=out --exclude=must-fail --exclude=crates/test_\* --exclude=crates/example_\* --exclude=crates/uses --exclude=crates/nc_variable \
-    --exclude=crates/layout_laws --exclude=crates/check_laws HANDLES crates | tar -x -C "$copy"
+# Prints the crates of the programs, whose names end in _cli, and those that they stand on, in the order of crates.txt.
+crates() {
+    awk '
+        function need(name,    below, count, i) {
+            if (!(name in line) || name in needed) return
+            needed[name]
+            count = split(line[name], below, /[: ]+/)
+            for (i = 2; i <= count; i++) need(below[i])
+        }
+        /^[^#]/ { name = $1; sub(/:$/, "", name); line[name] = $0; listed[++all] = name }
+        END {
+            for (i = 1; i <= all; i++) if (listed[i] ~ /_cli$/) need(listed[i])
+            for (i = 1; i <= all; i++) if (listed[i] in needed) print listed[i]
+        }' crates.txt
+}
 
-# Proves the crates, one after the other.
-in_turn() {
-    trap 'kill $(jobs -p) 2>/dev/null; exit 1' TERM
-    for crate in "$@"; do
-        rt ci "$crate" &
-        wait $! || return
+# Copies the crates that are named, with their lines of crates.txt, into a folder.
+copy_crates() {
+    local folder=$1
+    shift
+    grep -E "^($(tr ' ' '|' <<<"$*")):" crates.txt >"$folder/crates.txt"
+    tar -c --exclude=out --exclude=must-fail --exclude=wrong-bodies HANDLES "${@/#/crates/}" | tar -x -C "$folder"
+}
+
+# Hands on what rt says, and says on standard error how many of the crates that are named it has proved.
+progress() {
+    local left=" $* " all=$# proved=0 line name
+    while IFS= read -r line; do
+        printf '%s\n' "$line"
+        name=${line#rt: } name=${name%% *}
+        case $line in
+            'rt: '*' NOT PROVED') echo "$name is not proved" >&2 ;;
+            # (of a crate that the newer kit has kept it says so, and may say so twice)
+            'rt: '*proved* | 'rt: '*kept*)
+                if [[ $left == *" $name "* ]]; then
+                    left=${left/ $name / } proved=$((proved + 1))
+                    echo "proved $proved of $all, $((SECONDS / 60)) min so far: $name" >&2
+                fi
+                ;;
+        esac
     done
 }
 
-prove() {
-    trap 'kill $(jobs -p) 2>/dev/null || true' EXIT
-    cd "$copy"
-    in_turn nc_base || return
-    (renice -n 10 $BASHPID >/dev/null; in_turn nc_layout cdl_tokens) &
-    in_turn devices nc_file || return
-    in_turn nc_fields nc_check nccheck nccheck_cli &
-    in_turn cdl_print ncdump ncdump_cli &
-    in_turn cdl_parse ncgen ncgen_cli || return
-    wait
-    rt ci
-}
-
+mapfile -t crates < <(crates)
+if [ "${1:-}" = --crates ]; then
+    printf '%s\n' "${crates[@]}"
+    exit
+fi
+kit=$PWD/kit.sh
+"$kit"
+copy=$(mktemp -d)
+trap 'rm -rf "$copy"' EXIT
+copy_crates "$copy" "${crates[@]}"
 mkdir -p bin
-if ! (prove) 2>&1 | tee bin/build.log | grep --line-buffered '^rt: ' | grep -v ' kept: \| that is kept\|waiting for it'; then
-    grep -m 20 'error\|not proved' bin/build.log || true
-    echo "The programs are not built. bin/build.log has all that was said."
+echo "proving and building ${#crates[@]} crates; bin/build.log has all that is said" >&2
+if ! (cd "$copy" && "$kit" sh -c 'exec rt ci 2>&1') | progress "${crates[@]}" >bin/build.log; then
+    grep -m 20 'error\|not proved' bin/build.log || tail -n 5 bin/build.log
+    echo 'The programs are not built. bin/build.log has all that was said.' >&2
     exit 1
 fi
-for program in ncdump ncgen nccheck; do
-    cp "$copy/crates/${program}_cli/out/${program}_cli" bin/$program
+for cli in "$copy"/crates/*_cli; do
+    name=$(basename "$cli")
+    cp "$cli/out/$name" "bin/${name%_cli}"
 done

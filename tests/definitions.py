@@ -21,14 +21,13 @@ from pathlib import Path
 
 import prover
 from edits import BadEdit, read_edit
+from messages import Said, are_laws_judged, expect_words
 
 EDITS = prover.TOP / "tests" / "definitions"
 # the crate of the laws that have to refuse an edit which names none
 LAWS = "cdl_laws"
 # the folder of a crate's proofs with its worked examples, which no file outside such a folder cites
 EXAMPLES = "examples"
-# what the prover says of a text that it can't read, or that names what isn't there
-UNREAD = re.compile(r"is not in scope|has no field|is no name|operand is missing|expected the end|cannot continue|can be named")
 
 
 def copy_crate(crate, to):
@@ -76,7 +75,7 @@ def laws_with(crate, edit, kept, law=None):
             apply(edit, Path(folder))
         words = [*prover.check_words(crate), *prover.built(["std", *libraries]), *prover.sources(crates)]
         words += ["--incremental", kept, "--only", f"laws::{law}" if law else "laws"]
-        return prover.said(words, Path(folder, "crates", crate))
+        return Said(crate, prover.said(words, Path(folder, "crates", crate)))
 
 
 def verdict(edit, proved):
@@ -87,12 +86,11 @@ def verdict(edit, proved):
             said = laws_with(crate, edit, kept, law)
     except BadEdit as why:
         return False, f"{edit.stem}: BAD EDIT: {why}"
-    refused = re.findall(r"^fn \w+::laws::(\w+): (?!proved)", said, re.M)
-    errors = [line for line in said.splitlines() if ": error" in line]
-    if not refused and re.search(r"^only=(\d+) proved=\1$", said, re.M):
+    refused = [it.rpartition("::")[2] for it in said.refused()]
+    if said.are_all_proved():
         return False, f"{edit.stem}: NOT REFUSED: {law or 'every law'} is still proved"
-    if not refused or not errors or UNREAD.search(errors[0]) and "proofs/" not in errors[0]:
-        return False, f"{edit.stem}: BAD EDIT: the laws did not reach the prover: {(errors or [said[-200:]])[0][:300]}"
+    if not refused or not said.errors or said.is_unread():
+        return False, f"{edit.stem}: BAD EDIT: the laws did not reach the prover: {(said.errors or [said.text[-200:]])[0][:300]}"
     if law and law not in refused:
         return False, f"{edit.stem}: NOT REFUSED by {law}, but by {' '.join(refused)}"
     return True, f"{edit.stem}: refused, as it must be: {' '.join(refused)}"
@@ -101,7 +99,7 @@ def verdict(edit, proved):
 def unproved(crate, proved):
     """What is wrong with the laws of a crate where nothing is changed, or None; `proved` keeps what was proved."""
     said = laws_with(crate, None, proved / crate)
-    return None if re.search(r"^only=(\d+) proved=\1$", said, re.M) else f"{crate}: its laws are not proved as they stand:\n{said[-2000:]}"
+    return None if said.are_all_proved() else f"{crate}: its laws are not proved as they stand:\n{said.text[-2000:]}"
 
 
 def main():
@@ -110,6 +108,7 @@ def main():
         edits = [edit for edit in edits if edit.stem in sys.argv[1:]]
         if unknown := {*sys.argv[1:]} - {edit.stem for edit in edits}:
             sys.exit(f"no such edit: {' '.join(sorted(unknown))}")
+    expect_words(are_laws_judged)
     crates, results = sorted({law_of(edit)[0] for edit in edits}), []
     with tempfile.TemporaryDirectory() as folder, ThreadPoolExecutor(prover.at_once()) as pool:
         proved = Path(folder)

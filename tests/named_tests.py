@@ -7,18 +7,15 @@ fails has to fail for that edit.
 
 import re
 import shutil
-import subprocess
 import tempfile
 from concurrent.futures import ThreadPoolExecutor
 from pathlib import Path
 
 import prover
 from edits import apply
+from messages import tests_said
 from prover import CRATES
 
-# a table of many rows may take minutes unproved, on a busy machine
-TRY = ["rt", "try", "--test", "--seconds", "600"]
-RAN = re.compile(r"^test (\S+) \.\.\. .*?(ok|FAILED)$", re.M)
 # a test, from its first line to its closing brace
 TEST = re.compile(r"^(?:///.*\n)*#\[test\]\nfn (\w+)(?:.*\n)*?\}\n", re.M)
 USED = re.compile(r"\bcrate::(\{[^}]*\}|\w+)")
@@ -69,10 +66,9 @@ def results_of(crate, tests, edit=None):
         keep_tests(Path(folder), crate, tests)
         if edit:
             apply([edit], Path(folder, "crates", edit.crate))
-        ran = subprocess.run(TRY, cwd=Path(folder, "crates", crate), stdin=subprocess.DEVNULL, text=True,
-                             stdout=subprocess.PIPE, stderr=subprocess.STDOUT, errors="replace")
-    found = dict(RAN.findall(ran.stdout))
-    return {it for it in tests if found.get(it) == "ok"}, {it for it in tests if found.get(it) == "FAILED"}, ran.stdout
+        said = prover.said(prover.TRY, Path(folder, "crates", crate))
+    passed = tests_said(said)
+    return {it for it in tests if passed.get(it)}, {it for it in tests if passed.get(it) is False}, said
 
 
 def said_of(said):

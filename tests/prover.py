@@ -13,6 +13,8 @@ TOP = Path(__file__).resolve().parent.parent
 CRATES = TOP / "crates"
 # the most memory that a check is likely to take
 CHECK_BYTES = 4 << 30
+# runs the tests of a crate without a proof (a table of many rows may take minutes so, on a busy machine)
+TRY = ["rt", "try", "--test", "--seconds", "600"]
 
 
 @cache

@@ -40,7 +40,6 @@ import hashlib
 import json
 import os
 import random
-import re
 import shutil
 import sys
 import tempfile
@@ -52,67 +51,14 @@ import named_tests
 import prover
 from edits import BadEdit, apply, crates_with_edits, edits_of
 from functions import leave_contracts
+from messages import Said, are_bodies_judged, are_tests_judged, expect_words
 from prover import CRATES, TOP
 
 # what earlier runs said
 KEPT = Path(os.environ.get("XDG_CACHE_HOME") or Path.home() / ".cache", "juniperbrick", "wrong-bodies")
 
-# the prover's line on a function
-VERDICT = re.compile(r"^fn (\S+): (.+)$", re.M)
-# (a function that has its contract alone has a hole for its proof)
-PROVED = re.compile(r"no holes|depends on a hole")
-# nothing is said of the function itself, since one that it calls isn't proved
-WAITS = re.compile(r"not proved; it calls|no proof: (it calls|the borrow checker's part in its proof is not made yet)")
-# a goal that stayed open, and what the search for a proof came to; such lines stand right before the line on their function
-OPEN = re.compile(r"^note: src/\S+ it is not proved that .*\((`\S+`)\)(.*)$")
-# an error in a function's stored proof, and the words of one that another function's proof may be the reason of
-UNFIT = re.compile(r"^\./proofs/(\S+?)/\w+\.antt:\S+ error(.*)$", re.M)
-OF_ANOTHER = re.compile(r"admitted|\.Met\b")
-FALSE = "the facts known there allow values at which this goal is false"
 # for each crate that it reads, a check takes as long as this many wrong bodies
 ROUND = 2
-
-
-class Said:
-    """What the prover said of the functions of a round."""
-
-    def __init__(self, crate, text):
-        self.verdicts, self.goals = {}, {}
-        open_goals = []
-        for line in text.splitlines():
-            goal, verdict = OPEN.match(line), VERDICT.match(line)
-            if goal:
-                open_goals.append(goal.groups())
-            elif verdict:
-                self.verdicts[verdict[1]] = verdict[2]
-                self.goals[verdict[1]] = open_goals
-                open_goals = []
-        named = [(f"{crate}::{path.replace('/', '::')}", why) for path, why in UNFIT.findall(text)]
-        self.unfit = {function for function, _ in named}
-        self.unfit_alone = {function for function, why in named if not OF_ANOTHER.search(why)}
-
-    def refused(self):
-        """The functions that are not proved."""
-        return [name for name, verdict in self.verdicts.items() if not PROVED.match(verdict)]
-
-    def waits(self, function):
-        """Whether the prover says nothing of a function that is not proved, but that it calls such a function."""
-        return WAITS.match(self.verdicts[function]) and function not in self.unfit_alone
-
-    def has_more_to_say(self, function):
-        """Whether a function that is not proved calls such a function: the prover has not tried all of its goals then."""
-        called = self.verdicts[function].partition("it calls ")[2]
-        return any(f"`{it}`" in called for it in self.refused())
-
-    def why(self, function):
-        """What the prover says of a goal of a function, or None where only a proof doesn't fit."""
-        if function in self.unfit:
-            return None
-        false = [goal for goal, end in self.goals[function] if FALSE in end]
-        still_open = [goal for goal, end in self.goals[function] if not end]
-        if false:
-            return f"false at values that it allows: {false[0]} of {function}"
-        return f"a goal stays open: {still_open[0]} of {function}" if still_open else None
 
 
 def rounds_of(edits):
@@ -147,9 +93,9 @@ def verdict_on(edit, said, found):
 def judge(crate, edits, text):
     """Whether each edit of a round was refused, and a line on each; and the edits that are still undecided."""
     said = Said(crate, text)
-    if not said.verdicts or not text.splitlines()[-1].startswith("only="):
-        errors = [line for line in text.splitlines() if "error" in line] or text.splitlines()[-3:]
-        return [(False, f"{it}: BAD EDIT: the round did not reach the prover: {errors[0][:300]}") for it in edits], []
+    if not said.is_whole():
+        why = (said.errors or text.splitlines()[-3:])[0][:300]
+        return [(False, f"{it}: BAD EDIT: the round did not reach the prover: {why}") for it in edits], []
     refused, verdicts, waiting = said.refused(), [], []
     for edit in edits:
         found = [name for name in refused if any(is_of(name, it) for it in edit.functions)]
@@ -209,7 +155,7 @@ def checksum(crate):
     folders = [CRATES / it / part for it in crates for part in ["src", "specs", "proofs"]]
     files = [it for folder in [*folders, CRATES / crate / "wrong-bodies"] for it in folder.rglob("*.*")]
     digest = hashlib.sha256((prover.kit() / "KIT-ID").read_bytes())
-    for file in sorted([*files, *(TOP / "tests" / f"{it}.py" for it in ["edits", "functions", "prover", "wrong_bodies"])]):
+    for file in sorted([*files, *(TOP / "tests" / f"{it}.py" for it in ["edits", "functions", "messages", "prover", "wrong_bodies"])]):
         digest.update(f"{file.relative_to(TOP)} {file.stat().st_size} ".encode() + file.read_bytes())
     return digest.hexdigest()
 
@@ -278,10 +224,12 @@ def try_tests(count):
 def main():
     words = sys.argv[1:]
     if words[:1] == ["--tests"]:
+        expect_words(are_tests_judged)
         results = try_tests(int(words[1]) if words[1:] else None)
     else:
         if unknown := {*words} - {*crates_with_edits()}:
             sys.exit(f"no wrong bodies in {' '.join(sorted(unknown))}")
+        expect_words(are_bodies_judged)
         results = try_crates(words or crates_with_edits())
     for is_well, line in results:
         if not is_well:
