@@ -27,24 +27,17 @@ what a writer's flush reaches), and the body is still proved. The prover isn't a
 fails if its body is proved; if only a proof doesn't fit, it is printed, and counts as neither passed nor failed: of the same body the
 prover may say less if the machine is busy.
 
-What was said of the wrong bodies of a crate is kept in ~/.cache/juniperbrick, by a checksum of all that it follows from, unless one of
-them was not refused: a later run in any checkout says it again, and tries only those of crates that changed or that stand on such. (rt ci
-keeps its proofs so, too.) Where that folder can't be made nothing is kept; remove it, and all are tried again.
-
 The second form runs the tests that edits name, with the edit and without (`named_tests.py`): those of all edits, or of N edits. These
 are drawn by a checksum of the code and of all edits, so that a commit draws the same ones each day, and another commit others. The last
 line of both forms is 'N passed, M failed'.
 """
 
 import hashlib
-import json
-import os
 import random
 import shutil
 import sys
 import tempfile
 from concurrent.futures import ThreadPoolExecutor
-from contextlib import suppress
 from pathlib import Path
 
 import named_tests
@@ -53,9 +46,6 @@ from edits import BadEdit, apply, crates_with_edits, edits_of
 from functions import leave_contracts
 from messages import Said, are_bodies_judged, are_tests_judged, expect_words
 from prover import CRATES, TOP
-
-# what earlier runs said
-KEPT = Path(os.environ.get("XDG_CACHE_HOME") or Path.home() / ".cache", "juniperbrick", "wrong-bodies")
 
 # for each crate that it reads, a check takes as long as this many wrong bodies
 ROUND = 2
@@ -149,17 +139,6 @@ def try_crate(crate):
     return results
 
 
-def checksum(crate):
-    """A checksum of the kit, of these scripts, of the crate and its wrong bodies, and of the crates that it stands on."""
-    crates = {crate, *prover.below([crate])} & prover.stands_on().keys()
-    folders = [CRATES / it / part for it in crates for part in ["src", "specs", "proofs"]]
-    files = [it for folder in [*folders, CRATES / crate / "wrong-bodies"] for it in folder.rglob("*.*")]
-    digest = hashlib.sha256((prover.kit() / "KIT-ID").read_bytes())
-    for file in sorted([*files, *(TOP / "tests" / f"{it}.py" for it in ["edits", "functions", "messages", "prover", "wrong_bodies"])]):
-        digest.update(f"{file.relative_to(TOP)} {file.stat().st_size} ".encode() + file.read_bytes())
-    return digest.hexdigest()
-
-
 def checksum_of_all():
     """A checksum of the code and the wrong bodies of all crates."""
     digest = hashlib.sha256()
@@ -167,28 +146,6 @@ def checksum_of_all():
         for file in sorted(it for it in CRATES.glob(f"*/{folder}/**/*") if it.suffix in (".rt", ".edit")):
             digest.update(f"{file.relative_to(TOP)} {file.stat().st_size} ".encode() + file.read_bytes())
     return digest.hexdigest()
-
-
-def results_of(crate):
-    """What is said of the wrong bodies of a crate: what an earlier run said, if nothing has changed since."""
-    kept = KEPT / f"{crate}-{checksum(crate)}"
-    if kept.exists():
-        results = json.loads(kept.read_text())
-        print(f"{crate}: an earlier run said:", *(line for _, line in results), sep="\n")
-        return results
-    results = try_crate(crate)
-    if all(is_refused is not False for is_refused, _ in results):
-        keep(kept, json.dumps(results))
-    return results
-
-
-def keep(path, text):
-    """Keeps a text in a file, whole or not at all."""
-    with suppress(OSError):
-        path.parent.mkdir(parents=True, exist_ok=True)
-        with tempfile.NamedTemporaryFile("w", dir=path.parent, delete=False) as file:
-            file.write(text)
-        os.replace(file.name, path)
 
 
 def work_in(crate):
@@ -204,7 +161,7 @@ def work_in(crate):
 def try_crates(crates):
     """Tries the wrong bodies of these crates, several crates at once, and first of those that take longest."""
     with ThreadPoolExecutor(prover.at_once()) as pool:
-        results = [it for part in pool.map(results_of, sorted(crates, key=work_in, reverse=True)) for it in part]
+        results = [it for part in pool.map(try_crate, sorted(crates, key=work_in, reverse=True)) for it in part]
     by_contract, by_neither = (sum(it[0] is said for it in results) for said in [True, None])
     print(f"refused by their contracts: {by_contract}; by neither a contract nor a test that they name: {by_neither}")
     return [it for it in results if it[0] is not None]
