@@ -39,15 +39,21 @@ tar -c --exclude=out --exclude=wrong-bodies -C "$top" Makefile build.sh kit.sh H
 mapfile -t crates < <(./build.sh --crates)
 all=${#crates[@]}
 
+# build COMMAND..: runs a build, however many minutes it takes
+build() {
+    run "$@"
+    sed -i 's/, [0-9]* min so far/, N min so far/' "$work/got/stderr"
+}
+
 # building: what a build writes to standard error, if the crates from the first to the last but $1 are proved
 building() {
     echo "proving and building $all crates; bin/build.log has all that is said"
     for ((i = 1; i <= all - $1; i++)); do
-        echo "proved $i of $all, 0 min so far: ${crates[i - 1]}"
+        echo "proved $i of $all, N min so far: ${crates[i - 1]}"
     done
 }
 
-run env PATH="$work/kit:$PATH" make -s
+build env PATH="$work/kit:$PATH" make -s
 (echo 'A first dump, in a minute or two, by a program that is not proved yet:' && cat "$samples/stations.cdl" "$samples/stations.cdl") \
     >"$work/want/stdout"
 building 0 >"$work/want/stderr"
@@ -56,17 +62,17 @@ run cmp bin/ncgen "$ncgen"
 verdict programs_are_built 0
 
 : >"$CALLS"
-run env PATH="$work/kit:$PATH" make -s bin/ncdump
+build env PATH="$work/kit:$PATH" make -s bin/ncdump
 verdict nothing_is_built_again 0
 run grep -c . "$CALLS"
 stdout '0\n'
 verdict nothing_is_asked_of_rt 1
 touch crates/nc_base/src/lib.rt
-run env PATH="$work/kit:$PATH" make -s bin/ncdump
+build env PATH="$work/kit:$PATH" make -s bin/ncdump
 building 0 >"$work/want/stderr"
 verdict edit_is_built 0
 
-run env PATH="$work/kit:$PATH" UNPROVED="${crates[all - 1]}" ./build.sh
+build env PATH="$work/kit:$PATH" UNPROVED="${crates[all - 1]}" ./build.sh
 stdout 'src/lib.rt:1:1: error: not so\n'
 (building 1 && echo "${crates[all - 1]} is not proved" && echo 'The programs are not built. bin/build.log has all that was said.') >"$work/want/stderr"
 verdict unproved_crate_is_named 1

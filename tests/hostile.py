@@ -4,7 +4,7 @@ input is.
 
     tests/hostile.py [CASES [SEED]]
 
-Each run has 256 MiB of memory and 5 seconds. Of each answer:
+Each run has 256 MiB of memory and 5 seconds of processor time. Of each answer:
 
 - the status is 0 and standard error is empty, or it is 1 and standard error is one line that names the file and a fault;
 - no dump begins where the header has a fault; where data are cut short the text is a prefix of that of the whole file;
@@ -33,6 +33,8 @@ from datasets import Datasets
 BIN = Path(__file__).resolve().parent.parent / "bin"
 MEMORY = 256 << 20
 SECONDS = 5
+# seconds until a run counts as one that doesn't end, however busy the machine is
+WAIT = 120
 # how many cases one seed's dataset gives
 EACH = 20
 HEADER_FAULT = re.compile(
@@ -70,8 +72,14 @@ class Broken(Exception):
     """Something that has to hold doesn't."""
 
 
+def ended(words, given=b""):
+    """What a program has written when it has ended within its time."""
+    limited = lambda: resource.setrlimit(resource.RLIMIT_CPU, (SECONDS, SECONDS))
+    return subprocess.run(words, capture_output=True, input=given, timeout=WAIT, preexec_fn=limited)
+
+
 def run(*words, given=b""):
-    ran = subprocess.run(words, capture_output=True, input=given, timeout=SECONDS)
+    ran = ended(words, given)
     if ran.returncode not in (0, 1):
         raise Broken(f"{words}: status {ran.returncode}: {ran.stderr[-200:]}")
     if (ran.returncode == 0) != (ran.stderr == b""):
@@ -143,7 +151,7 @@ class Cases:
 
     def check(self, fault):
         """The check of a file finds what a dump of all has found."""
-        ran = subprocess.run([BIN / "nccheck", "-l", "note", "case.nc"], capture_output=True, timeout=SECONDS)
+        ran = ended([BIN / "nccheck", "-l", "note", "case.nc"])
         if ran.stderr or ran.returncode != (1 if ran.stdout else 0):
             raise Broken(f"nccheck: status {ran.returncode} with {ran.stderr!r}")
         lines = [FINDING.fullmatch(line) for line in ran.stdout.splitlines()]
