@@ -1,35 +1,21 @@
-//! Tests of whole CDL texts: what they mean, and which fault they have.
+//! Tests of CDL texts: what whole texts mean, which fault they have, and how a text is cut into statements and tokens.
 #![tactic(auto)]
 
 #[cfg(test)]
-mod cut_texts;
+mod datasets;
 #[cfg(test)]
-mod fault_order;
+mod limits;
 #[cfg(test)]
-mod number_ranges;
+mod lists;
 #[cfg(test)]
-mod parsed_bytes;
+mod names_and_strings;
 #[cfg(test)]
-mod parsed_characters;
-#[cfg(test)]
-mod parsed_datasets;
-#[cfg(test)]
-mod parsed_lengths;
-#[cfg(test)]
-mod parsed_limits;
-#[cfg(test)]
-mod parsed_lists;
-#[cfg(test)]
-mod parsed_names;
-#[cfg(test)]
-mod parsed_numbers;
-#[cfg(test)]
-mod parsed_strings;
-#[cfg(test)]
-mod parsed_suffixes;
+mod numbers;
 #[cfg(test)]
 mod parsing;
 #[cfg(test)]
 mod refused_texts;
 #[cfg(test)]
-mod value_fault_order;
+mod refused_values;
+#[cfg(test)]
+mod statements;

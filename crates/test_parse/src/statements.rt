@@ -1,0 +1,75 @@
+//! The statements and the tokens of a text.
+
+use cdl_statements::Cutter;
+use cdl_tokens::{Scanner, Token, TokenKind};
+use nc_base::Version;
+use std::alloc::{AllocError, Global};
+use std::test::*;
+
+/// Returns true if the statements of the text have these numbers of tokens, and none comes after the last.
+fn has_statements(alloc: Global, text: &str, lens: &[usize]) -> Result<bool, AllocError> {
+    let mut cutter = Cutter::new(text.as_bytes(), Version::Cdf1);
+    let mut tokens = Vec::new(alloc);
+    for len in lens {
+        if !cutter.next(&mut tokens)? || tokens.len() != *len {
+            return Ok(false);
+        }
+    }
+    Ok(!cutter.next(&mut tokens)? && !cutter.next(&mut tokens)? && tokens.is_empty())
+}
+
+#[test]
+fn texts_are_cut_into_statements(rt: HostRuntime) -> Result<(), AllocError> {
+    const ROWS: &[(&str, &[usize])] = &[
+        ("netcdf t { x = 3 ; } y", &[1, 4, 1, 1, 1]),
+        ("netcdf t {} y", &[1, 1, 1, 1]),
+        ("netcdf t { dimensions: x = 3 }", &[1, 2, 4, 1]),
+        ("netcdf t", &[1, 1]),
+        ("", &[1]),
+        ("data: x = 1, 2; ; }}", &[2, 6, 1, 1, 1, 1]),
+    ];
+    for (text, lens) in ROWS {
+        assert!(rt; has_statements(rt.alloc(), *text, *lens)?, "{text}");
+    }
+    Ok(())
+}
+
+#[test]
+fn advancing_ends_where_statements_end(rt: HostRuntime) {
+    // an opening, `x = 3 ;`, the brace and the end
+    const ENDS: &[bool] = &[true, false, false, false, true, true, true];
+    let mut cutter = Cutter::new(b"netcdf t { x = 3 ; }", Version::Cdf1);
+    for ends in ENDS {
+        assert!(rt; !cutter.is_done() && cutter.advance() == *ends);
+    }
+    assert!(rt; cutter.is_done());
+}
+
+#[test]
+fn tokens_have_kinds_places_and_lines(rt: HostRuntime) {
+    const TEXT: &str = "netcdf t\n{ // a comment\n\\data=\"b\n\",-0x1f;\"";
+    // the kind of each token, its line, and the offsets at which it begins and ends
+    const TOKENS: &[(TokenKind, u64, usize, usize)] = &[
+        (TokenKind::Opening, 1, 0, 10),
+        (TokenKind::Word, 3, 24, 29),
+        (TokenKind::Mark, 3, 29, 30),
+        (TokenKind::Text, 3, 30, 34),
+        (TokenKind::Mark, 4, 34, 35),
+        (TokenKind::Number, 4, 35, 40),
+        (TokenKind::Mark, 4, 40, 41),
+        (TokenKind::Bad, 4, 41, 42),
+        (TokenKind::End, 4, 42, 42),
+        (TokenKind::End, 4, 42, 42),
+    ];
+    let mut scanner = Scanner::new(TEXT.as_bytes());
+    for (kind, line, first, past) in TOKENS {
+        let want = Token {
+            kind: *kind,
+            line: *line,
+            first: *first,
+            past: *past,
+        };
+        let found = scanner.token();
+        assert!(rt; found == want, "{found:?}");
+    }
+}
