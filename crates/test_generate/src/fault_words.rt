@@ -1,63 +1,60 @@
-//! What `Display` writes of a fault: the words that its fault line has.
+//! The words of faults: those of their lines, and what `Display` writes.
 
 use cdl_parse::{CdlFault, CdlKind};
 use devices::{MemSink, Sink};
 use ncgen::{GenFault, TextFault, fault_line};
-use std::alloc::Global;
-use std::test::Fail;
+use std::alloc::{AllocError, Global};
+use std::test::*;
 
-/// All kinds of faults of a CDL text.
-const KINDS: &[CdlKind] = &[
-    CdlKind::OutOfMemory,
-    CdlKind::BadToken,
-    CdlKind::BadNumber,
-    CdlKind::Syntax,
-    CdlKind::BadName,
-    CdlKind::DuplicateName,
-    CdlKind::UnknownDimension,
-    CdlKind::UnknownVariable,
-    CdlKind::FloatingType,
-    CdlKind::UnknownType,
-    CdlKind::ZeroDimension,
-    CdlKind::TwoRecordDims,
-    CdlKind::BadShape,
-    CdlKind::MixedConstants,
-    CdlKind::NumberRange,
-    CdlKind::WrongKind,
-    CdlKind::TooManyValues,
-    CdlKind::StringTooLong,
-    CdlKind::DuplicateData,
-    CdlKind::TooLarge,
+/// The kinds of faults of a CDL text, and their words.
+const KINDS: &[(CdlKind, &str)] = &[
+    (CdlKind::BadToken, "bad token"),
+    (CdlKind::BadNumber, "bad number"),
+    (CdlKind::Syntax, "syntax"),
+    (CdlKind::BadName, "bad name"),
+    (CdlKind::DuplicateName, "duplicate name"),
+    (CdlKind::UnknownDimension, "unknown dimension"),
+    (CdlKind::UnknownVariable, "unknown variable"),
+    (CdlKind::FloatingType, "floating type"),
+    (CdlKind::UnknownType, "unknown type"),
+    (CdlKind::ZeroDimension, "zero dimension"),
+    (CdlKind::TwoRecordDims, "two record dimensions"),
+    (CdlKind::BadShape, "bad shape"),
+    (CdlKind::MixedConstants, "mixed constants"),
+    (CdlKind::NumberRange, "number out of range"),
+    (CdlKind::WrongKind, "wrong kind of value"),
+    (CdlKind::TooManyValues, "too many values"),
+    (CdlKind::StringTooLong, "string too long"),
+    (CdlKind::DuplicateData, "duplicate data"),
+    (CdlKind::TooLarge, "too large"),
 ];
 
-/// Returns true if the fault line of the text `a` is `ncgen: a: `, then what `Display` writes, and a line feed.
-fn has_its_line(alloc: Global, fault: GenFault) -> Result<bool, Fail> {
+/// Returns true if the fault is displayed as these words, and its line for the text `a` has them.
+fn has_words(alloc: Global, fault: GenFault, words: &str) -> Result<bool, AllocError> {
     let mut line = MemSink::new(alloc);
     let written = fault_line(&mut line, b"a", &fault).is_ok();
-    let said = format!(in alloc; "ncgen: a: {fault}\n")?;
-    Ok(written && line.as_slice() == said.as_bytes())
-}
-
-/// Returns true if the fault is displayed as `words`.
-fn says(alloc: Global, fault: TextFault, words: &str) -> Result<bool, Fail> {
+    let want = format!(in alloc; "ncgen: a: {words}\n")?;
     let said = format!(in alloc; "{fault}")?;
-    Ok(said.as_str() == words)
+    Ok(written && line.as_slice() == want.as_bytes() && said.as_str() == words)
 }
 
 #[test]
-fn faults_are_displayed_as_in_their_lines(rt: HostRuntime) -> Result<(), Fail> {
-    let alloc = rt.alloc();
-    for kind in KINDS {
+fn faults_have_words(rt: HostRuntime) -> Result<(), AllocError> {
+    for (kind, words) in KINDS {
         let fault = CdlFault {
             line: 12,
             kind: *kind,
         };
-        assert!(rt; has_its_line(alloc, GenFault::Cdl(fault))?, "{kind}");
+        let words = format!(in rt.alloc(); "line 12: {words}")?;
+        assert!(rt;
+            has_words(rt.alloc(), GenFault::Cdl(fault), words.as_str())?,
+            "{words}"
+        );
     }
-    assert!(rt; has_its_line(alloc, GenFault::OffsetTooLarge)?);
-    assert!(rt; has_its_line(alloc, GenFault::WriteFailed)?);
-    assert!(rt; says(alloc, TextFault::OutOfMemory, "out of memory")?);
-    assert!(rt; says(alloc, TextFault::ReadFailed, "read failed")?);
-    assert!(rt; says(alloc, TextFault::TooLong, "CDL text too long")?);
+    let alloc = rt.alloc();
+    assert!(rt; has_words(alloc, GenFault::OffsetTooLarge, "offset too large")?);
+    assert!(rt; has_words(alloc, GenFault::WriteFailed, "write failed")?);
+    let found = format!(in alloc; "{}, {}", TextFault::ReadFailed, TextFault::TooLong)?;
+    assert!(rt; found.as_str() == "read failed, CDL text too long");
     Ok(())
 }

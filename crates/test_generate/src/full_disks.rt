@@ -2,12 +2,8 @@
 
 ghost use Rattle.std.specs.Prelude.{[], ◌≡◌, None, false};
 
-use crate::generating::is_same;
-use crate::invocations::status_of;
-use crate::texts::TEXT;
-use devices::{CloseFailed, CreateFailed, Creator, MemFile, MemFiles, Sink, SinkFailed, SliceSink};
+use devices::{CloseFailed, CreateFailed, Creator, Sink, SinkFailed};
 use std::alloc::Global;
-use std::process::Abort;
 
 /// Outputs on a full disk: only a few can be created, and together they take only a few bytes.
 #[derive(Drop)]
@@ -110,24 +106,4 @@ impl Creator for FullDisk {
         self.failures = self.failures.saturating_add(failures);
         Ok(())
     }
-}
-
-/// The text at a path, and words for its file.
-const FILES: &[MemFile<'static>] = &[MemFile {
-    path: "t.cdl",
-    bytes: TEXT,
-}];
-
-const WORDS: &[&str] = &["ncgen", "-b", "t.cdl"];
-
-/// A run that writes the file of a text to this disk ends with this line, and the disk holds these bytes then.
-pub fn leaves(rt: &impl Abort, alloc: Global, mut disk: FullDisk, line: &[u8], bytes: &[u8]) {
-    let mut space = [0; 64];
-    let mut err = SliceSink::new(&mut space, 64);
-    let mut texts = MemFiles::new(FILES);
-    let input = b"".as_slice();
-    let status = status_of(alloc, &mut texts, &mut disk, WORDS, input, &mut err);
-    let want = if line.is_empty() { 0 } else { 1 };
-    assert!(rt; status == want);
-    assert!(rt; is_same(err.taken(), line) && is_same(disk.held(), bytes));
 }

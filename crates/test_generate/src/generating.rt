@@ -18,23 +18,6 @@ pub fn short_text<'a>(rt: &impl Abort, text: &'a [u8]) -> &'a [u8]
     text
 }
 
-/// Returns true if these are the same bytes.
-pub fn is_same(bytes: &[u8], others: &[u8]) -> bool {
-    bytes == others
-}
-
-/// The options of a dump of everything with the name `t`, in lines of this width.
-fn whole(alloc: Global, width: usize) -> Result<DumpOptions, AllocError> {
-    Ok(DumpOptions {
-        file: String::new(alloc),
-        name: Sequence::from_vec(Vec::from_slice(alloc, b"t")?),
-        head_only: false,
-        coords: false,
-        chosen: None,
-        width,
-    })
-}
-
 /// Writes the file of the text to the sink.
 pub fn writes<W: Sink>(
     rt: &impl Abort,
@@ -54,14 +37,21 @@ pub fn file_of(rt: &impl Abort, alloc: Global, text: &[u8], version: Version) ->
     sink
 }
 
-/// The dump of everything in the file, in lines of this width.
+/// The dump of everything in the file with the name `t`, in lines of this width.
 pub fn dump_of(
     rt: &impl Abort,
     alloc: Global,
     file: &[u8],
     width: usize,
 ) -> Result<MemSink, AllocError> {
-    let options = whole(alloc, width)?;
+    let options = DumpOptions {
+        file: String::new(alloc),
+        name: Sequence::from_vec(Vec::from_slice(alloc, b"t")?),
+        head_only: false,
+        coords: false,
+        chosen: None,
+        width,
+    };
     let mut source = MemSource::new(file);
     let mut sink = MemSink::new(alloc);
     let answer = dump(alloc, &mut source, &options, &mut [0; 16], &mut sink);

@@ -1,13 +1,9 @@
-//! Tests of `ncgen` that go across the crates: texts and their files, byte for byte, the way back to the text, command lines, the
-//! reading of texts, and whole runs.
+//! Tests of `ncgen` that go across the crates: texts and their files, byte for byte, the way back to the text, the reading of texts, and
+//! whole runs.
 #![tactic(auto)]
 
 #[cfg(test)]
-mod call_counts;
-#[cfg(test)]
-mod command_lines;
-#[cfg(test)]
-mod failing_sinks;
+mod failing_runs;
 #[cfg(test)]
 mod fault_words;
 #[cfg(test)]
@@ -16,10 +12,6 @@ mod full_disks;
 mod generated_files;
 #[cfg(test)]
 mod generating;
-#[cfg(test)]
-mod invocations;
-#[cfg(test)]
-mod large_files;
 mod readers;
 #[cfg(test)]
 mod reading_text;
@@ -32,6 +24,4 @@ mod rows;
 #[cfg(test)]
 mod runs;
 #[cfg(test)]
-mod texts;
-#[cfg(test)]
-mod wide_files;
+mod written_files;

@@ -1,81 +1,58 @@
 //! All the bytes of a text.
 
-use crate::readers::FailingReader;
-use crate::texts::TEXT;
+use crate::readers::{FailingReader, NEVER};
 use devices::CountedRead;
 use ncgen::{TextFault, read_text};
 use std::alloc::{AllocError, Global};
-use std::io::Read;
-use std::process::Abort;
-use std::test::Fail;
+use std::test::*;
 
-/// The text of the reader's bytes is these.
-fn reads<R: Read + Drop>(rt: &impl Abort, alloc: Global, reader: R, text: &[u8]) {
-    let mut input = CountedRead::new(reader);
-    match read_text(alloc, &mut input, text.len().min(1_000_000)) {
-        Ok(read) => assert!(rt; read.as_slice() == text),
-        Err(_) => assert!(rt; false),
-    }
-}
-
-/// The reader has more bytes than may be, or fails.
-fn stops<R: Read + Drop>(rt: &impl Abort, alloc: Global, reader: R, max: u32, fault: TextFault) {
-    let mut input = CountedRead::new(reader);
+/// Returns true if the text of a reader, which gives at most `step` of these bytes a read and fails at the read of this number, is all of
+/// the bytes, or if it has this fault. It may have `max` bytes.
+fn gives(
+    alloc: Global,
+    bytes: &[u8],
+    (step, fail): (usize, u64),
+    max: u32,
+    want: Result<(), TextFault>,
+) -> bool {
+    let mut input = CountedRead::new(FailingReader::new(bytes, step, fail));
     match read_text(alloc, &mut input, max as usize) {
-        Ok(_) => assert!(rt; false),
-        Err(found) => assert!(rt; found == fault),
+        Ok(read) => want.is_ok() && read.as_slice() == bytes,
+        Err(fault) => want == Err(fault),
     }
 }
 
 #[test]
-fn bytes_up_to_the_limit_and_past_it(rt: HostRuntime) {
-    let alloc = rt.alloc();
-    reads(&rt, alloc, b"0123456789".as_slice(), b"0123456789");
-    reads(&rt, alloc, b"".as_slice(), b"");
-    let long = b"0123456789a".as_slice();
-    stops(&rt, alloc, long, 10, TextFault::TooLong);
-    stops(&rt, alloc, b"a".as_slice(), 0, TextFault::TooLong);
-    // one byte too many is the last that is read
-    let reader = FailingReader::new(b"0123456789abc", 1, 11);
-    stops(&rt, alloc, reader, 10, TextFault::TooLong);
+fn bytes_up_to_the_limit_and_past_it(rt: HostRuntime) -> Result<(), AllocError> {
+    const ROWS: &[(&[u8], (usize, u64), u32, Result<(), TextFault>)] = &[
+        (b"0123456789", (20, NEVER), 10, Ok(())),
+        (b"0123456789a", (20, NEVER), 10, Err(TextFault::TooLong)),
+        (b"0123456789", (20, 0), 10, Err(TextFault::ReadFailed)),
+        (b"", (1, NEVER), 0, Ok(())),
+        (b"a", (1, NEVER), 0, Err(TextFault::TooLong)),
+        // one byte too many is the last that is read
+        (b"0123456789abc", (1, 11), 10, Err(TextFault::TooLong)),
+    ];
+    for (bytes, reader, max, want) in ROWS {
+        assert!(rt;
+            gives(rt.alloc(), *bytes, *reader, *max, *want),
+            "{bytes:?}"
+        );
+    }
+    // two parts of at most 65,536 bytes, and the end: no other read is made
+    let long = "0123456789".repeat(rt.alloc(), 10_000)?;
+    assert!(rt; gives(rt.alloc(), long.as_bytes(), (100_000, 3), 100_000, Ok(())));
+    Ok(())
 }
 
 #[test]
 fn each_read_fails(rt: HostRuntime) {
     for fail in 0..11 {
-        let reader = FailingReader::new(b"0123456789", 1, fail);
-        stops(&rt, rt.alloc(), reader, 10, TextFault::ReadFailed);
+        let failed = Err(TextFault::ReadFailed);
+        assert!(rt;
+            gives(rt.alloc(), b"0123456789", (1, fail), 10, failed),
+            "{fail}"
+        );
     }
-    let reader = FailingReader::new(b"0123456789", 1, 11);
-    reads(&rt, rt.alloc(), reader, b"0123456789");
-    // and none in steps of every length
-    for step in 1..20 {
-        let reader = FailingReader::new(TEXT, step, 1000);
-        reads(&rt, rt.alloc(), reader, TEXT);
-    }
-}
-
-/// A text of 200,000 bytes.
-fn long_text(alloc: Global) -> Result<Vec<u8>, AllocError> {
-    let mut text = Vec::from_elem(alloc, b'a', 200_000)?;
-    for (i, byte) in text.iter_mut().enumerate() {
-        *byte = (i % 251) as u8;
-    }
-    Ok(text)
-}
-
-#[test]
-fn parts_of_a_long_text(rt: HostRuntime) -> Result<(), Fail> {
-    let text = long_text(rt.alloc())?;
-    reads(&rt, rt.alloc(), text.as_slice(), text.as_slice());
-    let reader = FailingReader::new(text.as_slice(), 50_000, 1000);
-    reads(&rt, rt.alloc(), reader, text.as_slice());
-    stops(
-        &rt,
-        rt.alloc(),
-        text.as_slice(),
-        199_999,
-        TextFault::TooLong,
-    );
-    Ok(())
+    assert!(rt; gives(rt.alloc(), b"0123456789", (1, 11), 10, Ok(())));
 }

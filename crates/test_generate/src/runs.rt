@@ -1,35 +1,116 @@
-//! Whole runs: what is written to which path, and which line is printed.
+//! Whole runs on files in memory: what the words of the command line ask for, what is written to which path, and which line is printed.
 
-use crate::full_disks::{FullDisk, leaves};
-use crate::generating::is_same;
-use crate::invocations::{Invocation, Outcome, ends, refuses, status_of};
-use crate::readers::{FailingReader, FailingTexts, WatchedTexts};
-use crate::texts::{FIRST_FILE, REFUSED_TEXT, TEXT};
-use devices::{MadeFiles, MemFile, MemFiles, SliceSink, TextOpener};
-use std::alloc::Global;
-use std::io::Read;
+use crate::rows::{REFUSED, SHORTS};
+use devices::{CountedRead, MadeFile, MadeFiles, MemFile, MemFiles, SliceSink};
+use ncgen::run_with;
+use std::alloc::{AllocError, Global};
 use std::process::Abort;
-use std::test::Fail;
+use std::test::*;
 
-/// Two texts. The second one has a fault.
-const TEXTS: &[MemFile<'static>] = &[
+/// A text, the same at a path that begins with a dash, and one that is refused.
+const TEXTS: [MemFile<'static>; 3] = [
     MemFile {
-        path: "t.cdl",
-        bytes: TEXT,
+        path: "d/f.cdl",
+        bytes: SHORTS,
+    },
+    MemFile {
+        path: "-x",
+        bytes: SHORTS,
     },
     MemFile {
         path: "bad.cdl",
-        bytes: REFUSED_TEXT,
+        bytes: REFUSED,
     },
 ];
 
-/// A text that two variables of nearly 2^31 bytes are declared in.
-const FAR_TEXT: &[u8] =
-    b"netcdf t {\ndimensions:\n x = 2147483647 ;\nvariables:\n byte a(x), b(x) ;\n}\n";
+/// Fails unless a run on these words, texts and standard input ends with this line on standard error, and the path is given these bytes,
+/// or no path any. A run without a line succeeds.
+fn ends(
+    rt: &impl Abort,
+    alloc: Global,
+    words: &[&str],
+    (texts, input): (&[MemFile<'_>], &[u8]),
+    line: &[u8],
+    made: Option<(&str, &[u8])>,
+) {
+    let mut texts = MemFiles::new(texts);
+    let mut outputs = MadeFiles::new(alloc);
+    let mut input = CountedRead::new(input);
+    let mut space = [0; 128];
+    let mut err = SliceSink::new(&mut space, 5);
+    let status = run_with(&mut texts, &mut outputs, alloc, words, &mut input, &mut err);
+    assert!(rt; status == !line.is_empty() as u8, "{words:?}");
+    assert!(rt; err.taken() == line, "the line of {words:?}");
+    assert!(rt; hold(&outputs, made), "the file of {words:?}");
+}
+
+/// Returns true if the path was given nothing and then these bytes, and no other path anything.
+fn hold(outputs: &MadeFiles, made: Option<(&str, &[u8])>) -> bool {
+    match (outputs.given(), made) {
+        ([created, closed], Some((path, bytes))) => {
+            is_file(created, path, b"") && is_file(closed, path, bytes)
+        }
+        (given, made) => given.is_empty() && made.is_none(),
+    }
+}
+
+/// Returns true if the path was given these bytes.
+fn is_file(made: &MadeFile, path: &str, bytes: &[u8]) -> bool {
+    made.path() == path && made.bytes() == bytes
+}
+
+/// The file of the text in CDF-1, CDF-2 and CDF-5.
+const CDF1: &[u8] = test_files::ONE_VARIABLE;
+
+const CDF2: &[u8] = test_files::ONE_VARIABLE_CDF2;
+
+const CDF5: &[u8] = test_files::ONE_VARIABLE_CDF5;
 
 #[test]
-fn refused_texts(rt: HostRuntime) {
+fn words_choose_the_output_and_its_version(rt: HostRuntime) {
+    const ROWS: &[(&[&str], &str, &[u8])] = &[
+        (&["ncgen", "-b", "d/f.cdl"], "f.nc", CDF1),
+        (&["ncgen", "-b", "-o", "x", "d/f.cdl"], "x", CDF1),
+        (&["ncgen", "d/f.cdl", "-ox"], "x", CDF1),
+        (&["ncgen", "-o", "x"], "x", CDF1),
+        (&["ncgen", "-bo", "x"], "x", CDF1),
+        (&["ncgen", "-b", "--", "-x"], "-x.nc", CDF1),
+        // the output takes the place of the text
+        (&["ncgen", "-o", "d/f.cdl", "d/f.cdl"], "d/f.cdl", CDF1),
+        (&["ncgen", "-b", "-k", "classic", "d/f.cdl"], "f.nc", CDF1),
+        (&["ncgen", "-b", "-k", "nc3", "d/f.cdl"], "f.nc", CDF1),
+        (&["ncgen", "-o", "x", "-k", "64-bit offset"], "x", CDF2),
+        (&["ncgen", "-b", "-k", "nc6", "d/f.cdl"], "f.nc", CDF2),
+        (&["ncgen", "-o", "x", "-k", "64-bit data"], "x", CDF5),
+        (&["ncgen", "-b", "-k", "nc5", "d/f.cdl"], "f.nc", CDF5),
+    ];
+    for (words, path, file) in ROWS {
+        ends(
+            &rt,
+            rt.alloc(),
+            *words,
+            (&TEXTS, SHORTS),
+            b"",
+            Some((*path, *file)),
+        );
+    }
+}
+
+/// How the program is used.
+const USAGE: &[u8] = b"usage: ncgen [-b] [-o file] [-k kind] [file]\n";
+
+/// A text that two variables of nearly 2^31 bytes are declared in.
+const FAR: &[u8] = b"netcdf t { dimensions: x = 2147483647 ; variables: byte a(x), b(x) ; }";
+
+/// One byte more than a text may have.
+const TOO_LONG: usize = (1 << 28) + 1;
+
+#[test]
+fn runs_without_an_output(rt: HostRuntime) -> Result<(), AllocError> {
+    // words, standard input, and the line; none where the text is only checked
     const ROWS: &[(&[&str], &[u8], &[u8])] = &[
+        (&["ncgen"], SHORTS, b""),
+        (&["ncgen", "d/f.cdl"], b"", b""),
         (
             &["ncgen", "-b", "bad.cdl"],
             b"",
@@ -37,145 +118,52 @@ fn refused_texts(rt: HostRuntime) {
         ),
         (
             &["ncgen", "-o", "x"],
-            REFUSED_TEXT,
+            REFUSED,
             b"ncgen: -: line 5: number out of range\n",
         ),
         (&["ncgen"], b"", b"ncgen: -: line 1: syntax\n"),
-        (&["ncgen", "no.cdl"], TEXT, b"ncgen: no.cdl: cannot open\n"),
         (
-            &["ncgen", "-o", "x"],
-            FAR_TEXT,
-            b"ncgen: -: offset too large\n",
+            &["ncgen", "no.cdl"],
+            SHORTS,
+            b"ncgen: no.cdl: cannot open\n",
         ),
+        (&["ncgen", "-o", "x"], FAR, b"ncgen: -: offset too large\n"),
+        (
+            &["ncgen", "long.cdl"],
+            b"",
+            b"ncgen: long.cdl: CDL text too long\n",
+        ),
+        (&["ncgen", "-b"], SHORTS, USAGE),
+        (&["ncgen", "-k", "nc4", "d/f.cdl"], SHORTS, USAGE),
+        (&["ncgen", "-k", "NC3", "d/f.cdl"], SHORTS, USAGE),
+        (&["ncgen", "-k", "", "d/f.cdl"], SHORTS, USAGE),
+        (&["ncgen", "-k"], SHORTS, USAGE),
+        (&["ncgen", "-b", "-b", "d/f.cdl"], SHORTS, USAGE),
+        (&["ncgen", "-o", "x", "-o", "x", "d/f.cdl"], SHORTS, USAGE),
+        (
+            &["ncgen", "-k", "nc3", "-k", "nc3", "d/f.cdl"],
+            SHORTS,
+            USAGE,
+        ),
+        (&["ncgen", "d/f.cdl", "d/f.cdl"], SHORTS, USAGE),
+        (&["ncgen", "--help"], SHORTS, USAGE),
+        (&["ncgen", "-V"], SHORTS, USAGE),
+        (&["ncgen", "-x", "d/f.cdl"], SHORTS, USAGE),
+        // no memory is lacking where there are many words
+        (&["d/f.cdl"; 100], SHORTS, USAGE),
+    ];
+    let long = Vec::from_elem(rt.alloc(), b' ', TOO_LONG)?;
+    let [good, _, bad] = TEXTS;
+    let texts = [
+        good,
+        bad,
+        MemFile {
+            path: "long.cdl",
+            bytes: long.as_slice(),
+        },
     ];
     for (words, input, line) in ROWS {
-        let run = Invocation {
-            words: *words,
-            texts: TEXTS,
-            input: *input,
-        };
-        refuses(&rt, rt.alloc(), run, *line);
+        ends(&rt, rt.alloc(), *words, (&texts, *input), *line, None);
     }
-}
-
-#[test]
-fn checked_texts_and_an_output_in_place_of_the_text(rt: HostRuntime) {
-    const IN_PLACE: Option<MemFile<'static>> = Some(MemFile {
-        path: "t.cdl",
-        bytes: FIRST_FILE,
-    });
-    const ROWS: &[(&[&str], &[u8], Option<MemFile<'static>>)] = &[
-        (&["ncgen"], TEXT, None),
-        (&["ncgen", "t.cdl"], b"", None),
-        (&["ncgen", "-o", "t.cdl", "t.cdl"], b"", IN_PLACE),
-    ];
-    for (words, input, made) in ROWS {
-        let run = Invocation {
-            words: *words,
-            texts: TEXTS,
-            input: *input,
-        };
-        let outcome = Outcome {
-            status: 0,
-            line: b"",
-            made: *made,
-        };
-        ends(&rt, rt.alloc(), run, outcome);
-    }
-}
-
-/// A run whose text fails to be read ends with this line, and nothing is created.
-fn fails_to_read<T: TextOpener, R: Read + Drop>(
-    rt: &impl Abort,
-    alloc: Global,
-    texts: &mut T,
-    words: &[&str],
-    reader: R,
-    line: &[u8],
-) {
-    let mut outputs = MadeFiles::new(alloc);
-    let mut space = [0; 64];
-    let mut err = SliceSink::new(&mut space, 1);
-    let status = status_of(alloc, texts, &mut outputs, words, reader, &mut err);
-    assert!(rt; status == 1 && outputs.given().is_empty());
-    assert!(rt; is_same(err.taken(), line));
-}
-
-#[test]
-fn texts_that_fail(rt: HostRuntime) {
-    const OF_INPUT: &[u8] = b"ncgen: -: read failed\n";
-    const OF_PATH: &[u8] = b"ncgen: t.cdl: read failed\n";
-    let mut texts = MemFiles::new(TEXTS);
-    let words = ["ncgen", "-o", "x"];
-    let reader = FailingReader::new(TEXT, 7, 3);
-    fails_to_read(&rt, rt.alloc(), &mut texts, &words, reader, OF_INPUT);
-    let mut texts = FailingTexts::new(TEXT, 7, 3);
-    let words = ["ncgen", "-b", "t.cdl"];
-    fails_to_read(&rt, rt.alloc(), &mut texts, &words, TEXT, OF_PATH);
-}
-
-/// One byte more than a text may have.
-const TOO_LONG: usize = (1 << 28) + 1;
-
-#[test]
-fn text_at_a_path_that_is_too_long(rt: HostRuntime) -> Result<(), Fail> {
-    const LINE: &[u8] = b"ncgen: t.cdl: CDL text too long\n";
-    let text = Vec::from_elem(rt.alloc(), b' ', TOO_LONG)?;
-    let texts = [MemFile {
-        path: "t.cdl",
-        bytes: text.as_slice(),
-    }];
-    let run = Invocation {
-        words: &["ncgen", "t.cdl"],
-        texts: &texts,
-        input: b"",
-    };
-    refuses(&rt, rt.alloc(), run, LINE);
     Ok(())
-}
-
-#[test]
-fn path_is_opened_once(rt: HostRuntime) {
-    let mut texts = WatchedTexts::new(MemFiles::new(TEXTS));
-    let mut outputs = MadeFiles::new(rt.alloc());
-    let mut err = SliceSink::new(&mut [], 1);
-    let status = status_of(
-        rt.alloc(),
-        &mut texts,
-        &mut outputs,
-        &["ncgen", "t.cdl"],
-        b"".as_slice(),
-        &mut err,
-    );
-    assert!(rt; status == 0 && texts.counts() == (1, 1));
-}
-
-#[test]
-fn disk_of_every_size(rt: HostRuntime) {
-    const LINE: &[u8] = b"ncgen: t.nc: write failed\n";
-    for size in 0..FIRST_FILE.len() {
-        let disk = FullDisk::new(rt.alloc(), 1, size);
-        leaves(&rt, rt.alloc(), disk, LINE, &FIRST_FILE[..size]);
-    }
-    let disk = FullDisk::new(rt.alloc(), 1, FIRST_FILE.len());
-    leaves(&rt, rt.alloc(), disk, b"", FIRST_FILE);
-    let none = FullDisk::new(rt.alloc(), 0, FIRST_FILE.len());
-    leaves(&rt, rt.alloc(), none, b"ncgen: t.nc: cannot open\n", b"");
-}
-
-#[test]
-fn standard_error_that_is_full(rt: HostRuntime) {
-    let mut outputs = MadeFiles::new(rt.alloc());
-    let mut line = [0; 10];
-    let mut err = SliceSink::new(&mut line, 3);
-    let mut texts = MemFiles::new(TEXTS);
-    let status = status_of(
-        rt.alloc(),
-        &mut texts,
-        &mut outputs,
-        &["ncgen"],
-        REFUSED_TEXT,
-        &mut err,
-    );
-    assert!(rt; status == 1 && is_same(err.taken(), b"ncgen: -: "));
 }

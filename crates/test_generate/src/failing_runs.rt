@@ -1,0 +1,102 @@
+//! Whole runs on readers and outputs that fail.
+
+use crate::full_disks::FullDisk;
+use crate::readers::{FailingReader, NEVER, WatchedTexts};
+use crate::rows::SHORTS;
+use devices::{CountedRead, SliceSink};
+use ncgen::run_with;
+use std::alloc::Global;
+use std::process::Abort;
+use std::test::*;
+
+/// A run, the devices that it is given, and how it ends.
+#[derive(Clone, Copy)]
+struct Run {
+    words: &'static [&'static str],
+    /// The read of standard input that fails, and that of a path's text.
+    fails: (u64, u64),
+    /// How many files the disk takes, and of how many bytes together.
+    disk: (u64, usize),
+    /// The line on standard error; none if the run succeeds.
+    line: &'static [u8],
+    /// How often a text was opened, and how often one was given back.
+    opened: (u128, u128),
+    /// How many bytes of the file the disk holds.
+    held: usize,
+}
+
+/// A run that writes the file of a path's text.
+const WRITES: Run = Run {
+    words: &["ncgen", "-b", "t.cdl"],
+    fails: (NEVER, NEVER),
+    disk: (1, FILE.len()),
+    line: b"",
+    opened: (1, 1),
+    held: FILE.len(),
+};
+
+/// The file.
+const FILE: &[u8] = test_files::ONE_VARIABLE;
+
+/// Fails unless the run ends as it is to.
+fn ends(rt: &impl Abort, alloc: Global, run: &Run) {
+    let mut texts = WatchedTexts::new(SHORTS, run.fails.1);
+    let mut input = CountedRead::new(FailingReader::new(SHORTS, 7, run.fails.0));
+    let mut disk = FullDisk::new(alloc, run.disk.0, run.disk.1);
+    let mut space = [0; 64];
+    let mut err = SliceSink::new(&mut space, 1);
+    let status = run_with(
+        &mut texts, &mut disk, alloc, run.words, &mut input, &mut err,
+    );
+    assert!(rt;
+        status == !run.line.is_empty() as u8 && err.taken() == run.line,
+        "{:?}",
+        run.words
+    );
+    assert!(rt; texts.counts() == run.opened, "{:?}", run.words);
+    assert!(rt; FILE.get(..run.held) == Some(disk.held()), "{}", run.held);
+}
+
+#[test]
+fn devices_that_fail(rt: HostRuntime) {
+    const NONE_WRITTEN: Run = Run {
+        disk: (1, 0),
+        line: b"ncgen: t.nc: write failed\n",
+        held: 0,
+        ..WRITES
+    };
+    const RUNS: &[Run] = &[
+        WRITES,
+        NONE_WRITTEN,
+        Run {
+            disk: (1, 83),
+            held: 83,
+            ..NONE_WRITTEN
+        },
+        Run {
+            disk: (1, 87),
+            held: 87,
+            ..NONE_WRITTEN
+        },
+        Run {
+            disk: (0, 88),
+            line: b"ncgen: t.nc: cannot open\n",
+            ..NONE_WRITTEN
+        },
+        Run {
+            fails: (NEVER, 3),
+            line: b"ncgen: t.cdl: read failed\n",
+            ..NONE_WRITTEN
+        },
+        Run {
+            words: &["ncgen", "-o", "x"],
+            fails: (3, NEVER),
+            line: b"ncgen: -: read failed\n",
+            opened: (0, 0),
+            ..NONE_WRITTEN
+        },
+    ];
+    for run in RUNS {
+        ends(&rt, rt.alloc(), run);
+    }
+}
