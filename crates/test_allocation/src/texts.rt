@@ -1,211 +1,186 @@
-//! Texts, with the dataset that each declares, or with its fault.
+//! Texts that are read, and the files that they give.
 
-use crate::wanted::{NOTHING, SCALAR, Wanted, WantedVar};
-use cdl_parse::{CdlFault, CdlKind};
-use nc_base::{NcType, Version};
+ghost use Rattle.std.specs.Prelude.{◌≤◌, length};
+ghost use Rattle.cdl_meaning.specs.Bounds.{text_limit};
 
-/// A text, and the dataset that it declares in this version.
-#[derive(Clone, Copy)]
-pub struct Text<'a> {
-    pub version: Version,
-    pub cdl: &'a [u8],
-    pub want: Wanted<'a>,
-}
+use cdl_parse::{CdlFault, CdlKind, declared, parse};
+use devices::{CountedRead, SliceSink};
+use nc_base::Version;
+use ncgen::{GenFault, TextFault, generate, prepare, read_text};
+use std::alloc::{AllocError, Global};
+use std::io::Read;
+use std::process::Abort;
+use std::test::*;
 
-/// A text, and its fault in CDF-1.
-#[derive(Clone, Copy)]
-pub struct Faulty<'a> {
-    pub cdl: &'a [u8],
-    pub fault: CdlFault,
-}
+/// The answer where an allocation failed.
+const OUT_OF_MEMORY: CdlFault = CdlFault {
+    line: 0,
+    kind: CdlKind::OutOfMemory,
+};
 
 /// A text of one variable of three values. One of them is left to be filled.
-pub const ONE_VARIABLE: &[u8] =
+const ONE_VARIABLE: &[u8] =
     b"netcdf t {\ndimensions:\n x = 3 ;\nvariables:\n short s(x) ;\ndata:\n s = 1, _, 3 ;\n}\n";
 
-/// A text of one variable of forty values.
-pub const FORTY_SHORTS: &[u8] =
+/// A text of one variable of forty values: more than memory is taken for at first.
+const FORTY_SHORTS: &[u8] =
     b"netcdf t {\ndimensions: x = 40 ;\nvariables: short s(x) ;\ndata: s =\n\
     1, 2, 3, 4, 5, 6, 7, 8, 9, 10, 11, 12, 13, 14, 15, 16, 17, 18, 19, 20,\n\
     21, 22, 23, 24, 25, 26, 27, 28, 29, 30, 31, 32, 33, 34, 35, 36, 37, 38, 39, 40 ;\n}\n";
 
-/// Three shorts. One of them is left to be filled.
-pub const THREE_SHORTS: Text<'static> = Text {
-    version: Version::Cdf1,
-    cdl: ONE_VARIABLE,
-    want: Wanted {
-        dims: &[(b"x", 3)],
-        vars: &[WantedVar {
-            name: b"s",
-            ty: NcType::Short,
-            dimids: &[0],
-            values: b"\x00\x01\x80\x01\x00\x03",
-            ..SCALAR
-        }],
-        ..NOTHING
-    },
-};
+/// Two record variables, one of them of rank three, and a scalar after them, whose value comes before theirs.
+const RANK_THREE: &[u8] = b"netcdf t {\n\
+    dimensions: t = UNLIMITED, y = 2, x = 2 ;\nvariables: int a(t) ; int b(t, y, x) ; int c ;\n\
+    data: a = 10, 20 ; b = 1, 2, 3, 4, 5, 6, 7, 8 ; c = 7 ;\n}\n";
 
-/// A list of values that is longer than what memory is taken for at first.
-pub const LONG_LIST: Text<'static> = Text {
-    version: Version::Cdf1,
-    cdl: FORTY_SHORTS,
-    want: Wanted {
-        dims: &[(b"x", 40)],
-        vars: &[WantedVar {
-            name: b"s",
-            ty: NcType::Short,
-            dimids: &[0],
-            values: b"\0\x01\0\x02\0\x03\0\x04\0\x05\0\x06\0\x07\0\x08\0\x09\0\x0a\
-                \0\x0b\0\x0c\0\x0d\0\x0e\0\x0f\0\x10\0\x11\0\x12\0\x13\0\x14\
-                \0\x15\0\x16\0\x17\0\x18\0\x19\0\x1a\0\x1b\0\x1c\0\x1d\0\x1e\
-                \0\x1f\0\x20\0\x21\0\x22\0\x23\0\x24\0\x25\0\x26\0\x27\0\x28",
-            ..SCALAR
-        }],
-        ..NOTHING
-    },
-};
+/// Two record variables whose slabs are padded.
+const PADDED_RECORDS: &[u8] = b"netcdf t {\ndimensions: t = UNLIMITED ;\n\
+    variables: byte b(t) ; short s(t) ;\ndata: b = 1, 2, 3 ; s = 4, 5, 6 ;\n}\n";
 
 /// Names with escapes, and attributes of the dataset and of a variable.
-pub const NAMES_AND_ATTRIBUTES: Text<'static> = Text {
-    version: Version::Cdf2,
-    cdl: b"netcdf t {\n:title = \"a\", \"\\x62\", \"c\" ;\nvariables:\n int \\data ; \\data:units = \"m\" ;\n\
-        \\data:range = 1b, 2b, 3b ; short \\2\\ b ; :last = -1s ;\ndata:\n \\data = 5 ; \\2\\ b = 6 ;\n}\n",
-    want: Wanted {
-        gatts: &[
-            (b"title", NcType::Char, b"abc"),
-            (b"last", NcType::Short, b"\xff\xff"),
-        ],
-        vars: &[
-            WantedVar {
-                name: b"data",
-                ty: NcType::Int,
-                atts: &[
-                    (b"units", NcType::Char, b"m"),
-                    (b"range", NcType::Byte, b"\x01\x02\x03"),
-                ],
-                values: b"\0\0\0\x05",
-                ..SCALAR
-            },
-            WantedVar {
-                name: b"2 b",
-                ty: NcType::Short,
-                values: b"\0\x06",
-                ..SCALAR
-            },
-        ],
-        ..NOTHING
-    },
-};
+const NAMES_AND_ATTRIBUTES: &[u8] =
+    b"netcdf t {\n:title = \"a\", \"\\x62\", \"c\" ;\nvariables:\n int \\data ; \\data:units = \"m\" ;\n\
+    \\data:range = 1b, 2b, 3b ; short \\2\\ b ; :last = -1s ;\ndata:\n \\data = 5 ; \\2\\ b = 6 ;\n}\n";
 
 /// Rows of characters over records.
-pub const ROWS_OF_CHARACTERS: Text<'static> = Text {
-    version: Version::Cdf1,
-    cdl: b"netcdf t {\ndimensions: t = UNLIMITED, y = 2, x = 3 ;\n\
-        variables: char a(t), b(t, x), c(t, y, x), d(t, x) ; b:_FillValue = \"-\" ;\n\
-        data: b = \"ab\" ; a = \"pq\", \"\", \"r\" ; c = \"\", \"uvw\", \"x\" ;\n}\n",
-    want: Wanted {
-        records: 3,
-        dims: &[(b"t", 0), (b"y", 2), (b"x", 3)],
-        vars: &[
-            WantedVar {
-                name: b"a",
-                dimids: &[0],
-                values: b"pqr",
-                ..CHARACTERS
-            },
-            WantedVar {
-                name: b"b",
-                dimids: &[0, 2],
-                atts: &[(b"_FillValue", NcType::Char, b"-")],
-                values: b"ab-------",
-                ..CHARACTERS
-            },
-            WantedVar {
-                name: b"c",
-                dimids: &[0, 1, 2],
-                values: b"\0\0\0uvwx\0\0\0\0\0\0\0\0\0\0\0",
-                ..CHARACTERS
-            },
-            WantedVar {
-                name: b"d",
-                dimids: &[0, 2],
-                values: b"\0\0\0\0\0\0\0\0\0",
-                ..CHARACTERS
-            },
-        ],
-        ..NOTHING
-    },
-};
-
-/// A variable of characters.
-const CHARACTERS: WantedVar<'static> = WantedVar {
-    ty: NcType::Char,
-    ..SCALAR
-};
+const ROWS_OF_CHARACTERS: &[u8] = b"netcdf t {\ndimensions: t = UNLIMITED, y = 2, x = 3 ;\n\
+    variables: char a(t), b(t, x), c(t, y, x), d(t, x) ; b:_FillValue = \"-\" ;\n\
+    data: b = \"ab\" ; a = \"pq\", \"\", \"r\" ; c = \"\", \"uvw\", \"x\" ;\n}\n";
 
 /// Types that only CDF-5 has.
-pub const NUMBERS_OF_CDF5: Text<'static> = Text {
-    version: Version::Cdf5,
-    cdl: b"netcdf t {\ndimensions: t = UNLIMITED, x = 3 ;\nvariables: int64 a(t, x) ; ubyte b, c(x) ; uint64 d ;\n\
-        a:valid = 1ull, 2ull ; c:_FillValue = 9ub ;\ndata: a = 1, 2, 3, 4 ; c = _, 0xff ;\n}\n",
-    want: Wanted {
-        records: 2,
-        dims: &[(b"t", 0), (b"x", 3)],
-        vars: &[
-            WantedVar {
-                name: b"a",
-                ty: NcType::Int64,
-                dimids: &[0, 1],
-                atts: &[(
-                    b"valid",
-                    NcType::Uint64,
-                    b"\0\0\0\0\0\0\0\x01\0\0\0\0\0\0\0\x02",
-                )],
-                values: b"\0\0\0\0\0\0\0\x01\0\0\0\0\0\0\0\x02\0\0\0\0\0\0\0\x03\0\0\0\0\0\0\0\x04\
-                    \x80\0\0\0\0\0\0\x02\x80\0\0\0\0\0\0\x02",
-                ..SCALAR
-            },
-            WantedVar {
-                name: b"b",
-                ty: NcType::Ubyte,
-                values: b"\xff",
-                ..SCALAR
-            },
-            WantedVar {
-                name: b"c",
-                ty: NcType::Ubyte,
-                dimids: &[1],
-                atts: &[(b"_FillValue", NcType::Ubyte, b"\x09")],
-                values: b"\x09\xff\x09",
-                ..SCALAR
-            },
-            WantedVar {
-                name: b"d",
-                ty: NcType::Uint64,
-                values: b"\xff\xff\xff\xff\xff\xff\xff\xfe",
-                ..SCALAR
-            },
-        ],
-        ..NOTHING
-    },
-};
+const NUMBERS_OF_CDF5: &[u8] = b"netcdf t {\ndimensions: t = UNLIMITED, x = 3 ;\n\
+    variables: int64 a(t, x) ; ubyte b, c(x) ; uint64 d ; a:valid = 1ull, 2ull ; c:_FillValue = 9ub ;\n\
+    data: a = 1, 2, 3, 4 ; c = _, 0xff ;\n}\n";
 
-/// A fault in the last statement.
-pub const LAST_STATEMENT_WRONG: Faulty<'static> = Faulty {
-    cdl: b"netcdf t {\n:a = 1 ;\ndimensions: x = 3, y = 2 ;\nvariables: short s(x), r(y) ; s:u = \"m\" ;\n\
+/// Texts that give a file.
+const TEXTS: &[(Version, &[u8])] = &[
+    (Version::Cdf1, ONE_VARIABLE),
+    (Version::Cdf5, ONE_VARIABLE),
+    (Version::Cdf1, FORTY_SHORTS),
+    (Version::Cdf1, RANK_THREE),
+    (Version::Cdf1, PADDED_RECORDS),
+    (Version::Cdf2, NAMES_AND_ATTRIBUTES),
+    (Version::Cdf1, ROWS_OF_CHARACTERS),
+    (Version::Cdf5, NUMBERS_OF_CDF5),
+];
+
+/// Texts with a fault in the last statement, and with an array that is too large, and their faults.
+const FAULTY: &[(&[u8], CdlFault)] = &[
+    (
+        b"netcdf t {\n:a = 1 ;\ndimensions: x = 3, y = 2 ;\nvariables: short s(x), r(y) ; s:u = \"m\" ;\n\
         data: r = 4 ;\ns = 1, 2 ;\nr = 5 ;\n}\n",
-    fault: CdlFault {
-        line: 7,
-        kind: CdlKind::DuplicateData,
-    },
-};
+        CdlFault {
+            line: 7,
+            kind: CdlKind::DuplicateData,
+        },
+    ),
+    (
+        b"netcdf t {\ndimensions: x = 2147483647 ;\nvariables: byte a, b(x, x) ;\ndata: a = 1 ;\n}",
+        CdlFault {
+            line: 5,
+            kind: CdlKind::TooLarge,
+        },
+    ),
+];
 
-/// An array that is too large.
-pub const ARRAY_TOO_LARGE: Faulty<'static> = Faulty {
-    cdl: b"netcdf t {\ndimensions: x = 2147483647 ;\nvariables: byte a, b(x, x) ;\ndata: a = 1 ;\n}",
-    fault: CdlFault {
-        line: 5,
-        kind: CdlKind::TooLarge,
-    },
-};
+/// Fails if the outcome is a fault, unless that is this one, or memory that is refused.
+fn ends<T: Drop>(
+    rt: &impl Abort,
+    outcome: Result<T, CdlFault>,
+    want: Option<CdlFault>,
+) -> Result<(), AllocError> {
+    let fault = outcome.err();
+    if fault == Some(OUT_OF_MEMORY) {
+        return Err(AllocError);
+    }
+    assert!(rt; fault == want);
+    Ok(())
+}
+
+#[test]
+fn texts_are_read(rt: HostRuntime) -> Result<(), AllocError> {
+    for (version, text) in TEXTS {
+        ends(&rt, parse(rt.alloc(), *text, *version), None)?;
+    }
+    Ok(())
+}
+
+#[test]
+fn texts_are_declared(rt: HostRuntime) -> Result<(), AllocError> {
+    for (version, text) in TEXTS {
+        ends(&rt, declared(rt.alloc(), *text, *version), None)?;
+    }
+    Ok(())
+}
+
+#[test]
+fn texts_are_refused(rt: HostRuntime) -> Result<(), AllocError> {
+    for (text, fault) in FAULTY {
+        ends(&rt, parse(rt.alloc(), *text, Version::Cdf1), Some(*fault))?;
+    }
+    Ok(())
+}
+
+/// The bytes of the text, which fails if it is too long to be generated.
+fn short_text<'a>(rt: &impl Abort, text: &'a [u8]) -> &'a [u8]
+    ensures { length result.now ≤ text_limit }
+{
+    assert!(rt; text.len() <= 268_435_456);
+    text
+}
+
+/// Fails unless the answer is success, or memory that is refused.
+fn succeeds(rt: &impl Abort, answer: Result<(), GenFault>) -> Result<(), AllocError> {
+    if answer == Err(GenFault::Cdl(OUT_OF_MEMORY)) {
+        return Err(AllocError);
+    }
+    assert!(rt; answer.is_ok());
+    Ok(())
+}
+
+/// Generates the text into a slice. If memory is refused, nothing is written.
+fn generates(
+    rt: &impl Abort,
+    alloc: Global,
+    version: Version,
+    text: &[u8],
+) -> Result<(), AllocError> {
+    let mut into = [0; 512];
+    let mut sink = SliceSink::new(&mut into, 7);
+    let answer = generate(alloc, short_text(rt, text), version, &mut sink);
+    assert!(rt; answer.is_ok() || sink.taken().is_empty());
+    succeeds(rt, answer)
+}
+
+#[test]
+fn texts_are_generated(rt: HostRuntime) -> Result<(), AllocError> {
+    for (version, text) in TEXTS {
+        generates(&rt, rt.alloc(), *version, *text)?;
+    }
+    Ok(())
+}
+
+#[test]
+fn texts_are_prepared(rt: HostRuntime) -> Result<(), AllocError> {
+    for (version, text) in TEXTS {
+        let answer = prepare(rt.alloc(), short_text(&rt, *text), *version);
+        succeeds(&rt, answer.map(|_| ()))?;
+    }
+    Ok(())
+}
+
+#[test]
+fn text_read_in_three_parts(rt: HostRuntime) -> Result<(), AllocError> {
+    assert!(rt; ONE_VARIABLE.len() == 80);
+    let (first, rest) = ONE_VARIABLE.split_at(11);
+    let (second, third) = rest.split_at(50);
+    let mut input = CountedRead::new(first.chain(second).chain(third));
+    match read_text(rt.alloc(), &mut input, 1_000_000) {
+        Ok(read) => assert!(rt; read.as_slice() == ONE_VARIABLE),
+        Err(fault) => {
+            assert!(rt; fault == TextFault::OutOfMemory);
+            return Err(AllocError);
+        }
+    }
+    Ok(())
+}
