@@ -45,8 +45,8 @@ pub fn sequence(alloc: Global, chars: &str) -> Result<Sequence<u8>, AllocError> 
     Ok(Sequence::from_vec(bytes_of(alloc, chars)?))
 }
 
-/// The dimensions of a row.
-fn dims_of(alloc: Global, rows: &[NamedLength<'_>]) -> Result<Sequence<Dim>, AllocError> {
+/// Dimensions of these names and lengths.
+pub fn dims_of(alloc: Global, rows: &[NamedLength<'_>]) -> Result<Sequence<Dim>, AllocError> {
     let mut dims = Sequence::new(alloc);
     for (name, len) in rows {
         let name = sequence(alloc, *name)?;

@@ -6,7 +6,7 @@ use devices::MemSink;
 use nc_base::{Header, NcType};
 use std::alloc::{AllocError, Global};
 use std::process::Abort;
-use std::test::*;
+use std::test::Fail;
 
 #[test]
 fn names_are_escaped(rt: HostRuntime) {
@@ -27,57 +27,38 @@ fn names_are_escaped(rt: HostRuntime) {
     }
 }
 
-/// Fails unless this is the head of a dump over `records` records.
-fn expect_head(rt: &impl Abort, alloc: Global, header: &Header, records: u64, want: &[u8]) {
+/// Fails unless this is the head of a dump without records.
+fn expect_head(rt: &impl Abort, alloc: Global, header: &Header, want: &[u8]) {
     let mut sink = MemSink::new(alloc);
-    let is_put = put_head(&mut sink, b"t", header, records).is_ok();
+    let is_put = put_head(&mut sink, b"t", header, 0).is_ok();
     assert!(rt; is_put && sink.as_slice() == want);
 }
 
 #[test]
 fn dimensions_and_variables_are_declared(rt: HostRuntime) -> Result<(), Fail> {
-    const DIMS: HeaderRow<'static> = HeaderRow {
+    const ROW: HeaderRow<'static> = HeaderRow {
         dims: &[("t", 0), ("x", 3)],
+        vars: &[("s", &[], NcType::Int64, 0)],
         ..EMPTY
     };
     const ATTS: &[NamedValues<'static>] = &[
         ("units", NcType::Char, "m"),
         ("valid_range", NcType::Short, "\u{ff}\u{fe}\x01\x00"),
     ];
-    const OF_DIMS: &[u8] =
-        b"netcdf t {\ndimensions:\n\tt = UNLIMITED ; // (2 currently)\n\tx = 3 ;\n";
-    const OF_VARS: &[u8] =
-        b"netcdf t {\ndimensions:\n\tt = UNLIMITED ; // (0 currently)\n\tx = 3 ;\nvariables:\n\tushort \\2\\ v(t, x) ;\n\t\t\\2\\ v:units = \"m\" ;\n\t\t\\2\\ v:valid_range = -2s, 256s ;\n\tint64 s ;\n";
-    let mut header = header_of(rt.alloc(), &DIMS)?;
-    expect_head(&rt, rt.alloc(), &header, 2, OF_DIMS);
+    const TEXT: &[u8] =
+        b"netcdf t {\ndimensions:\n\tt = UNLIMITED ; // (0 currently)\n\tx = 3 ;\nvariables:\n\tint64 s ;\n\tushort \\2\\ v(t, x) ;\n\t\t\\2\\ v:units = \"m\" ;\n\t\t\\2\\ v:valid_range = -2s, 256s ;\n";
+    let mut header = header_of(rt.alloc(), &ROW)?;
     let noted = var_of(rt.alloc(), ("2 v", &[0, 1], NcType::Ushort, 0), ATTS)?;
     header.vars.push(noted)?;
-    let scalar = var_of(rt.alloc(), ("s", &[], NcType::Int64, 0), &[])?;
-    header.vars.push(scalar)?;
-    expect_head(&rt, rt.alloc(), &header, 0, OF_VARS);
+    expect_head(&rt, rt.alloc(), &header, TEXT);
     Ok(())
 }
 
-/// The head with the only attribute `note`, whose values are listed so.
+/// The head with the only attribute `note`, whose values are listed so. Each character stands for a byte.
 fn note_text(alloc: Global, want: &str) -> Result<Vec<u8>, AllocError> {
     let before = "netcdf t {\n\n// global attributes:\n\t\t:note = ";
     let text = format!(in alloc; "{before}{want} ;\n")?;
     bytes_of(alloc, text.as_str())
-}
-
-/// Fails unless the only attribute `note` of a header, with these values, is listed so. Each character stands for a byte.
-fn expect_note(
-    rt: &impl Abort,
-    alloc: Global,
-    ty: NcType,
-    vals: &str,
-    want: &str,
-) -> Result<(), AllocError> {
-    let mut header = header_of(alloc, &EMPTY)?;
-    header.gatts.push(att_of(alloc, "note", ty, vals)?)?;
-    let text = note_text(alloc, want)?;
-    expect_head(rt, alloc, &header, 0, text.as_slice());
-    Ok(())
 }
 
 #[test]
@@ -89,6 +70,7 @@ fn values_of_attributes_are_listed(rt: HostRuntime) -> Result<(), Fail> {
             "\t\"\\\x7f\u{c3}\u{a9}\0\0",
             "\"\\t\\\"\\\\\\177\u{c3}\u{a9}\"",
         ),
+        // more plain characters than are written at once, and one that is escaped
         (
             NcType::Char,
             "aaaaaaaaaaaaaaaaaaaaaaaaaaaaaaaaaaaaaaaaaaaaaaaaaaaaaaaaaaaaaaaaaaaaaaaaaaaaaaaaaaaaaaaaaaaaaaaaaaaaaaaaaaaaaaaaaaaaaaaaaaaaaaaaaa\tb",
@@ -96,12 +78,9 @@ fn values_of_attributes_are_listed(rt: HostRuntime) -> Result<(), Fail> {
         ),
         (NcType::Char, "", "\"\""),
         (NcType::Byte, "\u{ff}\x01", "-1b, 1b"),
-        (NcType::Short, "\u{80}\x00", "-32768s"),
-        (
-            NcType::Int,
-            "\x00\x00\x01\x00\u{ff}\u{ff}\u{ff}\u{ff}",
-            "256, -1",
-        ),
+        (NcType::Short, "\u{80}\0", "-32768s"),
+        (NcType::Int, "\0\0\x01\0\u{ff}\u{ff}\u{ff}\u{ff}", "256, -1"),
+        (NcType::Int, "", ""),
         (NcType::Ubyte, "\u{ff}", "255UB"),
         (NcType::Ushort, "\u{ff}\u{ff}", "65535US"),
         (NcType::Uint, "\u{ff}\u{ff}\u{ff}\u{ff}", "4294967295U"),
@@ -115,10 +94,13 @@ fn values_of_attributes_are_listed(rt: HostRuntime) -> Result<(), Fail> {
             "\u{ff}\u{ff}\u{ff}\u{ff}\u{ff}\u{ff}\u{ff}\u{ff}",
             "18446744073709551615ULL",
         ),
-        (NcType::Int, "", ""),
     ];
     for (ty, vals, want) in ROWS {
-        expect_note(&rt, rt.alloc(), *ty, *vals, *want)?;
+        let mut header = header_of(rt.alloc(), &EMPTY)?;
+        let note = att_of(rt.alloc(), "note", *ty, *vals)?;
+        header.gatts.push(note)?;
+        let text = note_text(rt.alloc(), *want)?;
+        expect_head(&rt, rt.alloc(), &header, text.as_slice());
     }
     Ok(())
 }

@@ -1,457 +1,386 @@
-//! Texts of values: characters, fill values, the least and the greatest numbers, and failures.
+//! Texts of values: numbers and characters, fill values, and where lines are broken. Each is printed for several cuttings into calls, and
+//! into sinks that fail after each number of bytes.
 
-use crate::value_rows::{Group, Row, V, header_of, show_groups};
+use crate::header_rows::{bytes_of, sequence, var_of};
 use cdl_print::ValuePrinter;
-use devices::SliceSink;
-use nc_base::{Header, NcType};
+use devices::{Sink, SliceSink, WriteFailed};
+use nc_base::{Att, Dim, Header, NcType, NumRecs, Sequence, Var, Version};
+use std::alloc::{AllocError, Global};
 use std::process::Abort;
-use std::test::*;
+use std::test::Fail;
 
-const HELD_BACK_NULS: &[Row<'static>] = &[
-    Row {
-        name: "c",
-        ty: NcType::Char,
-        lens: &[5],
-        bytes: "a\0\0b\0",
-        text: "\n c = \"a\\000\\000b\" ;\n",
-        ..V
-    },
-    Row {
-        name: "c",
-        ty: NcType::Char,
-        lens: &[20],
-        bytes: "a\0\0\0\0\0\0\0\0\0\0\0\0\0\0\0\0\0\0b",
-        text: "\n c = \"a\\000\\000\\000\\000\\000\\000\\000\\000\\000\\000\\000\\000\\000\\000\\000\\000\\000\\000b\" ;\n",
-        ..V
-    },
+/// A variable over dimensions of these lengths (0 stands for the record dimension, which has two records), its fill value, if it has one
+/// of its own, the width of its lines, its values and the text that they are to have. Each character of the name and of the text stands for
+/// a byte.
+#[derive(Clone, Copy)]
+struct Row<'a> {
+    name: &'a str,
+    ty: NcType,
+    lens: &'a [u64],
+    fill: Option<i128>,
+    width: usize,
+    values: &'a [i128],
+    text: &'a str,
+}
+
+/// The variable `v` of numbers in lines of 80 bytes: its type, its fill value, its values, and their text.
+type Numbers = (NcType, Option<i128>, &'static [i128], &'static str);
+
+/// Numbers of few digits and of many, the least and the greatest of each type, and fill values: that of the type, which counts in types of
+/// two bytes and more, or the variable's own one.
+const NUMBERS: &[Numbers] = &[
+    (
+        NcType::Byte,
+        None,
+        &[-128, -127, -100, -99, -10, -9, -1, 0, 9, 10, 99, 100, 127],
+        "\n v = -128, -127, -100, -99, -10, -9, -1, 0, 9, 10, 99, 100, 127 ;\n",
+    ),
+    (
+        NcType::Byte,
+        Some(-127),
+        &[1, -127, -128, 9],
+        "\n v = 1, _, -128, 9 ;\n",
+    ),
+    (
+        NcType::Short,
+        None,
+        &[-32768, -32767, -100, -99, -10, -9, -1, 0, 9, 10, 99, 100],
+        "\n v = -32768, _, -100, -99, -10, -9, -1, 0, 9, 10, 99, 100 ;\n",
+    ),
+    (
+        NcType::Int,
+        None,
+        &[-2147483648, -2147483647, -10, -1, 0, 9, 10, 99, 100],
+        "\n v = -2147483648, _, -10, -1, 0, 9, 10, 99, 100 ;\n",
+    ),
+    (
+        NcType::Int64,
+        None,
+        &[-9223372036854775808, -9223372036854775806, -1, 10, 100],
+        "\n v = -9223372036854775808, _, -1, 10, 100 ;\n",
+    ),
+    (
+        NcType::Int64,
+        Some(-1),
+        &[1, -1, 99, 100, 9223372036854775807],
+        "\n v = 1, _, 99, 100, 9223372036854775807 ;\n",
+    ),
+    (
+        NcType::Ubyte,
+        None,
+        &[0, 9, 10, 99, 100, 254, 255],
+        "\n v = 0, 9, 10, 99, 100, 254, 255 ;\n",
+    ),
+    (
+        NcType::Ubyte,
+        Some(99),
+        &[0, 9, 10, 99, 100, 200],
+        "\n v = 0, 9, 10, _, 100, 200 ;\n",
+    ),
+    (
+        NcType::Ushort,
+        None,
+        &[0, 9, 10, 99, 100, 65534, 65535],
+        "\n v = 0, 9, 10, 99, 100, 65534, _ ;\n",
+    ),
+    (
+        NcType::Ushort,
+        Some(1),
+        &[0, 1, 65535],
+        "\n v = 0, _, 65535 ;\n",
+    ),
+    (
+        NcType::Uint,
+        None,
+        &[9, 10, 100, 9999, 10000, 99999999, 100000000, 4294967295],
+        "\n v = 9, 10, 100, 9999, 10000, 99999999, 100000000, _ ;\n",
+    ),
+    (
+        NcType::Uint,
+        Some(10),
+        &[9, 10, 11, 4294967295],
+        "\n v = 9, _, 11, 4294967295 ;\n",
+    ),
+    (
+        NcType::Uint64,
+        None,
+        &[10, 18446744073709551614, 18446744073709551615],
+        "\n v = 10, _, 18446744073709551615 ;\n",
+    ),
+    (
+        NcType::Uint64,
+        Some(9223372036854775808),
+        &[1, 9223372036854775807, 9223372036854775808],
+        "\n v = 1, 9223372036854775807, _ ;\n",
+    ),
 ];
 
-const HELD_BACK_NULS_IN_ROWS: &[Row<'static>] = &[
-    Row {
-        name: "c",
-        ty: NcType::Char,
-        lens: &[0, 3],
-        bytes: "a\0\0\0\0\0",
-        text: "\n c =\n  \"a\",\n  \"\" ;\n",
-        ..V
-    },
-    Row {
-        name: "c",
-        ty: NcType::Char,
-        lens: &[3, 2],
-        bytes: "\0a\0\0b\0",
-        text: "\n c =\n  \"\\000a\",\n  \"\",\n  \"b\" ;\n",
-        ..V
-    },
+/// A variable of numbers in lines of 20 bytes: its name, its type, its values, and their text.
+type Narrow = (&'static str, NcType, &'static [i128], &'static str);
+
+const LONG_NAME: &str = "abcdefghijklmnopqrstuvwxy";
+
+/// Lines that are full, and numbers that begin the next line.
+const LINES: &[Narrow] = &[
+    (
+        "v",
+        NcType::Byte,
+        &[1, 2, 3, 4, 5, 6, 7, 8, 9, 10, 11],
+        "\n v = 1, 2, 3, 4, 5, \n    6, 7, 8, 9, 10, \n    11 ;\n",
+    ),
+    (
+        "v",
+        NcType::Byte,
+        &[1, 2, 3, 4, 50, 60, 70, 80, 9],
+        "\n v = 1, 2, 3, 4, \n    50, 60, 70, 80, \n    9 ;\n",
+    ),
+    (
+        "v",
+        NcType::Int,
+        &[1, 2, 3, 4, -2147483647, -2147483647, 10, -2147483647],
+        "\n v = 1, 2, 3, 4, _, \n    _, 10, _ ;\n",
+    ),
+    (
+        "v",
+        NcType::Short,
+        &[10, 20, 30, 40, 5, 100, -1, -10],
+        "\n v = 10, 20, 30, \n    40, 5, 100, -1, \n    -10 ;\n",
+    ),
+    // a short last number
+    (
+        "v",
+        NcType::Int,
+        &[1000, 20000, 66],
+        "\n v = 1000, 20000, \n    66 ;\n",
+    ),
+    // the first number stays on the line of the name, which counts with its escapes
+    (
+        LONG_NAME,
+        NcType::Byte,
+        &[1, 2, 3],
+        "\n abcdefghijklmnopqrstuvwxy = 1, \n    2, 3 ;\n",
+    ),
+    (
+        "a:b:c",
+        NcType::Byte,
+        &[10, 2, 3],
+        "\n a\\:b\\:c = 10, 2, \n    3 ;\n",
+    ),
+    // a line feed in a name begins a line
+    (
+        "a\nb",
+        NcType::Int,
+        &[1000, 20000, 66],
+        "\n a\\\nb = 1000, 20000, \n    66 ;\n",
+    ),
 ];
 
-const NULS_THAT_ARE_SHOWN: &[Row<'static>] = &[
-    Row {
-        name: "c",
-        ty: NcType::Char,
-        lens: &[0],
-        bytes: "\0\0",
-        text: "\n c = \"\\000\\000\" ;\n",
-        ..V
-    },
-    Row {
-        name: "c",
-        ty: NcType::Char,
-        lens: &[0, 3],
-        fill: Some("x"),
-        bytes: "a\0\0\0\0\0",
-        text: "\n c =\n  \"a\\000\\000\",\n  \"\\000\\000\\000\" ;\n",
-        ..V
-    },
-];
-
-const CHARACTERS_ARE_ESCAPED: &[Row<'static>] = &[Row {
-    name: "c",
+/// The variable `v` in lines of 20 bytes.
+const V: Row<'static> = Row {
+    name: "v",
     ty: NcType::Char,
-    lens: &[6],
-    bytes: "\x09\x22\x5c\x7f\u{c3}\u{a9}",
-    text: "\n c = \"\\t\\\"\\\\\\177\u{c3}\u{a9}\" ;\n",
-    ..V
-}];
+    lens: &[],
+    fill: None,
+    width: 20,
+    values: &[],
+    text: "",
+};
 
-const FILL_OF_BYTES: &[Row<'static>] = &[
+/// Rows are those of the last dimension. NULs wait for the character after them in their row; those at its end are left out, unless the
+/// variable has a fill value of its own or no other dimension than that of records.
+const ROWS: &[Row<'static>] = &[
     Row {
-        name: "b",
-        ty: NcType::Byte,
-        bytes: "\u{81}",
-        text: "\n b = -127 ;\n",
+        ty: NcType::Uint64,
+        lens: &[0, 1, 2],
+        values: &[18446744073709551613, 1, 3, 18446744073709551613],
+        text: "\n v =\n  18446744073709551613, \n    1,\n  3, \n    18446744073709551613 ;\n",
         ..V
     },
     Row {
-        name: "b",
         ty: NcType::Byte,
-        fill: Some("\u{81}"),
-        bytes: "\u{81}",
-        text: "\n b = _ ;\n",
+        lens: &[3, 1],
+        values: &[1, -2, 3],
+        text: "\n v =\n  1,\n  -2,\n  3 ;\n",
         ..V
     },
-];
-
-const FILL_OF_UNSIGNED_BYTES: &[Row<'static>] = &[
     Row {
-        name: "b",
-        ty: NcType::Ubyte,
+        ty: NcType::Short,
+        values: &[172],
+        text: "\n v = 172 ;\n",
+        ..V
+    },
+    Row {
+        lens: &[6],
+        values: &[97, 0, 0, 98, 0, 0],
+        text: "\n v = \"a\\000\\000b\" ;\n",
+        ..V
+    },
+    Row {
+        lens: &[3, 2],
+        values: &[0, 97, 0, 0, 98, 0],
+        text: "\n v =\n  \"\\000a\",\n  \"\",\n  \"b\" ;\n",
+        ..V
+    },
+    Row {
+        lens: &[0, 2],
+        fill: Some(120),
+        values: &[97, 0, 0, 0],
+        text: "\n v =\n  \"a\\000\",\n  \"\\000\\000\" ;\n",
+        ..V
+    },
+    Row {
         lens: &[0],
-        records: 3,
-        bytes: "\u{ff}\u{fe}\x01",
-        text: "\n b = 255, 254, 1 ;\n",
+        values: &[0, 0],
+        text: "\n v = \"\\000\\000\" ;\n",
         ..V
     },
+    // a tab, a quote, a backslash, 0x7f, a letter of two bytes, and 0xff
     Row {
-        name: "a",
-        ty: NcType::Ubyte,
-        fill: Some("\u{ff}"),
-        bytes: "\u{ff}",
-        text: "\n a = _ ;\n",
+        lens: &[7],
+        values: &[0x09, 0x22, 0x5c, 0x7f, 0xc3, 0xa9, 0xff],
+        text: "\n v = \"\\t\\\"\\\\\\177\u{c3}\u{a9}\u{ff}\" ;\n",
         ..V
     },
 ];
 
-const FILL_OF_OTHERS: &[Row<'static>] = &[
-    Row {
-        name: "s",
-        ty: NcType::Short,
-        lens: &[3],
-        bytes: "\0\x01\u{80}\x01\0\x03",
-        text: "\n s = 1, _, 3 ;\n",
-        ..V
-    },
-    Row {
-        name: "b",
-        ty: NcType::Uint64,
-        lens: &[],
-        bytes: "\u{ff}\u{ff}\u{ff}\u{ff}\u{ff}\u{ff}\u{ff}\u{fe}",
-        text: "\n b = _ ;\n",
-        ..V
-    },
-];
-
-const FILL_VALUES_OF_FEW_DIGITS: &[Row<'static>] = &[
-    Row {
-        ty: NcType::Byte,
-        lens: &[3],
-        fill: Some("\x09"),
-        bytes: "\x01\x09\x0a",
-        text: "\n v = 1, _, 10 ;\n",
-        ..V
-    },
-    Row {
-        ty: NcType::Ubyte,
-        lens: &[6],
-        fill: Some("\x63"),
-        bytes: "\0\x09\x0a\x63\x64\u{c8}",
-        text: "\n v = 0, 9, 10, _, 100, 200 ;\n",
-        ..V
-    },
-    Row {
-        ty: NcType::Short,
-        lens: &[3],
-        fill: Some("\0\0"),
-        bytes: "\0\x01\0\0\0\x0a",
-        text: "\n v = 1, _, 10 ;\n",
-        ..V
-    },
-    Row {
-        ty: NcType::Ushort,
-        lens: &[3],
-        fill: Some("\0\x63"),
-        bytes: "\0\x62\0\x63\0\x64",
-        text: "\n v = 98, _, 100 ;\n",
-        ..V
-    },
-    Row {
-        ty: NcType::Int,
-        lens: &[4],
-        fill: Some("\0\0\0\x64"),
-        bytes: "\0\0\0\x01\0\0\0\x63\0\0\0\x64\0\0\0\x65",
-        text: "\n v = 1, 99, _, 101 ;\n",
-        ..V
-    },
-    Row {
-        ty: NcType::Uint,
-        lens: &[4],
-        fill: Some("\0\0\0\x0a"),
-        bytes: "\0\0\0\x01\0\0\0\x09\0\0\0\x0a\0\0\0\x0b",
-        text: "\n v = 1, 9, _, 11 ;\n",
-        ..V
-    },
-    Row {
-        ty: NcType::Int64,
-        lens: &[4],
-        fill: Some("\u{ff}\u{ff}\u{ff}\u{ff}\u{ff}\u{ff}\u{ff}\u{ff}"),
-        bytes: "\0\0\0\0\0\0\0\x01\u{ff}\u{ff}\u{ff}\u{ff}\u{ff}\u{ff}\u{ff}\u{ff}\0\0\0\0\0\0\0\x63\0\0\0\0\0\0\0\x64",
-        text: "\n v = 1, _, 99, 100 ;\n",
-        ..V
-    },
-    Row {
-        ty: NcType::Uint64,
-        lens: &[3],
-        fill: Some("\0\0\0\0\0\0\0\x01"),
-        bytes: "\0\0\0\0\0\0\0\x01\0\0\0\0\0\0\0\x63\0\0\0\0\0\0\0\x64",
-        text: "\n v = _, 99, 100 ;\n",
-        ..V
-    },
-];
-
-const FILL_VALUES_AFTER_THE_FIRST: &[Row<'static>] = &[
-    Row {
-        ty: NcType::Byte,
-        lens: &[3],
-        fill: Some("\u{80}"),
-        bytes: "\x01\u{81}\u{80}",
-        text: "\n v = 1, -127, _ ;\n",
-        ..V
-    },
-    Row {
-        ty: NcType::Byte,
-        lens: &[2],
-        bytes: "\x01\u{81}",
-        text: "\n v = 1, -127 ;\n",
-        ..V
-    },
-    Row {
-        ty: NcType::Ushort,
-        lens: &[2],
-        bytes: "\0\x01\u{ff}\u{ff}",
-        text: "\n v = 1, _ ;\n",
-        ..V
-    },
-    Row {
-        ty: NcType::Int,
-        lens: &[3],
-        bytes: "\0\0\0\x01\u{80}\0\0\x01\u{80}\0\0\0",
-        text: "\n v = 1, _, -2147483648 ;\n",
-        ..V
-    },
-    Row {
-        ty: NcType::Uint,
-        lens: &[2],
-        bytes: "\0\0\0\x01\u{ff}\u{ff}\u{ff}\u{ff}",
-        text: "\n v = 1, _ ;\n",
-        ..V
-    },
-    Row {
-        ty: NcType::Int64,
-        lens: &[3],
-        bytes: "\0\0\0\0\0\0\0\x01\u{80}\0\0\0\0\0\0\x02\u{80}\0\0\0\0\0\0\x01",
-        text: "\n v = 1, _, -9223372036854775807 ;\n",
-        ..V
-    },
-    Row {
-        ty: NcType::Uint64,
-        lens: &[3],
-        bytes: "\0\0\0\0\0\0\0\x01\u{ff}\u{ff}\u{ff}\u{ff}\u{ff}\u{ff}\u{ff}\u{fe}\u{ff}\u{ff}\u{ff}\u{ff}\u{ff}\u{ff}\u{ff}\u{ff}",
-        text: "\n v = 1, _, 18446744073709551615 ;\n",
-        ..V
-    },
-    Row {
-        ty: NcType::Uint64,
-        lens: &[3],
-        fill: Some("\x7f\u{ff}\u{ff}\u{ff}\u{ff}\u{ff}\u{ff}\u{ff}"),
-        bytes: "\0\0\0\0\0\0\0\x01\x7f\u{ff}\u{ff}\u{ff}\u{ff}\u{ff}\u{ff}\u{ff}\u{80}\0\0\0\0\0\0\0",
-        text: "\n v = 1, _, 9223372036854775808 ;\n",
-        ..V
-    },
-    Row {
-        ty: NcType::Uint64,
-        lens: &[3],
-        fill: Some("\u{80}\0\0\0\0\0\0\0"),
-        bytes: "\0\0\0\0\0\0\0\x01\x7f\u{ff}\u{ff}\u{ff}\u{ff}\u{ff}\u{ff}\u{ff}\u{80}\0\0\0\0\0\0\0",
-        text: "\n v = 1, 9223372036854775807, _ ;\n",
-        ..V
-    },
-];
-
-const LEAST_AND_GREATEST_OF_SIGNED_TYPES: &[Row<'static>] = &[
-    Row {
-        ty: NcType::Byte,
-        lens: &[12],
-        bytes: "\u{80}\x7f\u{9c}\u{9d}\u{f6}\u{f7}\u{ff}\x00\x09\x0a\x63\x64",
-        text: "\n v = -128, 127, -100, -99, -10, -9, -1, 0, 9, 10, 99, 100 ;\n",
-        ..V
-    },
-    Row {
-        ty: NcType::Short,
-        lens: &[12],
-        bytes: "\0\0\0\x09\0\x0a\0\x63\0\x64\u{ff}\u{ff}\u{ff}\u{f7}\u{ff}\u{f6}\u{ff}\u{9d}\u{ff}\u{9c}\u{80}\0\x7f\u{ff}",
-        text: "\n v = 0, 9, 10, 99, 100, -1, -9, -10, -99, -100, -32768, 32767 ;\n",
-        ..V
-    },
-    Row {
-        ty: NcType::Int,
-        lens: &[12],
-        bytes: "\0\0\0\0\0\0\0\x09\0\0\0\x0a\0\0\0\x63\0\0\0\x64\u{ff}\u{ff}\u{ff}\u{ff}\u{ff}\u{ff}\u{ff}\u{f7}\u{ff}\u{ff}\u{ff}\u{f6}\u{ff}\u{ff}\u{ff}\u{9d}\u{ff}\u{ff}\u{ff}\u{9c}\u{80}\0\0\0\x7f\u{ff}\u{ff}\u{ff}",
-        text: "\n v = 0, 9, 10, 99, 100, -1, -9, -10, -99, -100, -2147483648, 2147483647 ;\n",
-        ..V
-    },
-    Row {
-        ty: NcType::Int64,
-        lens: &[12],
-        bytes: "\0\0\0\0\0\0\0\0\0\0\0\0\0\0\0\x09\0\0\0\0\0\0\0\x0a\0\0\0\0\0\0\0\x63\0\0\0\0\0\0\0\x64\u{ff}\u{ff}\u{ff}\u{ff}\u{ff}\u{ff}\u{ff}\u{ff}\u{ff}\u{ff}\u{ff}\u{ff}\u{ff}\u{ff}\u{ff}\u{f7}\u{ff}\u{ff}\u{ff}\u{ff}\u{ff}\u{ff}\u{ff}\u{f6}\u{ff}\u{ff}\u{ff}\u{ff}\u{ff}\u{ff}\u{ff}\u{9d}\u{ff}\u{ff}\u{ff}\u{ff}\u{ff}\u{ff}\u{ff}\u{9c}\u{80}\0\0\0\0\0\0\0\x7f\u{ff}\u{ff}\u{ff}\u{ff}\u{ff}\u{ff}\u{ff}",
-        text: "\n v = 0, 9, 10, 99, 100, -1, -9, -10, -99, -100, -9223372036854775808, \n    9223372036854775807 ;\n",
-        ..V
-    },
-];
-
-const LEAST_AND_GREATEST_OF_UNSIGNED_TYPES: &[Row<'static>] = &[
-    Row {
-        ty: NcType::Char,
-        lens: &[2],
-        bytes: "\x00\u{ff}",
-        text: "\n v = \"\\000\u{ff}\" ;\n",
-        ..V
-    },
-    Row {
-        ty: NcType::Ubyte,
-        lens: &[6],
-        bytes: "\x00\x09\x0a\x63\x64\u{ff}",
-        text: "\n v = 0, 9, 10, 99, 100, 255 ;\n",
-        ..V
-    },
-    Row {
-        ty: NcType::Ushort,
-        lens: &[6],
-        bytes: "\0\0\0\x09\0\x0a\0\x63\0\x64\u{ff}\u{fe}",
-        text: "\n v = 0, 9, 10, 99, 100, 65534 ;\n",
-        ..V
-    },
-    Row {
-        ty: NcType::Uint,
-        lens: &[6],
-        bytes: "\0\0\0\0\0\0\0\x09\0\0\0\x0a\0\0\0\x63\0\0\0\x64\u{ff}\u{ff}\u{ff}\u{fe}",
-        text: "\n v = 0, 9, 10, 99, 100, 4294967294 ;\n",
-        ..V
-    },
-    Row {
-        ty: NcType::Uint,
-        lens: &[4],
-        bytes: "\x00\x00\x27\x0f\x00\x00\x27\x10\x05\u{f5}\u{e0}\u{ff}\x05\u{f5}\u{e1}\x00",
-        text: "\n v = 9999, 10000, 99999999, 100000000 ;\n",
-        ..V
-    },
-    Row {
-        ty: NcType::Uint64,
-        lens: &[4],
-        bytes: "\x00\x00\x00\u{e8}\u{d4}\u{a5}\x0f\u{ff}\x00\x00\x00\u{e8}\u{d4}\u{a5}\x10\x00\x00\x23\u{86}\u{f2}\x6f\u{c0}\u{ff}\u{ff}\x00\x23\u{86}\u{f2}\x6f\u{c1}\x00\x00",
-        text: "\n v = 999999999999, 1000000000000, 9999999999999999, 10000000000000000 ;\n",
-        ..V
-    },
-    Row {
-        ty: NcType::Uint64,
-        lens: &[8],
-        bytes: "\0\0\0\0\0\0\0\0\0\0\0\0\0\0\0\x09\0\0\0\0\0\0\0\x0a\0\0\0\0\0\0\0\x63\0\0\0\0\0\0\0\x64\x7f\u{ff}\u{ff}\u{ff}\u{ff}\u{ff}\u{ff}\u{ff}\u{80}\0\0\0\0\0\0\0\u{ff}\u{ff}\u{ff}\u{ff}\u{ff}\u{ff}\u{ff}\u{ff}",
-        text: "\n v = 0, 9, 10, 99, 100, 9223372036854775807, 9223372036854775808, \n    18446744073709551615 ;\n",
-        ..V
-    },
-];
-
-const GREATEST_WHERE_IT_IS_NO_FILL_VALUE: &[Row<'static>] = &[
-    Row {
-        ty: NcType::Ushort,
-        lens: &[2],
-        fill: Some("\0\x01"),
-        bytes: "\0\0\u{ff}\u{ff}",
-        text: "\n v = 0, 65535 ;\n",
-        ..V
-    },
-    Row {
-        ty: NcType::Uint,
-        lens: &[2],
-        fill: Some("\0\0\0\x01"),
-        bytes: "\0\0\0\0\u{ff}\u{ff}\u{ff}\u{ff}",
-        text: "\n v = 0, 4294967295 ;\n",
-        ..V
-    },
-];
-
-#[test]
-fn values_have_their_text(rt: HostRuntime) -> Result<(), Fail> {
-    const GROUPS: &[Group] = &[
-        ("held back nuls", HELD_BACK_NULS),
-        ("held back nuls in rows", HELD_BACK_NULS_IN_ROWS),
-        ("nuls that are shown", NULS_THAT_ARE_SHOWN),
-        ("characters are escaped", CHARACTERS_ARE_ESCAPED),
-        ("fill of bytes", FILL_OF_BYTES),
-        ("fill of unsigned bytes", FILL_OF_UNSIGNED_BYTES),
-        ("fill of others", FILL_OF_OTHERS),
-        ("fill values of few digits", FILL_VALUES_OF_FEW_DIGITS),
-        ("fill values after the first", FILL_VALUES_AFTER_THE_FIRST),
-        (
-            "least and greatest of signed types",
-            LEAST_AND_GREATEST_OF_SIGNED_TYPES,
-        ),
-        (
-            "least and greatest of unsigned types",
-            LEAST_AND_GREATEST_OF_UNSIGNED_TYPES,
-        ),
-        (
-            "greatest where it is no fill value",
-            GREATEST_WHERE_IT_IS_NO_FILL_VALUE,
-        ),
-    ];
-    show_groups(&rt, rt.alloc(), GROUPS)
+/// The last bytes of these numbers, big-endian, as many as a value of the type has.
+fn packed(alloc: Global, ty: NcType, values: &[i128]) -> Result<Vec<u8>, AllocError> {
+    let from = 16usize.saturating_sub(ty.size() as usize);
+    let mut bytes = Vec::new(alloc);
+    for value in values {
+        bytes.extend_from_slice(value.to_be_bytes().get(from..).unwrap_or(&[]))?;
+    }
+    Ok(bytes)
 }
 
-/// A printer of the header's only variable, over no records.
-fn printer_of<'a>(rt: &impl Abort, header: &'a Header) -> ValuePrinter<'a> {
-    assert!(rt; header.sound());
-    assert!(rt; header.vars.len() == 1);
-    ValuePrinter::new(header, 0, 0, 80)
+/// The variable of a row, over as many dimensions as there are lengths.
+fn var_of_row(alloc: Global, row: &Row<'_>) -> Result<Var, AllocError> {
+    let mut var = var_of(alloc, (row.name, &[], row.ty, 0), &[])?;
+    for id in 0..row.lens.len() {
+        var.dimids.push(id as u64)?;
+    }
+    if let Some(fill) = row.fill {
+        var.atts.push(Att {
+            name: sequence(alloc, "_FillValue")?,
+            ty: row.ty,
+            vals: Sequence::from_vec(packed(alloc, row.ty, &[fill])?),
+        })?;
+    }
+    Ok(var)
 }
 
-/// Returns true if these values, which the printer has to take, are printed.
-fn prints(
+/// A header with the variable of a row alone.
+fn header_of_row(alloc: Global, row: &Row<'_>) -> Result<Header, AllocError> {
+    let mut dims = Sequence::new(alloc);
+    for len in row.lens {
+        let name = sequence(alloc, "d")?;
+        dims.push(Dim { name, len: *len })?;
+    }
+    let mut vars = Sequence::new(alloc);
+    vars.push(var_of_row(alloc, row)?)?;
+    Ok(Header {
+        version: Version::Cdf5,
+        numrecs: NumRecs::Known(2),
+        dims,
+        gatts: Sequence::new(alloc),
+        vars,
+    })
+}
+
+/// Prints these values, in pieces of `piece_len` bytes.
+fn print<W: Sink>(
     rt: &impl Abort,
     printer: &mut ValuePrinter<'_>,
-    sink: &mut SliceSink<'_>,
+    sink: &mut W,
     bytes: &[u8],
-) -> bool {
-    assert!(rt; printer.takes(bytes));
-    printer.values(sink, &mut [0; 4096], bytes).is_ok()
+    piece_len: usize,
+) -> Result<(), WriteFailed> {
+    let mut text = [0; 4096];
+    printer.start(sink)?;
+    assert!(rt; 0 < piece_len);
+    for piece in bytes.chunks(piece_len) {
+        assert!(rt; printer.takes(piece));
+        printer.values(sink, &mut text, piece)?;
+    }
+    printer.finish(sink)
 }
 
-#[test]
-fn held_nuls_wait(rt: HostRuntime) -> Result<(), Fail> {
-    const ROW: Row<'static> = Row {
-        name: "c",
-        ty: NcType::Char,
-        lens: &[5],
-        ..V
-    };
-    let header = header_of(rt.alloc(), &ROW)?;
-    let mut printer = printer_of(&rt, &header);
-    let mut into = [0u8; 20];
-    let mut sink = SliceSink::new(&mut into, 20);
-    assert!(rt; printer.start(&mut sink).is_ok());
-    assert!(rt; prints(&rt, &mut printer, &mut sink, b"a\0\0"));
-    assert!(rt; sink.taken() == b"\n c = \"a".as_slice());
-    assert!(rt; !printer.takes(b"a\0\0"));
+/// Returns true if a sink with room for `room` bytes takes as much of the text as fits, where the values come in pieces of `piece_len`
+/// bytes, and if a printer that has failed fails again.
+fn is_shown(
+    rt: &impl Abort,
+    header: &Header,
+    width: usize,
+    (bytes, text): (&[u8], &[u8]),
+    piece_len: usize,
+    room: usize,
+) -> bool {
+    let mut into = [0u8; 1200];
+    assert!(rt; header.sound() && header.vars.len() == 1 && room <= 1200);
+    let mut printer = ValuePrinter::new(header, 0, 2, width);
+    let mut sink = SliceSink::new(&mut into[..room], 1 + room % 5);
+    let is_whole = print(rt, &mut printer, &mut sink, bytes, piece_len).is_ok();
+    let mut space = [0u8; 40];
+    let mut other = SliceSink::new(&mut space, 40);
+    let fails_again = is_whole || printer.start(&mut other).is_err();
+    let fitting = &text[..room.min(text.len())];
+    fails_again && is_whole == (text.len() <= room) && sink.taken() == fitting
+}
+
+/// Fails unless the values of the row have its text, in pieces of `count` values, into sinks of each length up to that of the text.
+fn expect_pieces(rt: &impl Abort, alloc: Global, row: &Row<'_>, count: usize) -> Result<(), Fail> {
+    let header = header_of_row(alloc, row)?;
+    let bytes = packed(alloc, row.ty, row.values)?;
+    let text = bytes_of(alloc, row.text)?;
+    let texts = (bytes.as_slice(), text.as_slice());
+    let piece_len = (row.ty.size() as usize).saturating_mul(count);
+    for room in 0..=text.len() {
+        let is_right = is_shown(rt, &header, row.width, texts, piece_len, room);
+        assert!(rt; is_right, "{room} bytes of {}", row.text);
+    }
+    Ok(())
+}
+
+/// The same in pieces of one, two and three values, and of all.
+fn expect_text(rt: &impl Abort, alloc: Global, row: Row<'_>) -> Result<(), Fail> {
+    for count in [1, 2, 3, 64] {
+        expect_pieces(rt, alloc, &row, count)?;
+    }
     Ok(())
 }
 
 #[test]
-fn failures_repeat(rt: HostRuntime) -> Result<(), Fail> {
-    const ROW: Row<'static> = Row {
-        ty: NcType::Short,
-        lens: &[5],
-        ..V
-    };
-    let header = header_of(rt.alloc(), &ROW)?;
-    let mut printer = printer_of(&rt, &header);
-    let mut into = [0u8; 9];
-    let mut sink = SliceSink::new(&mut into, 20);
-    assert!(rt; printer.start(&mut sink).is_ok());
-    assert!(rt; !prints(&rt, &mut printer, &mut sink, b"\0\x01\0\x02"));
-    let mut other = [0u8; 9];
-    let mut sink = SliceSink::new(&mut other, 20);
-    assert!(rt; !prints(&rt, &mut printer, &mut sink, b""));
-    assert!(rt; printer.start(&mut sink).is_err());
-    assert!(rt; printer.finish(&mut sink).is_err());
-    assert!(rt; sink.taken().is_empty());
+fn values_have_their_text(rt: HostRuntime) -> Result<(), Fail> {
+    for (ty, fill, values, text) in NUMBERS {
+        let row = Row {
+            ty: *ty,
+            lens: &[values.len() as u64],
+            fill: *fill,
+            width: 80,
+            values: *values,
+            text: *text,
+            ..V
+        };
+        expect_text(&rt, rt.alloc(), row)?;
+    }
+    for row in ROWS {
+        expect_text(&rt, rt.alloc(), *row)?;
+    }
+    Ok(())
+}
+
+#[test]
+fn lines_are_broken(rt: HostRuntime) -> Result<(), Fail> {
+    for (name, ty, values, text) in LINES {
+        let row = Row {
+            name: *name,
+            ty: *ty,
+            lens: &[values.len() as u64],
+            values: *values,
+            text: *text,
+            ..V
+        };
+        expect_text(&rt, rt.alloc(), row)?;
+    }
     Ok(())
 }

@@ -5,30 +5,85 @@ ghost use Rattle.nc_base.specs.Headers.{IsSound};
 ghost use Rattle.nc_base.specs.Versions.{offset_limit};
 
 use crate::header_rows::{EMPTY, HeaderRow, NamedShape, header_of};
-use devices::{MemSink, Sink, SliceSink};
-use nc_base::{Header, NcType, NumRecs, Var, Version};
+use devices::SliceSink;
+use nc_base::{Header, NcType, NumRecs, Var, Version, weight};
 use nc_file::{OffsetTooLarge, header_len, with_begins, write_header};
+use std::alloc::{AllocError, Global};
 use std::process::Abort;
 use std::test::Fail;
-
-/// A header of the first version.
-const CDF1: HeaderRow<'static> = HeaderRow {
-    version: Version::Cdf1,
-    ..EMPTY
+use test_files::{
+    ONE_VARIABLE, ONE_VARIABLE_CDF2, ONE_VARIABLE_CDF5, STREAMED_RECORDS, TEXT_ATTRIBUTE, patched,
 };
 
 /// `short s(x)`, x = 3.
-const ONE_VARIABLE: HeaderRow<'static> = HeaderRow {
+const SHORTS: HeaderRow<'static> = HeaderRow {
     dims: &[("x", 3)],
     vars: &[("s", &[0], NcType::Short, 0)],
-    ..CDF1
+    ..EMPTY
 };
 
-/// `byte a(x)` and `byte b(x)`.
-const TWO_VARIABLES: HeaderRow<'static> = HeaderRow {
-    vars: &[("a", &[0], NcType::Byte, 0), ("b", &[0], NcType::Byte, 0)],
-    ..CDF1
+/// The same over a longer dimension: a slab of 4294967294 bytes, which would be padded to 2^32.
+const LONG: HeaderRow<'static> = HeaderRow {
+    dims: &[("x", 2147483647)],
+    ..SHORTS
 };
+
+/// A header whose number of records is unknown.
+const STREAMING: HeaderRow<'static> = HeaderRow {
+    numrecs: NumRecs::Streaming,
+    dims: &[("t", 0)],
+    ..EMPTY
+};
+
+/// A header whose attribute is padded.
+const NOTED: HeaderRow<'static> = HeaderRow {
+    gatts: &[("note", NcType::Char, "a\nb")],
+    ..EMPTY
+};
+
+/// Places in a header, and the bytes that are to stand there.
+type Patches = &'static [(usize, &'static [u8])];
+
+/// Headers, the files that begin with them, the bytes that differ there (the length of the dimension and the vsize; the length of the
+/// text and its padding), how many bytes they have, and their weights.
+const ROWS: &[(Version, HeaderRow<'static>, &[u8], Patches, usize, u128)] = &[
+    (Version::Cdf1, SHORTS, ONE_VARIABLE, &[], 80, 5),
+    (Version::Cdf2, SHORTS, ONE_VARIABLE_CDF2, &[], 84, 5),
+    (Version::Cdf5, SHORTS, ONE_VARIABLE_CDF5, &[], 128, 5),
+    (
+        Version::Cdf2,
+        LONG,
+        ONE_VARIABLE_CDF2,
+        &[(24, b"\x7f\xff\xff\xff"), (72, b"\xff\xff\xff\xff")],
+        84,
+        5,
+    ),
+    (
+        Version::Cdf5,
+        LONG,
+        ONE_VARIABLE_CDF5,
+        &[
+            (36, b"\0\0\0\0\x7f\xff\xff\xff"),
+            (112, b"\0\0\0\x01\0\0\0\0"),
+        ],
+        128,
+        5,
+    ),
+    (Version::Cdf1, STREAMING, STREAMED_RECORDS, &[], 44, 2),
+    (
+        Version::Cdf1,
+        NOTED,
+        TEXT_ATTRIBUTE,
+        &[(36, b"\0\0\0\x03"), (43, b"\0")],
+        52,
+        8,
+    ),
+];
+
+/// The header of a row in this version.
+fn of_version(version: Version, row: HeaderRow<'static>) -> HeaderRow<'static> {
+    HeaderRow { version, ..row }
+}
 
 /// The header with its begins, which are to fit.
 fn begun(rt: &impl Abort, header: Header) -> Header
@@ -42,107 +97,51 @@ fn begun(rt: &impl Abort, header: Header) -> Header
     }
 }
 
-/// The header with its begins, which are to fit, is written to the sink. Returns true if all of it was.
-fn writes<W: Sink>(rt: &impl Abort, header: Header, sink: &mut W) -> bool {
-    write_header(sink, &begun(rt, header)).is_ok()
+/// Fails unless the header with its begins, which are to fit, has these bytes, of which sinks of each length take as many as fit.
+fn expect_bytes(rt: &impl Abort, header: Header, want: &[u8]) {
+    let header = begun(rt, header);
+    assert!(rt; header_len(&header) == want.len() as u64);
+    for room in 0..=want.len() {
+        let mut space = [0; 128];
+        assert!(rt; room <= 128);
+        let mut sink = SliceSink::new(&mut space[..room], 7);
+        let is_whole = write_header(&mut sink, &header).is_ok();
+        assert!(rt; is_whole == (room == want.len()), "{room} bytes");
+        assert!(rt; sink.taken() == &want[..room], "{room} of {}", want.len());
+    }
 }
 
-/// `ONE_VARIABLE` in the first version.
-const ONE_VARIABLE_CDF1: &[u8] = b"CDF\x01\0\0\0\0\
-    \0\0\0\x0a\0\0\0\x01\
-    \0\0\0\x01x\0\0\0\0\0\0\x03\
-    \0\0\0\0\0\0\0\0\
-    \0\0\0\x0b\0\0\0\x01\
-    \0\0\0\x01s\0\0\0\
-    \0\0\0\x01\0\0\0\0\
-    \0\0\0\0\0\0\0\0\
-    \0\0\0\x03\0\0\0\x08\0\0\0\x50";
-
-/// `ONE_VARIABLE` in the second version.
-const ONE_VARIABLE_CDF2: &[u8] = b"CDF\x02\0\0\0\0\
-    \0\0\0\x0a\0\0\0\x01\
-    \0\0\0\x01x\0\0\0\0\0\0\x03\
-    \0\0\0\0\0\0\0\0\
-    \0\0\0\x0b\0\0\0\x01\
-    \0\0\0\x01s\0\0\0\
-    \0\0\0\x01\0\0\0\0\
-    \0\0\0\0\0\0\0\0\
-    \0\0\0\x03\0\0\0\x08\0\0\0\0\0\0\0\x54";
-
-/// `ONE_VARIABLE` in the fifth version.
-const ONE_VARIABLE_CDF5: &[u8] = b"CDF\x05\0\0\0\0\0\0\0\0\
-    \0\0\0\x0a\0\0\0\0\0\0\0\x01\
-    \0\0\0\0\0\0\0\x01x\0\0\0\0\0\0\0\0\0\0\x03\
-    \0\0\0\0\0\0\0\0\0\0\0\0\
-    \0\0\0\x0b\0\0\0\0\0\0\0\x01\
-    \0\0\0\0\0\0\0\x01s\0\0\0\
-    \0\0\0\0\0\0\0\x01\0\0\0\0\0\0\0\0\
-    \0\0\0\0\0\0\0\0\0\0\0\0\
-    \0\0\0\x03\0\0\0\0\0\0\0\x08\0\0\0\0\0\0\0\x80";
-
-/// A header whose number of records is unknown, and its bytes.
-const STREAMING: HeaderRow<'static> = HeaderRow {
-    numrecs: NumRecs::Streaming,
-    dims: &[("t", 0)],
-    ..CDF1
-};
-
-const STREAMING_BYTES: &[u8] = b"CDF\x01\xff\xff\xff\xff\
-    \0\0\0\x0a\0\0\0\x01\
-    \0\0\0\x01t\0\0\0\0\0\0\0\
-    \0\0\0\0\0\0\0\0\
-    \0\0\0\0\0\0\0\0";
-
-/// A header whose attribute is padded, and its bytes.
-const NOTED: HeaderRow<'static> = HeaderRow {
-    gatts: &[("note", NcType::Char, "a\nbc\n")],
-    ..CDF1
-};
-
-const NOTED_BYTES: &[u8] = b"CDF\x01\0\0\0\0\
-    \0\0\0\0\0\0\0\0\
-    \0\0\0\x0c\0\0\0\x01\
-    \0\0\0\x04note\0\0\0\x02\0\0\0\x05a\nbc\n\0\0\0\
-    \0\0\0\0\0\0\0\0";
-
-/// The header of a row in this version.
-fn of_version(version: Version, row: HeaderRow<'static>) -> HeaderRow<'static> {
-    HeaderRow { version, ..row }
+/// The first `len` bytes of a file, with others in some places.
+fn prefix_of(
+    alloc: Global,
+    file: &[u8],
+    patches: Patches,
+    len: usize,
+) -> Result<Vec<u8>, AllocError> {
+    let mut bytes = Vec::from_slice(alloc, file)?;
+    for (at, patch) in patches {
+        bytes = patched(alloc, bytes.as_slice(), *at, *patch)?;
+    }
+    bytes.truncate(len);
+    Ok(bytes)
 }
 
 #[test]
 fn headers_have_their_bytes(rt: HostRuntime) -> Result<(), Fail> {
-    const ROWS: &[(Version, HeaderRow<'static>, &[u8])] = &[
-        (Version::Cdf1, ONE_VARIABLE, ONE_VARIABLE_CDF1),
-        (Version::Cdf2, ONE_VARIABLE, ONE_VARIABLE_CDF2),
-        (Version::Cdf5, ONE_VARIABLE, ONE_VARIABLE_CDF5),
-        (Version::Cdf1, STREAMING, STREAMING_BYTES),
-        (Version::Cdf1, NOTED, NOTED_BYTES),
-    ];
-    for (version, row, want) in ROWS {
+    for (version, row, file, patches, len, heavy) in ROWS {
         let header = header_of(rt.alloc(), &of_version(*version, *row))?;
-        assert!(rt; header_len(&header) == want.len() as u64);
-        let mut sink = MemSink::new(rt.alloc());
-        assert!(rt; writes(&rt, header, &mut sink));
-        assert!(rt; sink.as_slice() == *want);
+        assert!(rt; weight(&header) == *heavy, "{version:?}");
+        let want = prefix_of(rt.alloc(), *file, *patches, *len)?;
+        expect_bytes(&rt, header, want.as_slice());
     }
     Ok(())
 }
 
-/// Returns true if there are begins, and the variables have these.
-fn are_begins(vars: &[Var], begins: Option<&[u64]>) -> bool {
-    let Some(begins) = begins else {
-        return false;
-    };
-    if vars.len() != begins.len() {
-        return false;
-    }
-    for (var, begin) in vars.iter().zip(begins) {
-        if var.begin_at != *begin {
-            return false;
-        }
-    }
-    true
+/// Returns true if the variables have these begins.
+fn are_begins(vars: &[Var], begins: &[u64]) -> bool {
+    vars.iter()
+        .map(|var| var.begin_at)
+        .eq(begins.iter().copied())
 }
 
 /// Fails unless the header has this number of bytes, with its begins too, and its variables begin there; or an offset of it is
@@ -151,9 +150,8 @@ fn expect_begins(rt: &impl Abort, header: Header, len: u64, begins: Option<&[u64
     assert!(rt; header.sound() && header_len(&header) == len);
     match with_begins(header) {
         Ok(header) => {
-            let is_as_long = header_len(&header) == len;
-            let begin_there = are_begins(header.vars.as_slice(), begins);
-            assert!(rt; is_as_long && begin_there, "of {len} bytes");
+            let begins = begins.unwrap_or(&[]);
+            assert!(rt; header_len(&header) == len && are_begins(header.vars.as_slice(), begins));
         }
         Err(OffsetTooLarge) => assert!(rt; begins.is_none(), "of {len} bytes"),
     }
@@ -171,30 +169,31 @@ fn variables_begin_after_each_other(rt: HostRuntime) -> Result<(), Fail> {
             ("b", &[0, 1, 2], NcType::Int, 0),
             ("c", &[], NcType::Int, 0),
         ],
-        ..CDF1
+        ..EMPTY
     };
     // narrow records are padded in company
-    const ALONE: HeaderRow<'static> = HeaderRow {
-        dims: &[("t", 0)],
-        vars: &[BYTE],
-        ..CDF1
-    };
     const BOTH: HeaderRow<'static> = HeaderRow {
+        dims: &[("t", 0)],
         vars: &[BYTE, SHORT],
-        ..ALONE
+        ..EMPTY
     };
-    // offsets have a limit, but for that of CDF-2
+    const ALONE: HeaderRow<'static> = HeaderRow {
+        vars: &[BYTE],
+        ..BOTH
+    };
+    // offsets have a limit
     const TOO_LONG: HeaderRow<'static> = HeaderRow {
         dims: &[("x", 2147483647)],
-        ..TWO_VARIABLES
+        vars: &[BYTE, BYTE],
+        ..EMPTY
     };
     const AT_LIMIT: HeaderRow<'static> = HeaderRow {
         dims: &[("x", 2147483532)],
-        ..TWO_VARIABLES
+        ..TOO_LONG
     };
     const BELOW: HeaderRow<'static> = HeaderRow {
         dims: &[("x", 2147483528)],
-        ..TWO_VARIABLES
+        ..TOO_LONG
     };
     const ROWS: &[(Version, HeaderRow<'static>, u64, Option<&[u64]>)] = &[
         (Version::Cdf1, RECORDS, 180, Some(&[184, 188, 180])),
@@ -209,37 +208,5 @@ fn variables_begin_after_each_other(rt: HostRuntime) -> Result<(), Fail> {
         let header = header_of(rt.alloc(), &of_version(*version, *row))?;
         expect_begins(&rt, header, *len, *begins);
     }
-    Ok(())
-}
-
-/// `int a(x)`, x = 2147483647: a slab of 8589934588 bytes.
-const LONG_SLAB: HeaderRow<'static> = HeaderRow {
-    dims: &[("x", 2147483647)],
-    vars: &[("a", &[0], NcType::Int, 0)],
-    ..CDF1
-};
-
-#[test]
-fn long_slabs_have_the_greatest_vsize(rt: HostRuntime) -> Result<(), Fail> {
-    const ROWS: &[(Version, usize, &[u8])] = &[
-        (Version::Cdf2, 72, b"\xff\xff\xff\xff"),
-        (Version::Cdf5, 112, b"\0\0\0\x01\xff\xff\xff\xfc"),
-    ];
-    for (version, at, want) in ROWS {
-        let header = header_of(rt.alloc(), &of_version(*version, LONG_SLAB))?;
-        let mut sink = MemSink::new(rt.alloc());
-        assert!(rt; writes(&rt, header, &mut sink));
-        let rest = sink.as_slice().get(*at..).ok_or("too few bytes")?;
-        assert!(rt; rest.starts_with(*want), "{version:?}");
-    }
-    Ok(())
-}
-
-#[test]
-fn failed_sink_has_the_first_bytes(rt: HostRuntime) -> Result<(), Fail> {
-    let mut bytes = [7u8; 10];
-    let mut sink = SliceSink::new(&mut bytes, 3);
-    assert!(rt; !writes(&rt, header_of(rt.alloc(), &ONE_VARIABLE)?, &mut sink));
-    assert!(rt; sink.taken() == b"CDF\x01\0\0\0\0\0\0".as_slice());
     Ok(())
 }
