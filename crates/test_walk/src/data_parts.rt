@@ -5,13 +5,17 @@ ghost use Rattle.nc_base.specs.Headers.{IsSound};
 ghost use Rattle.nc_walk.specs.code.DataPart.{AreListedOf};
 ghost use Rattle.test_walk.specs.code.DataParts.{IsListedAt};
 
-use crate::reading::header_through;
 use devices::{MemSource, SliceSink};
 use nc_base::{Header, ListedArray, value_count};
+use nc_file::read_header;
 use nc_walk::{record_slabs, write_data};
 use std::alloc::{AllocError, Global};
 use std::process::Abort;
 use std::test::Fail;
+use test_files::{
+    MANY_HELD_NULS, NO_RECORDS, ONE_VARIABLE, PADDED_RECORDS, RECORD_BYTES, RECORDS_OFF_BOUNDARY,
+    THREE_VARIABLES, UNSIGNED_FILLS, patched,
+};
 
 /// Returns true if these bytes are the first values of a variable, or all of them.
 fn is_listed(header: &Header, v: usize, listed: &ListedArray) -> bool
@@ -47,221 +51,140 @@ fn are_listed(header: &Header, arrays: &[ListedArray]) -> bool
     true
 }
 
-/// These bytes, as arrays.
-fn arrays_of(alloc: Global, listed: &[&[u8]]) -> Result<Vec<ListedArray>, AllocError> {
-    let mut arrays = Vec::new(alloc);
-    for bytes in listed {
-        let mut array = ListedArray::new(alloc);
-        array.add(*bytes)?;
-        arrays.push(array)?;
-    }
-    Ok(arrays)
-}
+/// The bytes that are listed of a variable, row by row, and how many each row lacks, if it ends there. These are filled up with dots.
+type Listed = &'static [(&'static [u8], Option<u64>)];
 
-/// Rows of characters, each with as many dots as it lacks.
-fn rows_of(alloc: Global, rows: &[(&[u8], u64)]) -> Result<ListedArray, AllocError> {
+/// An array of these bytes.
+fn array_of(alloc: Global, rows: Listed) -> Result<ListedArray, AllocError> {
     let mut array = ListedArray::new(alloc);
     for (listed, lacking) in rows {
         array.add(*listed)?;
-        array.end_row(*lacking, b'.')?;
+        if let Some(lacking) = *lacking {
+            array.end_row(lacking, b'.')?;
+        }
     }
     Ok(array)
 }
 
-/// Writes the data part of these arrays under the header, and returns true if all of it was written.
-fn is_written(
-    rt: &impl Abort,
-    alloc: Global,
-    header: &Header,
-    arrays: &[ListedArray],
-    sink: &mut SliceSink<'_>,
-) -> Result<bool, AllocError> {
-    assert!(rt; header.sound());
-    assert!(rt; are_listed(header, arrays));
-    let slabs = record_slabs(alloc, header)?;
-    Ok(write_data(sink, header, slabs.as_slice(), arrays).is_ok())
+/// The arrays of some variables.
+fn arrays_of(alloc: Global, listed: &[Listed]) -> Result<Vec<ListedArray>, AllocError> {
+    let mut arrays = Vec::new(alloc);
+    for rows in listed {
+        arrays.push(array_of(alloc, *rows)?)?;
+    }
+    Ok(arrays)
 }
 
-/// The same to a sink that takes up to `capacity` bytes, `step` at a time, and asserts that it has taken what fits of these
-/// bytes.
-fn fills_sink(
-    rt: &impl Abort,
-    alloc: Global,
-    header: &Header,
-    arrays: &[ListedArray],
-    data: &[u8],
-    (capacity, step): (usize, usize),
-) -> Result<(), Fail> {
-    assert!(rt; 1 <= step && capacity <= data.len());
-    let mut into = Vec::from_elem(alloc, 0, capacity)?;
-    let mut sink = SliceSink::new(into.as_mut_slice(), step);
-    let is_whole = is_written(rt, alloc, header, arrays, &mut sink)?;
-    let is_filled = sink.taken() == &data[..capacity];
-    assert!(rt;
-        is_filled && is_whole == (capacity == data.len()),
-        "{data:?}"
-    );
-    Ok(())
-}
-
-/// Writes the data part of these arrays under the header of a file, to sinks that take up to all of the bytes, one and three at a
-/// time.
-fn writes(
+/// Writes the data part of these arrays under the header of a file to a sink that takes up to `room` bytes, 3 at a time, and fails unless it
+/// has taken what fits of these bytes.
+fn expect_part(
     rt: &impl Abort,
     alloc: Global,
     file: &[u8],
     arrays: &[ListedArray],
-    data: &[u8],
+    (data, room): (&[u8], usize),
 ) -> Result<(), Fail> {
-    let mut source = MemSource::new(file);
-    let header = header_through(rt, alloc, &mut source, &mut [0; 16])?;
-    for capacity in 0..=data.len() {
-        fills_sink(rt, alloc, &header, arrays, data, (capacity, 1))?;
-        fills_sink(rt, alloc, &header, arrays, data, (capacity, 3))?;
-    }
+    let header = read_header(alloc, &mut MemSource::new(file), &mut [0; 16])?;
+    assert!(rt; header.sound());
+    assert!(rt; are_listed(&header, arrays));
+    assert!(rt; room <= data.len());
+    let slabs = record_slabs(alloc, &header)?;
+    let mut into = Vec::from_elem(alloc, 0, room)?;
+    let mut sink = SliceSink::new(into.as_mut_slice(), 3);
+    let is_whole = write_data(&mut sink, &header, slabs.as_slice(), arrays).is_ok();
+    assert!(rt; is_whole == (room == data.len()), "{data:?}");
+    assert!(rt; sink.taken() == &data[..room], "{data:?}");
     Ok(())
 }
 
-/// A file with the header of a data part, the bytes that are listed for each variable, and the bytes of the part.
-type Part = (&'static [u8], &'static [&'static [u8]], &'static [u8]);
-
-/// Three shorts, which are all listed, and what is written of them.
-const SHORTS: &[&[u8]] = &[b"\0\x01\x80\x01\0\x03"];
-
-const WRITTEN_SHORTS: &[u8] = b"\0\x01\x80\x01\0\x03\x80\x01";
-
-/// Values that are all listed.
-const WHOLE: &[Part] = &[
-    (test_files::ONE_VARIABLE, SHORTS, WRITTEN_SHORTS),
-    (test_files::ONE_VARIABLE_CDF2, SHORTS, WRITTEN_SHORTS),
-    (test_files::ONE_VARIABLE_CDF5, SHORTS, WRITTEN_SHORTS),
+/// A file with the header of a data part, what is listed of each variable, and the bytes of the part.
+const PARTS: &[(&[u8], &[Listed], &[u8])] = &[
+    // values that are all listed
     (
-        test_files::RECORD_BYTES,
-        &[b"\x01\x02\x03"],
-        b"\x01\x02\x03",
+        ONE_VARIABLE,
+        &[&[(b"\0\x01\x80\x01\0\x03", None)]],
+        b"\0\x01\x80\x01\0\x03\x80\x01",
     ),
+    (RECORD_BYTES, &[&[(b"\x01\x02\x03", None)]], b"\x01\x02\x03"),
+    (NO_RECORDS, &[&[]], b""),
     (
-        test_files::RECORDS_OFF_BOUNDARY,
-        &[b"\0\x01\0\x02\0\x03\0\x04\0\x05\0\x06\0\x07\0\x08\0\x09"],
-        b"\0\x01\0\x02\0\x03\0\x04\0\x05\0\x06\0\x07\0\x08\0\x09",
-    ),
-    (test_files::NO_RECORDS, &[b""], b""),
-    (
-        test_files::PADDED_RECORDS,
-        &[b"\x01\x02\x03", b"\0\x04\0\x05\0\x06"],
+        PADDED_RECORDS,
+        &[&[(b"\x01\x02\x03", None)], &[(b"\0\x04\0\x05\0\x06", None)]],
         b"\x01\x81\x81\x81\0\x04\x80\x01\x02\x81\x81\x81\0\x05\x80\x01\x03\x81\x81\x81\0\x06\x80\x01",
     ),
-];
-
-/// Values that lack at the end of a variable.
-const LACKING: &[Part] = &[
+    // blocks before records
     (
-        test_files::ONE_VARIABLE,
-        &[b"\0\x01"],
+        THREE_VARIABLES,
+        &[
+            &[(b"\0\0\0\x0a\0\0\0\x14", None)],
+            &[(
+                b"\0\0\0\x01\0\0\0\x02\0\0\0\x03\0\0\0\x04\0\0\0\x05\0\0\0\x06\0\0\0\x07\0\0\0\x08",
+                None,
+            )],
+            &[(b"\0\0\0\x07", None)],
+        ],
+        b"\0\0\0\x07\0\0\0\x0a\0\0\0\x01\0\0\0\x02\0\0\0\x03\0\0\0\x04\0\0\0\x14\0\0\0\x05\0\0\0\x06\0\0\0\x07\0\0\0\x08",
+    ),
+    // values that lack at the end of a variable
+    (
+        ONE_VARIABLE,
+        &[&[(b"\0\x01", None)]],
         b"\0\x01\x80\x01\x80\x01\x80\x01",
     ),
-    (test_files::RECORD_BYTES, &[b"\x01"], b"\x01\x81\x81"),
+    (RECORD_BYTES, &[&[(b"\x01", None)]], b"\x01\x81\x81"),
     (
-        test_files::PADDED_RECORDS,
-        &[b"\x01", b"\0\x04\0\x05"],
+        PADDED_RECORDS,
+        &[&[(b"\x01", None)], &[(b"\0\x04\0\x05", None)]],
         b"\x01\x81\x81\x81\0\x04\x80\x01\x81\x81\x81\x81\0\x05\x80\x01\x81\x81\x81\x81\x80\x01\x80\x01",
     ),
     (
-        test_files::RECORDS_OFF_BOUNDARY,
-        &[b"\0\x01\0\x02\0\x03\0\x04"],
+        RECORDS_OFF_BOUNDARY,
+        &[&[(b"\0\x01\0\x02\0\x03\0\x04", None)]],
         b"\0\x01\0\x02\0\x03\0\x04\x80\x01\x80\x01\x80\x01\x80\x01\x80\x01",
     ),
     (
-        test_files::MANY_HELD_NULS,
-        &[b"a"],
-        b"a\0\0\0\0\0\0\0\0\0\0\0\0\0\0\0\0\0\0\0",
+        UNSIGNED_FILLS,
+        &[&[], &[]],
+        b"\xff\xff\xff\xff\xff\xff\xff\xff\xff\xff\xff\xfe",
+    ),
+    // rows that lack bytes
+    (
+        MANY_HELD_NULS,
+        &[&[(b"ab", Some(8)), (b"", Some(10))]],
+        b"ab..................",
+    ),
+    (
+        MANY_HELD_NULS,
+        &[&[(b"a", Some(4)), (b"bcdef", Some(0)), (b"g", Some(4))]],
+        b"a....bcdefg....\0\0\0\0\0",
+    ),
+    (
+        RECORD_BYTES,
+        &[&[(b"", Some(1)), (b"a", Some(0))]],
+        b".a\x81",
     ),
 ];
 
-/// Writes a part.
-fn writes_part(rt: &impl Abort, alloc: Global, (file, listed, data): &Part) -> Result<(), Fail> {
-    let arrays = arrays_of(alloc, *listed)?;
-    writes(rt, alloc, *file, arrays.as_slice(), *data)
-}
-
 #[test]
 fn lacking_values_are_filled(rt: HostRuntime) -> Result<(), Fail> {
-    for part in WHOLE {
-        writes_part(&rt, rt.alloc(), part)?;
-    }
-    for part in LACKING {
-        writes_part(&rt, rt.alloc(), part)?;
+    for (file, listed, data) in PARTS {
+        let arrays = arrays_of(rt.alloc(), *listed)?;
+        for room in 0..=data.len() {
+            expect_part(&rt, rt.alloc(), *file, arrays.as_slice(), (*data, room))?;
+        }
     }
     Ok(())
-}
-
-/// Files whose data part is the rest of the file.
-#[test]
-fn blocks_before_records(rt: HostRuntime) -> Result<(), Fail> {
-    const A: &[u8] = b"\0\0\0\x0a\0\0\0\x14";
-    const B: &[u8] =
-        b"\0\0\0\x01\0\0\0\x02\0\0\0\x03\0\0\0\x04\0\0\0\x05\0\0\0\x06\0\0\0\x07\0\0\0\x08";
-    const C: &[u8] = b"\0\0\0\x07";
-    let file = test_files::THREE_VARIABLES;
-    let arrays = arrays_of(rt.alloc(), &[A, B, C])?;
-    writes(&rt, rt.alloc(), file, arrays.as_slice(), &file[180..])?;
-    let file = test_files::UNSIGNED_FILLS;
-    let arrays = arrays_of(rt.alloc(), &[b"", b""])?;
-    writes(&rt, rt.alloc(), file, arrays.as_slice(), &file[228..])
 }
 
 /// 4,100 values, only one of them listed: the fill values take one buffer and six bytes more.
 #[test]
 fn many_lacking_values_are_filled(rt: HostRuntime) -> Result<(), Fail> {
-    let file = test_files::patched(rt.alloc(), test_files::ONE_VARIABLE, 24, b"\0\0\x10\x04")?;
+    let file = patched(rt.alloc(), ONE_VARIABLE, 24, b"\0\0\x10\x04")?;
     let mut data = Vec::from_slice(rt.alloc(), b"\0\x01")?;
     for _ in 1..4100 {
         data.extend_from_slice(b"\x80\x01")?;
     }
-    let mut source = MemSource::new(file.as_slice());
-    let header = header_through(&rt, rt.alloc(), &mut source, &mut [0; 16])?;
-    let arrays = arrays_of(rt.alloc(), &[b"\0\x01"])?;
-    let whole = (data.len(), 4096);
-    fills_sink(
-        &rt,
-        rt.alloc(),
-        &header,
-        arrays.as_slice(),
-        data.as_slice(),
-        whole,
-    )
-}
-
-/// Writes the data part of a variable with these rows, under the header of a file.
-fn writes_rows(
-    rt: &impl Abort,
-    alloc: Global,
-    file: &[u8],
-    rows: &[(&[u8], u64)],
-    data: &[u8],
-) -> Result<(), Fail> {
-    let mut arrays = Vec::new(alloc);
-    arrays.push(rows_of(alloc, rows)?)?;
-    writes(rt, alloc, file, arrays.as_slice(), data)
-}
-
-#[test]
-fn listed_rows_are_filled_up(rt: HostRuntime) -> Result<(), Fail> {
-    const CASES: &[(&[u8], &[(&[u8], u64)], &[u8])] = &[
-        (
-            test_files::MANY_HELD_NULS,
-            &[(b"ab", 8), (b"", 10)],
-            b"ab..................",
-        ),
-        (
-            test_files::MANY_HELD_NULS,
-            &[(b"a", 4), (b"bcdef", 0), (b"g", 4)],
-            b"a....bcdefg....\0\0\0\0\0",
-        ),
-        (test_files::RECORD_BYTES, &[(b"", 1), (b"a", 0)], b".a\x81"),
-    ];
-    for (file, rows, data) in CASES {
-        writes_rows(&rt, rt.alloc(), *file, *rows, *data)?;
-    }
-    Ok(())
+    let arrays = arrays_of(rt.alloc(), &[&[(b"\0\x01", None)]])?;
+    let whole = (data.as_slice(), data.len());
+    expect_part(&rt, rt.alloc(), file.as_slice(), arrays.as_slice(), whole)
 }

@@ -1,82 +1,60 @@
-//! Headers read from failing devices, and long ones.
+//! Headers read from devices that fail or end early, and long ones.
 
-use crate::reading::header_through;
-use devices::{DripSource, FailWhen, MemSource, ReadAhead, Source};
-use nc_base::{FormatFault, Header};
-use nc_file::HeadFault;
+use devices::{DripSource, FailWhen, ReadAhead, Source};
+use nc_base::FormatFault;
+use nc_file::{HeadFault, read_header};
 use std::alloc::Global;
 use std::process::Abort;
 use std::test::Fail;
-use test_files::{cut, repeated};
+use test_files::{ONE_VARIABLE, ONE_VARIABLE_CDF5, cut, repeated};
 
-/// A failed read is answered at once: the nth one, of a byte each.
-fn failed_read(rt: &impl Abort, alloc: Global, bytes: &[u8], n: u64, buffer_len: usize) {
-    let mut space = [0; 4096];
-    assert!(rt; buffer_len <= 4096);
-    let mut source = DripSource::new(bytes, 1, FailWhen::Read(n));
-    let answer = header_through(rt, alloc, &mut source, &mut space[..buffer_len]);
-    assert!(rt; matches!(answer, Err(HeadFault::ReadFailed)));
-}
-
-/// The header is read, though each read after it would fail, and little more than it is read.
-fn read_alone(
+/// What reading a header is answered, from a source that gives up to `step` bytes a read and fails so.
+fn answer_to(
     rt: &impl Abort,
     alloc: Global,
-    bytes: &[u8],
-    step: usize,
-    header_len: u64,
-    buffer_len: usize,
-) {
+    (file, step, buffer_len): (&[u8], usize, usize),
+    fail: FailWhen,
+) -> Result<(), HeadFault> {
     let mut space = [0; 4096];
-    assert!(rt; 1 <= step && buffer_len <= 4096);
-    let mut source = DripSource::new(bytes, step, FailWhen::From(header_len));
-    let answer = header_through(rt, alloc, &mut source, &mut space[..buffer_len]);
-    assert!(rt; answer.is_ok());
-    assert!(rt; source.handed() <= header_len as u128 + buffer_len as u128);
+    assert!(rt; 1 <= step && 16 <= buffer_len && buffer_len <= 4096);
+    let mut source = DripSource::new(file, step, fail);
+    read_header(alloc, &mut source, &mut space[..buffer_len])?;
+    Ok(())
+}
+
+/// Fails unless each failing read is answered at once, and no read begins after the header, where each would fail.
+fn expect_failures(rt: &impl Abort, alloc: Global, row: (&[u8], usize, usize), header_len: u64) {
+    let (_, step, _) = row;
+    assert!(rt; 0 < step);
+    for n in 0..header_len.div_ceil(step as u64) {
+        let answer = answer_to(rt, alloc, row, FailWhen::Read(n));
+        assert!(rt; answer == Err(HeadFault::ReadFailed), "read {n}");
+    }
+    assert!(rt; answer_to(rt, alloc, row, FailWhen::From(header_len)).is_ok());
 }
 
 #[test]
-fn each_read_fails_in_turn(rt: HostRuntime) {
-    const ROWS: &[(&[u8], u64, usize)] = &[
-        (test_files::ONE_VARIABLE, 80, 16),
-        (test_files::ONE_VARIABLE, 80, 4096),
-        (test_files::ONE_VARIABLE_CDF5, 128, 17),
+fn each_read_of_a_header_fails(rt: HostRuntime) {
+    const ROWS: &[(&[u8], usize, usize, u64)] = &[
+        (ONE_VARIABLE, 1, 16, 80),
+        (ONE_VARIABLE, 3, 17, 80),
+        (ONE_VARIABLE, 7, 31, 80),
+        (ONE_VARIABLE, 1, 4096, 80),
+        (ONE_VARIABLE_CDF5, 7, 31, 128),
     ];
-    // a header has as many bytes as there are reads
-    for (file, header_len, buffer_len) in ROWS {
-        for n in 0..*header_len {
-            failed_read(&rt, rt.alloc(), *file, n, *buffer_len);
-        }
+    for (file, step, buffer_len, header_len) in ROWS {
+        let row = (*file, *step, *buffer_len);
+        expect_failures(&rt, rt.alloc(), row, *header_len);
     }
-}
-
-#[test]
-fn no_read_begins_after_the_header(rt: HostRuntime) {
-    const ROWS: &[(&[u8], usize, u64, usize)] = &[
-        (test_files::ONE_VARIABLE, 1, 80, 16),
-        (test_files::ONE_VARIABLE, 3, 80, 17),
-        (test_files::ONE_VARIABLE, 7, 80, 31),
-        (test_files::ONE_VARIABLE, 4096, 80, 16),
-        (test_files::ONE_VARIABLE_CDF5, 7, 128, 31),
-    ];
-    for (file, step, header_len, buffer_len) in ROWS {
-        read_alone(&rt, rt.alloc(), *file, *step, *header_len, *buffer_len);
-    }
-}
-
-/// Returns true if the answer is this fault.
-fn is_fault(answer: Result<Header, HeadFault>, fault: FormatFault) -> bool {
-    matches!(answer, Err(found) if found == HeadFault::Format(fault))
 }
 
 /// A header that is cut off is read up to the cut, and no further, where each read would fail.
 #[test]
 fn no_read_begins_at_the_cut(rt: HostRuntime) {
     for n in 4..80 {
-        let cut = &test_files::ONE_VARIABLE[..n];
-        let mut source = DripSource::new(cut, 7, FailWhen::From(n as u64));
-        let answer = header_through(&rt, rt.alloc(), &mut source, &mut [0; 16]);
-        assert!(rt; is_fault(answer, FormatFault::HeaderTruncated));
+        let row = (&ONE_VARIABLE[..n], 7, 16);
+        let answer = answer_to(&rt, rt.alloc(), row, FailWhen::From(n as u64));
+        assert!(rt; answer == Err(HeadFault::Format(FormatFault::HeaderTruncated)));
     }
 }
 
@@ -91,20 +69,21 @@ const BEFORE_LARGE_RECORDS: &[u8] = b"CDF\x01\0\0\0\0\
 /// A record may have 2^62 bytes, and no more.
 #[test]
 fn records_at_their_limit(rt: HostRuntime) -> Result<(), Fail> {
-    for (count, is_read) in [(16_384, true), (16_385, false)] {
+    const TOO_LARGE: HeadFault = HeadFault::Format(FormatFault::TooLarge);
+    for (count, want) in [(16_384, Ok(())), (16_385, Err(TOO_LARGE))] {
         let bytes = repeated(rt.alloc(), BEFORE_LARGE_RECORDS, LARGE_RECORD, count)?;
-        let mut source = MemSource::new(bytes.as_slice());
-        let answer = header_through(&rt, rt.alloc(), &mut source, &mut [0; 4096]);
-        assert!(rt; answer.is_ok() == is_read);
-        assert!(rt; is_fault(answer, FormatFault::TooLarge) != is_read);
+        let row = (bytes.as_slice(), 4096, 4096);
+        let answer = answer_to(&rt, rt.alloc(), row, FailWhen::Never);
+        assert!(rt; answer == want, "{count} variables");
     }
     Ok(())
 }
 
 /// Returns true if the header that is read from this source ends too early.
 fn is_cut<S: Source>(rt: &impl Abort, alloc: Global, source: &mut S, buf: &mut [u8]) -> bool {
-    let answer = header_through(rt, alloc, source, buf);
-    is_fault(answer, FormatFault::HeaderTruncated)
+    assert!(rt; 16 <= buf.len());
+    let answer = read_header(alloc, source, buf);
+    matches!(answer, Err(fault) if fault == HeadFault::Format(FormatFault::HeaderTruncated))
 }
 
 /// A header of 2,000 variables and 88,056 bytes, whose source promises them all but ends early. The longer buffer has room for a hundred
@@ -125,4 +104,12 @@ fn long_headers_end_early(rt: HostRuntime) -> Result<(), Fail> {
         );
     }
     Ok(())
+}
+
+#[test]
+fn nothing_is_read_ahead_past_the_cut(rt: HostRuntime) {
+    let mut source = ReadAhead::new(cut(ONE_VARIABLE, 40));
+    let mut into = [0; 16];
+    assert!(rt; 40 < source.len());
+    assert!(rt; source.read_at(40, &mut into) == Ok(0));
 }

@@ -2,19 +2,11 @@
 #![tactic(auto)]
 
 #[cfg(test)]
-mod chunks;
-#[cfg(test)]
-mod cut_sources;
-#[cfg(test)]
 mod data_parts;
 #[cfg(test)]
 mod header_reads;
 #[cfg(test)]
 mod headers;
-#[cfg(test)]
-mod reading;
-#[cfg(test)]
-mod stretches;
 #[cfg(test)]
 mod variables;
 #[cfg(test)]

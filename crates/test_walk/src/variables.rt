@@ -5,7 +5,6 @@ use nc_base::FormatFault;
 use nc_file::HeadFault;
 use nc_variable::{VariableFault, open_variable};
 use std::alloc::Global;
-use std::process::Abort;
 
 /// Returns the index of the variable of this name, and how many bytes its values have.
 fn opened<S: Source>(
@@ -24,18 +23,6 @@ fn opened<S: Source>(
         }
     }
     Ok((variable.index, len))
-}
-
-/// Fails unless this is what opening the variable gives.
-fn opens(
-    rt: &impl Abort,
-    alloc: Global,
-    file: &[u8],
-    name: &[u8],
-    want: Result<(usize, usize), VariableFault>,
-) {
-    let found = opened(alloc, &mut MemSource::new(file), name);
-    assert!(rt; found == want, "{name:?}");
 }
 
 #[test]
@@ -57,17 +44,14 @@ fn variables_by_their_names(rt: HostRuntime) {
         (b"CDF\x01\0\0", b"a", CUT),
     ];
     for (file, name, want) in ROWS {
-        opens(&rt, rt.alloc(), *file, *name, *want);
+        let found = opened(rt.alloc(), &mut MemSource::new(*file), *name);
+        assert!(rt; found == *want, "{name:?}");
     }
-}
-
-/// Each read of the header fails in turn.
-#[test]
-fn failing_sources_have_no_variables(rt: HostRuntime) {
+    // each read of a header fails in turn
     for n in 0..80 {
         let mut source = DripSource::new(test_files::ONE_VARIABLE, 1, FailWhen::Read(n));
         let found = opened(rt.alloc(), &mut source, b"s");
         let failed = VariableFault::Header(HeadFault::ReadFailed);
-        assert!(&rt; found == Err(failed));
+        assert!(rt; found == Err(failed));
     }
 }

@@ -1,303 +1,302 @@
-//! Walks over the values of whole files, through buffers of every length and in reads of every length.
+//! Walks over the values of files that are whole, changed or cut, through buffers of every length and in reads of every length.
 
-use crate::reading::{ends, header_through, next_len, walk_over};
 use devices::{DripSource, FailWhen, MemSource, Source};
 use nc_base::{Header, records};
-use nc_walk::{Walk, WalkFault};
+use nc_file::read_header;
+use nc_walk::{Walk, WalkFault, laws};
 use std::alloc::Global;
 use std::process::Abort;
 use std::test::Fail;
-use test_files::{cut, patched};
+use test_files::{
+    FORTY_SHORTS, ONE_VARIABLE, ONE_VARIABLE_CDF2, ONE_VARIABLE_CDF5, PADDED_RECORDS, RECORD_BYTES,
+    RECORDS_OFF_BOUNDARY, THREE_VARIABLES, cut, patched,
+};
+
+/// What a walk over a variable, at index `v`, is to give: these values, in chunks that fill the buffer as far as there are values, and then
+/// this end.
+#[derive(Clone, Copy)]
+struct Want<'a> {
+    v: usize,
+    values: &'a [u8],
+    end: Result<(), WalkFault>,
+}
+
+/// Fails unless a walk through a buffer of `buffer_len` bytes, over so many records, is as wanted. It ends so twice.
+fn expect_walk<S: Source>(
+    rt: &impl Abort,
+    header: &Header,
+    source: &mut S,
+    (count, buffer_len): (u64, usize),
+    want: &Want<'_>,
+) {
+    let mut space = [0; 40];
+    assert!(rt; 16 <= buffer_len && buffer_len <= 40);
+    assert!(rt; header.sound() && want.v < header.vars.len());
+    let size = header.vars.as_slice()[want.v].ty.size() as usize;
+    let mut walk = Walk::new(header, want.v, count, &mut space[..buffer_len]);
+    for chunk in want.values.chunks(buffer_len - buffer_len % size) {
+        let found = walk.next(source);
+        assert!(rt;
+            matches!(found, Ok(Some(bytes)) if bytes == chunk),
+            "{chunk:?}"
+        );
+    }
+    assert!(rt; has_ended(&mut walk, source, want.end), "{:?}", want.end);
+    assert!(rt; has_ended(&mut walk, source, want.end), "{:?}", want.end);
+}
+
+/// Returns true if no chunk comes, and the walk has ended so.
+fn has_ended<S: Source>(walk: &mut Walk<'_>, source: &mut S, end: Result<(), WalkFault>) -> bool {
+    match walk.next(source) {
+        Ok(Some(_)) => false,
+        Ok(None) => end.is_ok(),
+        Err(fault) => end == Err(fault),
+    }
+}
 
 /// How many records the header has in a file of this length.
-fn records_in(rt: &impl Abort, header: &Header, len: u64) -> u64 {
+fn records_in(rt: &impl Abort, header: &Header, len: usize) -> u64 {
     assert!(rt; header.sound());
-    records(header, len)
+    records(header, len as u64)
 }
 
-/// Fails unless the pieces of the walk joined are these bytes, as many were handed over, and the walk ends so, twice.
-fn walks_to_the_end(
-    rt: &impl Abort,
-    walk: &mut Walk<'_>,
-    source: &mut DripSource<'_>,
-    values: &[u8],
-    end: Result<(), WalkFault>,
-) {
-    let before = source.handed();
-    let mut rest = values;
-    for _ in 0..=values.len() {
-        let n = next_len(rt, walk, source, rest);
-        assert!(rt; n <= rest.len());
-        rest = &rest[n..];
-    }
-    assert!(rt; rest.is_empty(), "{values:?}");
-    ends(rt, walk, source, end);
-    let handed = source.handed();
-    assert!(rt; before <= handed && handed - before == values.len() as u128);
-    ends(rt, walk, source, end);
-    assert!(rt; source.handed() == handed);
-}
-
-/// Walks so over the variable in place `v`, through a buffer of `buffer_len` bytes.
-fn walks_through(
+/// Fails unless walks over the first `len` bytes of a file are as wanted: through each buffer from 16 to 40 bytes, in reads of at most 1 to
+/// 9 bytes, and from a source that ends there but promises the whole file. No more bytes are read than the values have.
+fn expect_walks(
     rt: &impl Abort,
     alloc: Global,
-    source: &mut DripSource<'_>,
-    v: usize,
-    values: &[u8],
-    end: Result<(), WalkFault>,
-    buffer_len: usize,
+    (file, len): (&[u8], usize),
+    want: &Want<'_>,
 ) -> Result<(), Fail> {
-    let mut space = [0; 40];
-    assert!(rt; buffer_len <= 40);
-    let buf = &mut space[..buffer_len];
-    let header = header_through(rt, alloc, source, buf)?;
-    let records = records_in(rt, &header, source.len());
-    let mut walk = walk_over(rt, &header, v, records, buf);
-    walks_to_the_end(rt, &mut walk, source, values, end);
-    Ok(())
-}
-
-/// The same through each buffer from 16 to 40 bytes, and in reads of at most 1 to 9 bytes.
-fn walks(
-    rt: &impl Abort,
-    alloc: Global,
-    bytes: &[u8],
-    v: usize,
-    values: &[u8],
-    end: Result<(), WalkFault>,
-) -> Result<(), Fail> {
-    for buffer_len in 16..41 {
-        for step in 1..10 {
-            let mut source = DripSource::new(bytes, step, FailWhen::Never);
-            walks_through(rt, alloc, &mut source, v, values, end, buffer_len)?;
+    let header = read_header(alloc, &mut MemSource::new(file), &mut [0; 16])?;
+    assert!(rt; len <= file.len());
+    let count = records_in(rt, &header, len);
+    for buffer_len in 16..=40 {
+        for step in 1..=9 {
+            let mut source = DripSource::new(&file[..len], step, FailWhen::Never);
+            expect_walk(rt, &header, &mut source, (count, buffer_len), want);
+            assert!(rt; source.handed() == want.values.len() as u128);
         }
+        expect_walk(rt, &header, &mut cut(file, len), (count, buffer_len), want);
     }
     Ok(())
 }
 
-/// Lengths of a file, from the first up to the second, the place of the variable that is walked over, the bytes of its values
-/// that are there then, and how the walk ends.
-type Cuts = ((usize, usize), usize, &'static [u8], Result<(), WalkFault>);
-
-/// A file, other bytes for it from an offset on, and what walks over it give where it is cut.
-type Walked = (&'static [u8], (usize, &'static [u8]), &'static [Cuts]);
+/// A file, other bytes for it from an offset on, how many of its bytes there are, the index of the variable that is walked over, the bytes
+/// of its values, and how the walk ends.
+type Walked = (
+    &'static [u8],
+    (usize, &'static [u8]),
+    usize,
+    usize,
+    &'static [u8],
+    Result<(), WalkFault>,
+);
 
 /// No bytes are changed.
 const UNCHANGED: (usize, &[u8]) = (0, b"");
 
-/// The values of three shorts, and of nine.
+/// The values of three shorts.
 const SHORTS: &[u8] = b"\0\x01\x80\x01\0\x03";
 
-const NINE_SHORTS: &[u8] = b"\0\x01\0\x02\0\x03\0\x04\0\x05\0\x06\0\x07\0\x08\0\x09";
-
-/// Walks over files that are cut at each byte.
-const CUT_FILES: &[Walked] = &[
+/// Files of other versions, slabs beside others, and files that are changed.
+const WALKED: &[Walked] = &[
+    (ONE_VARIABLE_CDF2, UNCHANGED, 92, 0, SHORTS, Ok(())),
+    (ONE_VARIABLE_CDF5, UNCHANGED, 136, 0, SHORTS, Ok(())),
     (
-        test_files::ONE_VARIABLE,
+        THREE_VARIABLES,
         UNCHANGED,
-        &[
-            ((80, 82), 0, b"", Err(WalkFault::DataTruncated(0))),
-            ((82, 84), 0, b"\0\x01", Err(WalkFault::DataTruncated(1))),
-            (
-                (84, 86),
-                0,
-                b"\0\x01\x80\x01",
-                Err(WalkFault::DataTruncated(2)),
-            ),
-            ((86, 89), 0, SHORTS, Ok(())),
-        ],
+        224,
+        0,
+        b"\0\0\0\x0a\0\0\0\x14",
+        Ok(()),
     ),
     (
-        test_files::RECORD_BYTES,
+        THREE_VARIABLES,
         UNCHANGED,
-        &[
-            ((80, 81), 0, b"", Err(WalkFault::DataTruncated(0))),
-            ((81, 82), 0, b"\x01", Err(WalkFault::DataTruncated(1))),
-            ((82, 83), 0, b"\x01\x02", Err(WalkFault::DataTruncated(2))),
-            ((83, 84), 0, b"\x01\x02\x03", Ok(())),
-        ],
+        224,
+        1,
+        b"\0\0\0\x01\0\0\0\x02\0\0\0\x03\0\0\0\x04\0\0\0\x05\0\0\0\x06\0\0\0\x07\0\0\0\x08",
+        Ok(()),
     ),
-    (
-        test_files::PADDED_RECORDS,
-        UNCHANGED,
-        &[
-            ((116, 117), 0, b"", Err(WalkFault::DataTruncated(0))),
-            ((117, 125), 0, b"\x01", Err(WalkFault::DataTruncated(1))),
-            ((125, 133), 0, b"\x01\x02", Err(WalkFault::DataTruncated(2))),
-            ((133, 141), 0, b"\x01\x02\x03", Ok(())),
-            (
-                (133, 138),
-                1,
-                b"\0\x04\0\x05",
-                Err(WalkFault::DataTruncated(2)),
-            ),
-            ((138, 141), 1, b"\0\x04\0\x05\0\x06", Ok(())),
-        ],
-    ),
+    (THREE_VARIABLES, UNCHANGED, 224, 2, b"\0\0\0\x07", Ok(())),
     // streaming records
     (
-        test_files::PADDED_RECORDS,
+        PADDED_RECORDS,
         (4, b"\xff\xff\xff\xff"),
-        &[
-            ((139, 140), 0, b"\x01\x02", Ok(())),
-            ((139, 140), 1, b"\0\x04\0\x05", Ok(())),
-        ],
-    ),
-];
-
-/// Walks over whole files.
-const WHOLE_FILES: &[Walked] = &[
-    (
-        test_files::ONE_VARIABLE_CDF2,
-        UNCHANGED,
-        &[((92, 93), 0, SHORTS, Ok(()))],
-    ),
-    (
-        test_files::ONE_VARIABLE_CDF5,
-        UNCHANGED,
-        &[((136, 137), 0, SHORTS, Ok(()))],
-    ),
-    (
-        test_files::RECORDS_OFF_BOUNDARY,
-        UNCHANGED,
-        &[((114, 115), 0, NINE_SHORTS, Ok(()))],
-    ),
-    // slabs beside others
-    (
-        test_files::THREE_VARIABLES,
-        UNCHANGED,
-        &[
-            ((224, 225), 0, b"\0\0\0\x0a\0\0\0\x14", Ok(())),
-            (
-                (224, 225),
-                1,
-                b"\0\0\0\x01\0\0\0\x02\0\0\0\x03\0\0\0\x04\0\0\0\x05\0\0\0\x06\0\0\0\x07\0\0\0\x08",
-                Ok(()),
-            ),
-            ((224, 225), 2, b"\0\0\0\x07", Ok(())),
-        ],
+        139,
+        1,
+        b"\0\x04\0\x05",
+        Ok(()),
     ),
     // more records than the file has
     (
-        test_files::RECORD_BYTES,
+        RECORD_BYTES,
         (4, b"\x7f\xff\xff\xff"),
-        &[(
-            (83, 84),
-            0,
-            b"\x01\x02\x03",
-            Err(WalkFault::DataTruncated(3)),
-        )],
+        83,
+        0,
+        b"\x01\x02\x03",
+        Err(WalkFault::DataTruncated(3)),
     ),
     // values in the header
     (
-        test_files::ONE_VARIABLE,
+        ONE_VARIABLE,
         (76, b"\0\0\0\0"),
-        &[((88, 89), 0, b"CDF\x01\0\0", Ok(()))],
+        88,
+        0,
+        b"CDF\x01\0\0",
+        Ok(()),
     ),
     // the greatest offset
     (
-        test_files::ONE_VARIABLE_CDF2,
+        ONE_VARIABLE_CDF2,
         (76, b"\x7f\xff\xff\xff\xff\xff\xff\xff"),
-        &[((92, 93), 0, b"", Err(WalkFault::DataTruncated(0)))],
+        92,
+        0,
+        b"",
+        Err(WalkFault::DataTruncated(0)),
     ),
 ];
 
-/// Fails unless walks over the file that is cut so give these bytes.
-fn walk_cuts(rt: &impl Abort, alloc: Global, file: &[u8], cuts: Cuts) -> Result<(), Fail> {
-    let ((from, to), v, values, end) = cuts;
-    for len in from..to {
-        assert!(rt; len <= file.len());
-        walks(rt, alloc, &file[..len], v, values, end)?;
-    }
-    Ok(())
-}
-
-/// Fails unless walks over the files give these bytes.
-fn walk_all(rt: &impl Abort, alloc: Global, rows: &[Walked]) -> Result<(), Fail> {
-    for (file, (at, bytes), cuts) in rows {
-        let file = patched(alloc, *file, *at, *bytes)?;
-        for cut in *cuts {
-            walk_cuts(rt, alloc, file.as_slice(), *cut)?;
-        }
-    }
-    Ok(())
-}
-
-/// Walks over the file that ends at `len`, though its source promises all of it, through each buffer from 16 to 40 bytes, and fails unless
-/// the chunks joined are these values, and the walk ends so.
-fn walks_promised(
-    rt: &impl Abort,
-    alloc: Global,
-    (file, len): (&[u8], usize),
-    v: usize,
-    values: &[u8],
-    end: Result<(), WalkFault>,
-) -> Result<(), Fail> {
-    for buffer_len in 16..41 {
-        let mut space = [0; 40];
-        let buf = &mut space[..buffer_len];
-        let mut whole = MemSource::new(file);
-        let header = header_through(rt, alloc, &mut whole, buf)?;
-        let records = records_in(rt, &header, len as u64);
-        let mut source = cut(file, len);
-        let mut walk = walk_over(rt, &header, v, records, buf);
-        let mut rest = values;
-        for _ in 0..=values.len() {
-            let n = next_len(rt, &mut walk, &mut source, rest);
-            assert!(rt; n <= rest.len());
-            rest = &rest[n..];
-        }
-        assert!(rt; rest.is_empty(), "{values:?}");
-        ends(rt, &mut walk, &mut source, end);
-    }
-    Ok(())
-}
-
 #[test]
-fn long_slab_of_a_cut_source(rt: HostRuntime) -> Result<(), Fail> {
-    let mut file = patched(rt.alloc(), test_files::ONE_VARIABLE, 24, b"\0\0\0\x64")?;
-    file.truncate(80);
-    let values = [7; 200];
-    file.extend_from_slice(&values)?;
-    for len in 0..200 {
-        let whole = len / 2;
-        let end = Err(WalkFault::DataTruncated(whole as u128));
-        let cut = (file.as_slice(), 80 + len);
-        walks_promised(&rt, rt.alloc(), cut, 0, &values[..2 * whole], end)?;
-    }
-    Ok(())
-}
-
-#[test]
-fn values_of_sources_cut_at_each_byte(rt: HostRuntime) -> Result<(), Fail> {
-    for (file, (at, bytes), cuts) in CUT_FILES {
+fn values_of_whole_files(rt: HostRuntime) -> Result<(), Fail> {
+    // the law on the bytes of values is called for its contract alone
+    laws::values_are_read();
+    for (file, (at, bytes), len, v, values, end) in WALKED {
         let file = patched(rt.alloc(), *file, *at, *bytes)?;
-        for ((from, to), v, values, end) in *cuts {
-            for len in *from..*to {
-                walks_promised(&rt, rt.alloc(), (file.as_slice(), len), *v, *values, *end)?;
-            }
-        }
+        let want = Want {
+            v: *v,
+            values: *values,
+            end: *end,
+        };
+        expect_walks(&rt, rt.alloc(), (file.as_slice(), *len), &want)?;
     }
     Ok(())
+}
+
+/// A file, the length of its header, the index of a variable, the offset of its first value, the bytes of a value, the bytes from one value
+/// to the next, and all of its values.
+type Strided = (
+    &'static [u8],
+    usize,
+    usize,
+    usize,
+    usize,
+    usize,
+    &'static [u8],
+);
+
+const STRIDED: &[Strided] = &[
+    (ONE_VARIABLE, 80, 0, 80, 2, 2, SHORTS),
+    (RECORD_BYTES, 80, 0, 80, 1, 1, b"\x01\x02\x03"),
+    (PADDED_RECORDS, 116, 0, 116, 1, 8, b"\x01\x02\x03"),
+    (PADDED_RECORDS, 116, 1, 120, 2, 8, b"\0\x04\0\x05\0\x06"),
+    (
+        RECORDS_OFF_BOUNDARY,
+        96,
+        0,
+        96,
+        2,
+        2,
+        b"\0\x01\0\x02\0\x03\0\x04\0\x05\0\x06\0\x07\0\x08\0\x09",
+    ),
+    // a slab of more bytes than the buffers have
+    (
+        FORTY_SHORTS,
+        80,
+        0,
+        80,
+        2,
+        2,
+        b"\0\x01\0\x02\0\x03\0\x04\0\x05\0\x06\0\x07\0\x08\0\x09\0\x0a\0\x0b\0\x0c\0\x0d\0\x0e\0\x0f\0\x10\0\x11\0\x12\0\x13\0\x14\0\x15\0\x16\0\x17\0\x18\0\x19\0\x1a\0\x1b\0\x1c\0\x1d\0\x1e\0\x1f\0\x20\0\x21\0\x22\0\x23\0\x24\0\x25\0\x26\0\x27\0\x28",
+    ),
+];
+
+/// What a walk over the first `len` bytes of the file is to give: the values that are whole there, and the number of the first other one.
+fn wanted_of(row: &Strided, len: usize) -> Want<'static> {
+    let (_, _, v, first, size, stride, all) = *row;
+    let (mut whole, mut count) = (0usize, 0u128);
+    let mut past = first.saturating_add(size);
+    for value in all.chunks(size.max(1)) {
+        if past <= len {
+            whole = whole.saturating_add(value.len());
+            count = count.saturating_add(1);
+        }
+        past = past.saturating_add(stride);
+    }
+    Want {
+        v,
+        values: all.get(..whole).unwrap_or(all),
+        end: if whole == all.len() {
+            Ok(())
+        } else {
+            Err(WalkFault::DataTruncated(count))
+        },
+    }
 }
 
 #[test]
 fn values_cut_at_each_byte(rt: HostRuntime) -> Result<(), Fail> {
-    walk_all(&rt, rt.alloc(), CUT_FILES)
+    for row in STRIDED {
+        for len in row.1..=row.0.len() {
+            let want = wanted_of(row, len);
+            expect_walks(&rt, rt.alloc(), (row.0, len), &want)?;
+        }
+    }
+    Ok(())
 }
 
-#[test]
-fn values_of_whole_files(rt: HostRuntime) -> Result<(), Fail> {
-    walk_all(&rt, rt.alloc(), WHOLE_FILES)
-}
+/// Walks from sources that fail, through a buffer of 16 bytes. What stands in the buffer is dropped then, and no read is tried again.
+const FAILING: &[(&[u8], FailWhen, Want<'static>)] = &[
+    (
+        ONE_VARIABLE,
+        FailWhen::From(80),
+        Want {
+            v: 0,
+            values: b"",
+            end: Err(WalkFault::ReadFailed),
+        },
+    ),
+    (
+        ONE_VARIABLE,
+        FailWhen::Read(0),
+        Want {
+            v: 0,
+            values: b"",
+            end: Err(WalkFault::ReadFailed),
+        },
+    ),
+    // in the second record
+    (
+        PADDED_RECORDS,
+        FailWhen::From(128),
+        Want {
+            v: 1,
+            values: b"",
+            end: Err(WalkFault::ReadFailed),
+        },
+    ),
+    // after a chunk
+    (
+        THREE_VARIABLES,
+        FailWhen::From(208),
+        Want {
+            v: 1,
+            values: b"\0\0\0\x01\0\0\0\x02\0\0\0\x03\0\0\0\x04",
+            end: Err(WalkFault::ReadFailed),
+        },
+    ),
+];
 
 #[test]
-fn failing_source(rt: HostRuntime) -> Result<(), Fail> {
-    let failed = Err(WalkFault::ReadFailed);
-    for step in 1..10 {
-        let mut source = DripSource::new(test_files::ONE_VARIABLE, step, FailWhen::From(80));
-        walks_through(&rt, rt.alloc(), &mut source, 0, b"", failed, 16)?;
+fn failing_sources(rt: HostRuntime) -> Result<(), Fail> {
+    for (file, fail, want) in FAILING {
+        let header = read_header(rt.alloc(), &mut MemSource::new(*file), &mut [0; 16])?;
+        let count = records_in(&rt, &header, file.len());
+        for step in 1..=9 {
+            let mut source = DripSource::new(*file, step, *fail);
+            expect_walk(&rt, &header, &mut source, (count, 16), want);
+        }
     }
     Ok(())
 }
