@@ -3,7 +3,7 @@
 
 ghost use Rattle.std.specs.Prelude.{true};
 
-use crate::runs::{WHOLE, options_of};
+use crate::dump_rows::{WHOLE, options_of};
 use devices::{
     DripSource, FailWhen, IoSink, MemFile, MemFiles, MemSource, OpenFailed, Opener, SliceSink,
     Source, SourceFailed,
@@ -11,141 +11,136 @@ use devices::{
 use ncdump::{dump, run_with};
 use std::alloc::{AllocError, Global};
 use std::io;
-use std::io::Write;
-use std::process::Abort;
+use std::io::{ErrorKind, Write};
 
-/// A writer that takes everything, and counts the calls.
+/// A writer that takes everything, and counts its writes and its flushes, which fail if `holds_back`.
 #[derive(Drop)]
 struct Counting {
-    calls: u64,
+    holds_back: bool,
+    writes: u64,
+    flushes: u64,
+}
+
+/// A writer that hasn't been called.
+fn uncalled(holds_back: bool) -> Counting {
+    Counting {
+        holds_back,
+        writes: 0,
+        flushes: 0,
+    }
 }
 
 impl Write for Counting {
     fn write(&mut self, bytes: &[u8]) -> io::Result<usize> {
-        self.calls = self.calls.saturating_add(1);
+        self.writes = self.writes.saturating_add(1);
         Ok(bytes.len())
     }
 
     fn flush(&mut self) -> io::Result<()> {
+        self.flushes = self.flushes.saturating_add(1);
+        if self.holds_back {
+            return Err(ErrorKind::StorageFull.into());
+        }
         Ok(())
     }
-}
-
-/// The bytes of the head, then `count` bytes that are `b`, and then those of the tail.
-fn long_file(
-    alloc: Global,
-    head: &[u8],
-    (b, count): (u8, usize),
-    tail: &[u8],
-) -> Result<Vec<u8>, AllocError> {
-    let mut file = Vec::from_slice(alloc, head)?;
-    let many = Vec::from_elem(alloc, b, count)?;
-    file.extend_from_slice(many.as_slice())?;
-    file.extend_from_slice(tail)?;
-    Ok(file)
 }
 
 /// How many bytes of values or of text each file has.
 const COUNT: usize = 100_000;
 
-/// A dump through a buffer of 4,096 bytes takes less than `reads` reads and at most `writes` writes, and reads the file once, but for
-/// what it holds at the end of the header.
-fn takes_few_calls(
-    rt: &impl Abort,
-    alloc: Global,
-    file: &[u8],
+/// A file of many bytes that are alike: a file, how many of its bytes stand before them, four others of these from an offset on, the byte
+/// that the many are, what stands after them, and how many reads and writes a dump takes.
+struct Long {
+    bytes: &'static [u8],
+    len: usize,
+    change: (usize, &'static [u8]),
+    many: u8,
+    tail: &'static [u8],
     reads: u64,
     writes: u64,
-) -> Result<(), AllocError> {
-    let options = options_of(alloc, &WHOLE)?;
-    let mut source = DripSource::new(file, COUNT, FailWhen::Read(reads));
-    let mut writer = Counting { calls: 0 };
-    let mut sink = IoSink::new(&mut writer);
-    let answer = dump(alloc, &mut source, &options, &mut [0; 4096], &mut sink);
-    assert!(rt; answer.is_ok(), "{reads} reads");
-    assert!(rt; source.handed() <= file.len() as u128 + 4096);
-    assert!(rt; writer.calls <= writes, "{}", writer.calls);
-    Ok(())
 }
 
-/// The bytes of a file, how many of them stand before the many, four others of them from an offset on, the byte that the many are,
-/// what stands after them, and how many reads and writes a dump takes.
-type Calls = (
-    &'static [u8],
-    usize,
-    (usize, &'static [u8]),
-    u8,
-    &'static [u8],
-    u64,
-    u64,
-);
+/// The values of a sole record variable, which lie side by side, so that a read takes many of them.
+const LONG_RECORDS: Long = Long {
+    bytes: test_files::RECORD_BYTES,
+    len: 80,
+    change: (4, b"\0\x01\x86\xa0"),
+    many: 7,
+    tail: b"",
+    reads: 30,
+    writes: 6_000,
+};
 
-/// Files of many numbers, records and characters, and of a long attribute. Values of two record variables lie apart, so that each
-/// takes a read of its own, and none takes two. Those of a sole record variable lie side by side, and a read takes many of them.
-const FILES: &[Calls] = &[
-    (
-        test_files::ONE_VARIABLE,
-        80,
-        (24, b"\0\0\xc3\x50"),
-        7,
-        b"",
-        30,
-        3_000,
-    ),
-    (
-        test_files::PADDED_RECORDS,
-        116,
-        (4, b"\0\0\x30\xd4"),
-        7,
-        b"",
-        25_030,
-        3_000,
-    ),
-    (
-        test_files::RECORD_BYTES,
-        80,
-        (4, b"\0\x01\x86\xa0"),
-        7,
-        b"",
-        30,
-        6_000,
-    ),
-    (
-        test_files::HELD_NULS,
-        80,
-        (24, b"\0\x01\x86\xa0"),
-        b'a',
-        b"",
-        30,
-        80,
-    ),
-    (
-        test_files::TEXT_ATTRIBUTE,
-        40,
-        (36, b"\0\x01\x86\xa0"),
-        b'a',
-        &[0; 8],
-        30,
-        30,
-    ),
+/// Files of many numbers, records and characters, of a long attribute and of a long name.
+const FILES: &[Long] = &[
+    LONG_RECORDS,
+    Long {
+        bytes: test_files::ONE_VARIABLE,
+        change: (24, b"\0\0\xc3\x50"),
+        writes: 3_000,
+        ..LONG_RECORDS
+    },
+    // values of two record variables lie apart, so that each takes a read of its own, and none takes two
+    Long {
+        bytes: test_files::PADDED_RECORDS,
+        len: 116,
+        change: (4, b"\0\0\x30\xd4"),
+        reads: 25_030,
+        writes: 3_000,
+        ..LONG_RECORDS
+    },
+    Long {
+        bytes: test_files::HELD_NULS,
+        change: (24, b"\0\x01\x86\xa0"),
+        many: b'a',
+        writes: 80,
+        ..LONG_RECORDS
+    },
+    Long {
+        bytes: test_files::TEXT_ATTRIBUTE,
+        len: 40,
+        change: (36, b"\0\x01\x86\xa0"),
+        many: b'a',
+        tail: &[0; 8],
+        writes: 30,
+        ..LONG_RECORDS
+    },
+    Long {
+        bytes: test_files::TWO_RECORDS,
+        len: 20,
+        change: (16, b"\0\x01\x86\xa0"),
+        many: b'n',
+        tail: &[0; 20],
+        writes: 40,
+        ..LONG_RECORDS
+    },
 ];
 
-/// The dump of the file of a row takes few calls.
-fn dumps_long_file(
-    rt: &impl Abort,
-    alloc: Global,
-    (bytes, len, (at, change), byte, tail, reads, writes): &Calls,
-) -> Result<(), AllocError> {
-    let mut head = test_files::patched(alloc, *bytes, *at, *change)?;
-    head.truncate(*len);
-    let file = long_file(alloc, head.as_slice(), (*byte, COUNT), *tail)?;
-    takes_few_calls(rt, alloc, file.as_slice(), *reads, *writes)
+/// The bytes of a long file.
+fn long_file(alloc: Global, long: &Long) -> Result<Vec<u8>, AllocError> {
+    let (at, change) = long.change;
+    let mut file = test_files::patched(alloc, long.bytes, at, change)?;
+    file.truncate(long.len);
+    let many = Vec::from_elem(alloc, long.many, COUNT)?;
+    file.extend_from_slice(many.as_slice())?;
+    file.extend_from_slice(long.tail)?;
+    Ok(file)
 }
 
+/// A dump through a buffer of 4,096 bytes takes less than so many reads and at most so many writes, and reads the file once, but for
+/// what it holds at the end of the header.
 #[test]
 fn dumps_of_long_files(rt: HostRuntime) -> Result<(), AllocError> {
-    for row in FILES {
-        dumps_long_file(&rt, rt.alloc(), row)?;
+    for long in FILES {
+        let file = long_file(rt.alloc(), long)?;
+        let options = options_of(rt.alloc(), &WHOLE)?;
+        let mut source = DripSource::new(file.as_slice(), COUNT, FailWhen::Read(long.reads));
+        let mut writer = uncalled(false);
+        let mut sink = IoSink::new(&mut writer);
+        let answer = dump(rt.alloc(), &mut source, &options, &mut [0; 4096], &mut sink);
+        assert!(rt; answer.is_ok(), "{} reads", long.reads);
+        assert!(rt; source.handed() <= file.len() as u128 + 4096);
+        assert!(rt; writer.writes <= long.writes, "{}", writer.writes);
     }
     Ok(())
 }
@@ -172,10 +167,12 @@ impl Source for CountedSource<'_> {
     }
 }
 
-/// Files in memory, with a count of the reads from the sources that it has taken back.
+/// Files in memory, with counts of how often one was opened and given back, and of the reads from those that were given back.
 #[derive(Drop)]
 struct CountedFiles<'a> {
     files: MemFiles<'a>,
+    opens: u64,
+    closings: u64,
     reads: u64,
 }
 
@@ -187,35 +184,60 @@ impl<'a> Opener for CountedFiles<'a> {
     ghost view = { λ counted. ⟦<MemFiles<'static> as Opener>⟧.view counted.files };
 
     fn open(&mut self, path: &str) -> Result<CountedSource<'a>, OpenFailed> {
+        self.opens = self.opens.saturating_add(1);
         let source = Opener::open(&mut self.files, path)?;
         Ok(CountedSource { source, reads: 0 })
     }
 
     fn close(&mut self, source: CountedSource<'a>) {
+        self.closings = self.closings.saturating_add(1);
         self.reads = self.reads.saturating_add(source.reads);
         self.files.close(source.source);
     }
 }
 
 #[test]
-fn reads_of_a_run(rt: HostRuntime) -> Result<(), AllocError> {
-    let mut head = test_files::patched(rt.alloc(), test_files::RECORD_BYTES, 4, b"\0\x01\x86\xa0")?;
-    head.truncate(80);
-    let file = long_file(rt.alloc(), head.as_slice(), (7, COUNT), b"")?;
+fn run_opens_its_file_once_and_reads_it_in_few_calls(rt: HostRuntime) -> Result<(), AllocError> {
+    let file = long_file(rt.alloc(), &LONG_RECORDS)?;
     let listed = [MemFile {
         path: "t.nc",
         bytes: file.as_slice(),
     }];
     let mut files = CountedFiles {
         files: MemFiles::new(&listed),
+        opens: 0,
+        closings: 0,
         reads: 0,
     };
-    let mut writer = Counting { calls: 0 };
+    let mut writer = uncalled(false);
     let mut out = IoSink::new(&mut writer);
     let mut err = SliceSink::new(&mut [], 1);
     let words = ["ncdump", "t.nc"];
     let status = run_with(&mut files, rt.alloc(), &words, &mut out, &mut err);
-    assert!(rt; status == 0);
+    assert!(rt; status == 0 && files.opens == 1 && files.closings == 1);
     assert!(rt; files.reads <= 30, "{}", files.reads);
     Ok(())
+}
+
+/// Standard output is flushed once, also after a failure. Its own failure has a line only if nothing else has.
+#[test]
+fn failing_flush_of_standard_output(rt: HostRuntime) {
+    const ROWS: &[(&str, &[u8])] = &[
+        ("t.nc", b"ncdump: write failed\n"),
+        ("u.nc", b"ncdump: u.nc: cannot open\n"),
+    ];
+    for (path, line) in ROWS {
+        let files = [MemFile {
+            path: "t.nc",
+            bytes: test_files::ONE_VARIABLE,
+        }];
+        let mut writer = uncalled(true);
+        let mut out = IoSink::new(&mut writer);
+        let mut space = [0; 32];
+        let mut err = SliceSink::new(&mut space, 5);
+        let mut opener = MemFiles::new(&files);
+        let words = ["ncdump", *path];
+        let status = run_with(&mut opener, rt.alloc(), &words, &mut out, &mut err);
+        assert!(rt; status == 1 && err.taken() == *line && writer.flushes == 1);
+    }
 }

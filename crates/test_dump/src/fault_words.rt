@@ -41,14 +41,6 @@ fn has_its_line(alloc: Global, fault: &DumpFault) -> Result<bool, Fail> {
     Ok(written && line.as_slice() == said.as_bytes())
 }
 
-#[test]
-fn faults_are_displayed_as_in_their_lines(rt: HostRuntime) -> Result<(), Fail> {
-    for fault in FAULTS {
-        assert!(rt; has_its_line(rt.alloc(), fault)?, "{fault}");
-    }
-    Ok(())
-}
-
 /// Returns true if the error is displayed as `words`.
 fn says<E: Error>(alloc: Global, error: E, words: &str) -> Result<bool, Fail> {
     let said = format!(in alloc; "{error}")?;
@@ -56,8 +48,11 @@ fn says<E: Error>(alloc: Global, error: E, words: &str) -> Result<bool, Fail> {
 }
 
 #[test]
-fn errors_of_the_libraries_have_words(rt: HostRuntime) -> Result<(), Fail> {
+fn errors_have_the_words_of_their_lines(rt: HostRuntime) -> Result<(), Fail> {
     let alloc = rt.alloc();
+    for fault in FAULTS {
+        assert!(rt; has_its_line(alloc, fault)?, "{fault}");
+    }
     assert!(rt; says(alloc, SourceFailed, "read failed")?);
     assert!(rt; says(alloc, SinkFailed, "write failed")?);
     assert!(rt; says(alloc, WriteFailed, "write failed")?);

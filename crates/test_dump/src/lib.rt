@@ -4,11 +4,9 @@
 #[cfg(test)]
 mod call_counts;
 #[cfg(test)]
-mod changed_files;
-#[cfg(test)]
 mod command_lines;
 #[cfg(test)]
-mod cut_sources;
+mod dump_rows;
 #[cfg(test)]
 mod dumps;
 #[cfg(test)]
@@ -16,12 +14,4 @@ mod failures;
 #[cfg(test)]
 mod fault_words;
 #[cfg(test)]
-mod many_variables;
-#[cfg(test)]
-mod rows;
-#[cfg(test)]
-mod runs;
-#[cfg(test)]
 mod selections;
-#[cfg(test)]
-mod values;
