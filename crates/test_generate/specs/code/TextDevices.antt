@@ -1,6 +1,6 @@
 -- For contracts. The test device that opens texts, as its contracts see it.
 use Rattle.devices.specs.Openers.{OpenerView}
-use Rattle.test_generate.specs.declared.readers.WatchedTexts.WatchedTexts
+use Rattle.test_generate.specs.declared.{readers.WatchedTexts.WatchedTexts}
 
 abbrev pub view_of_watched : WatchedTexts → OpenerView
 view_of_watched texts = record { opens = texts.opens; failures = texts.failures }
