@@ -65,9 +65,14 @@ fn expect_run(rt: &impl Abort, alloc: Global, run: &Run<'_>) -> Result<(), Fail>
     let mut opener = MemFiles::new(&files);
     let status = run_with(&mut opener, alloc, words.as_slice(), &mut out, &mut err);
     assert!(rt; status == run.status, "{}", run.words);
-    assert!(rt; out.taken() == run.text, "the text of {}", run.words);
-    assert!(rt; err.taken() == run.line, "the line of {}", run.words);
+    assert!(rt; is_same(out.taken(), run.text), "the text of {}", run.words);
+    assert!(rt; is_same(err.taken(), run.line), "the line of {}", run.words);
     Ok(())
+}
+
+/// Returns true if these are the same bytes.
+fn is_same(bytes: &[u8], others: &[u8]) -> bool {
+    bytes == others
 }
 
 /// The dump of three numbers in lines of 20 bytes, and in longer ones; without values, and its head.

@@ -26,7 +26,7 @@ const ROWS: &[Row] = &[
 /// A row with its options and its text, and how many bytes each call of a device takes or gives at most.
 #[derive(Clone, Copy)]
 struct Tried<'a> {
-    row: &'a Row,
+    row: Row,
     options: &'a DumpOptions,
     text: &'a [u8],
     step: usize,
@@ -53,6 +53,19 @@ fn is_part_of_value(byte: u8) -> bool {
     byte.is_ascii_alphanumeric() || byte == b'_'
 }
 
+/// Returns true if the whole text was written and the answer is success, or a prefix of it and the answer is this fault.
+fn has_written(
+    written: &[u8],
+    text: &[u8],
+    answer: Result<(), DumpFault>,
+    fault: DumpFault,
+) -> bool {
+    match answer {
+        Ok(()) => written == text,
+        Err(found) => found == fault && text.starts_with(written),
+    }
+}
+
 /// Dumps from a source that fails so into a slice with room for `room` bytes, and fails unless the answer is success with the whole text, or
 /// `fault` with a prefix of it, which fills the slice if writing has failed. Returns true if the answer is success.
 fn ends_well(
@@ -70,13 +83,10 @@ fn ends_well(
     let mut source = DripSource::new(bytes, tried.step, fail);
     let answer = dump(alloc, &mut source, tried.options, &mut [0; 16], &mut sink);
     let written = sink.taken();
-    let is_right = match answer {
-        Ok(()) => written == tried.text,
-        Err(found) => found == fault && tried.text.starts_with(written),
-    };
+    let is_right = has_written(written, tried.text, answer, fault);
     assert!(rt; is_right, "{about}, {} bytes", written.len());
     assert!(rt;
-        may_have_read(tried.row, answer, written, source.handed()),
+        may_have_read(&tried.row, answer, written, source.handed()),
         "{about}"
     );
     answer.is_ok()
@@ -119,7 +129,7 @@ fn each_call_of_a_dump_fails(rt: HostRuntime) -> Result<(), Fail> {
         let text = text_of(rt.alloc(), &row.0)?;
         for step in [1, 7] {
             let tried = Tried {
-                row,
+                row: *row,
                 options: &options,
                 text: text.as_slice(),
                 step,
