@@ -1,4 +1,4 @@
-//! Readers and writers behind devices, sinks in memory, and how often each of them is called.
+//! The readers and writers that devices call, sinks in memory, and how often each of them is called.
 
 use devices::{CountedRead, Flush, IoSink, MemSink, Sink, SinkFailed, SliceSink, put};
 use std::alloc::Global;
