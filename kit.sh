@@ -1,6 +1,6 @@
 #!/usr/bin/env bash
 # kit.sh [COMMAND ..]: says in a sentence what is wrong with the command rt, if it is missing or of a kit that doesn't prove this repository.
-# Else runs the command, on fewer processors if there is no 4 GB of memory for each, which is the most that a proof is likely to take.
+# Else runs the command, on fewer processors if there are less than 4 GB of memory for each: a proof may take as much.
 set -euo pipefail
 proof_gigabytes=4
 # what says how much memory is free; tests have another file
