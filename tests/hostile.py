@@ -157,6 +157,8 @@ class Cases:
         lines = [FINDING.fullmatch(line) for line in ran.stdout.splitlines()]
         if None in lines:
             raise Broken(f"nccheck: {ran.stdout!r} has something else than lines of findings")
+        if len({*ran.stdout.splitlines()}) < len(lines):
+            raise Broken(f"nccheck: {ran.stdout!r} has a line twice")
         kinds = [line[1] for line in lines]
         faults = [kind for kind in kinds if kind in KINDS.values()]
         wanted = KINDS.get(re.sub(rb" \d+$", b"", fault))

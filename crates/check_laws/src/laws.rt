@@ -7,7 +7,7 @@ ghost use Rattle.check_laws.specs.Laws.{QuietSpellingsAreCanonical, CanonicalSpe
 ghost use Rattle.check_laws.specs.Laws.{QuietFilesAreCanonical, QuietReportsHaveSlabsApart};
 ghost use Rattle.check_laws.specs.Laws.{WholeFilesHoldDatasets, GeneratedFilesAreFoundWhole};
 ghost use Rattle.check_laws.specs.Laws.{GeneratedFilesHaveQuietLayouts, GeneratedFilesHaveQuietSpellings};
-ghost use Rattle.check_laws.specs.OneReport.{EachFileHasReport, ReportsAreOne, NoTwoShareOffsetAndKind};
+ghost use Rattle.check_laws.specs.OneReport.{EachFileHasReport, ReportsAreOne};
 
 /// States four laws, and does nothing. They compare the rules by which `nc_file` reads a header, the strict ones, with those by which
 /// [`list_fields`](nc_fields::list_fields) lists its fields, which take floating types and odd names, and keep no values. `lenient`: if
@@ -36,17 +36,13 @@ pub fn written_fields_are_canonical()
     ensures written { CanonicalFieldsAreWritten }
 {}
 
-/// States three laws of the report of a file, and does nothing. `exists`: each list of bytes has a report, also one that isn't a file of
-/// the format.
+/// States two laws of the report of a file, and does nothing. `exists`: each list of bytes has a report, also one that isn't a file of the
+/// format.
 ///
 /// `one`: two reports of the same bytes are the same, so [`check`](nc_check::check) can answer with no other one.
-///
-/// `strict`: no two findings of a report share offset and kind. Each lies at a lesser offset than those after it, or at the same one, and is
-/// of an earlier kind.
 pub fn one_report()
     ensures exists { EachFileHasReport }
     ensures one { ReportsAreOne }
-    ensures strict { NoTwoShareOffsetAndKind }
 {}
 
 /// States two laws, and does nothing. `faultless`: no finding of a report is a fault ([`Fact::Fault`](nc_check::Fact::Fault)) exactly if

@@ -12,7 +12,3 @@ pub mod MissingValues
 pub mod TruncatedDumps
 pub mod CanonicalLayouts
 pub mod GeneratedLayouts
-pub mod FindingGroups
-pub mod FindingPlaces
-pub mod BlockPlaces
-pub mod DistinctFindings

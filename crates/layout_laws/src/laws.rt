@@ -5,7 +5,6 @@ ghost use Rattle.layout_laws.specs.Laws.{CanonicalBeginsAreQuiet, CanonicalLengt
 ghost use Rattle.layout_laws.specs.HeaderLaws.{SpelledHeadersHaveSoundLayouts, CanonicalBeginsAreGenerated, QuietFilesAreGenerated};
 ghost use Rattle.layout_laws.specs.HeaderLaws.{GeneratedFilesAreQuiet};
 ghost use Rattle.layout_laws.specs.HeaderLaws.{ShortFilesLackValues, MissingValuesAreFound, MissingValuesStopDumps};
-ghost use Rattle.layout_laws.specs.Distinct.{LayoutFindingsAreDistinct, DataFindingsAreAfterHeader};
 
 /// States two laws, and does nothing. `begins`: if nothing is found at the begins of variables and blocks, then each variable begins right
 /// after the header and the padded slabs that come before its own: first those of the variables that aren't record variables, in header
@@ -72,12 +71,4 @@ pub fn missing_values_stop_dumps()
     ensures ends { ShortFilesLackValues }
     ensures found { MissingValuesAreFound }
     ensures dumps { MissingValuesStopDumps }
-{}
-
-/// States two laws of layouts within limits, and does nothing. `distinct`: no two findings about the layout of a file share place and kind.
-///
-/// `after_header`: what is found at an offset in the data lies at the end of the header or after it.
-pub fn layout_findings_are_distinct()
-    ensures distinct { LayoutFindingsAreDistinct }
-    ensures after_header { DataFindingsAreAfterHeader }
 {}

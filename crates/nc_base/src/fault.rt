@@ -7,7 +7,7 @@ use std::error::Error;
 use std::fmt;
 
 /// What is wrong with the first wrong field of a header, from the left.
-#[derive(Clone, Copy, Debug, PartialEq, Eq)]
+#[derive(Clone, Copy, Debug, PartialEq, Eq, PartialOrd, Ord)]
 pub enum FormatFault {
     /// The file doesn't begin with `CDF`.
     NotNetcdf,

@@ -1,4 +1,5 @@
 pub mod IndexedLists
 pub mod NameKeys
 pub mod Located
+pub mod OneOrder
 pub mod Reported

@@ -1,5 +1,4 @@
 -- Definition. The kinds of findings, and how grave each is.
-use Rattle.std.specs.Prelude.{ℕ}
 use Rattle.nc_base.specs.declared.fault.FormatFault.{FormatFault}
 use Rattle.nc_base.specs.declared.fault.FormatFault.TheVariants as fault
 use Rattle.nc_layout.specs.declared.finding.LayoutFact.{LayoutFact}
@@ -97,42 +96,3 @@ severity_of Gap = Note
 severity_of Missing = Error
 severity_of EndPadding = Violation
 severity_of Trailing = Violation
-
--- the order of findings at one offset
-abbrev pub rank_of : Kind → ℕ
-rank_of NotNetcdf = 0
-rank_of UnknownVersion = 1
-rank_of HeaderTruncated = 2
-rank_of BadTag = 3
-rank_of BadCount = 4
-rank_of BadName = 5
-rank_of FloatingType = 6
-rank_of BadType = 7
-rank_of BadShape = 8
-rank_of TwoRecordDims = 9
-rank_of TooLarge = 10
-rank_of BadOffset = 11
-rank_of Streaming = 12
-rank_of UnusedRecords = 13
-rank_of RecordCount = 14
-rank_of EmptyList = 15
-rank_of LongName = 16
-rank_of DuplicateName = 17
-rank_of NotNfc = 18
-rank_of Padding = 19
-rank_of EmptyAttribute = 20
-rank_of TrailingNul = 21
-rank_of FillValue = 22
-rank_of HighRank = 23
-rank_of Vsize = 24
-rank_of LargeVariable = 25
-rank_of BeginInHeader = 26
-rank_of Overlap = 27
-rank_of Unpadded = 28
-rank_of Order = 29
-rank_of AfterRecords = 30
-rank_of RecordPlace = 31
-rank_of Gap = 32
-rank_of Missing = 33
-rank_of EndPadding = 34
-rank_of Trailing = 35

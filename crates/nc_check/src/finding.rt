@@ -10,7 +10,7 @@ use std::alloc::AllocError;
 
 /// What is found. Where something else is expected, the fact has it, unless the field alone tells it. What is found in its place is the
 /// content of the field.
-#[derive(Clone, Copy, Debug, PartialEq, Eq)]
+#[derive(Clone, Copy, Debug, PartialEq, Eq, PartialOrd, Ord)]
 pub enum Fact {
     /// The programs that read values stop at this field with this fault.
     Fault(FormatFault),

@@ -1,7 +1,7 @@
 //! The kinds of findings, and how grave each is.
 
 ghost use Rattle.std.specs.Prelude.{◌≡◌};
-ghost use Rattle.nc_check.specs.Kinds.{kind_of, kind_of_fault, kind_of_layout, rank_of, severity_of};
+ghost use Rattle.nc_check.specs.Kinds.{kind_of, kind_of_fault, kind_of_layout, severity_of};
 
 use crate::finding::Fact;
 use nc_base::FormatFault;
@@ -19,7 +19,7 @@ pub enum Severity {
 }
 
 /// The kinds of findings. Of those at one offset, a report has them in this order.
-#[derive(Clone, Copy, Debug, PartialEq, Eq)]
+#[derive(Clone, Copy, Debug, PartialEq, Eq, PartialOrd, Ord)]
 pub enum Kind {
     /// The file doesn't begin with `CDF`.
     NotNetcdf,
@@ -123,50 +123,6 @@ impl Kind {
             | Kind::BadOffset
             | Kind::Missing => Severity::Error,
             _ => Severity::Violation,
-        }
-    }
-
-    /// Returns the position of this kind among all, from 0.
-    pub fn rank(self) -> u64
-        ensures { result ≡ rank_of self }
-    {
-        match self {
-            Kind::NotNetcdf => 0,
-            Kind::UnknownVersion => 1,
-            Kind::HeaderTruncated => 2,
-            Kind::BadTag => 3,
-            Kind::BadCount => 4,
-            Kind::BadName => 5,
-            Kind::FloatingType => 6,
-            Kind::BadType => 7,
-            Kind::BadShape => 8,
-            Kind::TwoRecordDims => 9,
-            Kind::TooLarge => 10,
-            Kind::BadOffset => 11,
-            Kind::Streaming => 12,
-            Kind::UnusedRecords => 13,
-            Kind::RecordCount => 14,
-            Kind::EmptyList => 15,
-            Kind::LongName => 16,
-            Kind::DuplicateName => 17,
-            Kind::NotNfc => 18,
-            Kind::Padding => 19,
-            Kind::EmptyAttribute => 20,
-            Kind::TrailingNul => 21,
-            Kind::FillValue => 22,
-            Kind::HighRank => 23,
-            Kind::Vsize => 24,
-            Kind::LargeVariable => 25,
-            Kind::BeginInHeader => 26,
-            Kind::Overlap => 27,
-            Kind::Unpadded => 28,
-            Kind::Order => 29,
-            Kind::AfterRecords => 30,
-            Kind::RecordPlace => 31,
-            Kind::Gap => 32,
-            Kind::Missing => 33,
-            Kind::EndPadding => 34,
-            Kind::Trailing => 35,
         }
     }
 }

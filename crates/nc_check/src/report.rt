@@ -21,7 +21,7 @@ use std::alloc::{AllocError, Global};
 pub struct Report {
     /// The fields of the header, up to the first wrong one.
     pub listing: Listing,
-    /// What is found, by offset. Of findings at one offset, the kind with the least [`rank`](crate::Kind::rank) comes first.
+    /// What is found, by offset, and at one offset in the order of the kinds ([`Kind`](crate::Kind)).
     pub findings: Sequence<Finding>,
 }
 
@@ -59,15 +59,22 @@ pub fn findings_of(alloc: Global, listing: &Listing) -> Result<Sequence<Finding>
 {
     let mut found = header_findings(alloc, listing.entries.as_slice())?;
     push_whole_findings(&mut found, alloc, listing)?;
-    in_order(found)
+    Ok(in_order(found))
 }
 
-/// Returns the findings in the order of a report. Errs only if an allocation fails.
-fn in_order(found: Sequence<Finding>) -> Result<Sequence<Finding>, AllocError>
-    ensures all { IfOk result (IsPermutation found) }
-    ensures in_order { IfOk result (AllPairs IsInOrder) }
+/// Returns the findings in the order of a report.
+fn in_order(found: Sequence<Finding>) -> Sequence<Finding>
+    ensures all { IsPermutation found result }
+    ensures in_order { AllPairs IsInOrder result }
 {
     let mut findings = found.into_vec();
-    findings.sort_by_key(|finding| (finding.offset, finding.fact.kind().rank()))?;
-    Ok(Sequence::from_vec(findings))
+    findings.sort_unstable_by_key(|finding| {
+        (
+            finding.offset,
+            finding.fact.kind(),
+            finding.fact,
+            finding.field,
+        )
+    });
+    Sequence::from_vec(findings)
 }

@@ -21,7 +21,7 @@ pub enum LayoutPlace {
 }
 
 /// A block, named by the values in it. It doesn't say where the block lies.
-#[derive(Clone, Copy, Debug, PartialEq, Eq)]
+#[derive(Clone, Copy, Debug, PartialEq, Eq, PartialOrd, Ord)]
 pub enum Block {
     /// Those of the variable with this index, which isn't a record variable.
     Var(u64),
@@ -30,7 +30,7 @@ pub enum Block {
 }
 
 /// A slab, named by the values in it. It doesn't say where the slab lies.
-#[derive(Clone, Copy, Debug, PartialEq, Eq)]
+#[derive(Clone, Copy, Debug, PartialEq, Eq, PartialOrd, Ord)]
 pub enum Slab {
     /// Those of the variable with this index, which isn't a record variable.
     Var(u64),
@@ -44,7 +44,7 @@ pub enum Slab {
 }
 
 /// What is found, with the numbers that show it.
-#[derive(Clone, Copy, Debug, PartialEq, Eq)]
+#[derive(Clone, Copy, Debug, PartialEq, Eq, PartialOrd, Ord)]
 pub enum LayoutFact {
     /// The header has the streaming mark in place of a number of records.
     Streaming {
