@@ -22,8 +22,8 @@ from datasets import Datasets
 BIN = Path(__file__).resolve().parent.parent / "bin"
 
 
-# the violations that a text can declare
-ALLOWED = [b"not-nfc", b"fill-value", b"large-variable"]
+# what a text can declare, though it breaks a rule of the format or a limit of Unidata's library
+ALLOWED = [b"not-nfc", b"fill-value", b"large-variable", b"long-name", b"high-rank"]
 
 
 def run(*words):

@@ -105,7 +105,7 @@ contains-first x xs = (0, omega arith, refl)
 abbrev pub ShowsFault : FieldName → Content → Option FormatFault → FormatFault → Type 0
 ShowsFault place c o fault = Contains (facts_with o place c) (Fault fault) ⊎ ((is_floating_in place c ≡ true) × (fault ≡ FloatingType))
 
-own-fault : (place : FieldName) (c : Content) (o : Option FormatFault) (fault : FormatFault) → o ≡ Some fault
+pub own-fault : (place : FieldName) (c : Content) (o : Option FormatFault) (fault : FormatFault) → o ≡ Some fault
     → Contains (facts_with o place c) (Fault fault)
 own-fault place c o fault is = subst (λ o. Contains (facts_with o place c) (Fault fault)) (sym is) (contains-first (Fault fault) [])
 

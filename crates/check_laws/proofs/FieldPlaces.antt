@@ -1,27 +1,32 @@
--- Each field of a header has a place, to which the steps to the field lead.
-use Rattle.std.proofs.Common.{◌≡◌, ℕ, zero, suc, ◌*◌, ◌==◌, ◌||◌, not, List, [], ◌∷◌, ◌++◌, length, map, Option, Some, Result, Ok, Err, refl}
-use Rattle.std.specs.Int.{Width, w32}
-use Rattle.nc_base.specs.declared.{fault.FormatFault.FormatFault, header.Dim.Dim, nc_type.NcType.NcType, version.Version.Version}
-use Rattle.nc_base.specs.declared.fault.FormatFault.TheVariants.{BadTag, BadCount}
+-- Each field of a header has a place, to which the steps to the field lead. If reading stops, a field has the fault that it stops with.
+use Rattle.std.proofs.Common.{◌≡◌, ◌⊎◌, inl, inr, ℕ, zero, suc, ◌*◌, ◌==◌, ◌||◌, ◌&&◌, not, nat_lt, leb, Bool, true, false, cond, if◌then◌else◌, List, [], ◌∷◌, ◌++◌, length, take, drop, replicate, codes, slice_index, Option, Some, None, Result, Ok, Err, ok_or, refl, sym, subst}
+use Rattle.std.specs.Int.{Width, byte_len, from_be_bytes, to_be_bytes, w32}
+use Rattle.std.specs.Str.{bytes_eq}
+use Rattle.nc_base.specs.declared.{fault.FormatFault.FormatFault, header.Dim.Dim, header.NumRecs.NumRecs, nc_type.NcType.NcType, version.Version.Version}
+use Rattle.nc_base.specs.declared.header.NumRecs.TheVariants.{Known, Streaming}
+use Rattle.nc_base.specs.declared.nc_type.NcType.TheVariants.{Int, Int64}
+use Rattle.nc_base.specs.declared.fault.FormatFault.TheVariants.{NotNetcdf, UnknownVersion, HeaderTruncated, BadTag, BadCount, BadName, FloatingType, BadType, BadShape, TwoRecordDims, BadOffset, TooLarge}
 use Rattle.nc_base.specs.Bytes.{Bytes, padding_len}
-use Rattle.nc_base.specs.Types.{size_of}
-use Rattle.nc_base.specs.Versions.{count_width, offset_width}
+use Rattle.nc_base.specs.Types.{code_of, size_of, type_of_code}
+use Rattle.nc_base.specs.Versions.{version_byte, version_of_byte, count_width, offset_width, count_limit, offset_limit, streaming_mark}
 use Rattle.nc_base.specs.Sizes.{has_record_dim, padded_total, record_vars}
 use Rattle.nc_base.specs.Parts.{Step, Part, done, bytes, decoded, under, chain, Magic, VersionByte, Records, Dims, Gatts, Vars, Tag, Count, Item, Name, Length, Text, Padding, TypeCode, Values, Shape, Atts, Vsize, Begin}
-use Rattle.nc_base.specs.Grammar.{checked, dimension_tag, attribute_tag, variable_tag, dim_after, att_after, dimid_after, var_after}
+use Rattle.nc_base.specs.Grammar.{checked, known_type, version_in, numrecs_in, number_of_numrecs, is_dimid, is_within_limits, dimension_tag, attribute_tag, variable_tag, dim_after, att_after, dimid_after, var_after}
 unfoldable use Rattle.nc_base.specs.Grammar.{number, count_part, offset_part, ignored, name_part, type_part, counted, list_head, list_part, each, dim_part, dim_list, att_part, att_list, dimid_part, shape_part, var_part, var_list, version_part, magic_part, numrecs_part, header_by}
-use Rattle.nc_base.specs.code.PartRuns.{Outcome}
+use Rattle.nc_base.specs.code.PartRuns.{Outcome, and_then, with_rest}
 unfoldable use Rattle.nc_base.specs.code.PartRuns.{run}
 use Rattle.nc_fields.specs.declared.{place.Owner.Owner, place.FieldName.FieldName, place.Place.Place}
 use Rattle.nc_fields.specs.declared.place.Owner.TheVariants as owner
 use Rattle.nc_fields.specs.declared.place.FieldName.TheVariants as name
 use Rattle.nc_fields.specs.Entries.{steps_of, owner_steps}
-use Rattle.nc_fields.specs.Fields.{Field, judged}
+use Rattle.nc_fields.specs.Fields.{Field}
 unfoldable use Rattle.nc_fields.specs.Fields.{fields}
-use Rattle.nc_fields.specs.Lenient.{lenient}
+use Rattle.nc_fields.specs.Lenient.{lenient, may_be_name, sized_type_in}
+use Rattle.nc_fields.proofs.Checks.{IsField, fault_in, bytes-field, decoded-field}
 
 -- ---- lists of fields
 
+-- to each lead the steps of a place
 abbrev pub ArePlaced : List Field → Type 0
 ArePlaced [] = Unit {0}
 ArePlaced (f ∷ fs) = ((p : Place) × (steps_of p ≡ f.steps)) × ArePlaced fs
@@ -30,54 +35,68 @@ placed-both : (fs gs : List Field) → ArePlaced fs → ArePlaced gs → ArePlac
 placed-both [] gs p q = q
 placed-both (f ∷ fs) gs p q = (p.0, placed-both fs gs p.1 q)
 
-placed-judged : {A : Type 0} (y : Result A FormatFault) (fs : List Field) → ArePlaced fs → ArePlaced (judged y fs)
-placed-judged (Ok x) fs p = p
-placed-judged (Err fault) fs p = with-fault fs p
-  where
-    with-fault : (fs : List Field) → ArePlaced fs → ArePlaced (map (λ (f : Field). record f { fault = Some fault }) fs)
-    with-fault [] p = tt
-    with-fault (f ∷ fs) p = (p.0, with-fault fs p.1)
+-- one has this fault
+abbrev pub HasFault : FormatFault → List Field → Type 0
+HasFault fault [] = ⊥
+HasFault fault (f ∷ fs) = (f.fault ≡ Some fault) ⊎ HasFault fault fs
+
+fault-left : (fault : FormatFault) (fs gs : List Field) → HasFault fault fs → HasFault fault (fs ++ gs)
+fault-left fault [] gs h = absurd h
+fault-left fault (f ∷ fs) gs (inl is) = inl is
+fault-left fault (f ∷ fs) gs (inr h) = inr (fault-left fault fs gs h)
+
+fault-right : (fault : FormatFault) (fs gs : List Field) → HasFault fault gs → HasFault fault (fs ++ gs)
+fault-right fault [] gs h = h
+fault-right fault (f ∷ fs) gs h = inr (fault-right fault fs gs h)
 
 -- ---- parts
 
--- the fields of a part under these steps are placed
+abbrev pub is_floating_fault : FormatFault → Bool
+is_floating_fault FloatingType = true
+is_floating_fault fault = false
+
+-- if reading stops, a field has its fault, which isn't that of a floating type
+abbrev pub Shows : {A : Type 0} → Outcome A → List Field → Type 0
+Shows (Ok x) fs = Unit {0}
+Shows (Err e) fs = HasFault e.0 fs × (is_floating_fault e.0 ≡ false)
+
+-- the fields of a part under these steps
 record Placed {A : Type 0} (steps : List Step) (p : Part A) : Type 0 where
-  pub of : (from : Bytes) → ArePlaced (fields steps p from)
+  pub places : (from : Bytes) → ArePlaced (fields steps p from)
+  pub faults : (from : Bytes) → Shows (run p from) (fields steps p from)
 
 placed-done : {A : Type 0} {steps : List Step} {x : A} → Placed steps (done x)
-unfolding fields
-placed-done = record { of = λ from. tt }
-
--- bytes in this place
-placed-bytes : (n : ℕ) (cut : FormatFault) (p : Place) → Placed (steps_of p) (bytes n cut)
-unfolding fields
-placed-bytes n cut p = record { of = λ from. ((p, refl), tt) }
-
-placed-decoded : {A B : Type 0} {steps : List Step} {decode : A → Result B FormatFault} {encode : B → A} {p : Part A} → Placed steps p
-    → Placed steps (decoded decode encode p)
-unfolding fields
-placed-decoded {A = A} {steps = steps} {decode = decode} {p = p} one =
-    record { of = λ from. by-outcome (run p from) (fields steps p from) (one.of from) }
-  where
-    by-outcome : (o : Outcome A) (fs : List Field) → ArePlaced fs
-        → ArePlaced (elim o as (λ o. List Field) [ Ok x ↦ judged (decode x.0) fs | Err e ↦ fs ])
-    by-outcome (Ok x) fs p = placed-judged (decode x.0) fs p
-    by-outcome (Err e) fs p = p
+unfolding fields run
+placed-done = record { places = λ from. tt; faults = λ from. tt }
 
 placed-under : {A : Type 0} {steps : List Step} (step : Step) {p : Part A} → Placed (step ∷ steps) p → Placed steps (under step p)
-unfolding fields
-placed-under step one = record { of = λ from. one.of from }
+unfolding fields run
+placed-under step one = record { places = λ from. one.places from; faults = λ from. one.faults from }
+
+shows-after : {A : Type 0} (o : Outcome A) (fs gs : List Field) → Shows o gs → Shows o (fs ++ gs)
+shows-after (Ok x) fs gs s = tt
+shows-after (Err e) fs gs s = (fault-right e.0 fs gs s.0, s.1)
+
+-- these fields of a part, and those of what follows
+abbrev fields_then : {A B : Type 0} → List Step → (A → Part B) → List Field → Outcome A → List Field
+fields_then steps next fs o = elim o [ Ok x ↦ fs ++ fields steps (next x.0) x.1 | Err e ↦ fs ]
 
 placed-chain : {A B : Type 0} {steps : List Step} {get : B → Option A} {p : Part A} {next : A → Part B} → Placed steps p
     → ((x : A) → Placed steps (next x)) → Placed steps (chain get p next)
-unfolding fields
-placed-chain {A = A} {steps = steps} {p = p} {next = next} one more =
-    record { of = λ from. by-outcome (run p from) (fields steps p from) (one.of from) }
+unfolding fields run
+placed-chain {A = A} {steps = steps} {p = p} {next = next} one more = record {
+  places = λ from. places-after (run p from) (fields steps p from) (one.places from);
+  faults = λ from. faults-after (run p from) (fields steps p from) (one.faults from);
+}
   where
-    by-outcome : (o : Outcome A) (fs : List Field) → ArePlaced fs
-        → ArePlaced (elim o as (λ o. List Field) [ Ok x ↦ fs ++ fields steps (next x.0) x.1 | Err e ↦ fs ])
-    by-outcome (Ok x) fs p = placed-both fs (fields steps (next x.0) x.1) p ((more x.0).of x.1)
-    by-outcome (Err e) fs p = p
+    places-after : (o : Outcome A) (fs : List Field) → ArePlaced fs → ArePlaced (fields_then steps next fs o)
+    places-after (Ok x) fs p = placed-both fs (fields steps (next x.0) x.1) p ((more x.0).places x.1)
+    places-after (Err e) fs p = p
+
+    faults-after : (o : Outcome A) (fs : List Field) → Shows o fs
+        → Shows (and_then o (λ x middle. run (next x) middle)) (fields_then steps next fs o)
+    faults-after (Ok x) fs s = shows-after (run (next x.0) x.1) fs (fields steps (next x.0) x.1) ((more x.0).faults x.1)
+    faults-after (Err e) fs s = s
 
 placed-each : {A : Type 0} {steps : List Step} (element : List A → Part A)
     → ((before : List A) (k : ℕ) → Placed (Item k ∷ steps) (element before)) → (n : ℕ) (before : List A) → Placed steps (each element n before)
@@ -88,42 +107,129 @@ placed-each element one (suc n) before =
 
 -- ---- one field
 
+-- this fault, if there is one, isn't that of a floating type
+abbrev NoFloat : {A : Type 0} → Result A FormatFault → Type 0
+NoFloat (Ok x) = Unit {0}
+NoFloat (Err fault) = is_floating_fault fault ≡ false
+
+abbrev NoFloatIn : {A : Type 0} → Outcome A → Type 0
+NoFloatIn (Ok x) = Unit {0}
+NoFloatIn (Err e) = is_floating_fault e.0 ≡ false
+
+-- a part that is one field, and never refused as a floating type
+record Leaf {A : Type 0} (p : Part A) : Type 0 where
+  pub size : ℕ
+  pub field : IsField size p
+  pub plain : (from : Bytes) → NoFloatIn (run p from)
+
+leaf-bytes : (n : ℕ) (cut : FormatFault) → is_floating_fault cut ≡ false → Leaf (bytes n cut)
+unfolding run
+leaf-bytes n cut is = record { size = n; field = bytes-field n cut; plain = λ from. by-test from (leb n (length from)) }
+  where
+    by-test : (from : Bytes) (b : Bool) → NoFloatIn {A = Bytes} (cond b (Ok (take n from, drop n from)) (Err (cut, [])))
+    by-test from true = tt
+    by-test from false = is
+
+leaf-decoded : {A B : Type 0} {p : Part A} (decode : A → Result B FormatFault) (encode : B → A) → ((x : A) → NoFloat (decode x)) → Leaf p
+    → Leaf (decoded decode encode p)
+unfolding run
+leaf-decoded {A = A} {B = B} {p = p} decode encode plain one = record {
+  size = one.size;
+  field = decoded-field decode encode p one.size one.field;
+  plain = λ from. after (run p from) (one.plain from);
+}
+  where
+    by-answer : (y : Result B FormatFault) (rest : Bytes) → NoFloat y → NoFloatIn (with_rest y rest)
+    by-answer (Ok z) rest is = tt
+    by-answer (Err fault) rest is = is
+
+    after : (o : Outcome A) → NoFloatIn o → NoFloatIn (and_then o (λ x rest. with_rest (decode x) rest))
+    after (Ok x) is = by-answer (decode x.0) x.1 (plain x.0)
+    after (Err e) is = is
+
+leaf-checked : {A : Type 0} {p : Part A} (test : A → Bool) (fault : FormatFault) → is_floating_fault fault ≡ false → Leaf p
+    → Leaf (checked test fault p)
+leaf-checked {A = A} test fault is one =
+    leaf-decoded (λ x. if test x then Ok x else Err fault) (λ x. x) (λ x. by-test x (test x)) one
+  where
+    by-test : (x : A) (b : Bool) → NoFloat (cond b (Ok x) (Err fault))
+    by-test x true = tt
+    by-test x false = is
+
+leaf-number : (w : Width) → Leaf (number w)
+unfolding number
+leaf-number w = leaf-decoded (λ digits. Ok (from_be_bytes w digits)) (to_be_bytes w) (λ digits. tt) (leaf-bytes (byte_len w) HeaderTruncated refl)
+
+-- a field in this place
+placed : {A : Type 0} {p : Part A} (place : Place) → Leaf p → Placed (steps_of place) p
+placed {A = A} {p = p} place one = record {
+  places = λ from. subst ArePlaced (sym (one.field (steps_of place) from)) ((place, refl), tt);
+  faults = λ from. subst (Shows (run p from)) (sym (one.field (steps_of place) from)) (shown from (run p from) (one.plain from));
+}
+  where
+    shown : (from : Bytes) (o : Outcome A) → NoFloatIn o
+        → Shows o (record { steps = steps_of place; start = from; size = one.size; fault = fault_in o } ∷ [])
+    shown from (Ok x) is = tt
+    shown from (Err e) is = (inl refl, is)
+
 abbrev at : FieldName → Owner → Place
 at n o = record { owner = o; name = n }
 
-placed-number : (w : Width) (p : Place) → Placed (steps_of p) (number w)
-unfolding number
-placed-number w p = placed-decoded (placed-bytes _ _ p)
-
-placed-count : (v : Version) (p : Place) → Placed (steps_of p) (count_part v)
+leaf-count : (v : Version) → Leaf (count_part v)
 unfolding count_part
-placed-count v p = placed-decoded (placed-number (count_width v) p)
+leaf-count v = leaf-checked (λ n. nat_lt n (count_limit v)) BadCount refl (leaf-number (count_width v))
 
-placed-offset : (v : Version) (p : Place) → Placed (steps_of p) (offset_part v)
+leaf-offset : (v : Version) → Leaf (offset_part v)
 unfolding offset_part
-placed-offset v p = placed-decoded (placed-number (offset_width v) p)
+leaf-offset v = leaf-checked (λ n. nat_lt n (offset_limit v)) BadOffset refl (leaf-number (offset_width v))
 
-placed-numrecs : (v : Version) (p : Place) → Placed (steps_of p) (numrecs_part v)
+leaf-numrecs : (v : Version) → Leaf (numrecs_part v)
 unfolding numrecs_part
-placed-numrecs v p = placed-decoded (placed-number (count_width v) p)
+leaf-numrecs v =
+    leaf-decoded (numrecs_in v) (number_of_numrecs v) (λ n. by-tests n (n == streaming_mark v) (nat_lt n (count_limit v))) (leaf-number (count_width v))
+  where
+    by-tests : (n : ℕ) (a b : Bool) → NoFloat (cond a (Ok Streaming) (cond b (Ok (Known n)) (Err BadCount)))
+    by-tests n true b = tt
+    by-tests n false true = tt
+    by-tests n false false = refl
 
-placed-dimid : (v : Version) (dims : List Dim) (before : List ℕ) (p : Place) → Placed (steps_of p) (dimid_after v dims before)
+leaf-dimid : (v : Version) (dims : List Dim) (before : List ℕ) → Leaf (dimid_after v dims before)
 unfolding dimid_part
-placed-dimid v dims before p = placed-decoded (placed-number (count_width v) p)
+leaf-dimid v dims before = leaf-checked (is_dimid dims (length before == 0)) BadShape refl (leaf-number (count_width v))
 
-placed-type : (v : Version) (p : Place) → Placed (steps_of p) (type_part lenient v)
+known-plain : {A : Type 0} (o : Option A) (fault : FormatFault) → is_floating_fault fault ≡ false → NoFloat (ok_or o fault)
+known-plain (Some x) fault is = tt
+known-plain None fault is = is
+
+leaf-type : (v : Version) → Leaf (type_part lenient v)
 unfolding type_part
-placed-type v p = placed-decoded (placed-number w32 p)
+leaf-type v =
+    leaf-decoded (sized_type_in v) code_of
+    (λ code. by-tests (code == 5) (code == 6) _ (known-plain (known_type v (type_of_code code)) BadType refl)) (leaf-number w32)
+  where
+    by-tests : (a b : Bool) (y : Result NcType FormatFault) → NoFloat y
+        → NoFloat (cond a (Ok Int) (cond b (Ok Int64) (cond (a || b) (Err FloatingType) y)))
+    by-tests true b y is = tt
+    by-tests false true y is = tt
+    by-tests false false y is = is
 
-placed-ignored : (n : ℕ) (p : Place) → Placed (steps_of p) (ignored n)
+leaf-ignored : (n : ℕ) → Leaf (ignored n)
 unfolding ignored
-placed-ignored n p = placed-decoded (placed-bytes _ _ p)
+leaf-ignored n = leaf-decoded (λ any. Ok tt) (λ nothing. replicate n 0) (λ any. tt) (leaf-bytes n HeaderTruncated refl)
+
+leaf-version : Leaf version_part
+unfolding version_part
+leaf-version =
+    leaf-decoded version_in (λ v. version_byte v ∷ [])
+    (λ byte. known-plain (version_of_byte (slice_index byte 0)) (UnknownVersion (slice_index byte 0)) refl) (leaf-bytes 1 HeaderTruncated refl)
 
 placed-magic : Placed [] magic_part
-unfolding magic_part version_part
+unfolding magic_part
 placed-magic =
-    placed-chain (placed-under Magic (placed-decoded (placed-bytes _ _ (at name.Magic owner.Header))))
-    (λ letters. placed-under VersionByte (placed-decoded (placed-bytes _ _ (at name.Version owner.Header))))
+    placed-chain
+    (placed-under Magic
+    (placed (at name.Magic owner.Header) (leaf-checked (λ letters. bytes_eq letters (codes "CDF")) NotNetcdf refl (leaf-bytes 3 NotNetcdf refl))))
+    (λ letters. placed-under VersionByte (placed (at name.Version owner.Header) leaf-version))
 
 -- ---- names and lists
 
@@ -131,9 +237,9 @@ placed-name : (v : Version) (o : Owner) → Placed (owner_steps o) (under Name (
 unfolding name_part
 placed-name v o =
     placed-under Name
-    (placed-chain (placed-under Length (placed-count v (at name.NameLength o)))
-    (λ n. placed-chain (placed-under Text (placed-decoded (placed-bytes _ _ (at name.Name o))))
-    (λ text. placed-chain (placed-under Padding (placed-ignored (padding_len n) (at name.NamePadding o)))
+    (placed-chain (placed-under Length (placed (at name.NameLength o) (leaf-count v)))
+    (λ n. placed-chain (placed-under Text (placed (at name.Name o) (leaf-checked may_be_name BadName refl (leaf-bytes n HeaderTruncated refl))))
+    (λ text. placed-chain (placed-under Padding (placed (at name.NamePadding o) (leaf-ignored (padding_len n))))
     (λ padding. placed-done))))
 
 placed-list : {A : Type 0} (v : Version) (tag : ℕ) (steps : List Step) (element : List A → Part A)
@@ -146,11 +252,11 @@ placed-list v tag steps element tags counts elements =
     (λ n. placed-each element elements n [])
 
 placed-tag : (tag : ℕ) (p : Place) → Placed (steps_of p) (checked (λ t. (t == 0) || (t == tag)) BadTag (number w32))
-placed-tag tag p = placed-decoded (placed-number w32 p)
+placed-tag tag p = placed p (leaf-checked (λ t. (t == 0) || (t == tag)) BadTag refl (leaf-number w32))
 
 placed-elements : (v : Version) (found : ℕ) (p : Place)
     → Placed (steps_of p) (checked (λ n. not (found == 0) || (n == 0)) BadCount (count_part v))
-placed-elements v found p = placed-decoded (placed-count v p)
+placed-elements v found p = placed p (leaf-checked (λ n. not (found == 0) || (n == 0)) BadCount refl (leaf-count v))
 
 -- ---- dimensions and attributes
 
@@ -160,17 +266,18 @@ placed-dims v =
     placed-list v dimension_tag (Dims ∷ []) (dim_after lenient v) (placed-tag dimension_tag (at name.DimsTag owner.Header))
     (λ found. placed-elements v found (at name.DimsCount owner.Header))
     (λ before i. placed-chain (placed-name v (owner.Dim i))
-    (λ text. placed-chain (placed-under Length (placed-decoded (placed-count v (at name.Length (owner.Dim i)))))
+    (λ text. placed-chain (placed-under Length
+    (placed (at name.Length (owner.Dim i)) (leaf-checked (λ len. not (has_record_dim before && (len == 0))) TwoRecordDims refl (leaf-count v))))
     (λ len. placed-done)))
 
 placed-att : (v : Version) (o : Owner) → Placed (owner_steps o) (att_part lenient v)
 unfolding att_part
 placed-att v o =
     placed-chain (placed-name v o)
-    (λ text. placed-chain (placed-under TypeCode (placed-type v (at name.Type o)))
-    (λ ty. placed-chain (placed-under Count (placed-count v (at name.Count o)))
-    (λ n. placed-chain (placed-under Values (placed-bytes (n * size_of ty) _ (at name.Values o)))
-    (λ vals. placed-chain (placed-under Padding (placed-ignored (padding_len (length vals)) (at name.Padding o)))
+    (λ text. placed-chain (placed-under TypeCode (placed (at name.Type o) (leaf-type v)))
+    (λ ty. placed-chain (placed-under Count (placed (at name.Count o) (leaf-count v)))
+    (λ n. placed-chain (placed-under Values (placed (at name.Values o) (leaf-bytes (n * size_of ty) HeaderTruncated refl)))
+    (λ vals. placed-chain (placed-under Padding (placed (at name.Padding o) (leaf-ignored (padding_len (length vals)))))
     (λ padding. placed-done)))))
 
 placed-global_atts : (v : Version) → Placed (Gatts ∷ []) (att_list lenient v)
@@ -190,8 +297,8 @@ placed-var_atts v i =
 placed-shape : (v : Version) (dims : List Dim) (i : ℕ) → Placed (Shape ∷ Item i ∷ Vars ∷ []) (shape_part v dims)
 unfolding shape_part counted
 placed-shape v dims i =
-    placed-chain (placed-under Count (placed-count v (at name.Rank (owner.Var i))))
-    (λ n. placed-each (dimid_after v dims) (λ before k. placed-dimid v dims before (at (name.DimId k) (owner.Var i))) n [])
+    placed-chain (placed-under Count (placed (at name.Rank (owner.Var i)) (leaf-count v)))
+    (λ n. placed-each (dimid_after v dims) (λ before k. placed (at (name.DimId k) (owner.Var i)) (leaf-dimid v dims before)) n [])
 
 placed-var : (v : Version) (dims : List Dim) (total i : ℕ) → Placed (Item i ∷ Vars ∷ []) (var_part lenient v dims total)
 unfolding var_part
@@ -199,9 +306,10 @@ placed-var v dims total i =
     placed-chain (placed-name v (owner.Var i))
     (λ text. placed-chain (placed-under Shape (placed-shape v dims i))
     (λ dimids. placed-chain (placed-under Atts (placed-var_atts v i))
-    (λ atts. placed-chain (placed-under TypeCode (placed-decoded (placed-type v (at name.Type (owner.Var i)))))
-    (λ ty. placed-chain (placed-under Vsize (placed-number (count_width v) (at name.Vsize (owner.Var i))))
-    (λ vsize. placed-chain (placed-under Begin (placed-offset v (at name.Begin (owner.Var i))))
+    (λ atts. placed-chain (placed-under TypeCode
+    (placed (at name.Type (owner.Var i)) (leaf-checked (is_within_limits dims total dimids) TooLarge refl (leaf-type v))))
+    (λ ty. placed-chain (placed-under Vsize (placed (at name.Vsize (owner.Var i)) (leaf-number (count_width v))))
+    (λ vsize. placed-chain (placed-under Begin (placed (at name.Begin (owner.Var i)) (leaf-offset v)))
     (λ begin. placed-done))))))
 
 placed-vars : (v : Version) (dims : List Dim) → Placed (Vars ∷ []) (var_list lenient v dims)
@@ -212,15 +320,18 @@ placed-vars v dims =
 
 -- ---- the whole
 
-pub placed-header : (from : Bytes) → ArePlaced (fields [] (header_by lenient) from)
+whole-header : Placed [] (header_by lenient)
 unfolding header_by
-placed-header = whole.of
-  where
-    whole : Placed [] (header_by lenient)
-    whole =
-        placed-chain placed-magic
-        (λ v. placed-chain (placed-under Records (placed-numrecs v (at name.NumRecs owner.Header)))
-        (λ numrecs. placed-chain (placed-under Dims (placed-dims v))
-        (λ dims. placed-chain (placed-under Gatts (placed-global_atts v))
-        (λ gatts. placed-chain (placed-under Vars (placed-vars v dims))
-        (λ vars. placed-done)))))
+whole-header =
+    placed-chain placed-magic
+    (λ v. placed-chain (placed-under Records (placed (at name.NumRecs owner.Header) (leaf-numrecs v)))
+    (λ numrecs. placed-chain (placed-under Dims (placed-dims v))
+    (λ dims. placed-chain (placed-under Gatts (placed-global_atts v))
+    (λ gatts. placed-chain (placed-under Vars (placed-vars v dims))
+    (λ vars. placed-done)))))
+
+pub placed-header : (from : Bytes) → ArePlaced (fields [] (header_by lenient) from)
+placed-header = whole-header.places
+
+pub shown-faults : (from : Bytes) → Shows (run (header_by lenient) from) (fields [] (header_by lenient) from)
+shown-faults = whole-header.faults

@@ -40,17 +40,17 @@ pub record Finds (found : List Finding) (fault : FormatFault) (offset : ℕ) : T
   pub is : finding.fact ≡ Fault fault
   pub at : finding.offset ≡ offset
 
-finds-left : {fault : FormatFault} {offset : ℕ} (xs ys : List Finding) → Finds xs fault offset → Finds (xs ++ ys) fault offset
+pub finds-left : {fault : FormatFault} {offset : ℕ} (xs ys : List Finding) → Finds xs fault offset → Finds (xs ++ ys) fault offset
 finds-left xs ys f = record { finding = f.finding; has = Contains-append_left xs ys f.finding f.has; is = f.is; at = f.at }
 
-finds-right : {fault : FormatFault} {offset : ℕ} (xs ys : List Finding) → Finds ys fault offset → Finds (xs ++ ys) fault offset
+pub finds-right : {fault : FormatFault} {offset : ℕ} (xs ys : List Finding) → Finds ys fault offset → Finds (xs ++ ys) fault offset
 finds-right xs ys f = record { finding = f.finding; has = Contains-append_right xs ys f.finding f.has; is = f.is; at = f.at }
 
 finds-here : (i : Indexed) (fault : FormatFault) (others : List Finding) → Finds (finding i (Fault fault) ∷ others) fault i.entry.offset
 finds-here i fault others =
     record { finding = finding i (Fault fault); has = contains-first (finding i (Fault fault)) others; is = refl; at = refl }
 
-finds-map : (f : Indexed) (facts : List Fact) (fault : FormatFault) → Contains facts (Fault fault)
+pub finds-map : (f : Indexed) (facts : List Fact) (fault : FormatFault) → Contains facts (Fault fault)
     → Finds (map (finding f) facts) fault f.entry.offset
 finds-map f [] fault (k, lt, is) = absurd (omega arith)
 finds-map f (fact ∷ facts) fault (zero, lt, is) =
@@ -98,7 +98,7 @@ finds-shown len es fault rest r (inr (is, same)) =
     (finds-floating 0 r.front r.entry r.back (λ x has. All-contains (λ (e : Entry). refusal_of e ≡ None) r.front x r.before has) is)))
 
 -- of all findings
-finds-among_all : (l : Listing) (fault : FormatFault) (offset : ℕ)
+pub finds-among_all : (l : Listing) (fault : FormatFault) (offset : ℕ)
     → Finds (field_findings (indexed l.entries) ++ floating_findings (indexed l.entries)) fault offset → Finds (all_findings l) fault offset
 unfolding all_findings header_findings
 finds-among_all l fault offset f =

@@ -96,17 +96,16 @@ none-after : (test : Fact → Bool) (xs ys : List Finding) → has_any test (xs 
 none-after test xs ys none =
     (neither (has_any test xs) (has_any test ys) (sym (list_any-append (λ (f : Finding). test f.fact) xs ys) ∙ none)).1
 
-listing-finds-none : (kind : LayoutFact → Bool) (l : Listing) (h : Header) → l.header ≡ Ok (without_values h)
+pub listing-finds-none : (kind : LayoutFact → Bool) (l : Listing) (h : Header) → l.header ≡ Ok h
     → has_any (is_of_layout kind) (all_findings l) ≡ false → FindsNone kind (layout_of h l.end l.file_len)
 unfolding all_findings
 listing-finds-none kind l h same none =
     let fs = indexed l.entries in
-    let layout = layout_of (without_values h) l.end l.file_len in
+    let layout = layout_of h l.end l.file_len in
     let whole = none-after (is_of_layout kind) (header_findings l.entries) (whole_findings l) none in
-    let facts = subst (λ findings. has_any (is_of_layout kind) findings ≡ false) (whole-header l (without_values h) same) whole in
+    let facts = subst (λ findings. has_any (is_of_layout kind) findings ≡ false) (whole-header l h same) whole in
     let located = none-after (is_of_layout kind) (vsize_findings layout fs) (map (located fs) (layout_findings layout)) facts in
-    subst (FindsNone kind) (same-layout h l.end l.file_len)
-    (sym (all-located (is_of_layout kind) kind (λ x. refl) fs (layout_findings layout)) ∙ located)
+    sym (all-located (is_of_layout kind) kind (λ x. refl) fs (layout_findings layout)) ∙ located
 
 -- where the bytes end
 pub same-end : (a b n len : ℕ) → a + n ≡ len → b + n ≡ len → a ≡ b
@@ -123,4 +122,5 @@ report-finds-none kind bytes r h rest header_end report spelled ends none =
     let at = subst (λ rest. l.end + length rest ≡ length bytes) read.1 report.listing.end in
     let found = list_any-IsPermutation (λ (f : Finding). is_of_layout kind f.fact) (all_findings l) r.findings report.all ∙ none in
     subst (λ end. FindsNone kind (layout_of h end (length bytes))) (same-end l.end header_end (length rest) (length bytes) at ends)
-    (subst (λ n. FindsNone kind (layout_of h l.end n)) report.listing.file_len (listing-finds-none kind l h read.0 found))
+    (subst (λ n. FindsNone kind (layout_of h l.end n)) report.listing.file_len
+    (subst (FindsNone kind) (same-layout h l.end l.file_len) (listing-finds-none kind l (without_values h) read.0 found)))

@@ -23,6 +23,7 @@ pub mod CanonicalReports
 pub mod EntryPlaces
 pub mod FieldPlaces
 pub mod OneListing
+pub mod ListedValues
 pub mod SameFindings
 pub mod Sorted
 pub mod OneReport

@@ -37,7 +37,7 @@ use Rattle.check_laws.proofs.LayoutFacts.{all-located, is-read, whole-header, sa
 use Rattle.check_laws.proofs.QuietRules.{is_layout, Plain, plain-names, plain-attributes, plain-vsizes}
 
 -- the finding is that values are missing
-abbrev tells_missing : Finding → Bool
+abbrev pub tells_missing : Finding → Bool
 tells_missing f = is_missing f.fact
 
 -- ---- findings of other facts
@@ -117,14 +117,13 @@ layout-tells layout fs =
 
 -- ---- the law
 
-listing-tells : (l : Listing) (h : Header) → l.header ≡ Ok (without_values h)
+pub listing-tells : (l : Listing) (h : Header) → l.header ≡ Ok h
     → list_any tells_missing (all_findings l) ≡ finds is_of_missing (layout_of h l.end l.file_len)
 unfolding all_findings
 listing-tells l h same =
     after-others (header_findings l.entries) (whole_findings l) (other-header l.entries)
-    ∙ ap (list_any tells_missing) (whole-header l (without_values h) same)
-    ∙ layout-tells (layout_of (without_values h) l.end l.file_len) (indexed l.entries)
-    ∙ ap (finds is_of_missing) (same-layout h l.end l.file_len)
+    ∙ ap (list_any tells_missing) (whole-header l h same)
+    ∙ layout-tells (layout_of h l.end l.file_len) (indexed l.entries)
 
 pub missing-told : ReportsTellMissingValues
 missing-told bytes r h rest report spelled =
@@ -133,6 +132,7 @@ missing-told bytes r h rest report spelled =
     (reads (header_by lenient) bytes (without_values h) rest (strict-headers bytes h rest spelled).0) in
     let ends = subst (λ rest. l.end + length rest ≡ length bytes) read.1 report.listing.end in
     sym (list_any-IsPermutation tells_missing (all_findings l) r.findings report.all)
-    ∙ listing-tells l h read.0
+    ∙ listing-tells l (without_values h) read.0
+    ∙ ap (finds is_of_missing) (same-layout h l.end l.file_len)
     ∙ ap (λ n. finds is_of_missing (layout_of h l.end n)) report.listing.file_len
     ∙ missing-found h bytes l.end (spelled-layout strict bytes h rest l.end spelled ends)

@@ -1,30 +1,19 @@
--- A file has its slabs apart if nothing is found in it that lets slabs share bytes. It has the header and the length of a generated file if
--- no fault is found, and nothing about the spelling, at begins and at its end.
+-- A file has the header and the length of a generated file if no fault is found, and nothing about the spelling, at begins and at its end.
 use Rattle.std.proofs.Common.{◌≡◌, ◌+◌, ◌++◌, length, sym, ap, ◌∙◌, length-append}
 use Rattle.nc_base.specs.declared.{header.Header.Header}
 use Rattle.nc_base.specs.Bytes.{Bytes}
 use Rattle.nc_base.specs.Grammar.{SpellsHeader, strict, header_spelling}
-use Rattle.layout_laws.specs.Laws.{is_of_begin, is_of_end, is_of_shared_bytes}
+use Rattle.layout_laws.specs.Laws.{is_of_begin, is_of_end}
 use Rattle.nc_layout.specs.HeaderLayout.{layout_of}
 use Rattle.layout_laws.proofs.CanonicalBegins.{quiet-begins}
 use Rattle.layout_laws.proofs.GeneratedBegins.{canonical-generated}
 use Rattle.layout_laws.proofs.GeneratedLength.{quiet-generated}
-use Rattle.layout_laws.proofs.SlabsApart.{quiet-apart}
 use Rattle.nc_layout.proofs.SpelledLayouts.{spelled-layout}
 use Rattle.nc_check.specs.declared.{report.Report.Report}
 use Rattle.nc_check.specs.Reports.{IsReport}
-use Rattle.check_laws.specs.Laws.{HasQuietLayout, IsAsGenerated, QuietFilesAreCanonical, QuietReportsHaveSlabsApart}
+use Rattle.check_laws.specs.Laws.{HasQuietLayout, IsAsGenerated, QuietFilesAreCanonical}
 use Rattle.check_laws.proofs.LayoutFacts.{report-finds-none}
 use Rattle.check_laws.proofs.QuietHeaders.{quiet-headers}
-
--- ---- slabs
-
-pub quiet-slabs : QuietReportsHaveSlabsApart
-quiet-slabs bytes r h rest header_end report spelled ends none =
-    quiet-apart (layout_of h header_end (length bytes))
-    (report-finds-none is_of_shared_bytes bytes r h rest header_end report spelled ends none)
-
--- ---- files
 
 -- a header that is spelled as it is written ends after its spelling
 written-end : (bytes : Bytes) (h : Header) (rest : Bytes) → bytes ≡ header_spelling h ++ rest

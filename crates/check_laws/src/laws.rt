@@ -4,7 +4,8 @@ ghost use Rattle.check_laws.specs.Agreement.{StrictHeadersAreLenient, LenientHea
 ghost use Rattle.check_laws.specs.Written.{WrittenFieldsAreCanonical, CanonicalFieldsAreWritten};
 ghost use Rattle.check_laws.specs.FaultLaws.{FaultlessHeadersAreReadable, FirstFaultIsReaders, ReportsTellMissingValues};
 ghost use Rattle.check_laws.specs.Laws.{QuietSpellingsAreCanonical, CanonicalSpellingsAreQuiet, QuietHeadersAreCanonical};
-ghost use Rattle.check_laws.specs.Laws.{QuietFilesAreCanonical, QuietReportsHaveSlabsApart};
+ghost use Rattle.check_laws.specs.Laws.{QuietFilesAreCanonical};
+ghost use Rattle.check_laws.specs.ErrorLaws.{ListedHeadersTellMissingValues, ListedHeadersHaveSlabsApart, ReportsWithoutErrorsHaveValues};
 ghost use Rattle.check_laws.specs.Laws.{WholeFilesHoldDatasets, GeneratedFilesAreFoundWhole};
 ghost use Rattle.check_laws.specs.Laws.{GeneratedFilesHaveQuietLayouts, GeneratedFilesHaveQuietSpellings};
 ghost use Rattle.check_laws.specs.OneReport.{EachFileHasReport, ReportsAreOne};
@@ -80,11 +81,20 @@ pub fn quiet_headers_are_canonical()
     ensures files { QuietFilesAreCanonical }
 {}
 
-/// States a law, and does nothing: if `nc_file::read_header` can read the header of a file, and its report has no variable that begins
-/// inside of the header, no block that begins before the values of an earlier one end, and no record variable out of its place in the
-/// record, then no byte of the file lies in two slabs, or in a slab and the header.
-pub fn quiet_reports_have_slabs_apart()
-    ensures { QuietReportsHaveSlabsApart }
+/// States three laws of the report of a file, and does nothing. They hold whatever the types of the variables are, floating types included.
+///
+/// `missing`: if the header is listed to its end, then a finding is that values are missing exactly if some value that the header declares
+/// isn't in the file.
+///
+/// `apart`: if, then, no variable begins inside of the header, no block begins before the values of an earlier one end, and no record variable
+/// is out of its place in the record, then no value shares a byte with another one or with the header.
+///
+/// `values`: so if no finding is an error ([`Severity::Error`](nc_check::Severity::Error)), the header is listed to its end, each value that it
+/// declares is in the file, and none shares a byte with another one or with the header.
+pub fn reports_without_errors_have_values()
+    ensures missing { ListedHeadersTellMissingValues }
+    ensures apart { ListedHeadersHaveSlabsApart }
+    ensures values { ReportsWithoutErrorsHaveValues }
 {}
 
 /// States two laws, and does nothing. `holds`: the report of a file has no fault, and doesn't find values to be missing, exactly if the

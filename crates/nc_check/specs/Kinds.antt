@@ -57,8 +57,8 @@ kind_of (fact.Layout fact) = kind_of_layout fact
 
 -- ---- of kinds
 
--- Reading stops at an error, or values are missing. The specification forbids a violation, which can be read all the same. A note is legal,
--- but odd.
+-- An error: values can't be had, or can't be trusted. Reading of the header stops, values aren't in the file, or netCDF-C refuses to open it.
+-- A violation breaks a rule of the format or a limit of netCDF-C, but each value can be had. A note is legal or without any effect, but odd.
 abbrev pub severity_of : Kind → Severity
 severity_of NotNetcdf = Error
 severity_of UnknownVersion = Error
@@ -76,23 +76,23 @@ severity_of Streaming = Note
 severity_of UnusedRecords = Note
 severity_of RecordCount = Violation
 severity_of EmptyList = Note
-severity_of LongName = Note
+severity_of LongName = Violation
 severity_of DuplicateName = Violation
 severity_of NotNfc = Violation
 severity_of Padding = Violation
 severity_of EmptyAttribute = Note
 severity_of TrailingNul = Note
 severity_of FillValue = Violation
-severity_of HighRank = Note
-severity_of Vsize = Violation
-severity_of LargeVariable = Violation
-severity_of BeginInHeader = Violation
-severity_of Overlap = Violation
-severity_of Unpadded = Violation
-severity_of Order = Violation
-severity_of AfterRecords = Violation
-severity_of RecordPlace = Violation
+severity_of HighRank = Violation
+severity_of Vsize = Note
+severity_of LargeVariable = Error
+severity_of BeginInHeader = Error
+severity_of Overlap = Error
+severity_of Unpadded = Error
+severity_of Order = Error
+severity_of AfterRecords = Error
+severity_of RecordPlace = Error
 severity_of Gap = Note
 severity_of Missing = Error
-severity_of EndPadding = Violation
+severity_of EndPadding = Note
 severity_of Trailing = Violation

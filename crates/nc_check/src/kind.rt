@@ -10,11 +10,11 @@ use nc_layout::LayoutFact;
 /// How grave a finding is.
 #[derive(Clone, Copy, Debug, PartialEq, Eq)]
 pub enum Severity {
-    /// The file is legal, but odd.
+    /// It is legal, or has no effect, but is odd.
     Note,
-    /// The NetCDF Classic Format Specification forbids it, but the file can be read.
+    /// It breaks the NetCDF Classic Format Specification, or a limit of netCDF-C, but each value can be had.
     Violation,
-    /// Reading stops here, or values are missing.
+    /// Values can't be had, or can't be trusted: reading the header stops here, values aren't in the file, or netCDF-C refuses to open it.
     Error,
 }
 
@@ -105,24 +105,20 @@ impl Kind {
             | Kind::Streaming
             | Kind::UnusedRecords
             | Kind::EmptyList
-            | Kind::LongName
             | Kind::EmptyAttribute
             | Kind::TrailingNul
+            | Kind::Vsize
+            | Kind::Gap
+            | Kind::EndPadding => Severity::Note,
+            Kind::RecordCount
+            | Kind::LongName
+            | Kind::DuplicateName
+            | Kind::NotNfc
+            | Kind::Padding
+            | Kind::FillValue
             | Kind::HighRank
-            | Kind::Gap => Severity::Note,
-            Kind::NotNetcdf
-            | Kind::UnknownVersion
-            | Kind::HeaderTruncated
-            | Kind::BadTag
-            | Kind::BadCount
-            | Kind::BadName
-            | Kind::BadType
-            | Kind::BadShape
-            | Kind::TwoRecordDims
-            | Kind::TooLarge
-            | Kind::BadOffset
-            | Kind::Missing => Severity::Error,
-            _ => Severity::Violation,
+            | Kind::Trailing => Severity::Violation,
+            _ => Severity::Error,
         }
     }
 }
