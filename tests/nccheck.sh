@@ -34,7 +34,7 @@ for words in '' '-x cut.nc' '-l bad cut.nc' '-l' '-l note -l error cut.nc'; do
     run "$nccheck" $words
     verdict "usage_of${words:+_}${words// /_}" 2
 done
-stderr 'nccheck: write failed\n'
+stderr 'nccheck: cut.nc: write failed\nnccheck: write failed\n'
 run bash -c '"$0" cut.nc >/dev/full' "$nccheck"
 verdict full_device 2
 
@@ -51,6 +51,11 @@ mkdir many
 for n in {1..1000}; do cp cut.nc "many/$n.nc"; done
 run bash -c 'ulimit -v 20000 && "$0" -q many/*.nc' "$nccheck"
 verdict many_files 1
+
+# Lines of processes that share a pipe don't mix: each of the lines stands whole, 50 times.
+run bash -c 'for n in {1..50}; do ls many/*; done | xargs -n 200 -P 4 "$0" | grep -cvxE "many/[0-9]+\.nc:500: error: missing: .* 504"' "$nccheck"
+stdout '0\n'
+verdict lines_of_processes_that_share_a_pipe 1
 
 # A file of the system is given back: more files than may be open at a time.
 run bash -c 'ulimit -n 16 && "$0" -q many/*.nc' "$nccheck"

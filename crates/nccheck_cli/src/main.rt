@@ -4,23 +4,21 @@
 //! 1 if something was, and 2 after trouble.
 //!
 //! [`nccheck::run_with`] does all of this. This crate gives it the words of the command line, the files of the system, and the standard
-//! streams through buffers.
+//! streams through buffers of a line.
 #![tactic(auto)]
 
 use cli_base::OptFault;
 use devices::{DirectFiles, Flush, IoSink};
 use nccheck::{put_command_line_fault, run_with};
 use std::fs::File;
-use std::io::{BufWriter, Write};
+use std::io::{LineWriter, Write};
 use std::process::ExitCode;
 use std::rt::{Env, Files};
 use std::{env, io};
 
-/// The capacity, in bytes, of the buffer between the lines and standard output.
-const LINES_HELD_BACK: usize = 65536;
-
-/// The capacity, in bytes, of the buffer before standard error. Lines that fit in the buffer are passed on in one write.
-const TROUBLE_HELD_BACK: usize = 4096;
+/// The capacity, in bytes, of the buffers before standard output and standard error. A line that fits is passed on in one write, at its end:
+/// a pipe takes as many bytes in one piece, so that lines of several processes don't mix in it.
+const LINE_HELD_BACK: usize = 4096;
 
 /// The exit status after trouble.
 const TROUBLE: u8 = 2;
@@ -48,8 +46,8 @@ fn run_words<R: Env + Files<File = File> + Print + AllocGlobal, E: Write + Drop>
     let arguments: Vec<String> = env::args(rt)?.collect(alloc)?;
     let words: Vec<&str> = arguments.iter().map(|word| word.as_str()).collect(alloc)?;
     let mut files = DirectFiles::new(rt);
-    let mut out = IoSink::new(BufWriter::with_capacity(alloc, LINES_HELD_BACK, io::writer(rt))?);
-    let mut err = IoSink::new(BufWriter::with_capacity(alloc, TROUBLE_HELD_BACK, stderr)?);
+    let mut out = IoSink::new(LineWriter::with_capacity(alloc, LINE_HELD_BACK, io::writer(rt))?);
+    let mut err = IoSink::new(LineWriter::with_capacity(alloc, LINE_HELD_BACK, stderr)?);
     let status = run_with(&mut files, alloc, words.as_slice(), &mut out, &mut err);
     let _ = err.flush();
     Ok(status)
