@@ -16,6 +16,9 @@ fn names_are_escaped(rt: HostRuntime) {
         ("x", "x"),
         ("a.b", "a.b"),
         ("-x", "\\-x"),
+        (".x", "\\.x"),
+        ("@x", "\\@x"),
+        ("+x", "\\+x"),
         ("naïve", "naïve"),
         ("int64", "\\int64"),
         ("", ""),
@@ -69,6 +72,11 @@ fn values_of_attributes_are_listed(rt: HostRuntime) -> Result<(), Fail> {
             NcType::Char,
             "\t\"\\\x7f\u{c3}\u{a9}\0\0",
             "\"\\t\\\"\\\\\\177\u{c3}\u{a9}\"",
+        ),
+        (
+            NcType::Char,
+            "\x08\x0c\r\t\x0b\\'\"\x01\x1f\x7f",
+            "\"\\b\\f\\r\\t\\v\\\\\\'\\\"\\001\\037\\177\"",
         ),
         // more plain characters than are written at once, and one that is escaped
         (

@@ -66,6 +66,7 @@ fn names_and_stems_keep_their_rules(rt: HostRuntime) {
         (b"2b", true),
         (b"a b", true),
         (b"na\xc3\xafve", true),
+        (b"\xc3\xa9", true),
         (b"a-b+c@d.e", true),
         (b"", false),
         (b"a/b", false),
