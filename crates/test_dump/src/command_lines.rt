@@ -1,7 +1,7 @@
 //! Runs of the program on a file in memory: what the words ask for, and what is answered.
 
 use devices::{MemFile, MemFiles, SliceSink};
-use ncdump::{command, options_of, run_with};
+use ncdump::{DumpOptions, command, options_of, run_with};
 use std::alloc::Global;
 use std::process::Abort;
 use std::test::Fail;
@@ -216,6 +216,8 @@ const FAULTS: &[Run<'static>] = &[
 const CHANGED: &[(usize, &[u8], &[u8])] = &[
     (0, b"D", b"ncdump: t.nc: not a netCDF classic file\n"),
     (3, b"\x03", b"ncdump: t.nc: unknown version 3\n"),
+    (3, b"\x05", b"ncdump: t.nc: bad tag\n"),
+    (3, b"\x06", b"ncdump: t.nc: unknown version 6\n"),
     (4, b"\x80", b"ncdump: t.nc: bad count\n"),
     (11, b"\x0b", b"ncdump: t.nc: bad tag\n"),
     (11, b"\0", b"ncdump: t.nc: bad count\n"),
@@ -284,21 +286,36 @@ fn long_command_lines(rt: HostRuntime) -> Result<(), Fail> {
     Ok(())
 }
 
+/// Returns true if these names are chosen, or all if there are none.
+fn are_chosen(options: &DumpOptions, names: &[&[u8]]) -> bool {
+    match &options.chosen {
+        Some(chosen) => chosen
+            .as_slice()
+            .iter()
+            .map(|name| name.as_slice())
+            .eq(names.iter().copied()),
+        None => names.is_empty(),
+    }
+}
+
 #[test]
-fn widths_and_stems(rt: HostRuntime) -> Result<(), Fail> {
-    const ROWS: &[(&str, usize, &[u8])] = &[
-        ("ncdump -l 20 dir/a.b.nc", 20, b"a.b"),
-        ("ncdump -l 0080 dir/a.b.nc", 80, b"a.b"),
-        ("ncdump -l 1000 .nc", 1000, b".nc"),
-        ("ncdump dir/a.b.nc", 80, b"a.b"),
-        ("ncdump -n c.d.nc dir/a.b.nc", 80, b"c.d.nc"),
+fn widths_and_names(rt: HostRuntime) -> Result<(), Fail> {
+    // words, the width of lines, the name of the dataset, and those of variables
+    const ROWS: &[(&str, usize, &[u8], &[&[u8]])] = &[
+        ("ncdump -l 20 dir/a.b.nc", 20, b"a.b", &[]),
+        ("ncdump -l 0080 dir/a.b.nc", 80, b"a.b", &[]),
+        ("ncdump -l 1000 .nc", 1000, b".nc", &[]),
+        ("ncdump dir/a.b.nc", 80, b"a.b", &[]),
+        ("ncdump -n c.d.nc dir/a.b.nc", 80, b"c.d.nc", &[]),
+        ("ncdump -v a,,b t.nc", 80, b"t", &[b"a", b"", b"b"]),
     ];
-    for (words, width, name) in ROWS {
+    for (words, width, name, chosen) in ROWS {
         let words = words_of(rt.alloc(), *words)?;
         let command = command(rt.alloc())?;
         let matches = command.try_get_matches_from(words.as_slice())?;
         let options = options_of(rt.alloc(), &matches)?;
         assert!(rt; options.width == *width && options.name.as_slice() == *name);
+        assert!(rt; are_chosen(&options, *chosen), "{chosen:?}");
     }
     Ok(())
 }

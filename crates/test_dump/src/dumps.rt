@@ -102,6 +102,13 @@ const SELECTIONS: &[DumpRow<'static>] = &[
         ..WHOLE
     },
     DumpRow {
+        about: "the head of a byte",
+        bytes: test_files::LOW_BYTE,
+        head_only: true,
+        text: b"netcdf t {\nvariables:\n\tbyte b ;\n}\n",
+        ..WHOLE
+    },
+    DumpRow {
         about: "the head of a fill value of bytes",
         bytes: test_files::FILL_OF_BYTES,
         head_only: true,

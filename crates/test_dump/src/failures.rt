@@ -10,17 +10,74 @@ use std::alloc::Global;
 use std::process::Abort;
 use std::test::Fail;
 
-/// A dump, and how many bytes its header, its values and the longest of its values have.
-type Row = (DumpRow<'static>, u128, u128, u128);
+/// Where a dump is between two values, or before or after all of a variable: the text that is still to come, and how many bytes of values
+/// have been read. NULs that wait for the character after them have been read.
+type Stop = (&'static [u8], u128);
+
+/// A dump, how many bytes its header has, and its stops on the way to its end.
+type Row = (DumpRow<'static>, u128, &'static [Stop]);
+
+/// The stops in a list of three shorts.
+const SHORTS: &[Stop] = &[
+    (b" 1, _, 3 ;\n}\n", 0),
+    (b", _, 3 ;\n}\n", 2),
+    (b", 3 ;\n}\n", 4),
+    (b" ;\n}\n", 6),
+];
+
+/// The stops in rows of eight ints.
+const INTS: &[Stop] = &[
+    (b"\n  1, 2,\n  3, 4,\n  5, 6,\n  7, 8 ;\n}\n", 0),
+    (b", 2,\n  3, 4,\n  5, 6,\n  7, 8 ;\n}\n", 4),
+    (b",\n  3, 4,\n  5, 6,\n  7, 8 ;\n}\n", 8),
+    (b", 4,\n  5, 6,\n  7, 8 ;\n}\n", 12),
+    (b",\n  5, 6,\n  7, 8 ;\n}\n", 16),
+    (b", 6,\n  7, 8 ;\n}\n", 20),
+    (b",\n  7, 8 ;\n}\n", 24),
+    (b", 8 ;\n}\n", 28),
+    (b" ;\n}\n", 32),
+];
+
+/// The stops in a list of three bytes, and in one of three shorts after it.
+const RECORDS: &[Stop] = &[
+    (b" 1, 2, 3 ;\n\n s = 4, 5, 6 ;\n}\n", 0),
+    (b", 2, 3 ;\n\n s = 4, 5, 6 ;\n}\n", 1),
+    (b", 3 ;\n\n s = 4, 5, 6 ;\n}\n", 2),
+    (b" ;\n\n s = 4, 5, 6 ;\n}\n", 3),
+    (b" 4, 5, 6 ;\n}\n", 3),
+    (b", 5, 6 ;\n}\n", 5),
+    (b", 6 ;\n}\n", 7),
+    (b" ;\n}\n", 9),
+];
+
+/// The stops in five characters, the third and fourth of them NULs.
+const NULS: &[Stop] = &[
+    (b" \"a\\000\\000b\" ;\n}\n", 0),
+    (b"\\000\\000b\" ;\n}\n", 3),
+    (b"\" ;\n}\n", 5),
+];
+
+/// The stops in twenty characters, all NULs but the first and the last.
+const MANY_NULS: &[Stop] = &[
+    (
+        b" \"a\\000\\000\\000\\000\\000\\000\\000\\000\\000\\000\\000\\000\\000\\000\\000\\000\\000\\000b\" ;\n}\n",
+        0,
+    ),
+    (
+        b"\\000\\000\\000\\000\\000\\000\\000\\000\\000\\000\\000\\000\\000\\000\\000\\000\\000\\000b\" ;\n}\n",
+        19,
+    ),
+    (b"\" ;\n}\n", 20),
+];
 
 /// Dumps whose every call fails in turn.
 const ROWS: &[Row] = &[
-    (ONE_VARIABLE, 80, 6, 2),
-    (ONE_VARIABLE_CDF5, 128, 6, 2),
-    (SELECTION, 180, 32, 4),
-    (PADDED_RECORDS, 116, 9, 2),
-    (HELD_NULS, 80, 5, 1),
-    (MANY_HELD_NULS, 80, 20, 1),
+    (ONE_VARIABLE, 80, SHORTS),
+    (ONE_VARIABLE_CDF5, 128, SHORTS),
+    (SELECTION, 180, INTS),
+    (PADDED_RECORDS, 116, RECORDS),
+    (HELD_NULS, 80, NULS),
+    (MANY_HELD_NULS, 80, MANY_NULS),
 ];
 
 /// A row with its options and its text, and how many bytes each call of a device takes or gives at most.
@@ -32,42 +89,63 @@ struct Tried<'a> {
     step: usize,
 }
 
-/// Returns true if a dump through a buffer of 16 bytes may have read so many bytes: the header, a buffer, and the values; or if it has
-/// failed, the header, two buffers, and the values that were written.
-fn may_have_read(row: &Row, answer: Result<(), DumpFault>, written: &[u8], handed: u128) -> bool {
-    let (dump, header_len, values_len, value_len) = *row;
-    let values = written.get(dump.head.len()..).unwrap_or(b"");
-    let count = values
-        .iter()
-        .filter(|byte| is_part_of_value(**byte))
-        .count() as u128;
-    let most = match answer {
-        Ok(()) => 16u128.saturating_add(values_len),
-        Err(_) => 32u128.saturating_add(value_len.saturating_mul(count)),
-    };
-    handed <= header_len.saturating_add(most)
-}
+impl Tried<'_> {
+    /// How many bytes a header takes at most through a buffer of 16 bytes.
+    fn header_read(&self) -> u128 {
+        self.row.1.saturating_add(16)
+    }
 
-/// Returns true if a value may be written with this byte. Each value has one at least, but for NULs at the end of a row.
-fn is_part_of_value(byte: u8) -> bool {
-    byte.is_ascii_alphanumeric() || byte == b'_'
-}
+    /// How many bytes a dump reads at most: the header, a buffer, and the values.
+    fn most_read(&self) -> u128 {
+        let values = self.row.2.last().map_or(0, |stop| stop.1);
+        self.header_read().saturating_add(values)
+    }
 
-/// Returns true if the whole text was written and the answer is success, or a prefix of it and the answer is this fault.
-fn has_written(
-    written: &[u8],
-    text: &[u8],
-    answer: Result<(), DumpFault>,
-    fault: DumpFault,
-) -> bool {
-    match answer {
-        Ok(()) => written == text,
-        Err(found) => found == fault && text.starts_with(written),
+    /// Returns true if reading may fail after `written` bytes of the text: before the first of them, or at a stop, with no more read than the
+    /// values before it and another buffer.
+    fn may_stop_reading(&self, written: usize, handed: u128) -> bool {
+        let most = self.header_read().saturating_add(16);
+        let is_here = |stop: &Stop| {
+            self.text.len() == written.saturating_add(stop.0.len())
+                && handed <= most.saturating_add(stop.1)
+        };
+        (written == 0 && handed <= self.header_read()) || self.row.2.iter().any(is_here)
+    }
+
+    /// Returns true if writing may fail after `written` bytes of the text: with no more read than the header, or than the values before a stop
+    /// that has been passed, and another buffer.
+    fn may_stop_writing(&self, written: usize, handed: u128) -> bool {
+        let most = self.header_read().saturating_add(16);
+        let is_passed = |stop: &Stop| {
+            self.text.len() <= written.saturating_add(stop.0.len())
+                && handed <= most.saturating_add(stop.1)
+        };
+        handed <= self.header_read() || self.row.2.iter().any(is_passed)
     }
 }
 
-/// Dumps from a source that fails so into a slice with room for `room` bytes, and fails unless the answer is success with the whole text, or
-/// `fault` with a prefix of it, which fills the slice if writing has failed. Returns true if the answer is success.
+/// Returns true if a dump into a slice with room for `room` bytes may end so: with the whole text; or with a prefix of it, where reading may
+/// fail, or which fills the slice.
+fn may_end(
+    tried: &Tried<'_>,
+    room: usize,
+    answer: Result<(), DumpFault>,
+    written: &[u8],
+    handed: u128,
+) -> bool {
+    let is_so = match answer {
+        Ok(()) => written.len() == tried.text.len(),
+        Err(DumpFault::ReadFailed) => tried.may_stop_reading(written.len(), handed),
+        Err(DumpFault::WriteFailed) => {
+            written.len() == room && tried.may_stop_writing(room, handed)
+        }
+        Err(_) => false,
+    };
+    is_so && handed <= tried.most_read() && tried.text.starts_with(written)
+}
+
+/// Dumps from a source that fails so into a slice with room for `room` bytes, and fails unless the dump may end so, with success or with
+/// `fault`. Returns true if it ends with success.
 fn ends_well(
     rt: &impl Abort,
     alloc: Global,
@@ -83,12 +161,9 @@ fn ends_well(
     let mut source = DripSource::new(bytes, tried.step, fail);
     let answer = dump(alloc, &mut source, tried.options, &mut [0; 16], &mut sink);
     let written = sink.taken();
-    let is_right = has_written(written, tried.text, answer, fault);
+    let is_right = may_end(tried, room, answer, written, source.handed());
     assert!(rt; is_right, "{about}, {} bytes", written.len());
-    assert!(rt;
-        may_have_read(&tried.row, answer, written, source.handed()),
-        "{about}"
-    );
+    assert!(rt; answer.is_ok() || answer == Err(fault), "{about}");
     answer.is_ok()
 }
 

@@ -12,33 +12,55 @@ use std::alloc::Global;
 use std::error::Error;
 use std::test::Fail;
 
-/// All faults of a dump, the format's with each of its kinds.
-const FAULTS: &[DumpFault] = &[
-    DumpFault::OutOfMemory,
-    DumpFault::ReadFailed,
-    DumpFault::WriteFailed,
-    DumpFault::Format(FormatFault::NotNetcdf),
-    DumpFault::Format(FormatFault::UnknownVersion(7)),
-    DumpFault::Format(FormatFault::HeaderTruncated),
-    DumpFault::Format(FormatFault::BadTag),
-    DumpFault::Format(FormatFault::BadCount),
-    DumpFault::Format(FormatFault::BadName),
-    DumpFault::Format(FormatFault::FloatingType),
-    DumpFault::Format(FormatFault::BadType),
-    DumpFault::Format(FormatFault::BadShape),
-    DumpFault::Format(FormatFault::TwoRecordDims),
-    DumpFault::Format(FormatFault::BadOffset),
-    DumpFault::Format(FormatFault::TooLarge),
-    DumpFault::NoSuchVariable(3),
-    DumpFault::DataTruncated { var: 2, value: 700 },
+/// All faults of a dump, the format's with each of its kinds, and their words.
+const FAULTS: &[(DumpFault, &str)] = &[
+    (DumpFault::OutOfMemory, "out of memory"),
+    (DumpFault::ReadFailed, "read failed"),
+    (DumpFault::WriteFailed, "write failed"),
+    (
+        DumpFault::Format(FormatFault::NotNetcdf),
+        "not a netCDF classic file",
+    ),
+    (
+        DumpFault::Format(FormatFault::UnknownVersion(7)),
+        "unknown version 7",
+    ),
+    (
+        DumpFault::Format(FormatFault::HeaderTruncated),
+        "header truncated",
+    ),
+    (DumpFault::Format(FormatFault::BadTag), "bad tag"),
+    (DumpFault::Format(FormatFault::BadCount), "bad count"),
+    (DumpFault::Format(FormatFault::BadName), "bad name"),
+    (
+        DumpFault::Format(FormatFault::FloatingType),
+        "floating type",
+    ),
+    (DumpFault::Format(FormatFault::BadType), "bad type"),
+    (DumpFault::Format(FormatFault::BadShape), "bad shape"),
+    (
+        DumpFault::Format(FormatFault::TwoRecordDims),
+        "two record dimensions",
+    ),
+    (DumpFault::Format(FormatFault::BadOffset), "bad offset"),
+    (DumpFault::Format(FormatFault::TooLarge), "too large"),
+    (
+        DumpFault::NoSuchVariable(3),
+        "no such variable: item 3 of -v",
+    ),
+    (
+        DumpFault::DataTruncated { var: 2, value: 700 },
+        "variable 2: data truncated at value 700",
+    ),
 ];
 
-/// Returns true if the fault line of the file `a` is `ncdump: a: `, then what `Display` writes, and a line feed.
-fn has_its_line(alloc: Global, fault: &DumpFault) -> Result<bool, Fail> {
+/// Returns true if the fault is displayed as these words, and its line for the file `a` has them.
+fn has_words(alloc: Global, fault: &DumpFault, words: &str) -> Result<bool, Fail> {
     let mut line = MemSink::new(alloc);
     let written = fault_line(&mut line, b"a", fault).is_ok();
-    let said = format!(in alloc; "ncdump: a: {fault}\n")?;
-    Ok(written && line.as_slice() == said.as_bytes())
+    let want = format!(in alloc; "ncdump: a: {words}\n")?;
+    let said = format!(in alloc; "{fault}")?;
+    Ok(written && line.as_slice() == want.as_bytes() && said.as_str() == words)
 }
 
 /// Returns true if the error is displayed as `words`.
@@ -50,8 +72,8 @@ fn says<E: Error>(alloc: Global, error: E, words: &str) -> Result<bool, Fail> {
 #[test]
 fn errors_have_the_words_of_their_lines(rt: HostRuntime) -> Result<(), Fail> {
     let alloc = rt.alloc();
-    for fault in FAULTS {
-        assert!(rt; has_its_line(alloc, fault)?, "{fault}");
+    for (fault, words) in FAULTS {
+        assert!(rt; has_words(alloc, fault, *words)?, "{words}");
     }
     assert!(rt; says(alloc, SourceFailed, "read failed")?);
     assert!(rt; says(alloc, SinkFailed, "write failed")?);

@@ -7,15 +7,15 @@ use nc_file::read_header;
 use ncdump::{DumpFault, DumpOptions, select};
 use std::alloc::{AllocError, Global};
 use std::test::Fail;
-use test_files::repeated;
+use test_files::{COORDINATES, ONE_VARIABLE, THREE_VARIABLES, repeated};
 
-/// Returns true if the options of a row select these of the variables x and y, or name a variable that isn't there.
+/// Returns true if the options of a row select these of the variables of its file, or name a variable that isn't there.
 fn selects(
     alloc: Global,
     row: &DumpRow<'_>,
     want: Result<&[bool], DumpFault>,
 ) -> Result<bool, DumpFault> {
-    let mut source = MemSource::new(test_files::COORDINATES);
+    let mut source = MemSource::new(row.bytes);
     let header = read_header(alloc, &mut source, &mut [0; 16])?;
     let options = options_of(alloc, row)?;
     Ok(match (select(alloc, &header, &options), want) {
@@ -27,29 +27,47 @@ fn selects(
 
 #[test]
 fn selected_variables(rt: HostRuntime) -> Result<(), Fail> {
-    const ROWS: &[(bool, Option<&[&[u8]]>, Result<&[bool], DumpFault>)] = &[
-        (false, None, Ok(&[true, true])),
-        (true, None, Ok(&[true, false])),
-        (false, Some(&[b"y", b"y"]), Ok(&[false, true])),
-        (true, Some(&[b"y", b"y"]), Ok(&[false, false])),
+    const ROWS: &[(&[u8], bool, Option<&[&[u8]]>, Result<&[bool], DumpFault>)] = &[
+        // the variables x and y
+        (COORDINATES, false, None, Ok(&[true, true])),
+        (COORDINATES, true, None, Ok(&[true, false])),
+        (COORDINATES, false, Some(&[b"y", b"y"]), Ok(&[false, true])),
+        (COORDINATES, true, Some(&[b"y", b"y"]), Ok(&[false, false])),
         (
+            COORDINATES,
             false,
             Some(&[b"y", b"z", b"a"]),
             Err(DumpFault::NoSuchVariable(1)),
         ),
         (
+            COORDINATES,
             true,
             Some(&[b"z", b"x", b"a"]),
             Err(DumpFault::NoSuchVariable(0)),
         ),
         (
+            COORDINATES,
             false,
             Some(&[b"x", b"x", b""]),
             Err(DumpFault::NoSuchVariable(2)),
         ),
+        // a, b and c; and s alone
+        (
+            THREE_VARIABLES,
+            false,
+            Some(&[b"b"]),
+            Ok(&[false, true, false]),
+        ),
+        (
+            ONE_VARIABLE,
+            false,
+            Some(&[b"s", b"nope"]),
+            Err(DumpFault::NoSuchVariable(1)),
+        ),
     ];
-    for (coords, chosen, want) in ROWS {
+    for (bytes, coords, chosen, want) in ROWS {
         let row = DumpRow {
+            bytes: *bytes,
             coords: *coords,
             chosen: *chosen,
             ..WHOLE
