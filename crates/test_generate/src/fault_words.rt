@@ -52,6 +52,11 @@ fn faults_have_words(rt: HostRuntime) -> Result<(), AllocError> {
         );
     }
     let alloc = rt.alloc();
+    let lacking = CdlFault {
+        line: 0,
+        kind: CdlKind::OutOfMemory,
+    };
+    assert!(rt; has_words(alloc, GenFault::Cdl(lacking), "out of memory")?);
     assert!(rt; has_words(alloc, GenFault::OffsetTooLarge, "offset too large")?);
     assert!(rt; has_words(alloc, GenFault::WriteFailed, "write failed")?);
     let found = format!(in alloc; "{}, {}", TextFault::ReadFailed, TextFault::TooLong)?;

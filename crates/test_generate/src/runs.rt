@@ -2,7 +2,8 @@
 
 use crate::rows::{REFUSED, SHORTS};
 use devices::{CountedRead, MadeFile, MadeFiles, MemFile, MemFiles, SliceSink};
-use ncgen::run_with;
+use nc_base::Version;
+use ncgen::{command, options_of, run_with};
 use std::alloc::{AllocError, Global};
 use std::process::Abort;
 use std::test::*;
@@ -96,6 +97,40 @@ fn words_choose_the_output_and_its_version(rt: HostRuntime) {
     }
 }
 
+/// The version of the format, the path of the output, and that of the text.
+type Asked = (Version, Option<&'static str>, Option<&'static str>);
+
+/// Returns true if the words ask for this.
+fn ask_for(alloc: Global, words: &[&str], (kind, out, file): Asked) -> Result<bool, Fail> {
+    let matches = command(alloc)?.try_get_matches_from(words)?;
+    let options = options_of(alloc, &matches)?;
+    Ok(options.kind == kind && is_path(&options.out, out) && is_path(&options.file, file))
+}
+
+/// Returns true if this path is given, or none.
+fn is_path(path: &Option<String>, want: Option<&str>) -> bool {
+    match (path, want) {
+        (Some(path), Some(want)) => path.as_str() == want,
+        (path, want) => path.is_none() && want.is_none(),
+    }
+}
+
+#[test]
+fn words_ask_for_options(rt: HostRuntime) -> Result<(), Fail> {
+    const ROWS: &[(&[&str], Asked)] = &[
+        (
+            &["ncgen", "-b", "-k", "nc6", "d/f.cdl"],
+            (Version::Cdf2, Some("f.nc"), Some("d/f.cdl")),
+        ),
+        (&["ncgen", "-o", "x"], (Version::Cdf1, Some("x"), None)),
+        (&["ncgen"], (Version::Cdf1, None, None)),
+    ];
+    for (words, asked) in ROWS {
+        assert!(rt; ask_for(rt.alloc(), *words, *asked)?, "{words:?}");
+    }
+    Ok(())
+}
+
 /// How the program is used.
 const USAGE: &[u8] = b"usage: ncgen [-b] [-o file] [-k kind] [file]\n";
 
@@ -128,6 +163,7 @@ fn runs_without_an_output(rt: HostRuntime) -> Result<(), AllocError> {
             b"ncgen: no.cdl: cannot open\n",
         ),
         (&["ncgen", "-o", "x"], FAR, b"ncgen: -: offset too large\n"),
+        (&["ncgen"], FAR, b"ncgen: -: offset too large\n"),
         (
             &["ncgen", "long.cdl"],
             b"",
