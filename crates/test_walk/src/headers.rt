@@ -7,8 +7,8 @@ use std::alloc::{AllocError, Global};
 use std::process::Abort;
 use test_files::{
     ESCAPED_NAMES, HOSTILE_COUNT, HOSTILE_COUNT_CDF5, LARGE_SLAB, ONE_VARIABLE, ONE_VARIABLE_CDF2,
-    ONE_VARIABLE_CDF5, RECORD_DIMS_APART, RECORDS_OFF_BOUNDARY, SMALLEST_CDF5, THREE_VARIABLES,
-    TWO_RECORD_DIMS, patched,
+    ONE_VARIABLE_CDF5, RECORD_DIMS_APART, RECORDS_OFF_BOUNDARY, SMALLEST, SMALLEST_CDF5,
+    THREE_VARIABLES, TWO_RECORD_DIMS, patched,
 };
 
 /// Returns true if the dimension is `x`, of length 3.
@@ -25,15 +25,17 @@ fn is_s(var: &Var, begin_at: u64) -> bool {
         && var.begin_at == begin_at
 }
 
-/// Returns true if these are the only dimension and the only variable of a generated file.
+/// Returns true if these are the only dimension and the only variable of a generated file, or if there are none, and nothing begins.
 fn are_x_and_s(dims: &[Dim], vars: &[Var], begin_at: u64) -> bool {
     match (dims, vars) {
+        ([], []) => begin_at == 0,
         ([dim], [var]) => is_x(dim) && is_s(var, begin_at),
         _ => false,
     }
 }
 
-/// Returns true if the header is that of a generated file: one dimension `x`, of length 3, and the variable `short s(x)`.
+/// Returns true if the header is that of a generated file: one dimension `x`, of length 3, and the variable `short s(x)`. A header without
+/// both begins at 0.
 fn is_generated(header: &Header, version: Version, begin_at: u64) -> bool {
     header.version == version
         && header.numrecs == NumRecs::Known(0)
@@ -41,7 +43,7 @@ fn is_generated(header: &Header, version: Version, begin_at: u64) -> bool {
         && are_x_and_s(header.dims.as_slice(), header.vars.as_slice(), begin_at)
 }
 
-/// What reading a header gives: that of a generated file in a version, with this begin, or a fault.
+/// What reading a header gives: that of a generated file in a version, with this begin, an empty one with 0 for it, or a fault.
 type Want = Result<(Version, u64), FormatFault>;
 
 /// Returns true if reading has given what is wanted.
@@ -86,6 +88,8 @@ fn expect_header(
 
 /// A file, an offset in it, other bytes from there on, and the version and the begin that are read then. Padding and a vsize are free.
 const READ: &[(&[u8], usize, &[u8], Version, u64)] = &[
+    (SMALLEST, 0, b"", Version::Cdf1, 0),
+    (SMALLEST_CDF5, 0, b"", Version::Cdf5, 0),
     (ONE_VARIABLE, 0, b"", Version::Cdf1, 80),
     (ONE_VARIABLE_CDF2, 0, b"", Version::Cdf2, 84),
     (ONE_VARIABLE_CDF5, 0, b"", Version::Cdf5, 128),
@@ -107,9 +111,10 @@ const REFUSED: &[(&[u8], usize, &[u8], FormatFault)] = &[
     (ONE_VARIABLE, 3, b"\x05", FormatFault::BadTag),
     (ONE_VARIABLE, 3, b"\x06", FormatFault::UnknownVersion(6)),
     (ONE_VARIABLE, 3, b"\x00", FormatFault::UnknownVersion(0)),
-    // the number of records with its top bit set
+    // the number of records, and that of dimensions, with its top bit set
     (ONE_VARIABLE, 4, b"\x80", FormatFault::BadCount),
     (SMALLEST_CDF5, 4, b"\x80", FormatFault::BadCount),
+    (ONE_VARIABLE, 12, b"\x80", FormatFault::BadCount),
     // the tag of variables where dimensions are; no tag, and a count of 1
     (ONE_VARIABLE, 11, b"\x0b", FormatFault::BadTag),
     (ONE_VARIABLE, 11, b"\x00", FormatFault::BadCount),
@@ -129,7 +134,12 @@ const REFUSED: &[(&[u8], usize, &[u8], FormatFault)] = &[
     (ONE_VARIABLE, 71, b"\x07", FormatFault::BadType),
     // an offset with its top bit set
     (ONE_VARIABLE, 76, b"\x80", FormatFault::BadOffset),
-    (ONE_VARIABLE_CDF2, 76, b"\x80", FormatFault::BadOffset),
+    (
+        ONE_VARIABLE_CDF2,
+        76,
+        b"\x80\0\0\0\0\0\0\0",
+        FormatFault::BadOffset,
+    ),
 ];
 
 #[test]
