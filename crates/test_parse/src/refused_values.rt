@@ -8,6 +8,39 @@ use cdl_parse::CdlKind::{
 use std::alloc::AllocError;
 use std::test::*;
 
+/// Values of three shorts.
+const SHORTS: Texts = Texts {
+    around: (
+        "netcdf t {\ndimensions: x = 3 ;\nvariables: short s(x) ;\ndata:\n",
+        "\n}\n",
+    ),
+    refused: &[
+        (b" s = 1.5 ;", 5, BadNumber),
+        (b" s = 40000 ;", 5, NumberRange),
+        (b" s = 1, 2, 3, 4 ;", 5, TooManyValues),
+    ],
+    ..WHOLE
+};
+
+/// Values of three shorts, and rows of characters.
+const SHORTS_AND_ROWS: Texts = Texts {
+    around: (
+        "netcdf t {\ndimensions: x = 3, t = UNLIMITED ;\nvariables: short s(x) ; char c(t, x) ;\ndata:\n",
+        "\n}\n",
+    ),
+    refused: &[
+        (b"s = 1 2 ;", 5, Syntax),
+        (b"s = 'a' ;", 5, BadToken),
+        (b"s = 08 ;", 5, BadNumber),
+        (b"q = 1 ;", 5, UnknownVariable),
+        (b"s\\/ = 1 ;", 5, BadName),
+        (b"s = \"a\" ;", 5, WrongKind),
+        (b"c = \"abcd\" ;", 5, StringTooLong),
+        (b"s = 1 ; s = 1 ;", 5, DuplicateData),
+    ],
+    ..WHOLE
+};
+
 /// Values of three shorts, of rows of characters and of characters.
 const VALUES: Texts = Texts {
     around: (
@@ -15,17 +48,6 @@ const VALUES: Texts = Texts {
         "\n}\n",
     ),
     refused: &[
-        (b" s = 1.5 ;", 5, BadNumber),
-        (b" s = 40000 ;", 5, NumberRange),
-        (b" s = 1, 2, 3, 4 ;", 5, TooManyValues),
-        (b" s = 1 2 ;", 5, Syntax),
-        (b" s = 'a' ;", 5, BadToken),
-        (b" s = 08 ;", 5, BadNumber),
-        (b" q = 1 ;", 5, UnknownVariable),
-        (b" s\\/ = 1 ;", 5, BadName),
-        (b" s = \"a\" ;", 5, WrongKind),
-        (b" c = \"abcd\" ;", 5, StringTooLong),
-        (b" s = 1 ; s = 1 ;", 5, DuplicateData),
         // the shape
         (b"s ;", 5, Syntax),
         (b"s = ;", 5, Syntax),
@@ -190,5 +212,6 @@ const SIZES: Texts = Texts {
 
 #[test]
 fn values_and_sizes_are_refused(rt: HostRuntime) -> Result<(), AllocError> {
-    check(&rt, rt.alloc(), &[VALUES, ROWS, LISTS, SIZES])
+    const ALL: &[Texts] = &[SHORTS, SHORTS_AND_ROWS, VALUES, ROWS, LISTS, SIZES];
+    check(&rt, rt.alloc(), ALL)
 }
