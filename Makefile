@@ -61,9 +61,9 @@ test-proofs:
 test-definitions:
 	nice -n 19 tests/definitions.py
 
-# A few of the tests that have to fail under a wrong body, drawn by a checksum of the code and of all wrong bodies. They need no proof.
+# The tests that have to fail under a wrong body, each under its own. They need no proof.
 test-named:
-	tests/wrong_bodies.py --tests 8
+	tests/wrong_bodies.py --tests
 
 # The other wrong bodies, which the prover has to refuse.
 test-bodies:

@@ -20,7 +20,7 @@ from concurrent.futures import ThreadPoolExecutor
 from pathlib import Path
 
 import prover
-from edits import BadEdit, read_edit
+from edits import BadEdit, apply, read_edit
 from messages import Said, are_laws_judged, expect_words
 
 EDITS = prover.TOP / "tests" / "definitions"
@@ -42,15 +42,6 @@ def copy_crate(crate, to):
         lib.write_text("".join(line for line in lib.read_text().splitlines(True) if line.split()[-1] != EXAMPLES))
 
 
-def apply(edit, top):
-    """Applies an edit to the copy."""
-    for file, old, new in read_edit(edit)[0]:
-        text = (top / file).read_text()
-        if text.count(old) != 1:
-            raise BadEdit(f"'old' stands in {file} {text.count(old)} times, and not once")
-        (top / file).write_text(text.replace(old, new))
-
-
 def law_of(edit):
     """The crate of the law that has to refuse an edit, and the law's name, or None where it may be any."""
     found = re.search(r"^law: (\w+) (\w+)$", edit.read_text(), re.M)
@@ -64,6 +55,12 @@ def below(crate):
     return crates, sorted(needed - set(crates))
 
 
+def sources(crates):
+    """The words for crates that are read from the folders beside the one that is checked, each after those that it stands on."""
+    uses = lambda crate: ",".join(["std", *prover.stands_on()[crate]])
+    return [word for crate in crates for word in ["--lib", f"{crate}:{uses(crate)}=../{crate}/src/lib.rt"]]
+
+
 def laws_with(crate, edit, kept, law=None):
     """What the prover says of a law of a crate, or of all, over what a folder keeps, where an edit is applied, or None where nothing is
     changed."""
@@ -72,8 +69,8 @@ def laws_with(crate, edit, kept, law=None):
         for each in [*crates, crate]:
             copy_crate(each, Path(folder, "crates", each))
         if edit:
-            apply(edit, Path(folder))
-        words = [*prover.check_words(crate), *prover.built(["std", *libraries]), *prover.sources(crates)]
+            apply(read_edit(edit)[0], Path(folder))
+        words = [*prover.check_words(crate), *prover.built(["std", *libraries]), *sources(crates)]
         words += ["--incremental", kept, "--only", f"laws::{law}" if law else "laws"]
         return Said(crate, prover.said(words, Path(folder, "crates", crate)))
 
@@ -82,8 +79,8 @@ def verdict(edit, proved):
     """Tries one edit, where the laws are proved as they stand in `proved`. Returns whether it was refused, and a line that says so."""
     crate, law = law_of(edit)
     try:
-        with prover.copied(proved / crate) as kept:
-            said = laws_with(crate, edit, kept, law)
+        with tempfile.TemporaryDirectory() as folder:
+            said = laws_with(crate, edit, shutil.copytree(proved / crate, Path(folder, "kept")), law)
     except BadEdit as why:
         return False, f"{edit.stem}: BAD EDIT: {why}"
     refused = [it.rpartition("::")[2] for it in said.refused()]

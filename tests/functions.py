@@ -4,6 +4,7 @@ The sources are as `rt fmt` lays them out: each item begins at a line's start, a
 """
 
 import re
+import shutil
 from pathlib import Path
 
 FUNCTION = re.compile(r"^( *)(?:pub(?:\(\w+\))? )?(?:const )?fn (\w+)", re.M)
@@ -12,8 +13,6 @@ TYPE = re.compile(r"^(?:pub(?:\(\w+\))? )?(?:struct|enum) (\w+)", re.M)
 BLOCK = re.compile(r"^(?:pub(?:\(\w+\))? )?(?:impl|trait|mod)\b.*", re.M)
 IMPL = re.compile(r"impl\b(?:<[^{]*?>)? (?:(\w+)(?:<([\w:]*)[^{]*>)? for )?(\w+)")
 ONE_TYPE = re.compile(r"impl [A-Z]\w*<([A-Z]\w*)> \{")
-# a body of any type, in place of one that nobody asks about
-NO_BODY = "{ loop {} }"
 # a proof that is a hole: under --allow-holes the prover takes as shown what it stands for
 NO_PROOF = """use Rattle.{crate}.proofs.{path}.Statement.{{statement}}
 
@@ -42,9 +41,8 @@ class Function:
         trait, of, type_name = IMPL.match(self.block).groups()
         # an impl of one type of a generic one is called after both
         one = ONE_TYPE.match(self.block)
-        type_name += f"+{one[1]}" if one else ""
         of = "".join(it[0].upper() + it[1:] for it in (of or "").split("::") if it)
-        return f"{type_name}{trait or ''}{of}::{self.last}"
+        return f"{type_name}{f'+{one[1]}' if one else ''}{trait or ''}{of}::{self.last}"
 
     def path(self, types):
         """The path of its proof, or None unless it stands alone, or belongs to a type that `types` has the module of."""
@@ -71,22 +69,17 @@ def functions_in(file, text):
 
 
 def leave_contracts(crate, folder, but):
-    """Takes the bodies and the proofs from the functions in a copy of a crate, so that their contracts are left. Functions that `but` names
-    keep theirs, and so do those of traits."""
+    """Takes the bodies and the proofs from the functions in a copy of a crate, so that their contracts are left (a loop has any type).
+    Functions that `but` names keep theirs, and so do those of traits."""
     texts = {str(it.relative_to(folder)): it.read_text() for it in folder.glob("src/**/*.rt")}
     types = {name: module_of(file) for file, text in texts.items() for name in TYPE.findall(text)}
     for file, text in texts.items():
         for it in reversed(functions_in(file, text)):
             path, body = it.path(types), it.body()
             if path and body and it.name() not in but:
-                text = text[:body[0]] + NO_BODY + text[body[1]:]
-                leave_no_proof(crate, folder.joinpath("proofs", *path), path)
+                text = text[:body[0]] + "{ loop {} }" + text[body[1]:]
+                proof = folder.joinpath("proofs", *path)
+                shutil.rmtree(proof, ignore_errors=True)
+                proof.mkdir(parents=True)
+                (proof / "Proof.antt").write_text(NO_PROOF.format(crate=crate, path=".".join(path), name=path[-1]))
         (folder / file).write_text(text)
-
-
-def leave_no_proof(crate, folder, path):
-    """Puts a hole in the place of a function's proof."""
-    folder.mkdir(parents=True, exist_ok=True)
-    for part in ["Invariants", "Answers"]:
-        (folder / f"{part}.antt").unlink(missing_ok=True)
-    (folder / "Proof.antt").write_text(NO_PROOF.format(crate=crate, path=".".join(path), name=path[-1]))

@@ -1,7 +1,7 @@
 """What the other scripts read of what the prover and `rt try` say: its words stand here alone.
 
-A kit that words its verdicts in another way would have every wrong body count as refused, or none. So each script first has `expect_words` ask
-the kit about a few functions whose verdicts are known, and stops if they are read otherwise.
+A kit that words its verdicts in another way would have every wrong body count as refused, or none. So a script that asks the prover first
+has `expect_words` ask about a few functions whose verdicts are known, and stops if they are read otherwise.
 """
 
 import re
@@ -92,7 +92,7 @@ def tests_said(text):
     return {test: verdict == "ok" for test, verdict in TEST.findall(text)}
 
 
-SAMPLE = """//! Functions that are proved or not, for a reason each, and two tests.
+SAMPLE = """//! Functions that are proved or not, for a reason each.
 #![tactic(auto)]
 
 ghost use Rattle.std.specs.Prelude.{◌≡◌, ◌+◌, ◌<◌};
@@ -113,23 +113,6 @@ pub fn undecided<T: Copy>(x: T, y: T) -> T
     x
 }
 """
-TESTS = """
-#[cfg(test)]
-mod tests {
-    use super::*;
-    use std::test::*;
-
-    #[test]
-    fn passes(rt: HostRuntime) {
-        assert!(rt; right(3) == 4);
-    }
-
-    #[test]
-    fn fails(rt: HostRuntime) {
-        assert!(rt; wrong(3) == 4);
-    }
-}
-"""
 PROOFS = {
     "unfit/Answers": "use Rattle.sample.proofs.unfit.Goals as goal\n\npub gone : goal.gone\ngone c = refl\n",
     "bare/Proof": "use Rattle.sample.proofs.bare.Statement.{statement}\n\npub bare_spec : {M : Type 1} → statement M\nbare_spec = ?\n",
@@ -139,7 +122,7 @@ PROOFS = {
 def write_sample(folder):
     """Writes the sample as a crate."""
     functions = "".join(FUNCTION.format(name=name, body=body) for name, body in BODIES.items())
-    files = {"src/lib.rt": SAMPLE + functions + UNDECIDED + TESTS, **{f"proofs/{name}.antt": text for name, text in PROOFS.items()}}
+    files = {"src/lib.rt": SAMPLE + functions + UNDECIDED, **{f"proofs/{name}.antt": text for name, text in PROOFS.items()}}
     for file, text in files.items():
         folder.joinpath(file).parent.mkdir(parents=True, exist_ok=True)
         folder.joinpath(file).write_text(text)
@@ -168,15 +151,6 @@ def are_laws_judged():
     said = prover_of_sample()
     return "sample::right" in said.verdicts and "sample::right" not in said.refused() and not said.are_all_proved() \
         and {"sample::wrong", "sample::unfit", "sample::bare"} < {*said.refused()} and any("proofs/unfit" in it for it in said.errors)
-
-
-def are_tests_judged():
-    """Whether tests are judged as they should be."""
-    with tempfile.TemporaryDirectory() as folder:
-        write_sample(Path(folder, "crates", "sample"))
-        Path(folder, "crates.txt").write_text("sample:\n")
-        said = prover.said(prover.TRY, Path(folder, "crates", "sample"))
-    return tests_said(said) == {"tests::passes": True, "tests::fails": False}
 
 
 def expect_words(are_judged):

@@ -1,111 +1,81 @@
 """Runs the tests that wrong bodies name: each has to fail with the edit, and to pass without it. Nothing is proved.
 
-`rt try --test` runs them in a copy of the crates. There the test's crate holds the modules that the test uses and no other test,
-and stands on no crate that these don't name: so no time goes into the others. An edit has a copy of its own, since a test that
-fails has to fail for that edit.
+One run of `rt try --test` has all of them, since each run begins with the standard library, which takes longest. It is of a crate that has
+a module for each *case*, an edit with its test or all such tests of a crate without an edit: what the test's crate has, but for its other
+tests. The crate of an edit and those that stand on it are copied for the edit under names of their own, such as nc_walk_7, which its
+module uses. So a test that fails, fails for its edit.
 """
 
 import re
 import shutil
 import tempfile
-from concurrent.futures import ThreadPoolExecutor
 from pathlib import Path
 
 import prover
 from edits import apply
 from messages import tests_said
-from prover import CRATES
 
 # a test, from its first line to its closing brace
 TEST = re.compile(r"^(?:///.*\n)*#\[test\]\nfn (\w+)(?:.*\n)*?\}\n", re.M)
-USED = re.compile(r"\bcrate::(\{[^}]*\}|\w+)")
 
 
-def copy_crates(top):
-    """Copies the sources of all crates."""
-    for name in ["crates.txt", "HANDLES"]:
-        shutil.copy(prover.TOP / name, top / name)
-    for crate in prover.stands_on():
-        if (CRATES / crate).is_dir():
-            shutil.copytree(CRATES / crate / "src", top / "crates" / crate / "src")
+def renamed(text, names):
+    """A text in which paths begin with other names."""
+    return re.sub(rf"\b({'|'.join(names)})(?=::)", lambda it: names[it[0]], text)
 
 
-def modules_used(source, wanted):
-    """These modules of a test crate, and those that they use."""
-    known, found, left = {it.stem for it in source.glob("*.rt")} - {"lib"}, set(), set(wanted)
-    while left:
-        module = left.pop()
-        found.add(module)
-        used = {word for group in USED.findall((source / f"{module}.rt").read_text()) for word in re.findall(r"\w+", group)}
-        left |= (used & known) - found
-    return found
+def add_case(folder, crates, number, edit, crate, tests):
+    """Adds a case to the crates in this folder. `crates` has what each of them stands on."""
+    used = crates[crate]
+    names = {it: f"{it}_{number}" for it in {*used, *prover.below(used)} if edit and edit.crate in [it, *prover.below([it])]}
+    for it, name in names.items():
+        crates[name] = [names.get(below, below) for below in crates[it]]
+        shutil.copytree(prover.CRATES / it / "src", folder / name / "src")
+        if it == edit.crate:
+            apply(edit.changes, folder / name)
+        for file in (folder / name).glob("src/**/*.rt"):
+            file.write_text(renamed(file.read_text(), names))
+    crates["named"] += [names.get(it, it) for it in used]
+    module = folder / "named" / "src" / f"case_{number}"
+    module.mkdir(parents=True)
+    modules = [it for it in (prover.CRATES / crate / "src").glob("*.rt") if it.stem != "lib"]
+    for file in modules:
+        text = TEST.sub(lambda it: it[0] if f"{file.stem}::{it[1]}" in tests else "", file.read_text())
+        (module / file.name).write_text(renamed(text, {**names, "crate": f"crate::{module.name}"}))
+    (module / "mod.rt").write_text("".join(f"mod {it.stem};\n" for it in modules))
 
 
-def keep_tests(top, crate, tests):
-    """Leaves these tests alone in the copy of their crate, with what they use."""
-    source = top / "crates" / crate / "src"
-    modules = modules_used(source, {it.split("::")[0] for it in tests})
-    kept = ""
-    for path in source.glob("*.rt"):
-        if path.stem in modules:
-            text = TEST.sub(lambda it: it[0] if f"{path.stem}::{it[1]}" in tests else "", path.read_text())
-            path.write_text(text)
-            kept += text
-        elif path.stem != "lib":
-            path.unlink()
-    (source / "lib.rt").write_text("#![tactic(auto)]\n" + "".join(f"\n#[cfg(test)]\nmod {it};" for it in sorted(modules)) + "\n")
-    libraries = [it for it in prover.stands_on()[crate] if re.search(rf"\b{it}\b", kept)]
-    crates = re.sub(rf"^{crate}:.*$", f"{crate}: {' '.join(libraries)}", (top / "crates.txt").read_text(), flags=re.M)
-    (top / "crates.txt").write_text(crates)
+def said_of(cases):
+    """What is said of the tests of these cases."""
+    with tempfile.TemporaryDirectory() as top:
+        folder, crates = Path(top, "crates"), {**prover.stands_on(), "named": []}
+        for crate in prover.stands_on():
+            shutil.copytree(prover.CRATES / crate / "src", folder / crate / "src")
+        for number, case in enumerate(cases):
+            add_case(folder, crates, number, *case)
+        modules = "".join(f"\n#[cfg(test)]\nmod case_{number};" for number in range(len(cases)))
+        (folder / "named" / "src" / "lib.rt").write_text(f"#![tactic(auto)]\n{modules}\n")
+        Path(top, "crates.txt").write_text("".join(f"{it}: {' '.join(dict.fromkeys(below))}\n" for it, below in crates.items()))
+        shutil.copy(prover.TOP / "HANDLES", top)
+        # (a table of many rows takes minutes so, on a busy machine)
+        return prover.said(["rt", "try", "--test", "--seconds", "1800"], folder / "named")
 
 
-def results_of(crate, tests, edit=None):
-    """Which of these tests passed, and which failed, with an edit or without; and what was said."""
-    with tempfile.TemporaryDirectory() as folder:
-        copy_crates(Path(folder))
-        keep_tests(Path(folder), crate, tests)
-        if edit:
-            apply([edit], Path(folder, "crates", edit.crate))
-        said = prover.said(prover.TRY, Path(folder, "crates", crate))
-    passed = tests_said(said)
-    return {it for it in tests if passed.get(it)}, {it for it in tests if passed.get(it) is False}, said
-
-
-def said_of(said):
-    """The line that says best why a test did not run."""
-    return next((line for line in said.splitlines() if "error" in line), said[-200:])[:300]
-
-
-def try_edit(edit):
-    """Whether the test that an edit names fails under it, and a line that says so."""
-    crate, test = edit.test
-    try:
-        passed, failed, said = results_of(crate, [test], edit)
-    except OSError as why:
-        return False, f"{edit}: BAD EDIT: {why}"
-    if failed:
-        return True, f"{edit}: its test fails, as it must: {crate} {test}"
-    verdict = "ITS TEST PASSES" if passed else f"BAD EDIT: its test did not run: {said_of(said)}"
-    return False, f"{edit}: {verdict}: {crate} {test}"
-
-
-def try_crate(crate, tests):
-    """What is wrong where the tests of a crate run without any edit."""
-    try:
-        passed, _, said = results_of(crate, tests)
-    except OSError as why:
-        return [(False, f"{crate}: {why}")]
-    return [(it in passed, f"{crate} {it}: {'passes without an edit' if it in passed else 'DOES NOT PASS: ' + said_of(said)}") for it in tests]
+def verdict(edit, crate, test, passed):
+    """Whether a test failed with an edit, or passed without one, and a line on it; `passed` is None if it did not run."""
+    is_well = passed is (edit is None)
+    said = {True: "passes", False: "fails", None: "did not run"}[passed]
+    return is_well, f"{edit or 'without an edit'}: {crate} {test} {said}{', as it must' if is_well else ': WRONG'}"
 
 
 def run(edits):
     """Runs the tests that these edits name, with each edit and without."""
-    named = {crate: sorted({it.test[1] for it in edits if it.test[0] == crate}) for crate in sorted({it.test[0] for it in edits})}
-    results = []
-    with ThreadPoolExecutor(prover.at_once()) as pool:
-        without = [pool.submit(try_crate, crate, tests) for crate, tests in named.items()]
-        for result in pool.map(try_edit, edits):
-            print(result[1], flush=True)
-            results.append(result)
-        results += [result for it in without for result in it.result()]
-    return results
+    cases = [(it, it.test[0], [it.test[1]]) for it in edits]
+    for crate in sorted({it.test[0] for it in edits}):
+        cases.append((None, crate, sorted({it.test[1] for it in edits if it.test[0] == crate})))
+    said = said_of(cases)
+    passed = tests_said(said)
+    results = [verdict(edit, crate, test, passed.get(f"case_{number}::{test}"))
+               for number, (edit, crate, tests) in enumerate(cases) for test in tests]
+    print(*(line for _, line in results), sep="\n")
+    return results if passed else [(False, f"no test ran: {said[:2000]}")]
