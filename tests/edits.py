@@ -1,8 +1,4 @@
-"""Wrong bodies: what an edit changes, where that stands, and which test it names.
-
-An edit is a file crates/CRATE/wrong-bodies/NAME.edit, in the format of crates/nc_base/must-fail: lines 'file: src/FILE', 'old: TEXT'
-and 'new: TEXT'. Here it may also have a line 'test: TESTCRATE MODULE::TEST', the test that fails under it.
-"""
+"""Wrong bodies: what an edit changes, where that stands, and which test it names (CONTRIBUTING.md has the format)."""
 
 import re
 
@@ -61,4 +57,7 @@ def function_at(folder, file, old):
     """The end of the prover's name of the function in which a text stands."""
     text = (folder / file).read_text()
     start = place_of(folder / file, old, text)[0]
-    return [it for it in functions_in(file, text) if it.start <= start][-1].name()
+    before = [it for it in functions_in(file, text) if it.start <= start]
+    if not before:
+        raise BadEdit(f"an 'old' stands in {folder / file} before all functions: {old}")
+    return before[-1].name()
