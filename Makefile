@@ -4,12 +4,14 @@ sample = samples/stations
 keep = mkdir -p bin && cp crates/$(1)_cli/out/$(1)_cli bin/$(1)
 # where `make install` puts the programs, their manual pages, completions, documents and samples
 PREFIX = /usr/local
-# what comes before the names of the installed programs and pages, such as juniper- beside Unidata's
+# what comes before the names of the installed programs and pages, and of the folder of documents, such as juniper- beside Unidata's
 NAMES =
-programs = $(DESTDIR)$(PREFIX)/bin
-pages = $(DESTDIR)$(PREFIX)/share/man
-completions = $(DESTDIR)$(PREFIX)/share/bash-completion/completions
-documents = $(DESTDIR)$(PREFIX)/share/doc/juniperbrick
+# The shell gets the paths by its environment, so they may have blanks.
+install uninstall: export names = $(NAMES)
+install uninstall: export programs = $(DESTDIR)$(PREFIX)/bin
+install uninstall: export pages = $(DESTDIR)$(PREFIX)/share/man
+install uninstall: export completions = $(DESTDIR)$(PREFIX)/share/bash-completion/completions
+install uninstall: export documents = $(DESTDIR)$(PREFIX)/share/doc/$(NAMES)juniperbrick
 release = juniperbrick-$(shell cat VERSION)-linux-x86_64
 # the day of the newest version
 day = $(shell sed -n 's/^## .*(\(.*\))$$/\1/p' CHANGELOG.md | head -n 1)
@@ -17,6 +19,7 @@ day = $(shell sed -n 's/^## .*(\(.*\))$$/\1/p' CHANGELOG.md | head -n 1)
 # Proves and builds the programs, makes a file of the sample's text, checks it, and prints it as CDL again. The first time, a program that
 # isn't proved yet prints the sample before.
 all: bin/ncdump bin/ncgen bin/nccheck
+	@test -x build.sh || echo 'This folder is a release, which needs no build: make install installs the programs of bin/.' >&2
 	bin/ncgen -k nc6 -o bin/stations.nc $(sample).cdl
 	bin/nccheck bin/stations.nc
 	bin/ncdump bin/stations.nc
@@ -25,6 +28,7 @@ all: bin/ncdump bin/ncgen bin/nccheck
 program_crates := $(addprefix crates/,$(shell ./build.sh --crates 2>/dev/null))
 bin/ncdump bin/ncgen bin/nccheck &: $(wildcard build.sh kit.sh HANDLES crates.txt) $(if $(program_crates),$(shell find $(program_crates) \
 		\( -name out -o -name must-fail -o -name wrong-bodies \) -prune -o -type f -print))
+	@$(sources)
 	@test -x bin/ncdump || { $(try); }
 	./build.sh
 
@@ -32,13 +36,15 @@ bin/ncdump bin/ncgen bin/nccheck &: $(wildcard build.sh kit.sh HANDLES crates.tx
 try = ./kit.sh && echo 'A first dump, in a minute or two, by a program that is not proved yet:' && \
 	cd crates/ncdump_cli && rt try -- $(abspath $(sample).nc)
 try:
+	@$(sources)
 	@$(try)
 
-# The merge gate, in parts that run side by side where none waits for another. A release has neither tests nor the sources that they prove.
-test: $(if $(wildcard tests),test-proofs test-definitions test-named test-bodies test-programs,no-tests)
-no-tests:
-	@echo 'make test needs the sources and the Rattle kit: this folder is a release, which only has the programs' >&2
-	@exit 1
+# Says in a sentence what a release doesn't have.
+sources = test -x build.sh || \
+	{ echo 'This needs the sources and the Rattle kit: this folder is a release, which has the built programs in bin/.' >&2; exit 1; }
+
+# The merge gate, in parts that run side by side where none waits for another.
+test: $(if $(wildcard tests),test-proofs test-definitions test-named test-bodies test-programs,kit)
 test-bodies test-programs: test-proofs
 test-proofs test-definitions test-named: kit
 ifeq ($(MAKECMDGOALS),test)
@@ -47,6 +53,7 @@ endif
 
 # Says in a sentence what is wrong with the command rt, if anything is.
 kit:
+	@$(sources)
 	./kit.sh
 
 # All proofs (the newer kit leaves out those that an earlier run on this machine made from the same files), the tests and the programs' stored
@@ -94,26 +101,43 @@ test-programs:
 unexport MAKEFLAGS
 
 # Installs the programs that bin/ has, with what belongs to them. Proves and builds the programs first if bin/ lacks them.
-install:
+install: names
 	test -x bin/ncdump || $(MAKE) bin/ncdump
 	test -x bin/ncgen || $(MAKE) bin/ncgen
 	test -x bin/nccheck || $(MAKE) bin/nccheck
-	install -d $(programs) $(pages)/man1 $(pages)/man5 $(completions) $(documents)/docs $(documents)/samples
-	for name in ncdump ncgen nccheck; do \
-		install -m 755 bin/$$name $(programs)/$(NAMES)$$name && \
-		install -m 644 man/$$name.1 $(pages)/man1/$(NAMES)$$name.1 && \
-		sed 's/ '$$name'$$/ $(NAMES)'$$name'/' completions/$$name >$(completions)/$(NAMES)$$name || exit 1; \
+	install -d "$$programs" "$$pages/man1" "$$pages/man5" "$$completions" "$$documents/docs" "$$documents/samples"
+	install -m 644 samples/*.cdl samples/*.nc "$$documents/samples"
+	@$(put); for name in ncdump ncgen nccheck; do \
+		install -m 755 bin/$$name "$$programs/$$names$$name" && \
+		put '$(renamed)' man/$$name.1 "$$pages/man1/$$names$$name.1" && \
+		put 's/ ('$$name')$$/ $(NAMES)\1/' completions/$$name "$$completions/$$names$$name" || exit 1; \
 	done
-	install -m 644 man/cdl.5 $(pages)/man5/$(NAMES)cdl.5
-	install -m 644 README.md CHANGELOG.md $(documents)
-	install -m 644 docs/*.md $(documents)/docs
-	install -m 644 samples/*.cdl samples/*.nc $(documents)/samples
+	@$(put); put '$(renamed)' man/cdl.5 "$$pages/man5/$${names}cdl.5"
+	@$(put); for document in README.md CHANGELOG.md docs/*.md; do \
+		put '$(unlinked)' $$document "$$documents/$$document" || exit 1; \
+	done
 
-# Removes what `make install` has put there, if PREFIX and NAMES are the same.
-uninstall:
-	rm -f $(addprefix $(programs)/$(NAMES),ncdump ncgen nccheck) $(addprefix $(completions)/$(NAMES),ncdump ncgen nccheck)
-	rm -f $(addprefix $(pages)/man1/$(NAMES),ncdump.1 ncgen.1 nccheck.1) $(pages)/man5/$(NAMES)cdl.5
-	rm -rf $(documents)
+# Removes what `make install` has put there, if DESTDIR, PREFIX and NAMES are the same.
+uninstall: names
+	for name in ncdump ncgen nccheck; do \
+		rm -f "$$programs/$$names$$name" "$$completions/$$names$$name" "$$pages/man1/$$names$$name.1" || exit 1; \
+	done
+	rm -f "$$pages/man5/$${names}cdl.5"
+	rm -rf "$$documents"
+
+# Says in a sentence what NAMES may have, before anything is written or removed.
+names:
+	@case $$names in *[!A-Za-z0-9._+-]*) echo 'NAMES may have only letters, digits and the characters . _ + -' >&2; exit 1 ;; esac
+
+# put EDIT FROM TO: a word for the shell, which installs an edited file
+put = put() { sed -E "$$1" "$$2" >"$$3" && chmod 644 "$$3"; }
+# gives a manual page the installed names: in its title, NAME, SYNOPSIS and examples, and where it leads to another page
+renamed = s/^\.TH /&\U$(NAMES)\E/; s/^(cdl|nc[a-z]+) \\-/$(NAMES)&/; \
+	s/(cdl|nc(dump|gen|check)) \(([15])\)/$(NAMES)\1 (\3)/g; \
+	s/^(\.BR? "?)(nc(dump|gen|check))( |$$)/\1$(NAMES)\2\4/; \
+	/^\.EX/,/^\.EE/s/(^|[ \t|"])(nc(dump|gen|check)) /\1$(NAMES)\2 /g
+# makes plain names of the links of a document that lead to what is not installed beside it
+unlinked = s,\[([^]]*)\]\((\.\./)?(man/|crates/|CONTRIBUTING)[^)]*\),\1,g
 
 # Packs the programs, the manual pages, the documents with the definitions that they lead to, and the samples into dist/RELEASE.tar.gz, the
 # same bytes each time. In the unpacked folder `make install` installs them without the kit. The files are gathered outside of the
@@ -139,10 +163,12 @@ dist:
 
 # Proves every crate, over what earlier runs kept.
 check:
+	@$(sources)
 	./kit.sh rt all check
 
 # Removes what was built, and what earlier runs kept.
 clean:
+	@$(sources)
 	rm -rf bin dist crates/*/out
 
-.PHONY: all try kit test no-tests test-proofs test-definitions test-named test-bodies test-programs install uninstall dist check clean
+.PHONY: all try kit test test-proofs test-definitions test-named test-bodies test-programs install uninstall names dist check clean

@@ -13,7 +13,8 @@ make -s -C "$top" dist
 run cmp "$work/first.tar.gz" "$packed"
 verdict same_bytes_each_time 0
 
-tar -xzf "$packed"
+# (without the times of its files, as on some shares)
+tar -xmzf "$packed"
 cd "$release" || exit 1
 run sha256sum -c --quiet SHA256SUMS
 verdict sums 0
@@ -25,9 +26,13 @@ verdict documents_lead_to_definitions 0
 
 # a path that has make and the tools of a system, and neither rt nor a compiler
 mkdir "$work/path"
-for tool in make sh bash install cat sed head test rm; do
+for tool in make sh bash install cat chmod sed head test rm; do
     ln -s "$(type -P "$tool")" "$work/path/$tool"
 done
+run env PATH="$work/path" make -s
+cp "$samples/stations.cdl" "$work/want/stdout"
+stderr 'This folder is a release, which needs no build: make install installs the programs of bin/.\n'
+verdict no_build_in_a_release 0
 run env PATH="$work/path" make -s install DESTDIR="$work" PREFIX=/usr
 verdict installs_without_the_kit 0
 
@@ -44,6 +49,17 @@ stdout "$work/usr/share/man/man1:\nnccheck.1\nncdump.1\nncgen.1\n\n$work/usr/sha
 verdict installed_pages 0
 run cmp samples/note.nc "$work/usr/share/doc/juniperbrick/samples/note.nc"
 verdict installed_samples 0
+run cmp man/ncgen.1 "$work/usr/share/man/man1/ncgen.1"
+verdict pages_of_the_same_names 0
+
+# astray FOLDER: the links of the documents of a folder that lead to nothing
+astray() {
+    (cd "$1" && grep -o ']([^)#:]*' README.md CHANGELOG.md docs/*.md | while IFS=: read -r document link; do
+        [ -e "$(dirname "$document")/${link#](}" ] || echo "$document: $link"
+    done)
+}
+run astray "$work/usr/share/doc/juniperbrick"
+verdict installed_links 0
 
 # completed WORDS..: what bash completes the last of these words to, by the installed completion of the first
 completed() {
@@ -61,12 +77,27 @@ verdict options_are_completed 0
 run completed ncdump -h a.n
 stdout 'a.nc\n'
 verdict files_are_completed 0
+run completed ncgen -bk nc6
+stdout 'nc6\n'
+verdict kinds_after_grouped_options 0
+touch ./-k.nc
+run completed ncdump -- -k
+stdout '-k.nc\n'
+verdict files_after_the_end_of_options 0
 cd "$work/files/$release" || exit 1
 
-run env PATH="$work/path" make -s uninstall DESTDIR="$work" PREFIX=/usr
-verdict uninstalls 0
 run env PATH="$work/path" make -s install DESTDIR="$work" PREFIX=/usr NAMES=juniper-
 verdict installs_under_other_names 0
+run env PATH="$work/path" make -s uninstall DESTDIR="$work" PREFIX=/usr NAMES=juniper-
+verdict uninstalls_other_names 0
+run cmp samples/note.nc "$work/usr/share/doc/juniperbrick/samples/note.nc"
+verdict documents_of_the_own_names_stay 0
+run env PATH="$work/path" make -s uninstall DESTDIR="$work" PREFIX=/usr
+verdict uninstalls 0
+run find "$work/usr" -type f
+verdict nothing_is_left 0
+run env PATH="$work/path" make -s install DESTDIR="$work" PREFIX=/usr NAMES=juniper-
+verdict installs_under_other_names_alone 0
 run find "$work/usr" -type f -not -path '*/doc/*' -printf '%P\n'
 sort -o "$work/got/stdout" "$work/got/stdout"
 stdout "$(printf '%s\n' bin/juniper-{nccheck,ncdump,ncgen} share/bash-completion/completions/juniper-{nccheck,ncdump,ncgen} \
@@ -76,8 +107,32 @@ run completed juniper-ncgen -k nc5
 stdout 'nc5\n'
 verdict other_names_are_completed 0
 
+# bare PAGE..: where a NAME, a SYNOPSIS, a SEE ALSO or a command of pages has a program or a page without the prefix
+bare() {
+    sed -n '/^\.SH \(NAME\|SYNOPSIS\|SEE ALSO\)/,/^\.SH D/p; /^\$ nc/p' "$@" | grep -E '(^|[^-])(nc(dump|gen|check)|cdl)( |$)'
+}
+run bare "$work"/usr/share/man/man?/*
+verdict installed_names_in_pages 1
+run env PATH="$work/path" make -s uninstall DESTDIR="$work" PREFIX=/usr NAMES=juniper-
+verdict uninstalls_other_names_alone 0
+
+run env PATH="$work/path" make -s install DESTDIR="$work/a 'b" PREFIX='/c d'
+verdict installs_to_a_path_with_blanks 0
+run "$work/a 'b/c d/bin/ncdump" samples/stations.nc
+cp "$samples/stations.cdl" "$work/want/stdout"
+verdict installed_at_a_path_with_blanks 0
+run env PATH="$work/path" make -s uninstall DESTDIR="$work/a 'b" PREFIX='/c d'
+verdict uninstalls_from_a_path_with_blanks 0
+run env PATH="$work/path" make -s install DESTDIR="$work" PREFIX=/usr NAMES='a b'
+stderr 'NAMES may have only letters, digits and the characters . _ + -\nmake: *** [Makefile:LINE: names] Error 1\n'
+sed -i 's/Makefile:[0-9]*/Makefile:LINE/; s/^make\[[0-9]*\]/make/' "$work/got/stderr"
+verdict names_with_blanks 2
+run find "$work/usr" "$work/a 'b" -type f
+verdict nothing_is_left_or_written 0
+
 run env PATH="$work/path" make -s test
-stderr 'make test needs the sources and the Rattle kit: this folder is a release, which only has the programs\nmake: *** [Makefile:LINE: no-tests] Error 1\n'
+needs='This needs the sources and the Rattle kit: this folder is a release, which has the built programs in bin/.'
+stderr "$needs\nmake: *** [Makefile:LINE: kit] Error 1\n"
 sed -i 's/Makefile:[0-9]*/Makefile:LINE/; s/^make\[[0-9]*\]/make/' "$work/got/stderr"
 verdict no_tests_in_a_release 2
 
