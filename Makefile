@@ -79,7 +79,8 @@ test-bodies:
 # Places where out of memory is made of anything but a failed allocation, or of one by a number that isn't known to be needed; the tests and
 # the programs that the gate has built, with each allocation failing in turn; how much memory the programs ask for; the programs from end to
 # end, with their calls of the system counted, on texts and files of many parts, whose time may not grow with a square, nor be that of a
-# slower way, on random datasets, and on mangled files and texts; the documents; and a release, unpacked and run.
+# slower way, on random datasets, and on mangled files and texts; the recipes of the manual pages; the documents; and a release, unpacked
+# and run.
 test-programs:
 	tests/refusals.py
 	tests/either_kit.sh
@@ -88,6 +89,7 @@ test-programs:
 	tests/ncdump.sh
 	tests/ncgen.sh
 	tests/nccheck.sh
+	tests/recipes.sh
 	tests/calls.sh
 	tests/lengths.py 8
 	tests/squares.py

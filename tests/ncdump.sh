@@ -369,28 +369,4 @@ verdict closed_standard_output 1
 run without_stderr missing.nc
 verdict closed_standard_error 1
 
-# The recipe for git of ncdump(1): changes of files are shown as changes of their text, also of a file that is cut short and of one with a
-# floating type, which can't be printed.
-changes() {
-    git init -q repository && cd repository || return
-    cp "$samples/note.nc" .
-    head -c 500 "$samples/stations.nc" >cut.nc
-    { printf 'CDF\001' && zeros 12 && printf '\000\000\000\014\000\000\000\001\000\000\000\001a\000\000\000' &&
-        printf '\000\000\000\005\000\000\000\001' && zeros 12; } >float.nc
-    echo '*.nc diff=netcdf' >>.gitattributes
-    git config diff.netcdf.textconv 'sh -c "ncdump \"\$1\" 2>&1 || :" -'
-    git add . && git -c user.name=test -c user.email=test@example.org commit -qm first
-    for file in note cut float; do
-        cp "$samples/smallest.nc" $file.nc
-    done
-    git --no-pager diff --no-color >changes && grep 'ncdump:\|:note' changes | sed 's/ncdump: [^:]*[/_]/ncdump: /'
-}
-if command -v git >/dev/null; then
-    stdout '-  -28, _ncdump: cut.nc: variable 2: data truncated at value 4\n-ncdump: float.nc: floating type\n-\t\t:note = "a\\n",\n'
-    PATH="$top/bin:$PATH" run changes
-    verdict changes_in_git 0
-else
-    echo 'skipped: git is not installed'
-fi
-
 summary

@@ -1,0 +1,202 @@
+#!/usr/bin/env bash
+# Runs each recipe of the manual pages as it is printed there, with the programs of bin/, and compares what it writes with what is printed
+# below it, and what it makes. A recipe is an example that begins with a prompt, or a rule of make.
+set -u
+. "$(dirname "$0")/verdicts.sh"
+pages=("$top"/man/*.[1-8])
+
+# unpaged: a part of a page as it is printed
+unpaged() {
+    sed "s/\\\\-/-/g; s/\\\\(aq/'/g; s/^\\\\&//; s/\\\\e/\\\\/g"
+}
+
+# example WORDS: the examples of the pages that have these words
+example() {
+    cat "${pages[@]}" | unpaged | awk -v words="$1" '
+        /^\.EX$/ { text = ""; next }
+        /^\.EE$/ { if (index(text, words)) printf "%s", text; next }
+        { text = text $0 "\n" }'
+}
+
+# commands, printed: the commands of an example, and what is printed below them
+commands() {
+    awk '/^[$>] / || more { sub(/^[$>] /, ""); print; more = /\\$/ }'
+}
+printed() {
+    awk '/^[$>] / || more { more = /\\$/; next } { print }'
+}
+
+# recipe WORDS: runs the example that has these words, with both streams in one, and wants what is printed below its commands.
+recipe() {
+    example "$1" >"$work/example"
+    cat "$work/example" >>"$work/run"
+    printed <"$work/example" >>"$work/want/stdout"
+    run bash -c "exec 2>&1; $(commands <"$work/example")"
+}
+
+# rule WORDS TARGET: makes the target by the rule of make that has these words.
+rule() {
+    example "$1" | tee -a "$work/run" >Makefile
+    run make -s "$2"
+}
+
+mkdir "$work/tools"
+printf '#!/bin/sh\nsed -i s/31/32/ "$1"\n' >"$work/tools/vi" && chmod +x "$work/tools/vi"
+PATH=$work/tools:$top/bin:$PATH
+ln -s "$samples" samples
+printf 'netcdf tides {\ndimensions:\n\tx = 3 ;\nvariables:\n\tshort cm(x) ;\ndata:\n\n cm = 12, 31, 47 ;\n}\n' >tides.cdl
+cp tides.cdl text.cdl
+ncgen -k nc6 -o tides.nc tides.cdl
+
+# ncgen(1)
+recipe 'ncgen -k nc6 -o stations.nc'
+verdict file_of_a_text 0
+run cmp stations.nc samples/stations.nc
+verdict file_of_a_text_is_right 0
+rm stations.nc
+recipe 'ncgen -b'
+verdict file_named_after_the_text 0
+run ncdump stations.nc
+cp samples/stations.cdl "$work/want/stdout"
+verdict file_named_after_the_text_is_right 0
+recipe 'ncgen -o note.nc'
+verdict file_and_its_text 0
+printf 'netcdf t {\nvariables:\n short cm ;\ndata:\n cm = 40000 ;\n}\n' >range.cdl
+recipe 'ncgen range.cdl'
+verdict check_of_a_text 1
+stdout '- cm = 12, 31, 47 ;\n+ cm = 12, 32, 47 ;\n'
+recipe 'vi edited.cdl'
+sed -i '/^[-+] /!d' "$work/got/stdout"
+verdict change_of_a_file 0
+run ncdump tides.nc
+cp edited.cdl "$work/want/stdout"
+verdict changed_file 0
+recipe 'new.tmp'
+verdict file_under_another_name_first 0
+rm tides.nc
+rule 'DELETE_ON_ERROR' tides.nc
+verdict rule_for_a_file 0
+run ncdump tides.nc
+cp tides.cdl "$work/want/stdout"
+verdict file_of_the_rule 0
+echo before >all
+recipe '>>all'
+verdict file_after_others 0
+run cmp all <(echo before && echo first && ncgen -o /dev/stdout tides.cdl | cat)
+verdict nothing_before_the_file_is_lost 0
+
+# fault_at LINE EDIT MESSAGE FOUND: in a list of 10,000 lines with this edit, the fault is found at this line
+fault_at() {
+    {
+        printf 'netcdf tides {\ndimensions: t = UNLIMITED ;\nvariables: short cm(t) ;\ndata:\n cm =\n'
+        yes '  12, 31, 47, // metres' | head -n 9999
+        printf '  12, 31, 47 ;\n}\n'
+    } | sed "$1$2" >tides.cdl
+    stderr "ncgen: tides.cdl: line 5: $3\n"
+    run ncgen tides.cdl
+    verdict "fault_at_line_$1_is_that_of_its_statement" 1
+    (echo "$4" && sed -n "$4p" tides.cdl) >"$work/want/stdout"
+    recipe 'wc -l'
+    verdict "fault_at_line_$1_is_found" 0
+}
+fault_at 6 's/31/40000/' 'number out of range' 5
+fault_at 7 's/12/0.01/' 'bad number' 7
+fault_at 4003 's/31,/31/' syntax 4003
+fault_at 7007 's/47/40000/' 'number out of range' 7007
+fault_at 8001 's/47,/47/' syntax 8001
+fault_at 9009 's/31/"31"/' 'wrong kind of value' 9009
+fault_at 10005 's/ ;/, ;/' syntax 10005
+mv text.cdl tides.cdl
+
+# ncdump(1)
+recipe 'ncdump -h samples/records.nc'
+verdict header 0
+sed '/^ station_name =/,/^$/d' samples/stations.cdl >"$work/want/stdout"
+recipe 'ncdump -v time,temperature'
+verdict chosen_variables 0
+sed '1s/stations/weather/' samples/stations.cdl >"$work/want/stdout"
+recipe 'ncdump -n weather'
+verdict other_name 0
+cp tides.nc old.nc
+ncgen -o new.nc edited.cdl
+stdout '- cm = 12, 31, 47 ;\n+ cm = 12, 32, 47 ;\n'
+recipe 'diff -u old.cdl new.cdl'
+sed -i '/^[-+] /!d' "$work/got/stdout"
+verdict change_between_two_files 1
+recipe 'ncdump samples/stations.nc | ncgen'
+verdict copy 0
+run cmp copy.nc samples/stations.nc
+verdict copy_is_right 0
+for kind in nc3 nc6 nc5; do
+    ncgen -k $kind -o tides.nc tides.cdl
+    recipe 'kind=nc$(head'
+    verdict "copy_of_$kind" 0
+    run cmp copy.nc tides.nc
+    verdict "copy_of_${kind}_keeps_its_kind" 0
+    rule 'copy-of-%' copy-of-tides.nc
+    verdict "copy_of_${kind}_by_a_rule" 0
+    run cmp copy-of-tides.nc tides.nc
+    verdict "copy_of_${kind}_by_a_rule_keeps_its_kind" 0
+    rm copy-of-tides.nc
+done
+stdout '   5\n'
+recipe 'od -An'
+verdict number_of_the_version 0
+cp tides.nc FILE
+cp tides.cdl "$work/want/stdout"
+recipe '/dev/stdin'
+verdict file_on_standard_input 0
+
+# The recipe for git: changes of files are shown as changes of their text, also of a file that is cut short and of one with a floating type,
+# which can't be printed.
+changes() {
+    cp "$samples/note.nc" .
+    head -c 500 "$samples/stations.nc" >cut.nc
+    { printf 'CDF\001' && zeros 12 && printf '\000\000\000\014\000\000\000\001\000\000\000\001a\000\000\000' &&
+        printf '\000\000\000\005\000\000\000\001' && zeros 12; } >float.nc
+    git add . && git -c user.name=test -c user.email=test@example.org commit -qm first
+    for file in note cut float; do
+        cp "$samples/smallest.nc" $file.nc
+    done
+    git --no-pager diff --no-color >changes && grep 'ncdump:\|:note' changes | sed 's/ncdump: [^:]*[/_]/ncdump: /'
+}
+if command -v git >/dev/null; then
+    mkdir repository && cd repository && git init -q .
+    recipe 'gitattributes'
+    verdict setting_of_git 0
+    stdout '-  -28, _ncdump: cut.nc: variable 2: data truncated at value 4\n-ncdump: float.nc: floating type\n-\t\t:note = "a\\n",\n'
+    run changes
+    verdict changes_in_git 0
+    cd ..
+else
+    example 'gitattributes' >>"$work/run"
+    echo 'skipped: git is not installed'
+fi
+
+# nccheck(1)
+mkdir archive && cd archive
+cp "$samples/stations.nc" f.nc
+recipe 'nccheck -q -l error f.nc'
+verdict whole_file 0
+head -c 500 "$samples/stations.nc" >f.nc
+stdout 'reject\n'
+recipe 'nccheck -q -l error f.nc'
+verdict cut_file 0
+stdout 'look\n'
+recipe 'nccheck -q f.nc'
+verdict cut_file_to_look_at 0
+cp "$samples/stations.nc" whole.nc
+recipe 'xargs'
+verdict archive 123
+run cat report trouble
+stdout './f.nc:500: error: missing: var[2] "temperature" record 2: found 500 bytes, expected at least 504\n'
+verdict archive_has_a_cut_file 0
+
+# Each example that begins with a prompt has been run.
+first_lines() {
+    cat "${pages[@]}" | unpaged | awk '/^\.EX$/ { getline; if (/^\$ /) print }'
+}
+run grep -vxFf "$work/run" <(first_lines)
+verdict all_recipes_are_run 1
+
+summary
