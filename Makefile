@@ -19,7 +19,7 @@ day = $(shell sed -n 's/^## .*(\(.*\))$$/\1/p' CHANGELOG.md | head -n 1)
 # Proves and builds the programs, makes a file of the sample's text, checks it, and prints it as CDL again. The first time, a program that
 # isn't proved yet prints the sample before.
 all: bin/ncdump bin/ncgen bin/nccheck
-	@test -x build.sh || echo 'This folder is a release, which needs no build: make install installs the programs of bin/.' >&2
+	@test -e build.sh || echo 'This folder is a release, which needs no build: make install installs the programs of bin/.' >&2
 	bin/ncgen -k nc6 -o bin/stations.nc $(sample).cdl
 	bin/nccheck bin/stations.nc
 	bin/ncdump bin/stations.nc
@@ -40,7 +40,7 @@ try:
 	@$(try)
 
 # Says in a sentence what a release doesn't have.
-sources = test -x build.sh || \
+sources = test -e build.sh || \
 	{ echo 'This needs the sources and the Rattle kit: this folder is a release, which has the built programs in bin/.' >&2; exit 1; }
 
 # The merge gate, in parts that run side by side where none waits for another.

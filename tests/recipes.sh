@@ -85,27 +85,27 @@ verdict file_after_others 0
 run cmp all <(echo before && echo first && ncgen -o /dev/stdout tides.cdl | cat)
 verdict nothing_before_the_file_is_lost 0
 
-# fault_at LINE EDIT MESSAGE FOUND: in a list of 10,000 lines with this edit, the fault is found at this line
+# fault_at LINE EDIT MESSAGE: in a list of 10,000 lines, of which every other one is a comment, the fault that the edit makes is found there
 fault_at() {
     {
         printf 'netcdf tides {\ndimensions: t = UNLIMITED ;\nvariables: short cm(t) ;\ndata:\n cm =\n'
-        yes '  12, 31, 47, // metres' | head -n 9999
+        yes $'  12, 31, 47, // metres\n  // and more' | head -n 9999
         printf '  12, 31, 47 ;\n}\n'
     } | sed "$1$2" >tides.cdl
     stderr "ncgen: tides.cdl: line 5: $3\n"
     run ncgen tides.cdl
     verdict "fault_at_line_$1_is_that_of_its_statement" 1
-    (echo "$4" && sed -n "$4p" tides.cdl) >"$work/want/stdout"
+    (echo "$1" && sed -n "$1p" tides.cdl) >"$work/want/stdout"
     recipe 'wc -l'
     verdict "fault_at_line_$1_is_found" 0
 }
-fault_at 6 's/31/40000/' 'number out of range' 5
-fault_at 7 's/12/0.01/' 'bad number' 7
-fault_at 4003 's/31,/31/' syntax 4003
-fault_at 7007 's/47/40000/' 'number out of range' 7007
-fault_at 8001 's/47,/47/' syntax 8001
-fault_at 9009 's/31/"31"/' 'wrong kind of value' 9009
-fault_at 10005 's/ ;/, ;/' syntax 10005
+fault_at 6 's/31/40000/' 'number out of range'
+fault_at 8 's/12/0.01/' 'bad number'
+fault_at 4004 's/31,/31/' syntax
+fault_at 7008 's/47/40000/' 'number out of range'
+fault_at 8002 's/47,/47/' syntax
+fault_at 9010 's/31/"31"/' 'wrong kind of value'
+fault_at 10005 's/ ;/, ;/' syntax
 mv text.cdl tides.cdl
 
 # ncdump(1)
