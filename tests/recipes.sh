@@ -192,9 +192,9 @@ run cat report trouble
 stdout './f.nc:500: error: missing: var[2] "temperature" record 2: found 500 bytes, expected at least 504\n'
 verdict archive_has_a_cut_file 0
 
-# Each example that begins with a prompt has been run.
+# Each example that begins with a prompt or as a rule of make has been run.
 first_lines() {
-    cat "${pages[@]}" | unpaged | awk '/^\.EX$/ { getline; if (/^\$ /) print }'
+    cat "${pages[@]}" | unpaged | awk '/^\.EX$/ { getline; if (/^\$ |: %|:$/) print }'
 }
 run grep -vxFf "$work/run" <(first_lines)
 verdict all_recipes_are_run 1
