@@ -1,22 +1,26 @@
 //! The lines that a run writes of a file, at the level of notes.
 
-use crate::rows::{CHANGED_FILES, CLEAN, ChangedRow, FILES};
+use crate::faults::{FAULTS, NAMES};
+use crate::layouts::{BEGINS, CUT, FIELDS};
 use devices::{MemFile, MemFiles, SliceSink};
 use nccheck::run_with;
 use std::alloc::{AllocError, Global};
 use std::process::Abort;
-use std::test::Fail;
 use test_files::patched;
 
-/// Returns true if a run over a file of these bytes writes these lines to standard output, nothing to standard error, and ends with the
-/// status that belongs to them.
-fn has_lines(alloc: Global, path: &str, bytes: &[u8], lines: &[u8]) -> bool {
+/// A file, other bytes from some offsets on, up to a greater length or not, and the lines of all that is wrong or odd in it then, if its
+/// path is `f`.
+pub type Changed<'a> = (&'a [u8], &'a [(usize, &'a [u8])], &'a [u8]);
+
+/// Returns true if a run over the file `f` of these bytes writes these lines to standard output, nothing to standard error, and ends with
+/// the status that belongs to them.
+fn has_lines(alloc: Global, bytes: &[u8], lines: &[u8]) -> bool {
     let mut line_space = [0; 1024];
     let mut trouble_space = [0; 64];
     let mut out = SliceSink::new(&mut line_space, 7);
     let mut err = SliceSink::new(&mut trouble_space, 5);
-    let listed = [MemFile { path, bytes }];
-    let words = ["nccheck", "-l", "note", path];
+    let listed = [MemFile { path: "f", bytes }];
+    let words = ["nccheck", "-l", "note", "f"];
     let status = run_with(
         &mut MemFiles::new(&listed),
         alloc,
@@ -28,28 +32,43 @@ fn has_lines(alloc: Global, path: &str, bytes: &[u8], lines: &[u8]) -> bool {
     out.taken() == lines && err.taken().is_empty() && status == wanted
 }
 
-/// The bytes of a file that is the clean one but for a change.
-fn bytes_of(alloc: Global, row: ChangedRow<'_>) -> Result<Vec<u8>, AllocError> {
-    let mut bytes = patched(alloc, CLEAN, row.at, row.patch)?;
-    bytes.resize(row.len, 0)?;
+/// The file with these bytes in place of its own, or after them.
+fn changed(alloc: Global, file: &[u8], changes: &[(usize, &[u8])]) -> Result<Vec<u8>, AllocError> {
+    let mut bytes = Vec::from_slice(alloc, file)?;
+    for (at, patch) in changes {
+        let len = bytes.len().max(at.saturating_add(patch.len()));
+        bytes.resize(len, 0)?;
+        bytes = patched(alloc, bytes.as_slice(), *at, *patch)?;
+    }
     Ok(bytes)
 }
 
-#[test]
-fn files_have_their_lines(rt: HostRuntime) -> Result<(), Fail> {
-    for row in FILES {
-        let has = has_lines(rt.alloc(), row.path, row.bytes, row.lines);
-        assert!(rt; has, "the lines of {}", row.path);
+/// Fails unless each file has its lines.
+fn expect_lines(rt: &impl Abort, alloc: Global, rows: &[Changed<'_>]) -> Result<(), AllocError> {
+    for (file, changes, lines) in rows {
+        let bytes = changed(alloc, *file, *changes)?;
+        assert!(rt; has_lines(alloc, bytes.as_slice(), *lines), "{changes:?}");
     }
     Ok(())
 }
 
 #[test]
-fn changed_files_have_their_lines(rt: HostRuntime) -> Result<(), Fail> {
-    for row in CHANGED_FILES {
-        let bytes = bytes_of(rt.alloc(), *row)?;
-        let has = has_lines(rt.alloc(), row.path, bytes.as_slice(), row.lines);
-        assert!(rt; has, "the lines of {}", row.path);
+fn changed_files_have_their_lines(rt: HostRuntime) -> Result<(), AllocError> {
+    for rows in [FAULTS, NAMES, FIELDS, BEGINS] {
+        expect_lines(&rt, rt.alloc(), rows)?;
+    }
+    Ok(())
+}
+
+#[test]
+fn cut_files_have_their_lines(rt: HostRuntime) -> Result<(), AllocError> {
+    for (file, len, lines) in CUT {
+        let mut bytes = Vec::from_slice(rt.alloc(), *file)?;
+        bytes.resize(*len, 0)?;
+        assert!(rt;
+            has_lines(rt.alloc(), bytes.as_slice(), *lines),
+            "{len} bytes"
+        );
     }
     Ok(())
 }

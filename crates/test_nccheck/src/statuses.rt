@@ -1,116 +1,79 @@
 //! Runs over several files, with options and trouble.
 
-use crate::rows::{CLEAN, FILES};
+use crate::files::CLEAN;
 use devices::{MemFile, MemFiles, SliceSink};
 use nccheck::run_with;
-use std::alloc::Global;
+use std::alloc::{AllocError, Global};
 use std::process::Abort;
-use std::test::Fail;
+use test_files::{COORDINATES, TWO_RECORDS, patched};
 
 /// How the program is used.
 const USAGE: &[u8] = b"usage: nccheck [-q] [-l level] file ...\n";
 
-/// The line of the file `same-var.nc`.
-const VIOLATION: &[u8] =
-    b"same-var.nc:84: violation: duplicate-name: var[1] \"a\" name: found the name of number 0\n";
+/// The line of the file `names`.
+const LINE: &[u8] =
+    b"names:84: violation: duplicate-name: var[1] \"x\" name: found the name of number 0\n";
 
-/// A run on these words, over a clean file `clean.nc`, one with a violation, `same-var.nc`, and one with a note, `records.nc`. It ends with
-/// this status, and writes this text to standard output and this one to standard error.
-#[derive(Clone, Copy)]
-struct Run<'a> {
-    words: &'a [&'a str],
-    status: u8,
-    lines: &'a [u8],
-    trouble: &'a [u8],
+/// The words of a command line, how many bytes standard output takes, the status of the run, and what it writes to standard output and to
+/// standard error.
+type Run<'a> = (&'a [&'a str], usize, u8, &'a [u8], &'a [u8]);
+
+/// Runs over a clean file, `clean`, one with a violation, `names`, and one with a note, `records`.
+const RUNS: &[Run<'_>] = &[
+    (&["nccheck", "clean", "records"], 99, 0, b"", b""),
+    (&["nccheck", "names", "clean"], 99, 1, LINE, b""),
+    (&["nccheck", "names", "-q"], 99, 1, b"", b""),
+    (&["nccheck", "-l", "error", "names"], 99, 0, b"", b""),
+    (&["nccheck"], 99, 2, b"", USAGE),
+    (&["nccheck", "-l", "worst", "clean"], 99, 2, b"", USAGE),
+    (&["nccheck", "-q", "-q", "clean"], 99, 2, b"", USAGE),
+    (
+        &["nccheck", "none", "names"],
+        99,
+        2,
+        LINE,
+        b"nccheck: none: cannot open\n",
+    ),
+    // a run ends if standard output fails
+    (
+        &["nccheck", "names", "none"],
+        9,
+        2,
+        b"names:84:",
+        b"nccheck: names: write failed\n",
+    ),
+];
+
+/// Returns true if the run over these files ends as wanted.
+fn ends(alloc: Global, files: &[MemFile<'_>], run: &Run<'_>) -> bool {
+    let (words, room, status, lines, trouble) = *run;
+    let mut line_space = [0; 99];
+    let mut trouble_space = [0; 128];
+    let mut out = SliceSink::new(&mut line_space[..room.min(99)], 7);
+    let mut err = SliceSink::new(&mut trouble_space, 5);
+    let ended = run_with(&mut MemFiles::new(files), alloc, words, &mut out, &mut err);
+    ended == status && out.taken() == lines && err.taken() == trouble
 }
 
-/// Returns true if the run ends so.
-fn ends(alloc: Global, run: Run<'_>) -> bool {
-    let mut line_space = [0; 512];
-    let mut trouble_space = [0; 128];
-    let mut out = SliceSink::new(&mut line_space, 7);
-    let mut err = SliceSink::new(&mut trouble_space, 5);
-    let listed = [
+#[test]
+fn runs_end_with_their_status(rt: HostRuntime) -> Result<(), AllocError> {
+    let equal_names = patched(rt.alloc(), COORDINATES, 84, b"x")?;
+    let files = [
         MemFile {
-            path: "clean.nc",
+            path: "clean",
             bytes: CLEAN,
         },
         MemFile {
-            path: "same-var.nc",
-            bytes: FILES[0].bytes,
+            path: "names",
+            bytes: equal_names.as_slice(),
         },
         MemFile {
-            path: "records.nc",
-            bytes: FILES[5].bytes,
+            path: "records",
+            bytes: TWO_RECORDS,
         },
     ];
-    let status = run_with(
-        &mut MemFiles::new(&listed),
-        alloc,
-        run.words,
-        &mut out,
-        &mut err,
-    );
-    status == run.status && out.taken() == run.lines && err.taken() == run.trouble
-}
-
-/// Runs with each status.
-const RUNS: &[Run<'_>] = &[
-    Run {
-        words: &["nccheck", "clean.nc", "records.nc"],
-        status: 0,
-        lines: b"",
-        trouble: b"",
-    },
-    Run {
-        words: &["nccheck", "same-var.nc", "clean.nc"],
-        status: 1,
-        lines: VIOLATION,
-        trouble: b"",
-    },
-    Run {
-        words: &["nccheck", "same-var.nc", "-q"],
-        status: 1,
-        lines: b"",
-        trouble: b"",
-    },
-    Run {
-        words: &["nccheck", "-l", "error", "same-var.nc"],
-        status: 0,
-        lines: b"",
-        trouble: b"",
-    },
-    Run {
-        words: &["nccheck", "none.nc", "same-var.nc"],
-        status: 2,
-        lines: VIOLATION,
-        trouble: b"nccheck: none.nc: cannot open\n",
-    },
-    Run {
-        words: &["nccheck"],
-        status: 2,
-        lines: b"",
-        trouble: USAGE,
-    },
-    Run {
-        words: &["nccheck", "-l", "warning", "clean.nc"],
-        status: 2,
-        lines: b"",
-        trouble: USAGE,
-    },
-    Run {
-        words: &["nccheck", "-q", "-q", "clean.nc"],
-        status: 2,
-        lines: b"",
-        trouble: USAGE,
-    },
-];
-
-#[test]
-fn runs_end_with_their_status(rt: HostRuntime) -> Result<(), Fail> {
     for run in RUNS {
-        let ends = ends(rt.alloc(), *run);
-        assert!(rt; ends, "{:?}", run.words);
+        assert!(rt; ends(rt.alloc(), &files, run), "{:?}", run.0);
     }
     Ok(())
 }
