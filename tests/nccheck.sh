@@ -25,11 +25,15 @@ stdout "cut.nc:500: error: $missing\n"
 stderr 'nccheck: none.nc: cannot open\nnccheck: dir: cannot open\n'
 run "$nccheck" none.nc dir cut.nc
 verdict trouble_and_a_cut_file 2
+stdout '2 checked: 1 with errors, 0 with violations, 0 with notes, 1 with nothing to report; 2 not checked\n'
+stderr 'nccheck: none.nc: cannot open\nnccheck: dir: cannot open\n'
+run "$nccheck" -q -s none.nc dir cut.nc stations.nc
+verdict summary 2
 stderr 'nccheck: -q: cannot open\n'
 run "$nccheck" -- -q
 verdict file_that_begins_with_a_dash 2
 for words in '' '-x cut.nc' '-l bad cut.nc' '-l' '-l note -l error cut.nc'; do
-    stderr 'usage: nccheck [-q] [-l level] file ...\n'
+    stderr 'usage: nccheck [-q] [-s] [-l level] file ...\n'
     # shellcheck disable=SC2086
     run "$nccheck" $words
     verdict "usage_of${words:+_}${words// /_}" 2

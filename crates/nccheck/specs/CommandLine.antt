@@ -14,10 +14,10 @@ use Rattle.nc_check.specs.declared.kind.Severity.TheVariants.{Error, Violation, 
 abbrev pub files_rule : Rule
 files_rule = record (new_rule (codes "file")) { action = Some Append }
 
--- `nccheck [-q] [-l level] file ...`
+-- `nccheck [-q] [-s] [-l level] file ...`
 unfoldable pub nccheck : App
 nccheck = fold with_rule (quiet (new_app (codes "nccheck"))) (
-    flag (codes "quiet") (codes "q") ∷ option (codes "level") (codes "l") ∷ files_rule ∷ [])
+    flag (codes "quiet") (codes "q") ∷ flag (codes "summary") (codes "s") ∷ option (codes "level") (codes "l") ∷ files_rule ∷ [])
 
 -- ---- what its entries ask for
 
@@ -33,19 +33,22 @@ abbrev pub level_in : Option Bytes → Option Severity
 level_in None = Some Violation
 level_in (Some word) = level_said word
 
--- the paths of files, and what to report of them
+-- the paths of files, what to report of them, and whether to count them
 pub record Asked : Type 0 where
   pub files : List Bytes
   pub level : Severity
   pub is_quiet : Bool
+  pub is_counted : Bool
 
--- the files and the level of the entries, and whether they ask for quiet
-abbrev pub asked_with : Option (List Bytes) → Option Severity → Bool → Option Asked
-asked_with (Some files) (Some level) is_quiet = Some (record { files = files; level = level; is_quiet = is_quiet })
-asked_with files level is_quiet = None
+-- the files and the level of the entries, and whether they ask for quiet and for a count
+abbrev pub asked_with : Option (List Bytes) → Option Severity → Bool → Bool → Option Asked
+asked_with (Some files) (Some level) is_quiet is_counted =
+    Some (record { files = files; level = level; is_quiet = is_quiet; is_counted = is_counted })
+asked_with files level is_quiet is_counted = None
 
 unfoldable pub asked_in : List Row → Option Asked
 asked_in rows = asked_with (all_of (codes "file") rows) (level_in (first_of (codes "level") rows)) (is_given rows (codes "quiet"))
+    (is_given rows (codes "summary"))
 
 -- the first word is the program's name
 unfoldable pub asked_by : List Bytes → Option Asked

@@ -31,12 +31,12 @@ hex_byte b = hex_digit (b / 16) ∷ hex_digit (b % 16) ∷ []
 -- a number in decimal, or bytes in hexadecimal
 unfoldable pub content_text : Content → Bytes
 content_text (content.Number n) = decimal n
-content_text (content.Bytes bytes) = each_of hex_byte bytes
+content_text (content.Bytes bytes) = concat_parts (codes "0x" ∷ each_of hex_byte bytes ∷ [])
 content_text c = []
 
 -- as many bytes that are 0
 unfoldable pub zeros_text : Content → Bytes
-zeros_text (content.Bytes bytes) = each_of (λ b. codes "00") bytes
+zeros_text (content.Bytes bytes) = concat_parts (codes "0x" ∷ each_of (λ b. codes "00") bytes ∷ [])
 zeros_text c = []
 
 -- the number that the field of this index is
@@ -53,6 +53,25 @@ dim_count entries = number_at entries 4
 
 unfoldable pub found_content : Content → Bytes
 found_content c = concat_parts (codes ": found " ∷ content_text c ∷ [])
+
+-- the word for a type code, in brackets; nothing for another number
+unfoldable pub type_word : ℕ → Bytes
+type_word code =
+    if code == 1 then codes " (byte)"
+    else if code == 2 then codes " (char)"
+    else if code == 3 then codes " (short)"
+    else if code == 4 then codes " (int)"
+    else if code == 5 then codes " (float)"
+    else if code == 6 then codes " (double)"
+    else if code == 7 then codes " (ubyte)"
+    else if code == 8 then codes " (ushort)"
+    else if code == 9 then codes " (uint)"
+    else if code == 10 then codes " (int64)"
+    else if code == 11 then codes " (uint64)"
+    else []
+
+unfoldable pub found_type : Content → Bytes
+found_type c = concat_parts (found_content c ∷ type_word (number_of c) ∷ [])
 
 abbrev pub found_number : ℕ → Bytes
 found_number n = around (codes ": found ") n []
@@ -72,6 +91,8 @@ unfoldable pub found_with_fault : ℕ → Entry → FormatFault → Bytes
 found_with_fault file_len e fault.HeaderTruncated = found_number (file_len - e.offset)
 found_with_fault file_len e fault.BadName = []
 found_with_fault file_len e fault.TooLarge = []
+found_with_fault file_len e fault.FloatingType = found_type e.content
+found_with_fault file_len e fault.BadType = found_type e.content
 found_with_fault file_len e other = found_content e.content
 
 -- the tag of a list with elements
@@ -107,7 +128,7 @@ abbrev pub expected_dimid : ℕ → ℕ → Bytes
 expected_dimid count id = if nat_lt id count then codes ", expected no record dimension here" else expected_below count
 
 unfoldable pub expected_with_fault : List Entry → Entry → FormatFault → Bytes
-expected_with_fault entries e fault.NotNetcdf = codes ", expected 434446"
+expected_with_fault entries e fault.NotNetcdf = codes ", expected 0x434446"
 expected_with_fault entries e (fault.UnknownVersion version) = codes ", expected 1, 2 or 5"
 expected_with_fault entries e fault.HeaderTruncated = around (codes ", expected ") e.size (codes " bytes")
 expected_with_fault entries e fault.BadTag = around (codes ", expected 0 or ") (tag_of e.place.name) []
@@ -213,7 +234,7 @@ found_at l e fact.NotNfc = []
 found_at l e fact.Padding = found_content e.content
 found_at l e fact.EmptyAttribute = found_content e.content
 found_at l e fact.TrailingNul = []
-found_at l e (fact.FillType code) = found_content e.content
+found_at l e (fact.FillType code) = found_type e.content
 found_at l e fact.FillCount = found_content e.content
 found_at l e fact.HighRank = found_content e.content
 found_at l e (fact.Vsize size) = found_content e.content
@@ -225,8 +246,11 @@ expected_word = codes ", expected "
 unfoldable pub expected_zeros : Content → Bytes
 expected_zeros c = concat_parts (expected_word ∷ zeros_text c ∷ [])
 
+unfoldable pub of_variable : Bytes
+of_variable = codes ", the variable's type"
+
 unfoldable pub expected_type : ℕ → Bytes
-expected_type code = around (codes ", expected ") code (codes ", the variable's type")
+expected_type code = concat_parts (expected_word ∷ decimal code ∷ type_word code ∷ of_variable ∷ [])
 
 unfoldable pub expected_at : Listing → Entry → Fact → Bytes
 expected_at l e (fact.Fault fault) = expected_with_fault l.entries e fault

@@ -4,5 +4,6 @@ pub mod Details
 pub mod Lines
 pub mod CommandLine
 pub mod Faults
+pub mod Tallies
 pub mod Runs
 pub mod code

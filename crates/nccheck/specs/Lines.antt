@@ -1,6 +1,6 @@
 -- Definition. The line of a finding, `FILE:OFFSET: SEVERITY: KIND: PATH`, with `: found F, expected E` where its kind has them; and the lines
 -- of a report.
-use Rattle.std.specs.Prelude.{ℕ, ◌+◌, Bool, true, false, if◌then◌else◌, List, [], ◌∷◌, codes, decimal, take, Option, Some, None, slice_get, Result}
+use Rattle.std.specs.Prelude.{ℕ, ◌+◌, ◌&&◌, Bool, true, false, if◌then◌else◌, List, [], ◌∷◌, codes, decimal, take, Option, Some, None, slice_get, Result}
 use Rattle.std.specs.List.{list_any}
 use Rattle.std.specs.Option.{option_and_then}
 use Rattle.nc_base.specs.Bytes.{Bytes, concat_parts}
@@ -79,3 +79,15 @@ lines level file l findings = each_of (line_if level file l) findings
 -- one of them is reported
 abbrev pub has_reported : Severity → List Finding → Bool
 has_reported level findings = list_any (is_reported level) findings
+
+-- one of this severity, or a graver one, is reported at the level
+abbrev pub has_reported_at : Severity → Severity → List Finding → Bool
+has_reported_at level severity findings = is_at_level level severity && has_reported severity findings
+
+-- the gravest severity of those that are reported
+abbrev pub gravest : Severity → List Finding → Option Severity
+gravest level findings =
+    if has_reported_at level Error findings then Some Error
+    else if has_reported_at level Violation findings then Some Violation
+    else if has_reported_at level Note findings then Some Note
+    else None

@@ -1,19 +1,21 @@
 -- Definition. What a run of the program has done.
-use Rattle.std.specs.Prelude.{ℕ, ◌≡◌, ◌⊎◌, max, Bool, true, false, if◌then◌else◌, List, [], ◌∷◌}
+use Rattle.std.specs.Prelude.{ℕ, ◌≡◌, ◌⊎◌, ◌&&◌, not, Bool, true, false, if◌then◌else◌, List, [], ◌∷◌}
 use Rattle.std.specs.Prelude.{Option, Some, None, IsSomeAnd, Result, Ok, Err}
 use Rattle.std.specs.Bool.{OnTrue}
+use Rattle.std.specs.List.{list_any}
 use Rattle.nc_base.specs.Bytes.{Bytes}
 use Rattle.devices.specs.Failures.{HasFailed, one_more}
 use Rattle.devices.specs.Openers.{OpenerView}
 use Rattle.devices.specs.Sinks.{SinkView, Appended, FailedPartway}
 use Rattle.nc_check.specs.Reports.{IsReport}
 use Rattle.nc_fields.specs.declared.header.Listing.{Listing}
-use Rattle.nc_check.specs.declared.{finding.Finding.Finding, report.Report.Report}
+use Rattle.nc_check.specs.declared.{finding.Finding.Finding, kind.Severity.Severity, report.Report.Report}
 use Rattle.cli_base.specs.declared.fault.OptFault.{OptFault}
 use Rattle.cli_base.specs.declared.fault.OptFault.TheVariants as opt
 use Rattle.nccheck.specs.CommandLine.{Asked}
 use Rattle.nccheck.specs.Faults.{file_line, flush_line, opt_fault_line}
-use Rattle.nccheck.specs.Lines.{has_reported, lines}
+use Rattle.nccheck.specs.Lines.{gravest, lines}
+use Rattle.nccheck.specs.Tallies.{Answer, status_of, summary_line, tally_of}
 use Rattle.nccheck.specs.declared.fault.FileFault.{FileFault}
 use Rattle.nccheck.specs.declared.fault.FileFault.TheVariants.{CannotOpen, ReadFailed, OutOfMemory, WriteFailed}
 
@@ -23,12 +25,12 @@ use Rattle.nccheck.specs.declared.fault.FileFault.TheVariants.{CannotOpen, ReadF
 abbrev pub shown : Asked → Bytes → Listing → List Finding → Bytes
 shown a file l findings = if a.is_quiet then [] else lines a.level file l findings
 
--- the file has these bytes; its lines were written, unless it was quiet, and it is said whether something was reported
-pub record Checks (a : Asked) (bytes file : Bytes) (old new : SinkView) (reported : Bool) : Type 0 where
+-- the file has these bytes; its lines were written, unless it was quiet, and it is said how grave is what was reported
+pub record Checks (a : Asked) (bytes file : Bytes) (old new : SinkView) (reported : Option Severity) : Type 0 where
   pub report : Report
   pub is_report : IsReport bytes report
   pub text : Appended old new (shown a file report.listing report.findings)
-  pub said : reported ≡ has_reported a.level report.findings
+  pub said : reported ≡ gravest a.level report.findings
 
 -- the file has these bytes, and a prefix of its lines was written before standard output failed (a quiet run writes none)
 pub record BreaksOff (a : Asked) (bytes file : Bytes) (old new : SinkView) : Type 0 where
@@ -38,7 +40,7 @@ pub record BreaksOff (a : Asked) (bytes file : Bytes) (old new : SinkView) : Typ
   pub partway : FailedPartway old new (shown a file report.listing report.findings)
 
 -- what was written of a file with these bytes
-abbrev pub ChecksBytes : Asked → Bytes → Bytes → SinkView → SinkView → Result Bool FileFault → Type 0
+abbrev pub ChecksBytes : Asked → Bytes → Bytes → SinkView → SinkView → Answer → Type 0
 ChecksBytes a bytes file old new (Ok reported) = Checks a bytes file old new reported
 ChecksBytes a bytes file old new (Err WriteFailed) = BreaksOff a bytes file old new
 ChecksBytes a bytes file old new (Err CannotOpen) = ⊥
@@ -46,7 +48,7 @@ ChecksBytes a bytes file old new (Err ReadFailed) = new ≡ old
 ChecksBytes a bytes file old new (Err OutOfMemory) = new ≡ old
 
 -- the path can't be opened, and nothing was written
-abbrev pub Unopened : SinkView → SinkView → Result Bool FileFault → Type 0
+abbrev pub Unopened : SinkView → SinkView → Answer → Type 0
 Unopened old new (Ok reported) = ⊥
 Unopened old new (Err CannotOpen) = new ≡ old
 Unopened old new (Err ReadFailed) = ⊥
@@ -54,7 +56,7 @@ Unopened old new (Err OutOfMemory) = ⊥
 Unopened old new (Err WriteFailed) = ⊥
 
 -- what was written of a path that names these bytes, or none
-abbrev pub ChecksNamed : Asked → Option Bytes → Bytes → SinkView → SinkView → Result Bool FileFault → Type 0
+abbrev pub ChecksNamed : Asked → Option Bytes → Bytes → SinkView → SinkView → Answer → Type 0
 ChecksNamed a (Some bytes) file old new answer = ChecksBytes a bytes file old new answer
 ChecksNamed a None file old new answer = Unopened old new answer
 
@@ -99,12 +101,12 @@ abbrev pub IsTold : SinkView → SinkView → Bytes → Type 0
 IsTold old new text = Appended old new text ⊎ FailedPartway old new text
 
 -- the line of a fault was written to standard error, or a prefix of it
-abbrev pub Tells : Bytes → SinkView → SinkView → Result Bool FileFault → Type 0
+abbrev pub Tells : Bytes → SinkView → SinkView → Answer → Type 0
 Tells file old new (Ok reported) = new ≡ old
 Tells file old new (Err fault) = IsTold old new (file_line file fault)
 
 -- the path was checked with this answer, and a fault was told
-pub record ChecksPath {P : Type 0} (o : Openings P) (a : Asked) (file : Bytes) (old new : State P) (answer : Result Bool FileFault)
+pub record ChecksPath {P : Type 0} (o : Openings P) (a : Asked) (file : Bytes) (old new : State P) (answer : Answer)
     : Type 0 where
   pub opens : OpensFile (o.view old.opener) (o.view new.opener) answer
   pub writes : WriteFailsOnly old.out new.out answer
@@ -113,14 +115,8 @@ pub record ChecksPath {P : Type 0} (o : Openings P) (a : Asked) (file : Bytes) (
 
 -- ---- the paths of a run, in turn
 
--- the status of a run over one path, with this answer
-abbrev pub status_of : Result Bool FileFault → ℕ
-status_of (Ok false) = 0
-status_of (Ok true) = 1
-status_of (Err fault) = 2
-
 -- a failed allocation and a failed standard output end the run
-abbrev pub ends_run : Result Bool FileFault → Bool
+abbrev pub ends_run : Answer → Bool
 ends_run (Ok reported) = false
 ends_run (Err CannotOpen) = false
 ends_run (Err ReadFailed) = false
@@ -133,24 +129,50 @@ Either true First Second = First
 Either false First Second = Second
 
 -- no path was checked
-pub record ChecksNone {P : Type 0} (old new : State P) (status : ℕ) : Type 0 where
+pub record ChecksNone {P : Type 0} (old new : State P) (answers : List Answer) : Type 0 where
   pub same : new ≡ old
-  pub none : status ≡ 0
+  pub none : answers ≡ []
 
 -- the path was checked, and then, unless the run ended there, what `Others` says
-pub record ChecksFirst {P : Type 0} (o : Openings P) (a : Asked) (file : Bytes) (old new : State P) (status : ℕ)
-    (Others : State P → State P → ℕ → Type 0) : Type 0 where
+pub record ChecksFirst {P : Type 0} (o : Openings P) (a : Asked) (file : Bytes) (old new : State P) (answers : List Answer)
+    (Others : State P → State P → List Answer → Type 0) : Type 0 where
   pub mid : State P
-  pub answer : Result Bool FileFault
-  pub others : ℕ
+  pub answer : Answer
+  pub others : List Answer
   pub first : ChecksPath o a file old mid answer
   pub goes_on : Either (ends_run answer) (ChecksNone mid new others) (Others mid new others)
-  pub greatest : status ≡ max (status_of answer) others
+  pub all : answers ≡ answer ∷ others
 
--- the paths were checked in turn, up to one whose fault ends the run; the status is the greatest
-abbrev pub RunsOver : {P : Type 0} → Openings P → Asked → List Bytes → State P → State P → ℕ → Type 0
-RunsOver o a [] old new status = ChecksNone old new status
-RunsOver o a (file ∷ files) old new status = ChecksFirst o a file old new status (RunsOver o a files)
+-- the paths were checked in turn, with these answers, up to one whose fault ends the run
+abbrev pub RunsOver : {P : Type 0} → Openings P → Asked → List Bytes → State P → State P → List Answer → Type 0
+RunsOver o a [] old new answers = ChecksNone old new answers
+RunsOver o a (file ∷ files) old new answers = ChecksFirst o a file old new answers (RunsOver o a files)
+
+-- a fault has ended the run
+abbrev pub has_ended : List Answer → Bool
+has_ended answers = list_any ends_run answers
+
+-- the text was written to standard output after the run had this status; if that failed, the line of a failure was written to standard error,
+-- or a prefix of it
+abbrev pub Writes : {P : Type 0} → Bytes → State P → State P → ℕ → ℕ → Type 0
+Writes text mid new before status =
+    (Appended mid.out new.out text × (new.err ≡ mid.err) × (status ≡ before))
+    ⊎ (FailedPartway mid.out new.out text × IsTold mid.err new.err flush_line × (status ≡ 2))
+
+-- nothing was written
+pub record WritesNothing {P : Type 0} (mid new : State P) (before status : ℕ) : Type 0 where
+  pub same : new ≡ mid
+  pub stays : status ≡ before
+
+-- all paths were checked in turn, up to one whose fault ends the run; if there was none, and it is asked for, a line says what came of them
+pub record RunsFiles {P : Type 0} (o : Openings P) (a : Asked) (old new : State P) (status : ℕ) : Type 0 where
+  pub answers : List Answer
+  pub mid : State P
+  pub runs : RunsOver o a a.files old mid answers
+  pub opener : new.opener ≡ mid.opener
+  pub ends : Either (a.is_counted && not (has_ended answers))
+      (Writes (summary_line (tally_of answers)) mid new (status_of (tally_of answers)) status)
+      (WritesNothing mid new (status_of (tally_of answers)) status)
 
 -- ---- the whole run
 
@@ -170,18 +192,12 @@ pub record RefusesWords {P : Type 0} (asked : Option Asked) (old new : State P) 
 
 -- the words were refused, or the paths that they name were checked
 abbrev pub RunsAsked : {P : Type 0} → Openings P → Option Asked → State P → State P → ℕ → Type 0
-RunsAsked o asked old new status = RefusesWords asked old new status ⊎ IsSomeAnd asked (λ a. RunsOver o a a.files old new status)
+RunsAsked o asked old new status = RefusesWords asked old new status ⊎ IsSomeAnd asked (λ a. RunsFiles o a old new status)
 
--- standard output was flushed after the run had this status; if that failed, its line was written to standard error, or a prefix of it
-abbrev pub Flushes : {P : Type 0} → State P → State P → ℕ → ℕ → Type 0
-Flushes mid new before status =
-    (Appended mid.out new.out [] × (new.err ≡ mid.err) × (status ≡ before))
-    ⊎ (FailedPartway mid.out new.out [] × IsTold mid.err new.err flush_line × (status ≡ 2))
-
--- the run, and then the flush
+-- the run, and then the flush of standard output
 pub record Runs {P : Type 0} (o : Openings P) (asked : Option Asked) (old new : State P) (status : ℕ) : Type 0 where
   pub mid : State P
   pub before : ℕ
   pub runs : RunsAsked o asked old mid before
   pub opener : new.opener ≡ mid.opener
-  pub flushes : Flushes mid new before status
+  pub flushes : Writes [] mid new before status

@@ -1,2 +1,3 @@
 pub mod Names
 pub mod Options
+pub mod Counts

@@ -14,7 +14,7 @@ use nc_base::Sequence;
 use nc_check::Severity;
 use std::alloc::{AllocError, Global};
 
-/// Returns the command `nccheck [-q] [-l level] file ...` of nccheck(1).
+/// Returns the command `nccheck [-q] [-s] [-l level] file ...` of nccheck(1).
 ///
 /// The command takes each option at most once, before, between or after the files. [`options_of`] reads the matches of the command.
 ///
@@ -28,6 +28,7 @@ pub fn command<'a>(alloc: Global) -> Result<Command<'a>, AllocError>
         .disable_help_flag(true)
         .disable_version_flag(true)
         .arg(flag(alloc, "quiet", 'q'))?
+        .arg(flag(alloc, "summary", 's'))?
         .arg(option(alloc, "level", 'l'))?
         .arg(files(alloc))
 }
@@ -72,6 +73,7 @@ pub fn options_of<'a>(alloc: Global, matches: &ArgMatches<'a>) -> Result<CheckOp
         files: Sequence::from_vec(Vec::from_slice(alloc, files)?),
         level,
         is_quiet: is_given(matches, "quiet"),
+        is_counted: is_given(matches, "summary"),
     })
 }
 

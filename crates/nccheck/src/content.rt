@@ -2,7 +2,7 @@
 
 ghost use Rattle.std.specs.Prelude.{◌≡◌, ◌<◌, ◌∷◌, [], codes};
 ghost use Rattle.devices.specs.code.SinkWrites.{Wrote};
-ghost use Rattle.nccheck.specs.Details.{content_text, expected_word, expected_zeros, found_content, hex_byte, hex_digit, zeros_text};
+ghost use Rattle.nccheck.specs.Details.{content_text, expected_word, expected_zeros, found_content, found_type, hex_byte, hex_digit, type_word, zeros_text};
 ghost use Rattle.nccheck.specs.Words.{each_of};
 
 use devices::{Sink, WriteFailed, put, put_decimal};
@@ -17,6 +17,36 @@ pub(crate) fn put_found_content<W: Sink>(sink: &mut W, content: &Content) -> Res
     put_content(sink, content)
 }
 
+/// Writes that the content of a field is found, which is a type code, with the type's word.
+#[tactic(auto, using(devices::proofs::Writes::writes), unfolding(crate::specs::Details::found_type))]
+pub(crate) fn put_found_type<W: Sink>(sink: &mut W, content: &Content) -> Result<(), WriteFailed>
+    ensures { Wrote W.view sink.old sink.new (found_type content.now) result }
+{
+    put_found_content(sink, content)?;
+    put(sink, type_word(content.number()).as_bytes())
+}
+
+/// Returns the word for a type code, in brackets, or nothing for another number.
+#[tactic(auto, unfolding(crate::specs::Details::type_word))]
+pub(crate) fn type_word(code: u64) -> &'static str
+    ensures { result.now ≡ type_word code }
+{
+    match code {
+        1 => " (byte)",
+        2 => " (char)",
+        3 => " (short)",
+        4 => " (int)",
+        5 => " (float)",
+        6 => " (double)",
+        7 => " (ubyte)",
+        8 => " (ushort)",
+        9 => " (uint)",
+        10 => " (int64)",
+        11 => " (uint64)",
+        _ => "",
+    }
+}
+
 /// Writes a number in decimal, or bytes in hexadecimal; nothing for other contents.
 #[tactic(auto, using(devices::proofs::Writes::writes), unfolding(crate::specs::Details::content_text))]
 fn put_content<W: Sink>(sink: &mut W, content: &Content) -> Result<(), WriteFailed>
@@ -24,7 +54,10 @@ fn put_content<W: Sink>(sink: &mut W, content: &Content) -> Result<(), WriteFail
 {
     match content {
         Content::Number(n) => put_decimal(sink, *n as u128),
-        Content::Bytes(bytes) => put_hex(sink, bytes.as_slice()),
+        Content::Bytes(bytes) => {
+            put(sink, b"0x")?;
+            put_hex(sink, bytes.as_slice())
+        }
         Content::Values { .. } | Content::Cut => Ok(()),
     }
 }
@@ -43,7 +76,7 @@ pub(crate) fn put_expected_zeros<W: Sink>(
 
 /// Returns what stands before what is expected.
 #[tactic(auto, unfolding(crate::specs::Details::expected_word))]
-fn expected_word() -> &'static [u8]
+pub(crate) fn expected_word() -> &'static [u8]
     ensures { result.now ≡ expected_word }
 {
     b", expected "
@@ -55,7 +88,10 @@ fn put_zeros<W: Sink>(sink: &mut W, content: &Content) -> Result<(), WriteFailed
     ensures { Wrote W.view sink.old sink.new (zeros_text content.now) result }
 {
     match content {
-        Content::Bytes(bytes) => put_zero_for_each(sink, bytes.as_slice()),
+        Content::Bytes(bytes) => {
+            put(sink, b"0x")?;
+            put_zero_for_each(sink, bytes.as_slice())
+        }
         Content::Number(_) | Content::Values { .. } | Content::Cut => Ok(()),
     }
 }

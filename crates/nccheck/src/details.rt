@@ -2,16 +2,18 @@
 
 ghost use Rattle.std.specs.Prelude.{◌≡◌};
 ghost use Rattle.devices.specs.code.SinkWrites.{Wrote};
-ghost use Rattle.nccheck.specs.Details.{details, expected_at, expected_type, found_at, owner_number, owner_number_at};
+ghost use Rattle.nccheck.specs.Details.{details, expected_at, expected_type, found_at, of_variable, owner_number, owner_number_at};
 ghost use Rattle.nccheck.specs.code.Names.{entry_in};
 
-use crate::content::{put_expected_zeros, put_found_content};
+use crate::content::{
+    expected_word, put_expected_zeros, put_found_content, put_found_type, type_word,
+};
 use crate::fault_details::{put_expected_with_fault, put_found_with_fault};
 use crate::layout_details::{
     put_at_most, put_expected, put_expected_in_layout, put_found_in_layout, put_layout_details,
 };
 use crate::number::put_around;
-use devices::{Sink, WriteFailed};
+use devices::{Sink, WriteFailed, put, put_decimal};
 use nc_check::{Fact, HIGHEST_RANK, LONGEST_NAME};
 use nc_fields::{Entry, Listing, Owner};
 
@@ -54,6 +56,7 @@ fn put_found_at<W: Sink>(
             put_around(sink, b": found the name of number ", number as u128, b"")
         }
         Fact::NotNfc | Fact::TrailingNul => Ok(()),
+        Fact::FillType { .. } => put_found_type(sink, &entry.content),
         Fact::Layout(fact) => put_found_in_layout(sink, &listing.header, fact),
         _ => put_found_content(sink, &entry.content),
     }
@@ -87,11 +90,22 @@ fn put_expected_at<W: Sink>(
 }
 
 /// Writes that the type of the variable is expected, which has this code.
-#[tactic(auto, unfolding(crate::specs::Details::expected_type))]
+#[tactic(auto, using(devices::proofs::Writes::writes), unfolding(crate::specs::Details::expected_type))]
 fn put_expected_type<W: Sink>(sink: &mut W, code: u64) -> Result<(), WriteFailed>
     ensures { Wrote W.view sink.old sink.new (expected_type code) result }
 {
-    put_around(sink, b", expected ", code as u128, b", the variable's type")
+    put(sink, expected_word())?;
+    put_decimal(sink, code as u128)?;
+    put(sink, type_word(code).as_bytes())?;
+    put(sink, of_variable())
+}
+
+/// Returns what stands after the type of a variable.
+#[tactic(auto, unfolding(crate::specs::Details::of_variable))]
+fn of_variable() -> &'static [u8]
+    ensures { result.now ≡ of_variable }
+{
+    b", the variable's type"
 }
 
 /// Returns the number of what the field of this index belongs to, or 0 if there is no such field.

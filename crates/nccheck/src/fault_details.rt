@@ -4,7 +4,7 @@ ghost use Rattle.std.specs.Prelude.{◌≡◌};
 ghost use Rattle.devices.specs.code.SinkWrites.{Wrote};
 ghost use Rattle.nccheck.specs.Details.{dim_count, expected_below, expected_count, expected_dimid, expected_with_fault, found_number, found_with_fault, is_after_zero_tag, is_list_count, last_type, number_at, tag_of, top_bit};
 
-use crate::content::put_found_content;
+use crate::content::{put_found_content, put_found_type};
 use crate::number::put_around;
 use devices::{Sink, WriteFailed, put};
 use nc_base::FormatFault;
@@ -26,6 +26,7 @@ pub(crate) fn put_found_with_fault<W: Sink>(
             put_around(sink, b": found ", bytes_left as u128, b"")
         }
         FormatFault::BadName | FormatFault::TooLarge => Ok(()),
+        FormatFault::FloatingType | FormatFault::BadType => put_found_type(sink, &entry.content),
         _ => put_found_content(sink, &entry.content),
     }
 }
@@ -41,7 +42,7 @@ pub(crate) fn put_expected_with_fault<W: Sink>(
     ensures { Wrote W.view sink.old sink.new (expected_with_fault entries.now entry.now fault) result }
 {
     match fault {
-        FormatFault::NotNetcdf => put(sink, b", expected 434446"),
+        FormatFault::NotNetcdf => put(sink, b", expected 0x434446"),
         FormatFault::UnknownVersion(_) => put(sink, b", expected 1, 2 or 5"),
         FormatFault::HeaderTruncated => put_around(sink, b", expected ", entry.size, b" bytes"),
         FormatFault::BadTag => {

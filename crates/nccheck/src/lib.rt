@@ -20,11 +20,12 @@ mod options;
 mod passed;
 mod report_lines;
 mod running;
+mod tally;
 mod words;
 
 pub use cli_base::OptFault;
 pub use command_line::{command, options_of};
 pub use fault_text::put_command_line_fault;
 pub use options::CheckOptions;
-pub use report_lines::{has_reported, put_lines};
+pub use report_lines::{gravest, has_reported, put_lines};
 pub use running::run_with;

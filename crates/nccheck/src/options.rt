@@ -12,4 +12,6 @@ pub struct CheckOptions<'a> {
     pub level: Severity,
     /// True if no line is written to standard output: `-q`.
     pub is_quiet: bool,
+    /// True if a last line says how many files were checked, and what was reported of them: `-s`.
+    pub is_counted: bool,
 }

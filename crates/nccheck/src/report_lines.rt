@@ -2,7 +2,7 @@
 
 ghost use Rattle.std.specs.Prelude.{◌≡◌, IfOk};
 ghost use Rattle.devices.specs.code.SinkWrites.{Wrote};
-ghost use Rattle.nccheck.specs.Lines.{has_reported, is_at_level, is_reported, line_if, lines};
+ghost use Rattle.nccheck.specs.Lines.{gravest, has_reported, has_reported_at, is_at_level, is_reported, line_if, lines};
 ghost use Rattle.nccheck.specs.code.Names.{IsPassed};
 
 use crate::line::put_line;
@@ -82,6 +82,28 @@ pub fn has_reported(report: &Report, level: Severity) -> bool
 {
     let findings = report.findings.as_slice();
     findings.iter().any(|finding| is_reported(level, finding))
+}
+
+/// Returns the gravest severity of the findings of the report that are at least as grave as `level`, or `None` if none is.
+pub fn gravest(report: &Report, level: Severity) -> Option<Severity>
+    ensures { result ≡ gravest level report.now.findings }
+{
+    if has_reported_at(report, level, Severity::Error) {
+        Some(Severity::Error)
+    } else if has_reported_at(report, level, Severity::Violation) {
+        Some(Severity::Violation)
+    } else if has_reported_at(report, level, Severity::Note) {
+        Some(Severity::Note)
+    } else {
+        None
+    }
+}
+
+/// Returns true if this severity is at least as grave as `level`, and a finding of the report at least as grave as this severity.
+fn has_reported_at(report: &Report, level: Severity, severity: Severity) -> bool
+    ensures { result ≡ has_reported_at level severity report.now.findings }
+{
+    is_at_level(level, severity) && has_reported(report, severity)
 }
 
 /// Returns true if the finding is at least this grave.

@@ -8,25 +8,18 @@ ghost use Rattle.cli_base.specs.Arguments.{texts_of};
 ghost use Rattle.nccheck.specs.CommandLine.{asked_by};
 ghost use Rattle.nccheck.specs.code.Options.{asked_for};
 ghost use Rattle.nccheck.specs.Runs.{ChecksBytes, ChecksNamed, ChecksPath, ends_run, OpensFile, openings};
-ghost use Rattle.nccheck.specs.Runs.{ReadFailsOnly, Runs, RunsAsked, RunsOver, shown, state, status_of, WriteFailsOnly};
+ghost use Rattle.nccheck.specs.Runs.{ReadFailsOnly, Runs, RunsAsked, RunsFiles, shown, state, WriteFailsOnly};
+ghost use Rattle.nccheck.specs.code.Counts.{Counts};
 
 use crate::command_line::options_of_words;
 use crate::fault::FileFault;
 use crate::fault_text::{put_command_line_fault, put_file_fault, put_flush_fault};
 use crate::options::CheckOptions;
-use crate::report_lines::{has_reported, put_lines};
+use crate::report_lines::{gravest, put_lines};
+use crate::tally::{TROUBLE, Tally, put_summary};
 use devices::{Flush, Opener, Sink, Source, WriteFailed};
-use nc_check::{Report, check};
+use nc_check::{Report, Severity, check};
 use std::alloc::Global;
-
-/// The status of a run in which nothing was reported of any file.
-const CLEAN: u8 = 0;
-
-/// The status of a run in which something was reported.
-const REPORTED: u8 = 1;
-
-/// The status of a run in which something could not be done.
-const TROUBLE: u8 = 2;
 
 /// Runs the program, and returns its exit status. `words` is the command line, with the program's name first; `opener` opens the files;
 /// `out` is standard output, and `err` is standard error.
@@ -86,7 +79,7 @@ fn check_for_words<P: Opener, O: Sink, E: Sink>(
     }
 }
 
-/// Checks the files of the options, and returns the status.
+/// Checks the files of the options, tells how many they were if the options ask for that, and returns the status.
 fn check_files<P: Opener, O: Sink, E: Sink>(
     opener: &mut P,
     alloc: Global,
@@ -94,23 +87,52 @@ fn check_files<P: Opener, O: Sink, E: Sink>(
     out: &mut O,
     err: &mut E,
 ) -> u8
-    ensures runs { RunsOver
+    ensures runs { RunsFiles
         (openings P.Source.is_transparent (P.named opener.old) P.view) (asked_for options.now)
-        (texts_of options.now.files)
         (state O.view E.view opener.old out.old err.old)
         (state O.view E.view opener.new out.new err.new) result }
     ensures status { result ≤ 2 }
 {
-    let files = options.files.as_slice();
-    let mut status = CLEAN;
-    for file in files {
-        let answer = check_and_tell(opener, alloc, file, options, out, err);
-        status = status.max(status_of(answer));
-        if ends_run(answer) {
-            return status;
+    match check_each(opener, alloc, options, out, err) {
+        None => TROUBLE,
+        Some(tally) => {
+            if !options.is_counted {
+                return tally.status();
+            }
+            match put_summary(out, tally) {
+                Ok(()) => tally.status(),
+                Err(_) => {
+                    let _ = put_flush_fault(err);
+                    TROUBLE
+                }
+            }
         }
     }
-    status
+}
+
+/// Checks the files of the options in turn, and counts them by what came of each. Returns `None` after a fault that ends the run.
+fn check_each<P: Opener, O: Sink, E: Sink>(
+    opener: &mut P,
+    alloc: Global,
+    options: &CheckOptions<'_>,
+    out: &mut O,
+    err: &mut E,
+) -> Option<Tally>
+    ensures { Counts
+        (openings P.Source.is_transparent (P.named opener.old) P.view) (asked_for options.now)
+        (state O.view E.view opener.old out.old err.old)
+        (state O.view E.view opener.new out.new err.new) result }
+{
+    let files = options.files.as_slice();
+    let mut tally = Tally::new();
+    for file in files {
+        let answer = check_and_tell(opener, alloc, file, options, out, err);
+        if ends_run(answer) {
+            return None;
+        }
+        tally = tally.with(answer);
+    }
+    Some(tally)
 }
 
 /// Checks the file at this path as the options ask, writes the line of a fault to standard error, and returns the answer.
@@ -122,7 +144,7 @@ fn check_and_tell<P: Opener, O: Sink, E: Sink>(
     options: &CheckOptions<'_>,
     out: &mut O,
     err: &mut E,
-) -> Result<bool, FileFault>
+) -> Result<Option<Severity>, FileFault>
     ensures checks { ChecksPath
         (openings P.Source.is_transparent (P.named opener.old) P.view) (asked_for options.now)
         file.now (state O.view E.view opener.old out.old err.old)
@@ -136,19 +158,8 @@ fn check_and_tell<P: Opener, O: Sink, E: Sink>(
     answer
 }
 
-/// Returns the status of a run over one file, with this answer.
-fn status_of(answer: Result<bool, FileFault>) -> u8
-    ensures { result ≡ status_of answer }
-{
-    match answer {
-        Ok(false) => CLEAN,
-        Ok(true) => REPORTED,
-        Err(_) => TROUBLE,
-    }
-}
-
 /// Returns true if a run doesn't go on after this answer.
-fn ends_run(answer: Result<bool, FileFault>) -> bool
+fn ends_run(answer: Result<Option<Severity>, FileFault>) -> bool
     ensures { result ≡ ends_run answer }
 {
     match answer {
@@ -169,15 +180,15 @@ fn is_fatal(fault: FileFault) -> bool
     }
 }
 
-/// Checks the file at this path, writes its lines as the options ask, and gives the file back to the opener. Returns true if something was
-/// reported.
+/// Checks the file at this path, writes its lines as the options ask, and gives the file back to the opener. Returns how grave the gravest
+/// is that was reported, if anything was.
 fn check_file<P: Opener, O: Sink>(
     opener: &mut P,
     alloc: Global,
     file: &str,
     options: &CheckOptions<'_>,
     out: &mut O,
-) -> Result<bool, FileFault>
+) -> Result<Option<Severity>, FileFault>
     ensures opens { OpensFile (P.view opener.old) (P.view opener.new) result }
     ensures writes { WriteFailsOnly (O.view out.old) (O.view out.new) result }
     ensures checks { OnTrue P.Source.is_transparent (ChecksNamed
@@ -194,15 +205,15 @@ fn check_file<P: Opener, O: Sink>(
 /// The length of the buffer that a file is read through, in bytes.
 const BUFFER_LEN: usize = 4096;
 
-/// Checks the source's file through a buffer of 4096 bytes, and writes its lines as the options ask. Returns true if something was
-/// reported.
+/// Checks the source's file through a buffer of 4096 bytes, and writes its lines as the options ask. Returns how grave the gravest
+/// is that was reported, if anything was.
 fn check_source<S: Source, O: Sink>(
     source: &mut S,
     alloc: Global,
     file: &str,
     options: &CheckOptions<'_>,
     out: &mut O,
-) -> Result<bool, FileFault>
+) -> Result<Option<Severity>, FileFault>
     ensures reads { ReadFailsOnly (S.view source.old).failures (S.view source.new).failures result }
     ensures writes { WriteFailsOnly (O.view out.old) (O.view out.new) result }
     ensures checks { OnTrue S.is_transparent (ChecksBytes
@@ -212,7 +223,7 @@ fn check_source<S: Source, O: Sink>(
     let mut buf = [0u8; BUFFER_LEN];
     let report = check(alloc, source, &mut buf)?;
     put_unless_quiet(out, file, &report, options)?;
-    Ok(has_reported(&report, options.level))
+    Ok(gravest(&report, options.level))
 }
 
 /// Writes the lines of a report, unless the options ask for none: then it doesn't err.

@@ -6,7 +6,7 @@ use Rattle.nccheck.specs.CommandLine.{Asked}
 use Rattle.nccheck.specs.declared.options.CheckOptions.{CheckOptions}
 
 abbrev pub asked_for : CheckOptions → Asked
-asked_for o = record { files = texts_of o.files; level = o.level; is_quiet = o.is_quiet }
+asked_for o = record { files = texts_of o.files; level = o.level; is_quiet = o.is_quiet; is_counted = o.is_counted }
 
 -- the texts that are borrowed
 abbrev pub texts_in : Option (Bor (List (Bor (List ℕ)))) → Option (List (List ℕ))

@@ -1,49 +1,67 @@
-use Rattle.std.proofs.Common.{◌≡◌, ◌∙◌, ℕ, max, List, ap, arith, rules, subst, sym}
-use Rattle.cli_base.specs.Arguments.{texts_of}
-use Rattle.nc_base.specs.Bytes.{Bytes}
-use Rattle.nccheck.specs.Runs.{openings, RunsOver, state, status_of}
+use Rattle.std.proofs.Common.{◌∙◌, ap, inl, inr, refl, subst, sym}
+use Rattle.devices.specs.Sinks.{Appended, FailedPartway}
+use Rattle.nccheck.specs.Runs.{has_ended, state}
+use Rattle.nccheck.specs.Tallies.{status_of, summary_line}
 use Rattle.nccheck.specs.code.Options.{asked_for}
-use Rattle.nccheck.proofs.InTurn.{from_first, loop_all, loop_end, loop_next, status_most}
+use Rattle.nccheck.specs.declared.tally.Tally.{Tally}
+use Rattle.nccheck.proofs.InTurn.{is_told, told, untold, untold_early}
 use Rattle.nccheck.proofs.running.check_files.Goals as goal
 
-pub returns-then-ends_run-clause-runs : goal.returns-then-ends_run-clause-runs
-returns-then-ends_run-clause-runs g c =
-    let is : c.max-status.result ≡ max c.loop-file.status (status_of c.check_and_tell-answer.result) = search (rules, c.max-status.ensures, c.status_of.ensures) in
-    let o = openings g.P.Source.Source.is_transparent (g.P.Opener.named c.args.opener.now) g.P.Opener.view in
-    let a = asked_for c.args.options.now in
-    let old = state g.O.Sink.view g.E.Sink.view c.args.opener.now c.args.out.now c.args.err.now in
-    let now = state g.O.Sink.view g.E.Sink.view c.loop-file.opener c.loop-file.out c.loop-file.err in
-    let next = state g.O.Sink.view g.E.Sink.view c.check_and_tell-answer.new.opener c.check_and_tell-answer.new.out c.check_and_tell-answer.new.err in
-    let checks = from_first g.P.Source.Source.is_transparent (g.P.Opener.named c.args.opener.now) (g.P.Opener.named c.loop-file.opener) g.P.Opener.view a _ now next
-    c.check_and_tell-answer.result (c.loop-file.invariant.names _) c.check_and_tell-answer.ensures.checks in
-    subst (λ (files : List Bytes). RunsOver o a files old next c.max-status.result) (ap texts_of c.as_slice-files.ensures)
-    (subst (λ (n : ℕ). RunsOver o a (texts_of c.as_slice-files.result.now) old next n) (sym is)
-    (loop_end o a (texts_of c.as_slice-files.result.now) c.as_slice-files.result.now c.loop-file.file-index _ old now next c.loop-file.status c.check_and_tell-answer.result
-    c.loop-file-test.true c.loop-file.invariant.up_to checks (sym c.ends_run.ensures ∙ c.if-ends_run.true)))
-
-pub loop-file-preserved : goal.loop-file-preserved
-loop-file-preserved g c =
-    let is : c.max-status.result ≡ max c.loop-file.status (status_of c.check_and_tell-answer.result) = search (rules, c.max-status.ensures, c.status_of.ensures) in
-    let o = openings g.P.Source.Source.is_transparent (g.P.Opener.named c.args.opener.now) g.P.Opener.view in
-    let a = asked_for c.args.options.now in
-    let old = state g.O.Sink.view g.E.Sink.view c.args.opener.now c.args.out.now c.args.err.now in
-    let now = state g.O.Sink.view g.E.Sink.view c.loop-file.opener c.loop-file.out c.loop-file.err in
-    let next = state g.O.Sink.view g.E.Sink.view c.check_and_tell-answer.new.opener c.check_and_tell-answer.new.out c.check_and_tell-answer.new.err in
-    let checks = from_first g.P.Source.Source.is_transparent (g.P.Opener.named c.args.opener.now) (g.P.Opener.named c.loop-file.opener) g.P.Opener.view a _ now next
-    c.check_and_tell-answer.result (c.loop-file.invariant.names _) c.check_and_tell-answer.ensures.checks in
+pub returns-in-None-clause-runs : goal.returns-in-None-clause-runs
+returns-in-None-clause-runs g c =
+    let e = c.in-None.ensures in
     record {
-      names = λ path. c.check_and_tell-answer.ensures.names path ∙ c.loop-file.invariant.names path;
-      within = omega (arith, is, c.loop-file.invariant.within, status_most c.check_and_tell-answer.result);
-      up_to = λ new more runs. subst (λ (n : ℕ). RunsOver o a (texts_of c.as_slice-files.result.now) old new (max n more)) (sym is)
-          (loop_next o a (texts_of c.as_slice-files.result.now) c.as_slice-files.result.now c.loop-file.file-index _ old now next c.loop-file.status c.check_and_tell-answer.result
-          c.loop-file-test.true c.loop-file.invariant.up_to checks (sym c.ends_run.ensures ∙ c.if-ends_run.false) new more runs);
+      answers = e.answers;
+      mid = state g.O.Sink.view g.E.Sink.view c.check_each.new.opener c.check_each.new.out c.check_each.new.err;
+      runs = e.runs;
+      opener = refl;
+      ends = untold_early (asked_for c.args.options.now).is_counted (has_ended e.answers) _ _ e.counts.0 (record { same = refl; stays = sym e.counts.1 });
     }
 
-pub returns-clause-runs : goal.returns-clause-runs
-returns-clause-runs g c =
-    let o = openings g.P.Source.Source.is_transparent (g.P.Opener.named c.args.opener.now) g.P.Opener.view in
-    let a = asked_for c.args.options.now in
-    let old = state g.O.Sink.view g.E.Sink.view c.args.opener.now c.args.out.now c.args.err.now in
-    let now = state g.O.Sink.view g.E.Sink.view c.loop-file.opener c.loop-file.out c.loop-file.err in
-    subst (λ (files : List Bytes). RunsOver o a files old now c.loop-file.status) (ap texts_of c.as_slice-files.ensures)
-    (loop_all o a (texts_of c.as_slice-files.result.now) c.as_slice-files.result.now c.loop-file.file-index old now c.loop-file.status c.loop-file-test.false c.loop-file.invariant.up_to)
+pub returns-then-not-options-clause-runs : goal.returns-then-not-options-clause-runs
+returns-then-not-options-clause-runs g c =
+    let e = c.in-Some.ensures in
+    record {
+      answers = e.answers;
+      mid = state g.O.Sink.view g.E.Sink.view c.check_each.new.opener c.check_each.new.out c.check_each.new.err;
+      runs = e.runs;
+      opener = refl;
+      ends = untold (asked_for c.args.options.now).is_counted (has_ended e.answers) _ _ c.if-not-options.true
+          (record { same = refl; stays = c.status.ensures ∙ ap status_of e.counts.0 });
+    }
+
+pub returns-in-Ok-clause-runs : goal.returns-in-Ok-clause-runs
+returns-in-Ok-clause-runs g c =
+    let e = c.in-Some.ensures in
+    let old = g.O.Sink.view c.check_each.new.out in
+    let new = g.O.Sink.view c.put_summary.new.sink in
+    record {
+      answers = e.answers;
+      mid = state g.O.Sink.view g.E.Sink.view c.check_each.new.opener c.check_each.new.out c.check_each.new.err;
+      runs = e.runs;
+      opener = refl;
+      ends = told (asked_for c.args.options.now).is_counted (has_ended e.answers) _ _ c.if-not-options.false e.counts.1
+          (inl (
+            subst (λ (t : Tally). Appended old new (summary_line t)) e.counts.0 c.in-Ok.ensures,
+            refl,
+            c.status-in-Ok.ensures ∙ ap status_of e.counts.0,
+          ));
+    }
+
+pub returns-in-Err-clause-runs : goal.returns-in-Err-clause-runs
+returns-in-Err-clause-runs g c =
+    let e = c.in-Some.ensures in
+    let old = g.O.Sink.view c.check_each.new.out in
+    let new = g.O.Sink.view c.put_summary.new.sink in
+    record {
+      answers = e.answers;
+      mid = state g.O.Sink.view g.E.Sink.view c.check_each.new.opener c.check_each.new.out c.check_each.new.err;
+      runs = e.runs;
+      opener = refl;
+      ends = told (asked_for c.args.options.now).is_counted (has_ended e.answers) _ _ c.if-not-options.false e.counts.1
+          (inr (
+            subst (λ (t : Tally). FailedPartway old new (summary_line t)) e.counts.0 c.in-Err.ensures,
+            is_told _ _ _ c.put_flush_fault.result c.put_flush_fault.ensures,
+            refl,
+          ));
+    }

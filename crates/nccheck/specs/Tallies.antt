@@ -1,0 +1,61 @@
+-- Definition. How many files of a run were checked, and what was reported of them: the status, and the last line of `-s`.
+use Rattle.std.specs.Prelude.{ℕ, ◌+◌, nat_lt, if◌then◌else◌, List, [], ◌∷◌, codes, decimal, Option, Some, None, Result, Ok, Err, fold}
+use Rattle.nc_base.specs.Bytes.{Bytes, concat_parts}
+use Rattle.nc_check.specs.declared.kind.Severity.{Severity}
+use Rattle.nc_check.specs.declared.kind.Severity.TheVariants.{Error, Violation, Note}
+use Rattle.nccheck.specs.declared.{fault.FileFault.FileFault, tally.Count.Count, tally.Tally.Tally}
+use Rattle.nccheck.specs.declared.tally.Count.TheVariants.{Checked, WithErrors, WithViolations, WithNotes, WithNothing, NotChecked}
+
+-- what came of a path: the gravest severity that was reported of its file, if anything was, or a fault
+abbrev pub Answer : Type 0
+Answer = Result (Option Severity) FileFault
+
+abbrev pub no_files : Tally
+no_files = record { with_errors = 0; with_violations = 0; with_notes = 0; with_nothing = 0; not_checked = 0 }
+
+-- with one more file
+abbrev pub counted : Tally → Answer → Tally
+counted t (Ok (Some Error)) = record t { with_errors = t.with_errors + 1 }
+counted t (Ok (Some Violation)) = record t { with_violations = t.with_violations + 1 }
+counted t (Ok (Some Note)) = record t { with_notes = t.with_notes + 1 }
+counted t (Ok None) = record t { with_nothing = t.with_nothing + 1 }
+counted t (Err fault) = record t { not_checked = t.not_checked + 1 }
+
+abbrev pub tally_of : List Answer → Tally
+tally_of answers = fold counted no_files answers
+
+-- how many files were checked, and how many there were
+abbrev pub checked : Tally → ℕ
+checked t = t.with_errors + t.with_violations + t.with_notes + t.with_nothing
+
+abbrev pub total : Tally → ℕ
+total t = checked t + t.not_checked
+
+-- the status of a run over these files
+abbrev pub status_of : Tally → ℕ
+status_of t =
+    if nat_lt 0 t.not_checked then 2
+    else if nat_lt 0 (t.with_errors + t.with_violations + t.with_notes) then 1
+    else 0
+
+-- the words after a count
+unfoldable pub count_words : Count → Bytes
+count_words Checked = codes " checked: "
+count_words WithErrors = codes " with errors, "
+count_words WithViolations = codes " with violations, "
+count_words WithNotes = codes " with notes, "
+count_words WithNothing = codes " with nothing to report; "
+count_words NotChecked = codes " not checked\n"
+
+unfoldable pub count_text : ℕ → Count → Bytes
+count_text n count = concat_parts (decimal n ∷ count_words count ∷ [])
+
+unfoldable pub reported_text : Tally → Bytes
+reported_text t = concat_parts (
+    count_text t.with_errors WithErrors ∷
+    count_text t.with_violations WithViolations ∷
+    count_text t.with_notes WithNotes ∷
+    count_text t.with_nothing WithNothing ∷ [])
+
+unfoldable pub summary_line : Tally → Bytes
+summary_line t = concat_parts (count_text (checked t) Checked ∷ reported_text t ∷ count_text t.not_checked NotChecked ∷ [])

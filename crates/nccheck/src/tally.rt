@@ -1,0 +1,149 @@
+//! How many files of a run were checked, and what was reported of them.
+
+ghost use Rattle.std.specs.Prelude.{◌≡◌, ◌+◌, ◌<◌, ◌^◌};
+ghost use Rattle.devices.specs.code.SinkWrites.{Wrote};
+ghost use Rattle.nccheck.specs.Tallies.{checked, count_text, count_words, counted, no_files, reported_text, status_of, summary_line, total};
+
+use crate::fault::FileFault;
+use devices::{Sink, WriteFailed, put, put_decimal};
+use nc_check::Severity;
+
+/// The status of a run in which nothing was reported of any file.
+const CLEAN: u8 = 0;
+
+/// The status of a run in which something was reported.
+const REPORTED: u8 = 1;
+
+/// The status of a run in which something could not be done.
+pub(crate) const TROUBLE: u8 = 2;
+
+/// How many files of a run were checked. Each counts once, for the gravest of what was reported of it.
+#[derive(Clone, Copy, Debug, PartialEq, Eq)]
+pub(crate) struct Tally {
+    /// Those with an error.
+    pub with_errors: u64,
+    /// Those with a violation, and no error.
+    pub with_violations: u64,
+    /// Those with notes alone.
+    pub with_notes: u64,
+    /// Those of which nothing was reported.
+    pub with_nothing: u64,
+    /// Those that could not be checked.
+    pub not_checked: u64,
+}
+
+impl Tally {
+    /// Returns the tally of no files.
+    pub fn new() -> Tally
+        ensures { result ≡ no_files }
+    {
+        Tally {
+            with_errors: 0,
+            with_violations: 0,
+            with_notes: 0,
+            with_nothing: 0,
+            not_checked: 0,
+        }
+    }
+
+    /// Returns the tally with one more file, of which the gravest that was reported is given, or why it wasn't checked.
+    pub fn with(self, answer: Result<Option<Severity>, FileFault>) -> Tally
+        requires { total self + 1 < 2 ^ 64 }
+        ensures { result ≡ counted self answer }
+    {
+        let mut tally = self;
+        match answer {
+            Ok(Some(Severity::Error)) => tally.with_errors += 1,
+            Ok(Some(Severity::Violation)) => tally.with_violations += 1,
+            Ok(Some(Severity::Note)) => tally.with_notes += 1,
+            Ok(None) => tally.with_nothing += 1,
+            Err(_) => tally.not_checked += 1,
+        }
+        tally
+    }
+
+    /// Returns how many files were checked.
+    fn checked(self) -> u128
+        ensures { result ≡ checked self }
+    {
+        self.with_errors as u128
+            + self.with_violations as u128
+            + self.with_notes as u128
+            + self.with_nothing as u128
+    }
+
+    /// Returns the status of a run over these files.
+    pub fn status(self) -> u8
+        ensures { result ≡ status_of self }
+    {
+        if self.not_checked > 0 {
+            TROUBLE
+        } else if self.with_errors > 0 || self.with_violations > 0 || self.with_notes > 0 {
+            REPORTED
+        } else {
+            CLEAN
+        }
+    }
+}
+
+/// What the last line counts.
+#[derive(Clone, Copy, Debug, PartialEq, Eq)]
+enum Count {
+    /// Files that were checked.
+    Checked,
+    /// Those with an error.
+    WithErrors,
+    /// Those with a violation, and no error.
+    WithViolations,
+    /// Those with notes alone.
+    WithNotes,
+    /// Those of which nothing was reported.
+    WithNothing,
+    /// Files that could not be checked.
+    NotChecked,
+}
+
+/// Returns the words after a count.
+#[tactic(auto, unfolding(crate::specs::Tallies::count_words))]
+fn count_words(count: Count) -> &'static str
+    ensures { result.now ≡ count_words count }
+{
+    match count {
+        Count::Checked => " checked: ",
+        Count::WithErrors => " with errors, ",
+        Count::WithViolations => " with violations, ",
+        Count::WithNotes => " with notes, ",
+        Count::WithNothing => " with nothing to report; ",
+        Count::NotChecked => " not checked\n",
+    }
+}
+
+/// Writes a count and its words.
+#[tactic(auto, using(devices::proofs::Writes::writes), unfolding(crate::specs::Tallies::count_text))]
+fn put_count<W: Sink>(sink: &mut W, n: u128, count: Count) -> Result<(), WriteFailed>
+    ensures { Wrote W.view sink.old sink.new (count_text n count) result }
+{
+    put_decimal(sink, n)?;
+    put(sink, count_words(count).as_bytes())
+}
+
+/// Writes the line that says how many files were checked, and what was reported of them.
+#[tactic(auto, using(devices::proofs::Writes::writes), unfolding(crate::specs::Tallies::summary_line))]
+pub(crate) fn put_summary<W: Sink>(sink: &mut W, tally: Tally) -> Result<(), WriteFailed>
+    ensures { Wrote W.view sink.old sink.new (summary_line tally) result }
+{
+    put_count(sink, tally.checked(), Count::Checked)?;
+    put_reported(sink, tally)?;
+    put_count(sink, tally.not_checked as u128, Count::NotChecked)
+}
+
+/// Writes what was reported of the files that were checked.
+#[tactic(auto, using(devices::proofs::Writes::writes), unfolding(crate::specs::Tallies::reported_text))]
+fn put_reported<W: Sink>(sink: &mut W, tally: Tally) -> Result<(), WriteFailed>
+    ensures { Wrote W.view sink.old sink.new (reported_text tally) result }
+{
+    put_count(sink, tally.with_errors as u128, Count::WithErrors)?;
+    put_count(sink, tally.with_violations as u128, Count::WithViolations)?;
+    put_count(sink, tally.with_notes as u128, Count::WithNotes)?;
+    put_count(sink, tally.with_nothing as u128, Count::WithNothing)
+}
