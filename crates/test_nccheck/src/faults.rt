@@ -12,7 +12,7 @@ pub const FAULTS: &[Changed<'_>] = &[
     (
         b"\x89HDF\r\n\x1a\n",
         &[],
-        b"f:0: error: not-netcdf: magic: found 894844, expected 434446\n",
+        b"f:0: error: not-netcdf: magic: found 0x894844, expected 0x434446\n",
     ),
     (
         ONE_VARIABLE,
@@ -55,7 +55,7 @@ pub const FAULTS: &[Changed<'_>] = &[
     (
         ONE_VARIABLE,
         &[(16, b"\x7f\xff\xff\xff")],
-        b"f:16: note: long-name: dim[0] name length: found 2147483647, expected at most 256\n\
+        b"f:16: violation: long-name: dim[0] name length: found 2147483647, expected at most 256\n\
         f:20: error: header-truncated: dim[0] name: found 68, expected 2147483647 bytes\n",
     ),
     (
@@ -76,7 +76,7 @@ pub const FAULTS: &[Changed<'_>] = &[
     (
         TEXT_ATTRIBUTE,
         &[(35, b"\x07")],
-        b"f:32: error: bad-type: gatt[0] \"note\" type: found 7, expected 1 to 6\n",
+        b"f:32: error: bad-type: gatt[0] \"note\" type: found 7 (ubyte), expected 1 to 6\n",
     ),
     (
         UNSIGNED_FILLS,
@@ -116,7 +116,7 @@ pub const FAULTS: &[Changed<'_>] = &[
     (
         SECOND_ROW_LACKING,
         &[(24, b"\0\x80\0\0"), (36, b"\0\x80\0\0"), (87, b"\x06")],
-        b"f:84: note: floating-type: var[0] \"c\" type: found 6\n\
+        b"f:84: note: floating-type: var[0] \"c\" type: found 6 (double)\n\
         f:84: error: too-large: var[0] \"c\" type\n",
     ),
     (
@@ -126,7 +126,7 @@ pub const FAULTS: &[Changed<'_>] = &[
             (36, b"\0\x40\0\0"),
             (87, b"\x06\xff\xff\xff\xff"),
         ],
-        b"f:84: note: floating-type: var[0] \"c\" type: found 6\n\
+        b"f:84: note: floating-type: var[0] \"c\" type: found 6 (double)\n\
         f:100: error: missing: var[0] \"c\": found 100 bytes, expected at least 281474976710752\n",
     ),
     // begins with their top bit, of 4 and of 8 bytes
@@ -180,7 +180,7 @@ pub const NAMES: &[Changed<'_>] = &[
         &[(19, b"\x02m\xe9!!")],
         b"f:4: note: unused-records: numrecs: found 2, expected 0\n\
         f:20: error: bad-name: dim[0] \"m\xe9\" name\n\
-        f:22: violation: padding: dim[0] \"m\xe9\" name padding: found 2121, expected 0000\n",
+        f:22: violation: padding: dim[0] \"m\xe9\" name padding: found 0x2121, expected 0x0000\n",
     ),
     // names at which reading stops: of no bytes, with control characters, with NULs inside, and a NUL alone
     (
@@ -232,6 +232,6 @@ pub const NAMES: &[Changed<'_>] = &[
     (
         CLEAN,
         &[(158, b"\x01")],
-        b"f:157: violation: padding: var[1] \"depth\" name padding: found 000100, expected 000000\n",
+        b"f:157: violation: padding: var[1] \"depth\" name padding: found 0x000100, expected 0x000000\n",
     ),
 ];

@@ -16,10 +16,10 @@ pub const FIELDS: &[Changed<'_>] = &[
     (
         ODD_HEADER,
         &[],
-        b"f:21: violation: padding: dim[0] \"x\" name padding: found 000700, expected 000000\n\
-        f:44: note: floating-type: gatt[0] \"f\" type: found 5\n\
+        b"f:21: violation: padding: dim[0] \"x\" name padding: found 0x000700, expected 0x000000\n\
+        f:44: note: floating-type: gatt[0] \"f\" type: found 5 (float)\n\
         f:72: note: trailing-nul: gatt[1] \"nt\" values\n\
-        f:75: violation: padding: gatt[1] \"nt\" padding: found ff, expected 00\n\
+        f:75: violation: padding: gatt[1] \"nt\" padding: found 0xff, expected 0x00\n\
         f:128: error: missing: var[0] \"depth\": found 128 bytes, expected at least 140\n",
     ),
     (
@@ -35,7 +35,7 @@ pub const FIELDS: &[Changed<'_>] = &[
         &[],
         b"f:4: note: streaming: numrecs: found the streaming mark, for 0\n\
         f:64: note: empty-list: gatts tag: found 12, expected 0\n\
-        f:180: note: floating-type: var[0] \"v\" att[1] \"b\" type: found 6\n\
+        f:180: note: floating-type: var[0] \"v\" att[1] \"b\" type: found 6 (double)\n\
         f:184: note: empty-attribute: var[0] \"v\" att[1] \"b\" count: found 0, expected at least 1\n\
         f:264: error: missing: var[1] \"w\": found 264 bytes, expected at least 268\n\
         f:268: note: gap: data: found 4294967028 unused bytes before the records\n",
@@ -44,13 +44,13 @@ pub const FIELDS: &[Changed<'_>] = &[
     (
         ONE_VARIABLE,
         &[(27, b"\x02"), (71, b"\x05")],
-        b"f:68: note: floating-type: var[0] \"s\" type: found 5\n",
+        b"f:68: note: floating-type: var[0] \"s\" type: found 5 (float)\n",
     ),
     (
         ONE_VARIABLE,
         &[(71, b"\x06")],
-        b"f:68: note: floating-type: var[0] \"s\" type: found 6\n\
-        f:72: violation: vsize: var[0] \"s\" vsize: found 8, expected 24\n\
+        b"f:68: note: floating-type: var[0] \"s\" type: found 6 (double)\n\
+        f:72: note: vsize: var[0] \"s\" vsize: found 8, expected 24\n\
         f:88: error: missing: var[0] \"s\": found 88 bytes, expected at least 104\n",
     ),
     // 1025 dimensions: the header is longer than the buffer that it is read through
@@ -62,14 +62,14 @@ pub const FIELDS: &[Changed<'_>] = &[
             (56, &[0; 4108]),
             (4164, b"\0\0\0\x03\0\0\0\x04\0\0\x10\x50\0\0\0\0"),
         ],
-        b"f:52: note: high-rank: var[0] \"s\" rank: found 1025, expected at most 1024\n",
+        b"f:52: violation: high-rank: var[0] \"s\" rank: found 1025, expected at most 1024\n",
     ),
     // a fill value of another type than its variable, and two of the right one
     (FILLED_SHORTS, &[], b""),
     (
         FILLED_SHORTS,
         &[(87, b"\x04")],
-        b"f:84: violation: fill-value: var[0] \"s\" att[0] \"_FillValue\" type: found 4, expected 3, the variable's type\n",
+        b"f:84: violation: fill-value: var[0] \"s\" att[0] \"_FillValue\" type: found 4 (int), expected 3 (short), the variable's type\n",
     ),
     (
         FILLED_SHORTS,
@@ -79,13 +79,13 @@ pub const FIELDS: &[Changed<'_>] = &[
     (
         CLEAN,
         &[(142, b"\x10\0")],
-        b"f:140: violation: vsize: var[0] \"x\" vsize: found 4096, expected 12\n",
+        b"f:140: note: vsize: var[0] \"x\" vsize: found 4096, expected 12\n",
     ),
     // the size of a sole record variable of bytes, without its padding
     (
         RECORD_BYTES,
         &[(75, b"\x01")],
-        b"f:72: violation: vsize: var[0] \"b\" vsize: found 1, expected 4\n",
+        b"f:72: note: vsize: var[0] \"b\" vsize: found 1, expected 4\n",
     ),
 ];
 
@@ -105,44 +105,44 @@ pub const BEGINS: &[Changed<'_>] = &[
         CLEAN,
         &[(4, b"\xff\xff\xff\xff"), (142, b"\x10\0")],
         b"f:4: note: streaming: numrecs: found the streaming mark, for 3\n\
-        f:140: violation: vsize: var[0] \"x\" vsize: found 4096, expected 12\n",
+        f:140: note: vsize: var[0] \"x\" vsize: found 4096, expected 12\n",
     ),
     (
         CLEAN,
         &[(146, b"\0\x08")],
-        b"f:144: violation: begin-in-header: var[0] \"x\" begin: found 8, expected at least 348, the end of the header\n\
+        b"f:144: error: begin-in-header: var[0] \"x\" begin: found 8, expected at least 348, the end of the header\n\
         f:348: note: gap: data: found 12 unused bytes before var[1] \"depth\"\n",
     ),
     (
         CLEAN,
         &[(147, b"\x64"), (187, b"\x5c")],
-        b"f:184: violation: order: var[1] \"depth\" begin: found 348, expected at least 356, the begin of var[0] \"x\"\n",
+        b"f:184: error: order: var[1] \"depth\" begin: found 348, expected at least 356, the begin of var[0] \"x\"\n",
     ),
     (
         CLEAN,
         &[(187, b"\x64")],
-        b"f:184: violation: overlap: var[1] \"depth\" begin: found 356, expected at least 360, the end of var[0] \"x\"\n\
+        b"f:184: error: overlap: var[1] \"depth\" begin: found 356, expected at least 360, the end of var[0] \"x\"\n\
         f:364: note: gap: data: found 4 unused bytes before the records\n",
     ),
     (
         CLEAN,
         &[(186, b"\x01\xa0"), (423, b"\0")],
-        b"f:184: violation: after-records: var[1] \"depth\" begin: found 416, expected at most 368, the begin of the records\n\
+        b"f:184: error: after-records: var[1] \"depth\" begin: found 416, expected at most 368, the begin of the records\n\
         f:360: note: gap: data: found 8 unused bytes before the records\n",
     ),
     // the records begin in the padding
     (
         CLEAN,
         &[(247, b"\x6e"), (311, b"\x72"), (347, b"\x7a")],
-        b"f:244: violation: unpadded: var[2] \"t\" begin: found 366, expected at least 368, the end of var[1] \"depth\"\n\
+        b"f:244: error: unpadded: var[2] \"t\" begin: found 366, expected at least 368, the end of var[1] \"depth\"\n\
         f:414: violation: trailing: data: found 416 bytes, expected 414\n",
     ),
     // the slabs of two record variables change places
     (
         CLEAN,
         &[(247, b"\x78"), (311, b"\x70")],
-        b"f:244: violation: record-place: var[2] \"t\" begin: found 376, expected 368\n\
-        f:308: violation: record-place: var[3] \"h\" begin: found 368, expected 372\n",
+        b"f:244: error: record-place: var[2] \"t\" begin: found 376, expected 368\n\
+        f:308: error: record-place: var[3] \"h\" begin: found 368, expected 372\n",
     ),
     // all begins are 512 bytes later
     (
@@ -165,7 +165,7 @@ pub const BEGINS: &[Changed<'_>] = &[
             (72, b"\x7f\xff\xff\xfc"),
             (108, b"\x7f\xff\xff\xfc"),
         ],
-        b"f:112: violation: overlap: var[1] \"y\" begin: found 124, expected at least 2147483760, the end of var[0] \"x\"\n\
+        b"f:112: error: overlap: var[1] \"y\" begin: found 124, expected at least 2147483760, the end of var[0] \"x\"\n\
         f:132: error: missing: var[0] \"x\": found 132 bytes, expected at least 2147483768\n",
     ),
     (
@@ -175,8 +175,8 @@ pub const BEGINS: &[Changed<'_>] = &[
             (72, b"\x80\0\0\0"),
             (108, b"\x80\0\0\0"),
         ],
-        b"f:72: violation: large-variable: var[0] \"x\" vsize: found 2147483648, expected at most 2147483644\n\
-        f:112: violation: overlap: var[1] \"y\" begin: found 124, expected at least 2147483764, the end of var[0] \"x\"\n\
+        b"f:72: error: large-variable: var[0] \"x\" vsize: found 2147483648, expected at most 2147483644\n\
+        f:112: error: overlap: var[1] \"y\" begin: found 124, expected at least 2147483764, the end of var[0] \"x\"\n\
         f:132: error: missing: var[0] \"x\": found 132 bytes, expected at least 2147483772\n",
     ),
 ];
@@ -186,12 +186,12 @@ pub const CUT: &[(&[u8], usize, &[u8])] = &[
     (
         CLEAN,
         0,
-        b"f:0: error: not-netcdf: magic: found , expected 434446\n",
+        b"f:0: error: not-netcdf: magic: found 0x, expected 0x434446\n",
     ),
     (
         CLEAN,
         2,
-        b"f:0: error: not-netcdf: magic: found 4344, expected 434446\n",
+        b"f:0: error: not-netcdf: magic: found 0x4344, expected 0x434446\n",
     ),
     (
         CLEAN,
@@ -236,7 +236,7 @@ pub const CUT: &[(&[u8], usize, &[u8])] = &[
     (
         CLEAN,
         415,
-        b"f:415: violation: end-padding: data: found 415 bytes, expected 416\n",
+        b"f:415: note: end-padding: data: found 415 bytes, expected 416\n",
     ),
     (
         CLEAN,

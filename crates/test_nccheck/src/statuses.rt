@@ -8,35 +8,68 @@ use std::process::Abort;
 use test_files::{COORDINATES, TWO_RECORDS, patched};
 
 /// How the program is used.
-const USAGE: &[u8] = b"usage: nccheck [-q] [-l level] file ...\n";
+const USAGE: &[u8] = b"usage: nccheck [-q] [-s] [-l level] file ...\n";
 
 /// The line of the file `names`.
 const LINE: &[u8] =
     b"names:84: violation: duplicate-name: var[1] \"x\" name: found the name of number 0\n";
 
+/// How many bytes standard output takes where it doesn't fail.
+const ROOM: usize = 256;
+
 /// The words of a command line, how many bytes standard output takes, the status of the run, and what it writes to standard output and to
 /// standard error.
 type Run<'a> = (&'a [&'a str], usize, u8, &'a [u8], &'a [u8]);
 
-/// Runs over a clean file, `clean`, one with a violation, `names`, and one with a note, `records`.
+/// Runs over a clean file, `clean`, one with an error, `text`, one with a violation, `names`, and one with a note, `records`.
 const RUNS: &[Run<'_>] = &[
-    (&["nccheck", "clean", "records"], 99, 0, b"", b""),
-    (&["nccheck", "names", "clean"], 99, 1, LINE, b""),
-    (&["nccheck", "names", "-q"], 99, 1, b"", b""),
-    (&["nccheck", "-l", "error", "names"], 99, 0, b"", b""),
-    (&["nccheck"], 99, 2, b"", USAGE),
-    (&["nccheck", "-l", "worst", "clean"], 99, 2, b"", USAGE),
-    (&["nccheck", "-q", "-q", "clean"], 99, 2, b"", USAGE),
+    (&["nccheck", "clean", "records"], ROOM, 0, b"", b""),
+    (&["nccheck", "names", "clean"], ROOM, 1, LINE, b""),
+    (&["nccheck", "names", "-q"], ROOM, 1, b"", b""),
+    (&["nccheck", "-l", "error", "names"], ROOM, 0, b"", b""),
+    (&["nccheck"], ROOM, 2, b"", USAGE),
+    (&["nccheck", "-l", "worst", "clean"], ROOM, 2, b"", USAGE),
+    (&["nccheck", "-q", "-q", "clean"], ROOM, 2, b"", USAGE),
     (
         &["nccheck", "none", "names"],
-        99,
+        ROOM,
         2,
         LINE,
         b"nccheck: none: cannot open\n",
     ),
-    // a run ends if standard output fails
+    // the files are counted
     (
-        &["nccheck", "names", "none"],
+        &["nccheck", "-s", "clean", "names", "none", "records"],
+        ROOM,
+        2,
+        b"names:84: violation: duplicate-name: var[1] \"x\" name: found the name of number 0\n\
+        3 checked: 0 with errors, 1 with violations, 0 with notes, 2 with nothing to report; 1 not checked\n",
+        b"nccheck: none: cannot open\n",
+    ),
+    (
+        &["nccheck", "-qs", "-l", "note", "records", "text", "records"],
+        ROOM,
+        1,
+        b"3 checked: 1 with errors, 0 with violations, 2 with notes, 0 with nothing to report; 0 not checked\n",
+        b"",
+    ),
+    (
+        &["nccheck", "-sql", "error", "names", "clean"],
+        ROOM,
+        0,
+        b"2 checked: 0 with errors, 0 with violations, 0 with notes, 2 with nothing to report; 0 not checked\n",
+        b"",
+    ),
+    (
+        &["nccheck", "-q", "-s", "clean"],
+        9,
+        2,
+        b"1 checked",
+        b"nccheck: write failed\n",
+    ),
+    // a run ends if standard output fails, and the files aren't counted
+    (
+        &["nccheck", "-s", "names", "none"],
         9,
         2,
         b"names:84:",
@@ -47,9 +80,9 @@ const RUNS: &[Run<'_>] = &[
 /// Returns true if the run over these files ends as wanted.
 fn ends(alloc: Global, files: &[MemFile<'_>], run: &Run<'_>) -> bool {
     let (words, room, status, lines, trouble) = *run;
-    let mut line_space = [0; 99];
+    let mut line_space = [0; ROOM];
     let mut trouble_space = [0; 128];
-    let mut out = SliceSink::new(&mut line_space[..room.min(99)], 7);
+    let mut out = SliceSink::new(&mut line_space[..room.min(ROOM)], 7);
     let mut err = SliceSink::new(&mut trouble_space, 5);
     let ended = run_with(&mut MemFiles::new(files), alloc, words, &mut out, &mut err);
     ended == status && out.taken() == lines && err.taken() == trouble
@@ -62,6 +95,10 @@ fn runs_end_with_their_status(rt: HostRuntime) -> Result<(), AllocError> {
         MemFile {
             path: "clean",
             bytes: CLEAN,
+        },
+        MemFile {
+            path: "text",
+            bytes: b"netcdf t {\n}\n",
         },
         MemFile {
             path: "names",
