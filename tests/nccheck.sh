@@ -38,9 +38,20 @@ for words in '' '-x cut.nc' '-l bad cut.nc' '-l' '-l note -l error cut.nc'; do
     run "$nccheck" $words
     verdict "usage_of${words:+_}${words// /_}" 2
 done
+stderr 'usage: nccheck [-q] [-s] [-l level] file ...\n'
+run "$nccheck" cut.nc $'caf\351.nc'
+verdict word_that_is_not_utf_8 2
 stderr 'nccheck: cut.nc: write failed\nnccheck: write failed\n'
-run bash -c '"$0" cut.nc >/dev/full' "$nccheck"
-verdict full_device 2
+run bash -c '"$0" cut.nc >&-' "$nccheck"
+verdict closed_standard_output 2
+if has_full_device; then
+    stderr 'nccheck: cut.nc: write failed\nnccheck: write failed\n'
+    run bash -c '"$0" cut.nc >/dev/full' "$nccheck"
+    verdict full_device 2
+    stderr 'nccheck: write failed\nnccheck: write failed\n'
+    run bash -c '"$0" -q -s cut.nc >/dev/full' "$nccheck"
+    verdict summary_on_a_full_device 2
+fi
 
 # A file of 4 TiB, of which nothing is read but the header.
 cp stations.nc sparse.nc
@@ -56,10 +67,15 @@ for n in {1..1000}; do cp cut.nc "many/$n.nc"; done
 run bash -c 'ulimit -v 20000 && "$0" -q many/*.nc' "$nccheck"
 verdict many_files 1
 
-# Lines of processes that share a pipe don't mix: each of the lines stands whole, 50 times.
-run bash -c 'for n in {1..50}; do ls many/*; done | xargs -n 200 -P 4 "$0" | grep -cvxE "many/[0-9]+\.nc:500: error: missing: .* 504"' "$nccheck"
-stdout '0\n'
-verdict lines_of_processes_that_share_a_pipe 1
+# Each word of a long command line is checked, in its order.
+for n in {1..1000}; do echo "many/$n.nc:500: error: $missing"; done >"$work/want/stdout"
+run "$nccheck" many/{1..1000}.nc
+verdict each_word_in_its_order 1
+
+# Lines of processes that share a slow pipe don't mix, also if one writes more than the pipe holds: each line stands whole, 8 times.
+for _ in {1..8}; do for n in {1..1000}; do echo "many/$n.nc:500: error: $missing"; done; done | LC_ALL=C sort >"$work/want/stdout"
+run bash -c 'for _ in {1..8}; do ls many/*; done | xargs -n 1000 -P 4 "$0" | { sleep 1; LC_ALL=C sort; }' "$nccheck"
+verdict lines_of_processes_that_share_a_pipe 0
 
 # A file of the system is given back: more files than may be open at a time.
 run bash -c 'ulimit -n 16 && "$0" -q many/*.nc' "$nccheck"

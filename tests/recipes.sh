@@ -197,6 +197,8 @@ verdict archive_has_a_cut_file 0
 first_lines() {
     cat "${pages[@]}" | unpaged | awk '/^\.EX$/ { getline; if (/^\$ |: %|:$/) print }'
 }
+run test "$(first_lines | wc -l)" -ge 20
+verdict recipes_are_found 0
 run grep -vxFf "$work/run" <(first_lines)
 verdict all_recipes_are_run 1
 

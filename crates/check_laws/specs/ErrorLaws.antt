@@ -28,7 +28,7 @@ ListedHeadersHaveSlabsApart = (bytes : Bytes) (r : Report) (h : Header) → IsRe
 abbrev pub HasNoError : Report → Type 0
 HasNoError r = All (λ (f : Finding). severity_of (kind_of f.fact) ≢ Error) r.findings
 
--- each value that the header declares is in the file, and shares no byte with another one or with the header, which ends here
+-- each value of a variable is in the file, and shares no byte with another one or with the header, which ends here
 pub record HasValues (bytes : Bytes) (h : Header) (header_end : ℕ) : Type 0 where
   pub whole : list_any (lacks_values h bytes) h.vars ≡ false
   pub apart : SharesNoByte (layout_of h header_end (length bytes))

@@ -21,7 +21,7 @@ fault_words WriteFailed = codes "write failed"
 unfoldable pub file_line : Bytes → FileFault → Bytes
 file_line file fault = concat_parts (codes "nccheck: " ∷ file ∷ codes ": " ∷ fault_words fault ∷ codes "\n" ∷ [])
 
--- the last lines were held back, and could not be written
+-- the line of `-s`, or lines that were held back, could not be written
 unfoldable pub flush_line : Bytes
 flush_line = codes "nccheck: write failed\n"
 

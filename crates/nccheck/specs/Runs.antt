@@ -25,7 +25,7 @@ use Rattle.nccheck.specs.declared.fault.FileFault.TheVariants.{CannotOpen, ReadF
 abbrev pub shown : Asked → Bytes → Listing → List Finding → Bytes
 shown a file l findings = if a.is_quiet then [] else lines a.level file l findings
 
--- the file has these bytes; its lines were written, unless it was quiet, and it is said how grave is what was reported
+-- the file has these bytes; its lines were written, unless it was quiet, and the answer is the gravest severity that was reported
 pub record Checks (a : Asked) (bytes file : Bytes) (old new : SinkView) (reported : Option Severity) : Type 0 where
   pub report : Report
   pub is_report : IsReport bytes report
@@ -153,7 +153,7 @@ abbrev pub has_ended : List Answer → Bool
 has_ended answers = list_any ends_run answers
 
 -- the text was written to standard output after the run had this status; if that failed, the line of a failure was written to standard error,
--- or a prefix of it
+-- or a prefix of it, and the status is 2
 abbrev pub Writes : {P : Type 0} → Bytes → State P → State P → ℕ → ℕ → Type 0
 Writes text mid new before status =
     (Appended mid.out new.out text × (new.err ≡ mid.err) × (status ≡ before))
@@ -164,7 +164,8 @@ pub record WritesNothing {P : Type 0} (mid new : State P) (before status : ℕ) 
   pub same : new ≡ mid
   pub stays : status ≡ before
 
--- all paths were checked in turn, up to one whose fault ends the run; if there was none, and it is asked for, a line says what came of them
+-- all paths were checked in turn, up to one whose fault ends the run; if there was none, and it is asked for, a line says what came of them,
+-- or a prefix of it if standard output fails
 pub record RunsFiles {P : Type 0} (o : Openings P) (a : Asked) (old new : State P) (status : ℕ) : Type 0 where
   pub answers : List Answer
   pub mid : State P

@@ -41,7 +41,7 @@ fn fault_words(fault: FileFault) -> &'static str
     }
 }
 
-/// Writes the line for a flush of standard output that failed.
+/// Writes the line for the line of `-s`, or a flush of standard output, that failed.
 ///
 /// # Errors
 ///

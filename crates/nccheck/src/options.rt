@@ -10,7 +10,7 @@ pub struct CheckOptions<'a> {
     pub files: Sequence<&'a str>,
     /// How grave a finding has to be at least, to be reported: `-l`.
     pub level: Severity,
-    /// True if no line is written to standard output: `-q`.
+    /// True if no finding is written to standard output: `-q`.
     pub is_quiet: bool,
     /// True if a last line says how many files were checked, and what was reported of them: `-s`.
     pub is_counted: bool,

@@ -20,6 +20,27 @@ use std::{env, io};
 /// a pipe takes as many bytes in one piece, so that lines of several processes don't mix in it.
 const LINE_HELD_BACK: usize = 4096;
 
+/// A writer that passes each line on in one write, if it fits in the buffer. (A `write` of the buffer itself passes on first what it holds,
+/// and then the end of the line.)
+#[derive(Drop)]
+struct WholeLines<W: Write + Drop> {
+    /// The buffer.
+    lines: LineWriter<W>,
+}
+
+impl<W: Write + Drop> Write for WholeLines<W> {
+    /// Takes all the bytes, and passes on what they and those that are held back have up to the last line's end.
+    fn write(&mut self, buf: &[u8]) -> io::Result<usize> {
+        self.lines.write_all(buf)?;
+        Ok(buf.len())
+    }
+
+    /// Passes on what is held back.
+    fn flush(&mut self) -> io::Result<()> {
+        self.lines.flush()
+    }
+}
+
 /// The exit status after trouble.
 const TROUBLE: u8 = 2;
 
@@ -46,8 +67,12 @@ fn run_words<R: Env + Files<File = File> + Print + AllocGlobal, E: Write + Drop>
     let arguments: Vec<String> = env::args(rt)?.collect(alloc)?;
     let words: Vec<&str> = arguments.iter().map(|word| word.as_str()).collect(alloc)?;
     let mut files = DirectFiles::new(rt);
-    let mut out = IoSink::new(LineWriter::with_capacity(alloc, LINE_HELD_BACK, io::writer(rt))?);
-    let mut err = IoSink::new(LineWriter::with_capacity(alloc, LINE_HELD_BACK, stderr)?);
+    let mut out = IoSink::new(WholeLines {
+        lines: LineWriter::with_capacity(alloc, LINE_HELD_BACK, io::writer(rt))?,
+    });
+    let mut err = IoSink::new(WholeLines {
+        lines: LineWriter::with_capacity(alloc, LINE_HELD_BACK, stderr)?,
+    });
     let status = run_with(&mut files, alloc, words.as_slice(), &mut out, &mut err);
     let _ = err.flush();
     Ok(status)
