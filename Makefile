@@ -6,7 +6,7 @@ keep = mkdir -p bin && cp crates/$(1)_cli/out/$(1)_cli bin/$(1)
 PREFIX = /usr/local
 # what comes before the names of the installed programs and pages, and of the folder of documents, such as juniper- beside Unidata's
 NAMES =
-# The shell gets the paths by its environment, so they may have blanks.
+# The shell gets the paths by its environment, so they may have spaces.
 install uninstall: export names = $(NAMES)
 install uninstall: export programs = $(DESTDIR)$(PREFIX)/bin
 install uninstall: export pages = $(DESTDIR)$(PREFIX)/share/man

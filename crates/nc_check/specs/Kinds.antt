@@ -57,8 +57,9 @@ kind_of (fact.Layout fact) = kind_of_layout fact
 
 -- ---- of kinds
 
--- An error: values can't be had, or can't be trusted. Reading of the header stops, values aren't in the file, or netCDF-C refuses to open it.
--- A violation breaks a rule of the format or a limit of netCDF-C, but each value can be had. A note is legal or without any effect, but odd.
+-- An error: values can't be had, or can't be trusted. The header can't be read on, a name isn't valid, values aren't in the file, or netCDF-C
+-- refuses to open it. A violation breaks a rule of the format or a limit of netCDF-C, but each value can be had. A note is legal or without any
+-- effect, but odd.
 abbrev pub severity_of : Kind → Severity
 severity_of NotNetcdf = Error
 severity_of UnknownVersion = Error

@@ -14,7 +14,8 @@ pub enum Severity {
     Note,
     /// It breaks the NetCDF Classic Format Specification, or a limit of netCDF-C, but each value can be had.
     Violation,
-    /// Values can't be had, or can't be trusted: reading the header stops here, values aren't in the file, or netCDF-C refuses to open it.
+    /// Values can't be had, or can't be trusted: the header can't be read on, a name isn't valid, values aren't in the file, or netCDF-C
+    /// refuses to open it.
     Error,
 }
 

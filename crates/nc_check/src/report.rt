@@ -29,7 +29,7 @@ pub struct Report {
 /// all types of the format are taken.
 ///
 /// It reads the header once, forward, and at most one buffer more of a transparent source than the header, or than the bytes up to the end
-/// of the first wrong field. Of the data it reads nothing: begins and sizes are compared with the length of the source. It takes memory in
+/// of the first wrong field. No finding depends on the data: begins and sizes are compared with the length of the source. It takes memory in
 /// proportion to what was read of the header, without the values of attributes, and time in proportion to n log n for n fields.
 ///
 /// # Errors

@@ -158,18 +158,18 @@ module _ {P : Type 0} (o : Openings P) (a : Asked) (files : List Bytes) (xs : Li
 -- ---- the last line
 
 -- none where a fault has ended the run
-pub untold_early : (is_counted ended : Bool) (First Second : Type 0) → ended ≡ true → Second → Either (is_counted && not ended) First Second
-untold_early true true First Second is second = second
-untold_early true false First Second is second = absurd cc
-untold_early false ended First Second is second = second
+pub no_line_after_fault : (is_counted ended : Bool) (First Second : Type 0) → ended ≡ true → Second → Either (is_counted && not ended) First Second
+no_line_after_fault true true First Second is second = second
+no_line_after_fault true false First Second is second = absurd cc
+no_line_after_fault false ended First Second is second = second
 
 -- none where it isn't asked for
-pub untold : (is_counted ended : Bool) (First Second : Type 0) → is_counted ≡ false → Second → Either (is_counted && not ended) First Second
-untold true ended First Second is second = absurd cc
-untold false ended First Second is second = second
+pub no_line_asked_for : (is_counted ended : Bool) (First Second : Type 0) → is_counted ≡ false → Second → Either (is_counted && not ended) First Second
+no_line_asked_for true ended First Second is second = absurd cc
+no_line_asked_for false ended First Second is second = second
 
-pub told : (is_counted ended : Bool) (First Second : Type 0) → is_counted ≡ true → ended ≡ false → First
+pub line_follows : (is_counted ended : Bool) (First Second : Type 0) → is_counted ≡ true → ended ≡ false → First
     → Either (is_counted && not ended) First Second
-told true true First Second is goes_on first = absurd cc
-told true false First Second is goes_on first = first
-told false ended First Second is goes_on first = absurd cc
+line_follows true true First Second is goes_on first = absurd cc
+line_follows true false First Second is goes_on first = first
+line_follows false ended First Second is goes_on first = absurd cc

@@ -4,7 +4,7 @@ use Rattle.nccheck.specs.Runs.{has_ended, state}
 use Rattle.nccheck.specs.Tallies.{status_of, summary_line}
 use Rattle.nccheck.specs.code.Options.{asked_for}
 use Rattle.nccheck.specs.declared.tally.Tally.{Tally}
-use Rattle.nccheck.proofs.InTurn.{is_told, told, untold, untold_early}
+use Rattle.nccheck.proofs.InTurn.{is_told, line_follows, no_line_asked_for, no_line_after_fault}
 use Rattle.nccheck.proofs.running.check_files.Goals as goal
 
 pub returns-in-None-clause-runs : goal.returns-in-None-clause-runs
@@ -15,7 +15,7 @@ returns-in-None-clause-runs g c =
       mid = state g.O.Sink.view g.E.Sink.view c.check_each.new.opener c.check_each.new.out c.check_each.new.err;
       runs = e.runs;
       opener = refl;
-      ends = untold_early (asked_for c.args.options.now).is_counted (has_ended e.answers) _ _ e.counts.0 (record { same = refl; stays = sym e.counts.1 });
+      ends = no_line_after_fault (asked_for c.args.options.now).is_counted (has_ended e.answers) _ _ e.counts.0 (record { same = refl; stays = sym e.counts.1 });
     }
 
 pub returns-then-not-options-clause-runs : goal.returns-then-not-options-clause-runs
@@ -26,7 +26,7 @@ returns-then-not-options-clause-runs g c =
       mid = state g.O.Sink.view g.E.Sink.view c.check_each.new.opener c.check_each.new.out c.check_each.new.err;
       runs = e.runs;
       opener = refl;
-      ends = untold (asked_for c.args.options.now).is_counted (has_ended e.answers) _ _ c.if-not-options.true
+      ends = no_line_asked_for (asked_for c.args.options.now).is_counted (has_ended e.answers) _ _ c.if-not-options.true
           (record { same = refl; stays = c.status.ensures ∙ ap status_of e.counts.0 });
     }
 
@@ -40,7 +40,7 @@ returns-in-Ok-clause-runs g c =
       mid = state g.O.Sink.view g.E.Sink.view c.check_each.new.opener c.check_each.new.out c.check_each.new.err;
       runs = e.runs;
       opener = refl;
-      ends = told (asked_for c.args.options.now).is_counted (has_ended e.answers) _ _ c.if-not-options.false e.counts.1
+      ends = line_follows (asked_for c.args.options.now).is_counted (has_ended e.answers) _ _ c.if-not-options.false e.counts.1
           (inl (
             subst (λ (t : Tally). Appended old new (summary_line t)) e.counts.0 c.in-Ok.ensures,
             refl,
@@ -58,7 +58,7 @@ returns-in-Err-clause-runs g c =
       mid = state g.O.Sink.view g.E.Sink.view c.check_each.new.opener c.check_each.new.out c.check_each.new.err;
       runs = e.runs;
       opener = refl;
-      ends = told (asked_for c.args.options.now).is_counted (has_ended e.answers) _ _ c.if-not-options.false e.counts.1
+      ends = line_follows (asked_for c.args.options.now).is_counted (has_ended e.answers) _ _ c.if-not-options.false e.counts.1
           (inr (
             subst (λ (t : Tally). FailedPartway old new (summary_line t)) e.counts.0 c.in-Err.ensures,
             is_told _ _ _ c.put_flush_fault.result c.put_flush_fault.ensures,
