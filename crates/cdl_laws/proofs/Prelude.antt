@@ -6,11 +6,11 @@ unfoldable pub use Rattle.cdl_laws.specs.Reading.{lexemes_at, pieces_of}
 pub use Rattle.cdl_laws.specs.RoundTrip.{IsFull, TextReadsBack}
 pub use Rattle.cdl_laws.specs.TokenLaws.{AreToken, BlanksAndMarksStop, ConstantsReadBack, NamesReadBack, StandsForBytes, StopsNumber, StopsWord, StringsReadBack, StringsStandForBytes, ValuesReadBack}
 pub use Rattle.cdl_laws.specs.Trims.{FillValueSurvivesTrim, MeaningsAreSayable, MeaningsComeBack, SecondTripIsSame, TrimmedIsSayable, TrimsOnce, has_cut_fill}
-pub use Rattle.cdl_meaning.specs.Meaning.{array_of, closing_line, dataset_of, empty, header_of, is_within_limits, meaning, records_in, records_of, listed_values}
-pub use Rattle.cdl_meaning.specs.Bounds.{text_limit}
-unfoldable pub use Rattle.cdl_meaning.specs.Meaning.{finished, are_within_limits, piece_read, run}
-pub use Rattle.cdl_meaning.specs.State.{Listable, Draft, Joined, Listing, Numbers, Rows, State, add_characters, add_constant, add_number, add_row, change_named, int_within, dim_len_of, filled, first_type, in_turn, listed_by, unless, values_in, when, with_att, with_values, ◌>>=◌}
-unfoldable pub use Rattle.cdl_meaning.specs.State.{act, add_att, add_dim, add_dimid, add_var, change_variable, listable_of, has_number, listing_of, type_of}
+pub use Rattle.cdl_statements.specs.Meaning.{array_of, closing_line, dataset_of, empty, header_of, is_within_limits, meaning, records_in, records_of, listed_values}
+pub use Rattle.cdl_statements.specs.Bounds.{text_limit}
+unfoldable pub use Rattle.cdl_statements.specs.Meaning.{finished, are_within_limits, piece_read, run}
+pub use Rattle.cdl_statements.specs.State.{Listable, Draft, Joined, Listing, Numbers, Rows, State, add_characters, add_constant, add_number, add_row, change_named, int_within, dim_len_of, filled, first_type, in_turn, listed_by, unless, values_in, when, with_att, with_values, ◌>>=◌}
+unfoldable pub use Rattle.cdl_statements.specs.State.{act, add_att, add_dim, add_dimid, add_var, change_variable, listable_of, has_number, listing_of, type_of}
 pub use Rattle.cdl_statements.proofs.PieceLengths.{pieces_by_steps}
 pub use Rattle.cdl_statements.specs.Lexemes.{Lexeme, is_end_kind, is_mark, is_opening_kind, is_word, is_word_kind, lexeme}
 unfoldable pub use Rattle.cdl_statements.specs.Lexemes.{name_of}
@@ -96,5 +96,5 @@ pub use Rattle.nc_base.proofs.ValueLaws.{look-type, length-numbers_from}
 pub use Rattle.nc_base.proofs.CharacterRows.{prefix_is, pieces_are, a_row}
 unfoldable pub use Rattle.nc_base.proofs.CharacterRows.{char_pieces, printed}
 pub use Rattle.nc_base.proofs.FilePlaces.{length-numbers}
-pub use Rattle.cdl_meaning.proofs.InRange.{is_had}
+pub use Rattle.cdl_statements.proofs.InRange.{is_had}
 pub use Rattle.cdl_laws.proofs.Lists.{Each, EachAfter, all_of, any_each, each_after, each_map, each_of, or_left, or_right}

@@ -7,8 +7,8 @@ use Rattle.nc_base.specs.Headers.{IsGood}
 use Rattle.nc_base.specs.Sayable.{AreDistinct, AreSayableAtts, IsSayable, trimmed_var}
 use Rattle.nc_base.specs.Sizes.{record_vars}
 use Rattle.nc_base.specs.ValueText.{is_char}
-use Rattle.cdl_meaning.specs.Meaning.{meaning}
-use Rattle.cdl_meaning.specs.Bounds.{text_limit}
+use Rattle.cdl_statements.specs.Meaning.{meaning}
+use Rattle.cdl_statements.specs.Bounds.{text_limit}
 
 -- ---- what a text means is good
 

@@ -16,7 +16,7 @@ use Rattle.cdl_tokens.specs.declared.token.TokenKind.TheVariants as kinds
 use Rattle.cdl_statements.specs.Lexemes.{Lexeme, lexeme}
 use Rattle.cdl_statements.specs.Shapes.{Value, Dimension, Statement, Open, Enter, DeclareDimensions, DeclareVariables, Attribute, Listed, Close, End, first_bad, shape}
 use Rattle.cdl_statements.specs.Statements.{statements}
-use Rattle.cdl_meaning.specs.State.{in_turn, add_dimid, add_constant, first_type, type_of}
+use Rattle.cdl_statements.specs.State.{in_turn, add_dimid, add_constant, first_type, type_of}
 use Rattle.cdl_laws.specs.Reading.{cut_lexemes, lexemes, pieces_of}
 
 -- the piece has no bad token, and it is this statement of the section

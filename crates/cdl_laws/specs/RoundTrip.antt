@@ -6,7 +6,7 @@ use Rattle.nc_base.specs.Dump.{Options, whole}
 use Rattle.nc_base.specs.Datasets.{IsText}
 use Rattle.nc_base.specs.Names.{IsName}
 use Rattle.nc_base.specs.Sayable.{IsSayable, trimmed}
-use Rattle.cdl_meaning.specs.Meaning.{meaning}
+use Rattle.cdl_statements.specs.Meaning.{meaning}
 
 -- a full dump under a valid name
 pub record IsFull (o : Options) : Type 0 where

@@ -8,8 +8,8 @@ use Rattle.nc_base.specs.Sayable.{IsSayable}
 use Rattle.nc_base.specs.ValueText.{look_of, variable_text}
 use Rattle.cdl_statements.specs.declared.section.Section.TheVariants.{Values}
 use Rattle.cdl_statements.specs.Shapes.{Value, Listed}
-use Rattle.cdl_meaning.specs.Meaning.{array_of}
-use Rattle.cdl_meaning.specs.State.{Listing, listable_of, listing_of, values_in}
+use Rattle.cdl_statements.specs.Meaning.{array_of}
+use Rattle.cdl_statements.specs.State.{Listing, listable_of, listing_of, values_in}
 use Rattle.cdl_laws.specs.PieceLaws.{IsStatement}
 
 -- The text of the values of the variable in this place is one statement, which lists values for it. Added in turn, they give

@@ -8,8 +8,8 @@ use Rattle.nc_base.specs.Fill.{fill_value, is_fill_att}
 use Rattle.nc_base.specs.HeadText.{without_trailing_nuls}
 use Rattle.nc_base.specs.Sayable.{IsSayable, trimmed_var, trimmed}
 use Rattle.nc_base.specs.ValueText.{is_char}
-use Rattle.cdl_meaning.specs.Meaning.{meaning}
-use Rattle.cdl_meaning.specs.Bounds.{text_limit}
+use Rattle.cdl_statements.specs.Meaning.{meaning}
+use Rattle.cdl_statements.specs.Bounds.{text_limit}
 use Rattle.cdl_laws.specs.RoundTrip.{IsFull}
 
 -- ---- a second round trip

@@ -1,10 +1,10 @@
 -- The names that proofs of this crate cite from elsewhere, passed on from one place.
-pub use Rattle.cdl_meaning.specs.Meaning.{array_of, closing_line, dataset_of, empty, header_of, is_within_limits, starting_line, meaning, records_in, listed_values}
-pub use Rattle.cdl_meaning.proofs.Readings.{checked, shaped}
-unfoldable pub use Rattle.cdl_meaning.specs.Meaning.{finished, are_within_limits, piece_read, run}
+pub use Rattle.cdl_statements.specs.Meaning.{array_of, closing_line, dataset_of, empty, header_of, is_within_limits, starting_line, meaning, records_in, listed_values}
+pub use Rattle.cdl_statements.proofs.Readings.{checked, shaped}
+unfoldable pub use Rattle.cdl_statements.specs.Meaning.{finished, are_within_limits, piece_read, run}
 pub use Rattle.std.specs.Option.{ok_or}
-pub use Rattle.cdl_meaning.specs.State.{Draft, Listing, State, add_constant, change_named, dim_len_of, first_type, in_turn, type_said, unless, values_in, when, with_att, with_values, ◌>>=◌}
-unfoldable pub use Rattle.cdl_meaning.specs.State.{act, add_att, add_dim, add_dimid, add_var, change_variable, listable_of, listing_of, type_of}
+pub use Rattle.cdl_statements.specs.State.{Draft, Listing, State, add_constant, change_named, dim_len_of, first_type, in_turn, type_said, unless, values_in, when, with_att, with_values, ◌>>=◌}
+unfoldable pub use Rattle.cdl_statements.specs.State.{act, add_att, add_dim, add_dimid, add_var, change_variable, listable_of, listing_of, type_of}
 pub use Rattle.cdl_parse.specs.code.AttributeNames.{att_names, has_attribute}
 pub use Rattle.cdl_parse.specs.code.AttributeRead.{att_read, att_said, constants_said}
 pub use Rattle.cdl_parse.specs.code.ClosingLines.{closing_after, closing_of, with_line}

@@ -2,7 +2,7 @@
 
 ghost use Rattle.std.specs.Prelude.{◌≡◌, [], List};
 ghost use Rattle.cdl_tokens.specs.declared.token.Token.{Token};
-ghost use Rattle.cdl_meaning.specs.Meaning.{closing_line};
+ghost use Rattle.cdl_statements.specs.Meaning.{closing_line};
 ghost use Rattle.cdl_parse.specs.code.ClosingLines.{closing_after, with_line};
 
 /// The lines on which the last two of the statements that have been passed begin. The line of the closing brace follows from them at the

@@ -3,7 +3,7 @@
 ghost use Rattle.std.specs.Prelude.{◌≡◌, [], IfOk, true, false, replicate, slice_set};
 ghost use Rattle.cdl_statements.specs.code.Cutters.{Follows, SameText, is_done, words};
 ghost use Rattle.cdl_statements.specs.declared.section.Section.TheVariants.{Values};
-ghost use Rattle.cdl_meaning.specs.State.{State};
+ghost use Rattle.cdl_statements.specs.State.{State};
 ghost use Rattle.cdl_values.specs.code.Meant.{begins_brace};
 ghost use Rattle.cdl_parse.specs.code.ClosingLines.{closing_of};
 ghost use Rattle.cdl_parse.specs.code.DataSections.{Closes, ReadsDataSection, ReadsNextStatement, given_at};

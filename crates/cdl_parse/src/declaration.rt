@@ -7,7 +7,7 @@ ghost use Rattle.cdl_tokens.specs.Escapes.{word_value};
 ghost use Rattle.cdl_statements.specs.Lexemes.{is_mark_kind};
 ghost use Rattle.cdl_statements.specs.code.Views.{lexeme_of};
 ghost use Rattle.cdl_statements.specs.declared.due.Due.TheVariants.{VariableName};
-ghost use Rattle.cdl_meaning.specs.State.{type_of};
+ghost use Rattle.cdl_statements.specs.State.{type_of};
 ghost use Rattle.cdl_values.specs.code.Answers.{GivesRead, Leaves};
 ghost use Rattle.cdl_parse.specs.code.Declarations.{added, declared_by, first_with_word, is_open_after, next_dimid, with_begun};
 ghost use Rattle.cdl_parse.specs.code.Declarations.{BeginsVariable, PassesMark, ReadsDimension, ReadsToken};
@@ -68,7 +68,7 @@ pub fn read_declaration(
 ///
 /// The word of a floating type, `float`, `real` or `double` (`FloatingType`); a word that stands for no type of the version
 /// (`UnknownType`).
-#[tactic(auto, unfolding(cdl_meaning::specs::State::type_of))]
+#[tactic(auto, unfolding(cdl_statements::specs::State::type_of))]
 pub fn type_of_word(version: Version, word: Lexeme<'_>) -> Result<NcType, CdlKind>
     ensures { result ≡ type_of version (lexeme_of word.entry) }
 {

@@ -2,7 +2,7 @@
 
 ghost use Rattle.std.specs.Prelude.{◌≡◌, IfOk, false};
 ghost use Rattle.cdl_statements.specs.code.Cutters.{SameText, is_done, pieces_left};
-ghost use Rattle.cdl_meaning.specs.Meaning.{closing_line, empty};
+ghost use Rattle.cdl_statements.specs.Meaning.{closing_line, empty};
 ghost use Rattle.cdl_values.specs.code.Listed.{AreShaped};
 ghost use Rattle.cdl_parse.specs.code.ClosingLines.{closing_of};
 ghost use Rattle.cdl_parse.specs.code.Defined.{is_early, run_past};

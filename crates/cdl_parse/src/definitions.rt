@@ -31,7 +31,7 @@ pub struct Definitions {
 }
 
 impl Definitions {
-    ghost use Rattle.cdl_meaning.specs.Meaning.{empty};
+    ghost use Rattle.cdl_statements.specs.Meaning.{empty};
     ghost use Rattle.cdl_parse.specs.code.Defined.{Makes, after_mark, after_statement, is_defining, is_early, said_by, state_of};
 
     /// Returns definitions without dimensions, attributes and variables, in the section before the first statement. Does not

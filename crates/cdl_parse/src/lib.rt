@@ -1,7 +1,7 @@
 //! The parser of CDL texts: the dataset that a text means, or its first fault with its line (the CDL chapter of the NetCDF
 //! User's Guide, and ncgen(1)).
 //!
-//! What a text means is defined in `cdl_meaning`; the values of a statement are read by `cdl_values`.
+//! What a text means is defined in `cdl_statements`; the values of a statement are read by `cdl_values`.
 //!
 //! ```
 //! const TEXT: &[u8] = b"netcdf a { dimensions: x = 3 ; variables: byte v(x) ; data: v = 1, 2 ; }";

@@ -4,7 +4,7 @@ ghost use Rattle.std.specs.Prelude.{◌≡◌, IfOk, false, true};
 ghost use Rattle.cdl_statements.specs.code.Cutters.{Follows, is_done, words};
 ghost use Rattle.cdl_statements.specs.code.DueTokens.{completes};
 ghost use Rattle.cdl_statements.specs.declared.due.Due.TheVariants.{First};
-ghost use Rattle.cdl_meaning.specs.State.{State};
+ghost use Rattle.cdl_statements.specs.State.{State};
 ghost use Rattle.cdl_parse.specs.code.Defined.{ActsAsSaid};
 
 use cdl_statements::{CdlKind, Cutter, Section, check_shape};

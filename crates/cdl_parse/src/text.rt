@@ -2,7 +2,7 @@
 
 ghost use Rattle.std.specs.Prelude.{if◌then◌else◌, ◌≡◌, ◌<◌, ◌^◌, IfOk, Ok, false, length, true};
 ghost use Rattle.cdl_statements.specs.code.Cutters.{SameText, is_done, pieces_left, text_of};
-ghost use Rattle.cdl_meaning.specs.Meaning.{closing_line, empty, meaning};
+ghost use Rattle.cdl_statements.specs.Meaning.{closing_line, empty, meaning};
 ghost use Rattle.cdl_parse.specs.code.ClosingLines.{closing_of};
 ghost use Rattle.cdl_parse.specs.code.Defined.{is_early, is_over};
 ghost use Rattle.cdl_parse.specs.code.DeclaredDatasets.{dataset_of_declared};

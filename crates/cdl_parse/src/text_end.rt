@@ -2,7 +2,7 @@
 
 ghost use Rattle.std.specs.Prelude.{◌≡◌, IfOk, false, true};
 ghost use Rattle.cdl_statements.specs.code.Cutters.{is_done};
-ghost use Rattle.cdl_meaning.specs.State.{State};
+ghost use Rattle.cdl_statements.specs.State.{State};
 ghost use Rattle.cdl_parse.specs.code.ClosingLines.{closing_of};
 ghost use Rattle.cdl_parse.specs.code.Defined.{EndsAs, is_over};
 ghost use Rattle.cdl_parse.specs.code.Runs.{run_from};

@@ -50,7 +50,7 @@ pub struct Variables {
 
 impl Model for Variables {
     ghost use Rattle.std.specs.Prelude.{List, ◌≡◌};
-    ghost use Rattle.cdl_meaning.specs.State.{Draft};
+    ghost use Rattle.cdl_statements.specs.State.{Draft};
 
     ghost Value = { List Draft };
 

@@ -12,3 +12,5 @@ pub mod ListedTokens
 pub mod NumberLists
 pub mod PassedValues
 pub mod Prelude
+pub mod InRange
+pub mod Readings

@@ -3,4 +3,7 @@ pub mod Pieces
 pub mod Shapes
 pub mod Statements
 pub mod FaultWords
+pub mod State
+pub mod Meaning
+pub mod Bounds
 pub mod code

@@ -1,8 +1,8 @@
 //! The statements of a CDL text (the CDL chapter of the NetCDF User's Guide, and ncgen(1)).
 //!
-//! `specs/` has the definitions, from tokens to statements: the cut of the tokens into statements, and the shapes of these.
-//! The code has the types that the definitions and their readers share. What statements mean together is defined in
-//! `cdl_meaning` and read by `cdl_parse`.
+//! `specs/` has the definitions, from tokens to a dataset: the cut of the tokens into statements, the shapes of these, what each of them
+//! adds to the dataset so far (`State`), and what all of them mean (`Meaning`). The code has the types that the definitions and their readers
+//! share. The reader of a text, `cdl_parse`, and the laws of its meaning, `cdl_laws`, both stand on this crate, and not on each other.
 //!
 //! ```
 //! let mut cutter = Cutter::new(text, Version::Cdf1);

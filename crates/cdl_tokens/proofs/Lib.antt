@@ -11,4 +11,5 @@ pub mod Decimals
 pub mod PlainNumbers
 pub mod PlainStrings
 pub mod Searches
+pub mod Masks
 pub mod Prelude

@@ -1,57 +1,81 @@
-//! Searches that look at many bytes at once.
+//! Searches that look at many bytes at once, by vectors.
 
-ghost use Rattle.std.specs.Prelude.{◌≡◌, ◌≤◌, ◌==◌, count_by, length, not};
-ghost use Rattle.std.specs.List.{list_any, prefix_len};
-ghost use Rattle.cdl_tokens.specs.code.Scanners.{is_none_of};
+ghost use Rattle.std.specs.Prelude.{◌≡◌, ◌≤◌, ◌==◌, count_by, length, map, not};
+ghost use Rattle.std.specs.List.{prefix_len};
+ghost use Rattle.std.specs.Simd.Lanes.{mask_l};
+ghost use Rattle.cdl_tokens.specs.code.Scanners.{is_any_of, is_none_of};
 
-/// The number of bytes that a search tests at once.
+use std::simd::prelude::*;
+
+/// The number of bytes that [`len_before_any`] tests at once.
+const LANES: usize = 16;
+
+/// The number of bytes that [`far_len_before_any`] and [`count_of`] test at once.
 const BLOCK: usize = 64;
 
-/// The number of bytes that [`len_before_any`] tests one by one before it tests blocks: escapes often follow one another.
-const NEAR: usize = 16;
-
 /// Returns how many bytes come before the first one that equals the argument `a`, `b` or `c`. If there is none, returns the number of all
-/// bytes. It is inlined, so that arguments that are the same byte are tested once, and the tests of the first [`NEAR`] bytes need no loop.
+/// bytes. It suits a match that is likely to be less than a hundred bytes away, such as the end of a row. It is inlined, so that arguments
+/// that are the same byte are tested once.
 #[inline(always)]
 pub fn len_before_any(bytes: &[u8], a: u8, b: u8, c: u8) -> usize
     ensures len { result ≡ prefix_len (is_none_of a b c) bytes.now }
     ensures within { result ≤ length bytes.now }
 {
-    if bytes.len() < NEAR {
-        return near_len(bytes, a, b, c);
+    let mut at = 0;
+    while bytes.len() - at >= LANES {
+        let found = any_of(u8x16::from_slice(&bytes[at..]), a, b, c);
+        if found != 0 {
+            return at + found.trailing_zeros() as usize;
+        }
+        at += LANES;
     }
-    let (near, far) = bytes.split_at(NEAR);
-    let n = near_len(near, a, b, c);
-    if n < near.len() {
-        n
-    } else {
-        n + far_len(far, a, b, c)
-    }
+    at + near_len(&bytes[at..], a, b, c)
 }
 
-/// Returns how many bytes come before the first one that equals `a`, `b` or `c`, or the number of all bytes if there is none. It tests
-/// [`BLOCK`] bytes at once, which suits a match that is far away: [`len_before_any`] calls it for the bytes after the first [`NEAR`].
-#[inline(never)]
-fn far_len(bytes: &[u8], a: u8, b: u8, c: u8) -> usize
+/// Returns the same as [`len_before_any`]. It suits a match that may be far away, such as the end of a comment: after the first [`LANES`]
+/// bytes, in which escapes often follow one another, it tests [`BLOCK`] bytes at once.
+#[inline(always)]
+pub fn far_len_before_any(bytes: &[u8], a: u8, b: u8, c: u8) -> usize
     ensures len { result ≡ prefix_len (is_none_of a b c) bytes.now }
     ensures within { result ≤ length bytes.now }
 {
+    if bytes.len() >= LANES {
+        let found = any_of(u8x16::from_slice(bytes), a, b, c);
+        if found != 0 {
+            return found.trailing_zeros() as usize;
+        }
+    }
     let mut at = 0;
     while bytes.len() - at >= BLOCK {
-        let (_, rest) = bytes.split_at(at);
-        let (block, _) = rest.split_at(BLOCK);
-        if has_any(block, a, b, c) {
+        if has_any(u8x64::from_slice(&bytes[at..]), a, b, c) {
             break;
         }
         at += BLOCK;
     }
-    let (_, rest) = bytes.split_at(at);
-    at + near_len(rest, a, b, c)
+    at + len_before_any(&bytes[at..], a, b, c)
 }
 
-/// Returns how many bytes come before the first one that equals `a`, `b` or `c`, or the number of all bytes if there is none. It tests one
-/// byte after the other, which suits a match that is near: [`len_before_any`] calls it for the first [`NEAR`] bytes, and [`far_len`] if a
-/// match or the end is less than [`BLOCK`] bytes away.
+/// Returns a mask with a bit for each byte of the vector, set if the byte equals `a`, `b` or `c`.
+#[inline(always)]
+fn any_of(vector: u8x16, a: u8, b: u8, c: u8) -> u64
+    ensures { result ≡ mask_l (map (is_any_of a b c) vector) }
+{
+    (vector.simd_eq(u8x16::splat(a))
+        | vector.simd_eq(u8x16::splat(b))
+        | vector.simd_eq(u8x16::splat(c))).to_bitmask()
+}
+
+/// Returns true if a byte of the vector equals `a`, `b` or `c`.
+#[inline(always)]
+fn has_any(vector: u8x64, a: u8, b: u8, c: u8) -> bool
+    ensures { result ≡ not (mask_l (map (is_any_of a b c) vector) == 0) }
+{
+    (vector.simd_eq(u8x64::splat(a))
+        | vector.simd_eq(u8x64::splat(b))
+        | vector.simd_eq(u8x64::splat(c))).any()
+}
+
+/// Returns the same as [`len_before_any`], which calls it for the bytes that fill no vector. It tests one byte after the other.
 #[inline(always)]
 fn near_len(bytes: &[u8], a: u8, b: u8, c: u8) -> usize
     ensures len { result ≡ prefix_len (is_none_of a b c) bytes.now }
@@ -63,45 +87,28 @@ fn near_len(bytes: &[u8], a: u8, b: u8, c: u8) -> usize
         .count()
 }
 
-/// Returns true if one of `bytes`, a block of [`far_len`], equals the argument `a`, `b` or `c`. It tests all bytes, even after it has found
-/// one, so that the compiler can use vector instructions.
-fn has_any(bytes: &[u8], a: u8, b: u8, c: u8) -> bool
-    ensures { result ≡ list_any (λ x. not (is_none_of a b c x)) bytes.now }
-{
-    let mut found = false;
-    for x in bytes {
-        found = found | (*x == a) | (*x == b) | (*x == c);
-    }
-    found
-}
-
 /// Returns how many of the bytes are `byte`.
 pub fn count_of(bytes: &[u8], byte: u8) -> usize
     ensures { result ≡ count_by (λ b. b == byte) bytes.now }
 {
     let mut count = 0;
     let mut at = 0;
-    while at < bytes.len() {
-        let (_, rest) = bytes.split_at(at);
-        let (block, _) = rest.split_at(rest.len().min(COUNTED));
-        count += count_in_block(block, byte) as usize;
-        at += block.len();
+    while bytes.len() - at >= BLOCK {
+        count += equal_in(u8x64::from_slice(&bytes[at..]), byte);
+        at += BLOCK;
+    }
+    let (_, rest) = bytes.split_at(at);
+    for b in rest {
+        count += (*b == byte) as usize;
     }
     count
 }
 
-/// The number of bytes that [`count_of`] counts at once. It is at most 255, the most that a `u8` can count.
-const COUNTED: usize = 240;
-
-/// Returns how many of `bytes`, a block of [`count_of`], equal `byte`. Needs at most 255 bytes, so that the count fits in a `u8`.
-fn count_in_block(bytes: &[u8], byte: u8) -> u8
-    requires { length bytes.now ≤ 255 }
-    ensures count { result ≡ count_by (λ b. b == byte) bytes.now }
-    ensures within { result ≤ length bytes.now }
+/// Returns how many bytes of the vector are `byte`.
+#[inline(always)]
+fn equal_in(vector: u8x64, byte: u8) -> usize
+    ensures value { result ≡ count_by (λ b. b == byte) vector }
+    ensures few { result ≤ 64 }
 {
-    let mut count = 0;
-    for b in bytes {
-        count += (*b == byte) as u8;
-    }
-    count
+    vector.simd_eq(u8x64::splat(byte)).to_bitmask().count_ones() as usize
 }

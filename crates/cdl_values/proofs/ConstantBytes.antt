@@ -4,7 +4,7 @@ use Rattle.std.specs.Prelude.{⊤}
 use Rattle.cdl_values.proofs.Prelude.{bytes_of_number, NcType, Char, Version, value_of, values, Lexeme, TokenKind, character, inner, string_value, unescape_at, or_zero, word, held, Parts, number, Value, Number, Characters, CdlKind, NumberRange, add_constant, has_number, in_turn, same_type, type_said, unless, Adds, ContinuesRead, Leaves, char_bytes, held_bytes, joined, number_bytes, text_bytes, ReadError, OutOfMemory, Fault, Unlimited}
 use Rattle.cdl_tokens.specs.declared.token.TokenKind.TheVariants as kinds
 use Rattle.cdl_tokens.specs.declared.numeral.Numeral.{Numeral}
-use Rattle.cdl_meaning.specs.State.{◌>>=◌}
+use Rattle.cdl_statements.specs.State.{◌>>=◌}
 use Rattle.cdl_values.proofs.PackedTokens.{one_char}
 use Rattle.cdl_values.proofs.Ranges.{held_is}
 

@@ -4,9 +4,9 @@ use Rattle.cdl_values.proofs.Prelude.{flat_map, position_from, bytes_eq, length-
 use Rattle.cdl_statements.specs.declared.due.Due.TheVariants as dues
 use Rattle.cdl_statements.specs.declared.section.Section.TheVariants.{Values}
 use Rattle.cdl_statements.proofs.Sections.{data_is}
-use Rattle.cdl_meaning.proofs.Readings.{checked, shaped}
-use Rattle.cdl_meaning.specs.Meaning.{piece_read}
-use Rattle.cdl_meaning.specs.State.{◌>>=◌}
+use Rattle.cdl_statements.proofs.Readings.{checked, shaped}
+use Rattle.cdl_statements.specs.Meaning.{piece_read}
+use Rattle.cdl_statements.specs.State.{◌>>=◌}
 use Rattle.cdl_values.proofs.Counts.{all_taken, values_len}
 
 -- the target of the first of these names that is this one

@@ -1,6 +1,6 @@
 -- The names that proofs of this crate cite from elsewhere, passed on from one place.
-pub use Rattle.cdl_meaning.specs.State.{Draft, Listing, State, add_characters, add_constant, add_number, add_row, change_named, filled, in_turn, listed_by, same_type, type_said, unless, values_in, when, with_values}
-unfoldable pub use Rattle.cdl_meaning.specs.State.{act, change_variable, listable_of, has_number, listing_of}
+pub use Rattle.cdl_statements.specs.State.{Draft, Listing, State, add_characters, add_constant, add_number, add_row, change_named, filled, in_turn, listed_by, same_type, type_said, unless, values_in, when, with_values}
+unfoldable pub use Rattle.cdl_statements.specs.State.{act, change_variable, listable_of, has_number, listing_of}
 pub use Rattle.cdl_statements.proofs.Dues.{fine_on, only_completes}
 pub use Rattle.cdl_statements.proofs.Listing.{past_mark}
 pub use Rattle.cdl_statements.proofs.NumberLists.{at_same_comma, same_after, same_words}

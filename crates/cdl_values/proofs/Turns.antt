@@ -1,8 +1,8 @@
 -- The values of a statement one by one: their bytes are the bytes of what the state lists.
 use Rattle.std.proofs.Common.{◌≡◌, ℕ, zero, suc, ◌+◌, ◌-◌, ℤ, Bool, true, false, List, [], ◌∷◌, ◌++◌, length, map, refl, sym, ap, ◌∙◌, arith, append-nil, length-append, rules, subst, pos, Result, Ok, Err, ◌||◌, not, nat_lt, nat_le, replicate}
 use Rattle.cdl_values.proofs.Prelude.{flat_map, flat_map-append, map-append, NcType, Char, bytes_of_number, is_char, Value, Number, Characters, Underscore, CdlKind, TooManyValues, NumberRange, StringTooLong, WrongKind, Capacity, AtMost, Unlimited, Listing, add_number, add_characters, add_row, in_turn, listed_by, listing_of, values_in, has_number, filled, Fills, positions_in, as_bytes, packed, followed_by, joined, bytes_of, capacity_after, is_full, is_exceeded_by, capacity_minus, char_bytes, Fill, Filling, length-map}
-use Rattle.cdl_meaning.specs.State as states
-use Rattle.cdl_meaning.specs.State.{Numbers, Joined, Rows, ◌>>=◌}
+use Rattle.cdl_statements.specs.State as states
+use Rattle.cdl_statements.specs.State.{Numbers, Joined, Rows, ◌>>=◌}
 use Rattle.cdl_values.specs.declared.filling.Filling.TheVariants as fillings
 use Rattle.cdl_values.proofs.PackedTokens.{joined_assoc, joined_none, chars_len}
 

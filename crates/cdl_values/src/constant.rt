@@ -3,7 +3,7 @@
 ghost use Rattle.std.specs.Prelude.{◌≡◌, IfOk, false};
 ghost use Rattle.cdl_statements.specs.code.Cutters.{is_done};
 ghost use Rattle.cdl_statements.specs.code.ListedTokens.{EndsAtScanner, IsAtComma};
-ghost use Rattle.cdl_meaning.specs.State.{add_constant, type_said};
+ghost use Rattle.cdl_statements.specs.State.{add_constant, type_said};
 ghost use Rattle.cdl_values.specs.code.Answers.{GivesRead, Leaves};
 ghost use Rattle.cdl_values.specs.code.TokenValues.{AddsNumber, AddsToken, MovesOn, TakesConstants, text_said, constants_read, value_said};
 

@@ -1,7 +1,7 @@
 //! The number that `_` stands for.
 
 ghost use Rattle.std.specs.Prelude.{◌≡◌, true};
-ghost use Rattle.cdl_meaning.specs.State.{has_number};
+ghost use Rattle.cdl_statements.specs.State.{has_number};
 
 use nc_base::NcType;
 
@@ -19,7 +19,7 @@ impl Fill {
     ghost use Rattle.nc_base.specs.NumberLaws.{IsInRange};
 
     /// Returns the fill value `value` of a variable of the type `ty`. Needs a `value` in the range of `ty`.
-    #[tactic(auto, using(cdl_meaning::proofs::InRange::is_had))]
+    #[tactic(auto, using(cdl_statements::proofs::InRange::is_had))]
     pub fn new(ty: NcType, value: i128) -> Fill
         requires { IsInRange ty value }
         ensures ty { result.ty ≡ ty }

@@ -1,6 +1,6 @@
 //! The values of CDL text, as a file has them: the constants of an attribute, and what a statement of the data section lists.
 //!
-//! What a statement means is defined in `cdl_meaning`. This crate is internal: `cdl_parse` alone calls it.
+//! What a statement means is defined in `cdl_statements`. This crate is internal: `cdl_parse` alone calls it.
 //!
 //! ```
 //! // the next token of `first` is the first constant of an attribute

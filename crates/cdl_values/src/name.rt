@@ -4,7 +4,7 @@ ghost use Rattle.std.specs.Prelude.{◌≡◌, IfErr, IfOk, OnOk, true};
 ghost use Rattle.nc_base.specs.Names.{is_name};
 ghost use Rattle.cdl_tokens.specs.Escapes.{word_value};
 ghost use Rattle.cdl_statements.specs.declared.fault.CdlKind.TheVariants.{BadName};
-ghost use Rattle.cdl_meaning.specs.State.{unless};
+ghost use Rattle.cdl_statements.specs.State.{unless};
 ghost use Rattle.cdl_values.specs.code.Answers.{FailsRead};
 
 use crate::read_error::ReadError;

@@ -4,7 +4,7 @@ ghost use Rattle.std.specs.Prelude.{◌≡◌, ◌<◌, ◌-◌, ◌*◌, [], mi
 ghost use Rattle.nc_base.specs.Headers.{AreDimids};
 ghost use Rattle.nc_base.specs.Sizes.{dim_len, product};
 ghost use Rattle.nc_base.specs.declared.nc_type.NcType.TheVariants.{Char};
-ghost use Rattle.cdl_meaning.specs.State.{listable_of};
+ghost use Rattle.cdl_statements.specs.State.{listable_of};
 ghost use Rattle.cdl_values.specs.code.Capacities.{Fills, HasCapacityAsFilled, most};
 ghost use Rattle.cdl_values.specs.code.Listed.{unlisted_draft};
 ghost use Rattle.cdl_values.specs.code.Meant.{SuitVariables, Suits};
@@ -76,7 +76,7 @@ fn characters(dims: &[Dim], var: &Var) -> Filling
 
 /// Returns how many values a variable takes from the data section: numbers, bytes or rows, as its form `filling` counts them. A record
 /// variable has no limit.
-#[tactic(auto, unfolding(cdl_meaning::specs::State::listable_of))]
+#[tactic(auto, unfolding(cdl_statements::specs::State::listable_of))]
 fn capacity(dims: &[Dim], var: &Var, filling: Filling) -> Capacity
     ensures { HasCapacityAsFilled dims.now var.now filling result }
 {

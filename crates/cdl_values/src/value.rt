@@ -200,7 +200,7 @@ fn put_token_value(
 /// `version` decides which suffixes a number may have. `full` is true if the capacity is 0. Errs with `WrongKind` if the token is a string,
 /// with `TooManyValues` if `full`, with `NumberRange` if the number is out of the type's range, and with `OutOfMemory` if an allocation
 /// failed; in each case nothing is appended.
-#[tactic(auto, unfolding(cdl_statements::specs::code::Contents::value_of), using(crate::proofs::Ranges::held_is, cdl_meaning::proofs::InRange::has_it))]
+#[tactic(auto, unfolding(cdl_statements::specs::code::Contents::value_of), using(crate::proofs::Ranges::held_is, cdl_statements::proofs::InRange::has_it))]
 fn put_number_or_fill(
     array: &mut ListedArray,
     version: Version,

@@ -1,7 +1,7 @@
 -- The names that proofs of this crate cite from elsewhere, passed on from one place.
 pub use Rattle.cdl_laws.proofs.MeaningsAreGood.{meanings_are_good}
-pub use Rattle.cdl_meaning.specs.Meaning.{meaning}
-pub use Rattle.cdl_meaning.specs.Bounds.{out_of_memory, text_limit}
+pub use Rattle.cdl_statements.specs.Meaning.{meaning}
+pub use Rattle.cdl_statements.specs.Bounds.{out_of_memory, text_limit}
 pub use Rattle.cdl_statements.specs.declared.fault.CdlFault.{CdlFault}
 pub use Rattle.clap.specs.Words.{App, HasKind, Row, app_of, fault_of, found_of, is_simple, is_simple_and_free, kind_of, matches_of, new_app, new_rule, rows_of, rule_of, with_rule}
 pub use Rattle.cli_base.specs.Arguments.{flag, option, quiet, texts_of}

@@ -4,7 +4,7 @@ use Rattle.nc_base.specs.Bytes.{Bytes}
 use Rattle.nc_base.specs.declared.{dataset.Dataset.Dataset, version.Version.Version}
 use Rattle.nc_base.specs.GeneratedFile.{file_of, fits}
 use Rattle.cdl_statements.specs.declared.fault.CdlFault.{CdlFault}
-use Rattle.cdl_meaning.specs.Meaning.{meaning}
+use Rattle.cdl_statements.specs.Meaning.{meaning}
 use Rattle.ncgen.specs.declared.fault.GenFault.{GenFault, TheVariants.Cdl, TheVariants.OffsetTooLarge}
 
 abbrev pub file_or_fault : Result Dataset CdlFault → Result Bytes GenFault

@@ -2,7 +2,7 @@
 use Rattle.std.specs.Prelude.{◌≡◌, ◌⊎◌, Result, Ok, Err}
 use Rattle.nc_base.specs.Bytes.{Bytes}
 use Rattle.devices.specs.Sinks.{SinkView, Appended, FailedPartway}
-use Rattle.cdl_meaning.specs.Bounds.{out_of_memory}
+use Rattle.cdl_statements.specs.Bounds.{out_of_memory}
 use Rattle.ncgen.specs.declared.fault.GenFault.{GenFault, TheVariants.Cdl, TheVariants.WriteFailed}
 
 -- out of memory says nothing of the text

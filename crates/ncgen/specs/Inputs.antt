@@ -8,7 +8,7 @@ use Rattle.devices.specs.Failures.{HasFailed, one_more}
 use Rattle.devices.specs.Openers.{OpenerView, OpenerUse}
 use Rattle.devices.specs.Readers.{ReaderView}
 use Rattle.devices.specs.Uses.{Use}
-use Rattle.cdl_meaning.specs.Bounds.{text_limit}
+use Rattle.cdl_statements.specs.Bounds.{text_limit}
 use Rattle.ncgen.specs.Generated.{generated}
 use Rattle.ncgen.specs.Generates.{Refuses}
 use Rattle.ncgen.specs.code.TextReads.{ReadsText}

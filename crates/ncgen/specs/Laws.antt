@@ -6,8 +6,8 @@ use Rattle.nc_base.specs.Dump.{Ending, IsDump, Options, whole}
 use Rattle.nc_base.specs.Datasets.{IsText}
 use Rattle.nc_base.specs.GeneratedFile.{file_of}
 use Rattle.nc_base.specs.Sayable.{IsSayable, trimmed}
-use Rattle.cdl_meaning.specs.Meaning.{meaning}
-use Rattle.cdl_meaning.specs.Bounds.{text_limit}
+use Rattle.cdl_statements.specs.Meaning.{meaning}
+use Rattle.cdl_statements.specs.Bounds.{text_limit}
 use Rattle.cdl_laws.specs.RoundTrip.{IsFull}
 use Rattle.ncgen.specs.Generated.{file_or_fault, generated}
 

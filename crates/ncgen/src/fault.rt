@@ -1,7 +1,7 @@
 //! Why no file was generated, or no text read.
 
 ghost use Rattle.std.specs.Prelude.{◌≡◌};
-ghost use Rattle.cdl_meaning.specs.Bounds.{out_of_memory};
+ghost use Rattle.cdl_statements.specs.Bounds.{out_of_memory};
 ghost use Rattle.ncgen.specs.declared.fault.GenFault.TheVariants as gen;
 ghost use Rattle.ncgen.specs.declared.fault.TextFault.TheVariants as text;
 

@@ -1,7 +1,7 @@
 //! The file of a text.
 
 ghost use Rattle.std.specs.Prelude.{◌≤◌, length};
-ghost use Rattle.cdl_meaning.specs.Bounds.{text_limit};
+ghost use Rattle.cdl_statements.specs.Bounds.{text_limit};
 ghost use Rattle.ncgen.specs.Generated.{generated};
 ghost use Rattle.ncgen.specs.Generates.{Generates};
 ghost use Rattle.ncgen.specs.code.Prepared.{Prepares};

@@ -1,7 +1,7 @@
 //! Texts that are read, and the files that they give.
 
 ghost use Rattle.std.specs.Prelude.{◌≤◌, length};
-ghost use Rattle.cdl_meaning.specs.Bounds.{text_limit};
+ghost use Rattle.cdl_statements.specs.Bounds.{text_limit};
 
 use cdl_parse::{CdlFault, CdlKind, declared, parse};
 use devices::{CountedRead, SliceSink};

@@ -1,7 +1,7 @@
 //! What the tests have in common: texts that are generated, and files that are dumped again.
 
 ghost use Rattle.std.specs.Prelude.{◌≤◌, length};
-ghost use Rattle.cdl_meaning.specs.Bounds.{text_limit};
+ghost use Rattle.cdl_statements.specs.Bounds.{text_limit};
 
 use devices::{MemSink, MemSource, Sink};
 use nc_base::{Sequence, Version};

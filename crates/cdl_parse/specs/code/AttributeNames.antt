@@ -4,7 +4,7 @@ use Rattle.std.specs.List.{list_any}
 use Rattle.std.specs.Str.{bytes_eq}
 use Rattle.nc_base.specs.declared.{header.Att.Att, nc_type.NcType.NcType}
 use Rattle.cdl_statements.specs.declared.{fault.CdlKind.CdlKind, fault.CdlKind.TheVariants.DuplicateName}
-use Rattle.cdl_meaning.specs.State.{when, ◌>>=◌}
+use Rattle.cdl_statements.specs.State.{when, ◌>>=◌}
 
 abbrev pub att_names : List Att → List (List ℕ)
 att_names atts = map (λ (a : Att). a.name) atts

@@ -6,7 +6,7 @@ use Rattle.cdl_statements.specs.code.Cutters.{version_of, words}
 use Rattle.cdl_statements.specs.declared.{cutter.Cutter.Cutter, fault.CdlKind.CdlKind}
 use Rattle.cdl_statements.specs.Lexemes.{Lexeme}
 use Rattle.cdl_statements.specs.Shapes.{Value}
-use Rattle.cdl_meaning.specs.State.{Draft, add_att, change_variable, with_att}
+use Rattle.cdl_statements.specs.State.{Draft, add_att, change_variable, with_att}
 use Rattle.cdl_values.specs.code.Meant.{name_first}
 
 -- the constants of NAME, `=` and constants

@@ -2,7 +2,7 @@
 use Rattle.std.specs.Prelude.{ℕ, List, [], ◌∷◌}
 use Rattle.cdl_statements.specs.code.Cutters.{pieces_left}
 use Rattle.cdl_statements.specs.declared.cutter.Cutter.{Cutter}
-use Rattle.cdl_meaning.specs.Meaning.{starting_line}
+use Rattle.cdl_statements.specs.Meaning.{starting_line}
 use Rattle.cdl_parse.specs.declared.closing.PassedLines.{PassedLines}
 use Rattle.cdl_tokens.specs.declared.token.Token.{Token}
 

@@ -4,8 +4,8 @@ use Rattle.nc_base.specs.declared.header.Var.{Var}
 use Rattle.cdl_statements.specs.code.Cutters.{pieces_left, text_of, version_of, words}
 use Rattle.cdl_statements.specs.declared.cutter.Cutter.{Cutter}
 use Rattle.cdl_statements.specs.declared.section.Section.TheVariants.{Values, Closed}
-use Rattle.cdl_meaning.specs.Meaning.{piece_read, run}
-use Rattle.cdl_meaning.specs.State.{State, Draft}
+use Rattle.cdl_statements.specs.Meaning.{piece_read, run}
+use Rattle.cdl_statements.specs.State.{State, Draft}
 use Rattle.cdl_values.specs.code.Answers.{FailsRead}
 use Rattle.cdl_values.specs.code.Listed.{AllList, unlisted_drafts}
 use Rattle.cdl_values.specs.code.Meant.{AllSuit, names_of}

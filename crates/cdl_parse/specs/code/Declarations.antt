@@ -14,7 +14,7 @@ use Rattle.cdl_statements.specs.Lexemes.{Lexeme, is_mark, is_word}
 use Rattle.cdl_tokens.specs.Escapes.{word_value}
 use Rattle.cdl_statements.specs.declared.fault.CdlKind.TheVariants.{BadName, BadShape, DuplicateName, UnknownDimension, UnknownType}
 use Rattle.std.specs.Option.{ok_or}
-use Rattle.cdl_meaning.specs.State.{Draft, add_dimid, add_var, in_turn, type_of, unless, when, ◌>>=◌}
+use Rattle.cdl_statements.specs.State.{Draft, add_dimid, add_var, in_turn, type_of, unless, when, ◌>>=◌}
 use Rattle.cdl_values.specs.code.Answers.{ContinuesRead}
 use Rattle.cdl_values.specs.declared.read_error.ReadError.{ReadError}
 use Rattle.cdl_parse.specs.code.Drafts.{draft, is_variable_name, with_new_draft}

@@ -4,8 +4,8 @@ use Rattle.nc_base.specs.declared.{dataset.Dataset.Dataset, header.Att.Att, head
 use Rattle.nc_base.specs.GeneratedFile.{known_records}
 use Rattle.nc_base.specs.code.OwedValues.{whole_arrays}
 use Rattle.cdl_statements.specs.declared.{fault.CdlFault.CdlFault, fault.CdlKind.TheVariants.TooLarge}
-use Rattle.cdl_meaning.specs.Meaning.{finished}
-use Rattle.cdl_meaning.specs.State.{State}
+use Rattle.cdl_statements.specs.Meaning.{finished}
+use Rattle.cdl_statements.specs.State.{State}
 use Rattle.cdl_values.specs.code.Listed.{AllList, AreShaped}
 use Rattle.cdl_parse.specs.declared.declared_values.Declared.{Declared}
 

@@ -4,8 +4,8 @@ use Rattle.cdl_statements.specs.code.Cutters.{pieces_left, text_of, version_of, 
 use Rattle.cdl_statements.specs.declared.{cutter.Cutter.Cutter, fault.CdlFault.CdlFault, fault.CdlKind.CdlKind, section.Section.Section}
 use Rattle.cdl_statements.specs.declared.section.Section.TheVariants.{Unopened, Globals, Dimensions, Variables, Closed, Ended}
 use Rattle.cdl_statements.specs.code.Contents.{statement_said}
-use Rattle.cdl_meaning.specs.Meaning.{piece_read, run}
-use Rattle.cdl_meaning.specs.State.{State, act}
+use Rattle.cdl_statements.specs.Meaning.{piece_read, run}
+use Rattle.cdl_statements.specs.State.{State, act}
 use Rattle.cdl_values.specs.code.Answers.{FailsRead}
 use Rattle.cdl_values.specs.declared.read_error.ReadError.{ReadError}
 use Rattle.cdl_parse.specs.declared.{definition_sections.Defined.Defined, definitions.Definitions.Definitions}

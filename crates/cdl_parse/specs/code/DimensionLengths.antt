@@ -6,7 +6,7 @@ use Rattle.nc_base.specs.declared.{header.Dim.Dim, version.Version.Version}
 use Rattle.cdl_statements.specs.declared.fault.CdlKind.{CdlKind}
 use Rattle.cdl_statements.specs.declared.fault.CdlKind.TheVariants.{ZeroDimension, NumberRange}
 use Rattle.cdl_tokens.specs.Numerals.{Parts, number}
-use Rattle.cdl_meaning.specs.State.{dim_len_of}
+use Rattle.cdl_statements.specs.State.{dim_len_of}
 use Rattle.cdl_tokens.specs.declared.numeral.Numeral.{Numeral}
 
 abbrev pub number_len : Version → Numeral → Result ℕ CdlKind

@@ -4,7 +4,7 @@ use Rattle.std.specs.List.{list_any}
 use Rattle.std.specs.Str.{bytes_eq}
 use Rattle.nc_base.specs.declared.header.Dim.{Dim}
 use Rattle.cdl_statements.specs.declared.{fault.CdlKind.CdlKind, fault.CdlKind.TheVariants.DuplicateName}
-use Rattle.cdl_meaning.specs.State.{when, ◌>>=◌}
+use Rattle.cdl_statements.specs.State.{when, ◌>>=◌}
 
 abbrev pub dim_names : List Dim → List (List ℕ)
 dim_names dims = map (λ (d : Dim). d.name) dims

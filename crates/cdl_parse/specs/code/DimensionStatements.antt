@@ -5,7 +5,7 @@ use Rattle.cdl_statements.specs.code.Contents.{dimension_said, dimensions_said}
 use Rattle.cdl_statements.specs.code.Cutters.{version_of, words}
 use Rattle.cdl_statements.specs.code.Views.{lexeme_of}
 use Rattle.cdl_statements.specs.declared.{cutter.Cutter.Cutter, fault.CdlKind.CdlKind, lexeme.Lexeme.Lexeme}
-use Rattle.cdl_meaning.specs.State.{add_dim, in_turn}
+use Rattle.cdl_statements.specs.State.{add_dim, in_turn}
 use Rattle.cdl_parse.specs.declared.dimension_list.NextDimension.{NextDimension}
 
 -- with the dimension of this name and length

@@ -4,8 +4,8 @@ use Rattle.std.specs.List.{list_all}
 use Rattle.nc_base.specs.declared.{header.Dim.Dim, header.Var.Var}
 use Rattle.nc_base.specs.Sizes.{is_record_var, slab_count, slab_size, slab_limit, array_limit}
 use Rattle.nc_base.specs.Types.{size_of}
-use Rattle.cdl_meaning.specs.Meaning.{is_within_limits, records_in}
-use Rattle.cdl_meaning.specs.State.{Draft}
+use Rattle.cdl_statements.specs.Meaning.{is_within_limits, records_in}
+use Rattle.cdl_statements.specs.State.{Draft}
 use Rattle.cdl_values.specs.code.Listed.{AllList, AreShaped}
 use Rattle.cdl_parse.specs.declared.records.Extent.{Extent}
 

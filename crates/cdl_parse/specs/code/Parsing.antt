@@ -3,9 +3,9 @@ use Rattle.std.specs.Prelude.{ℕ, ◌≡◌, ◌⊎◌, ◌<◌, ◌^◌, lengt
 use Rattle.nc_base.specs.declared.{dataset.Dataset.Dataset, header.Dim.Dim, header.Var.Var}
 use Rattle.cdl_statements.specs.declared.{fault.CdlFault.CdlFault, cutter.Cutter.Cutter, section.Section.Section}
 use Rattle.cdl_statements.specs.code.Cutters.{pieces_left, text_of, version_of}
-use Rattle.cdl_meaning.specs.Meaning.{run}
-use Rattle.cdl_meaning.specs.Bounds.{out_of_memory}
-use Rattle.cdl_meaning.specs.State.{State, Draft}
+use Rattle.cdl_statements.specs.Meaning.{run}
+use Rattle.cdl_statements.specs.Bounds.{out_of_memory}
+use Rattle.cdl_statements.specs.State.{State, Draft}
 use Rattle.cdl_values.specs.code.Listed.{AllList, AreShaped, unlisted_drafts}
 use Rattle.cdl_values.specs.code.Meant.{names_of}
 use Rattle.cdl_parse.specs.code.DeclaredDatasets.{dataset_of_declared}

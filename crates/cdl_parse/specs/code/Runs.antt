@@ -4,8 +4,8 @@ use Rattle.nc_base.specs.declared.version.Version.{Version}
 use Rattle.cdl_statements.specs.code.Cutters.{pieces_left, text_of, version_of}
 use Rattle.cdl_statements.specs.declared.{cutter.Cutter.Cutter, fault.CdlFault.CdlFault, fault.CdlKind.CdlKind}
 use Rattle.cdl_tokens.specs.declared.token.Token.{Token}
-use Rattle.cdl_meaning.specs.Meaning.{run}
-use Rattle.cdl_meaning.specs.State.{State}
+use Rattle.cdl_statements.specs.Meaning.{run}
+use Rattle.cdl_statements.specs.State.{State}
 use Rattle.cdl_values.specs.declared.read_error.ReadError.{ReadError}
 use Rattle.cdl_values.specs.declared.read_error.ReadError.TheVariants.{OutOfMemory, Fault}
 use Rattle.cdl_parse.specs.declared.parse_error.ParseError.{ParseError}

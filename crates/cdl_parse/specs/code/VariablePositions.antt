@@ -1,7 +1,7 @@
 -- For contracts. The variable at a position.
 use Rattle.std.specs.Prelude.{ℕ, zero, suc, ◌≡◌, List, [], ◌∷◌, Result, Ok, Err}
 use Rattle.cdl_statements.specs.declared.{fault.CdlKind.CdlKind, fault.CdlKind.TheVariants.UnknownVariable}
-use Rattle.cdl_meaning.specs.State.{Draft, change_variable, ◌>>=◌}
+use Rattle.cdl_statements.specs.State.{Draft, change_variable, ◌>>=◌}
 use Rattle.cdl_values.specs.code.Answers.{ContinuesRead}
 use Rattle.cdl_values.specs.code.Meant.{names_of}
 use Rattle.cdl_values.specs.declared.read_error.ReadError.{ReadError}

@@ -1,5 +1,5 @@
 -- For contracts. What a scanner has before it.
-use Rattle.std.specs.Prelude.{ℕ, ◌-◌, Bool, not, ◌&&◌, ◌==◌, true, false, List, ◌∷◌, [], drop, Option, Some}
+use Rattle.std.specs.Prelude.{ℕ, ◌-◌, Bool, not, ◌&&◌, ◌||◌, ◌==◌, true, false, List, ◌∷◌, [], drop, Option, Some}
 use Rattle.cdl_tokens.specs.Tokens.{tokens_at}
 use Rattle.cdl_tokens.specs.declared.{token.Token.Token, token.TokenKind.TokenKind, scanner.Scanner.Scanner}
 use Rattle.cdl_tokens.specs.declared.token.TokenKind.TheVariants.{End, Mark}
@@ -21,6 +21,10 @@ comma_before = token_before Mark 1
 -- a byte that is none of the three
 abbrev pub is_none_of : ℕ → ℕ → ℕ → ℕ → Bool
 is_none_of first second third b = not (b == first) && not (b == second) && not (b == third)
+
+-- a byte that is one of the three
+abbrev pub is_any_of : ℕ → ℕ → ℕ → ℕ → Bool
+is_any_of first second third b = (b == first) || (b == second) || (b == third)
 
 -- a byte that stands for itself in a string: any but a backslash
 abbrev pub is_unescaped : ℕ → Bool

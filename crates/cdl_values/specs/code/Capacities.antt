@@ -5,8 +5,8 @@ use Rattle.nc_base.specs.declared.{header.Dim.Dim, header.Var.Var, nc_type.NcTyp
 use Rattle.nc_base.specs.Numbers.{bytes_of_number}
 use Rattle.nc_base.specs.ValueText.{is_char}
 use Rattle.cdl_statements.specs.declared.fault.CdlKind.{CdlKind}
-use Rattle.cdl_meaning.specs.State as states
-use Rattle.cdl_meaning.specs.State.{Listing, listable_of, values_in}
+use Rattle.cdl_statements.specs.State as states
+use Rattle.cdl_statements.specs.State.{Listing, listable_of, values_in}
 use Rattle.cdl_values.specs.declared.{capacity.Capacity.Capacity, filling.Filling.Filling}
 use Rattle.cdl_values.specs.declared.capacity.Capacity.TheVariants.{AtMost, Unlimited}
 use Rattle.cdl_values.specs.declared.filling.Filling.TheVariants.{Numbers, Joined, Rows}

@@ -4,8 +4,8 @@ use Rattle.std.specs.List.{flat_map}
 use Rattle.nc_base.specs.Headers.{AreDimids}
 use Rattle.nc_base.specs.Numbers.{bytes_of_number}
 use Rattle.nc_base.specs.declared.{header.Dim.Dim, header.Var.Var}
-use Rattle.cdl_meaning.specs.Meaning.{listed_values}
-use Rattle.cdl_meaning.specs.State.{Draft}
+use Rattle.cdl_statements.specs.Meaning.{listed_values}
+use Rattle.cdl_statements.specs.State.{Draft}
 
 -- a variable before the data section
 abbrev pub unlisted_draft : Var → Draft

@@ -8,8 +8,8 @@ use Rattle.cdl_tokens.specs.Escapes.{word_value}
 use Rattle.cdl_statements.specs.code.Cutters.{text_of, version_of, words}
 use Rattle.cdl_statements.specs.declared.{cutter.Cutter.Cutter, section.Section.TheVariants.Values, fault.CdlKind.CdlKind}
 use Rattle.cdl_statements.specs.Lexemes.{Lexeme, is_mark}
-use Rattle.cdl_meaning.specs.Meaning.{piece_read}
-use Rattle.cdl_meaning.specs.State.{State, Draft, Listing, listable_of, values_in}
+use Rattle.cdl_statements.specs.Meaning.{piece_read}
+use Rattle.cdl_statements.specs.State.{State, Draft, Listing, listable_of, values_in}
 use Rattle.cdl_values.specs.declared.{read_error.ReadError.ReadError, data.Given.Given, data.Target.Target}
 use Rattle.cdl_values.specs.declared.read_error.ReadError.TheVariants.{OutOfMemory, Fault}
 use Rattle.cdl_values.specs.code.Capacities.{Fills, HasCapacity}

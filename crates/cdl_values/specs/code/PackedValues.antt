@@ -8,7 +8,7 @@ use Rattle.cdl_tokens.specs.Numerals.{signed}
 use Rattle.cdl_statements.specs.Shapes.{Value, Number, Characters, Underscore}
 use Rattle.cdl_statements.specs.declared.fault.CdlKind.{CdlKind}
 use Rattle.cdl_statements.specs.declared.fault.CdlKind.TheVariants.{NumberRange, WrongKind, TooManyValues, StringTooLong}
-use Rattle.cdl_meaning.specs.State.{has_number}
+use Rattle.cdl_statements.specs.State.{has_number}
 use Rattle.cdl_values.specs.declared.{capacity.Capacity.Capacity, filling.Filling.Filling}
 use Rattle.cdl_values.specs.declared.capacity.Capacity.TheVariants.{AtMost, Unlimited}
 use Rattle.cdl_values.specs.declared.filling.Filling.TheVariants.{Numbers, Joined, Rows}

@@ -12,7 +12,7 @@ use Rattle.cdl_statements.specs.Lexemes as lexemes
 use Rattle.cdl_statements.specs.Shapes.{Value, Number, Characters}
 use Rattle.cdl_statements.specs.code.Views.{lexeme_of, lexeme_with}
 use Rattle.cdl_statements.specs.declared.{cutter.Cutter.Cutter, due.Due.Due, fault.CdlKind.CdlKind, lexeme.Lexeme.Lexeme}
-use Rattle.cdl_meaning.specs.State.{add_constant, in_turn}
+use Rattle.cdl_statements.specs.State.{add_constant, in_turn}
 use Rattle.cdl_values.specs.code.Answers.{ContinuesRead, Leaves}
 use Rattle.cdl_values.specs.code.PackedValues.{bytes_of, capacity_after, joined, capacity_minus, packed, value_bytes}
 use Rattle.cdl_values.specs.declared.{capacity.Capacity.Capacity, fill.Fill.Fill, filling.Filling.Filling, read_error.ReadError.ReadError, value.FastPathFault.FastPathFault}

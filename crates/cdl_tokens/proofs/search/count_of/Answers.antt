@@ -1,14 +1,13 @@
-use Rattle.std.proofs.Common.{arith, ◌==◌, ap, ◌∙◌, take}
-use Rattle.cdl_tokens.proofs.Searches.{counted_block}
+use Rattle.std.proofs.Common.{◌==◌, arith}
+use Rattle.cdl_tokens.proofs.Masks.{counted_more}
 use Rattle.cdl_tokens.proofs.search.count_of.Goals as goal
 
 pub loop-at-preserved : goal.loop-at-preserved
 loop-at-preserved c =
-    let l = c.loop-at in
-    let cut = c.split_at-in-loop-at in
-    let few = c.count_in_block.ensures in
+    let more = counted_more (λ b. b == c.args.byte) c.args.bytes.now c.loop-at.at 64 in
+    let here = c.equal_in-count.ensures in
     record {
-      within = omega (arith, cut.ensures.front_len, c.min.ensures, c.split_at.ensures.back_len, l.invariant.within);
-      counted = counted_block (λ b. b == c.args.byte) c.args.bytes.now cut.result.0.now l.at c.min.result l.count c.count_in_block.result (cut.ensures.front ∙ ap (take c.min.result) c.split_at.ensures.back) cut.ensures.front_len l.invariant.counted few.count;
-      few = omega (arith, few.within, l.invariant.few);
+      within = omega arith;
+      counted = omega (arith, more, here.value, c.loop-at.invariant.counted);
+      few = omega (arith, here.few);
     }

@@ -1,5 +1,5 @@
 use Rattle.std.proofs.Common.{rules, ◌≡◌, true}
-use Rattle.cdl_meaning.specs.State.{same_type}
+use Rattle.cdl_statements.specs.State.{same_type}
 use Rattle.cdl_values.proofs.ConstantBytes.{number_left}
 use Rattle.cdl_values.proofs.constant.put_number_constant.Goals as goal
 

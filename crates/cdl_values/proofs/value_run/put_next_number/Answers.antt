@@ -1,5 +1,5 @@
 use Rattle.std.proofs.Common.{rules, ◌≡◌, ◌++◌, Bool, sym, ap, ◌∙◌, subst, Ok, refl}
-use Rattle.cdl_meaning.proofs.InRange.{has_it}
+use Rattle.cdl_statements.proofs.InRange.{has_it}
 use Rattle.cdl_statements.specs.code.NumberLists as lists
 use Rattle.cdl_statements.specs.declared.{number_list.NumberList.NumberList}
 use Rattle.cdl_values.proofs.Prelude.{NcType, bytes_of_number, held_bytes, joined, capacity_minus, Numbers, PassesUnderscore, TakesValues}

@@ -1,6 +1,7 @@
 use Rattle.std.proofs.Common.{◌≡◌, ◌≤◌, ◌+◌, ◌-◌, length, drop}
-use Rattle.cdl_tokens.proofs.Prelude.{prefix_len, is_none_of}
-use Rattle.cdl_tokens.proofs.search.far_len.Given as goal
+use Rattle.std.specs.List.{prefix_len}
+use Rattle.cdl_tokens.specs.code.Scanners.{is_none_of}
+use Rattle.cdl_tokens.proofs.search.far_len_before_any.Given as goal
 
 abbrev pub invariant-loop-at : goal.invariant-loop-at
 invariant-loop-at l = record {

@@ -3,7 +3,7 @@ use Rattle.std.proofs.Common.{◌≡◌, ℤ, true, rules}
 use Rattle.nc_base.specs.declared.nc_type.NcType.{NcType}
 use Rattle.nc_base.specs.declared.nc_type.NcType.TheVariants.{Byte, Char, Short, Int, Ubyte, Ushort, Uint, Int64, Uint64}
 use Rattle.nc_base.specs.NumberLaws.{IsInRange}
-use Rattle.cdl_meaning.specs.State.{has_number}
+use Rattle.cdl_statements.specs.State.{has_number}
 
 pub has_it : (ty : NcType) (n : ℤ) → has_number ty n ≡ true → IsInRange ty n
 unfolding has_number

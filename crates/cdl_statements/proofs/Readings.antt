@@ -1,6 +1,6 @@
 -- A piece that is read, in steps.
 use Rattle.std.proofs.Common.{List, Option, None, Some, Result, Err}
-use Rattle.cdl_meaning.specs.State.{State, act}
+use Rattle.cdl_statements.specs.State.{State, act}
 use Rattle.cdl_statements.specs.Lexemes.{Lexeme}
 use Rattle.cdl_statements.specs.Shapes.{Statement, shape}
 use Rattle.cdl_statements.specs.declared.fault.CdlKind.{CdlKind}

@@ -13,7 +13,7 @@ use Rattle.cdl_statements.specs.Statements.{statements}
 use Rattle.cdl_statements.specs.declared.{fault.CdlFault.CdlFault, fault.CdlKind.CdlKind, section.Section.TheVariants.Unopened}
 use Rattle.cdl_statements.specs.declared.fault.CdlKind.TheVariants.{Syntax, TooLarge}
 use Rattle.cdl_tokens.specs.declared.token.Token.{Token}
-use Rattle.cdl_meaning.specs.State.{State, Draft, act, listable_of, filled, values_in}
+use Rattle.cdl_statements.specs.State.{State, Draft, act, listable_of, filled, values_in}
 
 -- ---- statements
 
