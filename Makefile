@@ -1,7 +1,10 @@
 # ncdump, ncgen and nccheck for the netCDF classic formats. Everything is proved before it is built.
 
 sample = samples/stations
-keep = mkdir -p bin && cp crates/$(1)_cli/out/$(1)_cli bin/$(1)
+keep = mkdir -p bin && cp crates/$(1)_cli/out/$(1)_cli bin/$(1) && $(call stamp,$(1))
+# gives a program a section with the version, which `strings` finds
+stamp = printf 'juniperbrick %s\n' "$$(cat VERSION)" >bin/version && \
+	if command -v objcopy >/dev/null; then objcopy --add-section .juniperbrick=bin/version bin/$(1); fi
 # where `make install` puts the programs, their manual pages, completions, documents and samples
 PREFIX = /usr/local
 # what comes before the names of the installed programs and pages, and of the folder of documents, such as juniper- beside Unidata's
@@ -31,6 +34,9 @@ bin/ncdump bin/ncgen bin/nccheck &: $(wildcard build.sh kit.sh HANDLES crates.tx
 	@$(sources)
 	@test -x bin/ncdump || { $(try); }
 	./build.sh
+	@$(call stamp,ncdump)
+	@$(call stamp,ncgen)
+	@$(call stamp,nccheck)
 
 # Prints the sample by a program that isn't proved.
 try = ./kit.sh && echo 'A first dump, in a minute or two, by a program that is not proved yet:' && \
@@ -137,7 +143,7 @@ put = put() { sed -E "$$1" "$$2" >"$$3" && chmod 644 "$$3"; }
 renamed = s/^\.TH /&\U$(NAMES)\E/; s/^(cdl|nc[a-z]+) \\-/$(NAMES)&/; \
 	s/(cdl|nc(dump|gen|check)) \(([15])\)/$(NAMES)\1 (\3)/g; \
 	s/^(\.BR? "?)(nc(dump|gen|check))( |$$)/\1$(NAMES)\2\4/; \
-	/^\.EX/,/^\.EE/s/(^|[ \t|"])(nc(dump|gen|check)) /\1$(NAMES)\2 /g
+	/^\.EX/,/^\.EE/s/(^|[ \t|"])(nc(dump|gen|check))([ )])/\1$(NAMES)\2\4/g
 # makes plain names of the links of a document that lead to what is not installed beside it
 unlinked = s,\[([^]]*)\]\((\.\./)?(man/|crates/|CONTRIBUTING)[^)]*\),\1,g
 

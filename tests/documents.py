@@ -36,7 +36,7 @@ from pathlib import Path
 
 TOP = Path(__file__).resolve().parent.parent
 README = TOP / "README.md"
-README_LINES = 100
+README_LINES = 105
 PROVED = TOP / "docs" / "PROVED.md"
 DOCUMENTS = sorted(TOP.glob("*.md")) + sorted(TOP.glob("docs/*.md"))
 PAGES = sorted(TOP.glob("man/*.[1-8]"))

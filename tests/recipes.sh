@@ -147,6 +147,12 @@ cp tides.cdl "$work/want/stdout"
 recipe '/dev/stdin'
 verdict file_on_standard_input 0
 
+# VERSION of each page
+for name in ncdump ncgen nccheck; do
+    recipe "command -v $name"
+    verdict "version_in_$name" 0
+done
+
 # The recipe for git: changes of files are shown as changes of their text, also of a file that is cut short and of one with a floating type,
 # which can't be printed.
 changes() {

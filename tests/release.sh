@@ -36,6 +36,11 @@ verdict no_build_in_a_release 0
 run env PATH="$work/path" make -s install DESTDIR="$work" PREFIX=/usr
 verdict installs_without_the_kit 0
 
+for name in ncdump ncgen nccheck; do
+    run grep -c "^juniperbrick $version$" <(strings "$work/usr/bin/$name")
+    stdout '1\n'
+    verdict "version_of_$name" 0
+done
 run "$work/usr/bin/ncgen" -o "$work/note.nc" samples/note.cdl
 verdict installed_ncgen 0
 run cmp "$work/note.nc" samples/note.nc
