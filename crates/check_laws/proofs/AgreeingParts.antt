@@ -11,8 +11,8 @@ use Rattle.nc_base.specs.Versions.{count_width, offset_width, count_limit, offse
 use Rattle.nc_base.specs.Names.{is_name}
 use Rattle.nc_base.specs.Sizes.{has_record_dim, padded_total, record_vars}
 use Rattle.nc_base.specs.Parts.{Step, Part, bytes, decoded, Magic, VersionByte, Records, Dims, Gatts, Vars, Tag, Count, Item, Name, Length, Text, Padding, TypeCode, Values, Shape, Atts, Vsize, Begin}
-use Rattle.nc_base.specs.Grammar.{strict, checked, type_in, version_in, numrecs_in, number_of_numrecs, is_dimid, is_within_limits, dimension_tag, attribute_tag, variable_tag, dim_after, att_after, dimid_after, var_after}
-unfoldable use Rattle.nc_base.specs.Grammar.{number, count_part, offset_part, ignored, name_part, type_part, counted, list_head, list_part, dim_part, dim_list, att_part, att_list, dimid_part, shape_part, var_part, var_list, version_part, magic_part, numrecs_part, header_by}
+use Rattle.nc_base.specs.Grammar.{count_part, strict, checked, type_in, version_in, numrecs_in, number_of_numrecs, is_dimid, is_within_limits, dimension_tag, attribute_tag, variable_tag, dim_after, att_after, dimid_after, var_after}
+unfoldable use Rattle.nc_base.specs.Grammar.{number, limited_part, offset_part, ignored, name_part, type_part, counted, list_head, list_part, dim_part, dim_list, att_part, att_list, dimid_part, shape_part, var_part, var_list, version_part, magic_part, numrecs_part, header_by}
 use Rattle.nc_fields.specs.declared.entry.Content.TheVariants as content
 use Rattle.nc_fields.specs.Lenient.{lenient, may_be_name, sized_type_in}
 use Rattle.check_laws.specs.Agreement.{refusal_in, att_without_values, var_without_values, without_values}
@@ -50,7 +50,7 @@ tested-judged w test fault = then-judged (λ n. if test n then Ok n else Err fau
 
 count-judged : (v : Version)
     → IsJudgedNumber (count_width v) (count_part v) (test_number (count_width v) (λ n. nat_lt n (count_limit v)) BadCount)
-unfolding count_part
+unfolding limited_part
 count-judged v = tested-judged (count_width v) (λ n. nat_lt n (count_limit v)) BadCount
 
 -- ---- plain fields
@@ -77,9 +77,9 @@ agree-dimid : (v : Version) (dims : List Dim) (is_first : Bool) (steps : List St
 unfolding dimid_part
 agree-dimid v dims is_first steps plain = agree-plain plain (tested-judged (count_width v) (is_dimid dims is_first) BadShape)
 
-agree-numrecs : (v : Version) (steps : List Step) → IsPlain steps → Agree (λ n. n) steps (numrecs_part v) (numrecs_part v)
+agree-numrecs : (v : Version) (steps : List Step) → IsPlain steps → Agree (λ n. n) steps (numrecs_part strict v) (numrecs_part lenient v)
 unfolding numrecs_part
-agree-numrecs v steps plain = agree-plain plain (then-judged (numrecs_in v) (number_of_numrecs v) (number-judged (count_width v)))
+agree-numrecs v steps plain = agree-plain plain (then-judged (numrecs_in strict v) (number_of_numrecs v) (number-judged (count_width v)))
 
 agree-version : (steps : List Step) → IsPlain steps → Agree (λ v. v) steps version_part version_part
 unfolding version_part

@@ -11,8 +11,8 @@ use Rattle.nc_base.specs.Headers.{IsSoundVar}
 use Rattle.nc_base.specs.Versions.{count_width, offset_limit}
 use Rattle.nc_base.specs.Sizes.{padded_size, padded_total, record_vars}
 use Rattle.nc_base.specs.Parts.{Step, Part, done, bytes, decoded, under, chain, Spells, print, Dims, Gatts, Vars, Tag, Count, Item, Padding, Vsize}
-use Rattle.nc_base.specs.Grammar.{strict, checked, dimension_tag, attribute_tag, variable_tag, dim_after, att_after, dimid_after, var_after, vsize_of, first, header_part, SpellsHeader, header_spelling}
-unfoldable use Rattle.nc_base.specs.Grammar.{number, count_part, offset_part, ignored, name_part, type_part, each, counted, list_head, list_part, dim_part, dim_list, att_part, att_list, dimid_part, shape_part, var_part, var_list, version_part, magic_part, numrecs_part, header_by}
+use Rattle.nc_base.specs.Grammar.{count_part, strict, checked, dimension_tag, attribute_tag, variable_tag, dim_after, att_after, dimid_after, var_after, vsize_of, first, header_part, SpellsHeader, header_spelling}
+unfoldable use Rattle.nc_base.specs.Grammar.{number, limited_part, offset_part, ignored, name_part, type_part, each, counted, list_head, list_part, dim_part, dim_list, att_part, att_list, dimid_part, shape_part, var_part, var_list, version_part, magic_part, numrecs_part, header_by}
 use Rattle.nc_base.specs.code.PartRuns.{IsPrintable}
 use Rattle.nc_base.proofs.PartOutcomes.{printed}
 use Rattle.nc_base.proofs.Printable.{wide-32, count-wide, vsize-fits, header-printable}
@@ -172,7 +172,7 @@ vsize-shown h P i steps var there sound f after holds size is =
 
 shown-name : (h : Header) (P : List Field → Type 0) (v : Version) (steps : List Step) (text : Bytes)
     → AreShown h P steps (name_part strict v) text
-unfolding name_part count_part number ignored
+unfolding name_part limited_part number ignored
 shown-name h P v steps text = (plain _, (plain _, (zeros _, tt)))
 
 shown-each : {A : Type 0} (h : Header) (P : List Field → Type 0) (steps : List Step) (element : List A → Part A) (all : List A)
@@ -197,27 +197,27 @@ shown-list : {A : Type 0} (h : Header) (P : List Field → Type 0) (v : Version)
     → ((P : List Field → Type 0) (before : List A) (x : A) → first (drop (length before) all) ≡ Some x
     → AreShown h P (Item (length before) ∷ steps) (element before) x)
     → AreShown h P steps (list_part v tag element) all
-unfolding list_part list_head count_part number
+unfolding list_part list_head limited_part number
 shown-list h P v tag steps element all fits go =
     ((tag-shown h v tag (length all) steps fits, plain _), shown-each h P steps element all go (length all) [])
 
 shown-dims : (h : Header) (P : List Field → Type 0) (v : Version) (steps : List Step) (dims : List Dim)
     → AreShown h P steps (dim_list strict v) dims
-unfolding dim_list dim_part count_part number
+unfolding dim_list dim_part limited_part number
 shown-dims h P v steps dims =
     shown-list h P v dimension_tag steps (dim_after strict v) dims (omega arith)
     (λ P before dim is. (shown-name h _ v _ dim.name, (plain _, tt)))
 
 shown-atts : (h : Header) (P : List Field → Type 0) (v : Version) (steps : List Step) (atts : List Att)
     → AreShown h P steps (att_list strict v) atts
-unfolding att_list att_part type_part count_part number ignored
+unfolding att_list att_part type_part limited_part number ignored
 shown-atts h P v steps atts =
     shown-list h P v attribute_tag steps (att_after strict v) atts (omega arith)
     (λ P before att is. (shown-name h _ v _ att.name, (plain _, (plain _, (plain _, (zeros _, tt))))))
 
 shown-shape : (h : Header) (P : List Field → Type 0) (v : Version) (dims : List Dim) (steps : List Step) (ids : List ℕ)
     → AreShown h P steps (shape_part v dims) ids
-unfolding shape_part counted dimid_part count_part number
+unfolding shape_part counted dimid_part limited_part number
 shown-shape h P v dims steps ids = (plain _, shown-each h P steps (dimid_after v dims) ids (λ P before id is. plain _) (length ids) [])
 
 -- ---- variables

@@ -11,8 +11,8 @@ use Rattle.nc_base.specs.Types.{code_of, size_of, type_of_code}
 use Rattle.nc_base.specs.Versions.{version_byte, version_of_byte, count_width, offset_width, count_limit, offset_limit, streaming_mark}
 use Rattle.nc_base.specs.Sizes.{has_record_dim, padded_total, record_vars}
 use Rattle.nc_base.specs.Parts.{Step, Part, done, bytes, decoded, under, chain, Magic, VersionByte, Records, Dims, Gatts, Vars, Tag, Count, Item, Name, Length, Text, Padding, TypeCode, Values, Shape, Atts, Vsize, Begin}
-use Rattle.nc_base.specs.Grammar.{checked, known_type, version_in, numrecs_in, number_of_numrecs, is_dimid, is_within_limits, dimension_tag, attribute_tag, variable_tag, dim_after, att_after, dimid_after, var_after}
-unfoldable use Rattle.nc_base.specs.Grammar.{number, count_part, offset_part, ignored, name_part, type_part, counted, list_head, list_part, each, dim_part, dim_list, att_part, att_list, dimid_part, shape_part, var_part, var_list, version_part, magic_part, numrecs_part, header_by}
+use Rattle.nc_base.specs.Grammar.{count_part, checked, known_type, version_in, numrecs_in, number_of_numrecs, is_dimid, is_within_limits, dimension_tag, attribute_tag, variable_tag, dim_after, att_after, dimid_after, var_after}
+unfoldable use Rattle.nc_base.specs.Grammar.{number, limited_part, offset_part, ignored, name_part, type_part, counted, list_head, list_part, each, dim_part, dim_list, att_part, att_list, dimid_part, shape_part, var_part, var_list, version_part, magic_part, numrecs_part, header_by}
 use Rattle.nc_base.specs.code.PartRuns.{Outcome, and_then, with_rest}
 unfoldable use Rattle.nc_base.specs.code.PartRuns.{run}
 use Rattle.nc_fields.specs.declared.{place.Owner.Owner, place.FieldName.FieldName, place.Place.Place}
@@ -176,17 +176,17 @@ abbrev at : FieldName → Owner → Place
 at n o = record { owner = o; name = n }
 
 leaf-count : (v : Version) → Leaf (count_part v)
-unfolding count_part
+unfolding limited_part
 leaf-count v = leaf-checked (λ n. nat_lt n (count_limit v)) BadCount refl (leaf-number (count_width v))
 
 leaf-offset : (v : Version) → Leaf (offset_part v)
 unfolding offset_part
 leaf-offset v = leaf-checked (λ n. nat_lt n (offset_limit v)) BadOffset refl (leaf-number (offset_width v))
 
-leaf-numrecs : (v : Version) → Leaf (numrecs_part v)
+leaf-numrecs : (v : Version) → Leaf (numrecs_part lenient v)
 unfolding numrecs_part
 leaf-numrecs v =
-    leaf-decoded (numrecs_in v) (number_of_numrecs v) (λ n. by-tests n (n == streaming_mark v) (nat_lt n (count_limit v))) (leaf-number (count_width v))
+    leaf-decoded (numrecs_in lenient v) (number_of_numrecs v) (λ n. by-tests n (n == streaming_mark v) (nat_lt n (count_limit v))) (leaf-number (count_width v))
   where
     by-tests : (n : ℕ) (a b : Bool) → NoFloat (cond a (Ok Streaming) (cond b (Ok (Known n)) (Err BadCount)))
     by-tests n true b = tt

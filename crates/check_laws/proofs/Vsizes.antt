@@ -8,7 +8,7 @@ use Rattle.nc_base.specs.Parts.{Step, Part, done, bytes, decoded, under, chain, 
 use Rattle.std.specs.Int.{byte_len}
 use Rattle.nc_base.specs.Sizes.{padded_total, record_vars}
 use Rattle.nc_base.specs.Grammar.{Rules, dimension_tag, attribute_tag, dim_after, att_after, dimid_after, var_after}
-unfoldable use Rattle.nc_base.specs.Grammar.{number, count_part, offset_part, ignored, name_part, type_part, each, counted, list_head, list_part, dim_part, dim_list, att_part, att_list, dimid_part, shape_part, var_part, var_list, version_part, magic_part, numrecs_part, header_by}
+unfoldable use Rattle.nc_base.specs.Grammar.{number, limited_part, offset_part, ignored, name_part, type_part, each, counted, list_head, list_part, dim_part, dim_list, att_part, att_list, dimid_part, shape_part, var_part, var_list, version_part, magic_part, numrecs_part, header_by}
 use Rattle.nc_fields.specs.Fields.{Field, fields}
 use Rattle.check_laws.specs.Written.{number_of, IsWrittenVsize}
 use Rattle.check_laws.proofs.Written.{whole_field, bytes-fields, decoded-fields, chain-fields, number-field}
@@ -112,7 +112,7 @@ vsizes-skip {steps = steps} {p = p} {from = from} x middle none s v =
     vsizes-then x middle s (record { are = no-vsizes steps p from x middle none s }) v
 
 no-name : (r : Rules) (v : Version) (steps : List Step) → HasNoVsize steps (name_part r v)
-unfolding name_part count_part number ignored
+unfolding name_part limited_part number ignored
 no-name r v steps = (refl, λ n. (refl, λ t. (refl, λ p. tt)))
 
 no-each : {A : Type 0} (steps : List Step) (element : List A → Part A)
@@ -124,21 +124,21 @@ no-each steps element none (suc n) before = (none before (length before), λ x. 
 
 no-list : {A : Type 0} (v : Version) (tag : ℕ) (steps : List Step) (element : List A → Part A)
     → ((before : List A) (k : ℕ) → HasNoVsize (Item k ∷ steps) (element before)) → HasNoVsize steps (list_part v tag element)
-unfolding list_part list_head count_part number
+unfolding list_part list_head limited_part number
 no-list v tag steps element none = ((refl, λ found. refl), λ n. no-each steps element none n [])
 
 no-atts : (r : Rules) (v : Version) (steps : List Step) → HasNoVsize steps (att_list r v)
-unfolding att_list att_part type_part count_part number ignored
+unfolding att_list att_part type_part limited_part number ignored
 no-atts r v steps =
     no-list v attribute_tag steps (att_after r v)
     (λ before k. (no-name r v _, λ name. (refl, λ ty. (refl, λ n. (refl, λ vals. (refl, λ padding. tt))))))
 
 no-dims : (r : Rules) (v : Version) (steps : List Step) → HasNoVsize steps (dim_list r v)
-unfolding dim_list dim_part count_part number
+unfolding dim_list dim_part limited_part number
 no-dims r v steps = no-list v dimension_tag steps (dim_after r v) (λ before k. (no-name r v _, λ name. (refl, λ len. tt)))
 
 no-shape : (v : Version) (dims : List Dim) (steps : List Step) → HasNoVsize steps (shape_part v dims)
-unfolding shape_part counted dimid_part count_part number
+unfolding shape_part counted dimid_part limited_part number
 no-shape v dims steps = (refl, λ n. no-each steps (dimid_after v dims) (λ before k. refl) n [])
 
 -- ---- the sizes of variables
@@ -204,7 +204,7 @@ each-numbered r v dims (suc n) i before from all rest count (x, middle, s, t) =
 -- the sizes of variables stand in a header in the order of the variables
 pub header-numbered : (r : Rules) (from : Bytes) (h : Header) (rest : Bytes) → Spells (header_by r) from h rest
     → AreNumbered 0 (vsizes (fields [] (header_by r) from))
-unfolding Spells header_by magic_part version_part numrecs_part number var_list list_part list_head count_part
+unfolding Spells header_by magic_part version_part numrecs_part number var_list list_part list_head limited_part
 header-numbered r from h rest (v, m, s, (n, m2, ns, (dims, m3, d, (gatts, m4, g, (vars, m5, (k, m6, t, vs), end))))) =
     let are = each-numbered r v dims k 0 [] m6 vars m5 refl vs in
     let listed : Vsizes [] (header_by r) from (are.sizes ++ []) =

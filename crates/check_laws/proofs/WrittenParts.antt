@@ -16,8 +16,8 @@ use Rattle.nc_base.specs.Versions.{count_width, offset_width, count_limit, offse
 use Rattle.nc_base.specs.Names.{is_name}
 use Rattle.nc_base.specs.Sizes.{has_record_dim, padded_size, padded_total, record_vars}
 use Rattle.nc_base.specs.Parts.{Step, Part, bytes, Spells, Magic, VersionByte, Records, Dims, Gatts, Vars, Tag, Count, Item, Name, Length, Text, Padding, TypeCode, Values, Shape, Atts, Vsize, Begin}
-use Rattle.nc_base.specs.Grammar.{strict, checked, type_in, known_type, version_in, numrecs_in, number_of_numrecs, is_dimid, is_within_limits, dimension_tag, attribute_tag, variable_tag, dim_after, att_after, dimid_after, var_after, vsize_of, first}
-unfoldable use Rattle.nc_base.specs.Grammar.{number, count_part, offset_part, ignored, name_part, type_part, each, counted, list_head, list_part, dim_part, dim_list, att_part, att_list, dimid_part, shape_part, var_part, var_list, version_part, magic_part, numrecs_part, header_by}
+use Rattle.nc_base.specs.Grammar.{count_part, strict, checked, type_in, known_type, version_in, numrecs_in, number_of_numrecs, is_dimid, is_within_limits, dimension_tag, attribute_tag, variable_tag, dim_after, att_after, dimid_after, var_after, vsize_of, first}
+unfoldable use Rattle.nc_base.specs.Grammar.{number, limited_part, offset_part, ignored, name_part, type_part, each, counted, list_head, list_part, dim_part, dim_list, att_part, att_list, dimid_part, shape_part, var_part, var_list, version_part, magic_part, numrecs_part, header_by}
 use Rattle.nc_fields.specs.Fields.{Field, fields}
 use Rattle.nc_fields.specs.Lenient.{lenient, may_be_name, sized_type_in}
 use Rattle.check_laws.specs.Agreement.{att_without_values, var_without_values, without_values}
@@ -47,7 +47,7 @@ writes-tested test fault {x = x} w e =
 
 writes-count : {h : Header} {steps : List Step} (v : Version) {from : Bytes} {n : ℕ} {rest : Bytes} → Spells (count_part v) from n rest
     → Writes h (λ n. n) steps (count_part v) (count_part v) from n rest
-unfolding Spells count_part
+unfolding Spells limited_part
 writes-count v (k, s, e) = writes-tested (λ n. nat_lt n (count_limit v)) BadCount (writes-number (count_width v) (is-width-count v) s) e
 
 writes-offset : {h : Header} {steps : List Step} (v : Version) {from : Bytes} {n : ℕ} {rest : Bytes} → Spells (offset_part v) from n rest
@@ -163,7 +163,7 @@ written-tag tag found n known none own = grind (arith, eqb-true)
 -- the field of a count
 pub count-field : (steps : List Step) (v : Version) (from : Bytes) (n : ℕ) (rest : Bytes) → Spells (count_part v) from n rest
     → IsNumberField steps (count_part v) (count_width v) from n
-unfolding Spells count_part
+unfolding Spells limited_part
 count-field steps v from n rest (k, s, e) =
     tested-field steps (count_width v) (λ n. nat_lt n (count_limit v)) BadCount (number (count_width v)) from k n rest s e
     (passed (nat_lt k (count_limit v)) BadCount e).1
@@ -353,7 +353,7 @@ writes-magic (letters, m, (x, (count, is), e), s) =
     (writes-under VersionByte (writes-version s))
     (λ w. ap Some (sym (sym p.1 ∙ three-letters x p.0)))
 
-same-numrecs : (v : Version) (n : ℕ) (numrecs : NumRecs) → numrecs_in v n ≡ Ok numrecs → number_of_numrecs v numrecs ≡ n
+same-numrecs : (v : Version) (n : ℕ) (numrecs : NumRecs) → numrecs_in strict v n ≡ Ok numrecs → number_of_numrecs v numrecs ≡ n
 same-numrecs v n numrecs e = by-tests (n == streaming_mark v) refl (nat_lt n (count_limit v)) e
   where
     by-tests : (b : Bool) → (n == streaming_mark v) ≡ b → (c : Bool)
@@ -363,10 +363,10 @@ same-numrecs v n numrecs e = by-tests (n == streaming_mark v) refl (nat_lt n (co
     by-tests false is false e = absurd cc
 
 writes-numrecs : {h : Header} {steps : List Step} (v : Version) {from : Bytes} {n : NumRecs} {rest : Bytes}
-    → Spells (numrecs_part v) from n rest → Writes h (λ n. n) steps (numrecs_part v) (numrecs_part v) from n rest
+    → Spells (numrecs_part strict v) from n rest → Writes h (λ n. n) steps (numrecs_part strict v) (numrecs_part lenient v) from n rest
 unfolding Spells numrecs_part
 writes-numrecs v {n = n} (k, s, e) =
-    writes-decoded (numrecs_in v) (number_of_numrecs v) (numrecs_in v) (number_of_numrecs v)
+    writes-decoded (numrecs_in strict v) (number_of_numrecs v) (numrecs_in lenient v) (number_of_numrecs v)
     (writes-number (count_width v) (is-width-count v) s) e (same-numrecs v k n e)
 
 pub writes-header : (from : Bytes) (h : Header) (rest : Bytes) → Spells (header_by strict) from h rest

@@ -3,7 +3,7 @@ use Rattle.std.proofs.Common.{◌≡◌, ℕ, ◌+◌, List, [], ◌∷◌, ◌+
 use Rattle.std.proofs.Math.Seq.{drop-append_seam}
 use Rattle.nc_base.proofs.Prelude.{length-replicate, Width, w32, w64, byte_len, Version, count_width, offset_width}
 use Rattle.nc_base.proofs.Printable.{IsWide, wide-32, wide-64, count-wide, offset-wide}
-use Rattle.nc_base.specs.Grammar.{number, count_part, offset_part, ignored, first, each}
+use Rattle.nc_base.specs.Grammar.{number, count_part, limited_part, offset_part, ignored, first, each}
 use Rattle.nc_base.specs.Bytes.{Bytes}
 use Rattle.nc_base.specs.Parts.{Step, Part, done, bytes, decoded, under, chain, print}
 use Rattle.nc_base.specs.code.PartRuns.{printed_len}
@@ -40,7 +40,7 @@ pub offset_field-len : (v : Version) (n : ℕ) → printed_len (number (offset_w
 offset_field-len v n = number-len (offset_width v) n (offset-wide v)
 
 pub count-len : (v : Version) (n : ℕ) → printed_len (count_part v) n ≡ byte_len (count_width v)
-unfolding printed_len count_part
+unfolding printed_len limited_part
 count-len v n = count_field-len v n
 
 pub offset-len : (v : Version) (n : ℕ) → printed_len (offset_part v) n ≡ byte_len (offset_width v)

@@ -12,7 +12,7 @@ use Rattle.nc_base.specs.declared.fault.FormatFault.TheVariants.{BadCount, BadOf
 use Rattle.nc_base.specs.Bytes.{Bytes}
 use Rattle.nc_base.specs.Parts.{Part}
 use Rattle.nc_base.specs.code.PartRuns.{IsPrintable}
-use Rattle.nc_base.specs.Grammar.{dimension_tag, variable_tag, attribute_tag, vsize_of, numrecs_in, version_in, number, count_part, offset_part, ignored, name_part, type_in, type_part, first, each, counted, list_head, list_part, dim_part, dim_after, dim_list, att_part, att_after, att_list, is_dimid, dimid_part, dimid_after, shape_part, record_bytes, is_within_limits, var_part, var_after, var_list, version_part, magic_part, numrecs_part, header_part, strict, header_by}
+use Rattle.nc_base.specs.Grammar.{dimension_tag, variable_tag, attribute_tag, vsize_of, numrecs_in, version_in, number, count_part, limited_part, offset_part, ignored, name_part, type_in, type_part, first, each, counted, list_head, list_part, dim_part, dim_after, dim_list, att_part, att_after, att_list, is_dimid, dimid_part, dimid_after, shape_part, record_bytes, is_within_limits, var_part, var_after, var_list, version_part, magic_part, numrecs_part, header_part, strict, header_by}
 
 -- ---- what a sound header's lists keep, at each place
 
@@ -99,7 +99,7 @@ offset-fits : (v : Version) (n : ℕ) → n < offset_limit v → n < 256 ^ byte_
 offset-fits v n h = grind arith
 
 count-printable : (v : Version) (n : ℕ) → n < count_limit v → IsPrintable (count_part v) n
-unfolding count_part
+unfolding limited_part
 count-printable v n lt = (number-printable (count_width v) n (count-wide v) (count-fits v n lt), kept n BadCount (lt-ltb _ _ lt))
 
 offset-printable : (v : Version) (n : ℕ) → n < offset_limit v → IsPrintable (offset_part v) n
@@ -259,16 +259,16 @@ vars-printable v dims vars few lt sound names places limits = list-printable v v
 
 -- ---- the whole
 
-pub known : (v : Version) (n : ℕ) → n < count_limit v → numrecs_in v n ≡ Ok (Known n)
+pub known : (v : Version) (n : ℕ) → n < count_limit v → numrecs_in strict v n ≡ Ok (Known n)
 known v n lt = grind arith
 
-pub streaming : (v : Version) → numrecs_in v (streaming_mark v) ≡ Ok Streaming
+pub streaming : (v : Version) → numrecs_in strict v (streaming_mark v) ≡ Ok Streaming
 streaming v = grind arith
 
 pub version-back : (v : Version) → version_in (version_byte v ∷ []) ≡ Ok v
 version-back v = grind arith
 
-numrecs-printable : (v : Version) (n : NumRecs) → IsSoundNumRecs v n → IsPrintable (numrecs_part v) n
+numrecs-printable : (v : Version) (n : NumRecs) → IsSoundNumRecs v n → IsPrintable (numrecs_part strict v) n
 unfolding numrecs_part
 numrecs-printable v (Known n) lt = (number-printable (count_width v) n (count-wide v) (count-fits v n lt), known v n lt)
 numrecs-printable v Streaming h = (number-printable (count_width v) (streaming_mark v) (count-wide v) (mark-fits v), streaming v)

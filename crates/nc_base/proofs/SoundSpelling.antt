@@ -7,7 +7,7 @@ use Rattle.nc_base.specs.declared.header.NumRecs.TheVariants.{Known, Streaming}
 use Rattle.nc_base.specs.Bytes.{Bytes}
 use Rattle.nc_base.proofs.Printable.{total-append, one-total}
 use Rattle.nc_base.specs.Parts.{Part, Spells}
-use Rattle.nc_base.specs.Grammar.{dimension_tag, attribute_tag, variable_tag, is_dimid, is_within_limits, count_part, name_part, known_type, type_part, each, counted, list_head, list_part, dim_part, dim_after, dim_list, att_part, att_after, att_list, dimid_part, dimid_after, shape_part, var_part, var_after, var_list, numrecs_in, numrecs_part, header_part, strict, header_by}
+use Rattle.nc_base.specs.Grammar.{dimension_tag, attribute_tag, variable_tag, is_dimid, is_within_limits, count_part, limited_part, name_part, known_type, type_part, each, counted, list_head, list_part, dim_part, dim_after, dim_list, att_part, att_after, att_list, dimid_part, dimid_after, shape_part, var_part, var_after, var_list, numrecs_in, numrecs_part, header_part, strict, header_by}
 
 -- a test that was passed
 passed : {A : Type 0} (b : Bool) (x y : A) (wrong : FormatFault) → ◌≡◌ {A = Result A FormatFault} (if b then Ok x else Err wrong) (Ok y) → (b ≡ true) × (x ≡ y)
@@ -15,7 +15,7 @@ passed true x y wrong e = (refl, cc)
 passed false x y wrong e = absurd cc
 
 count-below : (v : Version) (from : Bytes) (n : ℕ) (rest : Bytes) → Spells (count_part v) from n rest → n < count_limit v
-unfolding Spells count_part
+unfolding Spells limited_part
 count-below v from n rest (m, s, e) = let p = passed _ m n _ e in subst (λ k. k < count_limit v) p.1 (ltb-true _ _ p.0)
 
 -- a name that was spelled
@@ -232,11 +232,11 @@ record_size_of-le-padded dims _ = omega arith
 known-below : (b c : Bool) (k m : ℕ) → (if b then Ok Streaming else (if c then Ok (Known k) else Err BadCount)) ≡ Ok (Known m) → (c ≡ true) × (k ≡ m)
 known-below b c k m e = grind arith
 
-numrecs-in : (v : Version) (k : ℕ) (n : NumRecs) → numrecs_in v k ≡ Ok n → IsSoundNumRecs v n
+numrecs-in : (v : Version) (k : ℕ) (n : NumRecs) → numrecs_in strict v k ≡ Ok n → IsSoundNumRecs v n
 numrecs-in v k (Known m) e = let p = known-below _ _ k m e in subst (λ k. k < count_limit v) p.1 (ltb-true _ _ p.0)
 numrecs-in v k Streaming e = tt
 
-numrecs-sound : (v : Version) (from : Bytes) (n : NumRecs) (rest : Bytes) → Spells (numrecs_part v) from n rest → IsSoundNumRecs v n
+numrecs-sound : (v : Version) (from : Bytes) (n : NumRecs) (rest : Bytes) → Spells (numrecs_part strict v) from n rest → IsSoundNumRecs v n
 unfolding Spells numrecs_part
 numrecs-sound v from n rest (k, s, e) = numrecs-in v k n e
 

@@ -48,6 +48,8 @@ pub record Rules : Type 0 where
   pub is_valid : Bytes → Bool
   -- the type with this code
   pub type_in : Version → ℕ → Result NcType FormatFault
+  -- what a dimension's length and the number of records are below
+  pub length_limit : Version → ℕ
   -- what is kept of an attribute's values
   pub kept : Bytes → Bytes
 
@@ -62,7 +64,7 @@ type_in v code = if (code == 5) || (code == 6) then Err FloatingType else ok_or 
 
 -- the rules of a header whose values are read or written. Project: a name need not be in normal form NFC.
 abbrev pub strict : Rules
-strict = record { is_valid = is_name; type_in = type_in; kept = λ vals. vals }
+strict = record { is_valid = is_name; type_in = type_in; length_limit = count_limit; kept = λ vals. vals }
 
 -- ---- numbers
 
@@ -70,9 +72,13 @@ strict = record { is_valid = is_name; type_in = type_in; kept = λ vals. vals }
 unfoldable pub number : Width → Part ℕ
 number width = decoded (λ digits. Ok (from_be_bytes width digits)) (to_be_bytes width) (bytes (byte_len width) HeaderTruncated)
 
+-- a number in as many bytes as NON_NEG has, which is below a limit
+unfoldable pub limited_part : ℕ → Version → Part ℕ
+limited_part limit v = checked (λ n. nat_lt n limit) BadCount (number (count_width v))
+
 -- NON_NEG, in 4 or 8 bytes: its top bit is 0. (nelems = NON_NEG, dim_length = NON_NEG)
-unfoldable pub count_part : Version → Part ℕ
-count_part v = checked (λ n. nat_lt n (count_limit v)) BadCount (number (count_width v))
+abbrev pub count_part : Version → Part ℕ
+count_part v = limited_part (count_limit v) v
 
 -- OFFSET, in 4 or 8 bytes: its top bit is 0, too
 unfoldable pub offset_part : Version → Part ℕ
@@ -148,7 +154,7 @@ list_part v tag element = do
 unfoldable pub dim_part : Rules → Version → Bool → Part Dim
 dim_part r v has_record = do
   name ← Name ∶ name_part r v is λ dim. dim.name
-  len ← Length ∶ checked (λ len. not (has_record && (len == 0))) TwoRecordDims (count_part v) is λ dim. dim.len
+  len ← Length ∶ checked (λ len. not (has_record && (len == 0))) TwoRecordDims (limited_part (r.length_limit v) v) is λ dim. dim.len
   done (record { name = name; len = len })
 
 -- the next one, after those in `before`
@@ -247,22 +253,22 @@ magic_part = do
   VersionByte ∶ version_part
 
 -- STREAMING, all of whose bits are 1, or a number of records
-abbrev pub numrecs_in : Version → ℕ → Result NumRecs FormatFault
-numrecs_in v n = if n == streaming_mark v then Ok Streaming else (if nat_lt n (count_limit v) then Ok (Known n) else Err BadCount)
+abbrev pub numrecs_in : Rules → Version → ℕ → Result NumRecs FormatFault
+numrecs_in r v n = if n == streaming_mark v then Ok Streaming else (if nat_lt n (r.length_limit v) then Ok (Known n) else Err BadCount)
 
 abbrev pub number_of_numrecs : Version → NumRecs → ℕ
 number_of_numrecs v (Known n) = n
 number_of_numrecs v Streaming = streaming_mark v
 
 -- numrecs = NON_NEG | STREAMING
-unfoldable pub numrecs_part : Version → Part NumRecs
-numrecs_part v = decoded (numrecs_in v) (number_of_numrecs v) (number (count_width v))
+unfoldable pub numrecs_part : Rules → Version → Part NumRecs
+numrecs_part r v = decoded (numrecs_in r v) (number_of_numrecs v) (number (count_width v))
 
 -- header = magic numrecs dim_list gatt_list var_list
 unfoldable pub header_by : Rules → Part Header
 header_by r = do
   v ← magic_part is λ h. h.version
-  numrecs ← Records ∶ numrecs_part v is λ h. h.numrecs
+  numrecs ← Records ∶ numrecs_part r v is λ h. h.numrecs
   dims ← Dims ∶ dim_list r v is λ h. h.dims
   gatts ← Gatts ∶ att_list r v is λ h. h.gatts
   vars ← Vars ∶ var_list r v dims is λ h. h.vars

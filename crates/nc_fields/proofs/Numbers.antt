@@ -40,7 +40,7 @@ number-decoded w decode encode =
     let is = decoded-judged (byte_len w) (number w) (number w) (λ n. Ok n) decode encode (number-itself w) in record { field = is.field; judged = λ from. is.judged from }
 
 count-judged : (v : Version) → IsJudged (byte_len (count_width v)) (number (count_width v)) (count_part v) (λ n. if nat_lt n (count_limit v) then Ok n else Err BadCount)
-unfolding count_part
+unfolding limited_part
 count-judged v = number-decoded (count_width v) (λ n. if nat_lt n (count_limit v) then Ok n else Err BadCount) (λ n. n)
 
 pub count-field : (v : Version) (place : Place) → IsNumeric place
@@ -62,9 +62,9 @@ pub wide-field : {A : Type 0} (v : Version) (place : Place) (decode : ℕ → Re
     → IsFieldOf place (byte_len (count_width v)) (number (count_width v)) (decoded decode encode (number (count_width v))) decode Number
 wide-field v place decode encode numeric = number-field place (count_width v) _ _ numeric (number-in_count v) (number-decoded (count_width v) decode encode)
 
-pub numrecs-field : (v : Version) (place : Place) → IsNumeric place → IsFieldOf place (byte_len (count_width v)) (number (count_width v)) (numrecs_part v) (numrecs_in v) Number
+pub numrecs-field : (v : Version) (place : Place) → IsNumeric place → IsFieldOf place (byte_len (count_width v)) (number (count_width v)) (numrecs_part lenient v) (numrecs_in lenient v) Number
 unfolding numrecs_part
-numrecs-field v place numeric = wide-field v place (numrecs_in v) (number_of_numrecs v) numeric
+numrecs-field v place numeric = wide-field v place (numrecs_in lenient v) (number_of_numrecs v) numeric
 
 pub dimid-field : (v : Version) (place : Place) (dims : List Dim) (first : Bool) → IsNumeric place
     → IsFieldOf place (byte_len (count_width v)) (number (count_width v)) (dimid_part v dims first) (λ id. if is_dimid dims first id then Ok id else Err BadShape) Number

@@ -26,8 +26,8 @@ pub use Rattle.std.specs.Int.{Width, byte_len, from_be_bytes, to_be_bytes, w32}
 pub use Rattle.nc_base.specs.declared.version.Version.{Version}
 pub use Rattle.nc_base.specs.declared.version.Version.TheVariants.{Cdf1, Cdf2, Cdf5}
 pub use Rattle.nc_base.specs.Versions.{version_byte, count_width, offset_width, count_limit, offset_limit}
-unfoldable pub use Rattle.nc_base.specs.Grammar.{count_part, offset_part, dimid_part, numrecs_part, type_part, ignored, version_part}
-pub use Rattle.nc_base.specs.Grammar.{checked, version_in, is_dimid, is_within_limits, numrecs_in, number_of_numrecs}
+unfoldable pub use Rattle.nc_base.specs.Grammar.{limited_part, offset_part, dimid_part, numrecs_part, type_part, ignored, version_part}
+pub use Rattle.nc_base.specs.Grammar.{count_part, checked, version_in, is_dimid, is_within_limits, numrecs_in, number_of_numrecs}
 pub use Rattle.nc_base.specs.Types.{code_of}
 pub use Rattle.nc_base.specs.declared.{header.Dim.Dim, header.Header.Header, nc_type.NcType.NcType}
 pub use Rattle.nc_fields.specs.Lenient.{lenient, may_be_name, sized_type_in}

@@ -4,6 +4,7 @@ use Rattle.std.specs.List.{list_all}
 use Rattle.nc_base.specs.declared.{fault.FormatFault.FormatFault, nc_type.NcType.NcType, version.Version.Version}
 use Rattle.nc_base.specs.declared.nc_type.NcType.TheVariants.{Int, Int64}
 use Rattle.nc_base.specs.Bytes.{Bytes}
+use Rattle.nc_base.specs.Versions.{count_limit}
 use Rattle.nc_base.specs.Grammar.{Rules, type_in}
 
 -- a byte that may stand in a name in any coding: no control character of ASCII
@@ -26,4 +27,4 @@ abbrev pub sized_type_in : Version → ℕ → Result NcType FormatFault
 sized_type_in v code = if code == 5 then Ok Int else (if code == 6 then Ok Int64 else type_in v code)
 
 abbrev pub lenient : Rules
-lenient = record { is_valid = may_be_name; type_in = sized_type_in; kept = λ vals. [] }
+lenient = record { is_valid = may_be_name; type_in = sized_type_in; length_limit = count_limit; kept = λ vals. [] }

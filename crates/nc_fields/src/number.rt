@@ -229,7 +229,7 @@ impl Fields {
         version: Version,
     ) -> Result<NumRecs, HeadFault>
         ensures { Checked (at window.old self.old) (at window.new self.new)
-            (Records ∷ []) (numrecs_part version) result }
+            (Records ∷ []) (numrecs_part lenient version) result }
     {
         let place = Place {
             owner: Owner::Header,
@@ -366,7 +366,7 @@ fn offset_in(version: Version, n: u64) -> Result<u64, FormatFault>
 
 /// Returns the number of records, or errs with `BadCount` if its top bit is 1, but not all of its bits are.
 fn numrecs_in(version: Version, n: u64) -> Result<NumRecs, FormatFault>
-    ensures { result ≡ numrecs_in version n }
+    ensures { result ≡ numrecs_in lenient version n }
 {
     if n == version.streaming_mark() {
         return Ok(NumRecs::Streaming);

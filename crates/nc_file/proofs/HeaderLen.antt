@@ -96,7 +96,7 @@ magic-len : (v : Version) → printed_len magic_part v ≡ 4
 unfolding printed_len magic_part version_part
 magic-len v = refl
 
-numrecs-len : (v : Version) (numrecs : NumRecs) → printed_len (numrecs_part v) numrecs ≡ count_bytes v
+numrecs-len : (v : Version) (numrecs : NumRecs) → printed_len (numrecs_part strict v) numrecs ≡ count_bytes v
 unfolding printed_len numrecs_part
 numrecs-len v numrecs = search (rules, field_lens)
 

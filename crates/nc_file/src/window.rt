@@ -185,7 +185,7 @@ impl<S: Source> Window<'_, S> {
 
     /// Reads a count or a length (`NON_NEG`), a big-endian number of eight bytes in CDF-5 and otherwise four. Errs with `BadCount` if its
     /// top bit is 1, with `HeaderTruncated` if fewer bytes are left, and with `ReadFailed` if the source fails.
-    #[tactic(auto, using(crate::proofs::PartRuns::part_runs), unfolding(nc_base::specs::Grammar::count_part, nc_base::specs::code::PartRuns::printed_len))]
+    #[tactic(auto, using(crate::proofs::PartRuns::part_runs), unfolding(nc_base::specs::Grammar::limited_part, nc_base::specs::code::PartRuns::printed_len))]
     pub fn count(&mut self, version: Version) -> Result<u64, HeadFault>
         ensures { Read self.old self.new (count_part version) result }
     {

@@ -3,7 +3,7 @@
 use Rattle.std.proofs.Common.{◌≡◌, ◌-◌, ◌^◌, [], ◌∷◌, refl, codes, replicate}
 use Rattle.nc_base.proofs.Prelude.{Dataset, Streaming, Byte, Short, Version, Cdf1, Cdf2, Cdf5, known_records, vsize_of, data_of, file_of}
 use Rattle.nc_base.specs.Parts.{print}
-use Rattle.nc_base.specs.Grammar.{numrecs_part}
+use Rattle.nc_base.specs.Grammar.{numrecs_part, strict}
 use Rattle.nc_base.proofs.examples.Written.{hex, dim, var, dataset, files_computed}
 
 -- a variable of three shorts, whose block is padded
@@ -73,11 +73,11 @@ long_slab_of_version_5 : vsize_of Cdf5 (2 ^ 32) ≡ 2 ^ 32
 long_slab_of_version_5 = refl
 
 -- where a header leaves the number of records open: the mark of its version, and no record
-streaming : print (numrecs_part Cdf1) Streaming ≡ replicate 4 0xff
+streaming : print (numrecs_part strict Cdf1) Streaming ≡ replicate 4 0xff
 unfolding files_computed
 streaming = refl
 
-streaming_of_version_5 : print (numrecs_part Cdf5) Streaming ≡ replicate 8 0xff
+streaming_of_version_5 : print (numrecs_part strict Cdf5) Streaming ≡ replicate 8 0xff
 unfolding files_computed
 streaming_of_version_5 = refl
 

@@ -4,7 +4,7 @@ use Rattle.std.proofs.Common.{ℕ, ◌+◌, ◌*◌, ◌-◌, List, [], ◌∷�
 use Rattle.std.specs.Prelude.{⊤}
 use Rattle.nc_base.proofs.Prelude.{digits, flat_map, Dataset, Att, Dim, Known, Var, NcType, Version, concat_parts, is_reserved, escaped_name, escaped_text, fill_value, fill_bytes, padded_slab, data_of, with_begins, file_of, number_piece, number_pieces, characters_text, variable_opening, variable_closing, variable_prefix, variable_text}
 use Rattle.nc_base.specs.Parts.{print}
-use Rattle.nc_base.specs.Grammar.{number, count_part, offset_part, ignored, name_part, type_part, each, counted, list_head, list_part, dim_part, dim_list, att_part, att_list, dimid_part, shape_part, var_part, var_list, version_part, magic_part, numrecs_part, header_by}
+use Rattle.nc_base.specs.Grammar.{number, limited_part, offset_part, ignored, name_part, type_part, each, counted, list_head, list_part, dim_part, dim_list, att_part, att_list, dimid_part, shape_part, var_part, var_list, version_part, magic_part, numrecs_part, header_by}
 
 -- ---- bytes
 
@@ -38,7 +38,7 @@ dataset v records dims gatts vars arrays =
 
 -- the file of a dataset
 unfoldable pub files_computed : ⊤
-unfolding print number count_part offset_part ignored name_part type_part each counted list_head list_part dim_part dim_list att_part att_list dimid_part shape_part var_part var_list version_part magic_part numrecs_part header_by fill_bytes fill_value padded_slab data_of with_begins file_of
+unfolding print number limited_part offset_part ignored name_part type_part each counted list_head list_part dim_part dim_list att_part att_list dimid_part shape_part var_part var_list version_part magic_part numrecs_part header_by fill_bytes fill_value padded_slab data_of with_begins file_of
 files_computed = tt
 
 -- the text of names and values

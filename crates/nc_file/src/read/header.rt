@@ -1,7 +1,7 @@
 //! The whole header.
 
 ghost use Rattle.std.specs.Prelude.{◌≡◌, ◌≤◌, length, IfOk};
-ghost use Rattle.nc_base.specs.Grammar.{header_part, header_spelling, magic_part, numrecs_part, version_part};
+ghost use Rattle.nc_base.specs.Grammar.{header_part, header_spelling, magic_part, numrecs_part, version_part, strict};
 ghost use Rattle.nc_base.specs.Headers.{IsSound};
 ghost use Rattle.nc_base.specs.code.Weight.{weight_of};
 ghost use Rattle.nc_file.specs.code.Answers.{AnswersIn, ReadAtLeast};
@@ -117,7 +117,7 @@ impl<S: Source> Window<'_, S> {
     /// its bits are.
     #[tactic(auto, using(crate::proofs::PartRuns::part_runs), unfolding(nc_base::specs::Grammar::numrecs_part, nc_base::specs::code::PartRuns::printed_len))]
     fn numrecs(&mut self, version: Version) -> Result<NumRecs, HeadFault>
-        ensures { Read self.old self.new (numrecs_part version) result }
+        ensures { Read self.old self.new (numrecs_part strict version) result }
     {
         let n = self.number(version)?;
         if n == version.streaming_mark() {

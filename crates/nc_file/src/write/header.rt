@@ -1,7 +1,7 @@
 //! The whole header.
 
 ghost use Rattle.std.specs.Prelude.{◌≡◌, ◌<◌, All};
-ghost use Rattle.nc_base.specs.Grammar.{header_spelling, magic_part, numrecs_part};
+ghost use Rattle.nc_base.specs.Grammar.{header_spelling, magic_part, numrecs_part, strict};
 ghost use Rattle.nc_base.specs.Headers.{IsSound, IsSoundNumRecs};
 ghost use Rattle.nc_base.specs.Parts.{print};
 ghost use Rattle.nc_base.specs.Versions.{offset_limit};
@@ -50,10 +50,10 @@ fn put_magic<W: Sink>(sink: &mut W, version: Version) -> Result<(), WriteFailed>
 }
 
 /// Writes the number of records, or if it is unknown (`STREAMING`) a number whose bits are all 1. Errs if the sink fails.
-#[tactic(auto, unfolding(nc_base::specs::Parts::print, nc_base::specs::Grammar::numrecs_part, nc_base::specs::Grammar::count_part))]
+#[tactic(auto, unfolding(nc_base::specs::Parts::print, nc_base::specs::Grammar::numrecs_part, nc_base::specs::Grammar::limited_part))]
 fn put_numrecs<W: Sink>(sink: &mut W, version: Version, numrecs: NumRecs) -> Result<(), WriteFailed>
     requires { IsSoundNumRecs version numrecs }
-    ensures { Wrote W.view sink.old sink.new (print (numrecs_part version) numrecs) result }
+    ensures { Wrote W.view sink.old sink.new (print (numrecs_part strict version) numrecs) result }
 {
     match numrecs {
         NumRecs::Known(n) => put_count(sink, version, n),

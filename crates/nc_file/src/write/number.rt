@@ -50,7 +50,7 @@ pub(crate) fn put_count_field<W: Sink>(
 
 /// Writes a count, a length or a dimension id (`NON_NEG`) as a big-endian number, in eight bytes in CDF-5 and otherwise in four. Needs a
 /// number below the version's limit of counts, whose top bit is 0 then. Errs if the sink fails.
-#[tactic(auto, unfolding(nc_base::specs::Parts::print, nc_base::specs::Grammar::count_part))]
+#[tactic(auto, unfolding(nc_base::specs::Parts::print, nc_base::specs::Grammar::limited_part))]
 pub(crate) fn put_count<W: Sink>(sink: &mut W, version: Version, n: u64) -> Result<(), WriteFailed>
     requires { n < count_limit version }
     ensures { Wrote W.view sink.old sink.new (print (count_part version) n) result }
