@@ -11,7 +11,7 @@ use Rattle.nc_base.specs.Headers.{IsSoundVar}
 use Rattle.nc_base.specs.Versions.{count_width, offset_limit}
 use Rattle.nc_base.specs.Sizes.{padded_size, padded_total, record_vars}
 use Rattle.nc_base.specs.Parts.{Step, Part, done, bytes, decoded, under, chain, Spells, print, Dims, Gatts, Vars, Tag, Count, Item, Padding, Vsize}
-use Rattle.nc_base.specs.Grammar.{count_part, strict, checked, dimension_tag, attribute_tag, variable_tag, dim_after, att_after, dimid_after, var_after, vsize_of, first, header_part, SpellsHeader, header_spelling}
+use Rattle.nc_base.specs.Grammar.{strict, checked, count_part, dimension_tag, attribute_tag, variable_tag, dim_after, att_after, dimid_after, var_after, vsize_of, first, header_part, SpellsHeader, header_spelling}
 unfoldable use Rattle.nc_base.specs.Grammar.{number, limited_part, offset_part, ignored, name_part, type_part, each, counted, list_head, list_part, dim_part, dim_list, att_part, att_list, dimid_part, shape_part, var_part, var_list, version_part, magic_part, numrecs_part, header_by}
 use Rattle.nc_base.specs.code.PartRuns.{IsPrintable}
 use Rattle.nc_base.proofs.PartOutcomes.{printed}

@@ -56,17 +56,19 @@ no-nonzero : (n : ℕ) → has_nonzero (replicate n 0) ≡ false
 no-nonzero zero = refl
 no-nonzero (suc n) = no-nonzero n
 
-facts-other : (h : Header) (place : FieldName) (o : Owner) (g : Indexed) (f : Field) (fs : List Field)
+facts-other : (h : Header) (size : ℕ) (place : FieldName) (o : Owner) (g : Indexed) (f : Field) (fs : List Field)
     → IsCanonical h (name_steps place ++ owner_steps o) f fs
-    → AreOther (map (finding g) (content_facts place (whole_content (name_steps place ++ owner_steps o) f.size (bytes_of f))))
-facts-other h name.NameLength o g f fs is = last-other g _ fact.LongName refl
-facts-other h name.Rank o g f fs is = last-other g _ fact.HighRank refl
-facts-other h name.Name o g f fs is =
+    → AreOther (map (finding g) (content_facts place size (whole_content (name_steps place ++ owner_steps o) f.size (bytes_of f))))
+facts-other h size name.NumRecs o g f fs is = last-other g _ fact.LargeCount refl
+facts-other h size name.Length o g f fs is = last-other g _ fact.LargeCount refl
+facts-other h size name.NameLength o g f fs is = last-other g _ fact.LongName refl
+facts-other h size name.Rank o g f fs is = last-other g _ fact.HighRank refl
+facts-other h size name.Name o g f fs is =
     fact-other g (not (is_name (bytes_of f))) (fact.Fault BadName) (option_to_list (form_fact name.Name (bytes_of f))) refl
     (last-other g (is_not_nfc (bytes_of f)) fact.NotNfc refl)
-facts-other h name.NamePadding o g f fs is = filling-other g (has_nonzero (bytes_of f)) (ap has_nonzero is ∙ no-nonzero f.size)
-facts-other h name.Padding o g f fs is = filling-other g (has_nonzero (bytes_of f)) (ap has_nonzero is ∙ no-nonzero f.size)
-facts-other h place o g f fs is = refl
+facts-other h size name.NamePadding o g f fs is = filling-other g (has_nonzero (bytes_of f)) (ap has_nonzero is ∙ no-nonzero f.size)
+facts-other h size name.Padding o g f fs is = filling-other g (has_nonzero (bytes_of f)) (ap has_nonzero is ∙ no-nonzero f.size)
+facts-other h size place o g f fs is = refl
 
 -- ---- lists and attributes
 
@@ -178,9 +180,9 @@ fields-other h len all k (e ∷ es) (f ∷ fs) same whole are =
     let more = fields-other h len all (k + 1) es fs rest whole.1 are.1 in
     record {
       alone = other-then (findings_at g) (field_findings after)
-          (subst (λ fault. AreOther (map (finding g) (facts_with fault e.place.name e.content))) (sym of.sound)
-          (subst (λ c. AreOther (map (finding g) (content_facts e.place.name c))) (sym shows)
-          (facts-other h e.place.name e.place.owner g f fs is)))
+          (subst (λ fault. AreOther (map (finding g) (facts_with fault e.place.name e.size e.content))) (sym of.sound)
+          (subst (λ c. AreOther (map (finding g) (content_facts e.place.name e.size c))) (sym shows)
+          (facts-other h e.size e.place.name e.place.owner g f fs is)))
           more.alone;
       attributes = other-then (option_to_list (attribute_finding all g after)) (each_before (attribute_finding all) after)
           (rule-other h len (is_first all g) e.place.name e.place.owner g (k + 1) es f fs rest whole.1 is shows) more.attributes;

@@ -4,19 +4,21 @@ use Rattle.std.specs.List.{All, Contains}
 use Rattle.std.specs.Option.{option_to_list}
 use Rattle.std.proofs.lemmas.List.Elements.{All-nil, All-cons, All-append}
 use Rattle.nc_base.specs.declared.{fault.FormatFault.FormatFault}
-use Rattle.nc_base.specs.declared.fault.FormatFault.TheVariants.{BadName, FloatingType}
+use Rattle.nc_base.specs.declared.fault.FormatFault.TheVariants.{BadCount, BadName, FloatingType}
 use Rattle.nc_base.specs.Bytes.{Bytes}
 use Rattle.nc_base.specs.Names.{is_name}
 use Rattle.nc_fields.specs.declared.{entry.Entry.Entry, entry.Content.Content, place.FieldName.FieldName, place.Owner.Owner}
 use Rattle.nc_fields.specs.declared.entry.Content.TheVariants as content
 use Rattle.nc_fields.specs.declared.place.FieldName.TheVariants as name
+use Rattle.nc_fields.specs.declared.place.Owner.TheVariants as owner
+use Rattle.nc_base.specs.Parts.{Length}
 use Rattle.nc_fields.specs.Entries.{name_steps, owner_steps}
 use Rattle.check_laws.specs.Agreement.{refusal_in}
 use Rattle.nc_check.specs.declared.{finding.Fact.Fact}
-use Rattle.nc_check.specs.declared.finding.Fact.TheVariants.{Fault}
-use Rattle.nc_check.specs.FieldRules.{fact_if, number_fact, bytes_fact, form_fact, content_facts, facts_with, facts_of, is_floating_in}
+use Rattle.nc_check.specs.declared.finding.Fact.TheVariants.{Fault, LargeCount}
+use Rattle.nc_check.specs.FieldRules.{is_large_count, is_large_numrecs, fact_if, number_fact, bytes_fact, form_fact, content_facts, facts_with, facts_of, is_floating_in}
 unfoldable use Rattle.nc_check.specs.FieldRules.{field_findings, floating_findings}
-use Rattle.check_laws.specs.FaultLaws.{is_fault}
+use Rattle.check_laws.specs.FaultLaws.{strict_fault, is_fault}
 use Rattle.check_laws.proofs.Refusals.{refusal_of}
 
 -- ---- the facts of one entry
@@ -31,11 +33,36 @@ pub if-none : (P : Fact → Type 0) (b : Bool) (fact : Fact) → P fact → All 
 if-none P true fact is = only P fact is
 if-none P false fact is = All-nil P
 
--- of a number
-number-facts : (place : FieldName) (n : ℕ) → All NoFault (option_to_list (number_fact place n))
-number-facts name.NameLength n = if-none NoFault _ _ refl
-number-facts name.Rank n = if-none NoFault _ _ refl
-number-facts place n = All-nil NoFault
+-- a dimension's length may be refused for its size, whatever it belongs to
+length-refusal : (size n : ℕ) (o : Owner)
+    → refusal_in size (content.Number n) (Length ∷ owner_steps o) None ≡ cond (is_large_count size n) (Some BadCount) None
+length-refusal size n owner.Header = refl
+length-refusal size n (owner.Dim i) = refl
+length-refusal size n (owner.GlobalAtt i) = refl
+length-refusal size n (owner.Var i) = refl
+length-refusal size n (owner.VarAtt i k) = refl
+
+length-fault : (size n : ℕ) (o : Owner) (fault : FormatFault)
+    → refusal_in size (content.Number n) (Length ∷ owner_steps o) (Some fault) ≡ Some fault
+length-fault size n owner.Header fault = refl
+length-fault size n (owner.Dim i) fault = refl
+length-fault size n (owner.GlobalAtt i) fault = refl
+length-fault size n (owner.Var i) fault = refl
+length-fault size n (owner.VarAtt i k) fault = refl
+
+-- of a number that isn't refused
+large-facts : (b : Bool) → cond b (Some BadCount) None ≡ None → All NoFault (option_to_list (fact_if b LargeCount))
+large-facts true none = absurd cc
+large-facts false none = All-nil NoFault
+
+number-facts : (place : FieldName) (size n : ℕ) (owner : Owner)
+    → refusal_in size (content.Number n) (name_steps place ++ owner_steps owner) None ≡ None
+    → All NoFault (option_to_list (number_fact place size n))
+number-facts name.NumRecs size n owner none = large-facts (is_large_numrecs size n) none
+number-facts name.Length size n owner none = large-facts (is_large_count size n) (sym (length-refusal size n owner) ∙ none)
+number-facts name.NameLength size n owner none = if-none NoFault _ _ refl
+number-facts name.Rank size n owner none = if-none NoFault _ _ refl
+number-facts place size n owner none = All-nil NoFault
 
 form-facts : (place : FieldName) (bs : Bytes) → All NoFault (option_to_list (form_fact place bs))
 form-facts name.Name bs = if-none NoFault _ _ refl
@@ -46,46 +73,48 @@ name-facts : (b : Bool) → cond b None (Some BadName) ≡ None → All NoFault 
 name-facts true none = All-nil NoFault
 name-facts false none = absurd cc
 
-bytes-facts : (place : FieldName) (bs : Bytes) (owner : Owner)
-    → refusal_in (content.Bytes bs) (name_steps place ++ owner_steps owner) None ≡ None
+bytes-facts : (place : FieldName) (size : ℕ) (bs : Bytes) (owner : Owner)
+    → refusal_in size (content.Bytes bs) (name_steps place ++ owner_steps owner) None ≡ None
     → All NoFault (option_to_list (bytes_fact place bs))
-bytes-facts name.Name bs owner none = name-facts (is_name bs) none
-bytes-facts name.NamePadding bs owner none = if-none NoFault _ _ refl
-bytes-facts name.Padding bs owner none = if-none NoFault _ _ refl
-bytes-facts place bs owner none = All-nil NoFault
+bytes-facts name.Name size bs owner none = name-facts (is_name bs) none
+bytes-facts name.NamePadding size bs owner none = if-none NoFault _ _ refl
+bytes-facts name.Padding size bs owner none = if-none NoFault _ _ refl
+bytes-facts place size bs owner none = All-nil NoFault
 
-content-facts : (place : FieldName) (c : Content) (owner : Owner) → refusal_in c (name_steps place ++ owner_steps owner) None ≡ None
-    → All NoFault (content_facts place c)
-content-facts place (content.Number n) owner none = number-facts place n
-content-facts place (content.Bytes bs) owner none = All-append NoFault _ _ (bytes-facts place bs owner none) (form-facts place bs)
-content-facts place c owner none = All-nil NoFault
+content-facts : (place : FieldName) (size : ℕ) (c : Content) (owner : Owner)
+    → refusal_in size c (name_steps place ++ owner_steps owner) None ≡ None → All NoFault (content_facts place size c)
+content-facts place size (content.Number n) owner none = number-facts place size n owner none
+content-facts place size (content.Bytes bs) owner none = All-append NoFault _ _ (bytes-facts place size bs owner none) (form-facts place bs)
+content-facts place size c owner none = All-nil NoFault
 
 -- a field with a fault is refused
-refused-anyway : (c : Content) (place : FieldName) (owner : Owner) (fault : FormatFault)
-    → refusal_in c (name_steps place ++ owner_steps owner) (Some fault) ≡ None → ⊥
-refused-anyway (content.Number code) name.Type owner fault none = by-test ((code == 5) || (code == 6)) none
+refused-anyway : (size : ℕ) (c : Content) (place : FieldName) (owner : Owner) (fault : FormatFault)
+    → refusal_in size c (name_steps place ++ owner_steps owner) (Some fault) ≡ None → ⊥
+refused-anyway size (content.Number n) name.Length owner fault none =
+    absurd (let never : Some fault ≡ None = sym (length-fault size n owner fault) ∙ none in cc)
+refused-anyway size (content.Number code) name.Type owner fault none = by-test ((code == 5) || (code == 6)) none
   where
     by-test : (b : Bool) → cond b (Some FloatingType) (Some fault) ≡ None → ⊥
     by-test true e = absurd cc
     by-test false e = absurd cc
-refused-anyway (content.Number code) place owner fault none = absurd cc
-refused-anyway (content.Bytes bs) name.Name owner fault none = absurd cc
-refused-anyway (content.Bytes bs) place owner fault none = absurd cc
-refused-anyway c place owner fault none = absurd cc
+refused-anyway size (content.Number code) place owner fault none = absurd cc
+refused-anyway size (content.Bytes bs) name.Name owner fault none = absurd cc
+refused-anyway size (content.Bytes bs) place owner fault none = absurd cc
+refused-anyway size c place owner fault none = absurd cc
 
 -- a field that isn't refused is no fault
 pub quiet-facts : (e : Entry) → refusal_of e ≡ None → All NoFault (facts_of e)
 quiet-facts e none = by-fault e.fault none
   where
-    by-fault : (o : Option FormatFault) → refusal_in e.content (name_steps e.place.name ++ owner_steps e.place.owner) o ≡ None
-        → All NoFault (facts_with o e.place.name e.content)
-    by-fault (Some fault) none = absurd (refused-anyway e.content e.place.name e.place.owner fault none)
-    by-fault None none = content-facts e.place.name e.content e.place.owner none
+    by-fault : (o : Option FormatFault) → refusal_in e.size e.content (name_steps e.place.name ++ owner_steps e.place.owner) o ≡ None
+        → All NoFault (facts_with o e.place.name e.size e.content)
+    by-fault (Some fault) none = absurd (refused-anyway e.size e.content e.place.name e.place.owner fault none)
+    by-fault None none = content-facts e.place.name e.size e.content e.place.owner none
 
-floating-refused : (place : FieldName) (c : Content) (owner : Owner) (o : Option FormatFault) → is_floating_in place c ≡ true
-    → refusal_in c (name_steps place ++ owner_steps owner) o ≡ Some FloatingType
-floating-refused name.Type (content.Number code) owner o is = ap (λ b. cond b (Some FloatingType) o) is
-floating-refused place c owner o is = absurd cc
+floating-refused : (place : FieldName) (size : ℕ) (c : Content) (owner : Owner) (o : Option FormatFault) → is_floating_in place c ≡ true
+    → refusal_in size c (name_steps place ++ owner_steps owner) o ≡ Some FloatingType
+floating-refused name.Type size (content.Number code) owner o is = ap (λ b. cond b (Some FloatingType) o) is
+floating-refused place size c owner o is = absurd cc
 
 -- nor is its type floating
 pub quiet-type : (e : Entry) → refusal_of e ≡ None → is_floating_in e.place.name e.content ≡ false
@@ -93,7 +122,7 @@ quiet-type e none = by-test (is_floating_in e.place.name e.content) refl
   where
     by-test : (b : Bool) → is_floating_in e.place.name e.content ≡ b → b ≡ false
     by-test true is =
-        let never : Some FloatingType ≡ None = sym (floating-refused e.place.name e.content e.place.owner e.fault is) ∙ none in absurd cc
+        let never : Some FloatingType ≡ None = sym (floating-refused e.place.name e.size e.content e.place.owner e.fault is) ∙ none in absurd cc
     by-test false is = refl
 
 -- ---- the facts of a refused entry
@@ -101,36 +130,62 @@ quiet-type e none = by-test (is_floating_in e.place.name e.content) refl
 pub contains-first : {X : Type 0} (x : X) (xs : List X) → Contains (x ∷ xs) x
 contains-first x xs = (0, omega arith, refl)
 
--- this fault is one of its facts, or its type is floating
-abbrev pub ShowsFault : FieldName → Content → Option FormatFault → FormatFault → Type 0
-ShowsFault place c o fault = Contains (facts_with o place c) (Fault fault) ⊎ ((is_floating_in place c ≡ true) × (fault ≡ FloatingType))
+-- one of these facts is such a one
+pub record HasFact (P : Fact → Type 0) (facts : List Fact) : Type 0 where
+  pub fact : Fact
+  pub has : Contains facts fact
+  pub is : P fact
 
-pub own-fault : (place : FieldName) (c : Content) (o : Option FormatFault) (fault : FormatFault) → o ≡ Some fault
-    → Contains (facts_with o place c) (Fault fault)
-own-fault place c o fault is = subst (λ o. Contains (facts_with o place c) (Fault fault)) (sym is) (contains-first (Fault fault) [])
+has-first : (P : Fact → Type 0) (fact : Fact) (facts : List Fact) → P fact → HasFact P (fact ∷ facts)
+has-first P fact facts is = record { fact = fact; has = contains-first fact facts; is = is }
+
+-- the programs that read values stop with this fault
+abbrev pub IsFault : FormatFault → Fact → Type 0
+IsFault fault fact = strict_fault fact ≡ Some fault
+
+-- this fault is one of its facts, or its type is floating
+abbrev pub ShowsFault : FieldName → ℕ → Content → Option FormatFault → FormatFault → Type 0
+ShowsFault place size c o fault = HasFact (IsFault fault) (facts_with o place size c) ⊎ ((is_floating_in place c ≡ true) × (fault ≡ FloatingType))
+
+-- a field with a fault
+pub own-fact : (P : Fact → Type 0) (place : FieldName) (size : ℕ) (c : Content) (o : Option FormatFault) (fault : FormatFault) → o ≡ Some fault
+    → P (Fault fault) → HasFact P (facts_with o place size c)
+own-fact P place size c o fault same is = subst (λ o. HasFact P (facts_with o place size c)) (sym same) (has-first P (Fault fault) [] is)
+
+own-fault : (place : FieldName) (size : ℕ) (c : Content) (o : Option FormatFault) (fault : FormatFault) → o ≡ Some fault
+    → ShowsFault place size c o fault
+own-fault place size c o fault same = inl (own-fact (IsFault fault) place size c o fault same refl)
 
 bad-name : (bs : Bytes) (fault : FormatFault) (b : Bool) → cond b None (Some BadName) ≡ Some fault
-    → Contains (option_to_list (fact_if (not b) (Fault BadName)) ++ option_to_list (form_fact name.Name bs)) (Fault fault)
+    → HasFact (IsFault fault) (option_to_list (fact_if (not b) (Fault BadName)) ++ option_to_list (form_fact name.Name bs))
 bad-name bs fault true is = absurd cc
-bad-name bs fault false is =
-    let same : BadName ≡ fault = cc in
-    subst (λ f. Contains (Fault BadName ∷ option_to_list (form_fact name.Name bs)) (Fault f)) same
-    (contains-first (Fault BadName) (option_to_list (form_fact name.Name bs)))
+bad-name bs fault false is = has-first (IsFault fault) (Fault BadName) (option_to_list (form_fact name.Name bs)) is
 
-floating : (code : ℕ) (o : Option FormatFault) (fault : FormatFault) (b : Bool) → ((code == 5) || (code == 6)) ≡ b
+large-count : (fault : FormatFault) (b : Bool) → cond b (Some BadCount) None ≡ Some fault
+    → HasFact (IsFault fault) (option_to_list (fact_if b LargeCount))
+large-count fault true is = has-first (IsFault fault) LargeCount [] is
+large-count fault false is = absurd cc
+
+floating : (size code : ℕ) (o : Option FormatFault) (fault : FormatFault) (b : Bool) → ((code == 5) || (code == 6)) ≡ b
     → cond b (Some FloatingType) o ≡ Some fault
-    → ShowsFault name.Type (content.Number code) o fault
-floating code o fault true is refused = inr (is, cc)
-floating code o fault false is refused = inl (own-fault name.Type (content.Number code) o fault refused)
+    → ShowsFault name.Type size (content.Number code) o fault
+floating size code o fault true is refused = inr (is, cc)
+floating size code o fault false is refused = own-fault name.Type size (content.Number code) o fault refused
 
-shown : (c : Content) (place : FieldName) (owner : Owner) (o : Option FormatFault) (fault : FormatFault)
-    → refusal_in c (name_steps place ++ owner_steps owner) o ≡ Some fault → ShowsFault place c o fault
-shown (content.Bytes bs) name.Name owner None fault refused = inl (bad-name bs fault (is_name bs) refused)
-shown (content.Bytes bs) name.Name owner (Some own) fault refused = inl (own-fault name.Name (content.Bytes bs) (Some own) fault refused)
-shown (content.Bytes bs) place owner o fault refused = inl (own-fault place (content.Bytes bs) o fault refused)
-shown (content.Number code) name.Type owner o fault refused = floating code o fault ((code == 5) || (code == 6)) refl refused
-shown (content.Number code) place owner o fault refused = inl (own-fault place (content.Number code) o fault refused)
-shown c place owner o fault refused = inl (own-fault place c o fault refused)
+shown : (size : ℕ) (c : Content) (place : FieldName) (owner : Owner) (o : Option FormatFault) (fault : FormatFault)
+    → refusal_in size c (name_steps place ++ owner_steps owner) o ≡ Some fault → ShowsFault place size c o fault
+shown size (content.Bytes bs) name.Name owner None fault refused = inl (bad-name bs fault (is_name bs) refused)
+shown size (content.Bytes bs) name.Name owner (Some own) fault refused = own-fault name.Name size (content.Bytes bs) (Some own) fault refused
+shown size (content.Bytes bs) place owner o fault refused = own-fault place size (content.Bytes bs) o fault refused
+shown size (content.Number code) name.Type owner o fault refused = floating size code o fault ((code == 5) || (code == 6)) refl refused
+shown size (content.Number n) name.NumRecs owner None fault refused = inl (large-count fault (is_large_numrecs size n) refused)
+shown size (content.Number n) name.NumRecs owner (Some own) fault refused = own-fault name.NumRecs size (content.Number n) (Some own) fault refused
+shown size (content.Number n) name.Length owner None fault refused =
+    inl (large-count fault (is_large_count size n) (sym (length-refusal size n owner) ∙ refused))
+shown size (content.Number n) name.Length owner (Some own) fault refused =
+    own-fault name.Length size (content.Number n) (Some own) fault (sym (length-fault size n owner own) ∙ refused)
+shown size (content.Number code) place owner o fault refused = own-fault place size (content.Number code) o fault refused
+shown size c place owner o fault refused = own-fault place size c o fault refused
 
-pub refused-shown : (e : Entry) (fault : FormatFault) → refusal_of e ≡ Some fault → ShowsFault e.place.name e.content e.fault fault
-refused-shown e fault refused = shown e.content e.place.name e.place.owner e.fault fault refused
+pub refused-shown : (e : Entry) (fault : FormatFault) → refusal_of e ≡ Some fault → ShowsFault e.place.name e.size e.content e.fault fault
+refused-shown e fault refused = shown e.size e.content e.place.name e.place.owner e.fault fault refused

@@ -11,7 +11,7 @@ use Rattle.nc_base.specs.Types.{code_of, size_of, type_of_code}
 use Rattle.nc_base.specs.Versions.{version_byte, version_of_byte, count_width, offset_width, count_limit, offset_limit, streaming_mark}
 use Rattle.nc_base.specs.Sizes.{has_record_dim, padded_total, record_vars}
 use Rattle.nc_base.specs.Parts.{Step, Part, done, bytes, decoded, under, chain, Magic, VersionByte, Records, Dims, Gatts, Vars, Tag, Count, Item, Name, Length, Text, Padding, TypeCode, Values, Shape, Atts, Vsize, Begin}
-use Rattle.nc_base.specs.Grammar.{count_part, checked, known_type, version_in, numrecs_in, number_of_numrecs, is_dimid, is_within_limits, dimension_tag, attribute_tag, variable_tag, dim_after, att_after, dimid_after, var_after}
+use Rattle.nc_base.specs.Grammar.{checked, count_part, known_type, version_in, numrecs_in, number_of_numrecs, is_dimid, is_within_limits, dimension_tag, attribute_tag, variable_tag, dim_after, att_after, dimid_after, var_after}
 unfoldable use Rattle.nc_base.specs.Grammar.{number, limited_part, offset_part, ignored, name_part, type_part, counted, list_head, list_part, each, dim_part, dim_list, att_part, att_list, dimid_part, shape_part, var_part, var_list, version_part, magic_part, numrecs_part, header_by}
 use Rattle.nc_base.specs.code.PartRuns.{Outcome, and_then, with_rest}
 unfoldable use Rattle.nc_base.specs.code.PartRuns.{run}
@@ -21,7 +21,7 @@ use Rattle.nc_fields.specs.declared.place.FieldName.TheVariants as name
 use Rattle.nc_fields.specs.Entries.{steps_of, owner_steps}
 use Rattle.nc_fields.specs.Fields.{Field}
 unfoldable use Rattle.nc_fields.specs.Fields.{fields}
-use Rattle.nc_fields.specs.Lenient.{lenient, may_be_name, sized_type_in}
+use Rattle.nc_fields.specs.Lenient.{any_length_limit, lenient, may_be_name, sized_type_in}
 use Rattle.nc_fields.proofs.Checks.{IsField, fault_in, bytes-field, decoded-field}
 
 -- ---- lists of fields
@@ -175,9 +175,12 @@ placed {A = A} {p = p} place one = record {
 abbrev at : FieldName → Owner → Place
 at n o = record { owner = o; name = n }
 
-leaf-count : (v : Version) → Leaf (count_part v)
+leaf-limited : (limit : ℕ) (v : Version) → Leaf (limited_part limit v)
 unfolding limited_part
-leaf-count v = leaf-checked (λ n. nat_lt n (count_limit v)) BadCount refl (leaf-number (count_width v))
+leaf-limited limit v = leaf-checked (λ n. nat_lt n limit) BadCount refl (leaf-number (count_width v))
+
+leaf-count : (v : Version) → Leaf (count_part v)
+leaf-count v = leaf-limited (count_limit v) v
 
 leaf-offset : (v : Version) → Leaf (offset_part v)
 unfolding offset_part
@@ -186,7 +189,7 @@ leaf-offset v = leaf-checked (λ n. nat_lt n (offset_limit v)) BadOffset refl (l
 leaf-numrecs : (v : Version) → Leaf (numrecs_part lenient v)
 unfolding numrecs_part
 leaf-numrecs v =
-    leaf-decoded (numrecs_in lenient v) (number_of_numrecs v) (λ n. by-tests n (n == streaming_mark v) (nat_lt n (count_limit v))) (leaf-number (count_width v))
+    leaf-decoded (numrecs_in lenient v) (number_of_numrecs v) (λ n. by-tests n (n == streaming_mark v) (nat_lt n (any_length_limit v))) (leaf-number (count_width v))
   where
     by-tests : (n : ℕ) (a b : Bool) → NoFloat (cond a (Ok Streaming) (cond b (Ok (Known n)) (Err BadCount)))
     by-tests n true b = tt
@@ -267,7 +270,8 @@ placed-dims v =
     (λ found. placed-elements v found (at name.DimsCount owner.Header))
     (λ before i. placed-chain (placed-name v (owner.Dim i))
     (λ text. placed-chain (placed-under Length
-    (placed (at name.Length (owner.Dim i)) (leaf-checked (λ len. not (has_record_dim before && (len == 0))) TwoRecordDims refl (leaf-count v))))
+    (placed (at name.Length (owner.Dim i)) (leaf-checked (λ len. not (has_record_dim before && (len == 0))) TwoRecordDims refl
+    (leaf-limited (any_length_limit v) v))))
     (λ len. placed-done)))
 
 placed-att : (v : Version) (o : Owner) → Placed (owner_steps o) (att_part lenient v)

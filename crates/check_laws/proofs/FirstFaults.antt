@@ -1,5 +1,5 @@
 -- The first fault of a report is that of the first entry that the strict rules refuse.
-use Rattle.std.proofs.Common.{◌-◌, min, ◌≡◌, ℕ, zero, suc, ◌+◌, ◌≤◌, ◌⊎◌, inl, inr, Bool, true, false, cond, List, [], ◌∷◌, ◌++◌, length, map, flat_map, find, Option, Some, None, refl, sym, ap, ◌∙◌, subst, arith, le_refl}
+use Rattle.std.proofs.Common.{◌-◌, min, ◌≡◌, ℕ, zero, suc, ◌+◌, ◌≤◌, ◌⊎◌, inl, inr, Bool, true, false, cond, List, [], ◌∷◌, ◌++◌, length, map, flat_map, find, Option, Some, None, is_some, refl, sym, ap, ◌∙◌, subst, arith, le_refl}
 use Rattle.std.specs.List.{All, Contains}
 use Rattle.std.specs.Option.{option_to_list, option_map}
 use Rattle.std.proofs.lemmas.List.Elements.{All-cons, All-contains, Contains-append_left, Contains-append_right, Contains-append_cases}
@@ -28,44 +28,43 @@ use Rattle.nc_check.specs.AttributeRules.{attribute_findings}
 use Rattle.nc_check.specs.WholeHeader.{whole_findings}
 use Rattle.check_laws.specs.FaultLaws.{is_fault, HasNoFault, IsReadable, FindsFirst, FaultlessHeadersAreReadable, FirstFaultIsReaders}
 use Rattle.check_laws.proofs.Refusals.{refusal_of, FirstRefused, none-refused, first-refused}
-use Rattle.check_laws.proofs.FaultFindings.{ShowsFault, quiet-type, refused-shown, contains-first}
+use Rattle.check_laws.proofs.FaultFindings.{HasFact, IsFault, ShowsFault, quiet-type, refused-shown, contains-first}
 use Rattle.check_laws.proofs.QuietRules.{FaultsLieAt, RefusedLiesAt, all-lie}
 
 -- ---- a finding at the first entry that is refused
 
--- this fault is found at this offset
-pub record Finds (found : List Finding) (fault : FormatFault) (offset : ℕ) : Type 0 where
+-- such a fact is found at this offset
+pub record Finds (P : Fact → Type 0) (found : List Finding) (offset : ℕ) : Type 0 where
   pub finding : Finding
   pub has : Contains found finding
-  pub is : finding.fact ≡ Fault fault
+  pub is : P finding.fact
   pub at : finding.offset ≡ offset
 
-pub finds-left : {fault : FormatFault} {offset : ℕ} (xs ys : List Finding) → Finds xs fault offset → Finds (xs ++ ys) fault offset
+pub finds-left : {P : Fact → Type 0} {offset : ℕ} (xs ys : List Finding) → Finds P xs offset → Finds P (xs ++ ys) offset
 finds-left xs ys f = record { finding = f.finding; has = Contains-append_left xs ys f.finding f.has; is = f.is; at = f.at }
 
-pub finds-right : {fault : FormatFault} {offset : ℕ} (xs ys : List Finding) → Finds ys fault offset → Finds (xs ++ ys) fault offset
+pub finds-right : {P : Fact → Type 0} {offset : ℕ} (xs ys : List Finding) → Finds P ys offset → Finds P (xs ++ ys) offset
 finds-right xs ys f = record { finding = f.finding; has = Contains-append_right xs ys f.finding f.has; is = f.is; at = f.at }
 
-finds-here : (i : Indexed) (fault : FormatFault) (others : List Finding) → Finds (finding i (Fault fault) ∷ others) fault i.entry.offset
-finds-here i fault others =
-    record { finding = finding i (Fault fault); has = contains-first (finding i (Fault fault)) others; is = refl; at = refl }
+finds-here : (P : Fact → Type 0) (i : Indexed) (fact : Fact) (others : List Finding) → P fact → Finds P (finding i fact ∷ others) i.entry.offset
+finds-here P i fact others is = record { finding = finding i fact; has = contains-first (finding i fact) others; is = is; at = refl }
 
-pub finds-map : (f : Indexed) (facts : List Fact) (fault : FormatFault) → Contains facts (Fault fault)
-    → Finds (map (finding f) facts) fault f.entry.offset
-finds-map f [] fault (k, lt, is) = absurd (omega arith)
-finds-map f (fact ∷ facts) fault (zero, lt, is) =
-    record { finding = finding f fact; has = contains-first (finding f fact) (map (finding f) facts); is = is; at = refl }
-finds-map f (fact ∷ facts) fault (suc k, lt, is) =
-    finds-right (finding f fact ∷ []) (map (finding f) facts) (finds-map f facts fault (k, omega arith, is))
+pub finds-map : (P : Fact → Type 0) (f : Indexed) (facts : List Fact) → HasFact P facts → Finds P (map (finding f) facts) f.entry.offset
+finds-map P f facts h = among facts h.has
+  where
+    among : (facts : List Fact) → Contains facts h.fact → Finds P (map (finding f) facts) f.entry.offset
+    among [] (k, lt, is) = absurd (omega arith)
+    among (fact ∷ facts) (zero, lt, is) = finds-here P f fact (map (finding f) facts) (subst P (sym is) h.is)
+    among (fact ∷ facts) (suc k, lt, is) = finds-right (finding f fact ∷ []) (map (finding f) facts) (among facts (k, omega arith, is))
 
-finds-field : (i : ℕ) (front : List Entry) (e : Entry) (back : List Entry) (fault : FormatFault) → Contains (facts_of e) (Fault fault)
-    → Finds (flat_map findings_at (indexed_from i (front ++ e ∷ back))) fault e.offset
-finds-field i [] e back fault has =
+finds-field : (P : Fact → Type 0) (i : ℕ) (front : List Entry) (e : Entry) (back : List Entry) → HasFact P (facts_of e)
+    → Finds P (flat_map findings_at (indexed_from i (front ++ e ∷ back))) e.offset
+finds-field P i [] e back has =
     finds-left (findings_at (field_at i e)) (flat_map findings_at (indexed_from (i + 1) back))
-    (finds-map (field_at i e) (facts_of e) fault has)
-finds-field i (x ∷ front) e back fault has =
+    (finds-map P (field_at i e) (facts_of e) has)
+finds-field P i (x ∷ front) e back has =
     finds-right (findings_at (field_at i x)) (flat_map findings_at (indexed_from (i + 1) (front ++ e ∷ back)))
-    (finds-field (i + 1) front e back fault has)
+    (finds-field P (i + 1) front e back has)
 
 -- the first floating type among these fields, the first of which passes the test or doesn't
 abbrev first_floating : Bool → Indexed → List Indexed → List Finding
@@ -73,35 +72,35 @@ first_floating b f fs = option_to_list (option_map (λ f. finding f (Fault Float
 
 finds-floating : (i : ℕ) (front : List Entry) (e : Entry) (back : List Entry) → ((x : Entry) → Contains front x → refusal_of x ≡ None)
     → is_floating_in e.place.name e.content ≡ true
-    → Finds (option_to_list (floating_finding (indexed_from i (front ++ e ∷ back)))) FloatingType e.offset
+    → Finds (IsFault FloatingType) (option_to_list (floating_finding (indexed_from i (front ++ e ∷ back)))) e.offset
 finds-floating i [] e back none is =
-    subst (λ b. Finds (first_floating b (field_at i e) (indexed_from (i + 1) back)) FloatingType e.offset) (sym is)
-    (finds-here (field_at i e) FloatingType [])
+    subst (λ b. Finds (IsFault FloatingType) (first_floating b (field_at i e) (indexed_from (i + 1) back)) e.offset) (sym is)
+    (finds-here (IsFault FloatingType) (field_at i e) (Fault FloatingType) [] refl)
 finds-floating i (x ∷ front) e back none is =
-    subst (λ b. Finds (first_floating b (field_at i x) (indexed_from (i + 1) (front ++ e ∷ back))) FloatingType e.offset)
+    subst (λ b. Finds (IsFault FloatingType) (first_floating b (field_at i x) (indexed_from (i + 1) (front ++ e ∷ back))) e.offset)
     (sym (quiet-type x (none x (contains-first x front))))
     (finds-floating (i + 1) front e back (λ y has. none y (Contains-append_right (x ∷ []) front y has)) is)
 
 -- of those at fields alone, or of the one at a floating type
 finds-shown : (len : ℕ) (es : List Entry) (fault : FormatFault) (rest : Bytes) (r : FirstRefused len es fault rest)
-    → ShowsFault r.entry.place.name r.entry.content r.entry.fault fault
-    → Finds (field_findings (indexed es) ++ floating_findings (indexed es)) fault r.entry.offset
+    → ShowsFault r.entry.place.name r.entry.size r.entry.content r.entry.fault fault
+    → Finds (IsFault fault) (field_findings (indexed es) ++ floating_findings (indexed es)) r.entry.offset
 unfolding field_findings floating_findings
 finds-shown len es fault rest r (inl has) =
     finds-left (flat_map findings_at (indexed es)) (option_to_list (floating_finding (indexed es)))
-    (subst (λ es. Finds (flat_map findings_at (indexed es)) fault r.entry.offset) (sym r.is)
-    (finds-field 0 r.front r.entry r.back fault has))
+    (subst (λ es. Finds (IsFault fault) (flat_map findings_at (indexed es)) r.entry.offset) (sym r.is)
+    (finds-field (IsFault fault) 0 r.front r.entry r.back has))
 finds-shown len es fault rest r (inr (is, same)) =
     finds-right (flat_map findings_at (indexed es)) (option_to_list (floating_finding (indexed es)))
-    (subst (λ f. Finds (option_to_list (floating_finding (indexed es))) f r.entry.offset) (sym same)
-    (subst (λ es. Finds (option_to_list (floating_finding (indexed es))) FloatingType r.entry.offset) (sym r.is)
+    (subst (λ f. Finds (IsFault f) (option_to_list (floating_finding (indexed es))) r.entry.offset) (sym same)
+    (subst (λ es. Finds (IsFault FloatingType) (option_to_list (floating_finding (indexed es))) r.entry.offset) (sym r.is)
     (finds-floating 0 r.front r.entry r.back (λ x has. All-contains (λ (e : Entry). refusal_of e ≡ None) r.front x r.before has) is)))
 
 -- of all findings
-pub finds-among_all : (l : Listing) (fault : FormatFault) (offset : ℕ)
-    → Finds (field_findings (indexed l.entries) ++ floating_findings (indexed l.entries)) fault offset → Finds (all_findings l) fault offset
+pub finds-among_all : {P : Fact → Type 0} (l : Listing) (offset : ℕ)
+    → Finds P (field_findings (indexed l.entries) ++ floating_findings (indexed l.entries)) offset → Finds P (all_findings l) offset
 unfolding all_findings header_findings
-finds-among_all l fault offset f =
+finds-among_all l offset f =
     let fs = indexed l.entries in
     finds-left (header_findings l.entries) (whole_findings l)
     (finds-left (field_findings fs ++ floating_findings fs ++ name_findings fs) (attribute_findings fs)
@@ -138,7 +137,7 @@ finds-first bytes r fault rest end report first at =
     let entries = r.listing.entries in
     let low = λ (n : ℕ). first.entry.offset ≤ n in
     let shown = finds-shown (length bytes) entries fault rest first (refused-shown first.entry fault first.refused) in
-    let found = finds-among_all r.listing fault first.entry.offset shown in
+    let found = finds-among_all r.listing first.entry.offset shown in
     let ended = end-of (length bytes) end first.entry.offset first.entry.size (length rest) at first.ends.within first.ends.left in
     record {
       found = found.finding;
@@ -167,10 +166,10 @@ readable bytes r report none None is = unrefused-headers bytes is
 readable bytes r report none (Some (fault, rest)) is =
     let refused = refused-first bytes r fault rest report is in
     let shown = finds-shown (length bytes) r.listing.entries fault rest refused (refused-shown refused.entry fault refused.refused) in
-    let found = finds-among_all r.listing fault refused.entry.offset shown in
+    let found = finds-among_all r.listing refused.entry.offset shown in
     let has = Contains-permutation (all_findings r.listing) r.findings found.finding report.all found.has in
     let quiet = All-contains (λ (f : Finding). is_fault f.fact ≡ false) r.findings found.finding none has in
-    absurd (let never : true ≡ false = sym (ap is_fault found.is) ∙ quiet in cc)
+    absurd (let never : true ≡ false = sym (ap (λ (o : Option FormatFault). is_some o) found.is) ∙ quiet in cc)
 
 not-true : (b : Bool) → (b ≡ true → ⊥) → b ≡ false
 not-true true never = absurd (never refl)

@@ -33,7 +33,7 @@ use Rattle.nc_check.specs.Reports.{all_findings, IsReport}
 use Rattle.check_laws.specs.ErrorLaws.{HasNoError, ListedHeadersTellMissingValues, ListedHeadersHaveSlabsApart, ReportsWithoutErrorsHaveValues}
 use Rattle.check_laws.specs.FaultLaws.{is_missing}
 use Rattle.check_laws.specs.Laws.{is_of_layout}
-use Rattle.check_laws.proofs.FaultFindings.{own-fault}
+use Rattle.check_laws.proofs.FaultFindings.{own-fact}
 use Rattle.check_laws.proofs.FieldPlaces.{HasFault, Shows, is_floating_fault, shown-faults}
 use Rattle.check_laws.proofs.FirstFaults.{Finds, finds-left, finds-right, finds-map, finds-among_all}
 use Rattle.check_laws.proofs.LayoutFacts.{listing-finds-none}
@@ -60,42 +60,45 @@ apart-listed bytes r h report same none =
 
 -- ---- a header that isn't
 
--- a fault, at some offset
-abbrev FindsFault : List Finding → FormatFault → Type 0
-FindsFault found fault = (offset : ℕ) × Finds found fault offset
+error-fault : (fault : FormatFault) → is_floating_fault fault ≡ false → severity_of (kind_of_fault fault) ≡ Error
+error-fault FloatingType plain = absurd cc
+error-fault fault plain = refl
 
-finds-fault : (len i : ℕ) (es : List Entry) (fs : List Field) (fault : FormatFault) → map seen_by es ≡ map (seen len) fs → HasFault fault fs
-    → FindsFault (flat_map findings_at (indexed_from i es)) fault
+-- an error
+abbrev IsError : Fact → Type 0
+IsError fact = severity_of (kind_of fact) ≡ Error
+
+-- at some offset
+abbrev FindsError : List Finding → Type 0
+FindsError found = (offset : ℕ) × Finds IsError found offset
+
+finds-error : (len i : ℕ) (es : List Entry) (fs : List Field) (fault : FormatFault) → map seen_by es ≡ map (seen len) fs → HasFault fault fs
+    → is_floating_fault fault ≡ false → FindsError (flat_map findings_at (indexed_from i es))
 unfolding seen
-finds-fault len i [] [] fault same h = absurd h
-finds-fault len i [] (f ∷ fs) fault same h = absurd cc
-finds-fault len i (e ∷ es) [] fault same h = absurd cc
-finds-fault len i (e ∷ es) (f ∷ fs) fault same (inl is) =
+finds-error len i [] [] fault same h plain = absurd h
+finds-error len i [] (f ∷ fs) fault same h plain = absurd cc
+finds-error len i (e ∷ es) [] fault same h plain = absurd cc
+finds-error len i (e ∷ es) (f ∷ fs) fault same (inl is) plain =
     let first : seen_by e ≡ seen len f = cc in
-    let own = own-fault e.place.name e.content e.fault fault (ap (λ (s : Seen). s.fault) first ∙ is) in
-    (e.offset, finds-left (findings_at (field_at i e)) (flat_map findings_at (indexed_from (i + 1) es)) (finds-map (field_at i e) (facts_of e) fault own))
-finds-fault len i (e ∷ es) (f ∷ fs) fault same (inr h) =
+    let own = own-fact IsError e.place.name e.size e.content e.fault fault (ap (λ (s : Seen). s.fault) first ∙ is) (error-fault fault plain) in
+    (e.offset, finds-left (findings_at (field_at i e)) (flat_map findings_at (indexed_from (i + 1) es)) (finds-map IsError (field_at i e) (facts_of e) own))
+finds-error len i (e ∷ es) (f ∷ fs) fault same (inr h) plain =
     let others : map seen_by es ≡ map (seen len) fs = cc in
-    let more = finds-fault len (i + 1) es fs fault others h in
+    let more = finds-error len (i + 1) es fs fault others h plain in
     (more.0, finds-right (findings_at (field_at i e)) (flat_map findings_at (indexed_from (i + 1) es)) more.1)
 
--- if reading stops, then the fault is found, and it isn't that of a floating type
-stopped-finds : (bytes : Bytes) (r : Report) (fault : FormatFault) → IsReport bytes r → r.listing.header ≡ Err fault
-    → FindsFault r.findings fault × (is_floating_fault fault ≡ false)
+-- if reading stops, then an error is found
+stopped-finds : (bytes : Bytes) (r : Report) (fault : FormatFault) → IsReport bytes r → r.listing.header ≡ Err fault → FindsError r.findings
 unfolding field_findings
 stopped-finds bytes r fault report same =
     let l = r.listing in
     let rest = report.listing.rest in
     let told = stops (header_by lenient) bytes fault rest (subst (IsOutcome bytes rest) same report.listing.header) in
     let shown = subst (λ o. Shows o (fields [] (header_by lenient) bytes)) told (shown-faults bytes) in
-    let at = finds-fault (length bytes) 0 l.entries (fields [] (header_by lenient) bytes) fault report.listing.entries shown.0 in
-    let all = finds-among_all l fault at.0 (finds-left (field_findings (indexed l.entries)) (floating_findings (indexed l.entries)) at.1) in
+    let at = finds-error (length bytes) 0 l.entries (fields [] (header_by lenient) bytes) fault report.listing.entries shown.0 shown.1 in
+    let all = finds-among_all l at.0 (finds-left (field_findings (indexed l.entries)) (floating_findings (indexed l.entries)) at.1) in
     let has = Contains-permutation (all_findings l) r.findings all.finding report.all all.has in
-    ((at.0, record { finding = all.finding; has = has; is = all.is; at = all.at }), shown.1)
-
-error-fault : (fault : FormatFault) → is_floating_fault fault ≡ false → severity_of (kind_of_fault fault) ≡ Error
-error-fault FloatingType plain = absurd cc
-error-fault fault plain = refl
+    (at.0, record { finding = all.finding; has = has; is = all.is; at = all.at })
 
 -- ---- no error
 
@@ -103,10 +106,8 @@ header-listed : (bytes : Bytes) (r : Report) → IsReport bytes r → HasNoError
     → (h : Header) × (r.listing.header ≡ Ok h)
 header-listed bytes r report none (Ok h) same = (h, same)
 header-listed bytes r report none (Err fault) same =
-    let found = stopped-finds bytes r fault report same in
-    let f = found.0.1 in
-    let never = All-contains (λ (f : Finding). severity_of (kind_of f.fact) ≢ Error) r.findings f.finding none f.has in
-    absurd (never (ap (λ x. severity_of (kind_of x)) f.is ∙ error-fault fault found.1))
+    let f = (stopped-finds bytes r fault report same).1 in
+    absurd (All-contains (λ (f : Finding). severity_of (kind_of f.fact) ≢ Error) r.findings f.finding none f.has f.is)
 
 no-missing : (x : Fact) → severity_of (kind_of x) ≢ Error → is_missing x ≡ false
 no-missing (fact.Layout (layout.Missing n end of)) plain = absurd (plain refl)

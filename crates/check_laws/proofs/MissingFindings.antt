@@ -53,10 +53,12 @@ all-other fs plain k x lt = (plain k x lt).1
 
 -- ---- at fields alone
 
-other-number : (place : FieldName) (n : ℕ) → All OtherFact (option_to_list (number_fact place n))
-other-number name.NameLength n = if-none OtherFact _ _ refl
-other-number name.Rank n = if-none OtherFact _ _ refl
-other-number place n = All-nil OtherFact
+other-number : (place : FieldName) (size n : ℕ) → All OtherFact (option_to_list (number_fact place size n))
+other-number name.NumRecs size n = if-none OtherFact _ _ refl
+other-number name.Length size n = if-none OtherFact _ _ refl
+other-number name.NameLength size n = if-none OtherFact _ _ refl
+other-number name.Rank size n = if-none OtherFact _ _ refl
+other-number place size n = All-nil OtherFact
 
 other-bytes : (place : FieldName) (bs : Bytes) → All OtherFact (option_to_list (bytes_fact place bs))
 other-bytes name.Name bs = if-none OtherFact _ _ refl
@@ -68,20 +70,20 @@ other-form : (place : FieldName) (bs : Bytes) → All OtherFact (option_to_list 
 other-form name.Name bs = if-none OtherFact _ _ refl
 other-form place bs = All-nil OtherFact
 
-other-content : (place : FieldName) (c : Content) → All OtherFact (content_facts place c)
-other-content place (content.Number n) = other-number place n
-other-content place (content.Bytes bs) = All-append OtherFact _ _ (other-bytes place bs) (other-form place bs)
-other-content place c = All-nil OtherFact
+other-content : (place : FieldName) (size : ℕ) (c : Content) → All OtherFact (content_facts place size c)
+other-content place size (content.Number n) = other-number place size n
+other-content place size (content.Bytes bs) = All-append OtherFact _ _ (other-bytes place bs) (other-form place bs)
+other-content place size c = All-nil OtherFact
 
-other-facts : (o : Option FormatFault) (place : FieldName) (c : Content) → All OtherFact (facts_with o place c)
-other-facts (Some fault) place c = only OtherFact (fact.Fault fault) refl
-other-facts None place c = other-content place c
+other-facts : (o : Option FormatFault) (place : FieldName) (size : ℕ) (c : Content) → All OtherFact (facts_with o place size c)
+other-facts (Some fault) place size c = only OtherFact (fact.Fault fault) refl
+other-facts None place size c = other-content place size c
 
 other-fields : (i : ℕ) (es : List Entry) → All Other (flat_map findings_at (indexed_from i es))
 other-fields i [] = All-nil Other
 other-fields i (e ∷ es) =
     All-append Other _ _
-    (All-map Other (finding (field_at i e)) (facts_of e) (other-facts e.fault e.place.name e.content))
+    (All-map Other (finding (field_at i e)) (facts_of e) (other-facts e.fault e.place.name e.size e.content))
     (other-fields (i + 1) es)
 
 other-floating : (o : Option Indexed) → All Other (option_to_list (option_map (λ f. finding f (fact.Fault FloatingType)) o))

@@ -90,16 +90,16 @@ tag-shows steps f (content.Bytes bs) k after e = tt
 tag-shows steps f (content.Values b) k after e = tt
 tag-shows steps f content.Cut k after e = tt
 
-filling-shows : (steps : List Step) (place : FieldName) (f : Indexed) (c : Content) (after : List Seen)
-    → ((bs : Bytes) → AreOther (map (finding f) (content_facts place (content.Bytes bs))) → has_nonzero bs ≡ false)
-    → AreOther (map (finding f) (content_facts place c)) → Shows (Padding ∷ steps) c after
-filling-shows steps place f (content.Number n) after go e = tt
-filling-shows steps place f (content.Bytes bs) after go e = go bs e
-filling-shows steps place f (content.Values b) after go e = tt
-filling-shows steps place f content.Cut after go e = tt
+filling-shows : (steps : List Step) (place : FieldName) (size : ℕ) (f : Indexed) (c : Content) (after : List Seen)
+    → ((bs : Bytes) → AreOther (map (finding f) (content_facts place size (content.Bytes bs))) → has_nonzero bs ≡ false)
+    → AreOther (map (finding f) (content_facts place size c)) → Shows (Padding ∷ steps) c after
+filling-shows steps place size f (content.Number n) after go e = tt
+filling-shows steps place size f (content.Bytes bs) after go e = go bs e
+filling-shows steps place size f (content.Values b) after go e = tt
+filling-shows steps place size f content.Cut after go e = tt
 
 place-shows : (first : Bool) (place : FieldName) (o : Owner) (f : Indexed) (k : ℕ) (after : List Entry)
-    → AreOther (map (finding f) (content_facts place f.entry.content))
+    → AreOther (map (finding f) (content_facts place f.entry.size f.entry.content))
     → AreOther (option_to_list (finding_by_name first place f (ahead_of (indexed_from k after))))
     → Shows (name_steps place ++ owner_steps o) f.entry.content (map seen_by after)
 place-shows first name.Magic o f k after e d = tt
@@ -114,14 +114,14 @@ place-shows first name.VarsCount o f k after e d = tt
 place-shows first name.NameLength o f k after e d = tt
 place-shows first name.Name o f k after e d = tt
 place-shows first name.NamePadding o f k after e d =
-    filling-shows (Name ∷ owner_steps o) name.NamePadding f f.entry.content (map seen_by after)
+    filling-shows (Name ∷ owner_steps o) name.NamePadding f.entry.size f f.entry.content (map seen_by after)
     (λ bs e. padding-shows (has_nonzero bs) f _ e) e
 place-shows first name.Length o f k after e d = tt
 place-shows first name.Type o f k after e d = tt
 place-shows first name.Count o f k after e d = tt
 place-shows first name.Values o f k after e d = tt
 place-shows first name.Padding o f k after e d =
-    filling-shows (owner_steps o) name.Padding f f.entry.content (map seen_by after)
+    filling-shows (owner_steps o) name.Padding f.entry.size f f.entry.content (map seen_by after)
     (λ bs e. padding-shows (has_nonzero bs) f _ e) e
 place-shows first name.Rank o f k after e d = tt
 place-shows first (name.DimId i) o f k after e d = tt
@@ -141,7 +141,7 @@ quiet-from all k (entry ∷ entries) e d =
     let by = both-other (option_to_list (attribute_finding all f after)) (each_before (attribute_finding all) after) d in (
       λ sound.
           place-shows (is_first all f) entry.place.name entry.place.owner f (k + 1) entries
-          (subst (λ fault. AreOther (map (finding f) (facts_with fault entry.place.name entry.content))) sound at.0)
+          (subst (λ fault. AreOther (map (finding f) (facts_with fault entry.place.name entry.size entry.content))) sound at.0)
           by.0,
       quiet-from all (k + 1) entries at.1 by.1,
     )

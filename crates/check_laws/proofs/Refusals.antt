@@ -16,21 +16,21 @@ use Rattle.check_laws.proofs.FieldOrder.{Descend}
 
 -- why the strict rules refuse an entry
 abbrev pub refusal_of : Entry → Option FormatFault
-refusal_of e = refusal_in e.content (steps_of e.place) e.fault
+refusal_of e = refusal_in e.size e.content (steps_of e.place) e.fault
 
 -- ---- an entry is refused as its field is
 
 same-refusal : (len : ℕ) (f : Field) (e : Entry) → seen_by e ≡ seen len f → refusal_of e ≡ refusal f
 unfolding seen
-same-refusal len f e is = ap (λ (s : Seen). refusal_in s.content s.steps s.fault) is ∙ by-test (nat_lt (length f.start) f.size)
+same-refusal len f e is = ap (λ (s : Seen). refusal_in s.size s.content s.steps s.fault) is ∙ by-test (nat_lt (length f.start) f.size)
   where
-    cut-refusal : (steps : List Step) → refusal_in (cut_content steps f.start) steps f.fault ≡ f.fault
+    cut-refusal : (steps : List Step) → refusal_in f.size (cut_content steps f.start) steps f.fault ≡ f.fault
     cut-refusal (Magic ∷ steps) = refl
     cut-refusal steps = refl
 
     by-test : (b : Bool)
-        → refusal_in (cond b (cut_content f.steps f.start) (whole_content f.steps f.size (take f.size f.start))) f.steps f.fault
-        ≡ cond b f.fault (refusal_in (whole_content f.steps f.size (take f.size f.start)) f.steps f.fault)
+        → refusal_in f.size (cond b (cut_content f.steps f.start) (whole_content f.steps f.size (take f.size f.start))) f.steps f.fault
+        ≡ cond b f.fault (refusal_in f.size (whole_content f.steps f.size (take f.size f.start)) f.steps f.fault)
     by-test true = cut-refusal f.steps
     by-test false = refl
 

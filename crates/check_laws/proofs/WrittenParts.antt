@@ -16,15 +16,15 @@ use Rattle.nc_base.specs.Versions.{count_width, offset_width, count_limit, offse
 use Rattle.nc_base.specs.Names.{is_name}
 use Rattle.nc_base.specs.Sizes.{has_record_dim, padded_size, padded_total, record_vars}
 use Rattle.nc_base.specs.Parts.{Step, Part, bytes, Spells, Magic, VersionByte, Records, Dims, Gatts, Vars, Tag, Count, Item, Name, Length, Text, Padding, TypeCode, Values, Shape, Atts, Vsize, Begin}
-use Rattle.nc_base.specs.Grammar.{count_part, strict, checked, type_in, known_type, version_in, numrecs_in, number_of_numrecs, is_dimid, is_within_limits, dimension_tag, attribute_tag, variable_tag, dim_after, att_after, dimid_after, var_after, vsize_of, first}
+use Rattle.nc_base.specs.Grammar.{strict, checked, count_part, type_in, known_type, version_in, numrecs_in, number_of_numrecs, is_dimid, is_within_limits, dimension_tag, attribute_tag, variable_tag, dim_after, att_after, dimid_after, var_after, vsize_of, first}
 unfoldable use Rattle.nc_base.specs.Grammar.{number, limited_part, offset_part, ignored, name_part, type_part, each, counted, list_head, list_part, dim_part, dim_list, att_part, att_list, dimid_part, shape_part, var_part, var_list, version_part, magic_part, numrecs_part, header_by}
 use Rattle.nc_fields.specs.Fields.{Field, fields}
-use Rattle.nc_fields.specs.Lenient.{lenient, may_be_name, sized_type_in}
+use Rattle.nc_fields.specs.Lenient.{any_length_limit, lenient, may_be_name, sized_type_in}
 use Rattle.check_laws.specs.Agreement.{att_without_values, var_without_values, without_values}
 use Rattle.nc_fields.specs.Entries.{number_in}
 use Rattle.check_laws.specs.Written.{AreWritten, WrittenFieldsAreCanonical}
 use Rattle.check_laws.proofs.Agreement.{Extends, extends-same, extends-map}
-use Rattle.check_laws.proofs.AgreeingParts.{same-total}
+use Rattle.check_laws.proofs.AgreeingParts.{below-any, same-total}
 use Rattle.nc_fields.proofs.Numbers.{number-in_count}
 use Rattle.check_laws.proofs.OddNames.{name-may-be}
 use Rattle.check_laws.proofs.Written.{whole_field, Writes, writes-done, writes-under, writes-decoded, writes-chain, writes-bytes, is-width-32, is-width-count, is-width-offset, writes-number, writes-ignored, IsNumberField, number-field, tested-field}
@@ -49,6 +49,16 @@ writes-count : {h : Header} {steps : List Step} (v : Version) {from : Bytes} {n 
     → Writes h (λ n. n) steps (count_part v) (count_part v) from n rest
 unfolding Spells limited_part
 writes-count v (k, s, e) = writes-tested (λ n. nat_lt n (count_limit v)) BadCount (writes-number (count_width v) (is-width-count v) s) e
+
+-- the length of a dimension
+writes-length : {h : Header} {steps : List Step} (v : Version) {from : Bytes} {n : ℕ} {rest : Bytes} → Spells (count_part v) from n rest
+    → Writes h (λ n. n) steps (count_part v) (limited_part (any_length_limit v) v) from n rest
+unfolding Spells limited_part
+writes-length v (k, s, e) =
+    let p = passed (nat_lt k (count_limit v)) BadCount e in
+    writes-decoded (λ n. if nat_lt n (count_limit v) then Ok n else Err BadCount) (λ n. n)
+    (λ n. if nat_lt n (any_length_limit v) then Ok n else Err BadCount) (λ n. n) (writes-number (count_width v) (is-width-count v) s)
+    (ap (λ b. if b then Ok k else Err BadCount) (below-any v k p.0) ∙ ap Ok p.1) (sym p.1)
 
 writes-offset : {h : Header} {steps : List Step} (v : Version) {from : Bytes} {n : ℕ} {rest : Bytes} → Spells (offset_part v) from n rest
     → Writes h (λ n. n) steps (offset_part v) (offset_part v) from n rest
@@ -229,7 +239,7 @@ writes-dim : {h : Header} {steps : List Step} (v : Version) (has_record : Bool) 
 unfolding Spells dim_part
 writes-dim v has_record (text, m, s, (len, m2, (k, c, e), (whole, end))) =
     writes-chain (writes-under Name (writes-name v s))
-    (writes-chain (writes-under Length (writes-tested (λ len. not (has_record && (len == 0))) TwoRecordDims (writes-count v c) e))
+    (writes-chain (writes-under Length (writes-tested (λ len. not (has_record && (len == 0))) TwoRecordDims (writes-length v c) e))
     (writes-done whole end) (λ w. ap (λ (dim : Dim). Some dim.len) whole))
     (λ w. ap (λ (dim : Dim). Some dim.name) whole)
 
@@ -362,12 +372,24 @@ same-numrecs v n numrecs e = by-tests (n == streaming_mark v) refl (nat_lt n (co
     by-tests false is true e = let same : Known n ≡ numrecs = cc in subst (λ x. number_of_numrecs v x ≡ n) same refl
     by-tests false is false e = absurd cc
 
+-- the lenient rules take it, too
+any-numrecs : (v : Version) (n : ℕ) (numrecs : NumRecs) → numrecs_in strict v n ≡ Ok numrecs → numrecs_in lenient v n ≡ Ok numrecs
+any-numrecs v n numrecs e = by-tests (n == streaming_mark v) (nat_lt n (count_limit v)) (nat_lt n (any_length_limit v)) (below-any v n) e
+  where
+    by-tests : (mark below any : Bool) → (below ≡ true → any ≡ true)
+        → (if mark then Ok Streaming else (if below then Ok (Known n) else Err BadCount)) ≡ Ok numrecs
+        → (if mark then Ok Streaming else (if any then Ok (Known n) else Err BadCount)) ≡ Ok numrecs
+    by-tests true below any le e = e
+    by-tests false true true le e = e
+    by-tests false true false le e = absurd (let never : false ≡ true = le refl in cc)
+    by-tests false false any le e = absurd cc
+
 writes-numrecs : {h : Header} {steps : List Step} (v : Version) {from : Bytes} {n : NumRecs} {rest : Bytes}
     → Spells (numrecs_part strict v) from n rest → Writes h (λ n. n) steps (numrecs_part strict v) (numrecs_part lenient v) from n rest
 unfolding Spells numrecs_part
 writes-numrecs v {n = n} (k, s, e) =
     writes-decoded (numrecs_in strict v) (number_of_numrecs v) (numrecs_in lenient v) (number_of_numrecs v)
-    (writes-number (count_width v) (is-width-count v) s) e (same-numrecs v k n e)
+    (writes-number (count_width v) (is-width-count v) s) (any-numrecs v k n e) (same-numrecs v k n e)
 
 pub writes-header : (from : Bytes) (h : Header) (rest : Bytes) → Spells (header_by strict) from h rest
     → Writes h without_values [] (header_by strict) (header_by lenient) from h rest

@@ -1,11 +1,12 @@
 -- Law. What the strict rules of `Grammar` read of a header, told from its fields as the lenient rules list them. Both read the same, up to
--- the first field that the strict rules refuse: the first wrong one, or before it a name that isn't valid, or the code of a floating type.
-use Rattle.std.specs.Prelude.{◌≡◌, ◌↔◌, ◌==◌, ◌||◌, nat_lt, if◌then◌else◌, List, [], ◌∷◌, length, take, drop, map, Option, Some, None}
+-- the first field that the strict rules refuse: the first wrong one, or before it a name that isn't valid, the code of a floating type, or a
+-- number that is too large for a length or a number of records.
+use Rattle.std.specs.Prelude.{ℕ, ◌≡◌, ◌↔◌, ◌==◌, ◌||◌, nat_lt, if◌then◌else◌, List, [], ◌∷◌, length, take, drop, map, Option, Some, None}
 use Rattle.nc_base.specs.declared.{fault.FormatFault.FormatFault, header.Att.Att, header.Var.Var, header.Header.Header}
-use Rattle.nc_base.specs.declared.fault.FormatFault.TheVariants.{BadName, FloatingType}
+use Rattle.nc_base.specs.declared.fault.FormatFault.TheVariants.{BadCount, BadName, FloatingType}
 use Rattle.nc_base.specs.Bytes.{Bytes}
 use Rattle.nc_base.specs.Names.{is_name}
-use Rattle.nc_base.specs.Parts.{Step, Text, TypeCode, Spells}
+use Rattle.nc_base.specs.Parts.{Step, Records, Name, Length, Text, TypeCode, Spells}
 use Rattle.nc_base.specs.Grammar.{header_by, header_part, SpellsHeader}
 use Rattle.nc_base.specs.code.PartRuns.{StopsWith}
 use Rattle.nc_fields.specs.declared.entry.Content.{Content}
@@ -13,19 +14,23 @@ use Rattle.nc_fields.specs.declared.entry.Content.TheVariants as content
 use Rattle.nc_fields.specs.Fields.{Field, fields}
 use Rattle.nc_fields.specs.Entries.{whole_content}
 use Rattle.nc_fields.specs.Lenient.{lenient}
+use Rattle.nc_check.specs.FieldRules.{is_large_count, is_large_numrecs}
 
 -- ---- the fields that the strict rules refuse
 
--- why they refuse a field with this content at the end of these steps, which has this fault by the lenient rules, or none
-abbrev pub refusal_in : Content → List Step → Option FormatFault → Option FormatFault
-refusal_in (content.Bytes bytes) (Text ∷ steps) None = if is_name bytes then None else Some BadName
-refusal_in (content.Number code) (TypeCode ∷ steps) fault = if (code == 5) || (code == 6) then Some FloatingType else fault
-refusal_in c steps fault = fault
+-- why they refuse a field of this many bytes, with this content at the end of these steps, which has this fault by the lenient rules, or none
+abbrev pub refusal_in : ℕ → Content → List Step → Option FormatFault → Option FormatFault
+refusal_in size (content.Bytes bytes) (Text ∷ steps) None = if is_name bytes then None else Some BadName
+refusal_in size (content.Number code) (TypeCode ∷ steps) fault = if (code == 5) || (code == 6) then Some FloatingType else fault
+refusal_in size (content.Number n) (Records ∷ steps) None = if is_large_numrecs size n then Some BadCount else None
+refusal_in size (content.Number n) (Length ∷ Name ∷ steps) fault = fault
+refusal_in size (content.Number n) (Length ∷ steps) None = if is_large_count size n then Some BadCount else None
+refusal_in size c steps fault = fault
 
 -- why they refuse a field
 abbrev pub refusal : Field → Option FormatFault
 refusal f =
-    if nat_lt (length f.start) f.size then f.fault else refusal_in (whole_content f.steps f.size (take f.size f.start)) f.steps f.fault
+    if nat_lt (length f.start) f.size then f.fault else refusal_in f.size (whole_content f.steps f.size (take f.size f.start)) f.steps f.fault
 
 -- why they refuse the first field that they refuse, and the bytes after it
 abbrev pub first_refusal : List Field → Option (FormatFault × Bytes)

@@ -1,18 +1,25 @@
 -- Law. The faults in a report and the values that it finds to be missing, and what the programs do that read the values of the file.
-use Rattle.std.specs.Prelude.{ℕ, ◌≡◌, ◌+◌, ◌≤◌, ◌↔◌, min, Bool, true, false}
+use Rattle.std.specs.Prelude.{ℕ, ◌≡◌, ◌+◌, ◌≤◌, ◌↔◌, min, Bool, true, false, Option, Some, None, is_some}
 use Rattle.std.specs.List.{All, Contains, list_any}
 use Rattle.nc_base.specs.declared.{fault.FormatFault.FormatFault, header.Header.Header}
+use Rattle.nc_base.specs.declared.fault.FormatFault.TheVariants.{BadCount}
 use Rattle.nc_base.specs.Bytes.{Bytes}
 use Rattle.nc_base.specs.Grammar.{SpellsHeader, StopsAt}
 use Rattle.nc_fields.specs.declared.entry.Entry.{Entry}
 use Rattle.layout_laws.specs.HeaderLaws.{is_of_missing, lacks_values}
 use Rattle.nc_check.specs.declared.{finding.Fact.Fact, finding.Finding.Finding, report.Report.Report}
-use Rattle.nc_check.specs.declared.finding.Fact.TheVariants.{Fault, Layout}
+use Rattle.nc_check.specs.declared.finding.Fact.TheVariants.{Fault, LargeCount, Layout}
 use Rattle.nc_check.specs.Reports.{IsReport}
 
+-- the fault with which the programs that read values stop at the field at which this fact lies, if they do
+abbrev pub strict_fault : Fact → Option FormatFault
+strict_fault (Fault fault) = Some fault
+strict_fault LargeCount = Some BadCount
+strict_fault fact = None
+
+-- the fact is a fault, then
 abbrev pub is_fault : Fact → Bool
-is_fault (Fault fault) = true
-is_fault fact = false
+is_fault fact = is_some (strict_fault fact)
 
 -- the fact is that values are missing
 abbrev pub is_missing : Fact → Bool
@@ -36,7 +43,7 @@ IsReadable bytes = (h : Header) × (rest : Bytes) × SpellsHeader bytes h rest
 pub record FindsFirst (r : Report) (fault : FormatFault) (end : ℕ) : Type 0 where
   pub found : Finding
   pub in_report : Contains r.findings found
-  pub fact : found.fact ≡ Fault fault
+  pub fact : strict_fault found.fact ≡ Some fault
   pub first : All (λ (f : Finding). is_fault f.fact ≡ true → found.offset ≤ f.offset) r.findings
   pub field : Entry
   pub in_listing : Contains r.listing.entries field

@@ -11,7 +11,7 @@ ghost use Rattle.check_laws.specs.Laws.{GeneratedFilesHaveQuietLayouts, Generate
 ghost use Rattle.check_laws.specs.OneReport.{EachFileHasReport, ReportsAreOne};
 
 /// States four laws, and does nothing. They compare the rules by which `nc_file` reads a header, the strict ones, with those by which
-/// [`list_fields`](nc_fields::list_fields) lists its fields, which take floating types and odd names, and keep no values. `lenient`: if
+/// [`list_fields`](nc_fields::list_fields) lists its fields, which take floating types, odd names and large lengths, and keep no values. `lenient`: if
 /// bytes spell a header by the strict rules, they spell it by the others, too, but for the values, and no field is refused.
 ///
 /// `strict`: if bytes spell a header by the other rules, and no field is refused, they spell it by the strict ones, with some values.
@@ -19,7 +19,8 @@ ghost use Rattle.check_laws.specs.OneReport.{EachFileHasReport, ReportsAreOne};
 /// `spelled`: if no field is refused, the bytes spell a header by the strict rules.
 ///
 /// `faults`: strict reading stops with a fault exactly if the first field that is refused is refused with it, and it stops right after this
-/// field. A field is refused if it is wrong, if it is a name that isn't valid, or if it is the code of a floating type.
+/// field. A field is refused if it is wrong, if it is a name that isn't valid or the code of a floating type, or if it is, in CDF-1 or CDF-2, a
+/// dimension's length or a number of records of 2^31 or more.
 pub fn strict_rules_refuse_fields()
     ensures lenient { StrictHeadersAreLenient }
     ensures strict { LenientHeadersAreStrict }
@@ -46,8 +47,8 @@ pub fn one_report()
     ensures one { ReportsAreOne }
 {}
 
-/// States two laws, and does nothing. `faultless`: no finding of a report is a fault ([`Fact::Fault`](nc_check::Fact::Fault)) exactly if
-/// `nc_file::read_header` can read the header.
+/// States two laws, and does nothing. `faultless`: no finding of a report is a fault ([`Fact::Fault`](nc_check::Fact::Fault), or
+/// [`Fact::LargeCount`](nc_check::Fact::LargeCount)) exactly if `nc_file::read_header` can read the header.
 ///
 /// `first`: if reading the header stops with a fault, then a finding of the report is this fault, no finding at a lesser offset is a fault,
 /// and the field that it lies at ends where reading stops.

@@ -1,5 +1,5 @@
 -- Definition. Findings at a field alone: its fault, or, if it has none, what its content shows.
-use Rattle.std.specs.Prelude.{ℕ, not, nat_lt, ◌==◌, ◌&&◌, ◌||◌, Bool, false, if◌then◌else◌, List, [], ◌∷◌, ◌++◌, map, flat_map, find, Option, Some, None, chars}
+use Rattle.std.specs.Prelude.{ℕ, not, nat_lt, ◌==◌, ◌-◌, ◌^◌, ◌&&◌, ◌||◌, Bool, false, if◌then◌else◌, List, [], ◌∷◌, ◌++◌, map, flat_map, find, Option, Some, None, chars}
 use Rattle.std.specs.List.{list_any}
 use Rattle.std.specs.Str.{is_utf8}
 use Rattle.std.specs.Option.{option_to_list, option_map}
@@ -12,7 +12,7 @@ use Rattle.nc_fields.specs.declared.{entry.Content.Content, entry.Entry.Entry, p
 use Rattle.nc_fields.specs.declared.entry.Content.TheVariants as content
 use Rattle.nc_fields.specs.declared.place.FieldName.TheVariants as name
 use Rattle.nc_check.specs.declared.{finding.Fact.Fact, finding.Finding.Finding}
-use Rattle.nc_check.specs.declared.finding.Fact.TheVariants.{Fault, LongName, NotNfc, Padding, HighRank}
+use Rattle.nc_check.specs.declared.finding.Fact.TheVariants.{Fault, LargeCount, LongName, NotNfc, Padding, HighRank}
 use Rattle.nc_check.specs.Indexed.{Indexed, finding}
 
 -- ---- fields without a fault
@@ -29,11 +29,25 @@ longest_name = 256
 abbrev pub highest_rank : ℕ
 highest_rank = 1024
 
--- of a number
-abbrev pub number_fact : FieldName → ℕ → Option Fact
-number_fact name.NameLength n = fact_if (nat_lt longest_name n) LongName
-number_fact name.Rank n = fact_if (nat_lt highest_rank n) HighRank
-number_fact place n = None
+-- the numbers of four bytes whose top bit is 0 are below this
+abbrev pub large_count : ℕ
+large_count = 2 ^ 31
+
+-- a number of this many bytes has four, and its top bit is 1
+abbrev pub is_large_count : ℕ → ℕ → Bool
+is_large_count size n = (size == 4) && not (nat_lt n large_count)
+
+-- the same, but that the number of records is the streaming mark if all of its bits are 1
+abbrev pub is_large_numrecs : ℕ → ℕ → Bool
+is_large_numrecs size n = is_large_count size n && not (n == 2 ^ 32 - 1)
+
+-- of a number of this many bytes
+abbrev pub number_fact : FieldName → ℕ → ℕ → Option Fact
+number_fact name.NumRecs size n = fact_if (is_large_numrecs size n) LargeCount
+number_fact name.Length size n = fact_if (is_large_count size n) LargeCount
+number_fact name.NameLength size n = fact_if (nat_lt longest_name n) LongName
+number_fact name.Rank size n = fact_if (nat_lt highest_rank n) HighRank
+number_fact place size n = None
 
 -- a byte isn't 0
 abbrev pub has_nonzero : Bytes → Bool
@@ -56,20 +70,20 @@ abbrev pub form_fact : FieldName → Bytes → Option Fact
 form_fact name.Name bytes = fact_if (is_not_nfc bytes) NotNfc
 form_fact place bytes = None
 
-abbrev pub content_facts : FieldName → Content → List Fact
-content_facts place (content.Number n) = option_to_list (number_fact place n)
-content_facts place (content.Bytes bytes) = option_to_list (bytes_fact place bytes) ++ option_to_list (form_fact place bytes)
-content_facts place other = []
+abbrev pub content_facts : FieldName → ℕ → Content → List Fact
+content_facts place size (content.Number n) = option_to_list (number_fact place size n)
+content_facts place size (content.Bytes bytes) = option_to_list (bytes_fact place bytes) ++ option_to_list (form_fact place bytes)
+content_facts place size other = []
 
 -- ---- all fields
 
 -- the facts of a field with this fault, or without one
-abbrev pub facts_with : Option FormatFault → FieldName → Content → List Fact
-facts_with (Some fault) place c = Fault fault ∷ []
-facts_with None place c = content_facts place c
+abbrev pub facts_with : Option FormatFault → FieldName → ℕ → Content → List Fact
+facts_with (Some fault) place size c = Fault fault ∷ []
+facts_with None place size c = content_facts place size c
 
 abbrev pub facts_of : Entry → List Fact
-facts_of entry = facts_with entry.fault entry.place.name entry.content
+facts_of entry = facts_with entry.fault entry.place.name entry.size entry.content
 
 abbrev pub findings_at : Indexed → List Finding
 findings_at f = map (finding f) (facts_of f.entry)

@@ -5,7 +5,7 @@ use Rattle.nc_layout.specs.declared.finding.LayoutFact.{LayoutFact}
 use Rattle.nc_layout.specs.declared.finding.LayoutFact.TheVariants as layout
 use Rattle.nc_check.specs.declared.{finding.Fact.Fact, kind.Kind.Kind, kind.Severity.Severity}
 use Rattle.nc_check.specs.declared.finding.Fact.TheVariants as fact
-use Rattle.nc_check.specs.declared.kind.Kind.TheVariants.{NotNetcdf, UnknownVersion, HeaderTruncated, BadTag, BadCount, BadName, FloatingType, BadType, BadShape, TwoRecordDims, TooLarge, BadOffset, Streaming, UnusedRecords, RecordCount, EmptyList, LongName, DuplicateName, NotNfc, Padding, EmptyAttribute, TrailingNul, FillValue, HighRank, Vsize, LargeVariable, BeginInHeader, Overlap, Unpadded, Order, AfterRecords, RecordPlace, Gap, Missing, EndPadding, Trailing}
+use Rattle.nc_check.specs.declared.kind.Kind.TheVariants.{NotNetcdf, UnknownVersion, HeaderTruncated, BadTag, BadCount, BadName, FloatingType, BadType, BadShape, TwoRecordDims, TooLarge, BadOffset, LargeCount, Streaming, UnusedRecords, RecordCount, EmptyList, LongName, DuplicateName, NotNfc, Padding, EmptyAttribute, TrailingNul, FillValue, HighRank, Vsize, LargeVariable, BeginInHeader, Overlap, Unpadded, Order, AfterRecords, RecordPlace, Gap, Missing, EndPadding, Trailing}
 use Rattle.nc_check.specs.declared.kind.Severity.TheVariants.{Error, Violation, Note}
 
 -- ---- of facts
@@ -42,6 +42,7 @@ kind_of_layout (layout.Trailing n end) = Trailing
 
 abbrev pub kind_of : Fact → Kind
 kind_of (fact.Fault fault) = kind_of_fault fault
+kind_of fact.LargeCount = LargeCount
 kind_of fact.EmptyList = EmptyList
 kind_of fact.LongName = LongName
 kind_of (fact.DuplicateName first) = DuplicateName
@@ -73,6 +74,7 @@ severity_of BadShape = Error
 severity_of TwoRecordDims = Error
 severity_of TooLarge = Error
 severity_of BadOffset = Error
+severity_of LargeCount = Violation
 severity_of Streaming = Note
 severity_of UnusedRecords = Note
 severity_of RecordCount = Violation

@@ -3,7 +3,7 @@
 ghost use Rattle.std.specs.Prelude.{◌≡◌, ◌++◌, OnOk, IfOk, map};
 ghost use Rattle.std.specs.Option.{option_to_list};
 ghost use Rattle.nc_check.specs.Indexed.{field_at, finding, finding_at, indexed};
-ghost use Rattle.nc_check.specs.FieldRules.{bytes_fact, content_facts, field_findings, findings_at, floating_finding, floating_findings, fact_if, form_fact, has_nonzero, is_floating_in, is_not_nfc, number_fact};
+ghost use Rattle.nc_check.specs.FieldRules.{bytes_fact, content_facts, field_findings, findings_at, floating_finding, floating_findings, fact_if, form_fact, has_nonzero, is_floating_in, is_large_count, is_not_nfc, number_fact};
 
 use crate::ahead::is_type;
 use crate::finding::{Fact, Finding, finding_at, push_some};
@@ -17,6 +17,12 @@ pub const LONGEST_NAME: u64 = 256;
 
 /// The most dimensions that a variable of netCDF-C has (`NC_MAX_VAR_DIMS`).
 pub const HIGHEST_RANK: u64 = 1024;
+
+/// What a dimension's length and the number of records are below in CDF-1 and CDF-2, by the NetCDF Classic Format Specification: 2^31.
+pub const LARGE_COUNT: u64 = 1 << 31;
+
+/// The streaming mark of CDF-1 and CDF-2, which stands in place of the number of records.
+const STREAMING: u64 = (1 << 32) - 1;
 
 /// Appends the findings at fields alone.
 #[tactic(auto, unfolding(crate::specs::FieldRules::field_findings))]
@@ -56,11 +62,13 @@ fn push_content_findings(
     entry: &Entry,
 ) -> Result<(), AllocError>
     ensures { OnOk result (found.new ≡ found.old
-        ++ map (finding (field_at i entry.now)) (content_facts entry.now.place.name entry.now.content)) }
+        ++ map (finding (field_at i entry.now)) (content_facts entry.now.place.name entry.now.size entry.now.content)) }
 {
     let name = entry.place.name;
     match &entry.content {
-        Content::Number(n) => push_fact(found, i, entry.offset, number_fact(name, *n)),
+        Content::Number(n) => {
+            push_fact(found, i, entry.offset, number_fact(name, entry.size, *n))
+        }
         Content::Bytes(bytes) => {
             let bytes = bytes.as_slice();
             push_fact(found, i, entry.offset, bytes_fact(name, bytes))?;
@@ -85,15 +93,24 @@ fn push_fact(
     Ok(())
 }
 
-/// Returns what a number shows, as the field of this name.
-fn number_fact(name: FieldName, n: u64) -> Option<Fact>
-    ensures { result ≡ number_fact name n }
+/// Returns what a number of this many bytes shows, as the field of this name.
+fn number_fact(name: FieldName, size: u128, n: u64) -> Option<Fact>
+    ensures { result ≡ number_fact name size n }
 {
     match name {
+        FieldName::NumRecs => fact_if(is_large_count(size, n) && n != STREAMING, Fact::LargeCount),
+        FieldName::Length => fact_if(is_large_count(size, n), Fact::LargeCount),
         FieldName::NameLength => fact_if(n > LONGEST_NAME, Fact::LongName),
         FieldName::Rank => fact_if(n > HIGHEST_RANK, Fact::HighRank),
         _ => None,
     }
+}
+
+/// Returns true if a number of this many bytes has four, and its top bit is 1.
+fn is_large_count(size: u128, n: u64) -> bool
+    ensures { result ≡ is_large_count size n }
+{
+    size == 4 && LARGE_COUNT <= n
 }
 
 /// Returns what bytes show, as the field of this name.

@@ -14,6 +14,9 @@ use std::alloc::AllocError;
 pub enum Fact {
     /// The programs that read values stop at this field with this fault.
     Fault(FormatFault),
+    /// A dimension's length, or the number of records, is 2^31 or more in CDF-1 or CDF-2, which has its top bit set. The programs that read
+    /// values stop there with `BadCount`.
+    LargeCount,
     /// A list has its own tag, but no elements. (The tag of an empty list is written as 0.)
     EmptyList,
     /// A name has more bytes than netCDF-C takes ([`LONGEST_NAME`](crate::LONGEST_NAME)).

@@ -30,7 +30,7 @@ pub enum Kind {
     HeaderTruncated,
     /// The tag of a list is neither its own nor 0.
     BadTag,
-    /// A count, a length or the number of records has its top bit set, or comes after a tag of 0 and isn't 0.
+    /// A count has its top bit set, or comes after a tag of 0 and isn't 0; or a dimension's length, or the number of records, is 2^63 or more.
     BadCount,
     /// A name isn't valid.
     BadName,
@@ -46,6 +46,8 @@ pub enum Kind {
     TooLarge,
     /// A begin has its top bit set.
     BadOffset,
+    /// A dimension's length, or the number of records, is 2^31 or more in CDF-1 or CDF-2.
+    LargeCount,
     /// The number of records is the streaming mark.
     Streaming,
     /// There are records, but no record variable.
@@ -111,7 +113,8 @@ impl Kind {
             | Kind::Vsize
             | Kind::Gap
             | Kind::EndPadding => Severity::Note,
-            Kind::RecordCount
+            Kind::LargeCount
+            | Kind::RecordCount
             | Kind::LongName
             | Kind::DuplicateName
             | Kind::NotNfc
@@ -131,6 +134,7 @@ impl Fact {
     {
         match self {
             Fact::Fault(fault) => kind_of_fault(fault),
+            Fact::LargeCount => Kind::LargeCount,
             Fact::EmptyList => Kind::EmptyList,
             Fact::LongName => Kind::LongName,
             Fact::DuplicateName { .. } => Kind::DuplicateName,

@@ -18,7 +18,7 @@ mod report;
 mod whole_header;
 
 pub use ahead::{Ahead, NumberAt, ValuesAt};
-pub use field_rules::{HIGHEST_RANK, LONGEST_NAME};
+pub use field_rules::{HIGHEST_RANK, LARGE_COUNT, LONGEST_NAME};
 pub use finding::{Fact, Finding};
 pub use kind::{Kind, Severity};
 pub use report::{Report, check, findings_of};

@@ -1,6 +1,6 @@
 -- The fields that are one number.
 use Rattle.std.proofs.Common.{◌≡◌, ℕ, Bool, true, false, nat_lt, if◌then◌else◌, List, ◌∷◌, Some, None, Result, Ok, Err, IsTrue, ◌+◌, IfOk, refl, sym, ap, ◌∙◌}
-use Rattle.nc_fields.proofs.Prelude.{HeadFault, Entry, Start, Content, Finished, Bytes, Part, decoded, number, FormatFault, BadCount, Place, Number, number_in, judged_then, IsNumeric, Step, Cut, steps_of, whole_content, cut_content, Version, Cdf1, Cdf2, Cdf5, count_width, offset_width, count_limit, offset_limit, count_part, offset_part, dimid_part, numrecs_part, numrecs_in, number_of_numrecs, is_dimid, type_part, checked, code_of, lenient, sized_type_in, Dim, NcType, BadOffset, BadShape, Width, byte_len, from_be_bytes, w32}
+use Rattle.nc_fields.proofs.Prelude.{HeadFault, Entry, Start, Content, Finished, Bytes, Part, decoded, number, FormatFault, BadCount, Place, Number, number_in, judged_then, IsNumeric, Step, Cut, steps_of, whole_content, cut_content, Version, Cdf1, Cdf2, Cdf5, count_width, offset_width, count_limit, offset_limit, count_part, limited_part, offset_part, dimid_part, numrecs_part, numrecs_in, number_of_numrecs, is_dimid, type_part, checked, code_of, lenient, sized_type_in, Dim, NcType, BadOffset, BadShape, Width, byte_len, from_be_bytes, w32}
 unfoldable use Rattle.nc_file.specs.code.SizedVars.{total_with}
 use Rattle.nc_base.specs.Grammar.{is_within_limits, record_bytes}
 use Rattle.nc_base.specs.Parts.{Magic}
@@ -39,23 +39,25 @@ number-decoded : {A : Type 0} (w : Width) (decode : ℕ → Result A FormatFault
 number-decoded w decode encode =
     let is = decoded-judged (byte_len w) (number w) (number w) (λ n. Ok n) decode encode (number-itself w) in record { field = is.field; judged = λ from. is.judged from }
 
-count-judged : (v : Version) → IsJudged (byte_len (count_width v)) (number (count_width v)) (count_part v) (λ n. if nat_lt n (count_limit v) then Ok n else Err BadCount)
+-- what a number below a limit is judged by
+abbrev pub below : ℕ → ℕ → Result ℕ FormatFault
+below limit n = if nat_lt n limit then Ok n else Err BadCount
+
+limited-judged : (limit : ℕ) (v : Version) → IsJudged (byte_len (count_width v)) (number (count_width v)) (limited_part limit v) (below limit)
 unfolding limited_part
-count-judged v = number-decoded (count_width v) (λ n. if nat_lt n (count_limit v) then Ok n else Err BadCount) (λ n. n)
+limited-judged limit v = number-decoded (count_width v) (below limit) (λ n. n)
 
 pub count-field : (v : Version) (place : Place) → IsNumeric place
-    → IsFieldOf place (byte_len (count_width v)) (number (count_width v)) (count_part v) (λ n. if nat_lt n (count_limit v) then Ok n else Err BadCount) Number
-count-field v place numeric = number-field place (count_width v) (count_part v) _ numeric (number-in_count v) (count-judged v)
+    → IsFieldOf place (byte_len (count_width v)) (number (count_width v)) (count_part v) (below (count_limit v)) Number
+count-field v place numeric = number-field place (count_width v) (count_part v) _ numeric (number-in_count v) (limited-judged (count_limit v) v)
 
--- a count that is judged once more
-count-then : {A : Type 0} (v : Version) (decode : ℕ → Result A FormatFault) (encode : A → ℕ)
-    → IsJudged (byte_len (count_width v)) (number (count_width v)) (decoded decode encode (count_part v)) (judged_then (λ n. if nat_lt n (count_limit v) then Ok n else Err BadCount) decode)
-count-then v decode encode = decoded-judged (byte_len (count_width v)) (number (count_width v)) (count_part v) (λ n. if nat_lt n (count_limit v) then Ok n else Err BadCount) decode encode (count-judged v)
-
-pub checked_count-field : (v : Version) (place : Place) (test : ℕ → Bool) (fault : FormatFault) → IsNumeric place
-    → IsFieldOf place (byte_len (count_width v)) (number (count_width v)) (checked test fault (count_part v))
-    (judged_then (λ n. if nat_lt n (count_limit v) then Ok n else Err BadCount) (λ n. if test n then Ok n else Err fault)) Number
-checked_count-field v place test fault numeric = number-field place (count_width v) _ _ numeric (number-in_count v) (count-then v (λ n. if test n then Ok n else Err fault) (λ n. n))
+-- a number below a limit that passes a test
+pub checked_number-field : (limit : ℕ) (v : Version) (place : Place) (test : ℕ → Bool) (fault : FormatFault) → IsNumeric place
+    → IsFieldOf place (byte_len (count_width v)) (number (count_width v)) (checked test fault (limited_part limit v))
+    (judged_then (below limit) (λ n. if test n then Ok n else Err fault)) Number
+checked_number-field limit v place test fault numeric =
+    number-field place (count_width v) _ _ numeric (number-in_count v)
+    (decoded-judged (byte_len (count_width v)) (number (count_width v)) (limited_part limit v) (below limit) (λ n. if test n then Ok n else Err fault) (λ n. n) (limited-judged limit v))
 
 -- a number of as many bytes as counts have, which is decoded
 pub wide-field : {A : Type 0} (v : Version) (place : Place) (decode : ℕ → Result A FormatFault) (encode : A → ℕ) → IsNumeric place

@@ -1,8 +1,9 @@
 -- Definition. The rules of a header whose attributes' values aren't kept: what `Grammar.strict` refuses, and reading goes on all the same.
-use Rattle.std.specs.Prelude.{ℕ, ◌==◌, ◌&&◌, not, Bool, nat_lt, nat_le, if◌then◌else◌, [], length, take, drop, take_while, Result, Ok}
+use Rattle.std.specs.Prelude.{ℕ, ◌==◌, ◌^◌, ◌&&◌, not, Bool, nat_lt, nat_le, if◌then◌else◌, [], length, take, drop, take_while, Result, Ok}
 use Rattle.std.specs.List.{list_all}
 use Rattle.nc_base.specs.declared.{fault.FormatFault.FormatFault, nc_type.NcType.NcType, version.Version.Version}
 use Rattle.nc_base.specs.declared.nc_type.NcType.TheVariants.{Int, Int64}
+use Rattle.nc_base.specs.declared.version.Version.TheVariants.{Cdf5}
 use Rattle.nc_base.specs.Bytes.{Bytes}
 use Rattle.nc_base.specs.Versions.{count_limit}
 use Rattle.nc_base.specs.Grammar.{Rules, type_in}
@@ -26,5 +27,10 @@ may_be_name name =
 abbrev pub sized_type_in : Version → ℕ → Result NcType FormatFault
 sized_type_in v code = if code == 5 then Ok Int else (if code == 6 then Ok Int64 else type_in v code)
 
+-- a dimension's length and the number of records may be any number of four bytes, also one whose top bit is 1 (netCDF-C writes and reads them)
+abbrev pub any_length_limit : Version → ℕ
+any_length_limit Cdf5 = count_limit Cdf5
+any_length_limit v = 2 ^ 32
+
 abbrev pub lenient : Rules
-lenient = record { is_valid = may_be_name; type_in = sized_type_in; length_limit = count_limit; kept = λ vals. [] }
+lenient = record { is_valid = may_be_name; type_in = sized_type_in; length_limit = any_length_limit; kept = λ vals. [] }

@@ -41,7 +41,8 @@ pub struct Listing {
 const FEW_FIELDS: usize = 128;
 
 /// Lists the fields of the header at the start of a source, through a caller's buffer of at least 16 bytes, which may hold anything before
-/// and after. All types of the format are taken, and names that aren't valid as long as the fields are in step.
+/// and after. All types of the format are taken, in CDF-1 and CDF-2 any dimension's length and number of records, and names that aren't valid
+/// as long as the fields are in step.
 ///
 /// It reads forward, and at most one buffer more of a transparent source than the header, or than the bytes up to the end of the first wrong
 /// field. No count of the header reserves memory: the list grows as fields are read. The values of attributes are passed over.

@@ -2,11 +2,11 @@
 
 ghost use Rattle.std.specs.Prelude.{◌≡◌, [], ◌∷◌, ◌==◌, ◌&&◌, ◌||◌, not, if◌then◌else◌, nat_lt, IfOk, IsTrue, Ok, Err};
 ghost use Rattle.std.specs.Int.{byte_len, w32};
-ghost use Rattle.nc_base.specs.Grammar.{checked, count_part, dimid_part, is_dimid, is_within_limits, number, numrecs_in, numrecs_part, offset_part, type_part};
+ghost use Rattle.nc_base.specs.Grammar.{checked, count_part, dimid_part, is_dimid, is_within_limits, number, limited_part, numrecs_in, numrecs_part, offset_part, type_part};
 ghost use Rattle.nc_base.specs.Parts.{Begin, Item, Length, Records, Shape, TypeCode, Vsize};
 ghost use Rattle.nc_base.specs.Versions.{count_limit, count_width, offset_limit, offset_width};
 ghost use Rattle.nc_base.specs.declared.fault.FormatFault.TheVariants.{BadCount, BadOffset, BadShape, BadTag, TooLarge, TwoRecordDims};
-ghost use Rattle.nc_fields.specs.Lenient.{lenient, sized_type_in};
+ghost use Rattle.nc_fields.specs.Lenient.{any_length_limit, lenient, sized_type_in};
 ghost use Rattle.nc_fields.specs.code.Checks.{judged_then};
 
 use crate::entry::Content;
@@ -36,7 +36,7 @@ impl Fields {
         start.list(&mut self.entries, Content::Number(n), count_in(version, n))
     }
 
-    /// Reads the length of a dimension. Errs with `BadCount` if its top bit is 1, and with `TwoRecordDims` if it is 0 and `has_record` is
+    /// Reads the length of a dimension. Errs with `BadCount` if it is 2^63 or more, and with `TwoRecordDims` if it is 0 and `has_record` is
     /// true, which says that a dimension before has the length 0.
     pub(crate) fn dim_len<S: Source>(
         &mut self,
@@ -47,8 +47,8 @@ impl Fields {
     ) -> Result<u64, HeadFault>
         ensures { Checked (at window.old self.old) (at window.new self.new)
             (Length ∷ owner_steps owner)
-            (checked (λ len. not (has_record && (len == 0))) TwoRecordDims (count_part version))
-            result }
+            (checked (λ len. not (has_record && (len == 0))) TwoRecordDims
+            (limited_part (any_length_limit version) version)) result }
     {
         let place = Place {
             owner,
@@ -222,7 +222,7 @@ impl Fields {
         start.list(&mut self.entries, Content::Number(n), offset_in(version, n))
     }
 
-    /// Reads the number of records. Errs with `BadCount` if its top bit is 1, but not all of its bits are.
+    /// Reads the number of records. Errs with `BadCount` if it is 2^63 or more, but not all of its bits are 1.
     pub(crate) fn numrecs<S: Source>(
         &mut self,
         window: &mut Window<'_, S>,
@@ -269,21 +269,38 @@ fn offset_len(version: Version) -> u128
 fn count_in(version: Version, n: u64) -> Result<u64, FormatFault>
     ensures { result ≡ (if nat_lt n (count_limit version) then Ok n else Err BadCount) }
 {
-    if version.count_limit() <= n {
+    number_below(version.count_limit(), n)
+}
+
+/// Returns the number `n`, or errs with `BadCount` if it isn't below the limit.
+fn number_below(limit: u64, n: u64) -> Result<u64, FormatFault>
+    ensures { result ≡ (if nat_lt n limit then Ok n else Err BadCount) }
+{
+    if limit <= n {
         Err(FormatFault::BadCount)
     } else {
         Ok(n)
     }
 }
 
-/// Returns the length `n` of a dimension. Errs with `BadCount` if its top bit is 1, and with `TwoRecordDims` if it is 0 and `has_record` is
+/// Returns what a dimension's length and the number of records have to be below: 2^63 in CDF-5, and 2^32 otherwise.
+fn any_length_limit(version: Version) -> u64
+    ensures { result ≡ any_length_limit version }
+{
+    match version {
+        Version::Cdf1 | Version::Cdf2 => 1 << 32,
+        Version::Cdf5 => 1 << 63,
+    }
+}
+
+/// Returns the length `n` of a dimension. Errs with `BadCount` if it is 2^63 or more, and with `TwoRecordDims` if it is 0 and `has_record` is
 /// true.
 fn dim_len_in(version: Version, has_record: bool, n: u64) -> Result<u64, FormatFault>
     ensures { result ≡ judged_then
-        (λ n. if nat_lt n (count_limit version) then Ok n else Err BadCount)
+        (λ n. if nat_lt n (any_length_limit version) then Ok n else Err BadCount)
         (λ len. if not (has_record && (len == 0)) then Ok len else Err TwoRecordDims) n }
 {
-    let len = count_in(version, n)?;
+    let len = number_below(any_length_limit(version), n)?;
     if has_record && len == 0 {
         return Err(FormatFault::TwoRecordDims);
     }
@@ -364,15 +381,12 @@ fn offset_in(version: Version, n: u64) -> Result<u64, FormatFault>
     Ok(n)
 }
 
-/// Returns the number of records, or errs with `BadCount` if its top bit is 1, but not all of its bits are.
+/// Returns the number of records, or errs with `BadCount` if it is 2^63 or more, but not all of its bits are 1.
 fn numrecs_in(version: Version, n: u64) -> Result<NumRecs, FormatFault>
     ensures { result ≡ numrecs_in lenient version n }
 {
     if n == version.streaming_mark() {
         return Ok(NumRecs::Streaming);
     }
-    if version.count_limit() <= n {
-        return Err(FormatFault::BadCount);
-    }
-    Ok(NumRecs::Known(n))
+    number_below(any_length_limit(version), n).map(NumRecs::Known)
 }

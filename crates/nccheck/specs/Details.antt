@@ -16,7 +16,7 @@ use Rattle.nc_layout.specs.declared.finding.LayoutFact.{LayoutFact}
 use Rattle.nc_layout.specs.declared.finding.LayoutFact.TheVariants as layout
 use Rattle.nc_check.specs.declared.finding.Fact.{Fact}
 use Rattle.nc_check.specs.declared.finding.Fact.TheVariants as fact
-use Rattle.nc_check.specs.FieldRules.{highest_rank, longest_name}
+use Rattle.nc_check.specs.FieldRules.{highest_rank, large_count, longest_name}
 use Rattle.nccheck.specs.Paths.{block_path, var_path}
 use Rattle.nccheck.specs.Words.{around, each_of}
 
@@ -227,6 +227,7 @@ owner_number_at entries i = option_map_or (λ (e : Entry). owner_number e.place.
 
 unfoldable pub found_at : Listing → Entry → Fact → Bytes
 found_at l e (fact.Fault fault) = found_with_fault l.file_len e fault
+found_at l e fact.LargeCount = found_content e.content
 found_at l e fact.EmptyList = found_content e.content
 found_at l e fact.LongName = found_content e.content
 found_at l e (fact.DuplicateName first) = around (codes ": found the name of number ") (owner_number_at l.entries first) []
@@ -254,6 +255,7 @@ expected_type code = concat_parts (expected_word ∷ decimal code ∷ type_word 
 
 unfoldable pub expected_at : Listing → Entry → Fact → Bytes
 expected_at l e (fact.Fault fault) = expected_with_fault l.entries e fault
+expected_at l e fact.LargeCount = expected_below large_count
 expected_at l e fact.EmptyList = expected_number 0
 expected_at l e fact.LongName = expected_at_most longest_name []
 expected_at l e (fact.DuplicateName first) = []

@@ -4,7 +4,7 @@ use Rattle.nc_base.specs.Bytes.{Bytes, concat_parts}
 use Rattle.nc_fields.specs.declared.place.FieldName.{FieldName}
 use Rattle.nc_fields.specs.declared.place.FieldName.TheVariants as name
 use Rattle.nc_check.specs.declared.{kind.Kind.Kind, kind.Severity.Severity}
-use Rattle.nc_check.specs.declared.kind.Kind.TheVariants.{NotNetcdf, UnknownVersion, HeaderTruncated, BadTag, BadCount, BadName, FloatingType, BadType, BadShape, TwoRecordDims, TooLarge, BadOffset, Streaming, UnusedRecords, RecordCount, EmptyList, LongName, DuplicateName, NotNfc, Padding, EmptyAttribute, TrailingNul, FillValue, HighRank, Vsize, LargeVariable, BeginInHeader, Overlap, Unpadded, Order, AfterRecords, RecordPlace, Gap, Missing, EndPadding, Trailing}
+use Rattle.nc_check.specs.declared.kind.Kind.TheVariants.{NotNetcdf, UnknownVersion, HeaderTruncated, BadTag, BadCount, BadName, FloatingType, BadType, BadShape, TwoRecordDims, TooLarge, BadOffset, LargeCount, Streaming, UnusedRecords, RecordCount, EmptyList, LongName, DuplicateName, NotNfc, Padding, EmptyAttribute, TrailingNul, FillValue, HighRank, Vsize, LargeVariable, BeginInHeader, Overlap, Unpadded, Order, AfterRecords, RecordPlace, Gap, Missing, EndPadding, Trailing}
 use Rattle.nc_check.specs.declared.kind.Severity.TheVariants.{Error, Violation, Note}
 
 unfoldable pub severity_word : Severity → Bytes
@@ -25,6 +25,7 @@ kind_word BadShape = codes "bad-shape"
 kind_word TwoRecordDims = codes "two-record-dims"
 kind_word TooLarge = codes "too-large"
 kind_word BadOffset = codes "bad-offset"
+kind_word LargeCount = codes "large-count"
 kind_word Streaming = codes "streaming"
 kind_word UnusedRecords = codes "unused-records"
 kind_word RecordCount = codes "record-count"

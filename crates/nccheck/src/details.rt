@@ -8,13 +8,13 @@ ghost use Rattle.nccheck.specs.code.Names.{entry_in};
 use crate::content::{
     expected_word, put_expected_zeros, put_found_content, put_found_type, type_word,
 };
-use crate::fault_details::{put_expected_with_fault, put_found_with_fault};
+use crate::fault_details::{put_expected_below, put_expected_with_fault, put_found_with_fault};
 use crate::layout_details::{
     put_at_most, put_expected, put_expected_in_layout, put_found_in_layout, put_layout_details,
 };
 use crate::number::put_around;
 use devices::{Sink, WriteFailed, put, put_decimal};
-use nc_check::{Fact, HIGHEST_RANK, LONGEST_NAME};
+use nc_check::{Fact, HIGHEST_RANK, LARGE_COUNT, LONGEST_NAME};
 use nc_fields::{Entry, Listing, Owner};
 
 /// Writes what a fact says of what is found at a field, or in the data, and of what is expected in its place.
@@ -76,6 +76,7 @@ fn put_expected_at<W: Sink>(
         Fact::Fault(fault) => {
             put_expected_with_fault(sink, listing.entries.as_slice(), entry, fault)
         }
+        Fact::LargeCount => put_expected_below(sink, LARGE_COUNT),
         Fact::EmptyList => put_expected(sink, 0),
         Fact::LongName => put_at_most(sink, LONGEST_NAME),
         Fact::DuplicateName { .. } | Fact::NotNfc | Fact::TrailingNul => Ok(()),

@@ -107,7 +107,7 @@ fn put_expected_dimid<W: Sink>(sink: &mut W, count: u64, id: u64) -> Result<(), 
 }
 
 /// Writes that a number below this one is expected.
-fn put_expected_below<W: Sink>(sink: &mut W, n: u64) -> Result<(), WriteFailed>
+pub(crate) fn put_expected_below<W: Sink>(sink: &mut W, n: u64) -> Result<(), WriteFailed>
     ensures { Wrote W.view sink.old sink.new (expected_below n) result }
 {
     put_around(sink, b", expected below ", n as u128, b"")

@@ -39,6 +39,7 @@ pub(crate) fn kind_word(kind: Kind) -> &'static str
         Kind::TwoRecordDims => "two-record-dims",
         Kind::TooLarge => "too-large",
         Kind::BadOffset => "bad-offset",
+        Kind::LargeCount => "large-count",
         Kind::Streaming => "streaming",
         Kind::UnusedRecords => "unused-records",
         Kind::RecordCount => "record-count",

@@ -19,16 +19,24 @@ pub const FAULTS: &[Changed<'_>] = &[
         &[(3, b"\x03")],
         b"f:3: error: unknown-version: version: found 3, expected 1, 2 or 5\n",
     ),
-    // the least number of records with its top bit, and the greatest one that isn't the streaming mark
+    // the least number of records with its top bit, the greatest one that isn't the streaming mark, and one of a file with records
     (
         ONE_VARIABLE,
         &[(4, b"\x80")],
-        b"f:4: error: bad-count: numrecs: found 2147483648, expected below 2147483648\n",
+        b"f:4: violation: large-count: numrecs: found 2147483648, expected below 2147483648\n\
+        f:4: note: unused-records: numrecs: found 2147483648, expected 0\n",
     ),
     (
-        ONE_VARIABLE,
+        ONE_VARIABLE_CDF2,
         &[(4, b"\xff\xff\xff\xfe")],
-        b"f:4: error: bad-count: numrecs: found 4294967294, expected below 2147483648\n",
+        b"f:4: violation: large-count: numrecs: found 4294967294, expected below 2147483648\n\
+        f:4: note: unused-records: numrecs: found 4294967294, expected 0\n",
+    ),
+    (
+        CLEAN,
+        &[(4, b"\x80")],
+        b"f:4: violation: large-count: numrecs: found 2147483651, expected below 2147483648\n\
+        f:416: error: missing: var[2] \"t\" record 3: found 416 bytes, expected at least 34359738781\n",
     ),
     (
         SMALLEST_CDF5,
@@ -61,7 +69,17 @@ pub const FAULTS: &[Changed<'_>] = &[
     (
         CLEAN,
         &[(36, b"\x80\0\0\0")],
-        b"f:36: error: bad-count: dim[1] \"x\" length: found 2147483648, expected below 2147483648\n",
+        b"f:36: violation: large-count: dim[1] \"x\" length: found 2147483648, expected below 2147483648\n\
+        f:140: note: vsize: var[0] \"x\" vsize: found 12, expected 4294967295\n\
+        f:140: error: large-variable: var[0] \"x\" vsize: found 8589934592, expected at most 2147483644\n\
+        f:180: note: vsize: var[1] \"depth\" vsize: found 8, expected 4294967295\n\
+        f:180: error: large-variable: var[1] \"depth\" vsize: found 4294967296, expected at most 2147483644\n\
+        f:184: error: overlap: var[1] \"depth\" begin: found 360, expected at least 8589934940, the end of var[0] \"x\"\n\
+        f:244: error: overlap: var[2] \"t\" begin: found 368, expected at least 8589934940, the end of var[0] \"x\"\n\
+        f:304: note: vsize: var[3] \"h\" vsize: found 8, expected 4294967295\n\
+        f:304: error: large-variable: var[3] \"h\" vsize: found 4294967296, expected at most 2147483644\n\
+        f:344: error: record-place: var[4] \"q\" begin: found 380, expected 4294967668\n\
+        f:416: error: missing: var[0] \"x\": found 416 bytes, expected at least 12884902276\n",
     ),
     (
         RECORD_DIMS_APART,
