@@ -48,7 +48,7 @@ KINDS = {
     b"header truncated": {b"header-truncated"},
     b"bad tag": {b"bad-tag"},
     b"bad count": {b"bad-count", b"large-count"},
-    b"bad name": {b"bad-name"},
+    b"bad name": {b"bad-name", b"name-characters"},
     b"bad type": {b"bad-type"},
     b"bad shape": {b"bad-shape"},
     b"bad offset": {b"bad-offset"},

@@ -3,7 +3,7 @@ use Rattle.std.proofs.Common.{◌≡◌, ℕ, zero, suc, ◌+◌, ◌==◌, ◌&
 use Rattle.std.specs.Option.{option_map, option_and_then}
 use Rattle.std.proofs.lemmas.List.Folds.{list_any-append}
 use Rattle.nc_base.specs.declared.{header.Header.Header}
-use Rattle.nc_base.specs.declared.fault.FormatFault.TheVariants.{BadName, FloatingType}
+use Rattle.nc_base.specs.declared.fault.FormatFault.TheVariants.{FloatingType}
 use Rattle.nc_base.specs.Names.{is_name}
 use Rattle.nc_base.specs.Parts.{Step, Magic, Text, Padding, Values}
 use Rattle.nc_fields.specs.declared.{entry.Content.Content, entry.Entry.Entry, place.FieldName.FieldName, place.Owner.Owner}
@@ -64,7 +64,7 @@ facts-other h size name.Length o g f fs is = last-other g _ fact.LargeCount refl
 facts-other h size name.NameLength o g f fs is = last-other g _ fact.LongName refl
 facts-other h size name.Rank o g f fs is = last-other g _ fact.HighRank refl
 facts-other h size name.Name o g f fs is =
-    fact-other g (not (is_name (bytes_of f))) (fact.Fault BadName) (option_to_list (form_fact name.Name (bytes_of f))) refl
+    fact-other g (not (is_name (bytes_of f))) fact.NameCharacters (option_to_list (form_fact name.Name (bytes_of f))) refl
     (last-other g (is_not_nfc (bytes_of f)) fact.NotNfc refl)
 facts-other h size name.NamePadding o g f fs is = filling-other g (has_nonzero (bytes_of f)) (ap has_nonzero is ∙ no-nonzero f.size)
 facts-other h size name.Padding o g f fs is = filling-other g (has_nonzero (bytes_of f)) (ap has_nonzero is ∙ no-nonzero f.size)

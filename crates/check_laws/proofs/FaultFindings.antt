@@ -15,7 +15,7 @@ use Rattle.nc_base.specs.Parts.{Length}
 use Rattle.nc_fields.specs.Entries.{name_steps, owner_steps}
 use Rattle.check_laws.specs.Agreement.{refusal_in}
 use Rattle.nc_check.specs.declared.{finding.Fact.Fact}
-use Rattle.nc_check.specs.declared.finding.Fact.TheVariants.{Fault, LargeCount}
+use Rattle.nc_check.specs.declared.finding.Fact.TheVariants.{Fault, NameCharacters, LargeCount}
 use Rattle.nc_check.specs.FieldRules.{is_large_count, is_large_numrecs, fact_if, number_fact, bytes_fact, form_fact, content_facts, facts_with, facts_of, is_floating_in}
 unfoldable use Rattle.nc_check.specs.FieldRules.{field_findings, floating_findings}
 use Rattle.check_laws.specs.FaultLaws.{strict_fault, is_fault}
@@ -69,7 +69,7 @@ form-facts name.Name bs = if-none NoFault _ _ refl
 form-facts place bs = All-nil NoFault
 
 -- of a name that isn't refused
-name-facts : (b : Bool) → cond b None (Some BadName) ≡ None → All NoFault (option_to_list (fact_if (not b) (Fault BadName)))
+name-facts : (b : Bool) → cond b None (Some BadName) ≡ None → All NoFault (option_to_list (fact_if (not b) NameCharacters))
 name-facts true none = All-nil NoFault
 name-facts false none = absurd cc
 
@@ -157,9 +157,9 @@ own-fault : (place : FieldName) (size : ℕ) (c : Content) (o : Option FormatFau
 own-fault place size c o fault same = inl (own-fact (IsFault fault) place size c o fault same refl)
 
 bad-name : (bs : Bytes) (fault : FormatFault) (b : Bool) → cond b None (Some BadName) ≡ Some fault
-    → HasFact (IsFault fault) (option_to_list (fact_if (not b) (Fault BadName)) ++ option_to_list (form_fact name.Name bs))
+    → HasFact (IsFault fault) (option_to_list (fact_if (not b) NameCharacters) ++ option_to_list (form_fact name.Name bs))
 bad-name bs fault true is = absurd cc
-bad-name bs fault false is = has-first (IsFault fault) (Fault BadName) (option_to_list (form_fact name.Name bs)) is
+bad-name bs fault false is = has-first (IsFault fault) NameCharacters (option_to_list (form_fact name.Name bs)) is
 
 large-count : (fault : FormatFault) (b : Bool) → cond b (Some BadCount) None ≡ Some fault
     → HasFact (IsFault fault) (option_to_list (fact_if b LargeCount))

@@ -97,6 +97,7 @@ same-layout a b e = cc
 
 same-fact : (a b : Fact) → facts.ghosts.cmp a b ≡ Equal → a ≡ b
 same-fact (fact.Fault a) (fact.Fault b) e = ap fact.Fault (same-fault a b e)
+same-fact fact.NameCharacters fact.NameCharacters e = refl
 same-fact fact.LargeCount fact.LargeCount e = refl
 same-fact fact.EmptyList fact.EmptyList e = refl
 same-fact fact.LongName fact.LongName e = refl

@@ -5,14 +5,14 @@ use Rattle.std.specs.Str.{is_utf8}
 use Rattle.std.specs.Option.{option_to_list, option_map}
 use Rattle.unicode_normalization.specs.Forms.{is_nfc}
 use Rattle.nc_base.specs.declared.fault.FormatFault.{FormatFault}
-use Rattle.nc_base.specs.declared.fault.FormatFault.TheVariants.{BadName, FloatingType}
+use Rattle.nc_base.specs.declared.fault.FormatFault.TheVariants.{FloatingType}
 use Rattle.nc_base.specs.Bytes.{Bytes}
 use Rattle.nc_base.specs.Names.{is_name}
 use Rattle.nc_fields.specs.declared.{entry.Content.Content, entry.Entry.Entry, place.FieldName.FieldName}
 use Rattle.nc_fields.specs.declared.entry.Content.TheVariants as content
 use Rattle.nc_fields.specs.declared.place.FieldName.TheVariants as name
 use Rattle.nc_check.specs.declared.{finding.Fact.Fact, finding.Finding.Finding}
-use Rattle.nc_check.specs.declared.finding.Fact.TheVariants.{Fault, LargeCount, LongName, NotNfc, Padding, HighRank}
+use Rattle.nc_check.specs.declared.finding.Fact.TheVariants.{Fault, NameCharacters, LargeCount, LongName, NotNfc, Padding, HighRank}
 use Rattle.nc_check.specs.Indexed.{Indexed, finding}
 
 -- ---- fields without a fault
@@ -56,7 +56,7 @@ has_nonzero bytes = list_any (λ b. not (b == 0)) bytes
 -- Of bytes. A name is one that the NetCDF Classic Format Specification allows (`name`), and what fills a name or an attribute up is zeros
 -- (`padding`).
 abbrev pub bytes_fact : FieldName → Bytes → Option Fact
-bytes_fact name.Name bytes = fact_if (not (is_name bytes)) (Fault BadName)
+bytes_fact name.Name bytes = fact_if (not (is_name bytes)) NameCharacters
 bytes_fact name.NamePadding bytes = fact_if (has_nonzero bytes) Padding
 bytes_fact name.Padding bytes = fact_if (has_nonzero bytes) Padding
 bytes_fact place bytes = None

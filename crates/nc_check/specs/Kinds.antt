@@ -5,7 +5,7 @@ use Rattle.nc_layout.specs.declared.finding.LayoutFact.{LayoutFact}
 use Rattle.nc_layout.specs.declared.finding.LayoutFact.TheVariants as layout
 use Rattle.nc_check.specs.declared.{finding.Fact.Fact, kind.Kind.Kind, kind.Severity.Severity}
 use Rattle.nc_check.specs.declared.finding.Fact.TheVariants as fact
-use Rattle.nc_check.specs.declared.kind.Kind.TheVariants.{NotNetcdf, UnknownVersion, HeaderTruncated, BadTag, BadCount, BadName, FloatingType, BadType, BadShape, TwoRecordDims, TooLarge, BadOffset, LargeCount, Streaming, UnusedRecords, RecordCount, EmptyList, LongName, DuplicateName, NotNfc, Padding, EmptyAttribute, TrailingNul, FillValue, HighRank, Vsize, LargeVariable, BeginInHeader, Overlap, Unpadded, Order, AfterRecords, RecordPlace, Gap, Missing, EndPadding, Trailing}
+use Rattle.nc_check.specs.declared.kind.Kind.TheVariants.{NotNetcdf, UnknownVersion, HeaderTruncated, BadTag, BadCount, BadName, NameCharacters, FloatingType, BadType, BadShape, TwoRecordDims, TooLarge, BadOffset, LargeCount, Streaming, UnusedRecords, RecordCount, EmptyList, LongName, DuplicateName, NotNfc, Padding, EmptyAttribute, TrailingNul, FillValue, HighRank, Vsize, LargeVariable, BeginInHeader, Overlap, Unpadded, Order, AfterRecords, RecordPlace, Gap, Missing, EndPadding, Trailing}
 use Rattle.nc_check.specs.declared.kind.Severity.TheVariants.{Error, Violation, Note}
 
 -- ---- of facts
@@ -42,6 +42,7 @@ kind_of_layout (layout.Trailing n end) = Trailing
 
 abbrev pub kind_of : Fact → Kind
 kind_of (fact.Fault fault) = kind_of_fault fault
+kind_of fact.NameCharacters = NameCharacters
 kind_of fact.LargeCount = LargeCount
 kind_of fact.EmptyList = EmptyList
 kind_of fact.LongName = LongName
@@ -58,8 +59,8 @@ kind_of (fact.Layout fact) = kind_of_layout fact
 
 -- ---- of kinds
 
--- An error: values can't be had, or can't be trusted. The header can't be read on, a name isn't valid, values aren't in the file, or netCDF-C
--- refuses to open it. A violation breaks a rule of the format or a limit of netCDF-C, but each value can be had. A note is legal or without any
+-- An error: values can't be had, or can't be trusted. The header can't be read on, values aren't in the file, or netCDF-C refuses to open
+-- it. A violation breaks a rule of the format or a limit of netCDF-C, but each value can be had. A note is legal or without any
 -- effect, but odd.
 abbrev pub severity_of : Kind → Severity
 severity_of NotNetcdf = Error
@@ -68,6 +69,7 @@ severity_of HeaderTruncated = Error
 severity_of BadTag = Error
 severity_of BadCount = Error
 severity_of BadName = Error
+severity_of NameCharacters = Violation
 severity_of FloatingType = Note
 severity_of BadType = Error
 severity_of BadShape = Error

@@ -118,7 +118,7 @@ fn bytes_fact(name: FieldName, bytes: &[u8]) -> Option<Fact>
     ensures { result ≡ bytes_fact name bytes.now }
 {
     match name {
-        FieldName::Name => fact_if(!is_valid_name(bytes), Fact::Fault(FormatFault::BadName)),
+        FieldName::Name => fact_if(!is_valid_name(bytes), Fact::NameCharacters),
         FieldName::NamePadding | FieldName::Padding => {
             fact_if(has_nonzero(bytes), Fact::Padding)
         }

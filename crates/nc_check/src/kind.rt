@@ -14,8 +14,7 @@ pub enum Severity {
     Note,
     /// It breaks the NetCDF Classic Format Specification, or a limit of netCDF-C, but each value can be had.
     Violation,
-    /// Values can't be had, or can't be trusted: the header can't be read on, a name isn't valid, values aren't in the file, or netCDF-C
-    /// refuses to open it.
+    /// Values can't be had, or can't be trusted: the header can't be read on, values aren't in the file, or netCDF-C refuses to open it.
     Error,
 }
 
@@ -32,8 +31,10 @@ pub enum Kind {
     BadTag,
     /// A count has its top bit set, or comes after a tag of 0 and isn't 0; or a dimension's length, or the number of records, is 2^63 or more.
     BadCount,
-    /// A name isn't valid.
+    /// A name isn't valid, and the fields may be out of step.
     BadName,
+    /// A name isn't valid, but the fields are in step.
+    NameCharacters,
     /// A type is `float` or `double`, which the programs that read values refuse. The first one is found.
     FloatingType,
     /// A type code isn't that of a type of the version.
@@ -113,7 +114,8 @@ impl Kind {
             | Kind::Vsize
             | Kind::Gap
             | Kind::EndPadding => Severity::Note,
-            Kind::LargeCount
+            Kind::NameCharacters
+            | Kind::LargeCount
             | Kind::RecordCount
             | Kind::LongName
             | Kind::DuplicateName
@@ -134,6 +136,7 @@ impl Fact {
     {
         match self {
             Fact::Fault(fault) => kind_of_fault(fault),
+            Fact::NameCharacters => Kind::NameCharacters,
             Fact::LargeCount => Kind::LargeCount,
             Fact::EmptyList => Kind::EmptyList,
             Fact::LongName => Kind::LongName,

@@ -4,7 +4,7 @@ use Rattle.nc_base.specs.Bytes.{Bytes, concat_parts}
 use Rattle.nc_fields.specs.declared.place.FieldName.{FieldName}
 use Rattle.nc_fields.specs.declared.place.FieldName.TheVariants as name
 use Rattle.nc_check.specs.declared.{kind.Kind.Kind, kind.Severity.Severity}
-use Rattle.nc_check.specs.declared.kind.Kind.TheVariants.{NotNetcdf, UnknownVersion, HeaderTruncated, BadTag, BadCount, BadName, FloatingType, BadType, BadShape, TwoRecordDims, TooLarge, BadOffset, LargeCount, Streaming, UnusedRecords, RecordCount, EmptyList, LongName, DuplicateName, NotNfc, Padding, EmptyAttribute, TrailingNul, FillValue, HighRank, Vsize, LargeVariable, BeginInHeader, Overlap, Unpadded, Order, AfterRecords, RecordPlace, Gap, Missing, EndPadding, Trailing}
+use Rattle.nc_check.specs.declared.kind.Kind.TheVariants.{NotNetcdf, UnknownVersion, HeaderTruncated, BadTag, BadCount, BadName, NameCharacters, FloatingType, BadType, BadShape, TwoRecordDims, TooLarge, BadOffset, LargeCount, Streaming, UnusedRecords, RecordCount, EmptyList, LongName, DuplicateName, NotNfc, Padding, EmptyAttribute, TrailingNul, FillValue, HighRank, Vsize, LargeVariable, BeginInHeader, Overlap, Unpadded, Order, AfterRecords, RecordPlace, Gap, Missing, EndPadding, Trailing}
 use Rattle.nc_check.specs.declared.kind.Severity.TheVariants.{Error, Violation, Note}
 
 unfoldable pub severity_word : Severity → Bytes
@@ -19,6 +19,7 @@ kind_word HeaderTruncated = codes "header-truncated"
 kind_word BadTag = codes "bad-tag"
 kind_word BadCount = codes "bad-count"
 kind_word BadName = codes "bad-name"
+kind_word NameCharacters = codes "name-characters"
 kind_word FloatingType = codes "floating-type"
 kind_word BadType = codes "bad-type"
 kind_word BadShape = codes "bad-shape"

@@ -55,7 +55,7 @@ fn put_found_at<W: Sink>(
             let number = owner_number_at(listing.entries.as_slice(), first);
             put_around(sink, b": found the name of number ", number as u128, b"")
         }
-        Fact::NotNfc | Fact::TrailingNul => Ok(()),
+        Fact::NameCharacters | Fact::NotNfc | Fact::TrailingNul => Ok(()),
         Fact::FillType { .. } => put_found_type(sink, &entry.content),
         Fact::Layout(fact) => put_found_in_layout(sink, &listing.header, fact),
         _ => put_found_content(sink, &entry.content),
@@ -79,7 +79,9 @@ fn put_expected_at<W: Sink>(
         Fact::LargeCount => put_expected_below(sink, LARGE_COUNT),
         Fact::EmptyList => put_expected(sink, 0),
         Fact::LongName => put_at_most(sink, LONGEST_NAME),
-        Fact::DuplicateName { .. } | Fact::NotNfc | Fact::TrailingNul => Ok(()),
+        Fact::NameCharacters | Fact::DuplicateName { .. } | Fact::NotNfc | Fact::TrailingNul => Ok(
+            (),
+        ),
         Fact::Padding => put_expected_zeros(sink, &entry.content),
         Fact::EmptyAttribute => put_around(sink, b", expected at least ", 1, b""),
         Fact::FillType { expected } => put_expected_type(sink, expected),

@@ -33,6 +33,7 @@ pub(crate) fn kind_word(kind: Kind) -> &'static str
         Kind::BadTag => "bad-tag",
         Kind::BadCount => "bad-count",
         Kind::BadName => "bad-name",
+        Kind::NameCharacters => "name-characters",
         Kind::FloatingType => "floating-type",
         Kind::BadType => "bad-type",
         Kind::BadShape => "bad-shape",

@@ -1,4 +1,4 @@
-//! Faults of headers, and their lines. A check of a header ends at its first fault, but for a name that only has a wrong character.
+//! Faults of headers, and their lines. A check of a header ends at its first error.
 
 use crate::files::CLEAN;
 use crate::lines::Changed;
@@ -173,19 +173,19 @@ pub const NAMES: &[Changed<'_>] = &[
         TWO_RECORDS,
         &[(19, b"\x03a/b\0")],
         b"f:4: note: unused-records: numrecs: found 2, expected 0\n\
-        f:20: error: bad-name: dim[0] \"a/b\" name\n",
+        f:20: violation: name-characters: dim[0] \"a/b\" name\n",
     ),
     (
         TWO_RECORDS,
         &[(19, b"\x02a \0\0")],
         b"f:4: note: unused-records: numrecs: found 2, expected 0\n\
-        f:20: error: bad-name: dim[0] \"a \" name\n",
+        f:20: violation: name-characters: dim[0] \"a \" name\n",
     ),
     (
         TWO_RECORDS,
         &[(19, b"\x04")],
         b"f:4: note: unused-records: numrecs: found 2, expected 0\n\
-        f:20: error: bad-name: dim[0] \"t\\000\\000\\000\" name\n",
+        f:20: violation: name-characters: dim[0] \"t\\000\\000\\000\" name\n",
     ),
     // an e with an acute accent, in UTF-8 and in Latin-1
     (
@@ -197,7 +197,7 @@ pub const NAMES: &[Changed<'_>] = &[
         TWO_RECORDS,
         &[(19, b"\x02m\xe9!!")],
         b"f:4: note: unused-records: numrecs: found 2, expected 0\n\
-        f:20: error: bad-name: dim[0] \"m\xe9\" name\n\
+        f:20: violation: name-characters: dim[0] \"m\xe9\" name\n\
         f:22: violation: padding: dim[0] \"m\xe9\" name padding: found 0x2121, expected 0x0000\n",
     ),
     // names at which reading stops: of no bytes, with control characters, with NULs inside, and a NUL alone
@@ -234,7 +234,7 @@ pub const NAMES: &[Changed<'_>] = &[
     (
         ESCAPED_NAMES,
         &[(37, b"/")],
-        b"f:36: error: bad-name: var[0] \"d/ta\" name\n",
+        b"f:36: violation: name-characters: var[0] \"d/ta\" name\n",
     ),
     // accents after their letters
     (

@@ -67,9 +67,9 @@ const ROWS: &[Row] = &[
         ],
         None,
         &[
-            (0, Fact::Fault(FormatFault::BadName)),
+            (0, Fact::NameCharacters),
             (1, Fact::NotNfc),
-            (3, Fact::Fault(FormatFault::BadName)),
+            (3, Fact::NameCharacters),
         ],
     ),
     // spaces and zeros that fill a name and an attribute up
