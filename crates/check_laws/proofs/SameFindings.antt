@@ -81,7 +81,6 @@ same-slab a b e = cc
 same-layout : (a b : LayoutFact) → layouts.ghosts.cmp a b ≡ Equal → a ≡ b
 same-layout (layout.Streaming i) (layout.Streaming k) e = ap layout.Streaming (number i k e)
 same-layout (layout.UnusedRecords i) (layout.UnusedRecords k) e = ap layout.UnusedRecords (number i k e)
-same-layout (layout.RecordCount i m) (layout.RecordCount k n) e = let parts = beside nat_cmp number i k m n e in cc
 same-layout (layout.LargeVariable i m) (layout.LargeVariable k n) e = let parts = beside nat_cmp number i k m n e in cc
 same-layout (layout.BeginInHeader i m) (layout.BeginInHeader k n) e = let parts = beside nat_cmp number i k m n e in cc
 same-layout (layout.Overlap i m x) (layout.Overlap k n y) e = let parts = beside-both blocks.ghosts.cmp same-block i k m n x y e in cc
@@ -92,7 +91,7 @@ same-layout (layout.RecordPlace i m) (layout.RecordPlace k n) e = let parts = be
 same-layout (layout.Gap i x) (layout.Gap k y) e = let parts = beside blocks.ghosts.cmp same-block i k x y e in cc
 same-layout (layout.Missing i m x) (layout.Missing k n y) e = let parts = beside-both slabs.ghosts.cmp same-slab i k m n x y e in cc
 same-layout (layout.EndPadding i m) (layout.EndPadding k n) e = let parts = beside nat_cmp number i k m n e in cc
-same-layout (layout.Trailing i m) (layout.Trailing k n) e = let parts = beside nat_cmp number i k m n e in cc
+same-layout (layout.Trailing i m x) (layout.Trailing k n y) e = let parts = beside-both (option_cmp nat_cmp) option i k m n x y e in cc
 same-layout a b e = cc
 
 same-fact : (a b : Fact) → facts.ghosts.cmp a b ≡ Equal → a ≡ b

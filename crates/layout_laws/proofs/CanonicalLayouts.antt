@@ -12,7 +12,7 @@ use Rattle.nc_layout.specs.declared.{slot.Slot.Slot, slot.Layout.Layout, finding
 use Rattle.nc_layout.specs.Slots.{padded_slab, is_fixed, is_sole_narrow, record_slots, slab_in_record, record_size, records_begin, record_count, least}
 use Rattle.nc_layout.specs.Blocks.{each_slot, slot_block, records_block, blocks, before, precedes, has_values}
 use Rattle.nc_layout.specs.FindingIf.{finding_if}
-use Rattle.nc_layout.specs.NumRecsRules.{streaming, unused_records, uncounted_records, numrecs_findings}
+use Rattle.nc_layout.specs.NumRecsRules.{streaming, unused_records, numrecs_findings}
 use Rattle.nc_layout.specs.SlotRules.{large_limit, has_successor, large_variable, begin_in_header, order, after_records, record_place, slot_findings, greatest_begin, bytes_before}
 use Rattle.nc_layout.specs.BlockRules.{overlap, unpadded, gap, block_findings, greatest_end}
 use Rattle.nc_layout.specs.FileEnd.{values_end, used_end, first_cut_slab, missing, end_padding, trailing, end_findings}
@@ -427,8 +427,7 @@ numrecs-begin : (layout : Layout) → Quiet is_of_begin (numrecs_findings layout
 unfolding numrecs_findings
 numrecs-begin layout = by_numrecs layout.numrecs
   where
-    by_numrecs : (n : NumRecs) → Quiet is_of_begin (option_to_list (streaming layout n) ++ option_to_list (unused_records layout n)
-        ++ option_to_list (uncounted_records layout n))
+    by_numrecs : (n : NumRecs) → Quiet is_of_begin (option_to_list (streaming layout n) ++ option_to_list (unused_records layout n))
     by_numrecs (Known n) = grind arith
     by_numrecs Streaming = refl
 
@@ -466,8 +465,7 @@ numrecs-end : (layout : Layout) → Quiet is_of_end (numrecs_findings layout)
 unfolding numrecs_findings
 numrecs-end layout = by_numrecs layout.numrecs
   where
-    by_numrecs : (n : NumRecs) → Quiet is_of_end (option_to_list (streaming layout n) ++ option_to_list (unused_records layout n)
-        ++ option_to_list (uncounted_records layout n))
+    by_numrecs : (n : NumRecs) → Quiet is_of_end (option_to_list (streaming layout n) ++ option_to_list (unused_records layout n))
     by_numrecs (Known n) = grind arith
     by_numrecs Streaming = refl
 

@@ -22,7 +22,7 @@ use Rattle.nc_layout.specs.FindingIf.{finding_if}
 use Rattle.nc_layout.specs.Findings.{IsSoundLayout, IsSoundSlot, layout_findings}
 use Rattle.layout_laws.specs.HeaderLaws.{MissingValuesAreFound, ShortFilesLackValues, finds, is_of_missing, lacks_values}
 use Rattle.nc_layout.specs.HeaderLayout.{layout_of, slot_of}
-use Rattle.nc_layout.specs.NumRecsRules.{numrecs_findings, streaming, uncounted_records, unused_records}
+use Rattle.nc_layout.specs.NumRecsRules.{numrecs_findings, streaming, unused_records}
 use Rattle.nc_layout.specs.SlotRules.{slot_findings}
 use Rattle.layout_laws.proofs.CanonicalLength.{quiet-values}
 use Rattle.layout_laws.proofs.HeaderRecords.{count-is, size-is}
@@ -134,8 +134,7 @@ numrecs-other : (layout : Layout) → Quiet is_of_missing (numrecs_findings layo
 unfolding numrecs_findings
 numrecs-other layout = by_numrecs layout.numrecs
   where
-    by_numrecs : (n : NumRecs) → Quiet is_of_missing (option_to_list (streaming layout n) ++ option_to_list (unused_records layout n)
-        ++ option_to_list (uncounted_records layout n))
+    by_numrecs : (n : NumRecs) → Quiet is_of_missing (option_to_list (streaming layout n) ++ option_to_list (unused_records layout n))
     by_numrecs (Known n) = grind arith
     by_numrecs Streaming = refl
 

@@ -14,7 +14,7 @@ use Rattle.nc_base.specs.Parts.{Spells}
 use Rattle.nc_base.specs.Places.{first_missing}
 use Rattle.nc_base.specs.Sizes.{record_count}
 use Rattle.nc_layout.specs.declared.{slot.Layout.Layout, finding.LayoutFact.LayoutFact, finding.LayoutFinding.LayoutFinding}
-use Rattle.nc_layout.specs.declared.finding.LayoutFact.TheVariants.{Streaming, UnusedRecords, RecordCount, LargeVariable, BeginInHeader, Overlap, Unpadded, Order, AfterRecords, RecordPlace, Gap, Missing, EndPadding, Trailing}
+use Rattle.nc_layout.specs.declared.finding.LayoutFact.TheVariants.{Missing}
 use Rattle.nc_layout.specs.FileEnd.{values_end}
 use Rattle.nc_layout.specs.Findings.{IsSoundLayout, layout_findings}
 use Rattle.nc_layout.specs.HeaderLayout.{layout_of}
@@ -49,20 +49,8 @@ GeneratedFilesAreQuiet = (h : Header) (arrays : List Bytes) (n file_len : ℕ) �
 
 -- the finding that values are missing
 abbrev pub is_of_missing : LayoutFact → Bool
-is_of_missing (Streaming records) = false
-is_of_missing (UnusedRecords records) = false
-is_of_missing (RecordCount found by_length) = false
-is_of_missing (LargeVariable bytes limit) = false
-is_of_missing (BeginInHeader begin header_end) = false
-is_of_missing (Overlap begin end of) = false
-is_of_missing (Unpadded begin end of) = false
-is_of_missing (Order begin least of) = false
-is_of_missing (AfterRecords begin most) = false
-is_of_missing (RecordPlace begin expected) = false
-is_of_missing (Gap bytes before) = false
 is_of_missing (Missing file_len end slab) = true
-is_of_missing (EndPadding file_len end) = false
-is_of_missing (Trailing file_len end) = false
+is_of_missing fact = false
 
 -- one of the findings is of this kind
 abbrev pub finds : (LayoutFact → Bool) → Layout → Bool

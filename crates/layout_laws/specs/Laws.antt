@@ -6,7 +6,7 @@
 use Rattle.std.specs.Prelude.{◌≡◌, ◌≤◌, ◌<◌, IsSome, ◌⊎◌, ℕ, ◌+◌, ◌*◌, Bool, true, false, if◌then◌else◌, List, filter, take, sum_by, slice_get, IfSome}
 use Rattle.std.specs.List.{All, AllPairs, list_any}
 use Rattle.nc_layout.specs.declared.{slot.Slot.Slot, slot.Layout.Layout, finding.LayoutFact.LayoutFact, finding.LayoutFinding.LayoutFinding, file_end.SlabPlace.SlabPlace}
-use Rattle.nc_layout.specs.declared.finding.LayoutFact.TheVariants.{Streaming, UnusedRecords, RecordCount, LargeVariable, BeginInHeader, Overlap, Unpadded, Order, AfterRecords, RecordPlace, Gap, Missing, EndPadding, Trailing}
+use Rattle.nc_layout.specs.declared.finding.LayoutFact.TheVariants.{BeginInHeader, Overlap, Unpadded, Order, AfterRecords, RecordPlace, Gap, Missing, EndPadding, Trailing}
 use Rattle.nc_layout.specs.Slots.{padded_slab, is_fixed, record_size, record_count}
 use Rattle.nc_layout.specs.SlotRules.{bytes_before}
 use Rattle.nc_layout.specs.FileEnd.{values_end, all_slabs, first_cut_slab}
@@ -14,10 +14,6 @@ use Rattle.nc_layout.specs.Findings.{IsSoundLayout, layout_findings}
 
 -- a finding at the begin of a variable or of a block
 abbrev pub is_of_begin : LayoutFact → Bool
-is_of_begin (Streaming records) = false
-is_of_begin (UnusedRecords records) = false
-is_of_begin (RecordCount found by_length) = false
-is_of_begin (LargeVariable bytes limit) = false
 is_of_begin (BeginInHeader begin header_end) = true
 is_of_begin (Overlap begin end of) = true
 is_of_begin (Unpadded begin end of) = true
@@ -25,26 +21,14 @@ is_of_begin (Order begin least of) = true
 is_of_begin (AfterRecords begin most) = true
 is_of_begin (RecordPlace begin expected) = true
 is_of_begin (Gap bytes before) = true
-is_of_begin (Missing file_len end slab) = false
-is_of_begin (EndPadding file_len end) = false
-is_of_begin (Trailing file_len end) = false
+is_of_begin fact = false
 
 -- a finding at the end of the file
 abbrev pub is_of_end : LayoutFact → Bool
-is_of_end (Streaming records) = false
-is_of_end (UnusedRecords records) = false
-is_of_end (RecordCount found by_length) = false
-is_of_end (LargeVariable bytes limit) = false
-is_of_end (BeginInHeader begin header_end) = false
-is_of_end (Overlap begin end of) = false
-is_of_end (Unpadded begin end of) = false
-is_of_end (Order begin least of) = false
-is_of_end (AfterRecords begin most) = false
-is_of_end (RecordPlace begin expected) = false
-is_of_end (Gap bytes before) = false
 is_of_end (Missing file_len end slab) = true
 is_of_end (EndPadding file_len end) = true
-is_of_end (Trailing file_len end) = true
+is_of_end (Trailing file_len end records) = true
+is_of_end fact = false
 
 -- none of the findings is of this kind
 abbrev pub FindsNone : (LayoutFact → Bool) → Layout → Type 0
@@ -85,20 +69,10 @@ CanonicalLengthIsQuiet = (layout : Layout) → IsSoundLayout layout → HasCanon
 
 -- a finding at a begin that lets two slabs share a byte, or a slab and the header
 abbrev pub is_of_shared_bytes : LayoutFact → Bool
-is_of_shared_bytes (Streaming records) = false
-is_of_shared_bytes (UnusedRecords records) = false
-is_of_shared_bytes (RecordCount found by_length) = false
-is_of_shared_bytes (LargeVariable bytes limit) = false
 is_of_shared_bytes (BeginInHeader begin header_end) = true
 is_of_shared_bytes (Overlap begin end of) = true
-is_of_shared_bytes (Unpadded begin end of) = false
-is_of_shared_bytes (Order begin least of) = false
-is_of_shared_bytes (AfterRecords begin most) = false
 is_of_shared_bytes (RecordPlace begin expected) = true
-is_of_shared_bytes (Gap bytes before) = false
-is_of_shared_bytes (Missing file_len end slab) = false
-is_of_shared_bytes (EndPadding file_len end) = false
-is_of_shared_bytes (Trailing file_len end) = false
+is_of_shared_bytes fact = false
 
 -- the slabs have no byte in common
 abbrev pub AreApart : SlabPlace → SlabPlace → Type 0

@@ -5,7 +5,7 @@ use Rattle.nc_layout.specs.declared.finding.LayoutFact.{LayoutFact}
 use Rattle.nc_layout.specs.declared.finding.LayoutFact.TheVariants as layout
 use Rattle.nc_check.specs.declared.{finding.Fact.Fact, kind.Kind.Kind, kind.Severity.Severity}
 use Rattle.nc_check.specs.declared.finding.Fact.TheVariants as fact
-use Rattle.nc_check.specs.declared.kind.Kind.TheVariants.{NotNetcdf, UnknownVersion, HeaderTruncated, BadTag, BadCount, BadName, NameCharacters, FloatingType, BadType, BadShape, TwoRecordDims, TooLarge, BadOffset, LargeCount, Streaming, UnusedRecords, RecordCount, EmptyList, LongName, DuplicateName, NotNfc, Padding, EmptyAttribute, TrailingNul, FillValue, HighRank, Vsize, LargeVariable, BeginInHeader, Overlap, Unpadded, Order, AfterRecords, RecordPlace, Gap, Missing, EndPadding, Trailing}
+use Rattle.nc_check.specs.declared.kind.Kind.TheVariants.{NotNetcdf, UnknownVersion, HeaderTruncated, BadTag, BadCount, BadName, NameCharacters, FloatingType, BadType, BadShape, TwoRecordDims, TooLarge, BadOffset, LargeCount, Streaming, UnusedRecords, EmptyList, LongName, DuplicateName, NotNfc, Padding, EmptyAttribute, TrailingNul, FillValue, HighRank, Vsize, LargeVariable, BeginInHeader, Overlap, Unpadded, Order, AfterRecords, RecordPlace, Gap, Missing, EndPadding, Trailing}
 use Rattle.nc_check.specs.declared.kind.Severity.TheVariants.{Error, Violation, Note}
 
 -- ---- of facts
@@ -27,7 +27,6 @@ kind_of_fault fault.TooLarge = TooLarge
 abbrev pub kind_of_layout : LayoutFact → Kind
 kind_of_layout (layout.Streaming n) = Streaming
 kind_of_layout (layout.UnusedRecords n) = UnusedRecords
-kind_of_layout (layout.RecordCount n k) = RecordCount
 kind_of_layout (layout.LargeVariable n limit) = LargeVariable
 kind_of_layout (layout.BeginInHeader begin end) = BeginInHeader
 kind_of_layout (layout.Overlap begin end of) = Overlap
@@ -38,7 +37,7 @@ kind_of_layout (layout.RecordPlace begin place) = RecordPlace
 kind_of_layout (layout.Gap n of) = Gap
 kind_of_layout (layout.Missing n end of) = Missing
 kind_of_layout (layout.EndPadding n end) = EndPadding
-kind_of_layout (layout.Trailing n end) = Trailing
+kind_of_layout (layout.Trailing n end records) = Trailing
 
 abbrev pub kind_of : Fact → Kind
 kind_of (fact.Fault fault) = kind_of_fault fault
@@ -79,7 +78,6 @@ severity_of BadOffset = Error
 severity_of LargeCount = Violation
 severity_of Streaming = Note
 severity_of UnusedRecords = Note
-severity_of RecordCount = Violation
 severity_of EmptyList = Note
 severity_of LongName = Violation
 severity_of DuplicateName = Violation

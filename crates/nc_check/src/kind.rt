@@ -53,8 +53,6 @@ pub enum Kind {
     Streaming,
     /// There are records, but no record variable.
     UnusedRecords,
-    /// The file has room for more records than it counts.
-    RecordCount,
     /// A list without elements has its own tag.
     EmptyList,
     /// A name is longer than netCDF-C takes.
@@ -116,7 +114,6 @@ impl Kind {
             | Kind::EndPadding => Severity::Note,
             Kind::NameCharacters
             | Kind::LargeCount
-            | Kind::RecordCount
             | Kind::LongName
             | Kind::DuplicateName
             | Kind::NotNfc
@@ -181,7 +178,6 @@ fn kind_of_layout(fact: LayoutFact) -> Kind
     match fact {
         LayoutFact::Streaming { .. } => Kind::Streaming,
         LayoutFact::UnusedRecords { .. } => Kind::UnusedRecords,
-        LayoutFact::RecordCount { .. } => Kind::RecordCount,
         LayoutFact::LargeVariable { .. } => Kind::LargeVariable,
         LayoutFact::BeginInHeader { .. } => Kind::BeginInHeader,
         LayoutFact::Overlap { .. } => Kind::Overlap,

@@ -1,5 +1,5 @@
 -- What is found in some files, so that the definitions can be read beside their findings.
-use Rattle.std.proofs.Common.{◌≡◌, ℕ, true, false, [], ◌∷◌, List, refl}
+use Rattle.std.proofs.Common.{◌≡◌, ℕ, true, false, [], ◌∷◌, List, Some, None, refl}
 use Rattle.std.specs.Prelude.{⊤}
 use Rattle.nc_base.specs.declared.{header.NumRecs.NumRecs}
 use Rattle.nc_base.specs.declared.version.Version.TheVariants.{Cdf1, Cdf2}
@@ -93,13 +93,12 @@ unfolding findings_computed
 last_padding_missing = refl
 
 -- four bytes after the last value
-bytes_after_values : Finds (stations (Known 3) 348 360 368 372 420) (at (Data 416) (facts.Trailing 420 416) ∷ [])
+bytes_after_values : Finds (stations (Known 3) 348 360 368 372 420) (at (Data 416) (facts.Trailing 420 416 None) ∷ [])
 unfolding findings_computed
 bytes_after_values = refl
 
 -- a fourth record that the header doesn't count
-record_appended : Finds (stations (Known 3) 348 360 368 372 432) (at AtNumRecs (facts.RecordCount 3 4)
-    ∷ at (Data 416) (facts.Trailing 432 416) ∷ [])
+record_appended : Finds (stations (Known 3) 348 360 368 372 432) (at (Data 416) (facts.Trailing 432 416 (Some 4)) ∷ [])
 unfolding findings_computed
 record_appended = refl
 

@@ -3,11 +3,13 @@
 use Rattle.std.specs.Prelude.{ℕ, Bool, ◌+◌, ◌*◌, max, nat_lt, nat_le, ◌&&◌, if◌then◌else◌, List, [], ◌∷◌, ◌++◌, filter, map, fold, Option, Some, None}
 use Rattle.std.specs.List.{range_with_len}
 use Rattle.std.specs.Option.{option_to_list, option_and_then}
+use Rattle.nc_base.specs.declared.header.NumRecs.{NumRecs}
+use Rattle.nc_base.specs.declared.header.NumRecs.TheVariants.{Known, Streaming}
 use Rattle.nc_layout.specs.declared.{slot.Slot.Slot, slot.Layout.Layout, finding.LayoutFinding.LayoutFinding, blocks.Extent.Extent, file_end.SlabPlace.SlabPlace}
 use Rattle.nc_layout.specs.declared.finding.Slab.TheVariants as slabs
 use Rattle.nc_layout.specs.declared.finding.LayoutPlace.TheVariants as places
 use Rattle.nc_layout.specs.declared.finding.LayoutFact.TheVariants as facts
-use Rattle.nc_layout.specs.Slots.{record_size, record_count}
+use Rattle.nc_layout.specs.Slots.{record_size, records_by_length, record_count}
 use Rattle.nc_layout.specs.Blocks.{each_slot, blocks, has_values}
 use Rattle.nc_layout.specs.FindingIf.{finding_if}
 
@@ -76,10 +78,15 @@ end_padding layout =
     finding_if (nat_le (values_end layout) layout.file_len && nat_lt layout.file_len (padding_end layout)) (places.Data layout.file_len)
     (facts.EndPadding layout.file_len (padding_end layout))
 
+-- how many whole records fit into the file, if the header counts fewer
+abbrev pub uncounted_records : Layout → NumRecs → Option ℕ
+uncounted_records layout (Known n) = if nat_lt n (records_by_length layout) then Some (records_by_length layout) else None
+uncounted_records layout Streaming = None
+
 abbrev pub trailing : Layout → Option LayoutFinding
 trailing layout =
     finding_if (nat_lt (used_end layout) layout.file_len) (places.Data (used_end layout))
-    (facts.Trailing layout.file_len (used_end layout))
+    (facts.Trailing layout.file_len (used_end layout) (uncounted_records layout layout.numrecs))
 
 unfoldable pub end_findings : Layout → List LayoutFinding
 end_findings layout = option_to_list (missing layout) ++ option_to_list (end_padding layout) ++ option_to_list (trailing layout)

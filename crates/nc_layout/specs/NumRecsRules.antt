@@ -1,6 +1,6 @@
 -- Definition. Findings at the number of records (`numrecs` of the NetCDF Classic Format Specification, which lets a writer put the mark
 -- `STREAMING` there).
-use Rattle.std.specs.Prelude.{true, nat_lt, ◌&&◌, List, ◌++◌, is_some, is_none, Option, None}
+use Rattle.std.specs.Prelude.{true, nat_lt, ◌&&◌, List, ◌++◌, is_none, Option, None}
 use Rattle.std.specs.Option.{option_to_list}
 use Rattle.nc_base.specs.declared.header.NumRecs.{NumRecs}
 use Rattle.nc_base.specs.declared.header.NumRecs.TheVariants.{Known, Streaming}
@@ -20,14 +20,5 @@ abbrev pub unused_records : Layout → NumRecs → Option LayoutFinding
 unused_records layout (Known n) = finding_if (nat_lt 0 n && is_none (records_begin layout.slots)) places.NumRecs (facts.UnusedRecords n)
 unused_records layout Streaming = None
 
--- more whole records in the file than the header counts
-abbrev pub uncounted_records : Layout → NumRecs → Option LayoutFinding
-uncounted_records layout (Known n) =
-    finding_if (is_some (records_begin layout.slots) && nat_lt n (records_by_length layout)) places.NumRecs
-    (facts.RecordCount n (records_by_length layout))
-uncounted_records layout Streaming = None
-
 unfoldable pub numrecs_findings : Layout → List LayoutFinding
-numrecs_findings layout =
-    option_to_list (streaming layout layout.numrecs) ++ option_to_list (unused_records layout layout.numrecs)
-    ++ option_to_list (uncounted_records layout layout.numrecs)
+numrecs_findings layout = option_to_list (streaming layout layout.numrecs) ++ option_to_list (unused_records layout layout.numrecs)

@@ -3,7 +3,7 @@
 ghost use Rattle.std.specs.Prelude.{◌≡◌, ◌≤◌, ◌<◌, ◌+◌, ◌*◌, ◌++◌, ◌^◌, ℕ, OnOk, true, filter, max, nat_lt, if◌then◌else◌};
 ghost use Rattle.nc_layout.specs.Blocks.{blocks};
 ghost use Rattle.nc_layout.specs.Findings.{IsSoundLayout, IsSoundSlot};
-ghost use Rattle.nc_layout.specs.FileEnd.{record_slab, slabs_of, first_of, first_slab, is_cut, first_cut_slab, missing, end_padding, trailing, end_findings};
+ghost use Rattle.nc_layout.specs.FileEnd.{record_slab, slabs_of, first_of, first_slab, is_cut, first_cut_slab, missing, end_padding, uncounted_records, trailing, end_findings};
 ghost use Rattle.nc_layout.specs.code.Records.{AreRecords};
 ghost use Rattle.nc_layout.specs.code.FileEnds.{AreEnds};
 
@@ -11,7 +11,7 @@ use crate::blocks::Extent;
 use crate::finding::{LayoutFact, LayoutFinding, LayoutPlace, Slab, finding_if, push_some};
 use crate::records::FileRecords;
 use crate::slot::{Layout, Slot};
-use nc_base::Sequence;
+use nc_base::{NumRecs, Sequence};
 use std::alloc::AllocError;
 
 /// Where the blocks of a file end, or the header if that is later.
@@ -52,7 +52,7 @@ pub(crate) fn push_end_findings(
     let ends = file_ends(layout, extents);
     push_some(found, missing(layout, records, ends))?;
     push_some(found, end_padding(layout, ends))?;
-    push_some(found, trailing(layout, ends))?;
+    push_some(found, trailing(layout, records, ends))?;
     Ok(())
 }
 
@@ -129,8 +129,9 @@ fn end_padding(layout: &Layout, ends: FileEnds) -> Option<LayoutFinding>
 }
 
 /// Returns the finding that the file has bytes after the values and their padding.
-fn trailing(layout: &Layout, ends: FileEnds) -> Option<LayoutFinding>
-    requires { AreEnds layout.now ends }
+fn trailing(layout: &Layout, records: FileRecords, ends: FileEnds) -> Option<LayoutFinding>
+    requires records { AreRecords layout.now records }
+    requires ends { AreEnds layout.now ends }
     ensures { result ≡ trailing layout.now }
 {
     if ends.used < layout.file_len as u128 {
@@ -140,10 +141,22 @@ fn trailing(layout: &Layout, ends: FileEnds) -> Option<LayoutFinding>
             fact: LayoutFact::Trailing {
                 file_len: layout.file_len,
                 end,
+                records: uncounted_records(layout, records),
             },
         })
     } else {
         None
+    }
+}
+
+/// Returns the number of whole records that fit into the file, if the header counts fewer.
+fn uncounted_records(layout: &Layout, records: FileRecords) -> Option<u64>
+    requires { AreRecords layout.now records }
+    ensures { result ≡ uncounted_records layout.now layout.now.numrecs }
+{
+    match layout.numrecs {
+        NumRecs::Known(n) if n < records.by_length => Some(records.by_length),
+        _ => None,
     }
 }
 

@@ -56,13 +56,6 @@ pub enum LayoutFact {
         /// The number of records.
         records: u64,
     },
-    /// The file has room for more whole records than the header counts.
-    RecordCount {
-        /// The number of records in the header.
-        found: u64,
-        /// The number of whole records in the file.
-        by_length: u64,
-    },
     /// The slab is greater than the version allows for a variable in this position.
     LargeVariable {
         /// The bytes of the slab.
@@ -147,6 +140,8 @@ pub enum LayoutFact {
         file_len: u64,
         /// The end of the values with their padding.
         end: u64,
+        /// The number of whole records that fit into the file, if the header counts fewer.
+        records: Option<u64>,
     },
 }
 

@@ -1,7 +1,7 @@
 //! Findings at the number of records.
 
 ghost use Rattle.std.specs.Prelude.{◌≡◌, ◌++◌, OnOk};
-ghost use Rattle.nc_layout.specs.NumRecsRules.{streaming, unused_records, uncounted_records, numrecs_findings};
+ghost use Rattle.nc_layout.specs.NumRecsRules.{streaming, unused_records, numrecs_findings};
 ghost use Rattle.nc_layout.specs.code.Records.{AreRecords};
 
 use crate::finding::{LayoutFact, LayoutFinding, LayoutPlace, finding_if, push_some};
@@ -22,7 +22,6 @@ pub(crate) fn push_numrecs_findings(
 {
     push_some(found, streaming(layout, records))?;
     push_some(found, unused_records(layout, records))?;
-    push_some(found, uncounted_records(layout, records))?;
     Ok(())
 }
 
@@ -53,24 +52,6 @@ fn unused_records(layout: &Layout, records: FileRecords) -> Option<LayoutFinding
             n > 0 && records.begin.is_none(),
             LayoutPlace::NumRecs,
             LayoutFact::UnusedRecords { records: n },
-        ),
-        NumRecs::Streaming => None,
-    }
-}
-
-/// Returns the finding that the file has more whole records than the header counts.
-fn uncounted_records(layout: &Layout, records: FileRecords) -> Option<LayoutFinding>
-    requires { AreRecords layout.now records }
-    ensures { result ≡ uncounted_records layout.now layout.now.numrecs }
-{
-    match layout.numrecs {
-        NumRecs::Known(n) => finding_if(
-            records.begin.is_some() && n < records.by_length,
-            LayoutPlace::NumRecs,
-            LayoutFact::RecordCount {
-                found: n,
-                by_length: records.by_length,
-            },
         ),
         NumRecs::Streaming => None,
     }

@@ -155,20 +155,15 @@ found_unused_bytes n = around (codes ": found ") n (codes " unused bytes before 
 unfoldable pub found_unused : Result Header FormatFault → ℕ → Block → Bytes
 found_unused header n of = concat_parts (found_unused_bytes n ∷ block_path header of ∷ [])
 
-unfoldable pub expected_by_length : ℕ → Bytes
-expected_by_length k = around (codes ", expected ") k (codes " by the file's length")
-
 unfoldable pub expected_after_header : ℕ → Bytes
 expected_after_header end = expected_at_least end (codes ", the end of the header")
-
-unfoldable pub expected_end : ℕ → Bytes
-expected_end end = expected_at_least end (codes ", the end of ")
 
 unfoldable pub expected_begin : ℕ → Bytes
 expected_begin begin = expected_at_least begin (codes ", the begin of ")
 
-unfoldable pub expected_after_block : Result Header FormatFault → ℕ → Block → Bytes
-expected_after_block header end of = concat_parts (expected_end end ∷ block_path header of ∷ [])
+-- an offset from this one on, in words that a block completes
+unfoldable pub expected_after_block : Result Header FormatFault → ℕ → Bytes → Block → Bytes
+expected_after_block header end words of = concat_parts (expected_at_least end words ∷ block_path header of ∷ [])
 
 unfoldable pub expected_after_var : Result Header FormatFault → ℕ → ℕ → Bytes
 expected_after_var header least of = concat_parts (expected_begin least ∷ var_path header of ∷ [])
@@ -176,10 +171,16 @@ expected_after_var header least of = concat_parts (expected_begin least ∷ var_
 unfoldable pub expected_before_records : ℕ → Bytes
 expected_before_records most = expected_at_most most (codes ", the begin of the records")
 
+abbrev pub or_records : Option ℕ → Bytes
+or_records None = []
+or_records (Some n) = around (codes ", or numrecs ") n []
+
+unfoldable pub expected_len : ℕ → Option ℕ → Bytes
+expected_len end records = concat_parts (expected_number end ∷ or_records records ∷ [])
+
 unfoldable pub found_in_layout : Result Header FormatFault → LayoutFact → Bytes
 found_in_layout header (layout.Streaming n) = found_streaming n
 found_in_layout header (layout.UnusedRecords n) = found_number n
-found_in_layout header (layout.RecordCount n k) = found_number n
 found_in_layout header (layout.LargeVariable n limit) = found_number n
 found_in_layout header (layout.BeginInHeader begin end) = found_number begin
 found_in_layout header (layout.Overlap begin end of) = found_number begin
@@ -190,23 +191,22 @@ found_in_layout header (layout.RecordPlace begin place) = found_number begin
 found_in_layout header (layout.Gap n of) = found_unused header n of
 found_in_layout header (layout.Missing n end of) = found_bytes n
 found_in_layout header (layout.EndPadding n end) = found_bytes n
-found_in_layout header (layout.Trailing n end) = found_bytes n
+found_in_layout header (layout.Trailing n end records) = found_bytes n
 
 unfoldable pub expected_in_layout : Result Header FormatFault → LayoutFact → Bytes
 expected_in_layout header (layout.Streaming n) = []
 expected_in_layout header (layout.UnusedRecords n) = expected_number 0
-expected_in_layout header (layout.RecordCount n k) = expected_by_length k
 expected_in_layout header (layout.LargeVariable n limit) = expected_at_most limit []
 expected_in_layout header (layout.BeginInHeader begin end) = expected_after_header end
-expected_in_layout header (layout.Overlap begin end of) = expected_after_block header end of
-expected_in_layout header (layout.Unpadded begin end of) = expected_after_block header end of
+expected_in_layout header (layout.Overlap begin end of) = expected_after_block header end (codes ", the end of ") of
+expected_in_layout header (layout.Unpadded begin end of) = expected_after_block header end (codes ", the padded end of ") of
 expected_in_layout header (layout.Order begin least of) = expected_after_var header least of
 expected_in_layout header (layout.AfterRecords begin most) = expected_before_records most
 expected_in_layout header (layout.RecordPlace begin place) = expected_number place
 expected_in_layout header (layout.Gap n of) = []
 expected_in_layout header (layout.Missing n end of) = expected_at_least end []
 expected_in_layout header (layout.EndPadding n end) = expected_number end
-expected_in_layout header (layout.Trailing n end) = expected_number end
+expected_in_layout header (layout.Trailing n end records) = expected_len end records
 
 unfoldable pub layout_details : Result Header FormatFault → LayoutFact → Bytes
 layout_details header x = concat_parts (found_in_layout header x ∷ expected_in_layout header x ∷ [])

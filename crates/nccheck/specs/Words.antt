@@ -4,7 +4,7 @@ use Rattle.nc_base.specs.Bytes.{Bytes, concat_parts}
 use Rattle.nc_fields.specs.declared.place.FieldName.{FieldName}
 use Rattle.nc_fields.specs.declared.place.FieldName.TheVariants as name
 use Rattle.nc_check.specs.declared.{kind.Kind.Kind, kind.Severity.Severity}
-use Rattle.nc_check.specs.declared.kind.Kind.TheVariants.{NotNetcdf, UnknownVersion, HeaderTruncated, BadTag, BadCount, BadName, NameCharacters, FloatingType, BadType, BadShape, TwoRecordDims, TooLarge, BadOffset, LargeCount, Streaming, UnusedRecords, RecordCount, EmptyList, LongName, DuplicateName, NotNfc, Padding, EmptyAttribute, TrailingNul, FillValue, HighRank, Vsize, LargeVariable, BeginInHeader, Overlap, Unpadded, Order, AfterRecords, RecordPlace, Gap, Missing, EndPadding, Trailing}
+use Rattle.nc_check.specs.declared.kind.Kind.TheVariants.{NotNetcdf, UnknownVersion, HeaderTruncated, BadTag, BadCount, BadName, NameCharacters, FloatingType, BadType, BadShape, TwoRecordDims, TooLarge, BadOffset, LargeCount, Streaming, UnusedRecords, EmptyList, LongName, DuplicateName, NotNfc, Padding, EmptyAttribute, TrailingNul, FillValue, HighRank, Vsize, LargeVariable, BeginInHeader, Overlap, Unpadded, Order, AfterRecords, RecordPlace, Gap, Missing, EndPadding, Trailing}
 use Rattle.nc_check.specs.declared.kind.Severity.TheVariants.{Error, Violation, Note}
 
 unfoldable pub severity_word : Severity → Bytes
@@ -29,7 +29,6 @@ kind_word BadOffset = codes "bad-offset"
 kind_word LargeCount = codes "large-count"
 kind_word Streaming = codes "streaming"
 kind_word UnusedRecords = codes "unused-records"
-kind_word RecordCount = codes "record-count"
 kind_word EmptyList = codes "empty-list"
 kind_word LongName = codes "long-name"
 kind_word DuplicateName = codes "duplicate-name"

@@ -2,7 +2,7 @@
 
 ghost use Rattle.std.specs.Prelude.{[]};
 ghost use Rattle.devices.specs.code.SinkWrites.{Wrote};
-ghost use Rattle.nccheck.specs.Details.{expected_after_block, expected_after_header, expected_after_var, expected_at_least, expected_at_most, expected_before_records, expected_begin, expected_by_length, expected_end, expected_in_layout, expected_number, found_bytes, found_in_layout, found_streaming, found_unused, found_unused_bytes, layout_details};
+ghost use Rattle.nccheck.specs.Details.{expected_after_block, expected_after_header, expected_after_var, expected_at_least, expected_at_most, expected_before_records, expected_begin, expected_in_layout, expected_len, expected_number, found_bytes, found_in_layout, found_streaming, found_unused, found_unused_bytes, layout_details};
 
 use crate::field_path::{put_block_path, put_var_path};
 use crate::number::put_around;
@@ -35,7 +35,6 @@ pub(crate) fn put_found_in_layout<W: Sink>(
     match fact {
         LayoutFact::Streaming { records } => put_found_streaming(sink, records),
         LayoutFact::UnusedRecords { records: n }
-        | LayoutFact::RecordCount { found: n, .. }
         | LayoutFact::LargeVariable { bytes: n, .. }
         | LayoutFact::BeginInHeader { begin: n, .. }
         | LayoutFact::Overlap { begin: n, .. }
@@ -64,18 +63,20 @@ pub(crate) fn put_expected_in_layout<W: Sink>(
     match fact {
         LayoutFact::Streaming { .. } | LayoutFact::Gap { .. } => Ok(()),
         LayoutFact::UnusedRecords { .. } => put_expected(sink, 0),
-        LayoutFact::RecordCount { by_length, .. } => put_by_length(sink, by_length),
         LayoutFact::LargeVariable { limit, .. } => put_at_most(sink, limit),
         LayoutFact::BeginInHeader { header_end, .. } => put_after_header(sink, header_end),
-        LayoutFact::Overlap { end, of, .. } | LayoutFact::Unpadded { end, of, .. } => {
-            put_after_block(sink, header, end, of)
+        LayoutFact::Overlap { end, of, .. } => {
+            put_after_block(sink, header, end, b", the end of ", of)
+        }
+        LayoutFact::Unpadded { end, of, .. } => {
+            put_after_block(sink, header, end, b", the padded end of ", of)
         }
         LayoutFact::Order { least, of, .. } => put_after_var(sink, header, least, of),
         LayoutFact::AfterRecords { most, .. } => put_before_records(sink, most),
         LayoutFact::RecordPlace { expected, .. } => put_expected(sink, expected as u128),
         LayoutFact::Missing { end, .. } => put_at_least(sink, end, b""),
         LayoutFact::EndPadding { end, .. } => put_expected(sink, end),
-        LayoutFact::Trailing { end, .. } => put_expected(sink, end as u128),
+        LayoutFact::Trailing { end, records, .. } => put_expected_len(sink, end, records),
     }
 }
 
@@ -135,12 +136,20 @@ fn put_found_unused<W: Sink>(
     put_block_path(sink, header, before)
 }
 
-/// Writes that this number of records is expected by the length of the file.
-#[tactic(auto, unfolding(crate::specs::Details::expected_by_length))]
-fn put_by_length<W: Sink>(sink: &mut W, n: u64) -> Result<(), WriteFailed>
-    ensures { Wrote W.view sink.old sink.new (expected_by_length n) result }
+/// Writes that this length is expected, or this number of records, if there is one.
+#[tactic(auto, using(devices::proofs::Writes::writes), unfolding(crate::specs::Details::expected_len))]
+fn put_expected_len<W: Sink>(
+    sink: &mut W,
+    end: u64,
+    records: Option<u64>,
+) -> Result<(), WriteFailed>
+    ensures { Wrote W.view sink.old sink.new (expected_len end records) result }
 {
-    put_around(sink, b", expected ", n as u128, b" by the file's length")
+    put_expected(sink, end as u128)?;
+    match records {
+        Some(n) => put_around(sink, b", or numrecs ", n as u128, b""),
+        None => Ok(()),
+    }
 }
 
 /// Writes that an offset after the header, which ends here, is expected.
@@ -151,17 +160,18 @@ fn put_after_header<W: Sink>(sink: &mut W, end: u64) -> Result<(), WriteFailed>
     put_at_least(sink, end as u128, b", the end of the header")
 }
 
-/// Writes that an offset after a block, which ends here, is expected.
+/// Writes that an offset after a block, which ends here, is expected. The name of the block completes the words.
 #[tactic(auto, using(devices::proofs::Writes::writes), unfolding(crate::specs::Details::expected_after_block))]
 fn put_after_block<W: Sink>(
     sink: &mut W,
     header: &Result<Header, FormatFault>,
     end: u128,
+    words: &[u8],
     of: Block,
 ) -> Result<(), WriteFailed>
-    ensures { Wrote W.view sink.old sink.new (expected_after_block header.now end of) result }
+    ensures { Wrote W.view sink.old sink.new (expected_after_block header.now end words.now of) result }
 {
-    put_end(sink, end)?;
+    put_at_least(sink, end, words)?;
     put_block_path(sink, header, of)
 }
 
@@ -198,14 +208,6 @@ fn put_found_unused_bytes<W: Sink>(sink: &mut W, n: u64) -> Result<(), WriteFail
     ensures { Wrote W.view sink.old sink.new (found_unused_bytes n) result }
 {
     put_around(sink, b": found ", n as u128, b" unused bytes before ")
-}
-
-/// Writes that an offset from this end of what comes next on is expected.
-#[tactic(auto, unfolding(crate::specs::Details::expected_end))]
-fn put_end<W: Sink>(sink: &mut W, end: u128) -> Result<(), WriteFailed>
-    ensures { Wrote W.view sink.old sink.new (expected_end end) result }
-{
-    put_at_least(sink, end, b", the end of ")
 }
 
 /// Writes that an offset from this begin of what comes next on is expected.

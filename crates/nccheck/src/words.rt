@@ -43,7 +43,6 @@ pub(crate) fn kind_word(kind: Kind) -> &'static str
         Kind::LargeCount => "large-count",
         Kind::Streaming => "streaming",
         Kind::UnusedRecords => "unused-records",
-        Kind::RecordCount => "record-count",
         Kind::EmptyList => "empty-list",
         Kind::LongName => "long-name",
         Kind::DuplicateName => "duplicate-name",

@@ -134,8 +134,28 @@ pub const BEGINS: &[Changed<'_>] = &[
     (
         CLEAN,
         &[(247, b"\x6e"), (311, b"\x72"), (347, b"\x7a")],
-        b"f:244: error: unpadded: var[2] \"t\" begin: found 366, expected at least 368, the end of var[1] \"depth\"\n\
+        b"f:244: error: unpadded: var[2] \"t\" begin: found 366, expected at least 368, the padded end of var[1] \"depth\"\n\
         f:414: violation: trailing: data: found 416 bytes, expected 414\n",
+    ),
+    // two variables of three bytes, the second one in the padding of the first
+    (
+        ONE_VARIABLE,
+        &[
+            (43, b"\x02"),
+            (48, b"a"),
+            (71, b"\x01\0\0\0\x04\0\0\0\x74"),
+            (80, b"\0\0\0\x01b\0\0\0\0\0\0\x01"),
+            (92, &[0; 12]),
+            (104, b"\0\0\0\x01\0\0\0\x04\0\0\0\x77"),
+            (116, &[0; 7]),
+        ],
+        b"f:112: error: unpadded: var[1] \"b\" begin: found 119, expected at least 120, the padded end of var[0] \"a\"\n",
+    ),
+    // one record of four bytes, in a file whose length was set before
+    (
+        RECORD_BYTES,
+        &[(7, b"\x01"), (71, b"\x04"), (80, &[0; 8108])],
+        b"f:84: violation: trailing: data: found 8188 bytes, expected 84, or numrecs 2027\n",
     ),
     // the slabs of two record variables change places
     (
@@ -246,7 +266,6 @@ pub const CUT: &[(&[u8], usize, &[u8])] = &[
     (
         CLEAN,
         432,
-        b"f:4: violation: record-count: numrecs: found 3, expected 4 by the file's length\n\
-        f:416: violation: trailing: data: found 432 bytes, expected 416\n",
+        b"f:416: violation: trailing: data: found 432 bytes, expected 416, or numrecs 4\n",
     ),
 ];
