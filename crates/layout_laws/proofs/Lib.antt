@@ -1,6 +1,10 @@
-pub mod QuietLayouts
+pub mod IndexedSlots
+pub mod FoundNone
+pub mod LayoutBlocks
 pub mod CanonicalBegins
 pub mod WholeSlots
+pub mod CanonicalEnds
+pub mod LayoutSlabs
 pub mod CanonicalLength
 pub mod SlabsApart
 pub mod BareHeaders

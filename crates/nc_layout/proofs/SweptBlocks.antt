@@ -22,31 +22,32 @@ use Rattle.nc_layout.proofs.FlatPermutation.{flat_map-IsPermutation}
 
 -- ---- the greatest end
 
-pub greatest_from-ge : (end : Extent → ℕ) (a : ℕ) (bs : List Extent) → a ≤ fold max a (map end bs)
-greatest_from-ge end a [] = omega arith
-greatest_from-ge end a (b ∷ bs) = let h = greatest_from-ge end (max a (end b)) bs in omega arith
+pub greatest_from-ge : {X : Type 0} (end : X → ℕ) (a : ℕ) (xs : List X) → a ≤ fold max a (map end xs)
+greatest_from-ge {X} end a [] = omega arith
+greatest_from-ge {X} end a (x ∷ xs) = let h = greatest_from-ge end (max a (end x)) xs in omega arith
 
-pub greatest_from-above : (end : Extent → ℕ) (a : ℕ) (bs : List Extent) (c : Extent) → Contains bs c → end c ≤ fold max a (map end bs)
-greatest_from-above end a [] c has = absurd (contains-none c has)
-greatest_from-above end a (b ∷ bs) c has = by_place (contains-cases b c bs has) (λ h. greatest_from-above end (max a (end b)) bs c h)
+pub greatest_from-above : {X : Type 0} (end : X → ℕ) (a : ℕ) (xs : List X) (c : X) → Contains xs c → end c ≤ fold max a (map end xs)
+greatest_from-above {X} end a [] c has = absurd (contains-none c has)
+greatest_from-above {X} end a (x ∷ xs) c has = by_place (contains-cases x c xs has) (λ h. greatest_from-above end (max a (end x)) xs c h)
   where
-    by_place : (b ≡ c) ⊎ Contains bs c → (Contains bs c → end c ≤ fold max (max a (end b)) (map end bs))
-        → end c ≤ fold max (max a (end b)) (map end bs)
-    by_place (inl same) ih = let h = greatest_from-ge end (max a (end b)) bs in let e = ap end same in omega arith
+    by_place : (x ≡ c) ⊎ Contains xs c → (Contains xs c → end c ≤ fold max (max a (end x)) (map end xs))
+        → end c ≤ fold max (max a (end x)) (map end xs)
+    by_place (inl same) ih = let h = greatest_from-ge end (max a (end x)) xs in let e = ap end same in omega arith
     by_place (inr later) ih = ih later
 
-pub greatest_from-least : (end : Extent → ℕ) (a m : ℕ) (bs : List Extent) → a ≤ m → ((c : Extent) → Contains bs c → end c ≤ m)
-    → fold max a (map end bs) ≤ m
-greatest_from-least end a m [] le h = le
-greatest_from-least end a m (b ∷ bs) le h =
-    let here = h b (contains-here b bs) in
-    greatest_from-least end (max a (end b)) m bs (omega arith) (λ c has. h c (contains-there b c bs has))
+pub greatest_from-least : {X : Type 0} (end : X → ℕ) (a m : ℕ) (xs : List X) → a ≤ m → ((c : X) → Contains xs c → end c ≤ m)
+    → fold max a (map end xs) ≤ m
+greatest_from-least {X} end a m [] le h = le
+greatest_from-least {X} end a m (x ∷ xs) le h =
+    let here = h x (contains-here x xs) in
+    greatest_from-least end (max a (end x)) m xs (omega arith) (λ c has. h c (contains-there x c xs has))
 
-pub greatest-above : (end : Extent → ℕ) (bs : List Extent) (c : Extent) → Contains bs c → end c ≤ greatest_end end bs
-greatest-above end bs c has = greatest_from-above end 0 bs c has
+pub greatest-above : {X : Type 0} (end : X → ℕ) (xs : List X) (c : X) → Contains xs c → end c ≤ fold max 0 (map end xs)
+greatest-above {X} end xs c has = greatest_from-above end 0 xs c has
 
-pub greatest-least : (end : Extent → ℕ) (m : ℕ) (bs : List Extent) → ((c : Extent) → Contains bs c → end c ≤ m) → greatest_end end bs ≤ m
-greatest-least end m bs h = greatest_from-least end 0 m bs (omega arith) h
+pub greatest-least : {X : Type 0} (end : X → ℕ) (m : ℕ) (xs : List X) → ((c : X) → Contains xs c → end c ≤ m)
+    → fold max 0 (map end xs) ≤ m
+greatest-least {X} end m xs h = greatest_from-least end 0 m xs (omega arith) h
 
 -- ---- the first block
 

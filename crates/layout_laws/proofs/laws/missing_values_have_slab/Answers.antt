@@ -1,4 +1,4 @@
-use Rattle.layout_laws.proofs.CanonicalLength.{missing-slab}
+use Rattle.layout_laws.proofs.LayoutSlabs.{missing-slab}
 use Rattle.layout_laws.proofs.laws.missing_values_have_slab.Goals as goal
 
 pub returns : goal.returns
