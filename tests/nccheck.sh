@@ -29,18 +29,27 @@ stdout '2 checked: 1 with errors, 0 with violations, 0 with notes, 1 with nothin
 stderr 'nccheck: none.nc: cannot open\nnccheck: dir: cannot open\n'
 run "$nccheck" -q -s none.nc dir cut.nc stations.nc
 verdict summary 2
+stdout "nccheck $(cat "$top/VERSION")\n"
+run "$nccheck" -q none.nc -V -h
+verdict version_is_that_of_the_file_VERSION 0
+run bash -c '"$0" -h | head -n 1' "$nccheck"
+stdout 'usage: nccheck [-q] [-s] [-l level] [file ...]\n'
+verdict help_begins_with_the_usage 0
 stderr 'nccheck: -q: cannot open\n'
 run "$nccheck" -- -q
 verdict file_that_begins_with_a_dash 2
 for words in '' '-x cut.nc' '-l bad cut.nc' '-l' '-l note -l error cut.nc'; do
-    stderr 'usage: nccheck [-q] [-s] [-l level] file ...\n'
+    stderr 'usage: nccheck [-q] [-s] [-l level] [file ...]\n'
     # shellcheck disable=SC2086
     run "$nccheck" $words
     verdict "usage_of${words:+_}${words// /_}" 2
 done
-stderr 'usage: nccheck [-q] [-s] [-l level] file ...\n'
+stderr 'usage: nccheck [-q] [-s] [-l level] [file ...]\n'
 run "$nccheck" cut.nc $'caf\351.nc'
 verdict word_that_is_not_utf_8 2
+stderr 'nccheck: write failed\nnccheck: write failed\n'
+run bash -c '"$0" -V >&-' "$nccheck"
+verdict version_to_a_closed_standard_output 2
 stderr 'nccheck: cut.nc: write failed\nnccheck: write failed\n'
 run bash -c '"$0" cut.nc >&-' "$nccheck"
 verdict closed_standard_output 2

@@ -147,8 +147,8 @@ cp tides.cdl "$work/want/stdout"
 recipe '/dev/stdin'
 verdict file_on_standard_input 0
 
-# VERSION of each page
-for name in ncdump ncgen nccheck; do
+# VERSION of two pages
+for name in ncdump ncgen; do
     recipe "command -v $name"
     verdict "version_in_$name" 0
 done

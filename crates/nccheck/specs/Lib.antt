@@ -4,6 +4,7 @@ pub mod Details
 pub mod Lines
 pub mod CommandLine
 pub mod Faults
+pub mod Info
 pub mod Tallies
 pub mod Runs
 pub mod code

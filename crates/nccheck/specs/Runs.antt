@@ -1,6 +1,6 @@
 -- Definition. What a run of the program has done.
 use Rattle.std.specs.Prelude.{ℕ, ◌≡◌, ◌⊎◌, ◌&&◌, not, Bool, true, false, if◌then◌else◌, List, [], ◌∷◌}
-use Rattle.std.specs.Prelude.{Option, Some, None, IsSomeAnd, Result, Ok, Err}
+use Rattle.std.specs.Prelude.{Option, Some, None, IsSomeAnd, MatchOption, Result, Ok, Err}
 use Rattle.std.specs.Bool.{OnTrue}
 use Rattle.std.specs.List.{list_any}
 use Rattle.nc_base.specs.Bytes.{Bytes}
@@ -12,11 +12,12 @@ use Rattle.nc_fields.specs.declared.header.Listing.{Listing}
 use Rattle.nc_check.specs.declared.{finding.Finding.Finding, kind.Severity.Severity, report.Report.Report}
 use Rattle.cli_base.specs.declared.fault.OptFault.{OptFault}
 use Rattle.cli_base.specs.declared.fault.OptFault.TheVariants as opt
-use Rattle.nccheck.specs.CommandLine.{Asked}
+use Rattle.nccheck.specs.CommandLine.{Asked, asked_by}
 use Rattle.nccheck.specs.Faults.{file_line, flush_line, opt_fault_line}
+use Rattle.nccheck.specs.Info.{info_in, info_text}
 use Rattle.nccheck.specs.Lines.{gravest, lines}
 use Rattle.nccheck.specs.Tallies.{Answer, status_of, summary_line, tally_of}
-use Rattle.nccheck.specs.declared.fault.FileFault.{FileFault}
+use Rattle.nccheck.specs.declared.{fault.FileFault.FileFault, info.Info.Info}
 use Rattle.nccheck.specs.declared.fault.FileFault.TheVariants.{CannotOpen, ReadFailed, OutOfMemory, WriteFailed}
 
 -- ---- the check of one file
@@ -195,10 +196,20 @@ pub record RefusesWords {P : Type 0} (asked : Option Asked) (old new : State P) 
 abbrev pub RunsAsked : {P : Type 0} → Openings P → Option Asked → State P → State P → ℕ → Type 0
 RunsAsked o asked old new status = RefusesWords asked old new status ⊎ IsSomeAnd asked (λ a. RunsFiles o a old new status)
 
+-- what the program tells of itself was written, and nothing was opened
+pub record Informs {P : Type 0} (info : Info) (old new : State P) (status : ℕ) : Type 0 where
+  pub opener : new.opener ≡ old.opener
+  pub writes : Writes (info_text info) old new 0 status
+
+-- `-V` or `-h` among the words was answered, whatever else is there; without them, what the words ask for was done
+abbrev pub RunsWords : {P : Type 0} → Openings P → List Bytes → State P → State P → ℕ → Type 0
+RunsWords o words old new status =
+    MatchOption (info_in words) (RunsAsked o (asked_by words) old new status) (λ info. Informs info old new status)
+
 -- the run, and then the flush of standard output
-pub record Runs {P : Type 0} (o : Openings P) (asked : Option Asked) (old new : State P) (status : ℕ) : Type 0 where
+pub record Runs {P : Type 0} (o : Openings P) (words : List Bytes) (old new : State P) (status : ℕ) : Type 0 where
   pub mid : State P
   pub before : ℕ
-  pub runs : RunsAsked o asked old mid before
+  pub runs : RunsWords o words old mid before
   pub opener : new.opener ≡ mid.opener
   pub flushes : Writes [] mid new before status

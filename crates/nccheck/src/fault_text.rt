@@ -70,8 +70,8 @@ pub fn put_command_line_fault<W: Sink>(sink: &mut W, fault: OptFault) -> Result<
 
 /// Returns the line that says how the program is used.
 #[tactic(auto, unfolding(crate::specs::Faults::usage_line))]
-fn usage_line() -> &'static [u8]
+pub(crate) fn usage_line() -> &'static [u8]
     ensures { result.now ≡ usage_line }
 {
-    b"usage: nccheck [-q] [-s] [-l level] file ...\n"
+    b"usage: nccheck [-q] [-s] [-l level] [file ...]\n"
 }

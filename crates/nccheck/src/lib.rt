@@ -12,6 +12,7 @@ mod fault;
 mod fault_details;
 mod fault_text;
 mod field_path;
+mod info;
 mod known_names;
 mod layout_details;
 mod line;

@@ -8,15 +8,17 @@ ghost use Rattle.cli_base.specs.Arguments.{texts_of};
 ghost use Rattle.nccheck.specs.CommandLine.{asked_by};
 ghost use Rattle.nccheck.specs.code.Options.{asked_for};
 ghost use Rattle.nccheck.specs.Runs.{ChecksBytes, ChecksNamed, ChecksPath, ends_run, OpensFile, openings};
-ghost use Rattle.nccheck.specs.Runs.{ReadFailsOnly, Runs, RunsAsked, RunsFiles, shown, state, WriteFailsOnly};
+ghost use Rattle.nccheck.specs.Info.{info_text};
+ghost use Rattle.nccheck.specs.Runs.{ReadFailsOnly, Runs, RunsAsked, RunsFiles, RunsWords, shown, state, WriteFailsOnly, Writes};
 ghost use Rattle.nccheck.specs.code.Counts.{Counts};
 
 use crate::command_line::options_of_words;
 use crate::fault::FileFault;
 use crate::fault_text::{put_command_line_fault, put_file_fault, put_flush_fault};
+use crate::info::{Info, info_in, put_info};
 use crate::options::CheckOptions;
 use crate::report_lines::{gravest, put_lines};
-use crate::tally::{TROUBLE, Tally, put_summary};
+use crate::tally::{CLEAN, TROUBLE, Tally, put_summary};
 use devices::{Flush, Opener, Sink, Source, WriteFailed};
 use nc_check::{Report, Severity, check};
 use std::alloc::Global;
@@ -38,15 +40,53 @@ pub fn run_with<P: Opener, O: Flush, E: Sink>(
 ) -> u8
     ensures runs { Runs
         (openings P.Source.is_transparent (P.named opener.old) P.view)
-        (asked_by (texts_of words.now))
+        (texts_of words.now)
         (state O.Sink.view E.view opener.old out.old err.old)
         (state O.Sink.view E.view opener.new out.new err.new) result }
     ensures status { result ≤ 2 }
     ensures flushed { result ≤ 1 → O.is_flushed out.new ≡ true }
 {
-    let status = check_for_words(opener, alloc, words, out, err);
+    let status = run_words(opener, alloc, words, out, err);
     match out.flush() {
         Ok(()) => status,
+        Err(_) => {
+            let _ = put_flush_fault(err);
+            TROUBLE
+        }
+    }
+}
+
+/// Does what the words ask for, and returns the status.
+#[tactic(auto, using(crate::proofs::InTurn::is_told))]
+fn run_words<P: Opener, O: Sink, E: Sink>(
+    opener: &mut P,
+    alloc: Global,
+    words: &[&str],
+    out: &mut O,
+    err: &mut E,
+) -> u8
+    ensures runs { RunsWords
+        (openings P.Source.is_transparent (P.named opener.old) P.view)
+        (texts_of words.now)
+        (state O.view E.view opener.old out.old err.old)
+        (state O.view E.view opener.new out.new err.new) result }
+    ensures status { result ≤ 2 }
+{
+    match info_in(words) {
+        Some(info) => inform(info, out, err),
+        None => check_for_words(opener, alloc, words, out, err),
+    }
+}
+
+/// Writes what the program tells of itself, and returns the status.
+#[tactic(auto, using(crate::proofs::InTurn::is_told))]
+fn inform<O: Sink, E: Sink>(info: Info, out: &mut O, err: &mut E) -> u8
+    ensures writes { Writes (info_text info)
+        (state O.view E.view (tt {0}) out.old err.old) (state O.view E.view (tt {0}) out.new err.new) 0 result }
+    ensures status { result ≤ 2 }
+{
+    match put_info(out, info) {
+        Ok(()) => CLEAN,
         Err(_) => {
             let _ = put_flush_fault(err);
             TROUBLE

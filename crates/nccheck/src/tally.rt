@@ -9,7 +9,7 @@ use devices::{Sink, WriteFailed, put, put_decimal};
 use nc_check::Severity;
 
 /// The status of a run in which nothing was reported of any file.
-const CLEAN: u8 = 0;
+pub(crate) const CLEAN: u8 = 0;
 
 /// The status of a run in which something was reported.
 const REPORTED: u8 = 1;

@@ -8,14 +8,22 @@ use std::process::Abort;
 use test_files::{COORDINATES, TWO_RECORDS, patched};
 
 /// How the program is used.
-const USAGE: &[u8] = b"usage: nccheck [-q] [-s] [-l level] file ...\n";
+const USAGE: &[u8] = b"usage: nccheck [-q] [-s] [-l level] [file ...]\n";
+
+/// The usage, with a line an option.
+const HELP: &[u8] = b"usage: nccheck [-q] [-s] [-l level] [file ...]\n  \
+    -q        write no lines of findings\n  \
+    -s        count the files in a last line\n  \
+    -l level  report what is at least as grave: error, violation (the default) or note\n  \
+    -V        print the version\n  \
+    -h        print this help\n";
 
 /// The line of the file `names`.
 const LINE: &[u8] =
     b"names:84: violation: duplicate-name: var[1] \"x\" name: found the name of number 0\n";
 
 /// How many bytes standard output takes where it doesn't fail.
-const ROOM: usize = 256;
+const ROOM: usize = 1024;
 
 /// The words of a command line, how many bytes standard output takes, the status of the run, and what it writes to standard output and to
 /// standard error.
@@ -66,6 +74,31 @@ const RUNS: &[Run<'_>] = &[
         2,
         b"1 checked",
         b"nccheck: write failed\n",
+    ),
+    // the version and the help, whatever else is there
+    (&["nccheck", "-V"], ROOM, 0, b"nccheck 0.3.0\n", b""),
+    (&["nccheck", "-h"], ROOM, 0, HELP, b""),
+    (
+        &["nccheck", "-x", "none", "-V", "-h"],
+        ROOM,
+        0,
+        b"nccheck 0.3.0\n",
+        b"",
+    ),
+    (&["nccheck", "-q", "-q", "-h", "-V"], ROOM, 0, HELP, b""),
+    (
+        &["nccheck", "-V"],
+        9,
+        2,
+        b"nccheck 0",
+        b"nccheck: write failed\n",
+    ),
+    (
+        &["nccheck", "--", "-V", "-h"],
+        ROOM,
+        2,
+        b"",
+        b"nccheck: -V: cannot open\nnccheck: -h: cannot open\n",
     ),
     // a run ends if standard output fails, and the files aren't counted
     (

@@ -1,4 +1,4 @@
-use Rattle.std.proofs.Common.{◌≡◌, ◌∙◌, ◌+◌, List, drop, ap, subst, sym}
+use Rattle.std.proofs.Common.{◌∙◌, ◌+◌, List, drop, ap, subst, sym}
 use Rattle.cli_base.specs.Arguments.{texts_of}
 use Rattle.nc_base.specs.Bytes.{Bytes}
 use Rattle.nccheck.specs.Runs.{openings, RunsOver, state}

@@ -1,4 +1,4 @@
-use Rattle.std.proofs.Common.{◌≤◌, drop}
+use Rattle.std.proofs.Common.{drop}
 use Rattle.cli_base.specs.Arguments.{texts_of}
 use Rattle.devices.specs.code.PathOpens.{NamesAsBefore}
 use Rattle.nccheck.specs.Runs.{openings, state}

@@ -1,0 +1,7 @@
+use Rattle.std.proofs.Common.{◌≡◌, drop}
+use Rattle.cli_base.specs.Arguments.{texts_of}
+use Rattle.nccheck.specs.Info.{info_among}
+use Rattle.nccheck.proofs.info.info_among.Given as goal
+
+abbrev pub invariant-loop-word : goal.invariant-loop-word
+invariant-loop-word l = info_among (texts_of l.words) ≡ info_among (texts_of (drop l.word-index l.words))

@@ -1,0 +1,37 @@
+-- Definition. What `-V` and `-h` ask for, and what they write.
+use Rattle.std.specs.Prelude.{if◌then◌else◌, List, [], ◌∷◌, ◌++◌, codes, Option, Some, None}
+use Rattle.std.specs.Str.{bytes_eq}
+use Rattle.nc_base.specs.Bytes.{Bytes}
+use Rattle.nccheck.specs.Faults.{usage_line}
+use Rattle.nccheck.specs.declared.info.Info.{Info}
+use Rattle.nccheck.specs.declared.info.Info.TheVariants.{Version, Help}
+
+-- what the first of the words asks for that is `-V` or `-h`; the words after `--` are files
+abbrev pub info_among : List Bytes → Option Info
+info_among [] = None
+info_among (word ∷ words) =
+    if bytes_eq word (codes "-V") then Some Version
+    else if bytes_eq word (codes "-h") then Some Help
+    else if bytes_eq word (codes "--") then None
+    else info_among words
+
+-- the first word is the program's name
+abbrev pub info_in : List Bytes → Option Info
+info_in [] = None
+info_in (name ∷ words) = info_among words
+
+unfoldable pub version_line : Bytes
+version_line = codes "nccheck 0.3.0\n"
+
+-- a line for each option
+unfoldable pub option_lines : Bytes
+option_lines =
+    codes "  -q        write no lines of findings\n"
+    ++ codes "  -s        count the files in a last line\n"
+    ++ codes "  -l level  report what is at least as grave: error, violation (the default) or note\n"
+    ++ codes "  -V        print the version\n"
+    ++ codes "  -h        print this help\n"
+
+unfoldable pub info_text : Info → Bytes
+info_text Version = version_line
+info_text Help = usage_line ++ option_lines

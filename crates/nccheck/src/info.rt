@@ -1,0 +1,84 @@
+//! What `-V` and `-h` ask for.
+
+ghost use Rattle.std.specs.Prelude.{◌≡◌};
+ghost use Rattle.devices.specs.code.SinkWrites.{Wrote};
+ghost use Rattle.cli_base.specs.Arguments.{texts_of};
+ghost use Rattle.nccheck.specs.Info.{info_among, info_in, info_text, option_lines, version_line};
+
+use crate::fault_text::usage_line;
+use devices::{Sink, WriteFailed, put};
+
+/// What the program tells of itself.
+#[derive(Clone, Copy, Debug, PartialEq, Eq)]
+pub(crate) enum Info {
+    /// The version: `-V`.
+    Version,
+    /// How the program is used, with its options: `-h`.
+    Help,
+}
+
+/// Returns what the first word asks for that is `-V` or `-h`, if there is one before `--`. The program's name is not looked at.
+pub(crate) fn info_in(words: &[&str]) -> Option<Info>
+    ensures { result ≡ info_in (texts_of words.now) }
+{
+    match words {
+        [_name, words @ ..] => info_among(words),
+        [] => None,
+    }
+}
+
+/// Returns what the first of these words asks for that is `-V` or `-h`, if there is one before `--`.
+fn info_among(words: &[&str]) -> Option<Info>
+    ensures { result ≡ info_among (texts_of words.now) }
+{
+    for word in words {
+        if *word == "-V" {
+            return Some(Info::Version);
+        }
+        if *word == "-h" {
+            return Some(Info::Help);
+        }
+        if *word == "--" {
+            return None;
+        }
+    }
+    None
+}
+
+/// Writes what the program tells of itself.
+///
+/// # Errors
+///
+/// The sink failed. It took some prefix of the text.
+#[tactic(auto, using(devices::proofs::Writes::writes), unfolding(crate::specs::Info::info_text))]
+pub(crate) fn put_info<W: Sink>(sink: &mut W, info: Info) -> Result<(), WriteFailed>
+    ensures { Wrote W.view sink.old sink.new (info_text info) result }
+{
+    match info {
+        Info::Version => put(sink, version_line()),
+        Info::Help => {
+            put(sink, usage_line())?;
+            put(sink, option_lines())
+        }
+    }
+}
+
+/// Returns the line that says which version this is.
+#[tactic(auto, unfolding(crate::specs::Info::version_line))]
+fn version_line() -> &'static [u8]
+    ensures { result.now ≡ version_line }
+{
+    b"nccheck 0.3.0\n"
+}
+
+/// Returns the lines that say what each option does.
+#[tactic(auto, unfolding(crate::specs::Info::option_lines))]
+fn option_lines() -> &'static [u8]
+    ensures { result.now ≡ option_lines }
+{
+    b"  -q        write no lines of findings\n  \
+    -s        count the files in a last line\n  \
+    -l level  report what is at least as grave: error, violation (the default) or note\n  \
+    -V        print the version\n  \
+    -h        print this help\n"
+}
