@@ -33,18 +33,20 @@ stdout "nccheck $(cat "$top/VERSION")\n"
 run "$nccheck" -q none.nc -V -h
 verdict version_is_that_of_the_file_VERSION 0
 run bash -c '"$0" -h | head -n 1' "$nccheck"
-stdout 'usage: nccheck [-q] [-s] [-l level] [file ...]\n'
+stdout 'usage: nccheck [-q] [-s] [-l level] [-i kinds] [file ...]\n'
 verdict help_begins_with_the_usage 0
 stderr 'nccheck: -q: cannot open\n'
 run "$nccheck" -- -q
 verdict file_that_begins_with_a_dash 2
-for words in '' '-x cut.nc' '-l bad cut.nc' '-l' '-l note -l error cut.nc'; do
-    stderr 'usage: nccheck [-q] [-s] [-l level] [file ...]\n'
+run "$nccheck" -i missing,gap cut.nc
+verdict ignored_kinds 0
+for words in '' '-x cut.nc' '-i wrong cut.nc' '-l bad cut.nc' '-l' '-l note -l error cut.nc'; do
+    stderr 'usage: nccheck [-q] [-s] [-l level] [-i kinds] [file ...]\n'
     # shellcheck disable=SC2086
     run "$nccheck" $words
     verdict "usage_of${words:+_}${words// /_}" 2
 done
-stderr 'usage: nccheck [-q] [-s] [-l level] [file ...]\n'
+stderr 'usage: nccheck [-q] [-s] [-l level] [-i kinds] [file ...]\n'
 run "$nccheck" cut.nc $'caf\351.nc'
 verdict word_that_is_not_utf_8 2
 stderr 'nccheck: write failed\nnccheck: write failed\n'

@@ -1,12 +1,15 @@
 -- Definition. What the words of the command line ask for.
-use Rattle.std.specs.Prelude.{Bool, List, [], ◌∷◌, codes, Option, Some, None, fold, if◌then◌else◌}
-use Rattle.std.specs.Str.{bytes_eq}
+use Rattle.std.specs.Prelude.{ℕ, ◌==◌, Bool, List, [], ◌∷◌, codes, Option, Some, None, fold, if◌then◌else◌}
+use Rattle.std.specs.List.{list_all, slice_split}
+use Rattle.std.specs.Str.{byte, bytes_eq}
 use Rattle.clap.specs.Words.{App, Row, Rule, all_of, fault_of, first_of, matches_of, new_app, new_rule, with_rule}
 use Rattle.clap.specs.declared.builder.ArgAction.TheVariants.{Append}
 use Rattle.cli_base.specs.Arguments.{flag, if_faultless, is_given, option, quiet}
 use Rattle.nc_base.specs.Bytes.{Bytes}
 use Rattle.nc_check.specs.declared.kind.Severity.{Severity}
 use Rattle.nc_check.specs.declared.kind.Severity.TheVariants.{Error, Violation, Note}
+use Rattle.nccheck.specs.KindWords.{is_kind_word}
+use Rattle.nccheck.specs.Lines.{Filter}
 
 -- ---- the command, as a parse reads it
 
@@ -14,10 +17,11 @@ use Rattle.nc_check.specs.declared.kind.Severity.TheVariants.{Error, Violation, 
 abbrev pub files_rule : Rule
 files_rule = record (new_rule (codes "file")) { action = Some Append }
 
--- `nccheck [-q] [-s] [-l level] file ...`
+-- `nccheck [-q] [-s] [-l level] [-i kinds] file ...`
 unfoldable pub nccheck : App
 nccheck = fold with_rule (quiet (new_app (codes "nccheck"))) (
-    flag (codes "quiet") (codes "q") ∷ flag (codes "summary") (codes "s") ∷ option (codes "level") (codes "l") ∷ files_rule ∷ [])
+    flag (codes "quiet") (codes "q") ∷ flag (codes "summary") (codes "s") ∷ option (codes "level") (codes "l")
+    ∷ option (codes "ignored") (codes "i") ∷ files_rule ∷ [])
 
 -- ---- what its entries ask for
 
@@ -33,22 +37,37 @@ abbrev pub level_in : Option Bytes → Option Severity
 level_in None = Some Violation
 level_in (Some word) = level_said word
 
+-- the words of kinds, with commas between them
+abbrev pub kinds_said : Bytes → Option (List Bytes)
+kinds_said word =
+    let words = slice_split (λ (b : ℕ). b == byte ",") word in
+    if list_all is_kind_word words then Some words else None
+
+-- those of `-i`, otherwise none
+abbrev pub ignored_in : Option Bytes → Option (List Bytes)
+ignored_in None = Some []
+ignored_in (Some word) = kinds_said word
+
 -- the paths of files, what to report of them, and whether to count them
 pub record Asked : Type 0 where
   pub files : List Bytes
-  pub level : Severity
+  pub filter : Filter
   pub is_quiet : Bool
   pub is_counted : Bool
 
--- the files and the level of the entries, and whether they ask for quiet and for a count
-abbrev pub asked_with : Option (List Bytes) → Option Severity → Bool → Bool → Option Asked
-asked_with (Some files) (Some level) is_quiet is_counted =
-    Some (record { files = files; level = level; is_quiet = is_quiet; is_counted = is_counted })
-asked_with files level is_quiet is_counted = None
+-- the entries, with the files, the level and the ignored kinds that they give
+abbrev pub asked_with : List Row → Option (List Bytes) → Option Severity → Option (List Bytes) → Option Asked
+asked_with rows (Some files) (Some level) (Some ignored) = Some (record {
+  files = files;
+  filter = record { level = level; ignored = ignored };
+  is_quiet = is_given rows (codes "quiet");
+  is_counted = is_given rows (codes "summary");
+})
+asked_with rows files level ignored = None
 
 unfoldable pub asked_in : List Row → Option Asked
-asked_in rows = asked_with (all_of (codes "file") rows) (level_in (first_of (codes "level") rows)) (is_given rows (codes "quiet"))
-    (is_given rows (codes "summary"))
+asked_in rows =
+    asked_with rows (all_of (codes "file") rows) (level_in (first_of (codes "level") rows)) (ignored_in (first_of (codes "ignored") rows))
 
 -- the first word is the program's name
 unfoldable pub asked_by : List Bytes → Option Asked

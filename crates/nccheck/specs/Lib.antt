@@ -1,4 +1,5 @@
 pub mod Words
+pub mod KindWords
 pub mod Paths
 pub mod Details
 pub mod Lines

@@ -1,8 +1,9 @@
 -- Definition. The line of a finding, `FILE:OFFSET: SEVERITY: KIND: PATH`, with `: found F, expected E` where its kind has them; and the lines
 -- of a report.
-use Rattle.std.specs.Prelude.{ℕ, ◌+◌, ◌&&◌, Bool, true, false, if◌then◌else◌, List, [], ◌∷◌, codes, decimal, take, Option, Some, None, slice_get, Result}
+use Rattle.std.specs.Prelude.{ℕ, ◌+◌, ◌&&◌, not, Bool, true, false, if◌then◌else◌, List, [], ◌∷◌, codes, decimal, take, Option, Some, None, slice_get, Result}
 use Rattle.std.specs.List.{list_any}
 use Rattle.std.specs.Option.{option_and_then}
+use Rattle.std.specs.Str.{bytes_eq}
 use Rattle.nc_base.specs.Bytes.{Bytes, concat_parts}
 use Rattle.nc_base.specs.declared.{fault.FormatFault.FormatFault, header.Header.Header}
 use Rattle.nc_fields.specs.declared.{entry.Entry.Entry, header.Listing.Listing}
@@ -65,29 +66,35 @@ is_at_level Violation severity = true
 is_at_level Error Error = true
 is_at_level Error severity = false
 
-abbrev pub is_reported : Severity → Finding → Bool
-is_reported level f = is_at_level level (severity_of (kind_of f.fact))
+-- the level from which on findings are reported, and the words of the kinds that aren't
+pub record Filter : Type 0 where
+  pub level : Severity
+  pub ignored : List Bytes
+
+abbrev pub is_ignored : List Bytes → Kind → Bool
+is_ignored words kind = list_any (λ (word : Bytes). bytes_eq word (kind_word kind)) words
+
+abbrev pub is_reported : Filter → Finding → Bool
+is_reported filter f =
+    is_at_level filter.level (severity_of (kind_of f.fact)) && not (is_ignored filter.ignored (kind_of f.fact))
 
 -- the line of a finding, if it is reported
-abbrev pub line_if : Severity → Bytes → Listing → Finding → Bytes
-line_if level file l f = if is_reported level f then line file l f else []
+abbrev pub line_if : Filter → Bytes → Listing → Finding → Bytes
+line_if filter file l f = if is_reported filter f then line file l f else []
 
 -- the lines of these findings
-abbrev pub lines : Severity → Bytes → Listing → List Finding → Bytes
-lines level file l findings = each_of (line_if level file l) findings
+abbrev pub lines : Filter → Bytes → Listing → List Finding → Bytes
+lines filter file l findings = each_of (line_if filter file l) findings
 
--- one of them is reported
-abbrev pub has_reported : Severity → List Finding → Bool
-has_reported level findings = list_any (is_reported level) findings
-
--- one of this severity, or a graver one, is reported at the level
-abbrev pub has_reported_at : Severity → Severity → List Finding → Bool
-has_reported_at level severity findings = is_at_level level severity && has_reported severity findings
+-- one of them is reported, and is of this severity or a graver one
+abbrev pub has_reported : Filter → Severity → List Finding → Bool
+has_reported filter severity findings =
+    list_any (λ (f : Finding). is_reported filter f && is_at_level severity (severity_of (kind_of f.fact))) findings
 
 -- the gravest severity of those that are reported
-abbrev pub gravest : Severity → List Finding → Option Severity
-gravest level findings =
-    if has_reported_at level Error findings then Some Error
-    else if has_reported_at level Violation findings then Some Violation
-    else if has_reported_at level Note findings then Some Note
+abbrev pub gravest : Filter → List Finding → Option Severity
+gravest filter findings =
+    if has_reported filter Error findings then Some Error
+    else if has_reported filter Violation findings then Some Violation
+    else if has_reported filter Note findings then Some Note
     else None

@@ -24,14 +24,14 @@ use Rattle.nccheck.specs.declared.fault.FileFault.TheVariants.{CannotOpen, ReadF
 
 -- the lines of these findings that are asked for; none in a quiet run
 abbrev pub shown : Asked → Bytes → Listing → List Finding → Bytes
-shown a file l findings = if a.is_quiet then [] else lines a.level file l findings
+shown a file l findings = if a.is_quiet then [] else lines a.filter file l findings
 
 -- the file has these bytes; its lines were written, unless it was quiet, and the answer is the gravest severity that was reported
 pub record Checks (a : Asked) (bytes file : Bytes) (old new : SinkView) (reported : Option Severity) : Type 0 where
   pub report : Report
   pub is_report : IsReport bytes report
   pub text : Appended old new (shown a file report.listing report.findings)
-  pub said : reported ≡ gravest a.level report.findings
+  pub said : reported ≡ gravest a.filter report.findings
 
 -- the file has these bytes, and a prefix of its lines was written before standard output failed (a quiet run writes none)
 pub record BreaksOff (a : Asked) (bytes file : Bytes) (old new : SinkView) : Type 0 where

@@ -1,20 +1,24 @@
 //! The words of the command line.
 
-ghost use Rattle.std.specs.Prelude.{◌≡◌, false, IfOk};
+ghost use Rattle.std.specs.Prelude.{◌≡◌, ℕ, ◌==◌, false, IfOk, option_map};
+ghost use Rattle.std.specs.List.{list_all, slice_split};
+ghost use Rattle.std.specs.Str.{byte};
 ghost use Rattle.clap.specs.Words.{all_of, app_of, found_of, rows_of, rule_of};
 ghost use Rattle.cli_base.specs.Arguments.{texts_of};
 ghost use Rattle.cli_base.specs.code.Answers.{AnswersBy, text_of};
-ghost use Rattle.nccheck.specs.CommandLine.{asked_by, asked_in, files_rule, level_in, level_said, nccheck};
+ghost use Rattle.nccheck.specs.CommandLine.{asked_by, asked_in, files_rule, ignored_in, kinds_said, level_in, level_said, nccheck};
+ghost use Rattle.nccheck.specs.KindWords.{is_kind_word};
 ghost use Rattle.nccheck.specs.code.Options.{asked_for, texts_in};
 
-use crate::options::CheckOptions;
+use crate::kind_words::is_kind_word;
+use crate::options::{CheckOptions, FilterOptions};
 use clap::{Arg, ArgAction, ArgMatches, Command};
 use cli_base::{OptFault, flag, is_given, option, value_of};
 use nc_base::Sequence;
 use nc_check::Severity;
 use std::alloc::{AllocError, Global};
 
-/// Returns the command `nccheck [-q] [-s] [-l level] file ...` of nccheck(1).
+/// Returns the command `nccheck [-q] [-s] [-l level] [-i kinds] file ...` of nccheck(1).
 ///
 /// The command takes each option at most once, before, between or after the files. [`options_of`] reads the matches of the command.
 ///
@@ -30,6 +34,7 @@ pub fn command<'a>(alloc: Global) -> Result<Command<'a>, AllocError>
         .arg(flag(alloc, "quiet", 'q'))?
         .arg(flag(alloc, "summary", 's'))?
         .arg(option(alloc, "level", 'l'))?
+        .arg(option(alloc, "ignored", 'i'))?
         .arg(files(alloc))
 }
 
@@ -57,21 +62,22 @@ pub(crate) fn options_of_words<'a>(
 }
 
 /// Returns the options that the matches of [`command`] ask for. [`CheckOptions`] says which field each option gives. Without `-l`, violations
-/// and errors are reported.
+/// and errors are reported, and without `-i`, findings of all kinds.
 ///
 /// # Errors
 ///
-/// [`OptFault::Usage`] if no file is named, or if the value of `-l` isn't `error`, `violation` or `note`. [`OptFault::OutOfMemory`] only if
-/// an allocation failed.
+/// [`OptFault::Usage`] if no file is named, if the value of `-l` isn't `error`, `violation` or `note`, or if a part of the value of `-i` between
+/// its commas isn't the word of a kind. [`OptFault::OutOfMemory`] only if an allocation failed.
 #[tactic(auto, unfolding(crate::specs::CommandLine::asked_in))]
 pub fn options_of<'a>(alloc: Global, matches: &ArgMatches<'a>) -> Result<CheckOptions<'a>, OptFault>
     ensures { AnswersBy asked_for (asked_in (rows_of (found_of matches.now))) result }
 {
     let files = values_of(matches, "file").ok_or(OptFault::Usage)?;
     let level = level_in(value_of(matches, "level")).ok_or(OptFault::Usage)?;
+    let ignored = ignored_in(alloc, value_of(matches, "ignored"))?.ok_or(OptFault::Usage)?;
     Ok(CheckOptions {
         files: Sequence::from_vec(Vec::from_slice(alloc, files)?),
-        level,
+        filter: FilterOptions { level, ignored },
         is_quiet: is_given(matches, "quiet"),
         is_counted: is_given(matches, "summary"),
     })
@@ -108,4 +114,49 @@ fn level_of(word: &str) -> Option<Severity>
     } else {
         None
     }
+}
+
+/// Returns the words of the kinds that `word`, the value of `-i`, has, or no words if there is no value. Returns `None` if one of them isn't the
+/// word of a kind. Errs only if an allocation failed.
+fn ignored_in<'a>(
+    alloc: Global,
+    word: Option<&'a str>,
+) -> Result<Option<Sequence<&'a str>>, AllocError>
+    ensures { IfOk result (λ words. option_map texts_of words ≡ ignored_in (text_of word.entry)) }
+{
+    match word {
+        Some(word) => kinds_in(alloc, word),
+        None => Ok(Some(Sequence::new(alloc))),
+    }
+}
+
+/// Returns the parts of `word` between its commas, or `None` if one of them isn't the word of a kind. Errs only if an allocation failed.
+fn kinds_in<'a>(alloc: Global, word: &'a str) -> Result<Option<Sequence<&'a str>>, AllocError>
+    ensures { IfOk result (λ words. option_map texts_of words ≡ kinds_said word.entry.now) }
+{
+    let words = parts_of(alloc, word)?;
+    if are_kinds(words.as_slice()) {
+        Ok(Some(words))
+    } else {
+        Ok(None)
+    }
+}
+
+/// Returns the parts of `word` between its commas, also empty ones. Errs only if an allocation failed.
+fn parts_of<'a>(alloc: Global, word: &'a str) -> Result<Sequence<&'a str>, AllocError>
+    ensures { IfOk result (λ words. texts_of words ≡ slice_split (λ (b : ℕ). b == byte ",") word.entry.now) }
+{
+    Ok(Sequence::from_vec(word.split(',').collect(alloc)?))
+}
+
+/// Returns true if each of the words is that of a kind.
+fn are_kinds(words: &[&str]) -> bool
+    ensures { result ≡ list_all is_kind_word (texts_of words.now) }
+{
+    for word in words {
+        if !is_kind_word(word) {
+            return false;
+        }
+    }
+    true
 }

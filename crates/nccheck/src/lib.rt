@@ -1,6 +1,6 @@
 //! The program `nccheck`, which says what is wrong or odd in netCDF classic files: its lines, its options, and its whole run.
 //!
-//! [`put_lines`] writes a line for each finding of a report that is grave enough, and [`has_reported`] says whether there is one.
+//! [`put_lines`] writes a line for each finding of a report that is to be reported, and [`gravest`] says how grave the gravest of them is.
 //! [`options_of`] reads the matches of [`command`]. [`run_with`] is the whole program, but its caller gives it the opener of files and the
 //! standard streams, and flushes standard error.
 #![tactic(auto)]
@@ -13,6 +13,7 @@ mod fault_details;
 mod fault_text;
 mod field_path;
 mod info;
+mod kind_words;
 mod known_names;
 mod layout_details;
 mod line;
@@ -27,6 +28,6 @@ mod words;
 pub use cli_base::OptFault;
 pub use command_line::{command, options_of};
 pub use fault_text::put_command_line_fault;
-pub use options::CheckOptions;
-pub use report_lines::{gravest, has_reported, put_lines};
+pub use options::{CheckOptions, FilterOptions};
+pub use report_lines::{gravest, put_lines};
 pub use running::run_with;

@@ -82,7 +82,7 @@ fn run_words<P: Opener, O: Sink, E: Sink>(
 #[tactic(auto, using(crate::proofs::InTurn::is_told))]
 fn inform<O: Sink, E: Sink>(info: Info, out: &mut O, err: &mut E) -> u8
     ensures writes { Writes (info_text info)
-        (state O.view E.view (tt {0}) out.old err.old) (state O.view E.view (tt {0}) out.new err.new) 0 result }
+        (state O.view E.view (tt {0}) out.old err.old) (state O.view E.view tt out.new err.new) 0 result }
     ensures status { result ≤ 2 }
 {
     match put_info(out, info) {
@@ -263,7 +263,7 @@ fn check_source<S: Source, O: Sink>(
     let mut buf = [0u8; BUFFER_LEN];
     let report = check(alloc, source, &mut buf)?;
     put_unless_quiet(out, file, &report, options)?;
-    Ok(gravest(&report, options.level))
+    Ok(gravest(&report, &options.filter))
 }
 
 /// Writes the lines of a report, unless the options ask for none: then it doesn't err.
@@ -281,6 +281,6 @@ fn put_unless_quiet<O: Sink>(
     if options.is_quiet {
         Ok(())
     } else {
-        put_lines(out, file.as_bytes(), report, options.level)
+        put_lines(out, file.as_bytes(), report, &options.filter)
     }
 }

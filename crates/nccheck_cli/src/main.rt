@@ -1,4 +1,4 @@
-//! The program `nccheck [-q] [-s] [-l level] [file ...]`: what is wrong or odd in netCDF classic files.
+//! The program `nccheck [-q] [-s] [-l level] [-i kinds] [file ...]`: what is wrong or odd in netCDF classic files.
 //!
 //! A line on standard output tells each finding, and a line on standard error each trouble. The exit status is 0 if nothing was reported,
 //! 1 if something was, and 2 after trouble.

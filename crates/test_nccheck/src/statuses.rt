@@ -8,13 +8,14 @@ use std::process::Abort;
 use test_files::{COORDINATES, TWO_RECORDS, patched};
 
 /// How the program is used.
-const USAGE: &[u8] = b"usage: nccheck [-q] [-s] [-l level] [file ...]\n";
+const USAGE: &[u8] = b"usage: nccheck [-q] [-s] [-l level] [-i kinds] [file ...]\n";
 
 /// The usage, with a line an option.
-const HELP: &[u8] = b"usage: nccheck [-q] [-s] [-l level] [file ...]\n  \
+const HELP: &[u8] = b"usage: nccheck [-q] [-s] [-l level] [-i kinds] [file ...]\n  \
     -q        write no lines of findings\n  \
     -s        count the files in a last line\n  \
     -l level  report what is at least as grave: error, violation (the default) or note\n  \
+    -i kinds  report nothing of these kinds, which have commas between them\n  \
     -V        print the version\n  \
     -h        print this help\n";
 
@@ -74,6 +75,52 @@ const RUNS: &[Run<'_>] = &[
         2,
         b"1 checked",
         b"nccheck: write failed\n",
+    ),
+    // kinds that are ignored, and words that name no kinds
+    (
+        &["nccheck", "-i", "duplicate-name", "names"],
+        ROOM,
+        0,
+        b"",
+        b"",
+    ),
+    (
+        &[
+            "nccheck",
+            "-i",
+            "vsize,duplicate-name,gap",
+            "-s",
+            "names",
+            "clean",
+            "text",
+        ],
+        ROOM,
+        1,
+        b"text:0: error: not-netcdf: magic: found 0x6e6574, expected 0x434446\n\
+        3 checked: 1 with errors, 0 with violations, 0 with notes, 2 with nothing to report; 0 not checked\n",
+        b"",
+    ),
+    (
+        &["nccheck", "-i", "duplicate-nam,vsize", "names"],
+        ROOM,
+        2,
+        b"",
+        USAGE,
+    ),
+    (
+        &["nccheck", "-i", "duplicate-name,", "names"],
+        ROOM,
+        2,
+        b"",
+        USAGE,
+    ),
+    (&["nccheck", "-i", "", "names"], ROOM, 2, b"", USAGE),
+    (
+        &["nccheck", "-i", "gap", "-i", "vsize", "names"],
+        ROOM,
+        2,
+        b"",
+        USAGE,
     ),
     // the version and the help, whatever else is there
     (&["nccheck", "-V"], ROOM, 0, b"nccheck 0.3.0\n", b""),

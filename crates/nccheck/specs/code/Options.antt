@@ -3,10 +3,14 @@ use Rattle.std.specs.Borrow.{Bor}
 use Rattle.std.specs.Prelude.{ℕ, List, Option, option_map}
 use Rattle.cli_base.specs.Arguments.{texts_of}
 use Rattle.nccheck.specs.CommandLine.{Asked}
-use Rattle.nccheck.specs.declared.options.CheckOptions.{CheckOptions}
+use Rattle.nccheck.specs.Lines.{Filter}
+use Rattle.nccheck.specs.declared.{options.CheckOptions.CheckOptions, options.FilterOptions.FilterOptions}
+
+abbrev pub filter_for : FilterOptions → Filter
+filter_for o = record { level = o.level; ignored = texts_of o.ignored }
 
 abbrev pub asked_for : CheckOptions → Asked
-asked_for o = record { files = texts_of o.files; level = o.level; is_quiet = o.is_quiet; is_counted = o.is_counted }
+asked_for o = record { files = texts_of o.files; filter = filter_for o.filter; is_quiet = o.is_quiet; is_counted = o.is_counted }
 
 -- the texts that are borrowed
 abbrev pub texts_in : Option (Bor (List (Bor (List ℕ)))) → Option (List (List ℕ))

@@ -1,0 +1,56 @@
+//! The words that name kinds.
+
+ghost use Rattle.std.specs.Prelude.{◌≡◌};
+ghost use Rattle.nccheck.specs.KindWords.{EachKindHasAWord, is_kind_word};
+
+use crate::words::kind_word;
+use nc_check::Kind;
+
+/// All kinds of findings, in their order.
+pub(crate) const KINDS: &[Kind] = &[
+    Kind::NotNetcdf,
+    Kind::UnknownVersion,
+    Kind::HeaderTruncated,
+    Kind::BadTag,
+    Kind::BadCount,
+    Kind::BadName,
+    Kind::FloatingType,
+    Kind::BadType,
+    Kind::BadShape,
+    Kind::TwoRecordDims,
+    Kind::TooLarge,
+    Kind::BadOffset,
+    Kind::Streaming,
+    Kind::UnusedRecords,
+    Kind::RecordCount,
+    Kind::EmptyList,
+    Kind::LongName,
+    Kind::DuplicateName,
+    Kind::NotNfc,
+    Kind::Padding,
+    Kind::EmptyAttribute,
+    Kind::TrailingNul,
+    Kind::FillValue,
+    Kind::HighRank,
+    Kind::Vsize,
+    Kind::LargeVariable,
+    Kind::BeginInHeader,
+    Kind::Overlap,
+    Kind::Unpadded,
+    Kind::Order,
+    Kind::AfterRecords,
+    Kind::RecordPlace,
+    Kind::Gap,
+    Kind::Missing,
+    Kind::EndPadding,
+    Kind::Trailing,
+];
+
+/// Returns true if the word is that of a kind. Each kind has one.
+#[tactic(auto, unfolding(crate::specs::KindWords::is_kind_word))]
+pub(crate) fn is_kind_word(word: &str) -> bool
+    ensures word { result ≡ is_kind_word word.now }
+    ensures all { EachKindHasAWord }
+{
+    KINDS.iter().any(|kind| word == kind_word(*kind))
+}
