@@ -199,8 +199,8 @@ fn put_fill(text: &mut [u8], line: LastLine, width: usize) -> LastLine
 
 /// Puts a number in decimal at the end of the line, after `, `, and on a new line if it doesn't fit. Returns the last line after it.
 /// `width` is how many bytes a line may have. Needs an absolute value below 2^64, and room for 28 bytes in `text`: 21 of the number, and 7
-/// before it.
-#[inline(always)]
+/// before it. It isn't inlined: the loop of each type is small then, so that the type is chosen once and not for each number.
+#[inline(never)]
 fn put_decimal_in_row(text: &mut [u8], line: LastLine, width: usize, number: i128) -> LastLine
     requires magnitude { unsigned_abs number < 2 ^ 64 }
     requires fits { line.end + 28 ≤ length text.old }
