@@ -1,11 +1,15 @@
 /* What a tuned loop takes for the same values as limit.c: four digits at once from a table, the number of digits by the leading zeros, a
- * text for each of the 256 bytes, and a loop for each type. It writes lines of at most 80 bytes through one buffer.
+ * text for each of the 256 bytes, stores of a fixed length, and a loop for each type. It writes lines of at most 80 bytes through one
+ * buffer, whose room it asks for once a number, and reads the file where the system maps it.
  *
  * tuned_limit FILE BEGIN VARIABLES STEP SLABS STRIDE VALUES SIZE SIGNED: as limit.c has it. */
+#define _GNU_SOURCE
+#include <fcntl.h>
 #include <stdint.h>
 #include <stdio.h>
 #include <stdlib.h>
 #include <string.h>
+#include <sys/mman.h>
 #include <sys/stat.h>
 
 /* the most bytes that a number takes, with what stands before it */
@@ -19,13 +23,17 @@ static struct {
 } bytes_text[256];
 
 static char out[1 << 16];
-static char *at = out;
-static size_t column = 4;
 
-static void flush(void)
+/* where the next byte goes, and in which column */
+struct place {
+    char *at;
+    size_t column;
+};
+
+static char *flush(char *at)
 {
     fwrite(out, 1, (size_t)(at - out), stdout);
-    at = out;
+    return out;
 }
 
 static inline size_t len_of(uint64_t n)
@@ -34,93 +42,112 @@ static inline size_t len_of(uint64_t n)
     return guess + (n >= tens[guess]) + (n == 0);
 }
 
-static inline void put_digits(char *end, uint64_t n)
+/* the last `len` digits of a number below 10000, of which four are stored */
+static inline void put_quad(char *to, size_t len, uint32_t n)
 {
-    while (n >= 10000) {
+    uint32_t quad;
+    memcpy(&quad, quads + 4 * n, 4);
+    quad >>= 8 * (4 - len);
+    memcpy(to, &quad, 4);
+}
+
+static inline void put_digits(char *to, size_t len, uint64_t n)
+{
+    char *end = to + len;
+    while (n >= 100000000) {
         uint64_t rest = n / 10000;
         memcpy(end -= 4, quads + 4 * (n - rest * 10000), 4);
         n = rest;
     }
-    size_t len = len_of(n);
-    memcpy(end - len, quads + 4 * n + (4 - len), len);
-}
-
-static inline void put_lead(size_t len)
-{
-    memcpy(at, ", ", 2);
-    at += 2;
-    column += 2;
-    if (column + len + 2 > 80) {
-        memcpy(at, "\n    ", 5);
-        at += 5;
-        column = 4;
+    len = (size_t)(end - to);
+    uint32_t low = (uint32_t)n;
+    if (len <= 4) {
+        put_quad(to, len, low);
+        return;
     }
-    column += len;
+    uint32_t high = low / 10000;
+    put_quad(to, len - 4, high);
+    memcpy(end - 4, quads + 4 * (low - high * 10000), 4);
 }
 
-static inline void put_number(int is_negative, uint64_t n)
+static inline void put_lead(struct place *to, size_t len)
 {
-    size_t len = len_of(n) + (size_t)is_negative;
-    put_lead(len);
-    *at = '-';
-    put_digits(at + len, n);
-    at += len;
+    memcpy(to->at, ", ", 2);
+    to->at += 2;
+    to->column += 2;
+    if (to->column + len + 2 > 80) {
+        memcpy(to->at, "\n    ", 5);
+        to->at += 5;
+        to->column = 4;
+    }
+    to->column += len;
 }
 
-static inline void put_signed(int64_t n)
+static inline void put_number(struct place *to, int is_negative, uint64_t n)
 {
-    put_number(n < 0, n < 0 ? 0 - (uint64_t)n : (uint64_t)n);
+    size_t len = len_of(n);
+    put_lead(to, len + (size_t)is_negative);
+    *to->at = '-';
+    to->at += is_negative;
+    put_digits(to->at, len, n);
+    to->at += len;
 }
 
-static inline void put_byte(unsigned char b)
+static inline void put_signed(struct place *to, int64_t n)
+{
+    put_number(to, n < 0, n < 0 ? 0 - (uint64_t)n : (uint64_t)n);
+}
+
+static inline void put_byte(struct place *to, unsigned char b)
 {
     size_t len = bytes_text[b].len;
-    put_lead(len);
-    memcpy(at, bytes_text[b].text, 8);
-    at += len;
+    put_lead(to, len);
+    memcpy(to->at, bytes_text[b].text, 8);
+    to->at += len;
 }
 
-static inline void put_values(const unsigned char *from, uint64_t values, int size, int is_signed)
+static inline struct place put_values(struct place to, const unsigned char *from, uint64_t values, int size, int is_signed)
 {
     for (uint64_t i = 0; i < values; i++, from += size) {
-        if (sizeof out - (size_t)(at - out) < MOST)
-            flush();
+        if (sizeof out - (size_t)(to.at - out) < MOST)
+            to.at = flush(to.at);
         uint16_t two;
         uint32_t four;
         uint64_t eight;
         switch (size) {
         case 1:
-            put_byte(*from);
+            put_byte(&to, *from);
             break;
         case 2:
             memcpy(&two, from, 2);
             two = __builtin_bswap16(two);
-            put_signed(is_signed ? (int16_t)two : (int64_t)two);
+            put_signed(&to, is_signed ? (int16_t)two : (int64_t)two);
             break;
         case 4:
             memcpy(&four, from, 4);
             four = __builtin_bswap32(four);
-            put_signed(is_signed ? (int32_t)four : (int64_t)four);
+            put_signed(&to, is_signed ? (int32_t)four : (int64_t)four);
             break;
         default:
             memcpy(&eight, from, 8);
             eight = __builtin_bswap64(eight);
-            put_number(is_signed && (int64_t)eight < 0, is_signed && (int64_t)eight < 0 ? 0 - eight : eight);
+            put_number(&to, is_signed && (int64_t)eight < 0, is_signed && (int64_t)eight < 0 ? 0 - eight : eight);
         }
     }
+    return to;
 }
 
-static void put_slab(const unsigned char *from, uint64_t values, int size, int is_signed)
+static struct place put_slab(struct place to, const unsigned char *from, uint64_t values, int size, int is_signed)
 {
     switch (size * 2 + is_signed) {
-    case 2: put_values(from, values, 1, 0); break;
-    case 3: put_values(from, values, 1, 1); break;
-    case 4: put_values(from, values, 2, 0); break;
-    case 5: put_values(from, values, 2, 1); break;
-    case 8: put_values(from, values, 4, 0); break;
-    case 9: put_values(from, values, 4, 1); break;
-    case 16: put_values(from, values, 8, 0); break;
-    default: put_values(from, values, 8, 1);
+    case 2: return put_values(to, from, values, 1, 0);
+    case 3: return put_values(to, from, values, 1, 1);
+    case 4: return put_values(to, from, values, 2, 0);
+    case 5: return put_values(to, from, values, 2, 1);
+    case 8: return put_values(to, from, values, 4, 0);
+    case 9: return put_values(to, from, values, 4, 1);
+    case 16: return put_values(to, from, values, 8, 0);
+    default: return put_values(to, from, values, 8, 1);
     }
 }
 
@@ -143,18 +170,19 @@ int main(int count, char **words)
         tens[i] = tens[i - 1] * 10;
     for (int b = 0; b < 256; b++)
         bytes_text[b].len = (size_t)snprintf(bytes_text[b].text, 8, "%d", is_signed ? (int8_t)b : b);
-    FILE *file = fopen(words[1], "rb");
+    int file = open(words[1], O_RDONLY);
     struct stat about;
-    if (!file || stat(words[1], &about))
+    if (file < 0 || fstat(file, &about))
         return 1;
-    unsigned char *bytes = malloc((size_t)about.st_size);
-    if (!bytes || fread(bytes, 1, (size_t)about.st_size, file) != (size_t)about.st_size)
+    unsigned char *bytes = mmap(NULL, (size_t)about.st_size, PROT_READ, MAP_PRIVATE | MAP_POPULATE, file, 0);
+    if (bytes == MAP_FAILED)
         return 1;
+    struct place to = {out, 4};
     for (uint64_t v = 0; v < variables; v++) {
-        column = 4;
+        to.column = 4;
         for (uint64_t s = 0; s < slabs; s++)
-            put_slab(bytes + begin + v * step + s * stride, values, size, is_signed);
+            to = put_slab(to, bytes + begin + v * step + s * stride, values, size, is_signed);
     }
-    flush();
+    flush(to.at);
     return 0;
 }

@@ -8,8 +8,8 @@ use Rattle.std.proofs.lemmas.Fmt.{decimal_digit}
 use Rattle.std.specs.List.{range_with_len}
 use Rattle.std.proofs.lemmas.List.FromFn.{get_or-map-range_with_len}
 use Rattle.cdl_number_text.specs.declared.decimal.TheConstants.{PAIRS}
-use Rattle.itoa.proofs.Decimal.{decimal_two, decimal_pair, length_one, length_two, length_pair, length_four, length_step_wide}
-use Rattle.cdl_number_text.specs.code.NumberTexts.{if_kept}
+use Rattle.itoa.proofs.Decimal.{decimal_two, decimal_pair, decimal_four, length_one, length_two, length_pair, length_four, length_step_wide}
+use Rattle.cdl_number_text.specs.code.NumberTexts.{if_kept, last_digits}
 
 pub three_digits : (n : ℕ) → 100 ≤ n → n < 1000 → length (decimal n) ≡ 3
 three_digits n lo hi = omega (arith, length_pair n lo (omega arith), length_one (n / 100) (omega arith))
@@ -86,6 +86,15 @@ joined start a b c d first second third fourth whole e f g h all = rw (h, g, f, 
 
 pub joined_two : (start a b first second whole : List ℕ) → first ≡ start ++ a → second ≡ first ++ b → whole ≡ a ++ b → second ≡ start ++ whole
 joined_two start a b first second whole e f all = rw (f, e, all) (append_assoc start a b)
+
+-- the last eight digits of a number come after the others
+pub decimal_eight : (n : ℕ) → 100000000 ≤ n → n < 2 ^ 64 → decimal n ≡ decimal (n / 100000000) ++ (last_digits (n % 100000000 / 10000) ++ last_digits (n % 100000000 % 10000))
+decimal_eight n least most =
+    let high : n / 10000 / 10000 ≡ n / 100000000 = omega arith in
+    let middle : n / 10000 % 10000 ≡ n % 100000000 / 10000 = omega arith in
+    let low : n % 10000 ≡ n % 100000000 % 10000 = omega arith in
+    rw (decimal_four n (omega arith) most, decimal_four (n / 10000) (omega arith) (omega arith), high, middle, low)
+    (append_assoc (decimal (n / 100000000)) (last_digits (n % 100000000 / 10000)) (last_digits (n % 100000000 % 10000)))
 
 -- the table of two digits each, by computation
 pub pairs : (n : ℕ) → n < 100 → (get_or PAIRS (2 * n) 0 ≡ 48 + n / 10) × (get_or PAIRS (2 * n + 1) 0 ≡ 48 + n % 10)

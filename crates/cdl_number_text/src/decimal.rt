@@ -89,18 +89,17 @@ pub fn put_text(text: &mut [u8], at: usize, len: usize, is_fill: bool, number: i
 }
 
 /// Writes the decimal digits of `n` at the offset `at` of `text`. Needs the number of these digits as `len`, and room for them. The bytes
-/// after them may change. Most numbers have at most eight digits, and need no branch on how many they are.
+/// after them may change. Below 10^16 there are only branches on whether there are more than four, eight or twelve digits.
 #[inline(always)]
 pub fn put_digits(text: &mut [u8], at: usize, len: usize, n: u64)
     requires len { len ≡ length (decimal n) }
     requires fits { at + len ≤ length text.old }
     ensures { take (at + len) text.new ≡ take at text.old ++ decimal n }
 {
-    if n < 10_000 {
-        put_few_digits(text, at, n);
-    } else if n < 100_000_000 {
-        let end = put_few_digits(text, at, n / 10_000);
-        put_four_digits(text, end, n % 10_000);
+    if n < 100_000_000 {
+        put_short_digits(text, at, n);
+    } else if n < 10_000_000_000_000_000 {
+        put_long_digits(text, at, n);
     } else {
         put_many_digits(text, at, len, n);
     }
@@ -114,6 +113,37 @@ fn put_many_digits(text: &mut [u8], at: usize, len: usize, n: u64)
     ensures { take (at + len) text.new ≡ take at text.old ++ decimal n }
 {
     write_digits(n, text, at + len);
+}
+
+/// Writes the digits of a number from 10^8 on and below 10^16 at the offset `at` of `text`, and returns the offset of their end. Needs room
+/// for them.
+fn put_long_digits(text: &mut [u8], at: usize, n: u64) -> usize
+    requires least { 100000000 ≤ n }
+    requires most { n < 10000000000000000 }
+    requires fits { at + length (decimal n) ≤ length text.old }
+    ensures end { result ≡ at + length (decimal n) }
+    ensures written { take result text.new ≡ take at text.old ++ decimal n }
+{
+    let end = put_short_digits(text, at, n / 100_000_000);
+    let low = n % 100_000_000;
+    let middle = put_four_digits(text, end, low / 10_000);
+    put_four_digits(text, middle, low % 10_000)
+}
+
+/// Writes the digits of a number below 10^8 at the offset `at` of `text`, and returns the offset of their end. Needs room for them.
+#[inline(always)]
+fn put_short_digits(text: &mut [u8], at: usize, n: u64) -> usize
+    requires most { n < 100000000 }
+    requires fits { at + length (decimal n) ≤ length text.old }
+    ensures end { result ≡ at + length (decimal n) }
+    ensures written { take result text.new ≡ take at text.old ++ decimal n }
+{
+    if n < 10_000 {
+        put_few_digits(text, at, n)
+    } else {
+        let end = put_few_digits(text, at, n / 10_000);
+        put_four_digits(text, end, n % 10_000)
+    }
 }
 
 /// Writes the digits of a number below 10,000 at the offset `at` of `text`, and returns the offset of their end. Needs room for them.
@@ -132,18 +162,20 @@ fn put_few_digits(text: &mut [u8], at: usize, n: u64) -> usize
     put_byte(text, fourth, ones(low))
 }
 
-/// Writes four digits of a number below 10,000, with zeros before its own, at the offset `at` of `text`. Needs room for them.
+/// Writes four digits of a number below 10,000, with zeros before its own, at the offset `at` of `text`, and returns the offset of their
+/// end. Needs room for them.
 #[inline(always)]
-fn put_four_digits(text: &mut [u8], at: usize, n: u64)
+fn put_four_digits(text: &mut [u8], at: usize, n: u64) -> usize
     requires few { n < 10000 }
     requires fits { at + 4 ≤ length text.old }
-    ensures { take (at + 4) text.new ≡ take at text.old ++ last_digits n }
+    ensures end { result ≡ at + 4 }
+    ensures written { take result text.new ≡ take at text.old ++ last_digits n }
 {
     let (high, low) = (n as u32 / 100, n as u32 % 100);
     let second = put_byte(text, at, tens(high));
     let third = put_byte(text, second, ones(high));
     let fourth = put_byte(text, third, tens(low));
-    put_byte(text, fourth, ones(low));
+    put_byte(text, fourth, ones(low))
 }
 
 /// The numbers below 100 in two digits each.
