@@ -12,7 +12,7 @@
 //! write_header(sink, &placed)?;
 //! ```
 //!
-//! The crates `example_values` and `example_file` are whole programs.
+//! The crate `example` is a whole program.
 #![tactic(auto)]
 
 mod head_fault;

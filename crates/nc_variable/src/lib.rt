@@ -18,7 +18,7 @@
 //! Ok(len)
 //! ```
 //!
-//! The crate `example_values` is a whole program.
+//! The crate `example` is a whole program.
 #![tactic(auto)]
 
 mod fault;

@@ -18,7 +18,7 @@
 //! Ok(longest)
 //! ```
 //!
-//! The crates `example_values` and `example_file` are whole programs.
+//! The crate `example` is a whole program.
 #![tactic(auto)]
 
 mod chunk;

@@ -7,7 +7,7 @@ use Rattle.nc_base.specs.Versions.{offset_limit}
 use Rattle.nc_base.specs.declared.{header.Header.Header, header.Var.Var, version.Version.TheVariants.Cdf1}
 use Rattle.nc_base.proofs.Fitting.{has-begins}
 use Rattle.nc_walk.specs.code.DataPart.{AreListedOf}
-use Rattle.example_file.specs.Headers.{int_header, v_var, x_dim}
+use Rattle.example.specs.Headers.{int_header, v_var, x_dim}
 
 sound-dim : IsSoundDim Cdf1 x_dim
 sound-dim = record { name_len = omega arith; len = omega arith }

@@ -1,5 +1,5 @@
 use Rattle.std.proofs.Common.{◌≡◌, ◌*◌, length}
-use Rattle.example_file.proofs.listed.Given as goal
+use Rattle.example.proofs.writing.listed.Given as goal
 
 -- each value has added four bytes
 abbrev pub invariant-loop-value : goal.invariant-loop-value

@@ -1,7 +1,7 @@
 use Rattle.std.proofs.Common.{sym, subst}
 use Rattle.nc_base.specs.Headers.{IsSound}
-use Rattle.example_file.proofs.IntHeaders.{placed, sound}
-use Rattle.example_file.proofs.write_file.Goals as goal
+use Rattle.example.proofs.IntHeaders.{placed, sound}
+use Rattle.example.proofs.writing.write_file.Goals as goal
 
 pub with_begins-requires : goal.with_begins-requires
 with_begins-requires g c = subst IsSound (sym c.in_ok-int_header.ensures) sound

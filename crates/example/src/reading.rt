@@ -1,0 +1,37 @@
+//! A variable of a file, read.
+
+use crate::failure::Failure;
+use devices::Source;
+use nc_base::{NcType, number_of};
+use nc_variable::open_variable;
+use std::alloc::Global;
+use std::io::{self, Write};
+
+/// Writes the values of the variable of this name in the file that the source has, each on a line. Errs if the header or a value can't be
+/// read, if there is no such variable, or if the writer fails.
+pub fn print_values<S: Source, W: Write>(
+    alloc: Global,
+    source: &mut S,
+    name: &[u8],
+    out: &mut W,
+) -> Result<(), Failure> {
+    let mut buf = [0; 4096];
+    let variable = open_variable(alloc, source, &mut buf, name).map_err(Failure::Variable)?;
+    let ty = variable.var().ty;
+    let mut walk = variable.walk(source.len(), &mut buf);
+    for _ in 0..u64::MAX {
+        match walk.next(source).map_err(Failure::Values)? {
+            Some(chunk) => print_chunk(ty, chunk, out)?,
+            None => break,
+        }
+    }
+    Ok(())
+}
+
+/// Writes the values of a chunk, which are big-endian and one after the other, each on a line. Errs if the writer fails.
+fn print_chunk<W: Write>(ty: NcType, chunk: &[u8], out: &mut W) -> io::Result<()> {
+    for value in chunk.chunks_exact(ty.size() as usize) {
+        writeln!(out, "{}", number_of(ty, value))?;
+    }
+    Ok(())
+}
