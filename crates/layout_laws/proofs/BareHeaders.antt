@@ -1,16 +1,16 @@
 -- A header without begins: what is generated from it is the same.
-use Rattle.std.proofs.Common.{◌≡◌, ℕ, ◌+◌, Bool, true, false, not, List, [], ◌∷◌, ◌++◌, length, map, sum_by, refl, sym, ◌∙◌, ap, arith, length-append, if◌then◌else◌}
+use Rattle.std.proofs.Common.{◌≡◌, ℕ, Bool, true, false, not, List, [], ◌∷◌, ◌++◌, length, map, refl, sym, ◌∙◌, ap, arith, length-append, if◌then◌else◌}
 use Rattle.std.specs.Prelude.{flat_map}
 use Rattle.std.proofs.lemmas.List.{length-map, map-append}
-use Rattle.std.proofs.lemmas.List.Sums.{sum-map, sum_by-cons}
+use Rattle.std.proofs.lemmas.Grind.{common_steps}
 use Rattle.nc_base.specs.declared.{header.Dim.Dim, header.Header.Header, header.NumRecs.NumRecs, header.Var.Var, version.Version.Version}
 use Rattle.nc_base.specs.declared.header.NumRecs.TheVariants.{Known}
 use Rattle.nc_base.specs.Bytes.{Bytes}
 use Rattle.nc_base.specs.GeneratedFile.{begin_after, fixed_vars, slabs_before, vars_with_begins, with_begins}
-use Rattle.nc_base.specs.Grammar.{variable_tag, number, offset_part, list_head, var_part, var_after, var_list, strict, header_by, header_spelling}
+use Rattle.nc_base.specs.Grammar.{variable_tag, number, offset_part, var_part, var_after, var_list, strict, header_by, header_spelling}
 use Rattle.nc_base.specs.Headers.{AreArrays, bare, bare_var}
 use Rattle.nc_base.specs.Parts.{print}
-use Rattle.nc_base.specs.Sizes.{is_record_var, padded_size, padded_total, record_size_of, record_vars}
+use Rattle.nc_base.specs.Sizes.{is_record_var, padded_total, record_size_of, record_vars}
 use Rattle.nc_base.proofs.FileHolds.{records-bare}
 use Rattle.nc_base.proofs.FilePlaces.{padded_total-append}
 use Rattle.nc_base.proofs.PrintedLists.{IsPrintedAs, list-printed}
@@ -20,14 +20,9 @@ bare_vars vars = map bare_var vars
 
 -- ---- sizes
 
-sizes-bare : (dims : List Dim) (vars : List Var) → sum_by (padded_size dims) (bare_vars vars) ≡ sum_by (padded_size dims) vars
-sizes-bare dims [] = refl
-sizes-bare dims (var ∷ vars) =
-    sum_by-cons (padded_size dims) (bare_var var) (bare_vars vars) ∙ ap (λ n. padded_size dims var + n) (sizes-bare dims vars)
-    ∙ sym (sum_by-cons (padded_size dims) var vars)
-
 total-bare : (dims : List Dim) (vars : List Var) → padded_total dims (bare_vars vars) ≡ padded_total dims vars
-total-bare dims vars = sum-map (padded_size dims) (bare_vars vars) ∙ sizes-bare dims vars ∙ sym (sum-map (padded_size dims) vars)
+total-bare dims [] = refl
+total-bare dims (var ∷ vars) = grind (arith, common_steps, total-bare dims vars)
 
 kept-bare : (keep : Bool) (var : Var) (vars bares : List Var) → bares ≡ bare_vars vars
     → (if keep then bare_var var ∷ bares else bares) ≡ bare_vars (if keep then var ∷ vars else vars)
@@ -82,24 +77,16 @@ var-len v dims var = grind (arith, length-append)
 vars-len : (v : Version) (dims : List Dim) (vars : List Var)
     → length (flat_map (var_bytes v dims) (bare_vars vars)) ≡ length (flat_map (var_bytes v dims) vars)
 vars-len v dims [] = refl
-vars-len v dims (var ∷ vars) =
-    length-append (var_bytes v dims (bare_var var)) (flat_map (var_bytes v dims) (bare_vars vars))
-    ∙ ap (λ (n : ℕ). n + length (flat_map (var_bytes v dims) (bare_vars vars))) (var-len v dims var)
-    ∙ ap (λ (n : ℕ). length (var_bytes v dims var) + n) (vars-len v dims vars)
-    ∙ sym (length-append (var_bytes v dims var) (flat_map (var_bytes v dims) vars))
+vars-len v dims (var ∷ vars) = grind (arith, length-append, var-len v dims var, vars-len v dims vars)
 
 list-len : (v : Version) (dims : List Dim) (vars : List Var)
     → length (print (var_list strict v dims) (bare_vars vars)) ≡ length (print (var_list strict v dims) vars)
 unfolding var_list
 list-len v dims vars =
     let printed = list-printed v variable_tag (var_after strict v dims) (var_bytes v dims) in
-    let head : ℕ → Bytes = print (list_head v variable_tag) in
-    ap length (printed (bare_vars vars) (var-printed v dims))
-    ∙ length-append (head (length (bare_vars vars))) (flat_map (var_bytes v dims) (bare_vars vars))
-    ∙ ap (λ (n : ℕ). length (head n) + length (flat_map (var_bytes v dims) (bare_vars vars))) (length-map vars bare_var)
-    ∙ ap (λ (n : ℕ). length (head (length vars)) + n) (vars-len v dims vars)
-    ∙ sym (length-append (head (length vars)) (flat_map (var_bytes v dims) vars))
-    ∙ ap length (sym (printed vars (var-printed v dims)))
+    let one = printed (bare_vars vars) (var-printed v dims) in
+    let other = printed vars (var-printed v dims) in
+    grind (arith, length-append, length-map vars bare_var, vars-len v dims vars)
 
 header-len : (h : Header) → length (header_spelling (record h { vars = bare_vars h.vars })) ≡ length (header_spelling h)
 unfolding print header_by

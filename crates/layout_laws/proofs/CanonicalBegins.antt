@@ -13,8 +13,8 @@ use Rattle.nc_layout.specs.code.Sweep.{padding_end}
 use Rattle.nc_layout.proofs.SweptBlocks.{greatest-above}
 use Rattle.layout_laws.specs.Laws.{is_of_begin, FindsNone, fixed_bytes, canonical_begin, QuietBeginsAreCanonical}
 use Rattle.layout_laws.proofs.FoundNone.{Quiet, quiet-slot, quiet-block}
-use Rattle.layout_laws.proofs.IndexedSlots.{At, at-filtered, total-below, total-whole}
-use Rattle.layout_laws.proofs.LayoutBlocks.{each-block, fixed-there, records-there, fixed_place, before-le, place-reached, begin-ge, begins}
+use Rattle.layout_laws.proofs.IndexedSlots.{At, at-filtered, total-below}
+use Rattle.layout_laws.proofs.LayoutBlocks.{each-block, fixed-there, records-there, fixed_place, all-place, before-le, place-reached, begin-ge, begins}
 
 -- ---- what the rules say
 
@@ -105,9 +105,6 @@ fixed-below layout (suc i) quiet = λ k x at lt is. by_order k x at is lt (cases
     by_order k x at is lt (inr more) done = fixed-next layout k x quiet at is (λ j y at_y h. done j y at_y (omega arith))
 
 -- ---- record slots
-
-all-place : (layout : Layout) → fixed_place layout (length layout.slots) ≡ layout.header_end + fixed_bytes layout.slots
-all-place layout = ap (λ n. layout.header_end + n) (total-whole padded_slab is_fixed layout.slots)
 
 records-in-place : (layout : Layout) (begin : ℕ) → FindsNone is_of_begin layout → records_begin layout.slots ≡ Some begin
     → begin ≡ layout.header_end + fixed_bytes layout.slots

@@ -14,7 +14,7 @@ use Rattle.nc_layout.proofs.BlockOrder.{contains-filter}
 use Rattle.nc_layout.proofs.SweptBlocks.{greatest_from-ge, greatest_from-above, greatest_from-least}
 use Rattle.layout_laws.specs.Laws.{fixed_bytes, canonical_begin, HasCanonicalBegins, canonical_len}
 use Rattle.layout_laws.proofs.IndexedSlots.{At, all-at, total, total-below, total-whole, total-reach, slab-fits, part-le}
-use Rattle.layout_laws.proofs.LayoutBlocks.{each-block, fixed-there, records-there, fixed_place, records_end-above, records_end-le, begin-le, begin-ge, begins, first-record}
+use Rattle.layout_laws.proofs.LayoutBlocks.{each-block, fixed-there, records-there, fixed_place, all-place, records_end-above, records_end-le, begin-le, begin-ge, begins, first-record}
 
 -- ---- the canonical places
 
@@ -43,9 +43,6 @@ pub fixed-ends : (layout : Layout) (k i : ℕ) (x : Slot) → HasCanonicalBegins
     → x.begin + padded_slab x ≤ fixed_place layout i
 fixed-ends layout k i x h at is lt =
     let e = fixed-place layout k x h at is in let below = total-below padded_slab is_fixed layout.slots k i x at is lt in omega arith
-
-pub all-place : (layout : Layout) → fixed_place layout (length layout.slots) ≡ layout.header_end + fixed_bytes layout.slots
-all-place layout = ap (λ n. layout.header_end + n) (total-whole padded_slab is_fixed layout.slots)
 
 -- and all of them before the records begin
 pub fixed-ends-all : (layout : Layout) (k : ℕ) (x : Slot) → HasCanonicalBegins layout → At layout.slots k x → is_fixed x ≡ true

@@ -17,9 +17,9 @@ use Rattle.nc_layout.proofs.BlockOrder.{filter-contains}
 use Rattle.nc_layout.proofs.SweptBlocks.{greatest_from-ge, greatest_from-above, greatest_from-least, greatest-above, greatest-least}
 use Rattle.layout_laws.proofs.FoundNone.{Quiet, all-quiet}
 use Rattle.layout_laws.proofs.IndexedSlots.{At, all-at, filtered-at, slab-le}
-use Rattle.layout_laws.proofs.LayoutBlocks.{each-block, before-le, place-reached, records_end-above, records_end-le, records_end-none}
+use Rattle.layout_laws.proofs.LayoutBlocks.{each-block, all-place, before-le, place-reached, records_end-above, records_end-le, records_end-none}
 use Rattle.layout_laws.proofs.CanonicalBegins.{IsQuietSlot, IsQuietBlock}
-use Rattle.layout_laws.proofs.CanonicalEnds.{fixed-place, slab-place, records-place, fixed-ends, fixed-ends-all, all-place, used-le, padding-ge}
+use Rattle.layout_laws.proofs.CanonicalEnds.{fixed-place, slab-place, records-place, fixed-ends, fixed-ends-all, used-le, padding-ge}
 
 -- ---- what holds of a slot
 

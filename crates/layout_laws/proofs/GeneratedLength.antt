@@ -46,10 +46,8 @@ data-length h arrays n known are =
     let rows = rows-length row (record_bytes is_sole dims h.vars) 0 n
     (λ r low high. length-record is_sole dims n r h.vars arrays (omega arith) are) in
     let all = ap (λ (m : ℕ). length (flat_map row (range_with_len 0 m))) known in
-    length-append (flat_map (block dims) pairs) (flat_map row (range_with_len 0 (known_records h.numrecs)))
-    ∙ ap (λ (k : ℕ). k + length (flat_map row (range_with_len 0 (known_records h.numrecs)))) (length-blocks dims n h.vars arrays are)
-    ∙ ap (λ (k : ℕ). padded_total dims (fixed_vars dims h.vars) + k)
-    (all ∙ rows ∙ ap (λ (k : ℕ). n * k) (sym (record_size_of-slots dims h.vars)))
+    let joined = length-append (flat_map (block dims) pairs) (flat_map row (range_with_len 0 (known_records h.numrecs))) in
+    omega (arith, length-blocks dims n h.vars arrays are, ap (λ (k : ℕ). n * k) (record_size_of-slots dims h.vars))
 
 file-length : (d : Dataset) (n : ℕ) → known_records d.header.numrecs ≡ n → AreArrays d.header.dims n d.header.vars d.arrays
     → length (file_of d) ≡ length (header_spelling d.header) + (padded_total d.header.dims (fixed_vars d.header.dims d.header.vars)
@@ -58,9 +56,7 @@ unfolding file_of with_begins
 file-length d n known are =
     let h = d.header in
     let k : Header = record h { vars = vars_with_begins h [] h.vars } in
-    length-append (header_spelling k) (data_of h d.arrays)
-    ∙ ap (λ (m : ℕ). m + length (data_of h d.arrays)) (len-after h)
-    ∙ ap (λ (m : ℕ). length (header_spelling h) + m) (data-length h d.arrays n known are)
+    omega (arith, length-append (header_spelling k) (data_of h d.arrays), len-after h, data-length h d.arrays n known are)
 
 -- ---- the law
 

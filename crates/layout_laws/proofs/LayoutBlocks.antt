@@ -1,5 +1,5 @@
 -- The blocks of a layout: those of slots that aren't record slots, and that of the records.
-use Rattle.std.proofs.Common.{◌≡◌, ℕ, suc, ◌+◌, ◌-◌, ◌*◌, ◌<◌, ◌≤◌, max, min, Bool, true, false, List, [], ◌∷◌, take, map, fold, sum_by, refl, sym, ◌∙◌, ap, subst, arith, Option, Some, None, ◌==◌, inl, inr, ◌⊎◌, if◌then◌else◌, eq-eqb}
+use Rattle.std.proofs.Common.{◌≡◌, ℕ, suc, ◌+◌, ◌-◌, ◌*◌, ◌<◌, ◌≤◌, max, min, Bool, true, false, List, [], ◌∷◌, length, take, map, fold, sum_by, refl, sym, ◌∙◌, ap, subst, arith, Option, Some, None, ◌==◌, inl, inr, ◌⊎◌, if◌then◌else◌, eq-eqb}
 use Rattle.std.specs.List.{Contains}
 use Rattle.std.specs.Option.{option_map_or}
 use Rattle.std.proofs.lemmas.Bool.{cases_lt}
@@ -15,7 +15,7 @@ use Rattle.nc_layout.specs.code.Sweep.{padding_end}
 use Rattle.nc_layout.proofs.BlockOrder.{contains-none, contains-here, contains-there, contains-cases, contains-filter, filter-contains}
 use Rattle.nc_layout.proofs.SweptBlocks.{greatest-above, greatest-least}
 use Rattle.layout_laws.specs.Laws.{fixed_bytes}
-use Rattle.layout_laws.proofs.IndexedSlots.{At, contains-at, at-contains, each-there, in-each, total-reach}
+use Rattle.layout_laws.proofs.IndexedSlots.{At, contains-at, at-contains, each-there, in-each, total-whole, total-reach}
 
 -- ---- each of them
 
@@ -69,6 +69,9 @@ records-there layout begin at =
 -- where a slot that isn't a record slot begins, if it begins after the padded slabs of those before it
 abbrev pub fixed_place : Layout → ℕ → ℕ
 fixed_place layout i = layout.header_end + fixed_bytes (take i layout.slots)
+
+pub all-place : (layout : Layout) → fixed_place layout (length layout.slots) ≡ layout.header_end + fixed_bytes layout.slots
+all-place layout = ap (λ n. layout.header_end + n) (total-whole padded_slab is_fixed layout.slots)
 
 pub before-le : (layout : Layout) (b : Extent) (m : ℕ) → ((c : Extent) → Contains (blocks layout) c → precedes c b ≡ true → c.padded_end ≤ m)
     → greatest_end padding_end (before (blocks layout) b) ≤ m

@@ -1,8 +1,8 @@
 -- Values are found to be missing exactly if some variable has a first missing value.
-use Rattle.std.proofs.Common.{◌≡◌, ℕ, ◌≤◌, Bool, true, false, List, [], ◌∷◌, length, map, refl, sym, ap, subst, arith, Option, Some, None, All, nat_lt}
+use Rattle.std.proofs.Common.{◌≡◌, ℕ, ◌≤◌, Bool, false, List, [], ◌∷◌, length, map, refl, sym, ap, subst, arith, Option, None, All, nat_lt}
 use Rattle.std.specs.List.{list_any}
 use Rattle.std.specs.Prelude.{is_some}
-use Rattle.std.proofs.lemmas.Bool.{false≢true, le-ltb, ltb-false}
+use Rattle.std.proofs.lemmas.Bool.{le-ltb, ltb-false}
 use Rattle.std.proofs.lemmas.List.Elements.{All-cons, All-head, All-map, All-nil, All-tail}
 use Rattle.std.proofs.lemmas.List.Folds.{list_any_none}
 use Rattle.nc_base.specs.declared.{header.Dim.Dim, header.Header.Header, header.Var.Var}
@@ -76,8 +76,7 @@ all-present h bytes header_end sound within =
 -- ---- tests
 
 not-some : (o : Option ℕ) → is_some o ≡ false → o ≡ None
-not-some None none = refl
-not-some (Some k) none = absurd (false≢true (sym none))
+not-some o none = grind arith
 
 none-lack : (h : Header) (bytes : Bytes) (vars : List Var) → list_any (lacks_values h bytes) vars ≡ false → All (HasAll h bytes) vars
 none-lack h bytes [] none = All-nil _
@@ -88,10 +87,7 @@ all-have : (h : Header) (bytes : Bytes) (vars : List Var) → All (HasAll h byte
 all-have h bytes vars all = list_any_none (lacks_values h bytes) vars (λ k d lt. ap is_some (all k d lt))
 
 same-test : (a b : Bool) → (a ≡ false → b ≡ false) → (b ≡ false → a ≡ false) → a ≡ b
-same-test true true to from = refl
-same-test false false to from = refl
-same-test true false to from = from refl
-same-test false true to from = sym (to refl)
+same-test a b to from = grind arith
 
 pub short-lacks : ShortFilesLackValues
 short-lacks h bytes header_end sound =

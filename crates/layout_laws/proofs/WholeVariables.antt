@@ -1,8 +1,7 @@
 -- The slabs of a variable are whole in a file if none of its values is missing, and the other way around.
-use Rattle.std.proofs.Common.{◌≡◌, ℕ, zero, suc, ◌+◌, ◌*◌, ◌<◌, ◌≤◌, Bool, true, false, List, [], ◌∷◌, ◌++◌, length, map, refl, ap, subst, arith, None, All, if◌then◌else◌, inl, inr, ◌⊎◌}
+use Rattle.std.proofs.Common.{◌≡◌, ℕ, zero, suc, ◌+◌, ◌*◌, ◌<◌, ◌≤◌, Bool, true, false, List, [], ◌∷◌, ◌++◌, length, map, refl, subst, arith, None, All, if◌then◌else◌}
 use Rattle.std.specs.Prelude.{flat_map}
 use Rattle.std.specs.List.{position, range_with_len}
-use Rattle.std.proofs.lemmas.Bool.{cases_lt}
 use Rattle.std.proofs.lemmas.List.{map-append}
 use Rattle.std.proofs.lemmas.List.Elements.{All-cons, All-head, All-nil, All-tail}
 use Rattle.std.proofs.lemmas.List.Sums.{fails_before_first}
@@ -50,46 +49,27 @@ row-same : (base i stride : ℕ) (strides : List ℕ) (vs : List (List ℕ))
 row-same base i stride strides [] = refl
 row-same base i stride strides (v ∷ vs) = grind (arith, at, row-same base i stride strides vs)
 
+row-first : (size len base : ℕ) (strides : List ℕ) (vs others : List (List ℕ)) → AllEnd size len base strides (vs ++ others)
+    → All (EndsIn size len) (map (at base strides) vs ++ map (at base strides) others)
+row-first size len base strides vs others all = subst (All (EndsIn size len)) (map-append (at base strides) vs others) all
+
 -- where the values of some rows end in the file, those of each of them do
 each-row-ends : (size len base stride : ℕ) (strides : List ℕ) (vs : List (List ℕ)) (k n : ℕ)
-    → AllEnd size len base (stride ∷ strides) (flat_map (row vs) (range_with_len k n)) → (r : ℕ) → r < n
-    → AllEnd size len (base + (k + r) * stride) strides vs
-each-row-ends size len base stride strides vs k zero all r lt = absurd (omega arith)
-each-row-ends size len base stride strides vs k (suc n) all r lt =
-    by_row r lt (λ q less. each-row-ends size len base stride strides vs (k + 1) n later q less)
-  where
-    here : List ℕ
-    here = map (at base (stride ∷ strides)) (row vs k)
-
-    others : List ℕ
-    others = map (at base (stride ∷ strides)) (flat_map (row vs) (range_with_len (k + 1) n))
-
-    split : All (EndsIn size len) (here ++ others)
-    split =
-        subst (All (EndsIn size len))
-        (map-append (at base (stride ∷ strides)) (row vs k) (flat_map (row vs) (range_with_len (k + 1) n))) all
-
-    first : AllEnd size len (base + k * stride) strides vs
-    first =
-        subst (All (EndsIn size len)) (row-same base k stride strides vs) (all-left (EndsIn size len) here others split)
-
-    later : AllEnd size len base (stride ∷ strides) (flat_map (row vs) (range_with_len (k + 1) n))
-    later = all-right (EndsIn size len) here others split
-
-    by_row : (r : ℕ) → r < suc n → ((q : ℕ) → q < n → AllEnd size len (base + (k + 1 + q) * stride) strides vs)
-        → AllEnd size len (base + (k + r) * stride) strides vs
-    by_row zero lt ih = subst (λ i. AllEnd size len (base + i * stride) strides vs) (let e : k ≡ k + 0 = omega arith in e) first
-    by_row (suc q) lt ih =
-        subst (λ i. AllEnd size len (base + i * stride) strides vs) (let e : k + 1 + q ≡ k + suc q = omega arith in e)
-        (ih q (omega arith))
+    → AllEnd size len base (stride ∷ strides) (flat_map (row vs) (range_with_len k n)) → (r m : ℕ) → r < n → m ≡ k + r
+    → AllEnd size len (base + m * stride) strides vs
+each-row-ends size len base stride strides vs k zero all r m lt is = absurd (omega arith)
+each-row-ends size len base stride strides vs k (suc n) all zero m lt is =
+    subst (λ i. AllEnd size len (base + i * stride) strides vs) (let e : k ≡ m = omega arith in e)
+    (subst (All (EndsIn size len)) (row-same base k stride strides vs)
+    (all-left (EndsIn size len) _ _ (row-first size len base (stride ∷ strides) (row vs k) _ all)))
+each-row-ends size len base stride strides vs k (suc n) all (suc q) m lt is =
+    each-row-ends size len base stride strides vs (k + 1) n
+    (all-right (EndsIn size len) _ _ (row-first size len base (stride ∷ strides) (row vs k) _ all)) q m (omega arith) (omega arith)
 
 -- a factor of a product that isn't 0
 some-factor : (a b : ℕ) → 0 < a * b → 0 < b
-some-factor a b some = by_order (cases_lt 0 b)
-  where
-    by_order : (0 < b) ⊎ (b ≤ 0) → 0 < b
-    by_order (inl more) = more
-    by_order (inr none) = let e : a * b ≡ a * 0 = ap (λ k. a * k) (let z : b ≡ 0 = omega arith in z) in absurd (omega arith)
+some-factor a zero some = absurd (omega arith)
+some-factor a (suc b) some = omega arith
 
 -- where the values of a slab end in the file, the slab does
 slab-ends : (size len base : ℕ) (lens : List ℕ) → 0 < product lens → AllEnd size len base (slab_strides size lens) (vectors_below lens)
@@ -98,9 +78,9 @@ slab-ends size len base [] some all = let h = All-head (EndsIn size len) (base +
 slab-ends size len base (zero ∷ lens) some all = absurd (omega arith)
 slab-ends size len base (suc m ∷ lens) some all =
     let s = size * product lens in
-    let last = slab-ends size len (base + (0 + m) * s) lens (some-factor (suc m) (product lens) some)
-    (each-row-ends size len base s (slab_strides size lens) (vectors_below lens) 0 (suc m) all m (omega arith)) in
-    let a : suc m * product lens * size ≡ (0 + m) * s + product lens * size = omega arith in
+    let last = slab-ends size len (base + m * s) lens (some-factor (suc m) (product lens) some)
+    (each-row-ends size len base s (slab_strides size lens) (vectors_below lens) 0 (suc m) all m m (omega arith) (omega arith)) in
+    let a : suc m * product lens * size ≡ m * s + product lens * size = omega arith in
     omega arith
 
 -- ---- of a variable
@@ -136,11 +116,9 @@ record-ends h b var n some growing none = at_kind (is_record_var h.dims var) gro
         → (r : ℕ) → r < n → var.begin_at + r * record_size h + product lens * size_of var.ty ≤ length b
     at_kind false e all r lt = cc
     at_kind true e all r lt =
-        let whole = slab-ends (size_of var.ty) (length b) (var.begin_at + (0 + r) * record_size h) lens some
+        slab-ends (size_of var.ty) (length b) (var.begin_at + r * record_size h) lens some
         (each-row-ends (size_of var.ty) (length b) var.begin_at (record_size h) (slab_strides (size_of var.ty) lens) (vectors_below lens)
-        0 n all r lt) in
-        let e : (0 + r) * record_size h ≡ r * record_size h = ap (λ k. k * record_size h) (let z : 0 + r ≡ r = omega arith in z) in
-        omega arith
+        0 n all r r lt (omega arith))
 
 pub some-values : (count size : ℕ) → 1 ≤ count * size → 0 < count
 some-values zero size some = absurd (omega arith)

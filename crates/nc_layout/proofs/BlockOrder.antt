@@ -1,12 +1,12 @@
 -- The order of blocks, and blocks that have been sorted by their begins.
-use Rattle.std.proofs.Common.{◌≡◌, ℕ, zero, suc, ◌<◌, ◌≤◌, Bool, true, false, not, cond, List, [], ◌∷◌, filter, refl, sym, ◌∙◌, ap, subst, arith, ◌==◌, ◌&&◌, ◌||◌, inl, inr, ◌⊎◌, eq-eqb}
+use Rattle.std.proofs.Common.{◌≡◌, zero, suc, ◌≤◌, Bool, true, false, cond, List, [], ◌∷◌, filter, refl, sym, ◌∙◌, ap, subst, arith, inl, inr, ◌⊎◌}
 use Rattle.std.specs.List.{Contains, AllPairs}
 use Rattle.std.specs.List.Sorted.{IsNonDecreasingBy, IsStableByKey, ties}
 use Rattle.std.specs.Ordering.{nat_cmp, is_lt}
-use Rattle.std.specs.declared.cmp.Ordering.TheVariants.{Less, Equal, Greater}
 use Rattle.std.proofs.lemmas.List.Kept.{AllPairs-filter}
 use Rattle.std.proofs.lemmas.Grind.{common_steps}
-use Rattle.std.proofs.lemmas.Bool.{cases_lt, lt-ltb, le-ltb, false≢true}
+use Rattle.std.proofs.lemmas.Bool.Decides.{nat_tests}
+use Rattle.std.proofs.lemmas.Bool.{le-ltb, false≢true}
 use Rattle.nc_layout.specs.declared.{finding.Block.Block, blocks.Extent.Extent}
 use Rattle.nc_layout.specs.declared.finding.Block.TheVariants.{Var, Records}
 use Rattle.nc_layout.specs.Blocks.{is_listed_before, precedes}
@@ -22,51 +22,12 @@ listed-asym (Var i) (Var j) h = grind (arith, common_steps)
 listed-asym (Var i) Records h = refl
 listed-asym Records c h = cc
 
--- what the test says
-pub record Before (b c : Extent) : Type 0 where
-  pub begin : b.begin ≤ c.begin
-  pub listed : b.begin ≡ c.begin → is_listed_before b.block c.block ≡ true
-
-pub before-precedes : (b c : Extent) → Before b c → precedes b c ≡ true
-before-precedes b c h = by_order (cases_lt b.begin c.begin)
-  where
-    by_order : (b.begin < c.begin) ⊎ (c.begin ≤ b.begin) → precedes b c ≡ true
-    by_order (inl lt) = ap (λ t. t || ((b.begin == c.begin) && is_listed_before b.block c.block)) (lt-ltb b.begin c.begin lt)
-    by_order (inr le) =
-        let same : b.begin ≡ c.begin = omega (arith, h.begin) in
-        ap (λ t. t || ((b.begin == c.begin) && is_listed_before b.block c.block)) (le-ltb b.begin c.begin le)
-        ∙ ap (λ t. t && is_listed_before b.block c.block) (eq-eqb b.begin c.begin same) ∙ h.listed same
-
-pub precedes-before : (b c : Extent) → precedes b c ≡ true → Before b c
-precedes-before b c h = record { begin = begin; listed = λ same. listed same }
-  where
-    begin : b.begin ≤ c.begin
-    begin = grind (arith, common_steps)
-
-    listed : b.begin ≡ c.begin → is_listed_before b.block c.block ≡ true
-    listed same =
-        sym (ap (λ t. t || ((b.begin == c.begin) && is_listed_before b.block c.block)) (le-ltb b.begin c.begin (omega arith))
-        ∙ ap (λ t. t && is_listed_before b.block c.block) (eq-eqb b.begin c.begin same)) ∙ h
-
 -- a block doesn't precede one that precedes it
 pub precedes-asym : (b c : Extent) → precedes b c ≡ true → precedes c b ≡ false
-precedes-asym b c h = by_order (cases_lt b.begin c.begin) (precedes-before b c h)
-  where
-    by_order : (b.begin < c.begin) ⊎ (c.begin ≤ b.begin) → Before b c → precedes c b ≡ false
-    by_order (inl lt) k =
-        let apart : (c.begin == b.begin) ≡ false = grind (arith, common_steps) in
-        ap (λ t. t || ((c.begin == b.begin) && is_listed_before c.block b.block)) (le-ltb c.begin b.begin (omega arith))
-        ∙ ap (λ t. t && is_listed_before c.block b.block) apart
-    by_order (inr le) k =
-        let same : b.begin ≡ c.begin = omega (arith, k.begin) in
-        ap (λ t. t || ((c.begin == b.begin) && is_listed_before c.block b.block)) (le-ltb c.begin b.begin (omega (arith, k.begin)))
-        ∙ ap (λ t. t && is_listed_before c.block b.block) (eq-eqb c.begin b.begin (sym same))
-        ∙ listed-asym b.block c.block (k.listed same)
+precedes-asym b c h = grind (arith, nat_tests, listed-asym b.block c.block)
 
 pub precedes-irrefl : (b : Extent) → precedes b b ≡ false
-precedes-irrefl b =
-    ap (λ t. t || ((b.begin == b.begin) && is_listed_before b.block b.block)) (le-ltb b.begin b.begin (omega arith))
-    ∙ ap (λ t. t && is_listed_before b.block b.block) (eq-eqb b.begin b.begin refl) ∙ listed-irrefl b.block
+precedes-irrefl b = grind (arith, nat_tests, listed-irrefl b.block)
 
 -- ---- lists of them
 
@@ -93,6 +54,10 @@ contains-cases {X} x c xs (suc k, lt, at) = inr (k, omega arith, at)
 
 pub contains-none : {X : Type 0} (c : X) → Contains [] c → ⊥
 contains-none {X} c (k, lt, at) = omega arith
+
+-- what holds of the only element holds of each
+pub each-one : {X : Type 0} (P : X → Type 0) (x : X) → P x → (y : X) → Contains (x ∷ []) y → P y
+each-one {X} P x here y has = elim (contains-cases x y [] has) [ inl same ↦ subst P same here | inr none ↦ absurd (contains-none y none) ]
 
 -- what a filter keeps is in the list and passes, and what passes is kept
 pub contains-filter : {X : Type 0} (p : X → Bool) (xs : List X) (c : X) → Contains xs c → p c ≡ true → Contains (filter p xs) c
@@ -125,16 +90,8 @@ filter-contains {X} p (x ∷ xs) c has = by_test (p x) refl has (λ h. filter-co
 abbrev begins_before : Extent → Extent → Bool
 begins_before b c = is_lt (nat_cmp b.begin c.begin)
 
-not_before_itself : (n : ℕ) → is_lt (nat_cmp n n) ≡ false
-not_before_itself n =
-    ap (λ t. is_lt (cond t Less (cond (n == n) Equal Greater))) (le-ltb n n (omega arith))
-    ∙ ap (λ t. is_lt (cond t Equal Greater)) (eq-eqb n n refl)
-
 ties-same : (b c : Extent) → b.begin ≡ c.begin → ties begins_before b c ≡ true
-ties-same b c same =
-    let one : begins_before b c ≡ false = ap (λ n. is_lt (nat_cmp b.begin n)) (sym same) ∙ not_before_itself b.begin in
-    let other : begins_before c b ≡ false = ap (λ n. is_lt (nat_cmp n b.begin)) (sym same) ∙ not_before_itself b.begin in
-    ap (λ t. not t && not (begins_before c b)) one ∙ ap not other
+ties-same b c same = grind (arith, nat_tests)
 
 -- blocks that begin at one offset are listed in their order
 abbrev TiesAreListed : List Extent → Type 0
@@ -161,7 +118,7 @@ listed-after b c bs h has same =
 ascending : (bs : List Extent) → IsNonDecreasingBy (λ (b : Extent). b.begin) bs → TiesAreListed bs → Ascending bs
 ascending [] up tied = tt
 ascending (b ∷ bs) up tied = (
-  λ c has. before-precedes b c (record { begin = later c has; listed = λ same. listed-after b c bs tied has same }),
+  λ c has. let le = later c has in let listed = listed-after b c bs tied has in grind (arith, nat_tests),
   ascending bs (λ i j d le lt. up (suc i) (suc j) d (omega arith) (omega arith)) (ties-tail b bs tied),
 )
   where

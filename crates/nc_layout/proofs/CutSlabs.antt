@@ -1,10 +1,12 @@
 -- The first slab that isn't whole, part by part.
-use Rattle.std.proofs.Common.{◌≡◌, ℕ, zero, suc, ◌+◌, ◌*◌, ◌<◌, ◌≤◌, Bool, true, false, cond, List, [], ◌∷◌, ◌++◌, length, get_or, drop, take, map, filter, sum_by, refl, sym, ◌∙◌, ap, subst, arith, Option, Some, None, All, if◌then◌else◌, nat_lt, IfSome, inl, inr, ◌⊎◌}
+use Rattle.std.proofs.Common.{◌≡◌, ℕ, zero, suc, ◌+◌, ◌*◌, ◌<◌, ◌≤◌, Bool, true, false, List, [], ◌∷◌, ◌++◌, length, get_or, drop, map, filter, refl, sym, ◌∙◌, ap, subst, arith, Option, Some, None, All, if◌then◌else◌, nat_lt, inl, inr, ◌⊎◌}
 use Rattle.std.specs.List.{range_with_len}
 use Rattle.std.proofs.lemmas.Bool.{cases_lt, lt-ltb, le-ltb}
+use Rattle.std.proofs.lemmas.Bool.Decides.{nat_tests}
 use Rattle.std.proofs.lemmas.List.{at_drop_more}
+use Rattle.std.proofs.lemmas.Grind.{common_steps}
 use Rattle.std.proofs.lemmas.List.Elements.{filter-append}
-use Rattle.std.proofs.lemmas.List.Sums.{sum_by-cons, sum_by-append}
+use Rattle.std.proofs.lemmas.List.Sums.{sum_by-append}
 use Rattle.std.proofs.Math.ListN.{take-append-drop}
 use Rattle.std.proofs.Math.Nat.{mul-le-mul_right}
 use Rattle.nc_layout.specs.declared.{slot.Slot.Slot, slot.Layout.Layout, file_end.SlabPlace.SlabPlace}
@@ -12,8 +14,7 @@ use Rattle.nc_layout.specs.Slots.{padded_slab, record_slots, is_sole_narrow, sla
 use Rattle.nc_layout.specs.Blocks.{each_slot}
 use Rattle.nc_layout.specs.Findings.{IsSoundSlot}
 use Rattle.nc_layout.specs.FileEnd.{first_of, first_slab, is_cut, record_slab, slabs_of, all_slabs, first_cut_slab}
-use Rattle.nc_layout.proofs.SlotLists.{rest, rest-taken}
-use Rattle.nc_layout.specs.code.PassedSlots.{is_record_slot}
+use Rattle.nc_layout.proofs.SlotLists.{rest-taken}
 
 -- ---- the first of several
 
@@ -21,29 +22,8 @@ use Rattle.nc_layout.specs.code.PassedSlots.{is_record_slot}
 abbrev earlier : SlabPlace → SlabPlace → SlabPlace
 earlier a b = if nat_lt b.begin a.begin then b else a
 
-earlier-second : (a b : SlabPlace) → b.begin < a.begin → earlier a b ≡ b
-earlier-second a b h = ap (λ t. if t then b else a) (lt-ltb b.begin a.begin h)
-
-earlier-first : (a b : SlabPlace) → a.begin ≤ b.begin → earlier a b ≡ a
-earlier-first a b h = ap (λ t. if t then b else a) (le-ltb b.begin a.begin h)
-
 earlier-assoc : (a b c : SlabPlace) → earlier (earlier a b) c ≡ earlier a (earlier b c)
-earlier-assoc a b c = by_order (cases_lt b.begin a.begin) (cases_lt c.begin b.begin) (cases_lt c.begin a.begin)
-  where
-    by_order : (b.begin < a.begin) ⊎ (a.begin ≤ b.begin) → (c.begin < b.begin) ⊎ (b.begin ≤ c.begin)
-        → (c.begin < a.begin) ⊎ (a.begin ≤ c.begin)
-        → earlier (earlier a b) c ≡ earlier a (earlier b c)
-    by_order (inl ba) (inl cb) ca =
-        ap (λ (x : SlabPlace). earlier x c) (earlier-second a b ba) ∙ earlier-second b c cb
-        ∙ sym (ap (λ (x : SlabPlace). earlier a x) (earlier-second b c cb) ∙ earlier-second a c (omega arith))
-    by_order (inl ba) (inr bc) ca =
-        ap (λ (x : SlabPlace). earlier x c) (earlier-second a b ba) ∙ earlier-first b c bc
-        ∙ sym (ap (λ (x : SlabPlace). earlier a x) (earlier-first b c bc) ∙ earlier-second a b ba)
-    by_order (inr ab) (inl cb) ca =
-        ap (λ (x : SlabPlace). earlier x c) (earlier-first a b ab) ∙ sym (ap (λ (x : SlabPlace). earlier a x) (earlier-second b c cb))
-    by_order (inr ab) (inr bc) ca =
-        ap (λ (x : SlabPlace). earlier x c) (earlier-first a b ab) ∙ earlier-first a c (omega arith)
-        ∙ sym (ap (λ (x : SlabPlace). earlier a x) (earlier-first b c bc) ∙ earlier-first a b ab)
+earlier-assoc a b c = grind (arith, nat_tests)
 
 pub first_of-assoc : (a b c : Option SlabPlace) → first_of (first_of a b) c ≡ first_of a (first_of b c)
 first_of-assoc None b c = refl
@@ -53,9 +33,7 @@ first_of-assoc (Some a) (Some b) (Some c) = ap (λ (x : SlabPlace). Some x) (ear
 
 pub first_slab-append : (xs ys : List SlabPlace) → first_slab (xs ++ ys) ≡ first_of (first_slab xs) (first_slab ys)
 first_slab-append [] ys = refl
-first_slab-append (x ∷ xs) ys =
-    ap (λ (o : Option SlabPlace). first_of (Some x) o) (first_slab-append xs ys)
-    ∙ sym (first_of-assoc (Some x) (first_slab xs) (first_slab ys))
+first_slab-append (x ∷ xs) ys = grind (arith, first_of-assoc (Some x) (first_slab xs) (first_slab ys), first_slab-append xs ys)
 
 -- ---- the slabs of a record slot
 
@@ -65,48 +43,33 @@ first_cut file_len size i slot a n = first_slab (filter (is_cut file_len) (map (
 
 first_cut-taken : (file_len size i : ℕ) (slot : Slot) (a n : ℕ) → file_len < slot.begin + a * size + slot.slab
     → first_cut file_len size i slot a (suc n) ≡ first_of (Some (record_slab size i slot a)) (first_cut file_len size i slot (a + 1) n)
-first_cut-taken file_len size i slot a n cut =
-    ap (λ b. first_slab (cond b
-    (record_slab size i slot a ∷ filter (is_cut file_len) (map (record_slab size i slot) (range_with_len (a + 1) n)))
-    (filter (is_cut file_len) (map (record_slab size i slot) (range_with_len (a + 1) n))))) (lt-ltb file_len _ cut)
+first_cut-taken file_len size i slot a n cut = grind (arith, nat_tests)
 
 first_cut-skipped : (file_len size i : ℕ) (slot : Slot) (a n : ℕ) → slot.begin + a * size + slot.slab ≤ file_len
     → first_cut file_len size i slot a (suc n) ≡ first_cut file_len size i slot (a + 1) n
-first_cut-skipped file_len size i slot a n whole =
-    ap (λ b. first_slab (cond b
-    (record_slab size i slot a ∷ filter (is_cut file_len) (map (record_slab size i slot) (range_with_len (a + 1) n)))
-    (filter (is_cut file_len) (map (record_slab size i slot) (range_with_len (a + 1) n))))) (le-ltb file_len _ whole)
+first_cut-skipped file_len size i slot a n whole = grind (arith, nat_tests)
 
--- the slab before those is the first of all, since the others don't begin before it
-first_stays : (x : SlabPlace) (o : Option SlabPlace) → IfSome o (λ (y : SlabPlace). x.begin ≤ y.begin) → first_of (Some x) o ≡ Some x
-first_stays x None h = refl
-first_stays x (Some y) h = ap (λ (z : SlabPlace). Some z) (earlier-first x y h)
-
-begins_later : (x : SlabPlace) (o : Option SlabPlace) (c : ℕ) → c ≤ x.begin → IfSome o (λ (y : SlabPlace). c ≤ y.begin)
-    → IfSome (first_of (Some x) o) (λ (y : SlabPlace). c ≤ y.begin)
-begins_later x None c h k = h
-begins_later x (Some y) c h k = by_test (nat_lt y.begin x.begin)
-  where
-    by_test : (b : Bool) → c ≤ (if b then y else x).begin
-    by_test true = k
-    by_test false = h
-
-all_later : (file_len size i : ℕ) (slot : Slot) (n a c : ℕ) → c ≤ slot.begin + a * size
-    → IfSome (first_cut file_len size i slot a n) (λ (y : SlabPlace). c ≤ y.begin)
-all_later file_len size i slot zero a c h = tt
-all_later file_len size i slot (suc n) a c h =
+-- a slab that doesn't begin after those is the first of all
+first_stays : (file_len size i : ℕ) (slot : Slot) (n a : ℕ) (x : SlabPlace) → x.begin ≤ slot.begin + a * size
+    → first_of (Some x) (first_cut file_len size i slot a n) ≡ Some x
+first_stays file_len size i slot zero a x le = refl
+first_stays file_len size i slot (suc n) a x le =
     let next : a * size ≤ (a + 1) * size = mul-le-mul_right size (omega arith) in
-    by_cut (cases_lt file_len (slot.begin + a * size + slot.slab)) (all_later file_len size i slot n (a + 1) c (omega arith))
+    let y = record_slab size i slot a in
+    let others = first_cut file_len size i slot (a + 1) n in
+    let ih = first_stays file_len size i slot n (a + 1) x (omega arith) in
+    by_cut (cases_lt file_len (slot.begin + a * size + slot.slab)) ih (sym (first_of-assoc (Some x) (Some y) others))
   where
     by_cut : (file_len < slot.begin + a * size + slot.slab) ⊎ (slot.begin + a * size + slot.slab ≤ file_len)
-        → IfSome (first_cut file_len size i slot (a + 1) n) (λ (y : SlabPlace). c ≤ y.begin)
-        → IfSome (first_cut file_len size i slot a (suc n)) (λ (y : SlabPlace). c ≤ y.begin)
-    by_cut (inl cut) ih =
-        subst (λ (o : Option SlabPlace). IfSome o (λ (y : SlabPlace). c ≤ y.begin)) (sym (first_cut-taken file_len size i slot a n cut))
-        (begins_later (record_slab size i slot a) (first_cut file_len size i slot (a + 1) n) c h ih)
-    by_cut (inr whole) ih =
-        subst (λ (o : Option SlabPlace). IfSome o (λ (y : SlabPlace). c ≤ y.begin))
-        (sym (first_cut-skipped file_len size i slot a n whole)) ih
+        → first_of (Some x) (first_cut file_len size i slot (a + 1) n) ≡ Some x
+        → first_of (Some x) (first_of (Some (record_slab size i slot a)) (first_cut file_len size i slot (a + 1) n))
+        ≡ first_of (first_of (Some x) (Some (record_slab size i slot a))) (first_cut file_len size i slot (a + 1) n)
+        → first_of (Some x) (first_cut file_len size i slot a (suc n)) ≡ Some x
+    by_cut (inl cut) ih assoc =
+        ap (first_of (Some x)) (first_cut-taken file_len size i slot a n cut) ∙ assoc
+        ∙ ap (λ t. first_of (Some (if t then record_slab size i slot a else x)) (first_cut file_len size i slot (a + 1) n))
+        (le-ltb (slot.begin + a * size) x.begin le) ∙ ih
+    by_cut (inr whole) ih assoc = ap (first_of (Some x)) (first_cut-skipped file_len size i slot a n whole) ∙ ih
 
 -- if this many slabs are whole, then the next one is the first that isn't, unless there is no such record
 pub first_cut-is : (file_len size i : ℕ) (slot : Slot) (whole n a : ℕ)
@@ -118,12 +81,12 @@ first_cut-is file_len size i slot whole zero a is_whole is_cut_after le =
 first_cut-is file_len size i slot whole (suc n) a is_whole is_cut_after le =
     let next : a * size ≤ (a + 1) * size = mul-le-mul_right size (omega arith) in
     by_place (cases_lt a whole) (λ h. first_cut-is file_len size i slot whole n (a + 1) is_whole is_cut_after h)
-    (all_later file_len size i slot n (a + 1) (slot.begin + a * size) (omega arith))
+    (first_stays file_len size i slot n (a + 1) (record_slab size i slot a) (omega arith))
   where
     by_place : (a < whole) ⊎ (whole ≤ a)
         → (a + 1 ≤ whole → first_cut file_len size i slot (a + 1) n
         ≡ (if nat_lt whole (a + 1 + n) then Some (record_slab size i slot whole) else None))
-        → IfSome (first_cut file_len size i slot (a + 1) n) (λ (y : SlabPlace). slot.begin + a * size ≤ y.begin)
+        → first_of (Some (record_slab size i slot a)) (first_cut file_len size i slot (a + 1) n) ≡ Some (record_slab size i slot a)
         → first_cut file_len size i slot a (suc n) ≡ (if nat_lt whole (a + suc n) then Some (record_slab size i slot whole) else None)
     by_place (inl more) ih later =
         let same : a + 1 + n ≡ a + suc n = omega arith in
@@ -132,7 +95,7 @@ first_cut-is file_len size i slot whole (suc n) a is_whole is_cut_after le =
     by_place (inr last) ih later =
         let here : a ≡ whole = omega arith in
         first_cut-taken file_len size i slot a n (is_cut_after a last)
-        ∙ first_stays (record_slab size i slot a) (first_cut file_len size i slot (a + 1) n) later
+        ∙ later
         ∙ ap (λ r. Some (record_slab size i slot r)) here
         ∙ sym (ap (λ b. if b then Some (record_slab size i slot whole) else None) (lt-ltb whole (a + suc n) (omega arith)))
 
@@ -144,26 +107,20 @@ pub first_cut-more : (file_len size n : ℕ) (slots : List Slot) (i : ℕ) (d : 
 first_cut-more file_len size n slots i d first cut next lt is_next is =
     let here = slabs_of size n i (get_or slots i d) in
     let after = each_slot (slabs_of size n) (i + 1) (drop (i + 1) slots) in
-    let step : first_slab (filter (is_cut file_len) (each_slot (slabs_of size n) i (drop i slots)))
-    ≡ first_of (first_slab (filter (is_cut file_len) here)) (first_slab (filter (is_cut file_len) after)) =
-    ap (λ (xs : List SlabPlace). first_slab (filter (is_cut file_len) xs)) (at_drop_more (each_slot (slabs_of size n) i) slots i d lt)
-    ∙ ap first_slab (filter-append (is_cut file_len) here after)
-    ∙ first_slab-append (filter (is_cut file_len) here) (filter (is_cut file_len) after) in
-    ap (λ (o : Option SlabPlace). first_of o (first_slab (filter (is_cut file_len) after))) is_next
-    ∙ first_of-assoc first cut (first_slab (filter (is_cut file_len) after))
-    ∙ ap (λ (o : Option SlabPlace). first_of first (first_of o (first_slab (filter (is_cut file_len) after)))) is
-    ∙ ap (λ (o : Option SlabPlace). first_of first o) (sym step)
+    let step = ap (λ (xs : List SlabPlace). first_slab (filter (is_cut file_len) xs)) (at_drop_more (each_slot (slabs_of size n) i) slots i d lt) in
+    grind (
+      arith,
+      filter-append (is_cut file_len) here after,
+      first_slab-append (filter (is_cut file_len) here) (filter (is_cut file_len) after),
+      first_of-assoc first cut (first_slab (filter (is_cut file_len) after)),
+    )
 
 -- from the first slot on these are all slabs
 pub first_cut-whole : (layout : Layout) (size n : ℕ) (slots : List Slot) → size ≡ record_size layout.slots → n ≡ record_count layout
     → slots ≡ layout.slots
     → first_slab (filter (is_cut layout.file_len) (each_slot (slabs_of size n) 0 slots)) ≡ first_cut_slab layout
 unfolding first_cut_slab all_slabs
-first_cut-whole layout size n slots at_size at_count at_slots =
-    ap (λ (k : ℕ). first_slab (filter (is_cut layout.file_len) (each_slot (slabs_of k n) 0 slots))) at_size
-    ∙ ap (λ (k : ℕ). first_slab (filter (is_cut layout.file_len) (each_slot (slabs_of (record_size layout.slots) k) 0 slots))) at_count
-    ∙ ap (λ (xs : List Slot). first_slab
-    (filter (is_cut layout.file_len) (each_slot (slabs_of (record_size layout.slots) (record_count layout)) 0 xs))) at_slots
+first_cut-whole layout size n slots at_size at_count at_slots = cc
 
 -- ---- the record size isn't 0
 
@@ -179,13 +136,9 @@ pub record_size-positive : (slots : List Slot) (i : ℕ) (d : Slot) → i < leng
 unfolding record_size
 record_size-positive slots i d lt is sound =
     let f = slab_in_record slots in
-    let split : record_slots slots ≡ record_slots (take i slots) ++ rest slots i =
-    ap record_slots (sym (take-append-drop i slots)) ∙ filter-append is_record_slot (take i slots) (drop i slots) in
-    let sums : sum_by f (record_slots slots) ≡ sum_by f (record_slots (take i slots)) + sum_by f (rest slots i) =
-    ap (sum_by f) split ∙ sum_by-append f (record_slots (take i slots)) (rest slots i) in
-    let first : sum_by f (rest slots i) ≡ f (get_or slots i d) + sum_by f (rest slots (i + 1)) =
-    ap (sum_by f) (rest-taken slots i d lt is) ∙ sum_by-cons f (get_or slots i d) (rest slots (i + 1)) in
-    omega (arith, slab_in_record-positive slots (get_or slots i d) sound.some_bytes)
+    let split = ap record_slots (sym (take-append-drop i slots)) in
+    let first = rest-taken slots i d lt is in
+    grind (arith, common_steps, filter-append, sum_by-append, slab_in_record-positive slots (get_or slots i d) sound.some_bytes)
 
 -- the same of a list that is the list of slots
 pub record_size-positive-in : (slots all : List Slot) (i : ℕ) (d : Slot) → slots ≡ all → All IsSoundSlot all → i < length slots

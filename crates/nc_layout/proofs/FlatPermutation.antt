@@ -28,11 +28,7 @@ ends_exchanged {Y} a b c =
 
 spread : {X Y : Type 0} (f : X → List Y) (us bs cs : List X) (x y : X)
     → flat_map f (us ++ x ∷ (bs ++ y ∷ cs)) ≡ flat_map f us ++ (((f x ++ flat_map f bs) ++ f y) ++ flat_map f cs)
-spread {X} {Y} f us bs cs x y =
-    flat_map-append f us (x ∷ (bs ++ y ∷ cs))
-    ∙ ap (λ (ys : List Y). flat_map f us ++ (f x ++ ys)) (flat_map-append f bs (y ∷ cs))
-    ∙ ap (λ (ys : List Y). flat_map f us ++ ys)
-    (sym (append_assoc ((f x ++ flat_map f bs)) (f y) (flat_map f cs) ∙ append_assoc (f x) (flat_map f bs) (f y ++ flat_map f cs)))
+spread {X} {Y} f us bs cs x y = simp (flat_map-append, append_assoc)
 
 exchanged : {X Y : Type 0} (f : X → List Y) (us bs cs : List X) (x y : X)
     → IsPermutation (flat_map f (us ++ x ∷ (bs ++ y ∷ cs))) (flat_map f (us ++ y ∷ (bs ++ x ∷ cs)))
@@ -84,8 +80,7 @@ swapped-up {X} f l i j d lt within =
 
 set_itself : {X : Type 0} (l : List X) (i : ℕ) (d : X) → i < length l → set (set l i (get_or l i d)) i (get_or l i d) ≡ l
 set_itself {X} l i d lt =
-    ap (λ (xs : List X). set xs i (get_or l i d)) (set_at l i d (get_or l i d) lt ∙ sym (split_at l i d lt))
-    ∙ set_at l i d (get_or l i d) lt ∙ sym (split_at l i d lt)
+    let same = set_at l i d (get_or l i d) lt ∙ sym (split_at l i d lt) in ap (λ (xs : List X). set xs i (get_or l i d)) same ∙ same
 
 swapped : {X Y : Type 0} (f : X → List Y) (l : List X) (i j : ℕ) (d : X) → i < length l → j < length l
     → IsPermutation (flat_map f l) (flat_map f (set (set l i (get_or l j d)) j (get_or l i d)))

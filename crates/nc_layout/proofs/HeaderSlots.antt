@@ -1,8 +1,9 @@
 -- The slots of a header's variables: which have records, and how many bytes they take.
-use Rattle.std.proofs.Common.{◌≡◌, ℕ, ◌+◌, ◌<◌, ◌≤◌, Bool, true, false, List, [], ◌∷◌, ◌++◌, length, get_or, take, map, sum_by, refl, sym, ◌∙◌, ap, subst, All, if◌then◌else◌}
+use Rattle.std.proofs.Common.{◌≡◌, ℕ, ◌+◌, ◌<◌, ◌≤◌, Bool, true, false, List, [], ◌∷◌, ◌++◌, length, get_or, take, map, sum_by, refl, sym, ◌∙◌, ap, subst, arith, All, if◌then◌else◌}
+use Rattle.std.proofs.lemmas.Grind.{common_steps}
 use Rattle.std.proofs.lemmas.List.{take_more, map-append}
 use Rattle.std.proofs.lemmas.List.Elements.{All-append, All-cons, All-head, All-nil, All-tail}
-use Rattle.std.proofs.lemmas.List.Sums.{sum-map, sum_by-cons}
+use Rattle.std.proofs.lemmas.List.Sums.{sum-map}
 use Rattle.nc_base.specs.declared.{header.Dim.Dim, header.Header.Header, header.Var.Var}
 use Rattle.nc_base.specs.Sizes.{is_record_var, record_vars, padded_size, padded_total, slab_size, slab_limit}
 use Rattle.nc_layout.specs.declared.slot.Slot.{Slot}
@@ -41,9 +42,7 @@ slots-more dims vars i slots x lt at small so_far =
 -- the padded slabs of these variables
 pub slots-total : (dims : List Dim) (vars : List Var) → sum_by padded_slab (map (slot_of dims) vars) ≡ sum_by (padded_size dims) vars
 slots-total dims [] = refl
-slots-total dims (var ∷ vars) =
-    sum_by-cons padded_slab (slot_of dims var) (map (slot_of dims) vars) ∙ ap (λ n. padded_size dims var + n) (slots-total dims vars)
-    ∙ sym (sum_by-cons (padded_size dims) var vars)
+slots-total dims (var ∷ vars) = grind (arith, common_steps, slots-total dims vars)
 
 pub kept-slot : (keep : Bool) (dims : List Dim) (var : Var) (vars : List Var) (slots : List Slot) → slots ≡ map (slot_of dims) vars
     → (if keep then slot_of dims var ∷ slots else slots) ≡ map (slot_of dims) (if keep then var ∷ vars else vars)

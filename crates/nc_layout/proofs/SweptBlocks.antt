@@ -1,23 +1,18 @@
 -- One pass over the blocks in their order finds what the definition says of each block.
-use Rattle.std.proofs.Common.{◌≡◌, ℕ, ◌-◌, ◌<◌, ◌≤◌, nat_le, ◌&&◌, max, Bool, true, false, not, cond, List, [], ◌∷◌, ◌++◌, length, get_or, map, fold, filter, refl, sym, ◌∙◌, ap, subst, arith, Option, Some, None, nat_lt, ◌==◌, inl, inr, ◌⊎◌, eq-eqb, if◌then◌else◌, append_assoc}
+use Rattle.std.proofs.Common.{◌≡◌, ℕ, ◌<◌, ◌≤◌, max, Bool, true, false, not, cond, List, [], ◌∷◌, ◌++◌, length, get_or, map, fold, filter, refl, sym, ◌∙◌, ap, subst, arith, Option, Some, None, ◌==◌, inl, inr, ◌⊎◌, eq-eqb, if◌then◌else◌, append_assoc}
 use Rattle.std.specs.Prelude.{flat_map, IsPermutation}
 use Rattle.std.specs.List.{Contains, find, list_any}
-use Rattle.std.specs.Option.{option_to_list, option_and_then, option_map_or}
-use Rattle.nc_layout.specs.declared.{finding.Block.Block, finding.LayoutPlace.LayoutPlace, finding.LayoutFact.LayoutFact}
-use Rattle.nc_layout.specs.declared.finding.Block.TheVariants.{Records}
-use Rattle.nc_layout.specs.declared.finding.LayoutPlace.TheVariants as places
-use Rattle.nc_layout.specs.declared.finding.LayoutFact.TheVariants as facts
-use Rattle.nc_layout.specs.FindingIf.{finding_if}
 use Rattle.std.proofs.lemmas.Bool.{cases_lt, lt-ltb, le-ltb, false≢true, eqb-true}
+use Rattle.std.proofs.lemmas.Bool.Decides.{nat_tests}
 use Rattle.std.proofs.lemmas.List.{get_or_default}
 use Rattle.std.proofs.lemmas.List.Elements.{Contains-append_left, Contains-append_cases, Contains-push, Contains-push_cases}
 use Rattle.std.proofs.lemmas.List.Folds.{list_any_none, list_any_at}
 use Rattle.std.proofs.lemmas.List.Sorted.{Contains-permutation, IsPermutation-sym}
 use Rattle.nc_layout.specs.declared.{finding.LayoutFinding.LayoutFinding, blocks.Extent.Extent, block_rules.Reached.Reached}
 use Rattle.nc_layout.specs.Blocks.{precedes, before}
-use Rattle.nc_layout.specs.BlockRules.{greatest_end, first_block, first_at_end, overlap, unpadded, gap, findings_after, block_findings}
-use Rattle.nc_layout.specs.code.Sweep.{value_end, padding_end, further, reached_with, end_of, findings_at, swept, overlap_after, unpadded_after, gap_after}
-use Rattle.nc_layout.proofs.BlockOrder.{precedes-asym, precedes-irrefl, Ascending, contains-here, contains-there, contains-cases, contains-none, contains-filter, filter-contains}
+use Rattle.nc_layout.specs.BlockRules.{greatest_end, first_block, first_at_end, findings_after, block_findings}
+use Rattle.nc_layout.specs.code.Sweep.{value_end, padding_end, further, reached_with, end_of, findings_at, swept}
+use Rattle.nc_layout.proofs.BlockOrder.{precedes-asym, precedes-irrefl, Ascending, contains-here, contains-there, contains-cases, contains-none, each-one, contains-filter, filter-contains}
 use Rattle.nc_layout.proofs.FlatPermutation.{flat_map-IsPermutation}
 
 -- ---- the greatest end
@@ -105,52 +100,34 @@ furthest-next : (end : Extent → ℕ) (bs : List Extent) (c b : Extent) → IsF
     → end c < end b → IsFurthest end (bs ++ b ∷ []) b
 furthest-next end bs c b h below more = record {
   among = Contains-push bs b;
-  most = λ d has. most d
-      (Contains-push_cases bs b d has);
-  first = λ d has same. first d (Contains-push_cases bs b d has) same;
+  most = λ d has. elim (Contains-push_cases bs b d has) [
+    | inl old ↦ (let k = h.most d old in omega arith)
+    | inr same ↦ (let e = ap end same in omega arith)
+  ];
+  first = λ d has same. elim (Contains-push_cases bs b d has) [
+    | inl old ↦ (let k = h.most d old in absurd (omega arith))
+    | inr is ↦ inl is
+  ];
 }
-  where
-    most : (d : Extent) → Contains bs d ⊎ (b ≡ d) → end d ≤ end b
-    most d (inl has) = let k = h.most d has in omega arith
-    most d (inr same) = let e = ap end same in omega arith
-
-    first : (d : Extent) → Contains bs d ⊎ (b ≡ d) → end d ≡ end b → (b ≡ d) ⊎ (precedes b d ≡ true)
-    first d (inl has) same = let k = h.most d has in absurd (omega arith)
-    first d (inr is) same = inl is
 
 furthest-kept : (end : Extent → ℕ) (bs : List Extent) (c b : Extent) → IsFurthest end bs c
     → ((d : Extent) → Contains bs d → precedes d b ≡ true)
     → end b ≤ end c → IsFurthest end (bs ++ b ∷ []) c
-furthest-kept end bs c b h below less =
-    record {
-      among = Contains-append_left bs (b ∷ []) c h.among;
-      most = λ d has. most d (Contains-push_cases bs b d has);
-      first = λ d has same. first d (Contains-push_cases bs b d has) same;
-    }
-  where
-    most : (d : Extent) → Contains bs d ⊎ (b ≡ d) → end d ≤ end c
-    most d (inl has) = h.most d has
-    most d (inr same) = let e = ap end same in omega arith
-
-    first : (d : Extent) → Contains bs d ⊎ (b ≡ d) → end d ≡ end c → (c ≡ d) ⊎ (precedes c d ≡ true)
-    first d (inl has) same = h.first d has same
-    first d (inr is) same = inr (subst (λ (x : Extent). precedes c x ≡ true) is (below c h.among))
+furthest-kept end bs c b h below less = record {
+  among = Contains-append_left bs (b ∷ []) c h.among;
+  most = λ d has. elim (Contains-push_cases bs b d has) [ inl old ↦ h.most d old | inr same ↦ (let e = ap end same in omega arith) ];
+  first = λ d has same. elim (Contains-push_cases bs b d has) [
+    | inl old ↦ h.first d old same
+    | inr is ↦ inr (subst (λ (x : Extent). precedes c x ≡ true) is (below c h.among))
+  ];
+}
 
 furthest-only : (end : Extent → ℕ) (b : Extent) → IsFurthest end (b ∷ []) b
 furthest-only end b = record {
   among = contains-here b [];
-  most = λ d has. most d (contains-cases b d [] has);
-  first = λ d has same. inl
-      (only d (contains-cases b d [] has));
+  most = λ d has. each-one (λ (x : Extent). end x ≤ end b) b (omega arith) d has;
+  first = λ d has same. inl (each-one (λ (x : Extent). b ≡ x) b refl d has);
 }
-  where
-    only : (d : Extent) → (b ≡ d) ⊎ Contains {X = Extent} [] d → b ≡ d
-    only d (inl is) = is
-    only d (inr nowhere) = absurd (contains-none d nowhere)
-
-    most : (d : Extent) → (b ≡ d) ⊎ Contains {X = Extent} [] d → end d ≤ end b
-    most d (inl is) = let e = ap end is in omega arith
-    most d (inr nowhere) = absurd (contains-none d nowhere)
 
 -- one more block, which all others precede
 furthest-more : (end : Extent → ℕ) (bs : List Extent) (o : Option Extent) (b : Extent) → Furthest end bs o
@@ -205,61 +182,17 @@ furthest-tells end xs bs (Some c) same h =
 
 -- ---- the findings at one block
 
-told : (g : ℕ → Bool) (place : LayoutPlace) (f : ℕ → Block → LayoutFact) (end : Extent → ℕ) (n : ℕ) (first o : Option Extent)
-    → g 0 ≡ false → first ≡ o
-    → n ≡ end_of end o
-    → finding_if (g n) place (f n (option_map_or (λ (c : Extent). c.block) first Records))
-    ≡ option_and_then (λ (c : Extent). finding_if (g (end c)) place (f (end c) c.block)) o
-told g place f end n first None never_at_0 is greatest =
-    ap (λ t. finding_if t place (f n (option_map_or (λ (c : Extent). c.block) first Records))) (ap g greatest ∙ never_at_0)
-told g place f end n first (Some c) never_at_0 is greatest =
-    ap (λ (o : Option Extent). finding_if (g n) place (f n (option_map_or (λ (d : Extent). d.block) o Records))) is
-    ∙ ap (λ k. finding_if (g k) place (f k c.block)) greatest
-
 -- what the pass keeps of the blocks before one
 pub record HasReached (bs : List Extent) (reached : Reached) : Type 0 where
   pub values : Furthest value_end bs reached.values
   pub padding : Furthest padding_end bs reached.padding
 
-never : (s t : Bool) → t ≡ false → (s && t) ≡ false
-never true t h = h
-never false t h = refl
-
 findings-same : (header_end : ℕ) (xs bs : List Extent) (reached : Reached) (b : Extent) → HaveSame xs bs → HasReached bs reached
     → findings_at header_end reached b ≡ findings_after header_end xs b
 findings-same header_end xs bs reached b same h =
-    joined (overlap_after reached b) (unpadded_after reached b) (gap_after header_end reached b) (overlap xs b) (unpadded xs b)
-    (gap header_end xs b)
-    overlaps unpaddeds gaps
-  where
-    values : Tells value_end xs reached.values
-    values = furthest-tells value_end xs bs reached.values same h.values
-
-    padding : Tells padding_end xs reached.padding
-    padding = furthest-tells padding_end xs bs reached.padding same h.padding
-
-    overlaps : overlap xs b ≡ overlap_after reached b
-    overlaps =
-        told (λ n. nat_lt b.begin n) (places.Begin b.var) (λ n block. facts.Overlap b.begin n block) value_end (greatest_end value_end xs)
-        (first_at_end value_end xs) reached.values (le-ltb b.begin 0 (omega arith)) values.0 values.1
-
-    unpaddeds : unpadded xs b ≡ unpadded_after reached b
-    unpaddeds =
-        told (λ n. nat_le (greatest_end value_end xs) b.begin && nat_lt b.begin n) (places.Begin b.var)
-        (λ n block. facts.Unpadded b.begin n block)
-        padding_end (greatest_end padding_end xs) (first_at_end padding_end xs) reached.padding
-        (never (nat_le (greatest_end value_end xs) b.begin) (nat_lt b.begin 0) (le-ltb b.begin 0 (omega arith))) padding.0 padding.1
-        ∙ ap (λ k. option_and_then (λ (c : Extent). finding_if (nat_le k b.begin && nat_lt b.begin c.padded_end) (places.Begin b.var)
-        (facts.Unpadded b.begin c.padded_end c.block)) reached.padding) values.1
-
-    gaps : gap header_end xs b ≡ gap_after header_end reached b
-    gaps =
-        ap (λ k. finding_if (nat_lt (max header_end k) b.begin) (places.Data (max header_end k))
-        (facts.Gap (b.begin - max header_end k) b.block)) padding.1
-
-    joined : (a b c d e f : Option LayoutFinding) → d ≡ a → e ≡ b → f ≡ c
-        → option_to_list a ++ option_to_list b ++ option_to_list c ≡ option_to_list d ++ option_to_list e ++ option_to_list f
-    joined a b c d e f p q r = cc
+    let values = furthest-tells value_end xs bs reached.values same h.values in
+    let padding = furthest-tells padding_end xs bs reached.padding same h.padding in
+    grind (arith, nat_tests, values.0, values.1, padding.0, padding.1)
 
 -- ---- the whole pass
 
@@ -269,19 +202,17 @@ before-same : (bs sorted done rest : List Extent) (b : Extent) → IsPermutation
     → HaveSame (before bs b) done
 before-same bs sorted done rest b same split below above = record { there = there; back = back }
   where
-    earlier : (c : Extent) → precedes c b ≡ true → Contains done c ⊎ Contains (b ∷ rest) c → Contains done c
-    earlier c is (inl has) = has
-    earlier c is (inr has) =
-        elim (contains-cases b c rest has) [
-          | inl here ↦ absurd (false≢true (sym (precedes-irrefl b) ∙ ap (λ (x : Extent). precedes x b) here ∙ is))
-          | inr later ↦ absurd (false≢true (sym (precedes-asym b c (above c later)) ∙ is))
-        ]
-
     there : (c : Extent) → Contains (before bs b) c → Contains done c
     there c has =
         let k = filter-contains (λ d. precedes d b) bs c has in
-        let inside = Contains-permutation bs sorted c same k.0 in
-        earlier c k.1 (Contains-append_cases done (b ∷ rest) c (subst (λ (xs : List Extent). Contains xs c) split inside))
+        let inside = subst (λ (xs : List Extent). Contains xs c) split (Contains-permutation bs sorted c same k.0) in
+        elim (Contains-append_cases done (b ∷ rest) c inside) [
+          | inl old ↦ old
+          | inr others ↦ elim (contains-cases b c rest others) [
+            | inl here ↦ absurd (false≢true (sym (precedes-irrefl b) ∙ ap (λ (x : Extent). precedes x b) here ∙ k.1))
+            | inr later ↦ absurd (false≢true (sym (precedes-asym b c (above c later)) ∙ k.1))
+          ]
+        ]
 
     back : (c : Extent) → Contains done c → Contains (before bs b) c
     back c has =

@@ -1,4 +1,4 @@
-use Rattle.std.proofs.Common.{◌≡◌, List, [], ◌++◌, sym, ◌∙◌, ap, subst}
+use Rattle.std.proofs.Common.{◌≡◌, List, [], ◌++◌, sym, subst}
 use Rattle.std.specs.Prelude.{IsPermutation}
 use Rattle.std.proofs.lemmas.List.Sorted.{IsPermutation-append_right}
 use Rattle.nc_layout.specs.declared.finding.LayoutFinding.{LayoutFinding}
@@ -9,9 +9,7 @@ use Rattle.nc_layout.proofs.findings.layout_findings.Goals as goal
 appended : (a b c d found start one two three : List LayoutFinding) → start ≡ [] → one ≡ start ++ a → two ≡ one ++ b → three ≡ two ++ c
     → IsPermutation d found → IsPermutation (a ++ b ++ c ++ d) (three ++ found)
 appended a b c d found start one two three is0 is1 is2 is3 same =
-    let first : one ≡ a = is1 ∙ ap (λ (xs : List LayoutFinding). xs ++ a) is0 in
-    let all : three ≡ a ++ b ++ c = is3
-    ∙ ap (λ (xs : List LayoutFinding). xs ++ c) (is2 ∙ ap (λ (xs : List LayoutFinding). xs ++ b) first) in
+    let all : three ≡ a ++ b ++ c = cc in
     subst (λ (xs : List LayoutFinding). IsPermutation (a ++ b ++ c ++ d) (xs ++ found)) (sym all)
     (IsPermutation-append_right (a ++ b ++ c) d found same)
 
