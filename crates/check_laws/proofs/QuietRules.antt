@@ -1,7 +1,8 @@
 -- Which findings are faults: of those at fields alone, the ones at entries that the strict rules refuse; of all others, none.
-use Rattle.std.proofs.Common.{◌≡◌, ℕ, ◌+◌, ◌==◌, ◌&&◌, ◌⊎◌, inl, inr, Bool, true, false, cond, List, [], ◌∷◌, ◌++◌, flat_map, find, slice_get, Option, Some, None, Result, Ok, Err, refl, sym, ◌∙◌}
+use Rattle.std.proofs.Common.{◌≡◌, ℕ, ◌+◌, ◌==◌, ◌&&◌, ◌||◌, ◌⊎◌, inl, inr, Bool, true, false, cond, List, [], ◌∷◌, ◌++◌, flat_map, find, slice_get, Option, Some, None, Result, Ok, Err, refl, sym, ◌∙◌, arith}
 use Rattle.std.specs.List.{All, Contains}
 use Rattle.std.specs.Option.{option_to_list, option_map, option_and_then}
+use Rattle.std.proofs.lemmas.List.Folds.{list_any-append}
 use Rattle.std.proofs.lemmas.List.Elements.{All-nil, All-cons, All-append, All-map, Contains-append_right}
 use Rattle.nc_base.specs.declared.{fault.FormatFault.FormatFault, header.Header.Header, version.Version.Version}
 use Rattle.nc_base.specs.declared.fault.FormatFault.TheVariants.{FloatingType}
@@ -31,6 +32,7 @@ use Rattle.nc_check.specs.WholeHeader.{is_numrecs, is_vsize, is_begin, named, vs
 unfoldable use Rattle.nc_check.specs.HeaderRules.{header_findings}
 unfoldable use Rattle.nc_check.specs.Reports.{all_findings}
 use Rattle.check_laws.specs.FaultLaws.{is_fault}
+use Rattle.check_laws.specs.Laws.{has_any}
 use Rattle.check_laws.proofs.Refusals.{refusal_of}
 use Rattle.check_laws.proofs.FaultFindings.{quiet-facts, quiet-type, contains-first}
 
@@ -51,127 +53,79 @@ Plain f = Quiet f × (is_layout f.fact ≡ false)
 all-quiet : (fs : List Finding) → All Plain fs → All Quiet fs
 all-quiet fs plain k x lt = (plain k x lt).0
 
--- none, or one that is neither
-abbrev PlainOption : Option Finding → Type 0
-PlainOption o = All Plain (option_to_list o)
+-- the fact is a fault or about the layout
+abbrev is_odd : Fact → Bool
+is_odd x = is_fault x || is_layout x
 
-plain-one : (f : Finding) → Plain f → PlainOption (Some f)
-plain-one f q = All-cons Plain f [] q (All-nil Plain)
+-- nor is any of these
+abbrev ArePlain : List Finding → Type 0
+ArePlain fs = has_any is_odd fs ≡ false
 
-plain-none : PlainOption None
-plain-none = All-nil Plain
+plain : (fs : List Finding) → ArePlain fs → All Plain fs
+plain [] none = All-nil Plain
+plain (f ∷ fs) none = All-cons Plain f fs (grind arith, grind arith) (plain fs (grind arith))
 
-plain-before : (rule : Indexed → List Indexed → Option Finding) → ((f : Indexed) (after : List Indexed) → PlainOption (rule f after))
-    → (fs : List Indexed)
-    → All Plain (each_before rule fs)
-plain-before rule plain [] = All-nil Plain
-plain-before rule plain (f ∷ after) = All-append Plain _ _ (plain f after) (plain-before rule plain after)
+plain-before : (rule : Indexed → List Indexed → Option Finding) → ((f : Indexed) (after : List Indexed) → ArePlain (option_to_list (rule f after)))
+    → (fs : List Indexed) → ArePlain (each_before rule fs)
+plain-before rule none [] = refl
+plain-before rule none (f ∷ after) = grind (arith, list_any-append, none f after, plain-before rule none after)
 
-plain-after : (rule : List Indexed → Indexed → Option Finding) → ((earlier : List Indexed) (f : Indexed) → PlainOption (rule earlier f))
-    → (fs earlier : List Indexed)
-    → All Plain (each_after rule earlier fs)
-plain-after rule plain [] earlier = All-nil Plain
-plain-after rule plain (f ∷ fs) earlier = All-append Plain _ _ (plain earlier f) (plain-after rule plain fs (earlier ++ f ∷ []))
+plain-after : (rule : List Indexed → Indexed → Option Finding) → ((earlier : List Indexed) (f : Indexed) → ArePlain (option_to_list (rule earlier f)))
+    → (fs earlier : List Indexed) → ArePlain (each_after rule earlier fs)
+plain-after rule none [] earlier = refl
+plain-after rule none (f ∷ fs) earlier = grind (arith, list_any-append, none earlier f, plain-after rule none fs (earlier ++ f ∷ []))
 
 -- ---- names
 
-plain-name : (earlier : List Indexed) (f : Indexed) → PlainOption (duplicate_name earlier f)
-plain-name earlier f = by-key (key_of f.entry)
-  where
-    by-index : (o : Option ℕ) → PlainOption (option_map (λ first. finding f (fact.DuplicateName first)) o)
-    by-index (Some first) = plain-one _ (refl, refl)
-    by-index None = plain-none
-
-    by-key : (o : Option NameKey)
-        → PlainOption (option_and_then (λ key. option_map (λ first. finding f (fact.DuplicateName first)) (first_index key earlier)) o)
-    by-key (Some key) = by-index (first_index key earlier)
-    by-key None = plain-none
+plain-name : (earlier : List Indexed) (f : Indexed) → ArePlain (option_to_list (duplicate_name earlier f))
+plain-name earlier f = grind arith
 
 pub plain-names : (fs : List Indexed) → All Plain (name_findings fs)
 unfolding name_findings
-plain-names fs = plain-after duplicate_name plain-name fs []
+plain-names fs = plain _ (plain-after duplicate_name plain-name fs [])
 
 -- ---- attributes
 
-plain-if : (b : Bool) (f : Finding) → Plain f → PlainOption (finding_if b f)
-plain-if true f q = plain-one f q
-plain-if false f q = plain-none
+plain-list : (f : Indexed) (c : Content) (next : Option NumberAt) → ArePlain (option_to_list (empty_list f c next))
+plain-list f c next = grind arith
 
-plain-then : {A : Type 0} (rule : A → Option Finding) → ((x : A) → PlainOption (rule x)) → (o : Option A)
-    → PlainOption (option_and_then rule o)
-plain-then rule plain (Some x) = plain x
-plain-then rule plain None = plain-none
+plain-type : (c : Content) (ahead : Ahead) → ArePlain (option_to_list (type_finding c ahead))
+plain-type c ahead = grind arith
 
-plain-choice : (b : Bool) (x y : Option Finding) → PlainOption x → PlainOption y → PlainOption (cond b x y)
-plain-choice true x y p q = p
-plain-choice false x y p q = q
+plain-fill : (first : Bool) (c : Content) (ahead : Ahead) → ArePlain (option_to_list (name_finding first c ahead))
+plain-fill first c ahead = grind arith
 
-plain-list : (f : Indexed) (c : Content) (next : Option NumberAt) → PlainOption (empty_list f c next)
-plain-list f (content.Number tag) (Some next) = plain-if _ _ (refl, refl)
-plain-list f c next = plain-none
-
-plain-type_finding : (c : Content) (ahead : Ahead) → PlainOption (type_finding c ahead)
-plain-type_finding (content.Number code) ahead =
-    plain-choice (code == 2) _ _ (plain-then trailing_nul (λ values. plain-if _ _ (refl, refl)) ahead.values)
-    (plain-then empty_attribute (λ count. plain-if _ _ (refl, refl)) ahead.count)
-plain-type_finding c ahead = plain-none
-
-plain-fill : (type_code var_type count : Option NumberAt) → PlainOption (fill_finding type_code var_type count)
-plain-fill (Some type_code) (Some var_type) count =
-    plain-choice (type_code.number == var_type.number) _ _ (plain-then fill_count (λ count. plain-if _ _ (refl, refl)) count)
-    (plain-one _ (refl, refl))
-plain-fill type_code var_type count = plain-none
-
-plain-name_finding : (first : Bool) (c : Content) (ahead : Ahead) → PlainOption (name_finding first c ahead)
-plain-name_finding first c ahead =
-    plain-choice (is_fill_name c && first) _ _ (plain-fill ahead.type_code ahead.var_type ahead.count) plain-none
-
-plain-by_name : (first : Bool) (place : FieldName) (f : Indexed) (ahead : Ahead) → PlainOption (finding_by_name first place f ahead)
+plain-by_name : (first : Bool) (place : FieldName) (f : Indexed) (ahead : Ahead) → ArePlain (option_to_list (finding_by_name first place f ahead))
 plain-by_name first name.DimsTag f ahead = plain-list f f.entry.content ahead.next
 plain-by_name first name.GlobalAttsTag f ahead = plain-list f f.entry.content ahead.next
 plain-by_name first name.VarsTag f ahead = plain-list f f.entry.content ahead.next
 plain-by_name first name.AttsTag f ahead = plain-list f f.entry.content ahead.next
-plain-by_name first name.Type f ahead =
-    plain-choice (is_attribute f.entry.place.owner) _ _ (plain-type_finding f.entry.content ahead) plain-none
-plain-by_name first name.Name f ahead =
-    plain-choice (is_var_attribute f.entry.place.owner) _ _ (plain-name_finding first f.entry.content ahead) plain-none
-plain-by_name first place f ahead = plain-none
+plain-by_name first name.Type f ahead = grind (arith, plain-type f.entry.content ahead)
+plain-by_name first name.Name f ahead = grind (arith, plain-fill first f.entry.content ahead)
+plain-by_name first place f ahead = refl
 
 pub plain-attributes : (fs : List Indexed) → All Plain (attribute_findings fs)
 unfolding attribute_findings
 plain-attributes fs =
-    plain-before (attribute_finding fs) (λ f after. plain-by_name (is_first fs f) f.entry.place.name f (ahead_of after)) fs
+    plain _ (plain-before (attribute_finding fs) (λ f after. plain-by_name (is_first fs f) f.entry.place.name f (ahead_of after)) fs)
 
 -- ---- a whole header
 
-plain-vsize : (v : Version) (padded : ℕ) (o : Option Indexed) → PlainOption (vsize_finding v padded o)
-plain-vsize v padded None = plain-none
-plain-vsize v padded (Some f) =
-    plain-choice (number_of f.entry.content == vsize_of v padded) None (Some (finding f (fact.Vsize (vsize_of v padded)))) plain-none
-    (plain-one _ (refl, refl))
+plain-vsize : (v : Version) (padded : ℕ) (o : Option Indexed) → ArePlain (option_to_list (vsize_finding v padded o))
+plain-vsize v padded o = grind arith
 
-plain-slots : (f : ℕ → Slot → List Finding) → ((i : ℕ) (slot : Slot) → All Plain (f i slot)) → (i : ℕ) (slots : List Slot)
-    → All Plain (each_slot f i slots)
-plain-slots f plain i [] = All-nil Plain
-plain-slots f plain i (slot ∷ slots) = All-append Plain _ _ (plain i slot) (plain-slots f plain (i + 1) slots)
+plain-slots : (f : ℕ → Slot → List Finding) → ((i : ℕ) (slot : Slot) → ArePlain (f i slot)) → (i : ℕ) (slots : List Slot)
+    → ArePlain (each_slot f i slots)
+plain-slots f none i [] = refl
+plain-slots f none i (slot ∷ slots) = grind (arith, list_any-append, none i slot, plain-slots f none (i + 1) slots)
 
 pub plain-vsizes : (layout : Layout) (fs : List Indexed) → All Plain (vsize_findings layout fs)
 unfolding vsize_findings
 plain-vsizes layout fs =
-    plain-slots _ (λ i slot. plain-vsize layout.version (padded_slab slot) (slice_get (named is_vsize fs) i)) 0 layout.slots
-
-quiet-found : (o : Option Indexed) (l : LayoutFinding) → Quiet (found_at o (fact.Layout l.fact))
-quiet-found (Some f) l = refl
-quiet-found None l = refl
+    plain _ (plain-slots _ (λ i slot. plain-vsize layout.version (padded_slab slot) (slice_get (named is_vsize fs) i)) 0 layout.slots)
 
 quiet-located : (fs : List Indexed) (l : LayoutFinding) → Quiet (located fs l)
-quiet-located fs l = by-place l.place
-  where
-    by-place : (p : LayoutPlace) → Quiet (located fs (record l { place = p }))
-    by-place places.NumRecs = quiet-found (slice_get (named is_numrecs fs) 0) l
-    by-place (places.Vsize i) = quiet-found (slice_get (named is_vsize fs) i) l
-    by-place (places.Begin i) = quiet-found (slice_get (named is_begin fs) i) l
-    by-place (places.Data offset) = refl
+quiet-located fs l = grind arith
 
 quiet-layout : (layout : Layout) (fs : List Indexed) → All Quiet (layout_facts layout fs)
 quiet-layout layout fs =
