@@ -1,11 +1,10 @@
 -- The fields of a header that is spelled as it is written are as they are written in it.
-use Rattle.std.proofs.Common.{◌≡◌, ℕ, suc, zero, ◌^◌, ◌<◌, ◌==◌, ◌||◌, ◌&&◌, not, false, nat_lt, List, [], ◌∷◌, ◌++◌, length, take, drop, Option, Some, None, refl, sym, ap, ◌∙◌, subst, arith, append_assoc, append-nil, replicate, if◌then◌else◌, slice_get, IfSome, All}
-use Rattle.std.proofs.lemmas.Bool.{ltb-true}
+use Rattle.std.proofs.Common.{◌≡◌, ℕ, suc, zero, ◌^◌, ◌<◌, ◌==◌, ◌||◌, ◌&&◌, not, false, List, [], ◌∷◌, ◌++◌, length, take, drop, Option, Some, None, refl, sym, ap, ◌∙◌, subst, arith, append_assoc, append-nil, replicate, if◌then◌else◌, slice_get, IfSome, All}
 use Rattle.std.proofs.lemmas.List.Elements.{All-nil, All-cons, All-append, All-get_or}
 use Rattle.std.proofs.lemmas.Option.{slice_get_within, get_or_from_slice_get}
 use Rattle.std.specs.Int.{byte_len, from_be_bytes, to_be_bytes, w32}
 use Rattle.nc_base.specs.declared.{header.Att.Att, header.Dim.Dim, header.Var.Var, header.Header.Header, version.Version.Version}
-use Rattle.nc_base.specs.declared.fault.FormatFault.TheVariants.{BadCount, BadOffset}
+use Rattle.nc_base.specs.declared.fault.FormatFault.TheVariants.{BadCount}
 use Rattle.nc_base.specs.Bytes.{Bytes}
 use Rattle.nc_base.specs.Headers.{IsSoundVar}
 use Rattle.nc_base.specs.Versions.{count_width, offset_limit}
@@ -15,13 +14,13 @@ use Rattle.nc_base.specs.Grammar.{strict, checked, count_part, dimension_tag, at
 unfoldable use Rattle.nc_base.specs.Grammar.{number, limited_part, offset_part, ignored, name_part, type_part, each, counted, list_head, list_part, dim_part, dim_list, att_part, att_list, dimid_part, shape_part, var_part, var_list, version_part, magic_part, numrecs_part, header_by}
 use Rattle.nc_base.specs.code.PartRuns.{IsPrintable}
 use Rattle.nc_base.proofs.PartOutcomes.{printed}
-use Rattle.nc_base.proofs.Printable.{wide-32, count-wide, vsize-fits, header-printable}
+use Rattle.nc_base.proofs.Printable.{wide-32, header-printable}
 use Rattle.nc_base.proofs.SoundSpelling.{spelled-sound}
 use Rattle.nc_fields.specs.Fields.{Field, fields}
 use Rattle.nc_fields.specs.Entries.{number_in}
 use Rattle.nc_fields.proofs.Numbers.{number-in_count}
 use Rattle.check_laws.specs.Agreement.{header_fields}
-use Rattle.check_laws.specs.Written.{bytes_of, number_of, IsWrittenCount, IsWrittenTag, IsWrittenVsize, IsWritten, AreWritten, CanonicalFieldsAreWritten}
+use Rattle.check_laws.specs.Written.{bytes_of, number_of, IsWrittenVsize, IsWritten, AreWritten, CanonicalFieldsAreWritten}
 use Rattle.check_laws.proofs.AgreeingParts.{agree-header}
 use Rattle.check_laws.proofs.Written.{whole_field, at-start, bytes-fields, decoded-fields, chain-fields, tested-field}
 use Rattle.check_laws.proofs.WrittenParts.{passed, count-field}
@@ -45,19 +44,8 @@ abbrev pub AreCanonical : Header → List Field → Type 0
 AreCanonical h [] = Unit {0}
 AreCanonical h (f ∷ fields) = IsCanonical h f.steps f fields × AreCanonical h fields
 
-written-count : (tag count : ℕ) (steps : List Step) → (not (tag == 0) && (count == 0)) ≡ false → IsWrittenCount tag steps count
-written-count tag count (Count ∷ steps) e = e
-written-count tag count steps e = tt
-
-written-tag : (tag : ℕ) (after : List Field) → FollowsTag tag after → IsWrittenTag tag after
-written-tag tag [] e = tt
-written-tag tag (f ∷ after) e = written-count tag (number_of f) f.steps e
-
 is-written : (h : Header) (steps : List Step) (f : Field) (after : List Field) → IsCanonical h steps f after → IsWritten h steps f after
-is-written h (Padding ∷ steps) f after is = is
-is-written h (Tag ∷ steps) f after is = written-tag (number_of f) after is
-is-written h (Vsize ∷ Item i ∷ steps) f after is = is
-is-written h steps f after is = tt
+is-written h v1 f after is = grind arith
 
 are-written : (h : Header) (fs : List Field) → AreCanonical h fs → AreWritten h fs
 are-written h [] are = tt
@@ -160,13 +148,7 @@ vsize-shown : (h : Header) (P : List Field → Type 0) (i : ℕ) (steps : List S
     → IsSoundVar h.version h.dims var
     → Shows h P (Vsize ∷ Item i ∷ steps) (byte_len (count_width h.version))
     (to_be_bytes (count_width h.version) (vsize_of h.version (padded_size h.dims var)))
-vsize-shown h P i steps var there sound f after holds size is =
-    let v = h.version in
-    let expected : Var → ℕ = λ (x : Var). vsize_of v (padded_size h.dims x) in
-    let number : number_of f ≡ expected var =
-    ap (λ size. number_in size (bytes_of f)) size ∙ number-in_count v (bytes_of f) ∙ ap (from_be_bytes (count_width v)) is
-    ∙ (count-wide v).again (expected var) (vsize-fits v (padded_size h.dims var) (omega (arith, sound.slab))) in
-    subst (λ (o : Option Var). IfSome o (λ (x : Var). number_of f ≡ expected x)) (sym there) number
+vsize-shown h v1 i steps var there sound f after holds size is = grind arith
 
 -- ---- names and lists
 
@@ -262,10 +244,7 @@ shown-vars h P steps sound =
 begin-fits : (v : Version) (dims : List Dim) (total : ℕ) (from : Bytes) (var : Var) (rest : Bytes)
     → Spells (var_part strict v dims total) from var rest → var.begin_at < offset_limit v
 unfolding Spells var_part offset_part
-begin-fits v dims total from var rest
-    (text, m, s, (ids, m2, sh, (atts, m3, a, (ty, m4, t, (vsize, m5, vs, (begin, m6, (k, b, e), (whole, end))))))) =
-    let p = passed (nat_lt k (offset_limit v)) BadOffset e in
-    subst (λ (var : Var). var.begin_at < offset_limit v) (sym whole) (subst (λ n. n < offset_limit v) p.1 (ltb-true _ _ p.0))
+begin-fits v dims total from var rest v6 = grind arith
 
 abbrev HasFittingBegin : Version → Var → Type 0
 HasFittingBegin v var = var.begin_at < offset_limit v

@@ -1,37 +1,37 @@
 -- Nothing is found about the spelling at the fields of a header that are as they are written.
-use Rattle.std.proofs.Common.{◌≡◌, ℕ, zero, suc, ◌+◌, ◌==◌, ◌&&◌, ◌||◌, not, Bool, true, false, List, [], ◌∷◌, ◌++◌, map, find, replicate, Option, Some, None, refl, sym, ap, ◌∙◌, subst, option_to_list, if◌then◌else◌}
-use Rattle.std.specs.Option.{option_map, option_and_then}
-use Rattle.std.proofs.lemmas.List.Folds.{list_any-append}
+use Rattle.std.proofs.Common.{arith}
+use Rattle.std.proofs.lemmas.Grind.{common_steps}
+use Rattle.std.proofs.Common.{◌≡◌, ℕ, zero, suc, ◌+◌, ◌==◌, ◌&&◌, not, Bool, false, List, [], ◌∷◌, ◌++◌, map, find, replicate, Option, None, refl, sym, ap, ◌∙◌, subst, option_to_list, if◌then◌else◌}
+use Rattle.std.specs.Option.{option_map}
 use Rattle.nc_base.specs.declared.{header.Header.Header}
 use Rattle.nc_base.specs.declared.fault.FormatFault.TheVariants.{FloatingType}
 use Rattle.nc_base.specs.Names.{is_name}
-use Rattle.nc_base.specs.Parts.{Step, Magic, Text, Padding, Values}
+use Rattle.nc_base.specs.Parts.{Step}
 use Rattle.nc_fields.specs.declared.{entry.Content.Content, entry.Entry.Entry, place.FieldName.FieldName, place.Owner.Owner}
 use Rattle.nc_fields.specs.declared.entry.Content.TheVariants as content
 use Rattle.nc_fields.specs.declared.place.FieldName.TheVariants as name
 use Rattle.nc_fields.specs.Fields.{Field}
-use Rattle.nc_fields.specs.Entries.{Seen, seen_by, steps_of, name_steps, owner_steps, whole_content}
+use Rattle.nc_fields.specs.Entries.{seen_by, steps_of, name_steps, owner_steps, whole_content}
 unfoldable use Rattle.nc_fields.specs.Entries.{seen}
-use Rattle.nc_check.specs.declared.{finding.Fact.Fact, finding.Finding.Finding, ahead.NumberAt.NumberAt, ahead.Ahead.Ahead}
+use Rattle.nc_check.specs.declared.{finding.Fact.Fact, finding.Finding.Finding, ahead.Ahead.Ahead}
 use Rattle.nc_check.specs.declared.finding.Fact.TheVariants as fact
 use Rattle.nc_check.specs.Indexed.{Indexed, field_at, indexed_from, indexed, finding, each_before, each_after}
 use Rattle.nc_check.specs.Ahead.{ahead_of, is_field, next_number, number_in}
-use Rattle.nc_check.specs.AttributeRules.{finding_if, empty_list, empty_attribute, trailing_nul, type_finding, fill_count, fill_finding, is_fill_name, name_finding, is_attribute, is_var_attribute, finding_by_name, attribute_finding}
+use Rattle.nc_check.specs.AttributeRules.{empty_list, type_finding, name_finding, is_attribute, is_var_attribute, finding_by_name, attribute_finding}
 unfoldable use Rattle.nc_check.specs.AttributeRules.{attribute_findings}
 use Rattle.nc_check.specs.FieldRules.{has_nonzero, is_not_nfc, fact_if, form_fact, content_facts, facts_with, findings_at, is_floating}
 unfoldable use Rattle.nc_check.specs.FieldRules.{field_findings, floating_findings}
-use Rattle.nc_check.specs.NameRules.{key_of, first_index, duplicate_name, is_first}
+use Rattle.nc_check.specs.NameRules.{duplicate_name, is_first}
 unfoldable use Rattle.nc_check.specs.NameRules.{name_findings}
 unfoldable use Rattle.nc_check.specs.HeaderRules.{header_findings}
-use Rattle.check_laws.specs.Laws.{is_of_spelling, has_any}
+use Rattle.check_laws.specs.Laws.{is_of_spelling}
 use Rattle.check_laws.specs.Written.{bytes_of, number_of}
 use Rattle.check_laws.proofs.Vsizes.{IsWhole, AreWhole}
-use Rattle.check_laws.proofs.QuietFields.{AreOther, seen-content}
+use Rattle.check_laws.proofs.QuietFields.{AreOther}
 use Rattle.check_laws.proofs.CanonicalFields.{FollowsTag, IsCanonical, AreCanonical}
 
 pub other-then : (xs ys : List Finding) → AreOther xs → AreOther ys → AreOther (xs ++ ys)
-other-then xs ys e d =
-    list_any-append (λ (f : Finding). is_of_spelling f.fact) xs ys ∙ ap (λ b. b || has_any is_of_spelling ys) e ∙ d
+other-then xs ys e d = grind (arith, common_steps)
 
 -- none, or one about something else
 abbrev IsOther : Option Finding → Type 0
@@ -41,16 +41,13 @@ IsOther o = AreOther (option_to_list o)
 
 fact-other : (f : Indexed) (b : Bool) (x : Fact) (more : List Fact) → is_of_spelling x ≡ false → AreOther (map (finding f) more)
     → AreOther (map (finding f) (option_to_list (fact_if b x) ++ more))
-fact-other f true x more is rest = ap (λ b. b || has_any is_of_spelling (map (finding f) more)) is ∙ rest
-fact-other f false x more is rest = rest
+fact-other f v1 x more is rest = grind arith
 
 last-other : (f : Indexed) (b : Bool) (x : Fact) → is_of_spelling x ≡ false → AreOther (map (finding f) (option_to_list (fact_if b x)))
-last-other f true x is = ap (λ b. b || false) is
-last-other f false x is = refl
+last-other f v1 x is = grind arith
 
 filling-other : (f : Indexed) (b : Bool) → b ≡ false → AreOther (map (finding f) (option_to_list (fact_if b fact.Padding) ++ []))
-filling-other f true none = absurd cc
-filling-other f false none = refl
+filling-other f v1 none = cc
 
 no-nonzero : (n : ℕ) → has_nonzero (replicate n 0) ≡ false
 no-nonzero zero = refl
@@ -72,41 +69,19 @@ facts-other h size place o g f fs is = refl
 
 -- ---- lists and attributes
 
-if-other : (b : Bool) (f : Finding) → is_of_spelling f.fact ≡ false → IsOther (finding_if b f)
-if-other true f is = ap (λ b. b || false) is
-if-other false f is = refl
-
-then-other : {A : Type 0} (rule : A → Option Finding) → ((x : A) → IsOther (rule x)) → (o : Option A) → IsOther (option_and_then rule o)
-then-other rule other (Some x) = other x
-then-other rule other None = refl
-
 choice-other : (b : Bool) (x y : Option Finding) → IsOther x → IsOther y → IsOther (if b then x else y)
-choice-other true x y p q = p
-choice-other false x y p q = q
+choice-other v0 x y p q = grind arith
 
 type-other : (c : Content) (ahead : Ahead) → IsOther (type_finding c ahead)
-type-other (content.Number code) ahead =
-    choice-other (code == 2) _ _ (then-other trailing_nul (λ values. if-other _ _ refl) ahead.values)
-    (then-other empty_attribute (λ count. if-other _ _ refl) ahead.count)
-type-other c ahead = refl
-
-fill-other : (type_code var_type count : Option NumberAt) → IsOther (fill_finding type_code var_type count)
-fill-other (Some type_code) (Some var_type) count =
-    choice-other (type_code.number == var_type.number) _ _ (then-other fill_count (λ count. if-other _ _ refl) count) refl
-fill-other type_code var_type count = refl
+type-other v0 ahead = grind arith
 
 name-other : (first : Bool) (c : Content) (ahead : Ahead) → IsOther (name_finding first c ahead)
-name-other first c ahead =
-    choice-other (is_fill_name c && first) _ _ (fill-other ahead.type_code ahead.var_type ahead.count) refl
+name-other first c ahead = grind arith
 
 -- what is found at a tag before this field
 empty-other : (tag : ℕ) (g : Indexed) (i offset : ℕ) (steps : List Step) (f : Field) → (not (tag == 0) && (number_of f == 0)) ≡ false
     → IsOther (empty_list g (content.Number tag) (number_in i offset (whole_content steps f.size (bytes_of f))))
-empty-other tag g i offset (Magic ∷ steps) f is = refl
-empty-other tag g i offset (Text ∷ steps) f is = refl
-empty-other tag g i offset (Padding ∷ steps) f is = refl
-empty-other tag g i offset (Values ∷ steps) f is = refl
-empty-other tag g i offset steps f is = ap (λ b. has_any is_of_spelling (option_to_list (finding_if b (finding g fact.EmptyList)))) is
+empty-other tag g i offset v4 f is = grind arith
 
 -- an entry that shows this field
 record IsOf (len : ℕ) (e : Entry) (f : Field) : Type 0 where
@@ -116,11 +91,7 @@ record IsOf (len : ℕ) (e : Entry) (f : Field) : Type 0 where
 
 is-of : (len : ℕ) (e : Entry) (f : Field) → IsWhole f → seen_by e ≡ seen len f → IsOf len e f
 unfolding seen
-is-of len e f whole same = record {
-  steps = ap (λ (s : Seen). s.steps) same;
-  content = ap (λ (s : Seen). s.content) same ∙ seen-content len f whole;
-  sound = ap (λ (s : Seen). s.fault) same ∙ whole.sound;
-}
+is-of len e f whole same = grind arith
 
 tag-other : (len tag : ℕ) (g : Indexed) (k : ℕ) (es : List Entry) (fs : List Field) → map seen_by es ≡ map (seen len) fs → AreWhole fs
     → FollowsTag tag fs → IsOther (empty_list g (content.Number tag) (next_number is_field (indexed_from k es)))
@@ -191,11 +162,7 @@ fields-other h len all k (e ∷ es) (f ∷ fs) same whole are =
 -- ---- names and floating types
 
 duplicate-other : (earlier : List Indexed) (f : Indexed) → IsOther (duplicate_name earlier f)
-duplicate-other earlier f = then-other _ (λ key. by-index (first_index key earlier)) (key_of f.entry)
-  where
-    by-index : (o : Option ℕ) → IsOther (option_map (λ first. finding f (fact.DuplicateName first)) o)
-    by-index (Some first) = refl
-    by-index None = refl
+duplicate-other earlier f = grind arith
 
 names-other : (fs earlier : List Indexed) → AreOther (each_after duplicate_name earlier fs)
 names-other [] earlier = refl
@@ -204,8 +171,7 @@ names-other (f ∷ fs) earlier =
     (names-other fs (earlier ++ f ∷ []))
 
 floating-other : (o : Option Indexed) → IsOther (option_map (λ f. finding f (fact.Fault FloatingType)) o)
-floating-other (Some f) = refl
-floating-other None = refl
+floating-other v0 = grind arith
 
 -- ---- all findings at fields
 

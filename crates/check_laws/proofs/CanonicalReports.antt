@@ -1,5 +1,5 @@
 -- A report finds nothing about the spelling of a header that is spelled as it is written.
-use Rattle.std.proofs.Common.{◌≡◌, ℕ, zero, suc, ◌+◌, Bool, true, false, cond, List, [], ◌∷◌, length, map, Option, Some, None, Ok, refl, sym, ap, ◌∙◌, subst, arith, slice_get, IfSome, option_map, option_to_list, eq-eqb}
+use Rattle.std.proofs.Common.{◌≡◌, ℕ, zero, suc, ◌+◌, Bool, true, false, cond, List, [], ◌∷◌, length, map, Option, Some, None, Ok, refl, sym, ap, ◌∙◌, subst, arith, slice_get, IfSome, option_map, option_to_list}
 use Rattle.std.specs.List.{list_any}
 use Rattle.std.proofs.lemmas.Option.{slice_get-map}
 use Rattle.std.proofs.lemmas.List.Sorted.{list_any-IsPermutation}
@@ -64,8 +64,7 @@ sizes-written h k (f ∷ fs) are at =
 size-other : (v : Version) (padded : ℕ) (o : Option Indexed)
     → ((g : Indexed) → o ≡ Some g → content_number g.entry.content ≡ vsize_of v padded)
     → AreOther (option_to_list (vsize_finding v padded o))
-size-other v padded None same = refl
-size-other v padded (Some g) same = rw (eq-eqb _ _ (same g refl)) refl
+size-other v padded v2 same = grind arith
 
 slots-other : (find : ℕ → Slot → List Finding) (dims : List Dim) (vars : List Var) (k : ℕ)
     → ((i : ℕ) (var : Var) → slice_get vars i ≡ Some var → AreOther (find (k + i) (slot_of dims var)))

@@ -1,7 +1,7 @@
 -- A report finds nothing at begins and at the end of a generated file.
+use Rattle.std.proofs.Common.{arith}
 use Rattle.std.proofs.Common.{◌≡◌, ℕ, ◌+◌, ◌||◌, Bool, false, List, [], ◌∷◌, ◌++◌, length, map, Ok, refl, sym, ap, ◌∙◌, subst, length-append}
 use Rattle.std.specs.List.{All}
-use Rattle.std.proofs.lemmas.Bool.{false≢true}
 use Rattle.std.proofs.lemmas.List.Elements.{All-nil, All-cons, All-head, All-tail}
 use Rattle.std.proofs.lemmas.List.Folds.{list_any-append, list_any_none}
 use Rattle.std.proofs.lemmas.List.Sorted.{list_any-IsPermutation}
@@ -28,7 +28,6 @@ use Rattle.layout_laws.specs.Laws.{is_of_begin, is_of_end, FindsNone}
 use Rattle.layout_laws.proofs.GeneratedLayouts.{generated-quiet as layouts-quiet}
 use Rattle.nc_layout.proofs.SpelledLayouts.{spelled-layout}
 use Rattle.nc_check.specs.declared.{finding.Fact.Fact, finding.Finding.Finding, report.Report.Report}
-use Rattle.nc_check.specs.declared.finding.Fact.TheVariants as fact
 use Rattle.nc_check.specs.Indexed.{indexed}
 use Rattle.nc_check.specs.HeaderRules.{header_findings}
 use Rattle.nc_check.specs.WholeHeader.{vsize_findings, located, whole_findings}
@@ -42,8 +41,7 @@ use Rattle.check_laws.proofs.QuietRules.{is_layout, plain-vsizes}
 -- ---- a layout in which nothing is found
 
 not-layout : (kind : LayoutFact → Bool) (x : Fact) → is_layout x ≡ false → is_of_layout kind x ≡ false
-not-layout kind (fact.Layout x) other = absurd (false≢true (sym other))
-not-layout kind x other = refl
+not-layout kind v1 other = grind arith
 
 -- after findings of other facts
 none-with : (kind : LayoutFact → Bool) (xs ys : List Finding) → All Other xs → has_any (is_of_layout kind) ys ≡ false

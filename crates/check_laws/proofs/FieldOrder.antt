@@ -1,5 +1,5 @@
 -- The fields of a part begin one after the other.
-use Rattle.std.proofs.Common.{◌≡◌, ℕ, ◌≤◌, List, [], ◌∷◌, ◌++◌, length, Result, Ok, Err, refl, subst, arith, le_trans}
+use Rattle.std.proofs.Common.{◌≡◌, ℕ, ◌≤◌, List, [], ◌∷◌, ◌++◌, length, Result, Ok, Err, subst, arith, le_trans}
 use Rattle.nc_fields.proofs.Prelude.{Bytes, Step, Part, done, bytes, decoded, under, chain, Outcome, and_then, with_rest, run, left_after, FormatFault, Field, judged, fields}
 use Rattle.nc_file.proofs.PartRuns.{shorter}
 
@@ -26,8 +26,7 @@ descend-judged {A = A} top bottom (Err fault) (f ∷ fs) d = (d.0, descend-judge
 
 same-left : {A : Type 0} (y : Result A FormatFault) (rest : Bytes) → length rest ≡ left_after (with_rest y rest)
 unfolding left_after
-same-left (Ok y) rest = refl
-same-left (Err e) rest = refl
+same-left v0 rest = grind arith
 
 descend-decoded : {A B : Type 0} (decode : A → Result B FormatFault) (top : ℕ) (fs : List Field) (o : Outcome A)
     → Descend top (left_after o) fs

@@ -1,7 +1,7 @@
 -- What a report finds about the layout of a whole header, and the header whose layout it is.
-use Rattle.std.proofs.Common.{◌≡◌, ℕ, ◌+◌, ◌||◌, Bool, false, List, [], ◌∷◌, ◌++◌, length, map, slice_get, Option, Some, None, Result, Ok, Err, refl, sym, ap, ◌∙◌, subst, arith}
+use Rattle.std.proofs.lemmas.Grind.{common_steps}
+use Rattle.std.proofs.Common.{◌≡◌, ℕ, ◌+◌, ◌||◌, Bool, false, List, [], ◌∷◌, ◌++◌, length, map, Result, Ok, Err, refl, sym, ap, ◌∙◌, subst, arith}
 use Rattle.std.specs.List.{list_any}
-use Rattle.std.proofs.lemmas.List.Folds.{list_any-append}
 use Rattle.std.proofs.lemmas.List.Sorted.{list_any-IsPermutation}
 use Rattle.nc_base.specs.declared.{fault.FormatFault.FormatFault, header.Dim.Dim, header.Header.Header, header.Var.Var}
 use Rattle.nc_base.specs.Bytes.{Bytes}
@@ -13,8 +13,7 @@ use Rattle.nc_fields.specs.Lenient.{lenient}
 use Rattle.nc_fields.specs.Listings.{IsOutcome}
 use Rattle.check_laws.specs.Agreement.{var_without_values, without_values}
 use Rattle.check_laws.proofs.StrictHeaders.{strict-headers}
-use Rattle.nc_layout.specs.declared.{slot.Slot.Slot, finding.LayoutFact.LayoutFact, finding.LayoutFinding.LayoutFinding, finding.LayoutPlace.LayoutPlace}
-use Rattle.nc_layout.specs.declared.finding.LayoutPlace.TheVariants as places
+use Rattle.nc_layout.specs.declared.{slot.Slot.Slot, finding.LayoutFact.LayoutFact, finding.LayoutFinding.LayoutFinding}
 use Rattle.nc_layout.specs.Findings.{layout_findings}
 use Rattle.layout_laws.specs.Laws.{FindsNone}
 use Rattle.nc_layout.specs.HeaderLayout.{layout_of, slot_of}
@@ -22,12 +21,11 @@ use Rattle.nc_check.specs.declared.{finding.Fact.Fact, finding.Finding.Finding, 
 use Rattle.nc_check.specs.declared.finding.Fact.TheVariants as fact
 use Rattle.nc_check.specs.Indexed.{Indexed, indexed}
 use Rattle.nc_check.specs.HeaderRules.{header_findings}
-use Rattle.nc_check.specs.WholeHeader.{vsize_findings, is_numrecs, is_vsize, is_begin, named, found_at, located, layout_facts}
+use Rattle.nc_check.specs.WholeHeader.{vsize_findings, located, layout_facts}
 unfoldable use Rattle.nc_check.specs.WholeHeader.{whole_findings}
 unfoldable use Rattle.nc_check.specs.Reports.{all_findings}
 use Rattle.nc_check.specs.Reports.{IsReport}
 use Rattle.check_laws.specs.Laws.{is_of_layout, has_any}
-use Rattle.check_laws.proofs.QuietFields.{neither}
 
 -- ---- findings at their fields
 
@@ -35,20 +33,9 @@ use Rattle.check_laws.proofs.QuietFields.{neither}
 abbrev pub Agree : (Fact → Bool) → (LayoutFact → Bool) → Type 0
 Agree test kind = (x : LayoutFact) → test (fact.Layout x) ≡ kind x
 
-found-tells : (test : Fact → Bool) (kind : LayoutFact → Bool) → Agree test kind → (o : Option Indexed) (x : LayoutFact)
-    → test (found_at o (fact.Layout x)).fact ≡ kind x
-found-tells test kind agree (Some f) x = agree x
-found-tells test kind agree None x = agree x
-
 located-tells : (test : Fact → Bool) (kind : LayoutFact → Bool) → Agree test kind → (fs : List Indexed) (l : LayoutFinding)
     → test (located fs l).fact ≡ kind l.fact
-located-tells test kind agree fs l = by-place l.place
-  where
-    by-place : (p : LayoutPlace) → test (located fs (record l { place = p })).fact ≡ kind l.fact
-    by-place places.NumRecs = found-tells test kind agree (slice_get (named is_numrecs fs) 0) l.fact
-    by-place (places.Vsize i) = found-tells test kind agree (slice_get (named is_vsize fs) i) l.fact
-    by-place (places.Begin i) = found-tells test kind agree (slice_get (named is_begin fs) i) l.fact
-    by-place (places.Data offset) = agree l.fact
+located-tells test kind agree fs l = grind arith
 
 pub all-located : (test : Fact → Bool) (kind : LayoutFact → Bool) → Agree test kind → (fs : List Indexed) (ls : List LayoutFinding)
     → list_any (λ (f : Finding). test f.fact) (map (located fs) ls) ≡ list_any (λ (l : LayoutFinding). kind l.fact) ls
@@ -75,9 +62,7 @@ is-read bytes rest (Err fault) h after told read =
 pub whole-header : (l : Listing) (h : Header) → l.header ≡ Ok h
     → whole_findings l ≡ layout_facts (layout_of h l.end l.file_len) (indexed l.entries)
 unfolding whole_findings
-whole-header l h same =
-    ap (λ r. elim r as
-    (λ r. List Finding) [ Ok h ↦ layout_facts (layout_of h l.end l.file_len) (indexed l.entries) | Err fault ↦ [] ]) same
+whole-header l h same = cc
 
 -- the values of attributes take no part in the layout
 same-slots : (dims : List Dim) (vars : List Var) → map (slot_of dims) (map var_without_values vars) ≡ map (slot_of dims) vars
@@ -93,8 +78,7 @@ same-layout h header_end file_len =
 
 -- the later findings have none of this kind
 none-after : (test : Fact → Bool) (xs ys : List Finding) → has_any test (xs ++ ys) ≡ false → has_any test ys ≡ false
-none-after test xs ys none =
-    (neither (has_any test xs) (has_any test ys) (sym (list_any-append (λ (f : Finding). test f.fact) xs ys) ∙ none)).1
+none-after test xs ys none = grind (arith, common_steps)
 
 pub listing-finds-none : (kind : LayoutFact → Bool) (l : Listing) (h : Header) → l.header ≡ Ok h
     → has_any (is_of_layout kind) (all_findings l) ≡ false → FindsNone kind (layout_of h l.end l.file_len)

@@ -42,12 +42,7 @@ drop-all bs = grind (arith, common_steps)
 
 by-parts : (n : ℕ) (front back : Bytes) → nat_lt 0 n ≡ true → is_printing front ≡ true → back ≡ []
     → (nat_lt 0 n && is_printing front && list_all (λ b. b == 0) back) ≡ true
-by-parts n front back some printing none =
-    subst (λ (back : Bytes). (nat_lt 0 n && is_printing front && list_all (λ b. b == 0) back) ≡ true) (sym none)
-    (all-true (nat_lt 0 n) (is_printing front) some printing)
-  where
-    all-true : (a b : Bool) → a ≡ true → b ≡ true → (a && b && true) ≡ true
-    all-true a b e d = grind arith
+by-parts n front back some printing none = cc
 
 some-length : (b : ℕ) (bs : Bytes) → nat_lt 0 (length (b ∷ bs)) ≡ true
 some-length b bs = grind arith

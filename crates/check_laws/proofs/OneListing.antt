@@ -47,13 +47,11 @@ rest_of (Ok x) = x.1
 rest_of (Err e) = e.1
 
 is-outcome : (bytes : Bytes) (o : Outcome Header) → Tells (header_by lenient) bytes o → IsOutcome bytes (rest_of o) (result_of o)
-is-outcome bytes (Ok x) t = t
-is-outcome bytes (Err e) t = t
+is-outcome bytes v1 t = grind arith
 
 rest-left : (o : Outcome Header) → left_after o ≡ length (rest_of o)
 unfolding left_after
-rest-left (Ok x) = refl
-rest-left (Err e) = refl
+rest-left v0 = grind arith
 
 outcome-told : (bytes rest : Bytes) (r : Result Header FormatFault) → IsOutcome bytes rest r
     → run (header_by lenient) bytes ≡ with_rest r rest
@@ -61,12 +59,10 @@ outcome-told bytes rest (Ok h) is = reads (header_by lenient) bytes h rest is
 outcome-told bytes rest (Err fault) is = stops (header_by lenient) bytes fault rest is
 
 result-told : (r : Result Header FormatFault) (rest : Bytes) → result_of (with_rest r rest) ≡ r
-result-told (Ok h) rest = refl
-result-told (Err fault) rest = refl
+result-told v0 rest = grind arith
 
 rest-told : (r : Result Header FormatFault) (rest : Bytes) → rest_of (with_rest r rest) ≡ rest
-rest-told (Ok h) rest = refl
-rest-told (Err fault) rest = refl
+rest-told v0 rest = grind arith
 
 -- ---- listings
 

@@ -1,5 +1,6 @@
 -- A header about whose spelling a report finds nothing is spelled as it is written.
-use Rattle.std.proofs.Common.{◌≡◌, ℕ, zero, suc, ◌+◌, ◌==◌, Bool, true, false, cond, List, [], ◌∷◌, ◌++◌, length, map, Option, Some, None, Result, Ok, Err, refl, sym, ap, ◌∙◌, subst, arith, slice_get, IfSome, option_to_list, option_map, eqb-true, if◌then◌else◌}
+use Rattle.std.proofs.lemmas.Grind.{common_steps}
+use Rattle.std.proofs.Common.{◌≡◌, ℕ, zero, suc, ◌+◌, Bool, true, false, cond, List, [], ◌∷◌, ◌++◌, length, map, Option, Some, None, Result, Ok, Err, refl, sym, ap, ◌∙◌, subst, arith, slice_get, IfSome, option_to_list, option_map}
 use Rattle.std.proofs.lemmas.Option.{slice_get-map}
 use Rattle.std.proofs.lemmas.List.Sorted.{list_any-IsPermutation}
 use Rattle.nc_base.specs.declared.{fault.FormatFault.FormatFault, header.Dim.Dim, header.Var.Var, header.Header.Header, version.Version.Version}
@@ -23,18 +24,15 @@ use Rattle.check_laws.proofs.Vsizes.{IsWhole, AreWhole, spelled-whole, is_vsize_
 use Rattle.nc_layout.specs.declared.slot.{Slot.Slot}
 use Rattle.nc_layout.specs.Slots.{padded_slab}
 use Rattle.nc_layout.specs.Blocks.{each_slot}
-use Rattle.nc_layout.specs.Findings.{layout_findings}
 use Rattle.nc_layout.specs.HeaderLayout.{slot_of, layout_of}
 use Rattle.check_laws.proofs.FirstFaults.{faultless}
 use Rattle.nc_check.specs.declared.{finding.Finding.Finding}
-use Rattle.nc_check.specs.declared.finding.Fact.TheVariants as fact
-use Rattle.nc_check.specs.Indexed.{Indexed, field_at, indexed_from, indexed, finding}
+use Rattle.nc_check.specs.Indexed.{Indexed, field_at, indexed_from, indexed}
 use Rattle.nc_check.specs.FieldRules.{field_findings, floating_findings}
 use Rattle.nc_check.specs.NameRules.{name_findings}
 use Rattle.nc_check.specs.AttributeRules.{attribute_findings}
 unfoldable use Rattle.nc_check.specs.HeaderRules.{header_findings}
-use Rattle.nc_fields.specs.Entries.{number_of as content_number}
-use Rattle.nc_check.specs.WholeHeader.{is_vsize, named, vsize_finding, layout_facts, located}
+use Rattle.nc_check.specs.WholeHeader.{is_vsize, named, vsize_finding}
 unfoldable use Rattle.nc_check.specs.WholeHeader.{vsize_findings, whole_findings}
 unfoldable use Rattle.nc_check.specs.Reports.{all_findings}
 use Rattle.check_laws.specs.Laws.{is_of_spelling, QuietSpellingsAreCanonical, QuietHeadersAreCanonical}
@@ -87,11 +85,6 @@ slots-other find dims (var ∷ vars) k (suc i) e =
     (slots-other find dims vars (k + 1) i
     (both-other (find k (slot_of dims var)) (each_slot find (k + 1) (map (slot_of dims) vars)) e).1)
 
-size-expected : (n expected : ℕ) (f : Indexed) (b : Bool) → (n == expected) ≡ b
-    → AreOther (option_to_list (if b then None else Some (finding f (fact.Vsize expected)))) → n ≡ expected
-size-expected n expected f true is e = eqb-true _ _ is
-size-expected n expected f false is e = absurd cc
-
 -- ---- the sizes of variables
 
 -- one of these fields, among the entries
@@ -127,12 +120,10 @@ size-number len k zero (g ∷ fs) f w at there =
 size-number len k (suc i) (g ∷ fs) f w at there = size-number len (k + 1) i fs f w.1 at.1 there
 
 if-some : {A : Type 0} {P Q : A → Type 0} (o : Option A) → ((x : A) → P x → Q x) → IfSome o P → IfSome o Q
-if-some None go h = tt
-if-some (Some x) go h = go x h
+if-some v0 go h = grind arith
 
 some-mapped : {A B : Type 0} (P : B → Type 0) (g : A → B) (o : Option A) → IfSome (option_map g o) P → IfSome o (λ x. P (g x))
-some-mapped P g None h = tt
-some-mapped P g (Some x) h = h
+some-mapped v0 g v2 h = grind arith
 
 pub from-zero : (i : ℕ) → 0 + i ≡ i
 from-zero i = omega arith
@@ -154,11 +145,7 @@ sizes-other h end len entries other i =
 
 found-size : (v : Version) (padded : ℕ) (o : Option Indexed) (f : Indexed) (n : ℕ) → o ≡ Some f → f.entry.content ≡ content.Number n
     → AreOther (option_to_list (vsize_finding v padded o)) → n ≡ vsize_of v padded
-found-size v padded o f n is number other =
-    let there = subst (λ (o : Option Indexed). AreOther (option_to_list (vsize_finding v padded o))) is other in
-    let same : content_number f.entry.content ≡ n = ap content_number number in
-    sym same
-    ∙ size-expected (content_number f.entry.content) (vsize_of v padded) f (content_number f.entry.content == vsize_of v padded) refl there
+found-size v padded o f n is number other = grind arith
 
 size-at : (h : Header) (len i : ℕ) (entries : List Indexed) (fs : List Field)
     → map (λ (x : Indexed). seen_by x.entry) (named is_vsize entries) ≡ map (seen len) fs → AreWhole fs → AreNumbered 0 fs
@@ -179,13 +166,7 @@ size-at h len i entries fs same w at other (Some f) there =
 whole-other : (l : Listing) (h : Header) → l.header ≡ Ok h → AreOther (whole_findings l)
     → AreOther (vsize_findings (layout_of h l.end l.file_len) (indexed l.entries))
 unfolding whole_findings
-whole-other l h is other =
-    let layout = layout_of h l.end l.file_len in
-    (both-other (vsize_findings layout (indexed l.entries)) (map (located (indexed l.entries)) (layout_findings layout))
-    (subst (λ (o : Result Header FormatFault). AreOther (elim o as (λ o. List Finding) [
-      | Ok h ↦ layout_facts (layout_of h l.end l.file_len) (indexed l.entries)
-      | Err fault ↦ []
-    ])) is other)).0
+whole-other l h is other = grind (arith, common_steps)
 
 read-header : (from : Bytes) (h : Header) (rest end : Bytes) (o : Result Header FormatFault) → run (header_by lenient) from ≡ Ok (h, rest)
     → IsOutcome from end o → o ≡ Ok h

@@ -1,40 +1,35 @@
 -- Which findings are faults: of those at fields alone, the ones at entries that the strict rules refuse; of all others, none.
-use Rattle.std.proofs.Common.{◌≡◌, ℕ, ◌+◌, ◌==◌, ◌&&◌, ◌||◌, ◌⊎◌, inl, inr, Bool, true, false, cond, List, [], ◌∷◌, ◌++◌, flat_map, find, slice_get, Option, Some, None, Result, Ok, Err, refl, sym, ◌∙◌, arith}
+use Rattle.std.proofs.Common.{◌≡◌, ℕ, ◌+◌, ◌||◌, ◌⊎◌, inl, inr, Bool, true, false, cond, List, [], ◌∷◌, ◌++◌, flat_map, find, slice_get, Option, Some, None, Result, Ok, Err, refl, sym, ◌∙◌, arith}
 use Rattle.std.specs.List.{All, Contains}
-use Rattle.std.specs.Option.{option_to_list, option_map, option_and_then}
+use Rattle.std.specs.Option.{option_to_list, option_map}
 use Rattle.std.proofs.lemmas.List.Folds.{list_any-append}
 use Rattle.std.proofs.lemmas.List.Elements.{All-nil, All-cons, All-append, All-map, Contains-append_right}
 use Rattle.nc_base.specs.declared.{fault.FormatFault.FormatFault, header.Header.Header, version.Version.Version}
 use Rattle.nc_base.specs.declared.fault.FormatFault.TheVariants.{FloatingType}
-use Rattle.nc_base.specs.Grammar.{vsize_of}
-use Rattle.nc_fields.specs.declared.{entry.Entry.Entry, entry.Content.Content, place.FieldName.FieldName, header.Listing.Listing}
-use Rattle.nc_fields.specs.declared.entry.Content.TheVariants as content
-use Rattle.nc_fields.specs.declared.place.FieldName.TheVariants as name
-use Rattle.nc_fields.specs.Entries.{number_of}
-use Rattle.nc_layout.specs.declared.{slot.Slot.Slot, slot.Layout.Layout, finding.LayoutFinding.LayoutFinding, finding.LayoutPlace.LayoutPlace}
-use Rattle.nc_layout.specs.declared.finding.LayoutPlace.TheVariants as places
+use Rattle.nc_fields.specs.declared.{entry.Entry.Entry, place.FieldName.FieldName, header.Listing.Listing}
+use Rattle.nc_layout.specs.declared.{slot.Slot.Slot, slot.Layout.Layout, finding.LayoutFinding.LayoutFinding}
 use Rattle.nc_layout.specs.Slots.{padded_slab}
 use Rattle.nc_layout.specs.Blocks.{each_slot}
 use Rattle.nc_layout.specs.Findings.{layout_findings}
 use Rattle.nc_layout.specs.HeaderLayout.{layout_of}
-use Rattle.nc_check.specs.declared.{finding.Fact.Fact, finding.Finding.Finding, ahead.NumberAt.NumberAt, ahead.Ahead.Ahead}
+use Rattle.nc_check.specs.declared.{finding.Fact.Fact, finding.Finding.Finding, ahead.Ahead.Ahead}
 use Rattle.nc_check.specs.declared.finding.Fact.TheVariants as fact
 use Rattle.nc_check.specs.Indexed.{Indexed, field_at, indexed_from, indexed, finding, each_before, each_after}
-use Rattle.nc_check.specs.FieldRules.{facts_of, findings_at, is_floating, floating_finding}
+use Rattle.nc_check.specs.FieldRules.{findings_at, is_floating, floating_finding}
 unfoldable use Rattle.nc_check.specs.FieldRules.{field_findings, floating_findings}
 unfoldable use Rattle.nc_check.specs.NameRules.{name_findings}
-use Rattle.nc_check.specs.NameRules.{NameKey, key_of, first_index, duplicate_name, is_first}
+use Rattle.nc_check.specs.NameRules.{duplicate_name, is_first}
 unfoldable use Rattle.nc_check.specs.AttributeRules.{attribute_findings}
-use Rattle.nc_check.specs.AttributeRules.{finding_if, empty_list, empty_attribute, trailing_nul, type_finding, fill_count, fill_finding, is_fill_name, name_finding, is_attribute, is_var_attribute, finding_by_name, attribute_finding}
+use Rattle.nc_check.specs.AttributeRules.{finding_by_name, attribute_finding}
 use Rattle.nc_check.specs.Ahead.{ahead_of}
 unfoldable use Rattle.nc_check.specs.WholeHeader.{vsize_findings, whole_findings}
-use Rattle.nc_check.specs.WholeHeader.{is_numrecs, is_vsize, is_begin, named, vsize_finding, found_at, located, layout_facts}
+use Rattle.nc_check.specs.WholeHeader.{is_vsize, named, vsize_finding, located, layout_facts}
 unfoldable use Rattle.nc_check.specs.HeaderRules.{header_findings}
 unfoldable use Rattle.nc_check.specs.Reports.{all_findings}
 use Rattle.check_laws.specs.FaultLaws.{is_fault}
 use Rattle.check_laws.specs.Laws.{has_any}
 use Rattle.check_laws.proofs.Refusals.{refusal_of}
-use Rattle.check_laws.proofs.FaultFindings.{quiet-facts, quiet-type, contains-first}
+use Rattle.check_laws.proofs.FaultFindings.{quiet-type, contains-first}
 
 -- ---- findings that are no faults
 
@@ -86,23 +81,8 @@ plain-names fs = plain _ (plain-after duplicate_name plain-name fs [])
 
 -- ---- attributes
 
-plain-list : (f : Indexed) (c : Content) (next : Option NumberAt) → ArePlain (option_to_list (empty_list f c next))
-plain-list f c next = grind arith
-
-plain-type : (c : Content) (ahead : Ahead) → ArePlain (option_to_list (type_finding c ahead))
-plain-type c ahead = grind arith
-
-plain-fill : (first : Bool) (c : Content) (ahead : Ahead) → ArePlain (option_to_list (name_finding first c ahead))
-plain-fill first c ahead = grind arith
-
 plain-by_name : (first : Bool) (place : FieldName) (f : Indexed) (ahead : Ahead) → ArePlain (option_to_list (finding_by_name first place f ahead))
-plain-by_name first name.DimsTag f ahead = plain-list f f.entry.content ahead.next
-plain-by_name first name.GlobalAttsTag f ahead = plain-list f f.entry.content ahead.next
-plain-by_name first name.VarsTag f ahead = plain-list f f.entry.content ahead.next
-plain-by_name first name.AttsTag f ahead = plain-list f f.entry.content ahead.next
-plain-by_name first name.Type f ahead = grind (arith, plain-type f.entry.content ahead)
-plain-by_name first name.Name f ahead = grind (arith, plain-fill first f.entry.content ahead)
-plain-by_name first place f ahead = refl
+plain-by_name first v1 f ahead = grind arith
 
 pub plain-attributes : (fs : List Indexed) → All Plain (attribute_findings fs)
 unfolding attribute_findings
@@ -156,9 +136,7 @@ quiet-lies : (Q : ℕ → Type 0) (fs : List Finding) → All Quiet fs → All (
 quiet-lies Q fs quiet k x lt is = absurd (let never : true ≡ false = sym is ∙ quiet k x lt in cc)
 
 entry-lies : (Q : ℕ → Type 0) (i : ℕ) (e : Entry) → RefusedLiesAt Q e → All (FaultsLieAt Q) (findings_at (field_at i e))
-entry-lies Q i e (inl none) =
-    quiet-lies Q _ (All-map Quiet (finding (field_at i e)) (facts_of e) (quiet-facts e none))
-entry-lies Q i e (inr at) = All-map (FaultsLieAt Q) (finding (field_at i e)) (facts_of e) (λ k x lt is. at)
+entry-lies v0 i e v3 = grind arith
 
 fields-lie : (Q : ℕ → Type 0) (i : ℕ) (es : List Entry) → ((e : Entry) → Contains es e → RefusedLiesAt Q e)
     → All (FaultsLieAt Q) (flat_map findings_at (indexed_from i es))

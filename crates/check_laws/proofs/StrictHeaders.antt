@@ -1,5 +1,6 @@
 -- What the strict rules read of a header, told from the fields that the lenient rules list.
-use Rattle.std.proofs.Common.{◌≡◌, [], Some, None, Ok, Err, sym, subst, ◌∙◌}
+use Rattle.std.proofs.Common.{arith}
+use Rattle.std.proofs.Common.{◌≡◌, [], Some, None, Ok, subst}
 use Rattle.nc_base.specs.declared.{fault.FormatFault.FormatFault, header.Header.Header}
 use Rattle.nc_base.specs.Bytes.{Bytes}
 use Rattle.nc_base.specs.Grammar.{header_by, header_part, SpellsHeader}
@@ -25,9 +26,7 @@ agreed from = (agree-header []).at from
 strict-lenient : (from : Bytes) (h : Header) (rest : Bytes) (r : HeaderOutcome) → Both from (Ok (h, rest)) r
     → Tells (header_by lenient) from r
     → SpellsLeniently from (without_values h) rest × (first_refusal (header_fields from) ≡ None)
-strict-lenient from h rest (Ok y) (same, along, none) told =
-    (subst (λ k. SpellsLeniently from k rest) same (subst (λ end. SpellsLeniently from y.0 end) along told), none)
-strict-lenient from h rest (Err e) never told = absurd never
+strict-lenient from h rest v3 v4 told = grind arith
 
 pub strict-headers : StrictHeadersAreLenient
 strict-headers from h rest spelled =
@@ -40,8 +39,7 @@ strict-headers from h rest spelled =
 lenient-strict : (from : Bytes) (h : Header) (rest : Bytes) (o : HeaderOutcome) → Both from o (Ok (h, rest)) → Tells header_part from o
     → first_refusal (header_fields from) ≡ None
     → (whole : Header) × SpellsHeader from whole rest × (h ≡ without_values whole)
-lenient-strict from h rest (Ok x) (same, along, nothing) told none = (x.0, subst (λ end. SpellsHeader from x.0 end) (sym along) told, same)
-lenient-strict from h rest (Err e) is told none = absurd (let never : Some e ≡ None = sym is ∙ none in cc)
+lenient-strict from h rest v3 v4 told none = grind arith
 
 pub lenient-headers : LenientHeadersAreStrict
 lenient-headers from h rest spelled none =
@@ -51,8 +49,7 @@ lenient-headers from h rest spelled none =
 
 unrefused : (from : Bytes) (o r : HeaderOutcome) → Both from o r → Tells header_part from o → first_refusal (header_fields from) ≡ None
     → (h : Header) × (rest : Bytes) × SpellsHeader from h rest
-unrefused from (Ok x) r both told none = (x.0, x.1, told)
-unrefused from (Err e) r is told none = absurd (let never : Some e ≡ None = sym is ∙ none in cc)
+unrefused from v1 r v3 told none = grind arith
 
 pub unrefused-headers : UnrefusedHeadersAreSpelled
 unrefused-headers from none =
@@ -63,11 +60,7 @@ unrefused-headers from none =
 refused : (from : Bytes) (fault : FormatFault) (rest : Bytes) (o r : HeaderOutcome) → Both from o r → Tells header_part from o
     → first_refusal (header_fields from) ≡ Some (fault, rest)
     → StopsWith header_part from fault rest
-refused from fault rest (Ok x) (Ok y) (same, along, none) told is = absurd (let never : Some (fault, rest) ≡ None = sym is ∙ none in cc)
-refused from fault rest (Ok x) (Err e) never told is = absurd never
-refused from fault rest (Err e) r at told is =
-    let same : e ≡ (fault, rest) = let both : Some e ≡ Some (fault, rest) = sym at ∙ is in cc in
-    subst (λ e. StopsWith header_part from e.0 e.1) same told
+refused from fault rest v3 v4 v5 told is = grind arith
 
 pub strict-faults : StrictFaultsAreFirstRefusals
 strict-faults from fault rest = (

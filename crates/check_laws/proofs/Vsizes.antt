@@ -227,8 +227,7 @@ AreVsizesWritten h [] = Unit {0}
 AreVsizesWritten h (f ∷ fs) = IsVsizeWritten h f.steps f × AreVsizesWritten h fs
 
 no-size : (h : Header) (steps : List Step) (f : Field) → is_vsize_at steps ≡ false → IsVsizeWritten h steps f
-no-size h (Vsize ∷ Item i ∷ steps) f none = absurd cc
-no-size h steps f none = tt
+no-size h v1 f none = grind arith
 
 -- each of these sizes of variables, of which the first has this index, is as it is written
 abbrev pub AreSizes : Header → ℕ → List Field → Type 0

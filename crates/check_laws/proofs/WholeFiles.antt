@@ -1,5 +1,6 @@
 -- A report has no fault and finds no missing values exactly if the file holds a dataset.
-use Rattle.std.proofs.Common.{◌≡◌, ℕ, Bool, false, List, [], ◌∷◌, length, map, Option, Some, None, is_some, refl, sym, ap, ◌∙◌, subst}
+use Rattle.std.proofs.Common.{arith}
+use Rattle.std.proofs.Common.{◌≡◌, ℕ, Bool, false, List, [], ◌∷◌, length, map, Option, None, is_some, refl, sym, ap, ◌∙◌, subst}
 use Rattle.std.specs.List.{All, concat, list_any}
 use Rattle.std.proofs.lemmas.List.Elements.{All-nil, All-cons}
 use Rattle.std.proofs.lemmas.List.Folds.{list_any_none}
@@ -32,8 +33,7 @@ none-passes test (x ∷ xs) none =
     let both = neither (test x) (list_any test xs) none in All-cons (λ x. test x ≡ false) x xs both.0 (none-passes test xs both.1)
 
 not-some : (o : Option ℕ) → is_some o ≡ false → o ≡ None
-not-some None none = refl
-not-some (Some k) none = absurd cc
+not-some v0 none = grind arith
 
 whole-lacks : (h : Header) (bytes : Bytes) (n : ℕ) → n ≡ record_count h (length bytes) → AreWhole h bytes n
     → list_any (lacks_values h bytes) h.vars ≡ false

@@ -1,19 +1,20 @@
 -- Parts whose fields are as they are written: the bytes are what is written of the value.
-use Rattle.std.proofs.Common.{◌≡◌, ℕ, suc, zero, Bool, true, leb, List, [], ◌∷◌, ◌++◌, length, take, Option, Some, None, Result, Ok, Err, refl, sym, ap, ◌∙◌, subst, arith, append_assoc, replicate, if◌then◌else◌, le-leb, length-append}
+use Rattle.std.proofs.lemmas.Grind.{common_steps}
+use Rattle.std.proofs.Common.{◌≡◌, ℕ, suc, zero, Bool, List, [], ◌∷◌, ◌++◌, length, take, Option, Some, None, Result, Ok, Err, refl, sym, ap, ◌∙◌, subst, arith, append_assoc, replicate, if◌then◌else◌}
 use Rattle.std.proofs.Math.Seq.{take-append_seam}
 use Rattle.std.specs.Int.{Width, w32, w64, byte_len, to_be_bytes, from_be_bytes}
 use Rattle.nc_base.proofs.Prelude.{be_bytes_4, be_bytes_8}
 use Rattle.nc_base.specs.declared.{header.Header.Header, version.Version.Version, fault.FormatFault.FormatFault}
 use Rattle.nc_base.specs.declared.fault.FormatFault.TheVariants.{HeaderTruncated}
 use Rattle.nc_base.specs.Bytes.{Bytes, AreBytes}
-use Rattle.nc_base.specs.Parts.{Step, Part, done, bytes, decoded, under, chain, Spells, print, Padding, Tag, Vsize, Item}
+use Rattle.nc_base.specs.Parts.{Step, Part, done, bytes, decoded, under, chain, Spells, print, Padding}
 use Rattle.nc_base.specs.code.PartRuns.{Outcome}
 use Rattle.nc_base.specs.Versions.{count_width, offset_width}
 use Rattle.nc_base.specs.Grammar.{checked}
 unfoldable use Rattle.nc_base.specs.Grammar.{number, ignored}
 use Rattle.nc_base.proofs.PartOutcomes.{reads}
 use Rattle.nc_fields.specs.Fields.{Field, fields, judged}
-use Rattle.check_laws.specs.Written.{IsWrittenTag, IsWritten, AreWritten}
+use Rattle.check_laws.specs.Written.{IsWritten, AreWritten}
 
 -- ---- the fields of what is spelled
 
@@ -27,9 +28,7 @@ at-start content rest n count = rw (← count) (take-append_seam content rest)
 pub bytes-fields : (steps : List Step) (n : ℕ) (cut : FormatFault) (from content rest : Bytes) → length content ≡ n → from ≡ content ++ rest
     → fields steps (bytes n cut) from ≡ whole_field steps from n ∷ []
 unfolding fields
-bytes-fields steps n cut from content rest count is =
-    let enough : leb n (length from) ≡ true = le-leb _ _ (omega (arith, count, ap length is, length-append content rest)) in
-    ap (λ (b : Bool). record { steps = steps; start = from; size = n; fault = if b then None else Some cut } ∷ []) enough
+bytes-fields steps n cut from content rest count is = grind (arith, common_steps)
 
 pub decoded-fields : {A B : Type 0} (steps : List Step) (decode : A → Result B FormatFault) (encode : B → A) (p : Part A)
     (from : Bytes) (x : A) (y : B) (rest : Bytes) → Spells p from x rest → decode x ≡ Ok y
@@ -54,16 +53,9 @@ chain-fields {A = A} steps get p next from x middle s =
 
 -- ---- fields that are written, in two lists
 
-still-tag : (tag : ℕ) (fs more : List Field) → IsWrittenTag tag (fs ++ more) → IsWrittenTag tag fs
-still-tag tag [] more w = tt
-still-tag tag (count ∷ fs) more w = w
-
 still-written : (h : Header) (steps : List Step) (f : Field) (fs more : List Field) → IsWritten h steps f (fs ++ more)
     → IsWritten h steps f fs
-still-written h (Padding ∷ steps) f fs more w = w
-still-written h (Tag ∷ steps) f fs more w = still-tag _ fs more w
-still-written h (Vsize ∷ Item i ∷ steps) f fs more w = w
-still-written h steps f fs more w = w
+still-written h v1 f fs more w = grind arith
 
 pub first-written : (h : Header) (fs more : List Field) → AreWritten h (fs ++ more) → AreWritten h fs
 first-written h [] more w = tt

@@ -3,7 +3,7 @@
 -- such a file. If nothing is found at begins and at the end of the file either, then the file has the header and the length of a generated
 -- file. Without faults and missing values, the file holds a dataset. The report of a generated file has no fault and no missing values, and
 -- finds nothing about the spelling, at begins and at the end.
-use Rattle.std.specs.Prelude.{ℕ, ◌≡◌, ◌↔◌, ◌+◌, Bool, true, false, List, ◌++◌, length}
+use Rattle.std.specs.Prelude.{ℕ, ◌≡◌, ◌↔◌, Bool, true, false, List, ◌++◌, length}
 use Rattle.std.specs.List.{list_any}
 use Rattle.nc_base.specs.declared.{dataset.Dataset.Dataset, header.Header.Header}
 use Rattle.nc_base.specs.declared.header.NumRecs.TheVariants.{Known}

@@ -25,10 +25,6 @@ count_by-cons p x xs = sum_by-cons (λ y. cond (p y) 1 0) x xs
 count_by-taken : (p : Slot → Bool) (x : Slot) (xs : List Slot) → p x ≡ true → count_by p (x ∷ xs) ≡ 1 + count_by p xs
 count_by-taken p x xs is = count_by-cons p x xs ∙ ap (λ b. cond b 1 0 + count_by p xs) is
 
-count_by-skipped : (p : Slot → Bool) (x : Slot) (xs : List Slot) → p x ≡ false → count_by p (x ∷ xs) ≡ count_by p xs
-count_by-skipped p x xs is = let e : count_by p (x ∷ xs) ≡ 0 + count_by p xs = count_by-cons p x xs
-    ∙ ap (λ b. cond b 1 0 + count_by p xs) is in omega arith
-
 some_passes : (p : Slot → Bool) (xs : List Slot) → list_any p xs ≡ nat_lt 0 (count_by p xs)
 some_passes p [] = refl
 some_passes p (x ∷ xs) = grind (arith, common_steps, some_passes p xs)

@@ -15,11 +15,6 @@ pub rest-taken : (slots : List Slot) (i : ℕ) (d : Slot) → i < length slots �
 rest-taken slots i d lt is =
     at_drop_more record_slots slots i d lt ∙ ap (λ b. if b then get_or slots i d ∷ rest slots (i + 1) else rest slots (i + 1)) is
 
-pub rest-skipped : (slots : List Slot) (i : ℕ) (d : Slot) → i < length slots → (get_or slots i d).is_record ≡ false
-    → rest slots i ≡ rest slots (i + 1)
-rest-skipped slots i d lt is =
-    at_drop_more record_slots slots i d lt ∙ ap (λ b. if b then get_or slots i d ∷ rest slots (i + 1) else rest slots (i + 1)) is
-
 -- ---- the least begin
 
 -- the least of a number, if there is one, and the begins of these slots
