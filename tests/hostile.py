@@ -43,7 +43,7 @@ HEADER_FAULT = re.compile(
 )
 # the kinds of findings that are faults of a header, by the words for the fault
 KINDS = {
-    b"not a netCDF classic file": {b"not-netcdf"},
+    b"not a netCDF classic file": {b"not-netcdf", b"hdf5", b"gzip", b"empty-file"},
     b"unknown version": {b"unknown-version"},
     b"header truncated": {b"header-truncated"},
     b"bad tag": {b"bad-tag"},

@@ -1,5 +1,5 @@
 -- The parts of a header agree by the strict and the lenient rules, up to the first field that the strict rules refuse.
-use Rattle.std.proofs.Common.{◌≡◌, ℕ, ◌*◌, ◌==◌, ◌||◌, ◌&&◌, not, Bool, true, false, List, [], ◌∷◌, length, map, Option, Some, None, Result, Ok, Err, refl, sym, ap, ◌∙◌, subst, arith, replicate, nat_lt, codes, eqb-true, if◌then◌else◌}
+use Rattle.std.proofs.Common.{◌≡◌, ℕ, ◌*◌, ◌==◌, ◌||◌, ◌&&◌, not, Bool, true, false, List, [], ◌∷◌, length, map, take, Option, Some, None, Result, Ok, Err, refl, sym, ap, ◌∙◌, subst, arith, replicate, nat_lt, codes, eqb-true, if◌then◌else◌}
 use Rattle.std.specs.Int.{Width, byte_len, from_be_bytes, to_be_bytes, w32}
 use Rattle.std.specs.Str.{bytes_eq}
 use Rattle.nc_base.specs.declared.{fault.FormatFault.FormatFault, header.Dim.Dim, header.Var.Var, header.NumRecs.NumRecs, nc_type.NcType.NcType, version.Version.Version}
@@ -138,8 +138,9 @@ agree-numrecs v steps =
     agree-field (λ n. n) (Records ∷ steps) (byte_len (count_width v)) HeaderTruncated _ _ _ _
     (then-judged (numrecs_in strict v) (number_of_numrecs v) (number-judged (count_width v)))
     (then-judged (numrecs_in lenient v) (number_of_numrecs v) (number-judged (count_width v)))
-    (λ bs.
+    (λ from.
     let size = byte_len (count_width v) in
+    let bs = take size from in
     let n = from_be_bytes (count_width v) bs in
     subst (λ k. Judges (λ n. n) (numrecs_in strict v n) (numrecs_in lenient v n)
     (refusal_in size (content.Number k) (Records ∷ steps) (fault_of (numrecs_in lenient v n)))) (sym (number-in_count v bs))
@@ -184,8 +185,9 @@ agree-length v has_record k steps =
     agree-field (λ n. n) (Length ∷ Item k ∷ steps) (byte_len (count_width v)) HeaderTruncated _ _ _ _
     (then-judged (λ n. if test n then Ok n else Err TwoRecordDims) (λ n. n) (limited-judged (count_limit v) v))
     (then-judged (λ n. if test n then Ok n else Err TwoRecordDims) (λ n. n) (limited-judged (any_length_limit v) v))
-    (λ bs.
+    (λ from.
     let size = byte_len (count_width v) in
+    let bs = take size from in
     let n = from_be_bytes (count_width v) bs in
     let strict_len = length_if test n (nat_lt n (count_limit v)) in
     let lenient_len = length_if test n (nat_lt n (any_length_limit v)) in
@@ -223,7 +225,8 @@ agree-text n steps =
     agree-field (λ text. text) (Text ∷ steps) n HeaderTruncated _ _ _ _
     (then-judged (λ bs. judge_name (is_name bs) bs) (λ bs. bs) (bytes-judged n HeaderTruncated))
     (then-judged (λ bs. judge_name (may_be_name bs) bs) (λ bs. bs) (bytes-judged n HeaderTruncated))
-    (λ bs.
+    (λ from.
+    let bs = take n from in
     subst (Judges (λ text. text) (judge_name (is_name bs) bs) (judge_name (may_be_name bs) bs))
     (same-refusal n bs steps (fault_of (judge_name (may_be_name bs) bs)))
     (text-judges bs (is_name bs) (may_be_name bs) refl refl))
@@ -268,7 +271,7 @@ agree-type v steps =
     agree-field (λ ty. ty) (TypeCode ∷ steps) 4 HeaderTruncated _ _ _ _
     (then-judged (type_in v) code_of (number-judged w32))
     (then-judged (sized_type_in v) code_of (number-judged w32))
-    (λ bs. type-judges (from_be_bytes w32 bs == 5) (from_be_bytes w32 bs == 6) _)
+    (λ from. type-judges (from_be_bytes w32 (take 4 from) == 5) (from_be_bytes w32 (take 4 from) == 6) _)
 
 tested-judges : (test : NcType → Bool) (is_float is_double : Bool) (y : Result NcType FormatFault)
     → Judges (λ ty. ty) (test_type test (strict_type is_float is_double y)) (test_type test (lenient_type is_float is_double y))
@@ -284,7 +287,7 @@ agree-tested_type v test steps =
     agree-field (λ ty. ty) (TypeCode ∷ steps) 4 HeaderTruncated _ _ _ _
     (then-judged (λ ty. if test ty then Ok ty else Err TooLarge) (λ ty. ty) (then-judged (type_in v) code_of (number-judged w32)))
     (then-judged (λ ty. if test ty then Ok ty else Err TooLarge) (λ ty. ty) (then-judged (sized_type_in v) code_of (number-judged w32)))
-    (λ bs. tested-judges test (from_be_bytes w32 bs == 5) (from_be_bytes w32 bs == 6) _)
+    (λ from. tested-judges test (from_be_bytes w32 (take 4 from) == 5) (from_be_bytes w32 (take 4 from) == 6) _)
 
 -- ---- lists
 

@@ -57,19 +57,19 @@ only-refusal : (f : Field) (o : Option FormatFault) → refusal f ≡ o → firs
 only-refusal f o e = ap (refused_at f) e
 
 whole-refusal : (f : Field) → nat_lt (length f.start) f.size ≡ false
-    → refusal f ≡ refusal_in f.size (whole_content f.steps f.size (take f.size f.start)) f.steps f.fault
+    → refusal f ≡ refusal_in f.size (whole_content f.steps f.size f.start) f.steps f.fault
 whole-refusal f whole =
-    ap (λ b. cond b f.fault (refusal_in f.size (whole_content f.steps f.size (take f.size f.start)) f.steps f.fault)) whole
+    ap (λ b. cond b f.fault (refusal_in f.size (whole_content f.steps f.size f.start) f.steps f.fault)) whole
 
 cut-refusal : (f : Field) → nat_lt (length f.start) f.size ≡ true → refusal f ≡ f.fault
 cut-refusal f cut =
-    ap (λ b. cond b f.fault (refusal_in f.size (whole_content f.steps f.size (take f.size f.start)) f.steps f.fault)) cut
+    ap (λ b. cond b f.fault (refusal_in f.size (whole_content f.steps f.size f.start) f.steps f.fault)) cut
 
 abbrev field_with : List Step → Bytes → ℕ → Option FormatFault → Field
 field_with steps from n fault = record { steps = steps; start = from; size = n; fault = fault }
 
 whole-agrees : {A B : Type 0} (f : A → B) (steps : List Step) (n : ℕ) (from : Bytes) (x : Result A FormatFault) (y : Result B FormatFault)
-    → nat_lt (length from) n ≡ false → Judges f x y (refusal_in n (whole_content steps n (take n from)) steps (fault_of y))
+    → nat_lt (length from) n ≡ false → Judges f x y (refusal_in n (whole_content steps n from) steps (fault_of y))
     → Agrees f (with_rest x (drop n from)) (with_rest y (drop n from))
     (first_refusal (field_with steps from n (fault_in (with_rest y (drop n from))) ∷ []))
 whole-agrees f steps n from (Ok x) (Ok y) whole (same, none) =
@@ -93,7 +93,7 @@ cut-agrees steps n cut from lt =
 field-agrees : {A B : Type 0} (f : A → B) (steps : List Step) (n : ℕ) (cut : FormatFault) (p : Part A) (q : Part B)
     (judge : Bytes → Result A FormatFault) (other : Bytes → Result B FormatFault)
     → IsJudged n (bytes n cut) p judge → IsJudged n (bytes n cut) q other
-    → ((bs : Bytes) → Judges f (judge bs) (other bs) (refusal_in n (whole_content steps n bs) steps (fault_of (other bs))))
+    → ((from : Bytes) → Judges f (judge (take n from)) (other (take n from)) (refusal_in n (whole_content steps n from) steps (fault_of (other (take n from)))))
     → (from : Bytes) → Agrees f (run p from) (run q from) (first_refusal (fields steps q from))
 unfolding run
 field-agrees {A = A} {B = B} f steps n cut p q judge other is too judges from =
@@ -109,7 +109,7 @@ field-agrees {A = A} {B = B} f steps n cut p q judge other is too judges from =
         (first_refusal (field_with steps from n
         (fault_in (and_then (cond b (Ok (take n from, drop n from)) (Err (cut, []))) (λ x rest. with_rest (other x) rest))) ∷ []))
     by-test from true e =
-        whole-agrees f steps n from (judge (take n from)) (other (take n from)) (le-ltb _ _ (leb-true _ _ e)) (judges (take n from))
+        whole-agrees f steps n from (judge (take n from)) (other (take n from)) (le-ltb _ _ (leb-true _ _ e)) (judges from)
     by-test from false e = cut-agrees steps n cut from (leb-false _ _ e)
 
 same-fault : {A B : Type 0} (f : A → B) (o : Outcome A) (r : Outcome B) (refused : Option (FormatFault × Bytes)) (x : A × Bytes)
@@ -121,7 +121,7 @@ same-fault f (Err e) r refused x agrees is = absurd cc
 pub agree-field : {A B : Type 0} (f : A → B) (steps : List Step) (n : ℕ) (cut : FormatFault) (p : Part A) (q : Part B)
     (judge : Bytes → Result A FormatFault) (other : Bytes → Result B FormatFault)
     → IsJudged n (bytes n cut) p judge → IsJudged n (bytes n cut) q other
-    → ((bs : Bytes) → Judges f (judge bs) (other bs) (refusal_in n (whole_content steps n bs) steps (fault_of (other bs))))
+    → ((from : Bytes) → Judges f (judge (take n from)) (other (take n from)) (refusal_in n (whole_content steps n from) steps (fault_of (other (take n from)))))
     → Agree f steps p q
 agree-field f steps n cut p q judge other is too judges =
     let at = field-agrees f steps n cut p q judge other is too judges in
@@ -139,13 +139,13 @@ same-judges (Err e) refused is = is
 
 -- a field of these steps is refused only if it is wrong
 abbrev pub IsPlain : List Step → Type 0
-IsPlain steps = (n : ℕ) (bs : Bytes) (fault : Option FormatFault) → refusal_in n (whole_content steps n bs) steps fault ≡ fault
+IsPlain steps = (n : ℕ) (start : Bytes) (fault : Option FormatFault) → refusal_in n (whole_content steps n start) steps fault ≡ fault
 
 -- a field that both read alike
 pub agree-plain : {A : Type 0} {steps : List Step} {n : ℕ} {cut : FormatFault} {p : Part A} {judge : Bytes → Result A FormatFault}
     → IsPlain steps → IsJudged n (bytes n cut) p judge → Agree (λ x. x) steps p p
 agree-plain {steps = steps} {n = n} {cut = cut} {p = p} {judge = judge} plain is =
-    agree-field (λ x. x) steps n cut p p judge judge is is (λ bs. same-judges (judge bs) _ (plain n bs (fault_of (judge bs))))
+    agree-field (λ x. x) steps n cut p p judge judge is is (λ from. same-judges (judge (take n from)) _ (plain n from (fault_of (judge (take n from)))))
 
 -- ---- parts that are made of others
 

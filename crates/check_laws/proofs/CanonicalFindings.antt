@@ -55,7 +55,7 @@ no-nonzero (suc n) = no-nonzero n
 
 facts-other : (h : Header) (size : ℕ) (place : FieldName) (o : Owner) (g : Indexed) (f : Field) (fs : List Field)
     → IsCanonical h (name_steps place ++ owner_steps o) f fs
-    → AreOther (map (finding g) (content_facts place size (whole_content (name_steps place ++ owner_steps o) f.size (bytes_of f))))
+    → AreOther (map (finding g) (content_facts place size (whole_content (name_steps place ++ owner_steps o) f.size f.start)))
 facts-other h size name.NumRecs o g f fs is = last-other g _ fact.LargeCount refl
 facts-other h size name.Length o g f fs is = last-other g _ fact.LargeCount refl
 facts-other h size name.NameLength o g f fs is = last-other g _ fact.LongName refl
@@ -80,13 +80,13 @@ name-other first c ahead = grind arith
 
 -- what is found at a tag before this field
 empty-other : (tag : ℕ) (g : Indexed) (i offset : ℕ) (steps : List Step) (f : Field) → (not (tag == 0) && (number_of f == 0)) ≡ false
-    → IsOther (empty_list g (content.Number tag) (number_in i offset (whole_content steps f.size (bytes_of f))))
+    → IsOther (empty_list g (content.Number tag) (number_in i offset (whole_content steps f.size f.start)))
 empty-other tag g i offset v4 f is = grind arith
 
 -- an entry that shows this field
 record IsOf (len : ℕ) (e : Entry) (f : Field) : Type 0 where
   steps : steps_of e.place ≡ f.steps
-  content : e.content ≡ whole_content f.steps f.size (bytes_of f)
+  content : e.content ≡ whole_content f.steps f.size f.start
   sound : e.fault ≡ None
 
 is-of : (len : ℕ) (e : Entry) (f : Field) → IsWhole f → seen_by e ≡ seen len f → IsOf len e f
@@ -105,7 +105,7 @@ tag-other len tag g k (e ∷ es) (f ∷ fs) same whole is =
 -- what is found at an entry with this content, which shows this field
 rule-other : (h : Header) (len : ℕ) (first : Bool) (place : FieldName) (o : Owner) (g : Indexed) (k : ℕ) (es : List Entry) (f : Field) (fs : List Field)
     → map seen_by es ≡ map (seen len) fs → AreWhole fs → IsCanonical h (name_steps place ++ owner_steps o) f fs
-    → g.entry.content ≡ whole_content (name_steps place ++ owner_steps o) f.size (bytes_of f)
+    → g.entry.content ≡ whole_content (name_steps place ++ owner_steps o) f.size f.start
     → IsOther (finding_by_name first place g (ahead_of (indexed_from k es)))
 rule-other h len first place o g k es f fs same whole is shows = by-place place is shows
   where
@@ -116,7 +116,7 @@ rule-other h len first place o g k es f fs same whole is shows = by-place place 
         (tag-other len (number_of f) g k es fs same whole is)
 
     by-place : (place : FieldName) → IsCanonical h (name_steps place ++ owner_steps o) f fs
-        → g.entry.content ≡ whole_content (name_steps place ++ owner_steps o) f.size (bytes_of f)
+        → g.entry.content ≡ whole_content (name_steps place ++ owner_steps o) f.size f.start
         → IsOther (finding_by_name first place g (ahead_of (indexed_from k es)))
     by-place name.DimsTag is shows = at-tag is shows
     by-place name.GlobalAttsTag is shows = at-tag is shows
@@ -146,8 +146,8 @@ fields-other h len all k (e ∷ es) (f ∷ fs) same whole are =
     let after = indexed_from (k + 1) es in
     let of = is-of len e f whole.0 first in
     let is = subst (λ steps. IsCanonical h steps f fs) (sym of.steps) are.0 in
-    let shows : e.content ≡ whole_content (steps_of e.place) f.size (bytes_of f) =
-    of.content ∙ ap (λ steps. whole_content steps f.size (bytes_of f)) (sym of.steps) in
+    let shows : e.content ≡ whole_content (steps_of e.place) f.size f.start =
+    of.content ∙ ap (λ steps. whole_content steps f.size f.start) (sym of.steps) in
     let more = fields-other h len all (k + 1) es fs rest whole.1 are.1 in
     record {
       alone = other-then (findings_at g) (field_findings after)

@@ -1,10 +1,10 @@
 -- Findings that are faults lie at entries that the strict rules refuse, and there is one at the first of these.
-use Rattle.std.proofs.Common.{◌≡◌, ℕ, ◌==◌, ◌||◌, ◌⊎◌, inl, inr, not, Bool, true, false, cond, List, [], ◌∷◌, ◌++◌, Option, Some, None, refl, sym, ap, ◌∙◌, subst, arith}
+use Rattle.std.proofs.Common.{◌≡◌, ℕ, ◌==◌, ◌||◌, ◌⊎◌, inl, inr, not, Bool, true, false, cond, List, [], ◌∷◌, ◌++◌, length, take, Option, Some, None, refl, sym, ap, ◌∙◌, subst, arith}
 use Rattle.std.specs.List.{All, Contains}
 use Rattle.std.specs.Option.{option_to_list}
 use Rattle.std.proofs.lemmas.List.Elements.{All-nil, All-cons, All-append}
 use Rattle.nc_base.specs.declared.{fault.FormatFault.FormatFault}
-use Rattle.nc_base.specs.declared.fault.FormatFault.TheVariants.{BadCount, BadName, FloatingType}
+use Rattle.nc_base.specs.declared.fault.FormatFault.TheVariants.{NotNetcdf, BadCount, BadName, FloatingType}
 use Rattle.nc_base.specs.Bytes.{Bytes}
 use Rattle.nc_base.specs.Names.{is_name}
 use Rattle.nc_fields.specs.declared.{entry.Entry.Entry, entry.Content.Content, place.FieldName.FieldName, place.Owner.Owner}
@@ -12,11 +12,12 @@ use Rattle.nc_fields.specs.declared.entry.Content.TheVariants as content
 use Rattle.nc_fields.specs.declared.place.FieldName.TheVariants as name
 use Rattle.nc_fields.specs.declared.place.Owner.TheVariants as owner
 use Rattle.nc_base.specs.Parts.{Length}
-use Rattle.nc_fields.specs.Entries.{name_steps, owner_steps}
+use Rattle.std.specs.Str.{bytes_eq}
+use Rattle.nc_fields.specs.Entries.{hdf5_signature, name_steps, owner_steps}
 use Rattle.check_laws.specs.Agreement.{refusal_in}
 use Rattle.nc_check.specs.declared.{finding.Fact.Fact}
-use Rattle.nc_check.specs.declared.finding.Fact.TheVariants.{Fault, NameCharacters, LargeCount}
-use Rattle.nc_check.specs.FieldRules.{is_large_count, is_large_numrecs, fact_if, number_fact, bytes_fact, form_fact, content_facts, facts_with, facts_of, is_floating_in}
+use Rattle.nc_check.specs.declared.finding.Fact.TheVariants.{Fault, Hdf5, Gzip, EmptyFile, NameCharacters, LargeCount}
+use Rattle.nc_check.specs.FieldRules.{gzip_signature, fault_fact, is_large_count, is_large_numrecs, fact_if, number_fact, bytes_fact, form_fact, content_facts, facts_with, facts_of, is_floating_in}
 unfoldable use Rattle.nc_check.specs.FieldRules.{field_findings, floating_findings}
 use Rattle.check_laws.specs.FaultLaws.{strict_fault, is_fault}
 use Rattle.check_laws.proofs.Refusals.{refusal_of}
@@ -130,6 +131,18 @@ quiet-type e none = by-test (is_floating_in e.place.name e.content) refl
 pub contains-first : {X : Type 0} (x : X) (xs : List X) → Contains (x ∷ xs) x
 contains-first x xs = (0, omega arith, refl)
 
+-- a field's fault, or what stands at the start of a file in place of `CDF`
+pub fault-fact : (P : Fact → Type 0) (fault : FormatFault) (c : Content) → P Hdf5 → P Gzip → P EmptyFile → P (Fault fault) → P (fault_fact fault c)
+fault-fact P NotNetcdf (content.Bytes bs) hdf5 gzip empty is =
+    by-tests (bytes_eq hdf5_signature bs) (bytes_eq gzip_signature (take 2 bs)) (length bs == 0)
+  where
+    by-tests : (a b d : Bool) → P (cond a Hdf5 (cond b Gzip (cond d EmptyFile (Fault NotNetcdf))))
+    by-tests true b d = hdf5
+    by-tests false true d = gzip
+    by-tests false false true = empty
+    by-tests false false false = is
+fault-fact P fault c hdf5 gzip empty is = is
+
 -- one of these facts is such a one
 pub record HasFact (P : Fact → Type 0) (facts : List Fact) : Type 0 where
   pub fact : Fact
@@ -149,12 +162,16 @@ ShowsFault place size c o fault = HasFact (IsFault fault) (facts_with o place si
 
 -- a field with a fault
 pub own-fact : (P : Fact → Type 0) (place : FieldName) (size : ℕ) (c : Content) (o : Option FormatFault) (fault : FormatFault) → o ≡ Some fault
-    → P (Fault fault) → HasFact P (facts_with o place size c)
-own-fact P place size c o fault same is = subst (λ o. HasFact P (facts_with o place size c)) (sym same) (has-first P (Fault fault) [] is)
+    → P (fault_fact fault c) → HasFact P (facts_with o place size c)
+own-fact P place size c o fault same is = subst (λ o. HasFact P (facts_with o place size c)) (sym same) (has-first P (fault_fact fault c) [] is)
+
+strict-fault : (fault : FormatFault) (c : Content) → IsFault fault (fault_fact fault c)
+strict-fault NotNetcdf c = fault-fact (IsFault NotNetcdf) NotNetcdf c refl refl refl refl
+strict-fault fault c = refl
 
 own-fault : (place : FieldName) (size : ℕ) (c : Content) (o : Option FormatFault) (fault : FormatFault) → o ≡ Some fault
     → ShowsFault place size c o fault
-own-fault place size c o fault same = inl (own-fact (IsFault fault) place size c o fault same refl)
+own-fault place size c o fault same = inl (own-fact (IsFault fault) place size c o fault same (strict-fault fault c))
 
 bad-name : (bs : Bytes) (fault : FormatFault) (b : Bool) → cond b None (Some BadName) ≡ Some fault
     → HasFact (IsFault fault) (option_to_list (fact_if (not b) NameCharacters) ++ option_to_list (form_fact name.Name bs))

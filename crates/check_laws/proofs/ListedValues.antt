@@ -33,7 +33,7 @@ use Rattle.nc_check.specs.Reports.{all_findings, IsReport}
 use Rattle.check_laws.specs.ErrorLaws.{HasNoError, ListedHeadersTellMissingValues, ListedHeadersHaveSlabsApart, ReportsWithoutErrorsHaveValues}
 use Rattle.check_laws.specs.FaultLaws.{is_missing}
 use Rattle.check_laws.specs.Laws.{is_of_layout}
-use Rattle.check_laws.proofs.FaultFindings.{own-fact}
+use Rattle.check_laws.proofs.FaultFindings.{fault-fact, own-fact}
 use Rattle.check_laws.proofs.FieldPlaces.{HasFault, Shows, is_floating_fault, shown-faults}
 use Rattle.check_laws.proofs.FirstFaults.{Finds, finds-left, finds-right, finds-map, finds-among_all}
 use Rattle.check_laws.proofs.LayoutFacts.{listing-finds-none}
@@ -80,7 +80,8 @@ finds-error len i [] (f ∷ fs) fault same h plain = absurd cc
 finds-error len i (e ∷ es) [] fault same h plain = absurd cc
 finds-error len i (e ∷ es) (f ∷ fs) fault same (inl is) plain =
     let first : seen_by e ≡ seen len f = cc in
-    let own = own-fact IsError e.place.name e.size e.content e.fault fault (ap (λ (s : Seen). s.fault) first ∙ is) (error-fault fault plain) in
+    let own = own-fact IsError e.place.name e.size e.content e.fault fault (ap (λ (s : Seen). s.fault) first ∙ is)
+    (fault-fact IsError fault e.content refl refl refl (error-fault fault plain)) in
     (e.offset, finds-left (findings_at (field_at i e)) (flat_map findings_at (indexed_from (i + 1) es)) (finds-map IsError (field_at i e) (facts_of e) own))
 finds-error len i (e ∷ es) (f ∷ fs) fault same (inr h) plain =
     let others : map seen_by es ≡ map (seen len) fs = cc in

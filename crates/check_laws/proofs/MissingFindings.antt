@@ -26,13 +26,13 @@ use Rattle.nc_layout.proofs.SpelledLayouts.{spelled-layout}
 use Rattle.nc_check.specs.declared.{finding.Fact.Fact, finding.Finding.Finding}
 use Rattle.nc_check.specs.declared.finding.Fact.TheVariants as fact
 use Rattle.nc_check.specs.Indexed.{Indexed, field_at, indexed_from, indexed, finding}
-use Rattle.nc_check.specs.FieldRules.{number_fact, bytes_fact, form_fact, content_facts, facts_with, facts_of, findings_at, is_floating}
+use Rattle.nc_check.specs.FieldRules.{fault_fact, number_fact, bytes_fact, form_fact, content_facts, facts_with, facts_of, findings_at, is_floating}
 unfoldable use Rattle.nc_check.specs.FieldRules.{field_findings, floating_findings}
 unfoldable use Rattle.nc_check.specs.HeaderRules.{header_findings}
 use Rattle.nc_check.specs.WholeHeader.{vsize_findings, located, layout_facts, whole_findings}
 unfoldable use Rattle.nc_check.specs.Reports.{all_findings}
 use Rattle.check_laws.specs.FaultLaws.{is_missing, ReportsTellMissingValues}
-use Rattle.check_laws.proofs.FaultFindings.{only, if-none}
+use Rattle.check_laws.proofs.FaultFindings.{fault-fact, only, if-none}
 use Rattle.check_laws.proofs.LayoutFacts.{all-located, is-read, whole-header, same-layout}
 use Rattle.check_laws.proofs.QuietRules.{is_layout, Plain, plain-names, plain-attributes, plain-vsizes}
 
@@ -76,7 +76,7 @@ other-content place size (content.Bytes bs) = All-append OtherFact _ _ (other-by
 other-content place size c = All-nil OtherFact
 
 other-facts : (o : Option FormatFault) (place : FieldName) (size : ℕ) (c : Content) → All OtherFact (facts_with o place size c)
-other-facts (Some fault) place size c = only OtherFact (fact.Fault fault) refl
+other-facts (Some fault) place size c = only OtherFact (fault_fact fault c) (fault-fact OtherFact fault c refl refl refl refl)
 other-facts None place size c = other-content place size c
 
 other-fields : (i : ℕ) (es : List Entry) → All Other (flat_map findings_at (indexed_from i es))

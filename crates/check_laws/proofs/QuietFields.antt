@@ -163,11 +163,11 @@ all-zeros (b ∷ bs) e =
     is-zero : (b : ℕ) → not (b == 0) ≡ false → b ≡ 0
     is-zero b e = grind arith
 
-pub seen-content : (len : ℕ) (f : Field) → IsWhole f → (seen len f).content ≡ whole_content f.steps f.size (bytes_of f)
+pub seen-content : (len : ℕ) (f : Field) → IsWhole f → (seen len f).content ≡ whole_content f.steps f.size f.start
 unfolding seen
-seen-content len f w = ap (λ b. cond b (cut_content f.steps f.start) (whole_content f.steps f.size (bytes_of f))) w.whole
+seen-content len f w = ap (λ b. cond b (cut_content f.steps f.start) (whole_content f.steps f.size f.start)) w.whole
 
-count-written : (tag : ℕ) (steps : List Step) (f : Field) → ShowsCount tag steps (whole_content steps f.size (bytes_of f))
+count-written : (tag : ℕ) (steps : List Step) (f : Field) → ShowsCount tag steps (whole_content steps f.size f.start)
     → IsWrittenCount tag steps (number_of f)
 count-written tag (Count ∷ steps) f e = e
 count-written tag steps f e = tt
@@ -178,7 +178,7 @@ tag-written len tag [] w e = tt
 tag-written len tag (f ∷ fs) w e = count-written tag f.steps f (subst (ShowsCount tag f.steps) (seen-content len f w.0) e)
 
 is-written : (h : Header) (len : ℕ) (steps : List Step) (f : Field) (fs : List Field) → IsWhole f → AreWhole fs → IsVsizeWritten h steps f
-    → Shows steps (whole_content steps f.size (bytes_of f)) (map (seen len) fs) → IsWritten h steps f fs
+    → Shows steps (whole_content steps f.size f.start) (map (seen len) fs) → IsWritten h steps f fs
 is-written h len (Padding ∷ steps) f fs w whole size e =
     all-zeros (bytes_of f) e ∙ ap (λ n. replicate n 0) (length-take-le f.size f.start (ltb-false _ _ w.whole))
 is-written h len (Tag ∷ steps) f fs w whole size e = tag-written len (number_of f) fs whole e

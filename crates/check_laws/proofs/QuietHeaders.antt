@@ -116,7 +116,7 @@ size-number len k i [] f w at there = absurd cc
 size-number len k zero (g ∷ fs) f w at there =
     let is : g ≡ f = cc in
     subst (λ (f : Field). (seen len f).content ≡ content.Number (number_of f)) is
-    (seen-content len g w.0 ∙ ap (λ steps. whole_content steps g.size (bytes_of g)) at.0)
+    (seen-content len g w.0 ∙ ap (λ steps. whole_content steps g.size g.start) at.0)
 size-number len k (suc i) (g ∷ fs) f w at there = size-number len (k + 1) i fs f w.1 at.1 there
 
 if-some : {A : Type 0} {P Q : A → Type 0} (o : Option A) → ((x : A) → P x → Q x) → IfSome o P → IfSome o Q

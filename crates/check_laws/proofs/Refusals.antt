@@ -29,8 +29,8 @@ same-refusal len f e is = ap (λ (s : Seen). refusal_in s.size s.content s.steps
     cut-refusal steps = refl
 
     by-test : (b : Bool)
-        → refusal_in f.size (cond b (cut_content f.steps f.start) (whole_content f.steps f.size (take f.size f.start))) f.steps f.fault
-        ≡ cond b f.fault (refusal_in f.size (whole_content f.steps f.size (take f.size f.start)) f.steps f.fault)
+        → refusal_in f.size (cond b (cut_content f.steps f.start) (whole_content f.steps f.size f.start)) f.steps f.fault
+        ≡ cond b f.fault (refusal_in f.size (whole_content f.steps f.size f.start) f.steps f.fault)
     by-test true = cut-refusal f.steps
     by-test false = refl
 

@@ -96,6 +96,9 @@ same-layout a b e = cc
 
 same-fact : (a b : Fact) → facts.ghosts.cmp a b ≡ Equal → a ≡ b
 same-fact (fact.Fault a) (fact.Fault b) e = ap fact.Fault (same-fault a b e)
+same-fact fact.Hdf5 fact.Hdf5 e = refl
+same-fact fact.Gzip fact.Gzip e = refl
+same-fact fact.EmptyFile fact.EmptyFile e = refl
 same-fact fact.NameCharacters fact.NameCharacters e = refl
 same-fact fact.LargeCount fact.LargeCount e = refl
 same-fact fact.EmptyList fact.EmptyList e = refl

@@ -30,7 +30,7 @@ refusal_in size c steps fault = fault
 -- why they refuse a field
 abbrev pub refusal : Field → Option FormatFault
 refusal f =
-    if nat_lt (length f.start) f.size then f.fault else refusal_in f.size (whole_content f.steps f.size (take f.size f.start)) f.steps f.fault
+    if nat_lt (length f.start) f.size then f.fault else refusal_in f.size (whole_content f.steps f.size f.start) f.steps f.fault
 
 -- why they refuse the first field that they refuse, and the bytes after it
 abbrev pub first_refusal : List Field → Option (FormatFault × Bytes)

@@ -2,18 +2,21 @@
 use Rattle.std.specs.Prelude.{ℕ, ◌≡◌, ◌+◌, ◌≤◌, ◌↔◌, min, Bool, true, false, Option, Some, None, is_some}
 use Rattle.std.specs.List.{All, Contains, list_any}
 use Rattle.nc_base.specs.declared.{fault.FormatFault.FormatFault, header.Header.Header}
-use Rattle.nc_base.specs.declared.fault.FormatFault.TheVariants.{BadCount, BadName}
+use Rattle.nc_base.specs.declared.fault.FormatFault.TheVariants.{NotNetcdf, BadCount, BadName}
 use Rattle.nc_base.specs.Bytes.{Bytes}
 use Rattle.nc_base.specs.Grammar.{SpellsHeader, StopsAt}
 use Rattle.nc_fields.specs.declared.entry.Entry.{Entry}
 use Rattle.layout_laws.specs.HeaderLaws.{is_of_missing, lacks_values}
 use Rattle.nc_check.specs.declared.{finding.Fact.Fact, finding.Finding.Finding, report.Report.Report}
-use Rattle.nc_check.specs.declared.finding.Fact.TheVariants.{Fault, NameCharacters, LargeCount, Layout}
+use Rattle.nc_check.specs.declared.finding.Fact.TheVariants.{Fault, Hdf5, Gzip, EmptyFile, NameCharacters, LargeCount, Layout}
 use Rattle.nc_check.specs.Reports.{IsReport}
 
 -- the fault with which the programs that read values stop at the field at which this fact lies, if they do
 abbrev pub strict_fault : Fact → Option FormatFault
 strict_fault (Fault fault) = Some fault
+strict_fault Hdf5 = Some NotNetcdf
+strict_fault Gzip = Some NotNetcdf
+strict_fault EmptyFile = Some NotNetcdf
 strict_fault NameCharacters = Some BadName
 strict_fault LargeCount = Some BadCount
 strict_fault fact = None

@@ -22,6 +22,9 @@ use Rattle.check_laws.specs.FaultLaws.{HasNoFault, finds_missing}
 -- a fact about the spelling of a header: it says the same as the header's own spelling, in other bytes
 abbrev pub is_of_spelling : Fact → Bool
 is_of_spelling (fact.Fault fault) = false
+is_of_spelling fact.Hdf5 = false
+is_of_spelling fact.Gzip = false
+is_of_spelling fact.EmptyFile = false
 is_of_spelling fact.NameCharacters = false
 is_of_spelling fact.LargeCount = false
 is_of_spelling fact.EmptyList = true

@@ -47,8 +47,8 @@ pub fn one_report()
     ensures one { ReportsAreOne }
 {}
 
-/// States two laws, and does nothing. `faultless`: no finding of a report is a fault ([`Fact::Fault`](nc_check::Fact::Fault),
-/// [`NameCharacters`](nc_check::Fact::NameCharacters) or [`LargeCount`](nc_check::Fact::LargeCount)) exactly if `nc_file::read_header` can read the header.
+/// States two laws, and does nothing. `faultless`: no finding of a report is a fault ([`Fact::Fault`](nc_check::Fact::Fault), or a
+/// [`Fact`](nc_check::Fact) at which `nc_file` stops all the same, as it does at `NameCharacters`) exactly if `nc_file::read_header` can read the header.
 ///
 /// `first`: if reading the header stops with a fault, then a finding of the report is this fault, no finding at a lesser offset is a fault,
 /// and the field that it lies at ends where reading stops.

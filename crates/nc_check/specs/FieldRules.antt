@@ -1,18 +1,19 @@
 -- Definition. Findings at a field alone: its fault, or, if it has none, what its content shows.
-use Rattle.std.specs.Prelude.{ℕ, not, nat_lt, ◌==◌, ◌-◌, ◌^◌, ◌&&◌, ◌||◌, Bool, false, if◌then◌else◌, List, [], ◌∷◌, ◌++◌, map, flat_map, find, Option, Some, None, chars}
+use Rattle.std.specs.Prelude.{ℕ, not, nat_lt, ◌==◌, ◌-◌, ◌^◌, ◌&&◌, ◌||◌, Bool, false, if◌then◌else◌, List, [], ◌∷◌, ◌++◌, length, map, take, flat_map, find, Option, Some, None, chars}
 use Rattle.std.specs.List.{list_any}
-use Rattle.std.specs.Str.{is_utf8}
+use Rattle.std.specs.Str.{bytes_eq, is_utf8}
 use Rattle.std.specs.Option.{option_to_list, option_map}
 use Rattle.unicode_normalization.specs.Forms.{is_nfc}
 use Rattle.nc_base.specs.declared.fault.FormatFault.{FormatFault}
-use Rattle.nc_base.specs.declared.fault.FormatFault.TheVariants.{FloatingType}
+use Rattle.nc_base.specs.declared.fault.FormatFault.TheVariants.{NotNetcdf, FloatingType}
 use Rattle.nc_base.specs.Bytes.{Bytes}
 use Rattle.nc_base.specs.Names.{is_name}
 use Rattle.nc_fields.specs.declared.{entry.Content.Content, entry.Entry.Entry, place.FieldName.FieldName}
 use Rattle.nc_fields.specs.declared.entry.Content.TheVariants as content
 use Rattle.nc_fields.specs.declared.place.FieldName.TheVariants as name
+use Rattle.nc_fields.specs.Entries.{hdf5_signature}
 use Rattle.nc_check.specs.declared.{finding.Fact.Fact, finding.Finding.Finding}
-use Rattle.nc_check.specs.declared.finding.Fact.TheVariants.{Fault, NameCharacters, LargeCount, LongName, NotNfc, Padding, HighRank}
+use Rattle.nc_check.specs.declared.finding.Fact.TheVariants.{Fault, Hdf5, Gzip, EmptyFile, NameCharacters, LargeCount, LongName, NotNfc, Padding, HighRank}
 use Rattle.nc_check.specs.Indexed.{Indexed, finding}
 
 -- ---- fields without a fault
@@ -75,11 +76,29 @@ content_facts place size (content.Number n) = option_to_list (number_fact place 
 content_facts place size (content.Bytes bytes) = option_to_list (bytes_fact place bytes) ++ option_to_list (form_fact place bytes)
 content_facts place size other = []
 
+-- ---- fields with a fault
+
+-- the first bytes of a file that gzip has packed
+abbrev pub gzip_signature : Bytes
+gzip_signature = 0x1f ∷ 0x8b ∷ []
+
+-- of what is kept of the start of a file that doesn't begin with `CDF`
+abbrev pub magic_fact : Bytes → Fact
+magic_fact bytes =
+    if bytes_eq hdf5_signature bytes then Hdf5
+    else if bytes_eq gzip_signature (take 2 bytes) then Gzip
+    else if length bytes == 0 then EmptyFile
+    else Fault NotNetcdf
+
+abbrev pub fault_fact : FormatFault → Content → Fact
+fault_fact NotNetcdf (content.Bytes bytes) = magic_fact bytes
+fault_fact fault c = Fault fault
+
 -- ---- all fields
 
 -- the facts of a field with this fault, or without one
 abbrev pub facts_with : Option FormatFault → FieldName → ℕ → Content → List Fact
-facts_with (Some fault) place size c = Fault fault ∷ []
+facts_with (Some fault) place size c = fault_fact fault c ∷ []
 facts_with None place size c = content_facts place size c
 
 abbrev pub facts_of : Entry → List Fact

@@ -5,7 +5,7 @@ use Rattle.nc_layout.specs.declared.finding.LayoutFact.{LayoutFact}
 use Rattle.nc_layout.specs.declared.finding.LayoutFact.TheVariants as layout
 use Rattle.nc_check.specs.declared.{finding.Fact.Fact, kind.Kind.Kind, kind.Severity.Severity}
 use Rattle.nc_check.specs.declared.finding.Fact.TheVariants as fact
-use Rattle.nc_check.specs.declared.kind.Kind.TheVariants.{NotNetcdf, UnknownVersion, HeaderTruncated, BadTag, BadCount, BadName, NameCharacters, FloatingType, BadType, BadShape, TwoRecordDims, TooLarge, BadOffset, LargeCount, Streaming, UnusedRecords, EmptyList, LongName, DuplicateName, NotNfc, Padding, EmptyAttribute, TrailingNul, FillValue, HighRank, Vsize, LargeVariable, BeginInHeader, Overlap, Unpadded, Order, AfterRecords, RecordPlace, Gap, Missing, EndPadding, Trailing}
+use Rattle.nc_check.specs.declared.kind.Kind.TheVariants.{NotNetcdf, Hdf5, Gzip, EmptyFile, UnknownVersion, HeaderTruncated, BadTag, BadCount, BadName, NameCharacters, FloatingType, BadType, BadShape, TwoRecordDims, TooLarge, BadOffset, LargeCount, Streaming, UnusedRecords, EmptyList, LongName, DuplicateName, NotNfc, Padding, EmptyAttribute, TrailingNul, FillValue, HighRank, Vsize, LargeVariable, BeginInHeader, Overlap, Unpadded, Order, AfterRecords, RecordPlace, Gap, Missing, EndPadding, Trailing}
 use Rattle.nc_check.specs.declared.kind.Severity.TheVariants.{Error, Violation, Note}
 
 -- ---- of facts
@@ -41,6 +41,9 @@ kind_of_layout (layout.Trailing n end records) = Trailing
 
 abbrev pub kind_of : Fact → Kind
 kind_of (fact.Fault fault) = kind_of_fault fault
+kind_of fact.Hdf5 = Hdf5
+kind_of fact.Gzip = Gzip
+kind_of fact.EmptyFile = EmptyFile
 kind_of fact.NameCharacters = NameCharacters
 kind_of fact.LargeCount = LargeCount
 kind_of fact.EmptyList = EmptyList
@@ -63,6 +66,9 @@ kind_of (fact.Layout fact) = kind_of_layout fact
 -- effect, but odd.
 abbrev pub severity_of : Kind → Severity
 severity_of NotNetcdf = Error
+severity_of Hdf5 = Error
+severity_of Gzip = Error
+severity_of EmptyFile = Error
 severity_of UnknownVersion = Error
 severity_of HeaderTruncated = Error
 severity_of BadTag = Error

@@ -3,12 +3,12 @@
 ghost use Rattle.std.specs.Prelude.{◌≡◌, ◌++◌, OnOk, IfOk, map};
 ghost use Rattle.std.specs.Option.{option_to_list};
 ghost use Rattle.nc_check.specs.Indexed.{field_at, finding, finding_at, indexed};
-ghost use Rattle.nc_check.specs.FieldRules.{bytes_fact, content_facts, field_findings, findings_at, floating_finding, floating_findings, fact_if, form_fact, has_nonzero, is_floating_in, is_large_count, is_not_nfc, number_fact};
+ghost use Rattle.nc_check.specs.FieldRules.{bytes_fact, content_facts, fault_fact, field_findings, findings_at, floating_finding, floating_findings, fact_if, form_fact, has_nonzero, is_floating_in, is_large_count, is_not_nfc, magic_fact, number_fact};
 
 use crate::ahead::is_type;
 use crate::finding::{Fact, Finding, finding_at, push_some};
 use nc_base::{FormatFault, Sequence, is_valid_name};
-use nc_fields::{Content, Entry, FieldName};
+use nc_fields::{Content, Entry, FieldName, HDF5_SIGNATURE};
 use std::alloc::{AllocError, Global};
 use unicode_normalization::is_nfc;
 
@@ -20,6 +20,9 @@ pub const HIGHEST_RANK: u64 = 1024;
 
 /// What a dimension's length and the number of records are below in CDF-1 and CDF-2, by the NetCDF Classic Format Specification: 2^31.
 pub const LARGE_COUNT: u64 = 1 << 31;
+
+/// The first bytes of a file that gzip has packed.
+const GZIP_SIGNATURE: [u8; 2] = *b"\x1f\x8b";
 
 /// The streaming mark of CDF-1 and CDF-2, which stands in place of the number of records.
 const STREAMING: u64 = (1 << 32) - 1;
@@ -49,8 +52,40 @@ fn push_findings_at(
     ensures { OnOk result (found.new ≡ found.old ++ findings_at (field_at i entry.now)) }
 {
     match entry.fault {
-        Some(fault) => found.push(finding_at(i, entry.offset, Fact::Fault(fault))),
+        Some(fault) => found.push(fault_finding(i, entry, fault)),
         None => push_content_findings(found, alloc, i, entry),
+    }
+}
+
+/// Returns the finding of this fault at this field, which has this index.
+fn fault_finding(i: u64, entry: &Entry, fault: FormatFault) -> Finding
+    ensures { result ≡ finding (field_at i entry.now) (fault_fact fault entry.now.content) }
+{
+    finding_at(i, entry.offset, fault_fact(fault, &entry.content))
+}
+
+/// Returns what this fault of a field with this content shows.
+fn fault_fact(fault: FormatFault, content: &Content) -> Fact
+    ensures { result ≡ fault_fact fault content.now }
+{
+    match (fault, content) {
+        (FormatFault::NotNetcdf, Content::Bytes(bytes)) => magic_fact(bytes.as_slice()),
+        _ => Fact::Fault(fault),
+    }
+}
+
+/// Returns what is shown by these bytes, which are kept of the start of a file that doesn't begin with `CDF`.
+fn magic_fact(bytes: &[u8]) -> Fact
+    ensures { result ≡ magic_fact bytes.now }
+{
+    if bytes == HDF5_SIGNATURE.as_slice() {
+        Fact::Hdf5
+    } else if bytes.starts_with(&GZIP_SIGNATURE) {
+        Fact::Gzip
+    } else if bytes.is_empty() {
+        Fact::EmptyFile
+    } else {
+        Fact::Fault(FormatFault::NotNetcdf)
     }
 }
 

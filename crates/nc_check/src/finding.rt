@@ -14,6 +14,12 @@ use std::alloc::AllocError;
 pub enum Fact {
     /// The programs that read values stop at this field with this fault.
     Fault(FormatFault),
+    /// The file is one of HDF5, as netCDF-4 writes them. The programs that read values stop there with `NotNetcdf`, as at the next two.
+    Hdf5,
+    /// The file is packed by gzip.
+    Gzip,
+    /// The file has no byte.
+    EmptyFile,
     /// A name isn't valid, but shows that the fields are in step. The programs that read values stop there with `BadName`.
     NameCharacters,
     /// A dimension's length, or the number of records, is 2^31 or more in CDF-1 or CDF-2, which has its top bit set. The programs that read

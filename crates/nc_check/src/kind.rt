@@ -21,8 +21,14 @@ pub enum Severity {
 /// The kinds of findings. Of those at one offset, a report has them in this order.
 #[derive(Clone, Copy, Debug, PartialEq, Eq, PartialOrd, Ord)]
 pub enum Kind {
-    /// The file doesn't begin with `CDF`.
+    /// The file doesn't begin with `CDF`, and is none of the next three kinds.
     NotNetcdf,
+    /// The file begins with the signature of HDF5, as netCDF-4 files do.
+    Hdf5,
+    /// The file begins with the two bytes of gzip.
+    Gzip,
+    /// The file has no byte.
+    EmptyFile,
     /// The version byte is none of 1, 2 and 5.
     UnknownVersion,
     /// The file ends inside a field of the header.
@@ -133,6 +139,9 @@ impl Fact {
     {
         match self {
             Fact::Fault(fault) => kind_of_fault(fault),
+            Fact::Hdf5 => Kind::Hdf5,
+            Fact::Gzip => Kind::Gzip,
+            Fact::EmptyFile => Kind::EmptyFile,
             Fact::NameCharacters => Kind::NameCharacters,
             Fact::LargeCount => Kind::LargeCount,
             Fact::EmptyList => Kind::EmptyList,

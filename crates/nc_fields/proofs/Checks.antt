@@ -59,7 +59,7 @@ pub record IsJudged {C A : Type 0} (size : ℕ) (q : Part C) (p : Part A) (judge
 
 -- what the rules look at in a field in this place, of this size, is made of its value
 abbrev pub IsContent : {C : Type 0} → Place → ℕ → (Bytes → C) → (C → Content) → Type 0
-IsContent place size value content = (bs : Bytes) → whole_content (steps_of place) size bs ≡ content (value bs)
+IsContent place size value content = (start : Bytes) → whole_content (steps_of place) size start ≡ content (value (take size start))
 
 -- a part that is one field in this place: it reads like q, its value is judged, and the rules look at this content
 pub record IsFieldOf {C A : Type 0} (place : Place) (size : ℕ) (q : Part C) (p : Part A) (judge : C → Result A FormatFault) (content : C → Content) : Type 0 where
@@ -187,7 +187,7 @@ module _ {S : Type 0} {g : Ghosts S} where
 
   -- the entry of a field that begins at the next byte, with this content and fault
   pub seen-entry : (old : Reader S g) (place : Place) (size : ℕ) (start : Start) (content : Content) (fault : Option FormatFault) → IsStart old.window place size start
-      → content ≡ cond (nat_lt (length (left old.window)) size) (cut_content (steps_of place) (left old.window)) (whole_content (steps_of place) size (take size (left old.window)))
+      → content ≡ cond (nat_lt (length (left old.window)) size) (cut_content (steps_of place) (left old.window)) (whole_content (steps_of place) size (left old.window))
       → seen_by (entry_of start content fault)
       ≡ seen (length (source_of old.window).bytes) (record { steps = steps_of place; start = left old.window; size = size; fault = fault })
   unfolding seen
@@ -210,7 +210,7 @@ module _ {S : Type 0} {g : Ghosts S} where
       let got = raw.read (left old.window) x (left mid.window) (OnTrue_at known r) in
       let whole : nat_lt (length (left old.window)) size ≡ false = le-ltb _ _ (leb-true _ _ got.0) in
       ap (λ x. x ∷ []) (seen-entry old place size start (content x) (fault_in (with_rest y (left mid.window))) s
-      (sym (ap (λ b. cond b (cut_content (steps_of place) (left old.window)) (whole_content (steps_of place) size (take size (left old.window)))) whole ∙ matters (take size (left old.window)) ∙ ap content got.1)))
+      (sym (ap (λ b. cond b (cut_content (steps_of place) (left old.window)) (whole_content (steps_of place) size (left old.window))) whole ∙ matters (left old.window) ∙ ap content got.1)))
       ∙ sym (listed-field _ (steps_of place) p size (left old.window) _ is.field (OnTrue_at known (judged-reads old mid size q p judge x is r) ∙ ap (λ y. with_rest y (left mid.window)) e))
 
   -- the whole contract of a reader of a field that has this answer
@@ -262,7 +262,7 @@ module _ {S : Type 0} {g : Ghosts S} where
     lists = OnTrue_from g.is_transparent _ (λ known. ap (map seen_by) began.lists
         ∙ one-more old.entries old.entries _ _ refl
         (ap (λ x. x ∷ []) (seen-entry old place size start Cut (Some f) s
-        (sym (ap (λ b. cond b (cut_content (steps_of place) (left old.window)) (whole_content (steps_of place) size (take size (left old.window)))) (lt-ltb _ _ (short known)) ∙ dropped (short known))))
+        (sym (ap (λ b. cond b (cut_content (steps_of place) (left old.window)) (whole_content (steps_of place) size (left old.window))) (lt-ltb _ _ (short known)) ∙ dropped (short known))))
         ∙ sym (listed-field _ (steps_of place) p size (left old.window) _ is.field (reads known))));
   }
     where

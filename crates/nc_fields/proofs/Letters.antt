@@ -1,15 +1,18 @@
 -- The letters at the start of a file, of which fewer than three may be there.
-use Rattle.std.proofs.Common.{◌≡◌, ℕ, ◌<◌, ◌≤◌, min, Bool, true, false, cond, leb, nat_lt, if◌then◌else◌, List, [], ◌∷◌, length, take, drop, Result, Ok, Err, refl, sym, ap, ◌∙◌, arith, take_all, codes}
+use Rattle.std.proofs.Common.{◌≡◌, ℕ, ◌<◌, ◌≤◌, min, Bool, true, false, cond, leb, nat_lt, if◌then◌else◌, List, [], ◌∷◌, length, take, drop, length-take, length-drop, map, ◌++◌, Result, Ok, Err, subst, refl, sym, ap, ◌∙◌, arith, take_all, codes}
 use Rattle.std.proofs.lemmas.List.{take_min, drop_min}
 use Rattle.std.specs.Str.{bytes_eq}
 use Rattle.std.specs.Cmp.Lexicographic.{bytes_decides}
 use Rattle.nc_base.specs.Parts.{Magic}
+use Rattle.nc_file.specs.code.Window.{Caused, Reads}
+use Rattle.nc_fields.specs.Entries.{hdf5_signature, kept_letters}
+use Rattle.nc_file.proofs.Bytes.{kept-then}
 use Rattle.nc_fields.specs.declared.entry.Content.TheVariants as content
-use Rattle.nc_fields.proofs.Prelude.{Ghosts, Bytes, Part, bytes, checked, Outcome, and_then, with_rest, run, left_after, FormatFault, HeaderTruncated, NotNetcdf, Read, left, HeadFault, Window, Format, OutOfMemory, ReadFailed, Entry, Content, Place, Reader, Start, Checked, IsStart, Finished, ListsCut, Began, OnTrue_at, OnTrue_from, leb-false}
+use Rattle.nc_fields.proofs.Prelude.{Ghosts, Bytes, Part, bytes, checked, Outcome, and_then, with_rest, run, left_after, FormatFault, HeaderTruncated, NotNetcdf, Read, left, HeadFault, Window, Format, OutOfMemory, ReadFailed, Entry, Content, Place, Reader, Start, Checked, IsStart, Finished, ListsCut, Began, OnTrue, OnTrue_at, OnTrue_from, leb-false, Kept, Step, listed, next_of, source_of, seen_by, Lists}
 use Rattle.nc_fields.specs.declared.place.Owner.TheVariants as owner
 use Rattle.nc_fields.specs.declared.place.FieldName.TheVariants as name
 use Rattle.nc_fields.proofs.Checks.{IsJudged, fault_in, seen-entry, listed-field, memory-left, began, checked-answer}
-use Rattle.nc_fields.proofs.Texts.{tested-field}
+use Rattle.nc_fields.proofs.Texts.{bytes-decoded}
 
 -- what the letters are judged by
 abbrev pub letters_in : Bytes → Result Bytes FormatFault
@@ -22,7 +25,7 @@ abbrev pub letters_place : Place
 letters_place = record { owner = owner.Header; name = name.Magic }
 
 letters-judged : IsJudged 3 (bytes 3 NotNetcdf) letters_part letters_in
-letters-judged = (tested-field 3 NotNetcdf letters_place (λ letters. bytes_eq letters (codes "CDF")) NotNetcdf content.Bytes (λ bs. refl)).judged
+letters-judged = bytes-decoded 3 NotNetcdf letters_in (λ letters. letters)
 
 -- fewer than three bytes aren't `CDF`
 few-letters : (letters : Bytes) → length letters < 3 → letters_in letters ≡ Err NotNetcdf
@@ -47,8 +50,17 @@ letters-run from = (letters-judged.judged from) ∙ by-test (leb 3 (length from)
         let none : drop 3 from ≡ [] = grind (arith, few) in
         sym (ap (λ y. with_rest y (drop 3 from)) (ap letters_in all ∙ few-letters from few) ∙ ap (λ rest. with_rest (Err NotNetcdf) rest) none)
 
-letters-content : (from : Bytes) (b : Bool) → nat_lt (length from) 3 ≡ b → ◌≡◌ {A = Content} (content.Bytes (take 3 from)) (cond b (content.Bytes from) (content.Bytes (take 3 from)))
-letters-content from true is = ap content.Bytes (take_all 3 from (grind arith))
+-- fewer than three bytes are kept as they are
+few-kept : (from : Bytes) → length from < 3 → kept_letters from ≡ from
+few-kept from few = by-test (bytes_eq hdf5_signature (take 8 from)) refl
+  where
+    by-test : (b : Bool) → bytes_eq hdf5_signature (take 8 from) ≡ b → (if b then hdf5_signature else take 3 from) ≡ from
+    by-test true is =
+        absurd (let same : hdf5_signature ≡ take 8 from = (bytes_decides hdf5_signature (take 8 from)).0 is in omega (arith, few, length-take 8 from, ap length same))
+    by-test false is = take_all 3 from (omega (arith, few))
+
+letters-content : (from : Bytes) (b : Bool) → nat_lt (length from) 3 ≡ b → ◌≡◌ {A = Content} (content.Bytes (kept_letters from)) (cond b (content.Bytes from) (content.Bytes (kept_letters from)))
+letters-content from true is = ap content.Bytes (few-kept from (grind arith))
 letters-content from false is = refl
 
 -- as many of them as there are were read
@@ -85,17 +97,17 @@ letters-left from = by-test (leb (min 3 (length from)) (length from)) refl (memo
 
 module _ {S : Type 0} {g : Ghosts S} where
   -- the letters that are there were read, and listed with what they are judged to be
-  pub listed-letters : {old : Reader S g} {window : Window S g} {cut entries : List Entry} {start : Start} {n : ℕ} {bs : Bytes} {found : Content}
+  pub listed-letters : {old : Reader S g} {window : Window S g} {cut entries : List Entry} {start : Start} {n : ℕ} (is_hdf5 : Bool) {bs : Bytes} {found : Content}
       {read : Result Bytes HeadFault} {answer : Result Bytes FormatFault} {result : Result Bytes HeadFault}
-      → IsStart old.window letters_place 3 start → n ≡ min 3 (length (left old.window)) → Read old.window window (bytes n HeaderTruncated) read
-      → (read ≡ Ok bs) × (cut ≡ old.entries) → found ≡ content.Bytes bs → answer ≡ letters_in bs → Finished cut entries start found answer result
+      → OnTrue g.is_transparent (is_hdf5 ≡ bytes_eq hdf5_signature (take 8 (left old.window))) → IsStart old.window letters_place 3 start → n ≡ min 3 (length (left old.window)) → Read old.window window (bytes n HeaderTruncated) read
+      → (read ≡ Ok bs) × (cut ≡ old.entries) → found ≡ content.Bytes (if is_hdf5 then hdf5_signature else bs) → answer ≡ letters_in bs → Finished cut entries start found answer result
       → Checked old (record { window = window; entries = entries }) (Magic ∷ []) letters_part result
-  listed-letters {old = old} {window = window} {cut = cut} {entries = entries} {start = start} {n = n} {bs = bs} {found = found} {read = read} {answer = answer} {result = result} s same r of_cut is judged fin =
+  listed-letters {old = old} {window = window} {cut = cut} {entries = entries} {start = start} {n = n} is_hdf5 {bs = bs} {found = found} {read = read} {answer = answer} {result = result} hdf5 s same r of_cut is judged fin =
       checked-answer old (record { window = window; entries = cut }) entries (Magic ∷ []) start (bytes n HeaderTruncated) letters_part found bs answer result b reads
       (λ known.
       ap (λ e. e ∷ [])
       (seen-entry old letters_place 3 start found (fault_in (with_rest answer (left window))) s
-      (is ∙ ap content.Bytes (got known).0 ∙ letters-content from (nat_lt (length from) 3) refl))
+      (is ∙ ap content.Bytes (kept known) ∙ letters-content from (nat_lt (length from) 3) refl))
       ∙ sym (listed-field _ (Magic ∷ []) letters_part 3 from (with_rest answer (left window)) letters-judged.field (reads known)))
       fin
     where
@@ -107,6 +119,9 @@ module _ {S : Type 0} {g : Ghosts S} where
 
       got : g.is_transparent ≡ true → (bs ≡ take 3 from) × (left window ≡ drop 3 from)
       got known = letters-read from bs (left window) (ap (λ k. run (bytes k HeaderTruncated) from) (sym same) ∙ OnTrue_at known b.reads)
+
+      kept : g.is_transparent ≡ true → (if is_hdf5 then hdf5_signature else bs) ≡ kept_letters from
+      kept known = ap (λ b. if b then hdf5_signature else bs) (OnTrue_at known hdf5) ∙ ap (λ (xs : Bytes). if bytes_eq hdf5_signature (take 8 from) then hdf5_signature else xs) (got known).0
 
       reads : g.is_transparent ≡ true → run letters_part from ≡ with_rest answer (left window)
       reads known =
@@ -139,3 +154,52 @@ module _ {S : Type 0} {g : Ghosts S} where
           }
       by-fault OutOfMemory b = record { kept = b.kept; cause = b.cause; reads = OnTrue_from g.is_transparent _ (λ known. along (OnTrue_at known b.reads)); lists = tt }
       by-fault ReadFailed b = record { kept = b.kept; cause = b.cause; reads = OnTrue_from g.is_transparent _ (λ known. along (OnTrue_at known b.reads)); lists = tt }
+
+  -- nothing was used before a part was read
+  same-left : (old mid : Window S g) → Kept old mid → next_of mid ≡ next_of old → left mid ≡ left old
+  same-left old mid kept unused = ap (λ (all : Bytes). drop (next_of mid) all) kept.bytes ∙ ap (λ k. drop k (source_of old).bytes) unused
+
+  lists-along : {A : Type 0} (old mid : Reader S g) (new : List Entry) (steps : List Step) (p : Part A) → Kept old.window mid.window
+      → next_of mid.window ≡ next_of old.window → mid.entries ≡ old.entries
+      → OnTrue g.is_transparent (map seen_by new ≡ map seen_by mid.entries ++ listed (length (source_of mid.window).bytes) steps p (left mid.window))
+      → OnTrue g.is_transparent (map seen_by new ≡ map seen_by old.entries ++ listed (length (source_of old.window).bytes) steps p (left old.window))
+  lists-along old mid new steps p kept unused same lists =
+      subst (λ (from : Bytes). OnTrue g.is_transparent (map seen_by new ≡ map seen_by old.entries ++ listed (length (source_of old.window).bytes) steps p from))
+      (same-left old.window mid.window kept unused)
+      (subst (λ (all : Bytes). OnTrue g.is_transparent (map seen_by new ≡ map seen_by old.entries ++ listed (length all) steps p (left mid.window))) kept.bytes
+      (subst (λ es. OnTrue g.is_transparent (map seen_by new ≡ map seen_by es ++ listed (length (source_of mid.window).bytes) steps p (left mid.window))) same lists))
+
+  pub unused-then : {A : Type 0} {old mid new : Reader S g} {steps : List Step} {p : Part A} {result : Result A HeadFault} → Kept old.window mid.window
+      → (source_of mid.window).failures ≡ (source_of old.window).failures → next_of mid.window ≡ next_of old.window → mid.entries ≡ old.entries
+      → Checked mid new steps p result → Checked old new steps p result
+  unused-then {A = A} {old = old} {mid = mid} {new = new} {steps = steps} {p = p} {result = result} kept failures unused same c = record {
+    kept = kept-then kept c.kept;
+    cause = subst (λ n. Caused n (source_of new.window) result) failures c.cause;
+    reads = subst (λ (from : Bytes). Reads g.is_transparent from (left new.window) p result) (same-left old.window mid.window kept unused) c.reads;
+    lists = by-result result c.lists;
+  }
+    where
+      by-result : (r : Result A HeadFault) → Lists mid new steps p r → Lists old new steps p r
+      by-result (Ok x) lists = lists-along old mid new.entries steps p kept unused same lists
+      by-result (Err (Format f)) lists = lists-along old mid new.entries steps p kept unused same lists
+      by-result (Err OutOfMemory) lists = tt
+      by-result (Err ReadFailed) lists = tt
+
+  -- the source has failed before the letters were read
+  pub unread-letters : {old new : Reader S g} {result : Result Bytes HeadFault} {e f : HeadFault} → Kept old.window new.window
+      → next_of new.window ≡ next_of old.window → Caused {A = Bool} (source_of old.window).failures (source_of new.window) (Err e) → e ≡ ReadFailed
+      → result ≡ Err f → f ≡ e → Checked old new (Magic ∷ []) letters_part result
+  unread-letters {old = old} {new = new} kept unused cause failed is_err same =
+      rw (is_err, same, failed)
+      (record {
+        kept = kept;
+        cause = subst (λ e. Caused {A = Bool} (source_of old.window).failures (source_of new.window) (Err e)) failed cause;
+        reads = OnTrue_from g.is_transparent _ (λ known.
+            omega (
+              arith,
+              memory-left letters_part (left old.window) (drop 3 (left old.window)) (letters_in (take 3 (left old.window))) (letters-run (left old.window)),
+              length-drop 3 (left old.window),
+              ap length (same-left old.window new.window kept unused),
+            ));
+        lists = tt;
+      })

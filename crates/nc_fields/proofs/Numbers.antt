@@ -1,10 +1,11 @@
 -- The fields that are one number.
-use Rattle.std.proofs.Common.{◌≡◌, ℕ, Bool, true, false, nat_lt, if◌then◌else◌, List, ◌∷◌, Some, None, Result, Ok, Err, IsTrue, ◌+◌, IfOk, refl, sym, ap, ◌∙◌}
+use Rattle.std.proofs.Common.{◌≡◌, ℕ, Bool, true, false, nat_lt, if◌then◌else◌, List, ◌∷◌, Some, None, Result, Ok, Err, take, IsTrue, ◌+◌, IfOk, refl, sym, ap, ◌∙◌}
 use Rattle.nc_fields.proofs.Prelude.{HeadFault, Entry, Start, Content, Finished, Bytes, Part, decoded, number, FormatFault, BadCount, Place, Number, number_in, judged_then, IsNumeric, Step, Cut, steps_of, whole_content, cut_content, Version, Cdf1, Cdf2, Cdf5, count_width, offset_width, count_limit, offset_limit, count_part, limited_part, offset_part, dimid_part, numrecs_part, numrecs_in, number_of_numrecs, is_dimid, type_part, checked, code_of, lenient, sized_type_in, Dim, NcType, BadOffset, BadShape, Width, byte_len, from_be_bytes, w32}
 unfoldable use Rattle.nc_file.specs.code.SizedVars.{total_with}
 use Rattle.nc_base.specs.Grammar.{is_within_limits, record_bytes}
 use Rattle.nc_base.specs.Parts.{Magic}
 use Rattle.nc_fields.specs.declared.entry.Content.TheVariants as content
+use Rattle.nc_fields.specs.Entries.{kept_letters}
 use Rattle.nc_fields.proofs.Checks.{IsFieldOf, IsJudged, raw-number, itself, decoded-judged}
 
 -- a number of as many bytes as counts have
@@ -25,7 +26,7 @@ number-field place w p judge numeric same judged = record {
   value = from_be_bytes w;
   raw = raw-number w;
   judged = judged;
-  matters = λ bs. numeric (byte_len w) bs ∙ ap Number (same bs);
+  matters = λ start. numeric (byte_len w) start ∙ ap Number (same (take (byte_len w) start));
 }
 
 ok-same : {A : Type 0} {x y : A} → ◌≡◌ {A = Result A FormatFault} (Ok x) (Ok y) → x ≡ y
@@ -121,6 +122,6 @@ total-some dims ids ty total is = ap (λ b. if b then Some (total + record_bytes
 pub numeric-dropped : (place : Place) (bs : Bytes) → IsNumeric place → cut_content (steps_of place) bs ≡ Cut
 numeric-dropped place bs numeric = by-steps (steps_of place) numeric
   where
-    by-steps : (steps : List Step) → ((size : ℕ) (bs : Bytes) → whole_content steps size bs ≡ Number (number_in size bs)) → cut_content steps bs ≡ Cut
-    by-steps (Magic ∷ steps) is = absurd (let e : content.Bytes bs ≡ Number (number_in 0 bs) = is 0 bs in cc)
+    by-steps : (steps : List Step) → ((size : ℕ) (start : Bytes) → whole_content steps size start ≡ Number (number_in size (take size start))) → cut_content steps bs ≡ Cut
+    by-steps (Magic ∷ steps) is = absurd (let e : content.Bytes (kept_letters bs) ≡ Number (number_in 0 (take 0 bs)) = is 0 bs in cc)
     by-steps steps is = refl

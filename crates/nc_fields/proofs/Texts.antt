@@ -9,7 +9,7 @@ bytes-field : {A : Type 0} (place : Place) (n : ℕ) (cut : FormatFault) (p : Pa
     → IsJudged n (bytes n cut) p judge → IsFieldOf place n (bytes n cut) p judge matter
 bytes-field place n cut p judge matter matters judged = record { value = λ bs. bs; raw = raw-bytes n cut; judged = judged; matters = matters }
 
-bytes-decoded : {A : Type 0} (n : ℕ) (cut : FormatFault) (decode : Bytes → Result A FormatFault) (encode : A → Bytes) → IsJudged n (bytes n cut) (decoded decode encode (bytes n cut)) decode
+pub bytes-decoded : {A : Type 0} (n : ℕ) (cut : FormatFault) (decode : Bytes → Result A FormatFault) (encode : A → Bytes) → IsJudged n (bytes n cut) (decoded decode encode (bytes n cut)) decode
 bytes-decoded n cut decode encode =
     let is = decoded-judged n (bytes n cut) (bytes n cut) (λ bs. Ok bs) decode encode (itself n (bytes n cut) (λ bs. bs) (raw-bytes n cut)) in record { field = is.field; judged = λ from. is.judged from }
 

@@ -1,6 +1,7 @@
 -- Definition. The fields of a header, as the rules look at them: each with its place, its offset, and what matters of its content.
 use Rattle.std.specs.Prelude.{ℕ, ◌==◌, ◌&&◌, ◌-◌, Bool, nat_lt, if◌then◌else◌, List, [], ◌∷◌, ◌++◌, length, take, slice_index, Option}
 use Rattle.std.specs.Int.{w32, w64, from_be_bytes}
+use Rattle.std.specs.Str.{bytes_eq}
 use Rattle.nc_base.specs.declared.fault.FormatFault.{FormatFault}
 use Rattle.nc_base.specs.Bytes.{Bytes}
 use Rattle.nc_base.specs.Parts.{Step}
@@ -60,13 +61,21 @@ number_in size bytes = if size == 8 then from_be_bytes w64 bytes else (if size =
 abbrev pub ends_with_nul : Bytes → Bool
 ends_with_nul bytes = nat_lt 0 (length bytes) && (slice_index bytes (length bytes - 1) == 0)
 
--- what matters of these bytes of a field with these steps; `size` is how many it has to have
+-- the first bytes of an HDF5 file
+abbrev pub hdf5_signature : Bytes
+hdf5_signature = 0x89 ∷ 0x48 ∷ 0x44 ∷ 0x46 ∷ 0x0d ∷ 0x0a ∷ 0x1a ∷ 0x0a ∷ []
+
+-- what is kept of the start of a file: that signature, or else three bytes, or as many as there are
+abbrev pub kept_letters : Bytes → Bytes
+kept_letters file = if bytes_eq hdf5_signature (take 8 file) then hdf5_signature else take 3 file
+
+-- what matters of a field with these steps, that has this many bytes; these are the bytes from its first one to the end of the file
 abbrev pub whole_content : List Step → ℕ → Bytes → Content
-whole_content (Magic ∷ steps) size bytes = content.Bytes bytes
-whole_content (Text ∷ steps) size bytes = content.Bytes bytes
-whole_content (Padding ∷ steps) size bytes = content.Bytes bytes
-whole_content (Values ∷ steps) size bytes = content.Values (ends_with_nul bytes)
-whole_content steps size bytes = content.Number (number_in size bytes)
+whole_content (Magic ∷ steps) size start = content.Bytes (kept_letters start)
+whole_content (Text ∷ steps) size start = content.Bytes (take size start)
+whole_content (Padding ∷ steps) size start = content.Bytes (take size start)
+whole_content (Values ∷ steps) size start = content.Values (ends_with_nul (take size start))
+whole_content steps size start = content.Number (number_in size (take size start))
 
 -- what is kept of a field with these steps inside of which the file ends: the bytes that are there, of those that should be `CDF`
 abbrev pub cut_content : List Step → Bytes → Content
@@ -94,7 +103,7 @@ seen file_len f = record {
   steps = f.steps;
   offset = file_len - length f.start;
   size = f.size;
-  content = if nat_lt (length f.start) f.size then cut_content f.steps f.start else whole_content f.steps f.size (take f.size f.start);
+  content = if nat_lt (length f.start) f.size then cut_content f.steps f.start else whole_content f.steps f.size f.start;
   fault = f.fault;
 }
 

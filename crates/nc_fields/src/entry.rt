@@ -13,7 +13,7 @@ pub enum Content {
     /// The field is a number.
     Number(u64),
     /// The field is these bytes: a name, what fills a field up, or what stands in the place of the letters `CDF`, of which fewer than three
-    /// may be there.
+    /// may be there. Of an HDF5 file these are the eight bytes of its signature.
     Bytes(FieldBytes),
     /// The field is the values of an attribute.
     Values {

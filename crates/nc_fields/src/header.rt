@@ -1,6 +1,6 @@
 //! The whole header.
 
-ghost use Rattle.std.specs.Prelude.{◌≡◌, ◌≤◌, ◌∷◌, [], codes, if◌then◌else◌, length, min, IfOk, Ok, Err};
+ghost use Rattle.std.specs.Prelude.{◌≡◌, ◌≤◌, ◌+◌, ◌∷◌, [], codes, if◌then◌else◌, length, min, take, IfOk, IsOk, Ok, Err};
 ghost use Rattle.std.specs.Bool.{OnTrue};
 ghost use Rattle.std.specs.Str.{bytes_eq};
 ghost use Rattle.nc_base.specs.Grammar.{checked, header_by, magic_part, version_in, version_part};
@@ -9,19 +9,22 @@ ghost use Rattle.nc_base.specs.declared.fault.FormatFault.TheVariants.{NotNetcdf
 ghost use Rattle.nc_fields.specs.Lenient.{lenient};
 ghost use Rattle.nc_file.specs.code.Answers.{ReadUpTo};
 ghost use Rattle.nc_file.specs.code.Window.{left};
+ghost use Rattle.nc_fields.specs.Entries.{hdf5_signature};
 ghost use Rattle.nc_fields.specs.Listings.{Blames, IsListing};
 ghost use Rattle.nc_fields.specs.code.Answers.{Answers};
 
 use crate::entry::{Content, Entry};
+use crate::field_bytes::FieldBytes;
 use crate::fields::{Fields, start_at};
 use crate::list_fault::ListFault;
 use crate::list_name::ListName;
 use crate::name::filling_bytes;
 use crate::place::{FieldName, Owner, Place};
+use crate::signature::{HDF5_SIGNATURE, is_hdf5_next};
 use devices::Source;
 use nc_base::{FormatFault, Header, Sequence, Version};
 use nc_file::{HeadFault, Window};
-use std::alloc::Global;
+use std::alloc::{AllocError, Global};
 
 /// The fields of a header, and the header itself.
 #[derive(Debug, Drop)]
@@ -110,12 +113,16 @@ fn answered(
 impl Fields {
     ghost use Rattle.nc_fields.specs.code.Checks.{at, Checked};
 
-    /// Reads the three bytes that should be `CDF`. Errs with `NotNetcdf` if they are others, or if there are fewer, which are listed too.
-    fn letters<S: Source>(
+    /// Reads the three bytes that should be `CDF`. Errs with `NotNetcdf` if they are others, or if there are fewer, which are listed too. If
+    /// `is_hdf5` is true, which says that the signature of HDF5 comes next, that is listed.
+    fn listed_letters<S: Source>(
         &mut self,
         window: &mut Window<'_, S>,
         alloc: Global,
+        is_hdf5: bool,
     ) -> Result<[u8; 3], HeadFault>
+        requires { OnTrue S.is_transparent
+            (is_hdf5 ≡ bytes_eq hdf5_signature (take 8 (left window.old))) }
         ensures { Checked (at window.old self.old) (at window.new self.new) (Magic ∷ [])
             (checked (λ letters. bytes_eq letters (codes "CDF")) NotNetcdf (bytes 3 NotNetcdf))
             result }
@@ -128,7 +135,23 @@ impl Fields {
         let there = letters_there(window);
         let letters = start.unless_cut(&mut self.entries, filling_bytes(window, alloc, there))?;
         let answer = letters_in(letters.as_slice());
-        start.list(&mut self.entries, Content::Bytes(letters), answer)
+        let kept = kept_letters(alloc, is_hdf5, letters)?;
+        start.list(&mut self.entries, Content::Bytes(kept), answer)
+    }
+
+    /// Reads the three bytes that should be `CDF`, as [`listed_letters`](Fields::listed_letters) does.
+    fn letters<S: Source>(
+        &mut self,
+        window: &mut Window<'_, S>,
+        alloc: Global,
+    ) -> Result<[u8; 3], HeadFault>
+        requires { window.old.pos + 8 ≤ length window.old.buf.now }
+        ensures { Checked (at window.old self.old) (at window.new self.new) (Magic ∷ [])
+            (checked (λ letters. bytes_eq letters (codes "CDF")) NotNetcdf (bytes 3 NotNetcdf))
+            result }
+    {
+        let is_hdf5 = is_hdf5_next(window)?;
+        self.listed_letters(window, alloc, is_hdf5)
     }
 
     /// Reads the version byte. Errs with `UnknownVersion` if it is none of 1, 2 and 5.
@@ -155,6 +178,7 @@ impl Fields {
         window: &mut Window<'_, S>,
         alloc: Global,
     ) -> Result<Version, HeadFault>
+        requires { window.old.pos + 8 ≤ length window.old.buf.now }
         ensures { Checked (at window.old self.old) (at window.new self.new) [] magic_part result }
     {
         self.letters(window, alloc)?;
@@ -167,6 +191,7 @@ impl Fields {
         window: &mut Window<'_, S>,
         alloc: Global,
     ) -> Result<Header, HeadFault>
+        requires { window.old.pos + 8 ≤ length window.old.buf.now }
         ensures { Checked (at window.old self.old) (at window.new self.new)
             [] (header_by lenient) result }
     {
@@ -191,6 +216,18 @@ fn letters_there<S: Source>(window: &Window<'_, S>) -> u64
 {
     let left = window.len - window.offset_of_next();
     if left < 3 { left } else { 3 }
+}
+
+/// Returns what is kept of the start of a file: the signature of HDF5 if it has that, or else the letters. Never errs.
+fn kept_letters(alloc: Global, is_hdf5: bool, letters: FieldBytes) -> Result<FieldBytes, AllocError>
+    ensures kept { IfOk result (λ kept. kept ≡ (if is_hdf5 then hdf5_signature else letters)) }
+    ensures never { IsOk result }
+{
+    if is_hdf5 {
+        FieldBytes::from_slice(alloc, &HDF5_SIGNATURE)
+    } else {
+        Ok(letters)
+    }
 }
 
 /// Returns the letters, or errs with `NotNetcdf` if they aren't `CDF`.

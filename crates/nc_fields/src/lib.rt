@@ -18,6 +18,7 @@ mod list_name;
 mod name;
 mod number;
 mod place;
+mod signature;
 mod variable;
 
 pub use entry::{Content, Entry};
@@ -25,3 +26,4 @@ pub use field_bytes::FieldBytes;
 pub use header::{Listing, list_fields};
 pub use list_fault::ListFault;
 pub use place::{FieldName, Owner, Place};
+pub use signature::HDF5_SIGNATURE;

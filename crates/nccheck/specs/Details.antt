@@ -227,6 +227,9 @@ owner_number_at entries i = option_map_or (λ (e : Entry). owner_number e.place.
 
 unfoldable pub found_at : Listing → Entry → Fact → Bytes
 found_at l e (fact.Fault fault) = found_with_fault l.file_len e fault
+found_at l e fact.Hdf5 = found_content e.content
+found_at l e fact.Gzip = codes ": found 0x1f8b"
+found_at l e fact.EmptyFile = codes ": found 0 bytes"
 found_at l e fact.NameCharacters = []
 found_at l e fact.LargeCount = found_content e.content
 found_at l e fact.EmptyList = found_content e.content
@@ -256,6 +259,9 @@ expected_type code = concat_parts (expected_word ∷ decimal code ∷ type_word 
 
 unfoldable pub expected_at : Listing → Entry → Fact → Bytes
 expected_at l e (fact.Fault fault) = expected_with_fault l.entries e fault
+expected_at l e fact.Hdf5 = []
+expected_at l e fact.Gzip = []
+expected_at l e fact.EmptyFile = []
 expected_at l e fact.NameCharacters = []
 expected_at l e fact.LargeCount = expected_below large_count
 expected_at l e fact.EmptyList = expected_number 0

@@ -4,7 +4,7 @@ use Rattle.nc_base.specs.Bytes.{Bytes, concat_parts}
 use Rattle.nc_fields.specs.declared.place.FieldName.{FieldName}
 use Rattle.nc_fields.specs.declared.place.FieldName.TheVariants as name
 use Rattle.nc_check.specs.declared.{kind.Kind.Kind, kind.Severity.Severity}
-use Rattle.nc_check.specs.declared.kind.Kind.TheVariants.{NotNetcdf, UnknownVersion, HeaderTruncated, BadTag, BadCount, BadName, NameCharacters, FloatingType, BadType, BadShape, TwoRecordDims, TooLarge, BadOffset, LargeCount, Streaming, UnusedRecords, EmptyList, LongName, DuplicateName, NotNfc, Padding, EmptyAttribute, TrailingNul, FillValue, HighRank, Vsize, LargeVariable, BeginInHeader, Overlap, Unpadded, Order, AfterRecords, RecordPlace, Gap, Missing, EndPadding, Trailing}
+use Rattle.nc_check.specs.declared.kind.Kind.TheVariants.{NotNetcdf, Hdf5, Gzip, EmptyFile, UnknownVersion, HeaderTruncated, BadTag, BadCount, BadName, NameCharacters, FloatingType, BadType, BadShape, TwoRecordDims, TooLarge, BadOffset, LargeCount, Streaming, UnusedRecords, EmptyList, LongName, DuplicateName, NotNfc, Padding, EmptyAttribute, TrailingNul, FillValue, HighRank, Vsize, LargeVariable, BeginInHeader, Overlap, Unpadded, Order, AfterRecords, RecordPlace, Gap, Missing, EndPadding, Trailing}
 use Rattle.nc_check.specs.declared.kind.Severity.TheVariants.{Error, Violation, Note}
 
 unfoldable pub severity_word : Severity → Bytes
@@ -14,6 +14,9 @@ severity_word Note = codes "note"
 
 unfoldable pub kind_word : Kind → Bytes
 kind_word NotNetcdf = codes "not-netcdf"
+kind_word Hdf5 = codes "hdf5"
+kind_word Gzip = codes "gzip"
+kind_word EmptyFile = codes "empty-file"
 kind_word UnknownVersion = codes "unknown-version"
 kind_word HeaderTruncated = codes "header-truncated"
 kind_word BadTag = codes "bad-tag"

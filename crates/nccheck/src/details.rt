@@ -55,6 +55,8 @@ fn put_found_at<W: Sink>(
             let number = owner_number_at(listing.entries.as_slice(), first);
             put_around(sink, b": found the name of number ", number as u128, b"")
         }
+        Fact::Gzip => put(sink, b": found 0x1f8b"),
+        Fact::EmptyFile => put(sink, b": found 0 bytes"),
         Fact::NameCharacters | Fact::NotNfc | Fact::TrailingNul => Ok(()),
         Fact::FillType { .. } => put_found_type(sink, &entry.content),
         Fact::Layout(fact) => put_found_in_layout(sink, &listing.header, fact),
@@ -76,12 +78,11 @@ fn put_expected_at<W: Sink>(
         Fact::Fault(fault) => {
             put_expected_with_fault(sink, listing.entries.as_slice(), entry, fault)
         }
+        Fact::Hdf5 | Fact::Gzip | Fact::EmptyFile | Fact::NameCharacters => Ok(()),
         Fact::LargeCount => put_expected_below(sink, LARGE_COUNT),
         Fact::EmptyList => put_expected(sink, 0),
         Fact::LongName => put_at_most(sink, LONGEST_NAME),
-        Fact::NameCharacters | Fact::DuplicateName { .. } | Fact::NotNfc | Fact::TrailingNul => Ok(
-            (),
-        ),
+        Fact::DuplicateName { .. } | Fact::NotNfc | Fact::TrailingNul => Ok(()),
         Fact::Padding => put_expected_zeros(sink, &entry.content),
         Fact::EmptyAttribute => put_around(sink, b", expected at least ", 1, b""),
         Fact::FillType { expected } => put_expected_type(sink, expected),

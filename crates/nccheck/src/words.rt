@@ -28,6 +28,9 @@ pub(crate) fn kind_word(kind: Kind) -> &'static str
 {
     match kind {
         Kind::NotNetcdf => "not-netcdf",
+        Kind::Hdf5 => "hdf5",
+        Kind::Gzip => "gzip",
+        Kind::EmptyFile => "empty-file",
         Kind::UnknownVersion => "unknown-version",
         Kind::HeaderTruncated => "header-truncated",
         Kind::BadTag => "bad-tag",

@@ -9,11 +9,28 @@ use test_files::{
 
 /// Faults of fields that are whole, in the order of the header.
 pub const FAULTS: &[Changed<'_>] = &[
+    // the signature of HDF5, another byte at its end, and seven bytes of it; those of gzip, with others and alone
     (
-        b"\x89HDF\r\n\x1a\n",
+        b"\x89HDF\r\n\x1a\n\0",
+        &[],
+        b"f:0: error: hdf5: magic: found 0x894844460d0a1a0a\n",
+    ),
+    (
+        b"\x89HDF\r\n\x1a\r\0",
         &[],
         b"f:0: error: not-netcdf: magic: found 0x894844, expected 0x434446\n",
     ),
+    (
+        b"\x89HDF\r\n\x1a",
+        &[],
+        b"f:0: error: not-netcdf: magic: found 0x894844, expected 0x434446\n",
+    ),
+    (
+        b"\x1f\x8b\x08\0",
+        &[],
+        b"f:0: error: gzip: magic: found 0x1f8b\n",
+    ),
+    (b"\x1f\x8b", &[], b"f:0: error: gzip: magic: found 0x1f8b\n"),
     (
         ONE_VARIABLE,
         &[(3, b"\x03")],

@@ -203,11 +203,7 @@ pub const BEGINS: &[Changed<'_>] = &[
 
 /// Files, how many of their bytes are left, or how many they have with zeros after them, and the lines of all that is wrong or odd then.
 pub const CUT: &[(&[u8], usize, &[u8])] = &[
-    (
-        CLEAN,
-        0,
-        b"f:0: error: not-netcdf: magic: found 0x, expected 0x434446\n",
-    ),
+    (CLEAN, 0, b"f:0: error: empty-file: magic: found 0 bytes\n"),
     (
         CLEAN,
         2,

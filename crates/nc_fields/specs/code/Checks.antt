@@ -1,5 +1,5 @@
 -- For contracts. What a reader of a part of a header does, which lists its fields.
-use Rattle.std.specs.Prelude.{◌≡◌, ◌⊎◌, ℕ, ◌++◌, List, [], ◌∷◌, length, map, Option, Some, None, Result, Ok, Err}
+use Rattle.std.specs.Prelude.{◌≡◌, ◌⊎◌, ℕ, ◌++◌, List, [], ◌∷◌, length, map, take, Option, Some, None, Result, Ok, Err}
 use Rattle.std.specs.Bool.{OnTrue}
 use Rattle.nc_base.specs.Bytes.{Bytes}
 use Rattle.nc_base.specs.Parts.{Step, Part}
@@ -45,11 +45,12 @@ pub record Checked {S A : Type 0} {g : Ghosts S} (old new : Reader S g) (steps :
 
 -- the rules look at a field in this place as a number
 abbrev pub IsNumeric : Place → Type 0
-IsNumeric place = (size : ℕ) (bs : Bytes) → whole_content (steps_of place) size bs ≡ Number (number_in size bs)
+IsNumeric place = (size : ℕ) (start : Bytes) → whole_content (steps_of place) size start ≡ Number (number_in size (take size start))
 
 -- the rules look at the bytes of a field in this place, if all of them are there
 abbrev pub IsFilling : Place → Type 0
-IsFilling place = (size : ℕ) (bs : Bytes) → (whole_content (steps_of place) size bs ≡ content.Bytes bs) × (cut_content (steps_of place) bs ≡ Cut)
+IsFilling place =
+    (size : ℕ) (start : Bytes) → (whole_content (steps_of place) size start ≡ content.Bytes (take size start)) × (cut_content (steps_of place) start ≡ Cut)
 
 -- these bytes are returned, unless memory ran out
 abbrev pub IsHeld : Bytes → Result Bytes HeadFault → Type 0
