@@ -9,6 +9,9 @@ use nc_check::Kind;
 /// All kinds of findings, in their order.
 pub(crate) const KINDS: &[Kind] = &[
     Kind::NotNetcdf,
+    Kind::Hdf5,
+    Kind::Gzip,
+    Kind::EmptyFile,
     Kind::UnknownVersion,
     Kind::HeaderTruncated,
     Kind::BadTag,
