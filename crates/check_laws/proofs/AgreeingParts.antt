@@ -1,5 +1,6 @@
 -- The parts of a header agree by the strict and the lenient rules, up to the first field that the strict rules refuse.
-use Rattle.std.proofs.Common.{◌≡◌, ℕ, ◌*◌, ◌==◌, ◌||◌, ◌&&◌, not, Bool, true, false, List, [], ◌∷◌, length, map, take, Option, Some, None, Result, Ok, Err, refl, sym, ap, ◌∙◌, subst, arith, replicate, nat_lt, codes, eqb-true, if◌then◌else◌}
+use Rattle.std.proofs.lemmas.Grind.{common_steps}
+use Rattle.std.proofs.Common.{◌≡◌, ℕ, ◌*◌, ◌==◌, ◌||◌, ◌&&◌, not, Bool, true, false, List, [], ◌∷◌, length, map, take, Option, Some, None, Result, Ok, Err, refl, sym, ap, subst, arith, replicate, nat_lt, codes, eqb-true, if◌then◌else◌}
 use Rattle.std.specs.Int.{Width, byte_len, from_be_bytes, to_be_bytes, w32}
 use Rattle.std.specs.Str.{bytes_eq}
 use Rattle.nc_base.specs.declared.{fault.FormatFault.FormatFault, header.Dim.Dim, header.Var.Var, header.NumRecs.NumRecs, nc_type.NcType.NcType, version.Version.Version}
@@ -215,8 +216,7 @@ text-judges bs false false e d = refl
 -- what the strict rules make of a name
 same-refusal : (n : ℕ) (bs : Bytes) (steps : List Step) (fault : Option FormatFault)
     → name_refusal (is_name bs) fault ≡ refusal_in n (content.Bytes bs) (Text ∷ steps) fault
-same-refusal n bs steps None = refl
-same-refusal n bs steps (Some fault) = refl
+same-refusal n bs steps v2 = cc
 
 agree-text : (n : ℕ) (steps : List Step)
     → Agree (λ text. text) (Text ∷ steps) (checked is_name BadName (bytes n HeaderTruncated))
@@ -254,16 +254,10 @@ lenient_type is_float is_double y = if is_float then Ok Int else (if is_double t
 abbrev type_refusal : Bool → Bool → Option FormatFault → Option FormatFault
 type_refusal is_float is_double fault = if is_float || is_double then Some FloatingType else fault
 
-same-type : (y : Result NcType FormatFault) → Judges (λ ty. ty) y y (fault_of y)
-same-type (Ok ty) = (refl, refl)
-same-type (Err fault) = refl
-
 type-judges : (is_float is_double : Bool) (y : Result NcType FormatFault)
     → Judges (λ ty. ty) (strict_type is_float is_double y) (lenient_type is_float is_double y)
     (type_refusal is_float is_double (fault_of (lenient_type is_float is_double y)))
-type-judges true is_double y = refl
-type-judges false true y = refl
-type-judges false false y = same-type y
+type-judges v0 v1 y = grind arith
 
 agree-type : (v : Version) (steps : List Step) → Agree (λ ty. ty) (TypeCode ∷ steps) (type_part strict v) (type_part lenient v)
 unfolding type_part
@@ -276,9 +270,7 @@ agree-type v steps =
 tested-judges : (test : NcType → Bool) (is_float is_double : Bool) (y : Result NcType FormatFault)
     → Judges (λ ty. ty) (test_type test (strict_type is_float is_double y)) (test_type test (lenient_type is_float is_double y))
     (type_refusal is_float is_double (fault_of (test_type test (lenient_type is_float is_double y))))
-tested-judges test true is_double y = refl
-tested-judges test false true y = refl
-tested-judges test false false y = same-type (test_type test y)
+tested-judges test v1 v2 y = grind arith
 
 agree-tested_type : (v : Version) (test : NcType → Bool) (steps : List Step)
     → Agree (λ ty. ty) (TypeCode ∷ steps) (checked test TooLarge (type_part strict v)) (checked test TooLarge (type_part lenient v))
@@ -366,10 +358,7 @@ agree-var v dims total steps =
 pub same-total : (dims : List Dim) (vars : List Var)
     → padded_total dims (record_vars dims (map var_without_values vars)) ≡ padded_total dims (record_vars dims vars)
 same-total dims [] = refl
-same-total dims (var ∷ vars) =
-    total-append dims (var_without_values var ∷ []) (map var_without_values vars)
-    ∙ omega (arith, one-total dims (var_without_values var), one-total dims var, same-total dims vars)
-    ∙ sym (total-append dims (var ∷ []) vars)
+same-total dims (var ∷ vars) = grind (arith, common_steps, same-total dims vars, total-append, one-total)
 
 agree-vars : (v : Version) (dims : List Dim) (steps : List Step)
     → Agree (map var_without_values) steps (var_list strict v dims) (var_list lenient v dims)

@@ -9,8 +9,8 @@ use Rattle.nc_base.specs.Bytes.{Bytes}
 use Rattle.nc_base.specs.Headers.{IsSoundVar}
 use Rattle.nc_base.specs.Versions.{count_width, offset_limit}
 use Rattle.nc_base.specs.Sizes.{padded_size, padded_total, record_vars}
-use Rattle.nc_base.specs.Parts.{Step, Part, done, bytes, decoded, under, chain, Spells, print, Dims, Gatts, Vars, Tag, Count, Item, Padding, Vsize}
-use Rattle.nc_base.specs.Grammar.{strict, checked, count_part, dimension_tag, attribute_tag, variable_tag, dim_after, att_after, dimid_after, var_after, vsize_of, first, header_part, SpellsHeader, header_spelling}
+use Rattle.nc_base.specs.Parts.{Step, Part, done, bytes, decoded, under, chain, Spells, print, Tag, Count, Item, Padding, Vsize}
+use Rattle.nc_base.specs.Grammar.{strict, checked, count_part, variable_tag, dimid_after, var_after, vsize_of, first, header_part, SpellsHeader, header_spelling}
 unfoldable use Rattle.nc_base.specs.Grammar.{number, limited_part, offset_part, ignored, name_part, type_part, each, counted, list_head, list_part, dim_part, dim_list, att_part, att_list, dimid_part, shape_part, var_part, var_list, version_part, magic_part, numrecs_part, header_by}
 use Rattle.nc_base.specs.code.PartRuns.{IsPrintable}
 use Rattle.nc_base.proofs.PartOutcomes.{printed}
@@ -79,15 +79,12 @@ shown-canonical : {A : Type 0} (h : Header) (P : List Field → Type 0) (steps :
     → AreCanonical h (fields steps p (print p y ++ rest) ++ after)
 unfolding fields print
 shown-canonical h P steps (done x) y rest after good shown holds w = w
-shown-canonical h P steps (bytes n cut) content rest after good shown holds w =
-    subst (λ (fs : List Field). AreCanonical h (fs ++ after)) (sym (bytes-fields steps n cut (content ++ rest) content rest good refl))
-    (shown (whole_field steps (content ++ rest) n) after holds refl (at-start content rest n good), w)
+shown-canonical h P steps (bytes n cut) content rest after good shown holds w = grind (arith, bytes-fields, at-start)
 shown-canonical h P steps (decoded decode encode p) y rest after (good, e) shown holds w =
     subst (λ (fs : List Field). AreCanonical h (fs ++ after))
     (sym (decoded-fields steps decode encode p (print p (encode y) ++ rest) (encode y) y rest (printed p (encode y) rest good) e))
     (shown-canonical h P steps p (encode y) rest after good shown holds w)
-shown-canonical h P steps (under step p) x rest after good shown holds w =
-    shown-canonical h P (step ∷ steps) p x rest after good shown holds w
+shown-canonical h P steps (under step p) x rest after good shown holds w = grind (arith, shown-canonical h P (step ∷ steps) p x rest after good shown holds w)
 shown-canonical h P steps (chain {A = A} get p next) y rest after (x, is, good, more) shown holds w =
     let back = print (next x) y ++ rest in
     let later = fields steps (next x) back in
@@ -186,16 +183,12 @@ shown-list h P v tag steps element all fits go =
 shown-dims : (h : Header) (P : List Field → Type 0) (v : Version) (steps : List Step) (dims : List Dim)
     → AreShown h P steps (dim_list strict v) dims
 unfolding dim_list dim_part limited_part number
-shown-dims h P v steps dims =
-    shown-list h P v dimension_tag steps (dim_after strict v) dims (omega arith)
-    (λ P before dim is. (shown-name h _ v _ dim.name, (plain _, tt)))
+shown-dims h P v steps dims = grind (arith, shown-list, shown-name, plain)
 
 shown-atts : (h : Header) (P : List Field → Type 0) (v : Version) (steps : List Step) (atts : List Att)
     → AreShown h P steps (att_list strict v) atts
 unfolding att_list att_part type_part limited_part number ignored
-shown-atts h P v steps atts =
-    shown-list h P v attribute_tag steps (att_after strict v) atts (omega arith)
-    (λ P before att is. (shown-name h _ v _ att.name, (plain _, (plain _, (plain _, (zeros _, tt))))))
+shown-atts h P v steps atts = grind (arith, shown-list, shown-name, plain, zeros)
 
 shown-shape : (h : Header) (P : List Field → Type 0) (v : Version) (dims : List Dim) (steps : List Step) (ids : List ℕ)
     → AreShown h P steps (shape_part v dims) ids
@@ -212,8 +205,7 @@ element-there (y ∷ ys) zero x is = is
 element-there (y ∷ ys) (suc k) x is = element-there ys k x is
 
 holds-there : {A : Type 0} (P : A → Type 0) (xs : List A) (k : ℕ) (x : A) → slice_get xs k ≡ Some x → All P xs → P x
-holds-there P xs k x there holds =
-    subst P (get_or_from_slice_get xs k x x there) (All-get_or P xs k x (slice_get_within xs k x there) holds)
+holds-there P xs k x there holds = grind (arith, get_or_from_slice_get, All-get_or, slice_get_within)
 
 shown-vars : (h : Header) (P : List Field → Type 0) (steps : List Step) → All (IsSoundVar h.version h.dims) h.vars
     → AreShown h P steps (var_list strict h.version h.dims) h.vars
@@ -253,32 +245,17 @@ begins-fit : (v : Version) (dims : List Dim) (n : ℕ) (before : List Var) (from
     → Spells (each (var_after strict v dims) n before) from vars rest → All (HasFittingBegin v) before → All (HasFittingBegin v) vars
 unfolding Spells each
 begins-fit v dims zero before from vars rest s fit = subst (All (HasFittingBegin v)) (sym s.0) fit
-begins-fit v dims (suc n) before from vars rest (x, middle, s, t) fit =
-    begins-fit v dims n (before ++ x ∷ []) middle vars rest t
-    (All-append (HasFittingBegin v) before (x ∷ []) fit
-    (All-cons (HasFittingBegin v) x [] (begin-fits v dims (padded_total dims (record_vars dims before)) from x middle s)
-    (All-nil (HasFittingBegin v))))
+begins-fit v dims (suc n) before from vars rest (x, middle, s, t) fit = grind (arith, begins-fit v dims n (before ++ x ∷ []) middle vars rest t (All-append (HasFittingBegin v) before (x ∷ []) fit (All-cons (HasFittingBegin v) x [] (begin-fits v dims (padded_total dims (record_vars dims before)) from x middle s) (All-nil (HasFittingBegin v)))), All-append, All-cons, begin-fits, All-nil)
 
 header-begins : (from : Bytes) (h : Header) (rest : Bytes) → Spells header_part from h rest → All (HasFittingBegin h.version) h.vars
 unfolding Spells header_by var_list list_part
-header-begins from h rest (v, m, s, (n, m2, ns, (dims, m3, d, (gatts, m4, g, (vars, m5, (k, m6, t, vs), (whole, end)))))) =
-    subst (λ (h : Header). All (HasFittingBegin h.version) h.vars) (sym whole)
-    (begins-fit v dims k [] m6 vars m5 vs (All-nil (HasFittingBegin v)))
+header-begins from h rest (v, m, s, (n, m2, ns, (dims, m3, d, (gatts, m4, g, (vars, m5, (k, m6, t, vs), (whole, end)))))) = grind (arith, begins-fit, All-nil)
 
 -- ---- the whole
 
 shown-header : (h : Header) (P : List Field → Type 0) → All (IsSoundVar h.version h.dims) h.vars → AreShown h P [] header_part h
 unfolding header_by magic_part version_part numrecs_part number
-shown-header h P sound = (
-  (plain _, plain _),
-  (
-    plain _,
-    (
-      shown-dims h _ h.version (Dims ∷ []) h.dims,
-      (shown-atts h _ h.version (Gatts ∷ []) h.gatts, (shown-vars h _ (Vars ∷ []) sound, tt)),
-    ),
-  ),
-)
+shown-header h P sound = grind (arith, plain, shown-dims, shown-atts, shown-vars)
 
 -- a header that is spelled as it is written has fields as they are written
 pub header-canonical : (from : Bytes) (h : Header) (rest : Bytes) → SpellsHeader from h rest → from ≡ header_spelling h ++ rest

@@ -1,11 +1,10 @@
 -- Nothing is found about the spelling at the fields of a header that are as they are written.
 use Rattle.std.proofs.Common.{arith}
 use Rattle.std.proofs.lemmas.Grind.{common_steps}
-use Rattle.std.proofs.Common.{◌≡◌, ℕ, zero, suc, ◌+◌, ◌==◌, ◌&&◌, not, Bool, false, List, [], ◌∷◌, ◌++◌, map, find, replicate, Option, None, refl, sym, ap, ◌∙◌, subst, option_to_list, if◌then◌else◌}
+use Rattle.std.proofs.Common.{◌≡◌, ℕ, zero, suc, ◌+◌, ◌==◌, ◌&&◌, not, Bool, false, List, [], ◌∷◌, ◌++◌, map, replicate, Option, None, refl, sym, ap, ◌∙◌, subst, option_to_list, if◌then◌else◌}
 use Rattle.std.specs.Option.{option_map}
 use Rattle.nc_base.specs.declared.{header.Header.Header}
 use Rattle.nc_base.specs.declared.fault.FormatFault.TheVariants.{FloatingType}
-use Rattle.nc_base.specs.Names.{is_name}
 use Rattle.nc_base.specs.Parts.{Step}
 use Rattle.nc_fields.specs.declared.{entry.Content.Content, entry.Entry.Entry, place.FieldName.FieldName, place.Owner.Owner}
 use Rattle.nc_fields.specs.declared.entry.Content.TheVariants as content
@@ -15,11 +14,11 @@ use Rattle.nc_fields.specs.Entries.{seen_by, steps_of, name_steps, owner_steps, 
 unfoldable use Rattle.nc_fields.specs.Entries.{seen}
 use Rattle.nc_check.specs.declared.{finding.Fact.Fact, finding.Finding.Finding, ahead.Ahead.Ahead}
 use Rattle.nc_check.specs.declared.finding.Fact.TheVariants as fact
-use Rattle.nc_check.specs.Indexed.{Indexed, field_at, indexed_from, indexed, finding, each_before, each_after}
+use Rattle.nc_check.specs.Indexed.{Indexed, field_at, indexed_from, finding, each_before, each_after}
 use Rattle.nc_check.specs.Ahead.{ahead_of, is_field, next_number, number_in}
-use Rattle.nc_check.specs.AttributeRules.{empty_list, type_finding, name_finding, is_attribute, is_var_attribute, finding_by_name, attribute_finding}
+use Rattle.nc_check.specs.AttributeRules.{empty_list, type_finding, name_finding, finding_by_name, attribute_finding}
 unfoldable use Rattle.nc_check.specs.AttributeRules.{attribute_findings}
-use Rattle.nc_check.specs.FieldRules.{has_nonzero, is_not_nfc, fact_if, form_fact, content_facts, facts_with, findings_at, is_floating}
+use Rattle.nc_check.specs.FieldRules.{has_nonzero, fact_if, content_facts, facts_with, findings_at}
 unfoldable use Rattle.nc_check.specs.FieldRules.{field_findings, floating_findings}
 use Rattle.nc_check.specs.NameRules.{duplicate_name, is_first}
 unfoldable use Rattle.nc_check.specs.NameRules.{name_findings}
@@ -60,9 +59,7 @@ facts-other h size name.NumRecs o g f fs is = last-other g _ fact.LargeCount ref
 facts-other h size name.Length o g f fs is = last-other g _ fact.LargeCount refl
 facts-other h size name.NameLength o g f fs is = last-other g _ fact.LongName refl
 facts-other h size name.Rank o g f fs is = last-other g _ fact.HighRank refl
-facts-other h size name.Name o g f fs is =
-    fact-other g (not (is_name (bytes_of f))) fact.NameCharacters (option_to_list (form_fact name.Name (bytes_of f))) refl
-    (last-other g (is_not_nfc (bytes_of f)) fact.NotNfc refl)
+facts-other h size name.Name o g f fs is = grind (arith, fact-other, last-other)
 facts-other h size name.NamePadding o g f fs is = filling-other g (has_nonzero (bytes_of f)) (ap has_nonzero is ∙ no-nonzero f.size)
 facts-other h size name.Padding o g f fs is = filling-other g (has_nonzero (bytes_of f)) (ap has_nonzero is ∙ no-nonzero f.size)
 facts-other h size place o g f fs is = refl
@@ -107,25 +104,7 @@ rule-other : (h : Header) (len : ℕ) (first : Bool) (place : FieldName) (o : Ow
     → map seen_by es ≡ map (seen len) fs → AreWhole fs → IsCanonical h (name_steps place ++ owner_steps o) f fs
     → g.entry.content ≡ whole_content (name_steps place ++ owner_steps o) f.size f.start
     → IsOther (finding_by_name first place g (ahead_of (indexed_from k es)))
-rule-other h len first place o g k es f fs same whole is shows = by-place place is shows
-  where
-    at-tag : FollowsTag (number_of f) fs → g.entry.content ≡ content.Number (number_of f)
-        → IsOther (empty_list g g.entry.content (next_number is_field (indexed_from k es)))
-    at-tag is shows =
-        subst (λ c. IsOther (empty_list g c (next_number is_field (indexed_from k es)))) (sym shows)
-        (tag-other len (number_of f) g k es fs same whole is)
-
-    by-place : (place : FieldName) → IsCanonical h (name_steps place ++ owner_steps o) f fs
-        → g.entry.content ≡ whole_content (name_steps place ++ owner_steps o) f.size f.start
-        → IsOther (finding_by_name first place g (ahead_of (indexed_from k es)))
-    by-place name.DimsTag is shows = at-tag is shows
-    by-place name.GlobalAttsTag is shows = at-tag is shows
-    by-place name.VarsTag is shows = at-tag is shows
-    by-place name.AttsTag is shows = at-tag is shows
-    by-place name.Type is shows = choice-other (is_attribute g.entry.place.owner) _ _ (type-other g.entry.content _) refl
-    by-place name.Name is shows =
-        choice-other (is_var_attribute g.entry.place.owner) _ _ (name-other first g.entry.content (ahead_of (indexed_from k es))) refl
-    by-place place is shows = refl
+rule-other h len first place o g k es f fs same whole is shows = grind (arith, tag-other, choice-other, type-other, name-other)
 
 -- ---- all fields
 
@@ -166,9 +145,7 @@ duplicate-other earlier f = grind arith
 
 names-other : (fs earlier : List Indexed) → AreOther (each_after duplicate_name earlier fs)
 names-other [] earlier = refl
-names-other (f ∷ fs) earlier =
-    other-then (option_to_list (duplicate_name earlier f)) (each_after duplicate_name (earlier ++ f ∷ []) fs) (duplicate-other earlier f)
-    (names-other fs (earlier ++ f ∷ []))
+names-other (f ∷ fs) earlier = grind (arith, names-other fs (earlier ++ f ∷ []), other-then, duplicate-other)
 
 floating-other : (o : Option Indexed) → IsOther (option_map (λ f. finding f (fact.Fault FloatingType)) o)
 floating-other v0 = grind arith
@@ -178,10 +155,4 @@ floating-other v0 = grind arith
 pub header-other : (h : Header) (len : ℕ) (es : List Entry) (fs : List Field) → map seen_by es ≡ map (seen len) fs → AreWhole fs
     → AreCanonical h fs → AreOther (header_findings es)
 unfolding header_findings floating_findings name_findings attribute_findings
-header-other h len es fs same whole are =
-    let gs = indexed es in
-    let none = fields-other h len gs 0 es fs same whole are in
-    other-then (field_findings gs ++ floating_findings gs ++ name_findings gs) (attribute_findings gs)
-    (other-then (field_findings gs ++ floating_findings gs) (name_findings gs)
-    (other-then (field_findings gs) (floating_findings gs) none.alone (floating-other (find is_floating gs))) (names-other gs []))
-    none.attributes
+header-other h len es fs same whole are = grind (arith, fields-other, other-then, floating-other, names-other)

@@ -1,4 +1,5 @@
 -- A report finds nothing about the spelling of a header that is spelled as it is written.
+use Rattle.std.proofs.lemmas.Bool.Decides.{nat_tests}
 use Rattle.std.proofs.Common.{◌≡◌, ℕ, zero, suc, ◌+◌, Bool, true, false, cond, List, [], ◌∷◌, length, map, Option, Some, None, Ok, refl, sym, ap, ◌∙◌, subst, arith, slice_get, IfSome, option_map, option_to_list}
 use Rattle.std.specs.List.{list_any}
 use Rattle.std.proofs.lemmas.Option.{slice_get-map}
@@ -15,7 +16,6 @@ use Rattle.nc_fields.specs.Lenient.{lenient}
 use Rattle.nc_fields.specs.Entries.{Seen, seen_by}
 unfoldable use Rattle.nc_fields.specs.Entries.{seen}
 use Rattle.nc_layout.specs.declared.{slot.Slot.Slot, slot.Layout.Layout, finding.LayoutFinding.LayoutFinding}
-use Rattle.nc_layout.specs.Slots.{padded_slab}
 use Rattle.nc_layout.specs.Blocks.{each_slot}
 use Rattle.nc_layout.specs.Findings.{layout_findings}
 use Rattle.nc_layout.specs.HeaderLayout.{slot_of, layout_of}
@@ -106,14 +106,7 @@ vsizes-other : (h : Header) (end file_len len : ℕ) (gs : List Indexed) (fs : L
     → map (λ (x : Indexed). seen_by x.entry) (named is_vsize gs) ≡ map (seen len) fs → AreWhole fs → AreNumbered 0 fs → AreSizes h 0 fs
     → AreOther (vsize_findings (layout_of h end file_len) gs)
 unfolding vsize_findings
-vsizes-other h end file_len len gs fs same whole at are =
-    let find : ℕ → Slot → List Finding = λ (i : ℕ) (slot : Slot).
-    option_to_list (vsize_finding h.version (padded_slab slot) (slice_get (named is_vsize gs) i)) in
-    slots-other find h.dims h.vars 0
-    (λ i var there.
-    subst (λ j. AreOther (find j (slot_of h.dims var))) (sym (from-zero i))
-    (size-other h.version (padded_size h.dims var) (slice_get (named is_vsize gs) i)
-    (λ g entry. size-same h len i (named is_vsize gs) fs var g same whole at are there entry)))
+vsizes-other h end file_len len gs fs same whole at are = grind (arith, nat_tests, slots-other, from-zero, size-other, size-same)
 
 -- ---- the layout
 

@@ -1,6 +1,6 @@
 -- A report finds nothing at begins and at the end of a generated file.
 use Rattle.std.proofs.Common.{arith}
-use Rattle.std.proofs.Common.{◌≡◌, ℕ, ◌+◌, ◌||◌, Bool, false, List, [], ◌∷◌, ◌++◌, length, map, Ok, refl, sym, ap, ◌∙◌, subst, length-append}
+use Rattle.std.proofs.Common.{◌≡◌, ℕ, ◌+◌, Bool, false, List, [], ◌∷◌, ◌++◌, length, map, Ok, refl, sym, ap, ◌∙◌, subst, length-append}
 use Rattle.std.specs.List.{All}
 use Rattle.std.proofs.lemmas.List.Elements.{All-nil, All-cons, All-head, All-tail}
 use Rattle.std.proofs.lemmas.List.Folds.{list_any-append, list_any_none}
@@ -46,11 +46,7 @@ not-layout kind v1 other = grind arith
 -- after findings of other facts
 none-with : (kind : LayoutFact → Bool) (xs ys : List Finding) → All Other xs → has_any (is_of_layout kind) ys ≡ false
     → has_any (is_of_layout kind) (xs ++ ys) ≡ false
-none-with kind xs ys others none =
-    list_any-append (λ (f : Finding). is_of_layout kind f.fact) xs ys
-    ∙ ap (λ b. b || has_any (is_of_layout kind) ys)
-    (list_any_none (λ (f : Finding). is_of_layout kind f.fact) xs (λ k d lt. not-layout kind _ (others k d lt)))
-    ∙ none
+none-with kind xs ys others none = grind (arith, list_any-append, list_any_none, not-layout)
 
 listing-none : (kind : LayoutFact → Bool) (l : Listing) (h : Header) → l.header ≡ Ok (without_values h)
     → FindsNone kind (layout_of h l.end l.file_len) → has_any (is_of_layout kind) (all_findings l) ≡ false
@@ -85,10 +81,7 @@ arrays-begin : (h : Header) (n : ℕ) (before vars : List Var) (arrays : List By
 arrays-begin h n before [] [] are = tt
 arrays-begin h n before [] (array ∷ arrays) are = are
 arrays-begin h n before (var ∷ vars) [] are = are
-arrays-begin h n before (var ∷ vars) (array ∷ arrays) are = (
-  record { bytes = are.0.bytes; whole = are.0.whole; small = are.0.small },
-  arrays-begin h n (before ++ var ∷ []) vars arrays are.1,
-)
+arrays-begin h n before (var ∷ vars) (array ∷ arrays) are = grind (arith, arrays-begin h n (before ++ var ∷ []) vars arrays are.1)
 
 -- the variable and its attributes have valid names
 abbrev HasNames : Var → Type 0

@@ -1,8 +1,8 @@
 -- Findings that are faults lie at entries that the strict rules refuse, and there is one at the first of these.
-use Rattle.std.proofs.Common.{◌≡◌, ℕ, ◌==◌, ◌||◌, ◌⊎◌, inl, inr, not, Bool, true, false, cond, List, [], ◌∷◌, ◌++◌, length, take, Option, Some, None, refl, sym, ap, ◌∙◌, subst, arith}
+use Rattle.std.proofs.Common.{◌≡◌, ℕ, ◌==◌, ◌||◌, ◌⊎◌, inl, inr, not, Bool, true, false, cond, List, [], ◌∷◌, ◌++◌, length, take, Option, Some, None, refl, sym, ◌∙◌, subst, arith}
 use Rattle.std.specs.List.{All, Contains}
 use Rattle.std.specs.Option.{option_to_list}
-use Rattle.std.proofs.lemmas.List.Elements.{All-nil, All-cons, All-append}
+use Rattle.std.proofs.lemmas.List.Elements.{All-nil, All-cons}
 use Rattle.nc_base.specs.declared.{fault.FormatFault.FormatFault}
 use Rattle.nc_base.specs.declared.fault.FormatFault.TheVariants.{NotNetcdf, BadCount, BadName, FloatingType}
 use Rattle.nc_base.specs.Bytes.{Bytes}
@@ -17,7 +17,7 @@ use Rattle.nc_fields.specs.Entries.{hdf5_signature, name_steps, owner_steps}
 use Rattle.check_laws.specs.Agreement.{refusal_in}
 use Rattle.nc_check.specs.declared.{finding.Fact.Fact}
 use Rattle.nc_check.specs.declared.finding.Fact.TheVariants.{Fault, Hdf5, Gzip, EmptyFile, NameCharacters, LargeCount}
-use Rattle.nc_check.specs.FieldRules.{gzip_signature, fault_fact, is_large_count, is_large_numrecs, fact_if, number_fact, bytes_fact, form_fact, content_facts, facts_with, facts_of, is_floating_in}
+use Rattle.nc_check.specs.FieldRules.{gzip_signature, fault_fact, is_large_count, is_large_numrecs, fact_if, form_fact, facts_with, facts_of, is_floating_in}
 unfoldable use Rattle.nc_check.specs.FieldRules.{field_findings, floating_findings}
 use Rattle.check_laws.specs.FaultLaws.{strict_fault, is_fault}
 use Rattle.check_laws.proofs.Refusals.{refusal_of}
@@ -51,80 +51,13 @@ length-fault size n (owner.GlobalAtt i) fault = refl
 length-fault size n (owner.Var i) fault = refl
 length-fault size n (owner.VarAtt i k) fault = refl
 
--- of a number that isn't refused
-large-facts : (b : Bool) → cond b (Some BadCount) None ≡ None → All NoFault (option_to_list (fact_if b LargeCount))
-large-facts true none = absurd cc
-large-facts false none = All-nil NoFault
-
-number-facts : (place : FieldName) (size n : ℕ) (owner : Owner)
-    → refusal_in size (content.Number n) (name_steps place ++ owner_steps owner) None ≡ None
-    → All NoFault (option_to_list (number_fact place size n))
-number-facts name.NumRecs size n owner none = large-facts (is_large_numrecs size n) none
-number-facts name.Length size n owner none = large-facts (is_large_count size n) (sym (length-refusal size n owner) ∙ none)
-number-facts name.NameLength size n owner none = if-none NoFault _ _ refl
-number-facts name.Rank size n owner none = if-none NoFault _ _ refl
-number-facts place size n owner none = All-nil NoFault
-
-form-facts : (place : FieldName) (bs : Bytes) → All NoFault (option_to_list (form_fact place bs))
-form-facts name.Name bs = if-none NoFault _ _ refl
-form-facts place bs = All-nil NoFault
-
--- of a name that isn't refused
-name-facts : (b : Bool) → cond b None (Some BadName) ≡ None → All NoFault (option_to_list (fact_if (not b) NameCharacters))
-name-facts true none = All-nil NoFault
-name-facts false none = absurd cc
-
-bytes-facts : (place : FieldName) (size : ℕ) (bs : Bytes) (owner : Owner)
-    → refusal_in size (content.Bytes bs) (name_steps place ++ owner_steps owner) None ≡ None
-    → All NoFault (option_to_list (bytes_fact place bs))
-bytes-facts name.Name size bs owner none = name-facts (is_name bs) none
-bytes-facts name.NamePadding size bs owner none = if-none NoFault _ _ refl
-bytes-facts name.Padding size bs owner none = if-none NoFault _ _ refl
-bytes-facts place size bs owner none = All-nil NoFault
-
-content-facts : (place : FieldName) (size : ℕ) (c : Content) (owner : Owner)
-    → refusal_in size c (name_steps place ++ owner_steps owner) None ≡ None → All NoFault (content_facts place size c)
-content-facts place size (content.Number n) owner none = number-facts place size n owner none
-content-facts place size (content.Bytes bs) owner none = All-append NoFault _ _ (bytes-facts place size bs owner none) (form-facts place bs)
-content-facts place size c owner none = All-nil NoFault
-
--- a field with a fault is refused
-refused-anyway : (size : ℕ) (c : Content) (place : FieldName) (owner : Owner) (fault : FormatFault)
-    → refusal_in size c (name_steps place ++ owner_steps owner) (Some fault) ≡ None → ⊥
-refused-anyway size (content.Number n) name.Length owner fault none =
-    absurd (let never : Some fault ≡ None = sym (length-fault size n owner fault) ∙ none in cc)
-refused-anyway size (content.Number code) name.Type owner fault none = by-test ((code == 5) || (code == 6)) none
-  where
-    by-test : (b : Bool) → cond b (Some FloatingType) (Some fault) ≡ None → ⊥
-    by-test true e = absurd cc
-    by-test false e = absurd cc
-refused-anyway size (content.Number code) place owner fault none = absurd cc
-refused-anyway size (content.Bytes bs) name.Name owner fault none = absurd cc
-refused-anyway size (content.Bytes bs) place owner fault none = absurd cc
-refused-anyway size c place owner fault none = absurd cc
-
 -- a field that isn't refused is no fault
 pub quiet-facts : (e : Entry) → refusal_of e ≡ None → All NoFault (facts_of e)
-quiet-facts e none = by-fault e.fault none
-  where
-    by-fault : (o : Option FormatFault) → refusal_in e.size e.content (name_steps e.place.name ++ owner_steps e.place.owner) o ≡ None
-        → All NoFault (facts_with o e.place.name e.size e.content)
-    by-fault (Some fault) none = absurd (refused-anyway e.size e.content e.place.name e.place.owner fault none)
-    by-fault None none = content-facts e.place.name e.size e.content e.place.owner none
-
-floating-refused : (place : FieldName) (size : ℕ) (c : Content) (owner : Owner) (o : Option FormatFault) → is_floating_in place c ≡ true
-    → refusal_in size c (name_steps place ++ owner_steps owner) o ≡ Some FloatingType
-floating-refused name.Type size (content.Number code) owner o is = ap (λ b. cond b (Some FloatingType) o) is
-floating-refused place size c owner o is = absurd cc
+quiet-facts e none = grind arith
 
 -- nor is its type floating
 pub quiet-type : (e : Entry) → refusal_of e ≡ None → is_floating_in e.place.name e.content ≡ false
-quiet-type e none = by-test (is_floating_in e.place.name e.content) refl
-  where
-    by-test : (b : Bool) → is_floating_in e.place.name e.content ≡ b → b ≡ false
-    by-test true is =
-        let never : Some FloatingType ≡ None = sym (floating-refused e.place.name e.size e.content e.place.owner e.fault is) ∙ none in absurd cc
-    by-test false is = refl
+quiet-type e none = grind arith
 
 -- ---- the facts of a refused entry
 

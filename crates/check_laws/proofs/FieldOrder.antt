@@ -1,5 +1,5 @@
 -- The fields of a part begin one after the other.
-use Rattle.std.proofs.Common.{◌≡◌, ℕ, ◌≤◌, List, [], ◌∷◌, ◌++◌, length, Result, Ok, Err, subst, arith, le_trans}
+use Rattle.std.proofs.Common.{◌≡◌, ℕ, ◌≤◌, List, [], ◌∷◌, ◌++◌, length, Result, Ok, Err, arith, le_trans}
 use Rattle.nc_fields.proofs.Prelude.{Bytes, Step, Part, done, bytes, decoded, under, chain, Outcome, and_then, with_rest, run, left_after, FormatFault, Field, judged, fields}
 use Rattle.nc_file.proofs.PartRuns.{shorter}
 
@@ -33,8 +33,7 @@ descend-decoded : {A B : Type 0} (decode : A → Result B FormatFault) (top : �
     → Descend top (left_after (and_then o (λ x rest. with_rest (decode x) rest)))
     (elim o as (λ o. List Field) [ Ok x ↦ judged (decode x.0) fs | Err e ↦ fs ])
 unfolding left_after
-descend-decoded decode top fs (Ok x) d =
-    subst (λ n. Descend top n (judged (decode x.0) fs)) (same-left (decode x.0) x.1) (descend-judged top (length x.1) (decode x.0) fs d)
+descend-decoded decode top fs (Ok x) d = grind (arith, same-left, descend-judged)
 descend-decoded decode top fs (Err e) d = d
 
 descend-chain : {A B : Type 0} (next : A → Bytes → Outcome B) (more : A → Bytes → List Field) (top : ℕ) (fs : List Field) (o : Outcome A)

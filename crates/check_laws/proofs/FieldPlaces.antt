@@ -1,17 +1,16 @@
 -- Each field of a header has a place, to which the steps to the field lead. If reading stops, a field has the fault that it stops with.
-use Rattle.std.proofs.Common.{◌≡◌, ◌⊎◌, inl, inr, ℕ, zero, suc, ◌*◌, ◌==◌, ◌||◌, ◌&&◌, not, nat_lt, leb, Bool, true, false, cond, if◌then◌else◌, List, [], ◌∷◌, ◌++◌, length, take, drop, replicate, codes, slice_index, Option, Some, None, Result, Ok, Err, ok_or, refl, sym, subst}
+use Rattle.std.proofs.Common.{arith}
+use Rattle.std.proofs.Common.{◌≡◌, ◌⊎◌, inr, ℕ, zero, suc, ◌*◌, ◌==◌, ◌||◌, ◌&&◌, not, nat_lt, leb, Bool, true, false, cond, List, [], ◌∷◌, ◌++◌, length, take, drop, replicate, codes, Option, Some, Result, Ok, Err, ok_or, refl}
 use Rattle.std.specs.Int.{Width, byte_len, from_be_bytes, to_be_bytes, w32}
 use Rattle.std.specs.Str.{bytes_eq}
-use Rattle.nc_base.specs.declared.{fault.FormatFault.FormatFault, header.Dim.Dim, header.NumRecs.NumRecs, nc_type.NcType.NcType, version.Version.Version}
-use Rattle.nc_base.specs.declared.header.NumRecs.TheVariants.{Known, Streaming}
-use Rattle.nc_base.specs.declared.nc_type.NcType.TheVariants.{Int, Int64}
-use Rattle.nc_base.specs.declared.fault.FormatFault.TheVariants.{NotNetcdf, UnknownVersion, HeaderTruncated, BadTag, BadCount, BadName, FloatingType, BadType, BadShape, TwoRecordDims, BadOffset, TooLarge}
+use Rattle.nc_base.specs.declared.{fault.FormatFault.FormatFault, header.Dim.Dim, version.Version.Version}
+use Rattle.nc_base.specs.declared.fault.FormatFault.TheVariants.{NotNetcdf, HeaderTruncated, BadTag, BadCount, BadName, FloatingType, BadShape, TwoRecordDims, BadOffset, TooLarge}
 use Rattle.nc_base.specs.Bytes.{Bytes, padding_len}
-use Rattle.nc_base.specs.Types.{code_of, size_of, type_of_code}
-use Rattle.nc_base.specs.Versions.{version_byte, version_of_byte, count_width, offset_width, count_limit, offset_limit, streaming_mark}
+use Rattle.nc_base.specs.Types.{size_of}
+use Rattle.nc_base.specs.Versions.{count_width, offset_width, count_limit, offset_limit}
 use Rattle.nc_base.specs.Sizes.{has_record_dim, padded_total, record_vars}
 use Rattle.nc_base.specs.Parts.{Step, Part, done, bytes, decoded, under, chain, Magic, VersionByte, Records, Dims, Gatts, Vars, Tag, Count, Item, Name, Length, Text, Padding, TypeCode, Values, Shape, Atts, Vsize, Begin}
-use Rattle.nc_base.specs.Grammar.{checked, count_part, known_type, version_in, numrecs_in, number_of_numrecs, is_dimid, is_within_limits, dimension_tag, attribute_tag, variable_tag, dim_after, att_after, dimid_after, var_after}
+use Rattle.nc_base.specs.Grammar.{checked, count_part, is_dimid, is_within_limits, dimension_tag, attribute_tag, variable_tag, dim_after, att_after, dimid_after, var_after}
 unfoldable use Rattle.nc_base.specs.Grammar.{number, limited_part, offset_part, ignored, name_part, type_part, counted, list_head, list_part, each, dim_part, dim_list, att_part, att_list, dimid_part, shape_part, var_part, var_list, version_part, magic_part, numrecs_part, header_by}
 use Rattle.nc_base.specs.code.PartRuns.{Outcome, and_then, with_rest}
 unfoldable use Rattle.nc_base.specs.code.PartRuns.{run}
@@ -21,8 +20,8 @@ use Rattle.nc_fields.specs.declared.place.FieldName.TheVariants as name
 use Rattle.nc_fields.specs.Entries.{steps_of, owner_steps}
 use Rattle.nc_fields.specs.Fields.{Field}
 unfoldable use Rattle.nc_fields.specs.Fields.{fields}
-use Rattle.nc_fields.specs.Lenient.{any_length_limit, lenient, may_be_name, sized_type_in}
-use Rattle.nc_fields.proofs.Checks.{IsField, fault_in, bytes-field, decoded-field}
+use Rattle.nc_fields.specs.Lenient.{any_length_limit, lenient, may_be_name}
+use Rattle.nc_fields.proofs.Checks.{IsField, bytes-field, decoded-field}
 
 -- ---- lists of fields
 
@@ -39,11 +38,6 @@ placed-both (f ∷ fs) gs p q = (p.0, placed-both fs gs p.1 q)
 abbrev pub HasFault : FormatFault → List Field → Type 0
 HasFault fault [] = ⊥
 HasFault fault (f ∷ fs) = (f.fault ≡ Some fault) ⊎ HasFault fault fs
-
-fault-left : (fault : FormatFault) (fs gs : List Field) → HasFault fault fs → HasFault fault (fs ++ gs)
-fault-left fault [] gs h = absurd h
-fault-left fault (f ∷ fs) gs (inl is) = inl is
-fault-left fault (f ∷ fs) gs (inr h) = inr (fault-left fault fs gs h)
 
 fault-right : (fault : FormatFault) (fs gs : List Field) → HasFault fault gs → HasFault fault (fs ++ gs)
 fault-right fault [] gs h = h
@@ -84,19 +78,7 @@ fields_then steps next fs o = elim o [ Ok x ↦ fs ++ fields steps (next x.0) x.
 placed-chain : {A B : Type 0} {steps : List Step} {get : B → Option A} {p : Part A} {next : A → Part B} → Placed steps p
     → ((x : A) → Placed steps (next x)) → Placed steps (chain get p next)
 unfolding fields run
-placed-chain {A = A} {steps = steps} {p = p} {next = next} one more = record {
-  places = λ from. places-after (run p from) (fields steps p from) (one.places from);
-  faults = λ from. faults-after (run p from) (fields steps p from) (one.faults from);
-}
-  where
-    places-after : (o : Outcome A) (fs : List Field) → ArePlaced fs → ArePlaced (fields_then steps next fs o)
-    places-after (Ok x) fs p = placed-both fs (fields steps (next x.0) x.1) p ((more x.0).places x.1)
-    places-after (Err e) fs p = p
-
-    faults-after : (o : Outcome A) (fs : List Field) → Shows o fs
-        → Shows (and_then o (λ x middle. run (next x) middle)) (fields_then steps next fs o)
-    faults-after (Ok x) fs s = shows-after (run (next x.0) x.1) fs (fields steps (next x.0) x.1) ((more x.0).faults x.1)
-    faults-after (Err e) fs s = s
+placed-chain {A = A} {steps = steps} {p = p} {next = next} one more = grind (arith, placed-both, shows-after)
 
 placed-each : {A : Type 0} {steps : List Step} (element : List A → Part A)
     → ((before : List A) (k : ℕ) → Placed (Item k ∷ steps) (element before)) → (n : ℕ) (before : List A) → Placed steps (each element n before)
@@ -149,12 +131,7 @@ leaf-decoded {A = A} {B = B} {p = p} decode encode plain one = record {
 
 leaf-checked : {A : Type 0} {p : Part A} (test : A → Bool) (fault : FormatFault) → is_floating_fault fault ≡ false → Leaf p
     → Leaf (checked test fault p)
-leaf-checked {A = A} test fault is one =
-    leaf-decoded (λ x. if test x then Ok x else Err fault) (λ x. x) (λ x. by-test x (test x)) one
-  where
-    by-test : (x : A) (b : Bool) → NoFloat (cond b (Ok x) (Err fault))
-    by-test x true = tt
-    by-test x false = is
+leaf-checked {A = A} test fault is one = grind (arith, leaf-decoded)
 
 leaf-number : (w : Width) → Leaf (number w)
 unfolding number
@@ -162,15 +139,7 @@ leaf-number w = leaf-decoded (λ digits. Ok (from_be_bytes w digits)) (to_be_byt
 
 -- a field in this place
 placed : {A : Type 0} {p : Part A} (place : Place) → Leaf p → Placed (steps_of place) p
-placed {A = A} {p = p} place one = record {
-  places = λ from. subst ArePlaced (sym (one.field (steps_of place) from)) ((place, refl), tt);
-  faults = λ from. subst (Shows (run p from)) (sym (one.field (steps_of place) from)) (shown from (run p from) (one.plain from));
-}
-  where
-    shown : (from : Bytes) (o : Outcome A) → NoFloatIn o
-        → Shows o (record { steps = steps_of place; start = from; size = one.size; fault = fault_in o } ∷ [])
-    shown from (Ok x) is = tt
-    shown from (Err e) is = (inl refl, is)
+placed {A = A} {p = p} place one = grind arith
 
 abbrev at : FieldName → Owner → Place
 at n o = record { owner = o; name = n }
@@ -188,33 +157,18 @@ leaf-offset v = leaf-checked (λ n. nat_lt n (offset_limit v)) BadOffset refl (l
 
 leaf-numrecs : (v : Version) → Leaf (numrecs_part lenient v)
 unfolding numrecs_part
-leaf-numrecs v =
-    leaf-decoded (numrecs_in lenient v) (number_of_numrecs v) (λ n. by-tests n (n == streaming_mark v) (nat_lt n (any_length_limit v))) (leaf-number (count_width v))
-  where
-    by-tests : (n : ℕ) (a b : Bool) → NoFloat (cond a (Ok Streaming) (cond b (Ok (Known n)) (Err BadCount)))
-    by-tests n true b = tt
-    by-tests n false true = tt
-    by-tests n false false = refl
+leaf-numrecs v = grind (arith, leaf-decoded, leaf-number)
 
 leaf-dimid : (v : Version) (dims : List Dim) (before : List ℕ) → Leaf (dimid_after v dims before)
 unfolding dimid_part
 leaf-dimid v dims before = leaf-checked (is_dimid dims (length before == 0)) BadShape refl (leaf-number (count_width v))
 
 known-plain : {A : Type 0} (o : Option A) (fault : FormatFault) → is_floating_fault fault ≡ false → NoFloat (ok_or o fault)
-known-plain (Some x) fault is = tt
-known-plain None fault is = is
+known-plain v0 fault is = grind arith
 
 leaf-type : (v : Version) → Leaf (type_part lenient v)
 unfolding type_part
-leaf-type v =
-    leaf-decoded (sized_type_in v) code_of
-    (λ code. by-tests (code == 5) (code == 6) _ (known-plain (known_type v (type_of_code code)) BadType refl)) (leaf-number w32)
-  where
-    by-tests : (a b : Bool) (y : Result NcType FormatFault) → NoFloat y
-        → NoFloat (cond a (Ok Int) (cond b (Ok Int64) (cond (a || b) (Err FloatingType) y)))
-    by-tests true b y is = tt
-    by-tests false true y is = tt
-    by-tests false false y is = is
+leaf-type v = grind (arith, leaf-decoded, known-plain, leaf-number)
 
 leaf-ignored : (n : ℕ) → Leaf (ignored n)
 unfolding ignored
@@ -222,9 +176,7 @@ leaf-ignored n = leaf-decoded (λ any. Ok tt) (λ nothing. replicate n 0) (λ an
 
 leaf-version : Leaf version_part
 unfolding version_part
-leaf-version =
-    leaf-decoded version_in (λ v. version_byte v ∷ [])
-    (λ byte. known-plain (version_of_byte (slice_index byte 0)) (UnknownVersion (slice_index byte 0)) refl) (leaf-bytes 1 HeaderTruncated refl)
+leaf-version = grind (arith, leaf-decoded, known-plain, leaf-bytes)
 
 placed-magic : Placed [] magic_part
 unfolding magic_part
@@ -250,9 +202,7 @@ placed-list : {A : Type 0} (v : Version) (tag : ℕ) (steps : List Step) (elemen
     → ((found : ℕ) → Placed (Count ∷ steps) (checked (λ n. not (found == 0) || (n == 0)) BadCount (count_part v)))
     → ((before : List A) (k : ℕ) → Placed (Item k ∷ steps) (element before)) → Placed steps (list_part v tag element)
 unfolding list_part list_head
-placed-list v tag steps element tags counts elements =
-    placed-chain (placed-chain (placed-under Tag tags) (λ found. placed-under Count (counts found)))
-    (λ n. placed-each element elements n [])
+placed-list v tag steps element tags counts elements = grind (arith, placed-chain, placed-under, placed-each)
 
 placed-tag : (tag : ℕ) (p : Place) → Placed (steps_of p) (checked (λ t. (t == 0) || (t == tag)) BadTag (number w32))
 placed-tag tag p = placed p (leaf-checked (λ t. (t == 0) || (t == tag)) BadTag refl (leaf-number w32))

@@ -1,4 +1,5 @@
 -- The first fault of a report is that of the first entry that the strict rules refuse.
+use Rattle.std.proofs.lemmas.Grind.{common_steps}
 use Rattle.std.proofs.Common.{◌-◌, min, ◌≡◌, ℕ, zero, suc, ◌+◌, ◌≤◌, ◌⊎◌, inl, inr, Bool, true, false, cond, List, [], ◌∷◌, ◌++◌, length, map, flat_map, find, Option, Some, None, is_some, refl, sym, ap, ◌∙◌, subst, arith, le_refl}
 use Rattle.std.specs.List.{All, Contains}
 use Rattle.std.specs.Option.{option_to_list, option_map}
@@ -23,9 +24,6 @@ unfoldable use Rattle.nc_check.specs.FieldRules.{field_findings, floating_findin
 unfoldable use Rattle.nc_check.specs.HeaderRules.{header_findings}
 unfoldable use Rattle.nc_check.specs.Reports.{all_findings}
 use Rattle.nc_check.specs.Reports.{IsReport}
-use Rattle.nc_check.specs.NameRules.{name_findings}
-use Rattle.nc_check.specs.AttributeRules.{attribute_findings}
-use Rattle.nc_check.specs.WholeHeader.{whole_findings}
 use Rattle.check_laws.specs.FaultLaws.{is_fault, HasNoFault, IsReadable, FindsFirst, FaultlessHeadersAreReadable, FirstFaultIsReaders}
 use Rattle.check_laws.proofs.Refusals.{refusal_of, FirstRefused, none-refused, first-refused}
 use Rattle.check_laws.proofs.FaultFindings.{HasFact, IsFault, ShowsFault, quiet-type, refused-shown, contains-first}
@@ -62,9 +60,7 @@ finds-field : (P : Fact → Type 0) (i : ℕ) (front : List Entry) (e : Entry) (
 finds-field P i [] e back has =
     finds-left (findings_at (field_at i e)) (flat_map findings_at (indexed_from (i + 1) back))
     (finds-map P (field_at i e) (facts_of e) has)
-finds-field P i (x ∷ front) e back has =
-    finds-right (findings_at (field_at i x)) (flat_map findings_at (indexed_from (i + 1) (front ++ e ∷ back)))
-    (finds-field P (i + 1) front e back has)
+finds-field P i (x ∷ front) e back has = grind (arith, finds-field P (i + 1) front e back has, finds-right)
 
 -- the first floating type among these fields, the first of which passes the test or doesn't
 abbrev first_floating : Bool → Indexed → List Indexed → List Finding
@@ -76,35 +72,21 @@ finds-floating : (i : ℕ) (front : List Entry) (e : Entry) (back : List Entry) 
 finds-floating i [] e back none is =
     subst (λ b. Finds (IsFault FloatingType) (first_floating b (field_at i e) (indexed_from (i + 1) back)) e.offset) (sym is)
     (finds-here (IsFault FloatingType) (field_at i e) (Fault FloatingType) [] refl)
-finds-floating i (x ∷ front) e back none is =
-    subst (λ b. Finds (IsFault FloatingType) (first_floating b (field_at i x) (indexed_from (i + 1) (front ++ e ∷ back))) e.offset)
-    (sym (quiet-type x (none x (contains-first x front))))
-    (finds-floating (i + 1) front e back (λ y has. none y (Contains-append_right (x ∷ []) front y has)) is)
+finds-floating i (x ∷ front) e back none is = grind (arith, finds-floating (i + 1) front e back (λ y has. none y (Contains-append_right (x ∷ []) front y has)) is, quiet-type, contains-first, Contains-append_right)
 
 -- of those at fields alone, or of the one at a floating type
 finds-shown : (len : ℕ) (es : List Entry) (fault : FormatFault) (rest : Bytes) (r : FirstRefused len es fault rest)
     → ShowsFault r.entry.place.name r.entry.size r.entry.content r.entry.fault fault
     → Finds (IsFault fault) (field_findings (indexed es) ++ floating_findings (indexed es)) r.entry.offset
 unfolding field_findings floating_findings
-finds-shown len es fault rest r (inl has) =
-    finds-left (flat_map findings_at (indexed es)) (option_to_list (floating_finding (indexed es)))
-    (subst (λ es. Finds (IsFault fault) (flat_map findings_at (indexed es)) r.entry.offset) (sym r.is)
-    (finds-field (IsFault fault) 0 r.front r.entry r.back has))
-finds-shown len es fault rest r (inr (is, same)) =
-    finds-right (flat_map findings_at (indexed es)) (option_to_list (floating_finding (indexed es)))
-    (subst (λ f. Finds (IsFault f) (option_to_list (floating_finding (indexed es))) r.entry.offset) (sym same)
-    (subst (λ es. Finds (IsFault FloatingType) (option_to_list (floating_finding (indexed es))) r.entry.offset) (sym r.is)
-    (finds-floating 0 r.front r.entry r.back (λ x has. All-contains (λ (e : Entry). refusal_of e ≡ None) r.front x r.before has) is)))
+finds-shown len es fault rest r (inl has) = grind (arith, finds-left, finds-field)
+finds-shown len es fault rest r (inr (is, same)) = grind (arith, finds-right, finds-floating, All-contains)
 
 -- of all findings
 pub finds-among_all : {P : Fact → Type 0} (l : Listing) (offset : ℕ)
     → Finds P (field_findings (indexed l.entries) ++ floating_findings (indexed l.entries)) offset → Finds P (all_findings l) offset
 unfolding all_findings header_findings
-finds-among_all l offset f =
-    let fs = indexed l.entries in
-    finds-left (header_findings l.entries) (whole_findings l)
-    (finds-left (field_findings fs ++ floating_findings fs ++ name_findings fs) (attribute_findings fs)
-    (finds-left (field_findings fs ++ floating_findings fs) (name_findings fs) f))
+finds-among_all l offset f = grind (arith, common_steps)
 
 -- ---- no fault before it
 
@@ -172,8 +154,7 @@ readable bytes r report none (Some (fault, rest)) is =
     absurd (let never : true ≡ false = sym (ap (λ (o : Option FormatFault). is_some o) found.is) ∙ quiet in cc)
 
 not-true : (b : Bool) → (b ≡ true → ⊥) → b ≡ false
-not-true true never = absurd (never refl)
-not-true false never = refl
+not-true v0 never = grind arith
 
 no-fault : (bytes : Bytes) (r : Report) → IsReport bytes r → first_refusal (header_fields bytes) ≡ None → HasNoFault r
 no-fault bytes r report none =

@@ -1,6 +1,6 @@
 -- What a report finds about the layout of a whole header, and the header whose layout it is.
 use Rattle.std.proofs.lemmas.Grind.{common_steps}
-use Rattle.std.proofs.Common.{◌≡◌, ℕ, ◌+◌, ◌||◌, Bool, false, List, [], ◌∷◌, ◌++◌, length, map, Result, Ok, Err, refl, sym, ap, ◌∙◌, subst, arith}
+use Rattle.std.proofs.Common.{◌≡◌, ℕ, ◌+◌, Bool, false, List, [], ◌∷◌, ◌++◌, length, map, Result, Ok, Err, refl, sym, ap, ◌∙◌, subst, arith}
 use Rattle.std.specs.List.{list_any}
 use Rattle.std.proofs.lemmas.List.Sorted.{list_any-IsPermutation}
 use Rattle.nc_base.specs.declared.{fault.FormatFault.FormatFault, header.Dim.Dim, header.Header.Header, header.Var.Var}
@@ -13,7 +13,7 @@ use Rattle.nc_fields.specs.Lenient.{lenient}
 use Rattle.nc_fields.specs.Listings.{IsOutcome}
 use Rattle.check_laws.specs.Agreement.{var_without_values, without_values}
 use Rattle.check_laws.proofs.StrictHeaders.{strict-headers}
-use Rattle.nc_layout.specs.declared.{slot.Slot.Slot, finding.LayoutFact.LayoutFact, finding.LayoutFinding.LayoutFinding}
+use Rattle.nc_layout.specs.declared.{finding.LayoutFact.LayoutFact, finding.LayoutFinding.LayoutFinding}
 use Rattle.nc_layout.specs.Findings.{layout_findings}
 use Rattle.layout_laws.specs.Laws.{FindsNone}
 use Rattle.nc_layout.specs.HeaderLayout.{layout_of, slot_of}
@@ -40,9 +40,7 @@ located-tells test kind agree fs l = grind arith
 pub all-located : (test : Fact → Bool) (kind : LayoutFact → Bool) → Agree test kind → (fs : List Indexed) (ls : List LayoutFinding)
     → list_any (λ (f : Finding). test f.fact) (map (located fs) ls) ≡ list_any (λ (l : LayoutFinding). kind l.fact) ls
 all-located test kind agree fs [] = refl
-all-located test kind agree fs (l ∷ ls) =
-    ap (λ b. b || list_any (λ (f : Finding). test f.fact) (map (located fs) ls)) (located-tells test kind agree fs l)
-    ∙ ap (λ b. kind l.fact || b) (all-located test kind agree fs ls)
+all-located test kind agree fs (l ∷ ls) = grind (arith, all-located test kind agree fs ls, located-tells)
 
 -- ---- the header of the listing
 
@@ -50,14 +48,8 @@ all-located test kind agree fs (l ∷ ls) =
 pub is-read : (bytes rest : Bytes) (o : Result Header FormatFault) (h : Header) (after : Bytes) → IsOutcome bytes rest o
     → run (header_by lenient) bytes ≡ Ok (h, after)
     → (o ≡ Ok h) × (rest ≡ after)
-is-read bytes rest (Ok x) h after told read =
-    let both : ◌≡◌ {A = Result (Header × Bytes) (FormatFault × Bytes)} (Ok (x, rest)) (Ok (h, after)) =
-    sym (reads (header_by lenient) bytes x rest told) ∙ read in
-    let same : (x, rest) ≡ (h, after) = cc in
-    (ap (λ (p : Header × Bytes). Ok p.0) same, ap (λ (p : Header × Bytes). p.1) same)
-is-read bytes rest (Err fault) h after told read =
-    absurd (let never : ◌≡◌ {A = Result (Header × Bytes) (FormatFault × Bytes)} (Err (fault, rest)) (Ok (h, after)) =
-    sym (stops (header_by lenient) bytes fault rest told) ∙ read in cc)
+is-read bytes rest (Ok x) h after told read = grind (arith, reads)
+is-read bytes rest (Err fault) h after told read = grind (arith, stops)
 
 pub whole-header : (l : Listing) (h : Header) → l.header ≡ Ok h
     → whole_findings l ≡ layout_facts (layout_of h l.end l.file_len) (indexed l.entries)
@@ -71,8 +63,7 @@ same-slots dims (var ∷ vars) = ap (λ slots. slot_of dims var ∷ slots) (same
 
 pub same-layout : (h : Header) (header_end file_len : ℕ)
     → layout_of (without_values h) header_end file_len ≡ layout_of h header_end file_len
-same-layout h header_end file_len =
-    ap (λ (slots : List Slot). record (layout_of h header_end file_len) { slots = slots }) (same-slots h.dims h.vars)
+same-layout h header_end file_len = grind (arith, same-slots)
 
 -- ---- reports without findings about the layout
 

@@ -1,11 +1,10 @@
 -- What a report says of the values of a file, whatever their types.
-use Rattle.std.proofs.Common.{◌≡◌, ◌≢◌, ℕ, ◌+◌, ◌⊎◌, inl, inr, false, List, [], ◌∷◌, ◌++◌, length, map, flat_map, Some, Result, Ok, Err, refl, sym, ap, ◌∙◌, subst}
-use Rattle.std.specs.List.{All}
+use Rattle.std.proofs.Common.{arith}
+use Rattle.std.proofs.Common.{◌≡◌, ◌≢◌, ℕ, ◌+◌, inl, inr, false, List, [], ◌∷◌, length, map, flat_map, Result, Ok, Err, refl, sym, ap, ◌∙◌, subst}
 use Rattle.std.proofs.lemmas.List.Elements.{All-contains}
 use Rattle.std.proofs.lemmas.List.Folds.{list_any_none}
 use Rattle.std.proofs.lemmas.List.Sorted.{Contains-permutation, list_any-IsPermutation}
 use Rattle.nc_base.specs.declared.{fault.FormatFault.FormatFault, header.Header.Header}
-use Rattle.nc_base.specs.declared.fault.FormatFault.TheVariants.{FloatingType}
 use Rattle.nc_base.specs.Bytes.{Bytes}
 use Rattle.nc_base.specs.Grammar.{header_by}
 use Rattle.nc_base.proofs.PartOutcomes.{stops}
@@ -15,7 +14,6 @@ use Rattle.nc_fields.specs.Entries.{Seen, seen_by}
 unfoldable use Rattle.nc_fields.specs.Entries.{seen}
 use Rattle.nc_fields.specs.Lenient.{lenient}
 use Rattle.nc_fields.specs.Listings.{IsOutcome}
-use Rattle.nc_layout.specs.declared.finding.LayoutFact.TheVariants as layout
 use Rattle.nc_layout.specs.HeaderLayout.{layout_of}
 use Rattle.nc_layout.proofs.SpelledLayouts.{spelled-layout}
 use Rattle.layout_laws.specs.HeaderLaws.{finds, is_of_missing}
@@ -23,7 +21,6 @@ use Rattle.layout_laws.specs.Laws.{FindsNone, is_of_shared_bytes}
 use Rattle.layout_laws.proofs.MissingValues.{missing-found}
 use Rattle.layout_laws.proofs.SlabsApart.{quiet-apart}
 use Rattle.nc_check.specs.declared.{finding.Fact.Fact, finding.Finding.Finding, report.Report.Report}
-use Rattle.nc_check.specs.declared.finding.Fact.TheVariants as fact
 use Rattle.nc_check.specs.declared.kind.Severity.TheVariants.{Error}
 use Rattle.nc_check.specs.Indexed.{field_at, indexed, indexed_from}
 unfoldable use Rattle.nc_check.specs.FieldRules.{field_findings, floating_findings}
@@ -61,8 +58,7 @@ apart-listed bytes r h report same none =
 -- ---- a header that isn't
 
 error-fault : (fault : FormatFault) → is_floating_fault fault ≡ false → severity_of (kind_of_fault fault) ≡ Error
-error-fault FloatingType plain = absurd cc
-error-fault fault plain = refl
+error-fault v0 plain = grind arith
 
 -- an error
 abbrev IsError : Fact → Type 0
@@ -111,16 +107,10 @@ header-listed bytes r report none (Err fault) same =
     absurd (All-contains (λ (f : Finding). severity_of (kind_of f.fact) ≢ Error) r.findings f.finding none f.has f.is)
 
 no-missing : (x : Fact) → severity_of (kind_of x) ≢ Error → is_missing x ≡ false
-no-missing (fact.Layout (layout.Missing n end of)) plain = absurd (plain refl)
-no-missing (fact.Layout x) plain = refl
-no-missing x plain = refl
+no-missing v0 plain = grind arith
 
 no-shared : (x : Fact) → severity_of (kind_of x) ≢ Error → is_of_layout is_of_shared_bytes x ≡ false
-no-shared (fact.Layout (layout.BeginInHeader begin end)) plain = absurd (plain refl)
-no-shared (fact.Layout (layout.Overlap begin end of)) plain = absurd (plain refl)
-no-shared (fact.Layout (layout.RecordPlace begin place)) plain = absurd (plain refl)
-no-shared (fact.Layout x) plain = refl
-no-shared x plain = refl
+no-shared v0 plain = grind arith
 
 pub values-had : ReportsWithoutErrorsHaveValues
 values-had bytes r report none =

@@ -1,5 +1,5 @@
 -- A valid name may be a name by the lenient rules.
-use Rattle.std.proofs.Common.{◌≡◌, ℕ, ◌==◌, ◌&&◌, not, Bool, true, cond, [], ◌∷◌, length, take, drop, take_while, nat_lt, refl, sym, ap, ◌∙◌, subst, arith}
+use Rattle.std.proofs.Common.{◌≡◌, ℕ, ◌==◌, ◌&&◌, not, Bool, true, cond, [], ◌∷◌, length, take, drop, take_while, nat_lt, refl, ap, ◌∙◌, arith}
 use Rattle.std.specs.List.{list_all}
 use Rattle.std.proofs.lemmas.List.Sums.{take_while-cons}
 use Rattle.std.proofs.lemmas.Grind.{common_steps}
@@ -48,11 +48,7 @@ some-length : (b : ℕ) (bs : Bytes) → nat_lt 0 (length (b ∷ bs)) ≡ true
 some-length b bs = grind arith
 
 printing-may-be : (name : Bytes) → nat_lt 0 (length name) ≡ true → is_printing name ≡ true → may_be_name name ≡ true
-printing-may-be name some e =
-    subst (λ (n : ℕ). (nat_lt 0 n && is_printing (take n name) && list_all (λ b. b == 0) (drop n name)) ≡ true)
-    (sym (ap (λ (xs : Bytes). length xs) (no-nul name e)))
-    (by-parts (length name) (take (length name) name) (drop (length name) name) some
-    (subst (λ (front : Bytes). is_printing front ≡ true) (sym (take-all name)) e) (drop-all name))
+printing-may-be name some e = grind (arith, no-nul, by-parts, take-all, drop-all)
 
 pub name-may-be : (bs : Bytes) → is_name bs ≡ true → may_be_name bs ≡ true
 name-may-be [] e = absurd cc

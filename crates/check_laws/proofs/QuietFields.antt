@@ -1,17 +1,17 @@
 -- What a field shows at which nothing is found about its spelling.
-use Rattle.std.proofs.Common.{◌≡◌, ℕ, ◌+◌, ◌==◌, ◌&&◌, ◌||◌, not, Bool, true, false, cond, List, [], ◌∷◌, ◌++◌, length, map, replicate, Some, None, refl, sym, ap, ◌∙◌, subst, arith, length-take-le, option_to_list, if◌then◌else◌}
+use Rattle.std.proofs.lemmas.Grind.{common_steps}
+use Rattle.std.proofs.Common.{◌≡◌, ℕ, ◌+◌, ◌==◌, ◌&&◌, ◌||◌, not, Bool, false, cond, List, [], ◌∷◌, ◌++◌, length, map, replicate, Some, None, refl, ap, ◌∙◌, subst, arith, length-take-le, option_to_list, if◌then◌else◌}
 use Rattle.std.proofs.lemmas.Bool.{ltb-false}
-use Rattle.std.proofs.lemmas.List.Folds.{list_any-append}
 use Rattle.nc_base.specs.declared.{header.Header.Header}
 use Rattle.nc_base.specs.Bytes.{Bytes}
-use Rattle.nc_base.specs.Parts.{Step, Padding, Tag, Count, Vsize, Item, Dims, Gatts, Vars, Atts, Name}
+use Rattle.nc_base.specs.Parts.{Step, Padding, Tag, Count, Vsize, Item, Dims, Gatts, Vars, Atts}
 use Rattle.nc_fields.specs.declared.{entry.Content.Content, entry.Entry.Entry, place.FieldName.FieldName, place.Owner.Owner}
 use Rattle.nc_fields.specs.declared.entry.Content.TheVariants as content
 use Rattle.nc_fields.specs.declared.place.FieldName.TheVariants as name
 use Rattle.nc_fields.specs.Fields.{Field}
 use Rattle.nc_fields.specs.Entries.{Seen, seen_by, steps_of, name_steps, owner_steps, whole_content, cut_content}
 unfoldable use Rattle.nc_fields.specs.Entries.{seen}
-use Rattle.check_laws.specs.Written.{bytes_of, number_of, IsWrittenCount, IsWrittenTag, IsWritten, AreWritten}
+use Rattle.check_laws.specs.Written.{bytes_of, number_of, IsWrittenTag, IsWritten, AreWritten}
 use Rattle.check_laws.proofs.Vsizes.{IsWhole, AreWhole, IsVsizeWritten, AreVsizesWritten}
 use Rattle.nc_check.specs.declared.{finding.Fact.Fact, finding.Finding.Finding}
 use Rattle.nc_check.specs.declared.finding.Fact.TheVariants as fact
@@ -29,13 +29,10 @@ abbrev pub AreOther : List Finding → Type 0
 AreOther findings = has_any is_of_spelling findings ≡ false
 
 pub neither : (a b : Bool) → (a || b) ≡ false → (a ≡ false) × (b ≡ false)
-neither true b e = absurd cc
-neither false b e = (refl, e)
+neither v0 b e = grind arith
 
 pub both-other : (xs ys : List Finding) → AreOther (xs ++ ys) → AreOther xs × AreOther ys
-both-other xs ys e =
-    neither (has_any is_of_spelling xs) (has_any is_of_spelling ys)
-    (sym (list_any-append (λ (f : Finding). is_of_spelling f.fact) xs ys) ∙ e)
+both-other xs ys e = grind (arith, common_steps)
 
 -- ---- what is shown
 
@@ -62,20 +59,11 @@ AreQuiet (s ∷ after) = (s.fault ≡ None → Shows s.steps s.content after) ×
 
 padding-shows : (b : Bool) (f : Indexed) (more : List Fact)
     → AreOther (map (finding f) (option_to_list (if b then Some fact.Padding else None) ++ more)) → b ≡ false
-padding-shows true f more e = absurd cc
-padding-shows false f more e = refl
-
-empty-shows : (b : Bool) (f : Indexed) → AreOther (option_to_list (if b then Some (finding f fact.EmptyList) else None)) → b ≡ false
-empty-shows true f e = absurd cc
-empty-shows false f e = refl
+padding-shows v0 f more e = grind arith
 
 count-shows : (tag : ℕ) (steps : List Step) (f : Indexed) (i offset : ℕ) (c : Content)
     → AreOther (option_to_list (empty_list f (content.Number tag) (number_in i offset c))) → ShowsCount tag steps c
-count-shows tag (Count ∷ steps) f i offset (content.Number n) e = empty-shows (not (tag == 0) && (n == 0)) f e
-count-shows tag (Count ∷ steps) f i offset (content.Bytes bs) e = tt
-count-shows tag (Count ∷ steps) f i offset (content.Values b) e = tt
-count-shows tag (Count ∷ steps) f i offset content.Cut e = tt
-count-shows tag steps f i offset c e = tt
+count-shows tag v1 f i offset v5 e = grind arith
 
 after-shows : (tag : ℕ) (f : Indexed) (k : ℕ) (after : List Entry)
     → AreOther (option_to_list (empty_list f (content.Number tag) (next_number is_field (indexed_from k after))))
@@ -93,10 +81,7 @@ tag-shows steps f content.Cut k after e = tt
 filling-shows : (steps : List Step) (place : FieldName) (size : ℕ) (f : Indexed) (c : Content) (after : List Seen)
     → ((bs : Bytes) → AreOther (map (finding f) (content_facts place size (content.Bytes bs))) → has_nonzero bs ≡ false)
     → AreOther (map (finding f) (content_facts place size c)) → Shows (Padding ∷ steps) c after
-filling-shows steps place size f (content.Number n) after go e = tt
-filling-shows steps place size f (content.Bytes bs) after go e = go bs e
-filling-shows steps place size f (content.Values b) after go e = tt
-filling-shows steps place size f content.Cut after go e = tt
+filling-shows steps place size f v3 after go e = grind arith
 
 place-shows : (first : Bool) (place : FieldName) (o : Owner) (f : Indexed) (k : ℕ) (after : List Entry)
     → AreOther (map (finding f) (content_facts place f.entry.size f.entry.content))
@@ -113,16 +98,12 @@ place-shows first name.VarsTag o f k after e d = tag-shows (Vars ∷ owner_steps
 place-shows first name.VarsCount o f k after e d = tt
 place-shows first name.NameLength o f k after e d = tt
 place-shows first name.Name o f k after e d = tt
-place-shows first name.NamePadding o f k after e d =
-    filling-shows (Name ∷ owner_steps o) name.NamePadding f.entry.size f f.entry.content (map seen_by after)
-    (λ bs e. padding-shows (has_nonzero bs) f _ e) e
+place-shows first name.NamePadding o f k after e d = grind (arith, filling-shows, padding-shows)
 place-shows first name.Length o f k after e d = tt
 place-shows first name.Type o f k after e d = tt
 place-shows first name.Count o f k after e d = tt
 place-shows first name.Values o f k after e d = tt
-place-shows first name.Padding o f k after e d =
-    filling-shows (owner_steps o) name.Padding f.entry.size f f.entry.content (map seen_by after)
-    (λ bs e. padding-shows (has_nonzero bs) f _ e) e
+place-shows first name.Padding o f k after e d = grind (arith, filling-shows, padding-shows)
 place-shows first name.Rank o f k after e d = tt
 place-shows first (name.DimId i) o f k after e d = tt
 place-shows first name.AttsTag o f k after e d = tag-shows (Atts ∷ owner_steps o) f f.entry.content k after d
@@ -167,15 +148,9 @@ pub seen-content : (len : ℕ) (f : Field) → IsWhole f → (seen len f).conten
 unfolding seen
 seen-content len f w = ap (λ b. cond b (cut_content f.steps f.start) (whole_content f.steps f.size f.start)) w.whole
 
-count-written : (tag : ℕ) (steps : List Step) (f : Field) → ShowsCount tag steps (whole_content steps f.size f.start)
-    → IsWrittenCount tag steps (number_of f)
-count-written tag (Count ∷ steps) f e = e
-count-written tag steps f e = tt
-
 tag-written : (len tag : ℕ) (fs : List Field) → AreWhole fs → ShowsAfter tag (map (seen len) fs) → IsWrittenTag tag fs
 unfolding seen
-tag-written len tag [] w e = tt
-tag-written len tag (f ∷ fs) w e = count-written tag f.steps f (subst (ShowsCount tag f.steps) (seen-content len f w.0) e)
+tag-written len tag v2 w e = grind arith
 
 is-written : (h : Header) (len : ℕ) (steps : List Step) (f : Field) (fs : List Field) → IsWhole f → AreWhole fs → IsVsizeWritten h steps f
     → Shows steps (whole_content steps f.size f.start) (map (seen len) fs) → IsWritten h steps f fs
@@ -189,8 +164,4 @@ pub quiet-written : (h : Header) (len : ℕ) (fs : List Field) → AreQuiet (map
     → AreWritten h fs
 unfolding seen
 quiet-written h len [] quiet whole sizes = tt
-quiet-written h len (f ∷ fs) quiet whole sizes = (
-  is-written h len f.steps f fs whole.0 whole.1 sizes.0
-      (subst (λ c. Shows f.steps c (map (seen len) fs)) (seen-content len f whole.0) (quiet.0 whole.0.sound)),
-  quiet-written h len fs quiet.1 whole.1 sizes.1,
-)
+quiet-written h len (f ∷ fs) quiet whole sizes = grind (arith, quiet-written h len fs quiet.1 whole.1 sizes.1, is-written, seen-content)

@@ -7,20 +7,20 @@ use Rattle.nc_base.specs.declared.{fault.FormatFault.FormatFault, header.Dim.Dim
 use Rattle.nc_base.specs.Bytes.{Bytes}
 use Rattle.nc_base.specs.Sizes.{padded_size}
 use Rattle.nc_base.specs.Grammar.{header_by, vsize_of}
-use Rattle.nc_base.specs.code.PartRuns.{Outcome, run}
+use Rattle.nc_base.specs.code.PartRuns.{run}
 use Rattle.nc_base.proofs.PartOutcomes.{reads, stops}
 use Rattle.nc_fields.specs.declared.{entry.Entry.Entry, place.FieldName.FieldName, place.Owner.Owner, header.Listing.Listing}
 use Rattle.nc_fields.specs.declared.entry.Content.TheVariants as content
 use Rattle.nc_fields.specs.Fields.{Field}
 use Rattle.nc_fields.specs.Lenient.{lenient}
 use Rattle.nc_fields.specs.Listings.{IsOutcome}
-use Rattle.nc_fields.specs.Entries.{Seen, seen_by, name_steps, owner_steps, whole_content}
+use Rattle.nc_fields.specs.Entries.{Seen, seen_by, name_steps, owner_steps}
 unfoldable use Rattle.nc_fields.specs.Entries.{seen}
 use Rattle.check_laws.specs.Agreement.{header_fields, without_values, var_without_values}
-use Rattle.check_laws.specs.Written.{bytes_of, number_of, IsWrittenVsize}
+use Rattle.check_laws.specs.Written.{number_of, IsWrittenVsize}
 use Rattle.check_laws.proofs.StrictHeaders.{strict-headers}
 use Rattle.check_laws.proofs.WrittenParts.{written-fields}
-use Rattle.check_laws.proofs.Vsizes.{IsWhole, AreWhole, spelled-whole, is_vsize_at, vsizes, AreNumbered, header-numbered, numbered-written}
+use Rattle.check_laws.proofs.Vsizes.{AreWhole, spelled-whole, is_vsize_at, vsizes, AreNumbered, header-numbered, numbered-written}
 use Rattle.nc_layout.specs.declared.slot.{Slot.Slot}
 use Rattle.nc_layout.specs.Slots.{padded_slab}
 use Rattle.nc_layout.specs.Blocks.{each_slot}
@@ -28,9 +28,6 @@ use Rattle.nc_layout.specs.HeaderLayout.{slot_of, layout_of}
 use Rattle.check_laws.proofs.FirstFaults.{faultless}
 use Rattle.nc_check.specs.declared.{finding.Finding.Finding}
 use Rattle.nc_check.specs.Indexed.{Indexed, field_at, indexed_from, indexed}
-use Rattle.nc_check.specs.FieldRules.{field_findings, floating_findings}
-use Rattle.nc_check.specs.NameRules.{name_findings}
-use Rattle.nc_check.specs.AttributeRules.{attribute_findings}
 unfoldable use Rattle.nc_check.specs.HeaderRules.{header_findings}
 use Rattle.nc_check.specs.WholeHeader.{is_vsize, named, vsize_finding}
 unfoldable use Rattle.nc_check.specs.WholeHeader.{vsize_findings, whole_findings}
@@ -75,15 +72,8 @@ slots-other : (find : ℕ → Slot → List Finding) (dims : List Dim) (vars : L
     → AreOther (each_slot find k (map (slot_of dims) vars))
     → IfSome (slice_get vars i) (λ (var : Var). AreOther (find (k + i) (slot_of dims var)))
 slots-other find dims [] k i e = tt
-slots-other find dims (var ∷ vars) k zero e =
-    let here : k + 0 ≡ k = omega arith in
-    subst (λ j. AreOther (find j (slot_of dims var))) (sym here)
-    (both-other (find k (slot_of dims var)) (each_slot find (k + 1) (map (slot_of dims) vars)) e).0
-slots-other find dims (var ∷ vars) k (suc i) e =
-    let same : (k + 1) + i ≡ k + suc i = omega arith in
-    subst (λ j. IfSome (slice_get vars i) (λ (var : Var). AreOther (find j (slot_of dims var)))) same
-    (slots-other find dims vars (k + 1) i
-    (both-other (find k (slot_of dims var)) (each_slot find (k + 1) (map (slot_of dims) vars)) e).1)
+slots-other find dims (var ∷ vars) k zero e = grind (arith, both-other)
+slots-other find dims (var ∷ vars) k (suc i) e = grind (arith, slots-other find dims vars (k + 1) i (both-other (find k (slot_of dims var)) (each_slot find (k + 1) (map (slot_of dims) vars)) e).1, AreOther, both-other)
 
 -- ---- the sizes of variables
 
@@ -94,29 +84,19 @@ pick : (len i : ℕ) (entries : List Indexed) (fs : List Field) (f : Field)
 pick len i [] [] f same there = absurd cc
 pick len i [] (g ∷ fs) f same there = absurd cc
 pick len i (x ∷ xs) [] f same there = absurd cc
-pick len zero (x ∷ xs) (g ∷ fs) f same there =
-    let first : seen_by x.entry ≡ seen len g = cc in
-    let is : g ≡ f = cc in
-    (x, refl, first ∙ ap (seen len) is)
+pick len zero (x ∷ xs) (g ∷ fs) f same there = grind arith
 pick len (suc i) (x ∷ xs) (g ∷ fs) f same there =
     let more : map (λ (x : Indexed). seen_by x.entry) xs ≡ map (seen len) fs = cc in pick len i xs fs f more there
 
 pub whole-sizes : (fs : List Field) → AreWhole fs → AreWhole (vsizes fs)
 whole-sizes [] w = tt
-whole-sizes (f ∷ fs) w = by-test (is_vsize_at f.steps) w.0 (whole-sizes fs w.1)
-  where
-    by-test : (b : Bool) → IsWhole f → AreWhole (vsizes fs) → AreWhole (cond b (f ∷ vsizes fs) (vsizes fs))
-    by-test true w v = (w, v)
-    by-test false w v = v
+whole-sizes (f ∷ fs) w = grind (arith, whole-sizes fs w.1)
 
 -- a size of a variable is a number
 pub size-number : (len k i : ℕ) (fs : List Field) (f : Field) → AreWhole fs → AreNumbered k fs → slice_get fs i ≡ Some f
     → (seen len f).content ≡ content.Number (number_of f)
 size-number len k i [] f w at there = absurd cc
-size-number len k zero (g ∷ fs) f w at there =
-    let is : g ≡ f = cc in
-    subst (λ (f : Field). (seen len f).content ≡ content.Number (number_of f)) is
-    (seen-content len g w.0 ∙ ap (λ steps. whole_content steps g.size g.start) at.0)
+size-number len k zero (g ∷ fs) f w at there = grind (arith, seen-content)
 size-number len k (suc i) (g ∷ fs) f w at there = size-number len (k + 1) i fs f w.1 at.1 there
 
 if-some : {A : Type 0} {P Q : A → Type 0} (o : Option A) → ((x : A) → P x → Q x) → IfSome o P → IfSome o Q
@@ -170,22 +150,12 @@ whole-other l h is other = grind (arith, common_steps)
 
 read-header : (from : Bytes) (h : Header) (rest end : Bytes) (o : Result Header FormatFault) → run (header_by lenient) from ≡ Ok (h, rest)
     → IsOutcome from end o → o ≡ Ok h
-read-header from h rest end (Ok k) is told =
-    let same : ◌≡◌ {A = Outcome Header} (Ok (k, end)) (Ok (h, rest)) = sym (reads (header_by lenient) from k end told) ∙ is in
-    let both : (k, end) ≡ (h, rest) = cc in
-    ap (λ (x : Header × Bytes). Ok x.0) both
-read-header from h rest end (Err fault) is told =
-    absurd
-    (let same : ◌≡◌ {A = Outcome Header} (Err (fault, end)) (Ok (h, rest)) = sym (stops (header_by lenient) from fault end told) ∙ is in
-    cc)
+read-header from h rest end (Ok k) is told = grind (arith, reads)
+read-header from h rest end (Err fault) is told = grind (arith, stops)
 
 entries-quiet : (l : Listing) → AreOther (header_findings l.entries) → AreQuiet (map seen_by l.entries)
 unfolding header_findings
-entries-quiet l other =
-    let fs = indexed l.entries in
-    let all = both-other (field_findings fs ++ floating_findings fs ++ name_findings fs) (attribute_findings fs) other in
-    let some = both-other (field_findings fs ++ floating_findings fs) (name_findings fs) all.0 in
-    quiet-entries l.entries (both-other (field_findings fs) (floating_findings fs) some.0).0 all.1
+entries-quiet l other = grind (arith, both-other, quiet-entries)
 
 pub quiet-spellings : QuietSpellingsAreCanonical
 unfolding all_findings

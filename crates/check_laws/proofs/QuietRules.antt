@@ -1,21 +1,19 @@
 -- Which findings are faults: of those at fields alone, the ones at entries that the strict rules refuse; of all others, none.
-use Rattle.std.proofs.Common.{◌≡◌, ℕ, ◌+◌, ◌||◌, ◌⊎◌, inl, inr, Bool, true, false, cond, List, [], ◌∷◌, ◌++◌, flat_map, find, slice_get, Option, Some, None, Result, Ok, Err, refl, sym, ◌∙◌, arith}
+use Rattle.std.proofs.Common.{◌≡◌, ℕ, ◌+◌, ◌||◌, ◌⊎◌, Bool, true, false, List, [], ◌∷◌, ◌++◌, flat_map, slice_get, Option, None, refl, sym, ◌∙◌, arith}
 use Rattle.std.specs.List.{All, Contains}
-use Rattle.std.specs.Option.{option_to_list, option_map}
+use Rattle.std.specs.Option.{option_to_list}
 use Rattle.std.proofs.lemmas.List.Folds.{list_any-append}
 use Rattle.std.proofs.lemmas.List.Elements.{All-nil, All-cons, All-append, All-map, Contains-append_right}
-use Rattle.nc_base.specs.declared.{fault.FormatFault.FormatFault, header.Header.Header, version.Version.Version}
-use Rattle.nc_base.specs.declared.fault.FormatFault.TheVariants.{FloatingType}
+use Rattle.nc_base.specs.declared.{version.Version.Version}
 use Rattle.nc_fields.specs.declared.{entry.Entry.Entry, place.FieldName.FieldName, header.Listing.Listing}
 use Rattle.nc_layout.specs.declared.{slot.Slot.Slot, slot.Layout.Layout, finding.LayoutFinding.LayoutFinding}
 use Rattle.nc_layout.specs.Slots.{padded_slab}
 use Rattle.nc_layout.specs.Blocks.{each_slot}
 use Rattle.nc_layout.specs.Findings.{layout_findings}
-use Rattle.nc_layout.specs.HeaderLayout.{layout_of}
 use Rattle.nc_check.specs.declared.{finding.Fact.Fact, finding.Finding.Finding, ahead.Ahead.Ahead}
 use Rattle.nc_check.specs.declared.finding.Fact.TheVariants as fact
-use Rattle.nc_check.specs.Indexed.{Indexed, field_at, indexed_from, indexed, finding, each_before, each_after}
-use Rattle.nc_check.specs.FieldRules.{findings_at, is_floating, floating_finding}
+use Rattle.nc_check.specs.Indexed.{Indexed, field_at, indexed_from, indexed, each_before, each_after}
+use Rattle.nc_check.specs.FieldRules.{findings_at, floating_finding}
 unfoldable use Rattle.nc_check.specs.FieldRules.{field_findings, floating_findings}
 unfoldable use Rattle.nc_check.specs.NameRules.{name_findings}
 use Rattle.nc_check.specs.NameRules.{duplicate_name, is_first}
@@ -114,13 +112,7 @@ quiet-layout layout fs =
 
 quiet-whole : (l : Listing) → All Quiet (whole_findings l)
 unfolding whole_findings
-quiet-whole l = by-header l.header
-  where
-    by-header : (r : Result Header FormatFault)
-        → All Quiet (elim r as
-        (λ r. List Finding) [ Ok h ↦ layout_facts (layout_of h l.end l.file_len) (indexed l.entries) | Err fault ↦ [] ])
-    by-header (Ok h) = quiet-layout (layout_of h l.end l.file_len) (indexed l.entries)
-    by-header (Err fault) = All-nil Quiet
+quiet-whole l = grind (arith, quiet-layout, All-nil)
 
 -- ---- faults
 
@@ -141,25 +133,12 @@ entry-lies v0 i e v3 = grind arith
 fields-lie : (Q : ℕ → Type 0) (i : ℕ) (es : List Entry) → ((e : Entry) → Contains es e → RefusedLiesAt Q e)
     → All (FaultsLieAt Q) (flat_map findings_at (indexed_from i es))
 fields-lie Q i [] lies = All-nil (FaultsLieAt Q)
-fields-lie Q i (e ∷ es) lies =
-    All-append (FaultsLieAt Q) _ _ (entry-lies Q i e (lies e (contains-first e es)))
-    (fields-lie Q (i + 1) es (λ x has. lies x (Contains-append_right (e ∷ []) es x has)))
+fields-lie Q i (e ∷ es) lies = grind (arith, fields-lie Q (i + 1) es (λ x has. lies x (Contains-append_right (e ∷ []) es x has)), All-append, entry-lies, contains-first, Contains-append_right)
 
 floating-lies : (Q : ℕ → Type 0) (i : ℕ) (es : List Entry) → ((e : Entry) → Contains es e → RefusedLiesAt Q e)
     → All (FaultsLieAt Q) (option_to_list (floating_finding (indexed_from i es)))
 floating-lies Q i [] lies = All-nil (FaultsLieAt Q)
-floating-lies Q i (e ∷ es) lies =
-    by-test (is_floating (field_at i e)) refl (lies e (contains-first e es))
-    (floating-lies Q (i + 1) es (λ x has. lies x (Contains-append_right (e ∷ []) es x has)))
-  where
-    by-test : (b : Bool) → is_floating (field_at i e) ≡ b → RefusedLiesAt Q e
-        → All (FaultsLieAt Q) (option_to_list (floating_finding (indexed_from (i + 1) es)))
-        → All (FaultsLieAt Q)
-        (option_to_list (option_map (λ f. finding f (fact.Fault FloatingType))
-        (cond b (Some (field_at i e)) (find is_floating (indexed_from (i + 1) es)))))
-    by-test true is (inl none) others = absurd (let never : true ≡ false = sym is ∙ quiet-type e none in cc)
-    by-test true is (inr at) others = All-cons (FaultsLieAt Q) _ [] (λ is. at) (All-nil (FaultsLieAt Q))
-    by-test false is here others = others
+floating-lies Q i (e ∷ es) lies = grind (arith, floating-lies Q (i + 1) es (λ x has. lies x (Contains-append_right (e ∷ []) es x has)), contains-first, Contains-append_right, quiet-type, All-cons, All-nil)
 
 pub all-lie : (Q : ℕ → Type 0) (l : Listing) → ((e : Entry) → Contains l.entries e → RefusedLiesAt Q e)
     → All (FaultsLieAt Q) (all_findings l)

@@ -1,5 +1,6 @@
 -- The fields of a header that is spelled are whole, and those that are the sizes of variables stand there in the order of the variables.
-use Rattle.std.proofs.Common.{◌≡◌, ℕ, suc, zero, ◌+◌, Bool, true, false, cond, nat_lt, List, [], ◌∷◌, ◌++◌, length, Option, None, refl, sym, ap, ◌∙◌, subst, arith, filter, length-append, le-ltb, append-nil, slice_get, IfSome}
+use Rattle.std.proofs.lemmas.Grind.{common_steps}
+use Rattle.std.proofs.Common.{◌≡◌, ℕ, suc, zero, ◌+◌, Bool, true, false, cond, nat_lt, List, [], ◌∷◌, ◌++◌, length, Option, None, refl, sym, ap, ◌∙◌, subst, arith, filter, length-append, append-nil, slice_get, IfSome}
 use Rattle.nc_base.proofs.Prelude.{filter-append}
 use Rattle.nc_base.specs.declared.{header.Dim.Dim, header.Var.Var, header.Header.Header, version.Version.Version}
 use Rattle.nc_base.specs.Bytes.{Bytes}
@@ -7,7 +8,7 @@ use Rattle.nc_base.specs.Versions.{count_width}
 use Rattle.nc_base.specs.Parts.{Step, Part, done, bytes, decoded, under, chain, Spells, Dims, Gatts, Vars, Item, Name, Shape, Atts, Vsize}
 use Rattle.std.specs.Int.{byte_len}
 use Rattle.nc_base.specs.Sizes.{padded_total, record_vars}
-use Rattle.nc_base.specs.Grammar.{Rules, dimension_tag, attribute_tag, dim_after, att_after, dimid_after, var_after}
+use Rattle.nc_base.specs.Grammar.{Rules, dimension_tag, dim_after, dimid_after, var_after}
 unfoldable use Rattle.nc_base.specs.Grammar.{number, limited_part, offset_part, ignored, name_part, type_part, each, counted, list_head, list_part, dim_part, dim_list, att_part, att_list, dimid_part, shape_part, var_part, var_list, version_part, magic_part, numrecs_part, header_by}
 use Rattle.nc_fields.specs.Fields.{Field, fields}
 use Rattle.check_laws.specs.Written.{number_of, IsWrittenVsize}
@@ -31,9 +32,7 @@ pub spelled-whole : {A : Type 0} (steps : List Step) (p : Part A) (from : Bytes)
     → AreWhole (fields steps p from)
 unfolding Spells fields
 spelled-whole steps (done x) from y rest s = tt
-spelled-whole steps (bytes n cut) from content rest (count, is) =
-    subst AreWhole (sym (bytes-fields steps n cut from content rest count is))
-    (record { whole = le-ltb _ _ (omega (arith, count, ap length is, length-append content rest)); sound = refl }, tt)
+spelled-whole steps (bytes n cut) from content rest (count, is) = grind (arith, common_steps, bytes-fields)
 spelled-whole steps (decoded decode encode p) from y rest (x, s, e) =
     subst AreWhole (sym (decoded-fields steps decode encode p from x y rest s e)) (spelled-whole steps p from x rest s)
 spelled-whole steps (under step p) from x rest s = spelled-whole (step ∷ steps) p from x rest s
@@ -70,8 +69,7 @@ no-vsizes : {A : Type 0} (steps : List Step) (p : Part A) (from : Bytes) (x : A)
     → vsizes (fields steps p from) ≡ []
 unfolding Spells fields
 no-vsizes steps (done x) from y rest none s = refl
-no-vsizes steps (bytes n cut) from content rest none (count, is) =
-    ap vsizes (bytes-fields steps n cut from content rest count is) ∙ ap (λ b. cond b (whole_field steps from n ∷ []) []) none
+no-vsizes steps (bytes n cut) from content rest none (count, is) = grind (arith, bytes-fields)
 no-vsizes steps (decoded decode encode p) from y rest none (x, s, e) =
     ap vsizes (decoded-fields steps decode encode p from x y rest s e) ∙ no-vsizes steps p from x rest none s
 no-vsizes steps (under step p) from x rest none s = no-vsizes (step ∷ steps) p from x rest none s
@@ -96,13 +94,7 @@ vsizes-under step w = record { are = w.are }
 vsizes-then : {A B : Type 0} {steps : List Step} {get : B → Option A} {p : Part A} {next : A → Part B} {from : Bytes} (x : A)
     (middle : Bytes) {sizes more : List Field} → Spells p from x middle → Vsizes steps p from sizes → Vsizes steps (next x) middle more
     → Vsizes steps (chain get p next) from (sizes ++ more)
-vsizes-then {steps = steps} {get = get} {p = p} {next = next} {from = from} x middle {sizes = sizes} s w v =
-    record {
-      are =
-          chain-vsizes steps get p next from x middle s
-          ∙ ap (λ (fs : List Field). fs ++ vsizes (fields steps (next x) middle)) w.are
-          ∙ ap (λ (fs : List Field). sizes ++ fs) v.are;
-    }
+vsizes-then {steps = steps} {get = get} {p = p} {next = next} {from = from} x middle {sizes = sizes} s w v = grind (arith, chain-vsizes)
 
 -- after a part without the size of a variable
 vsizes-skip : {A B : Type 0} {steps : List Step} {get : B → Option A} {p : Part A} {next : A → Part B} {from : Bytes} (x : A)
@@ -129,9 +121,7 @@ no-list v tag steps element none = ((refl, λ found. refl), λ n. no-each steps 
 
 no-atts : (r : Rules) (v : Version) (steps : List Step) → HasNoVsize steps (att_list r v)
 unfolding att_list att_part type_part limited_part number ignored
-no-atts r v steps =
-    no-list v attribute_tag steps (att_after r v)
-    (λ before k. (no-name r v _, λ name. (refl, λ ty. (refl, λ n. (refl, λ vals. (refl, λ padding. tt))))))
+no-atts r v steps = grind (arith, no-list, no-name)
 
 no-dims : (r : Rules) (v : Version) (steps : List Step) → HasNoVsize steps (dim_list r v)
 unfolding dim_list dim_part limited_part number
@@ -154,8 +144,7 @@ AreNumbered i (f ∷ fs) = IsVsizeOf i f × AreNumbered (i + 1) fs
 
 vsize-field : (v : Version) (steps : List Step) (from : Bytes) (n : ℕ) (rest : Bytes) → Spells (number (count_width v)) from n rest
     → Vsizes (Vsize ∷ steps) (number (count_width v)) from (whole_field (Vsize ∷ steps) from (byte_len (count_width v)) ∷ [])
-vsize-field v steps from n rest s =
-    record { are = ap vsizes (number-field (Vsize ∷ steps) (count_width v) from n rest s).listed }
+vsize-field v steps from n rest s = grind (arith, number-field)
 
 -- a part with one size of a variable
 record OneVsize {A : Type 0} (i : ℕ) (p : Part A) (from : Bytes) : Type 0 where

@@ -1,6 +1,6 @@
 -- A report has no fault and finds no missing values exactly if the file holds a dataset.
 use Rattle.std.proofs.Common.{arith}
-use Rattle.std.proofs.Common.{◌≡◌, ℕ, Bool, false, List, [], ◌∷◌, length, map, Option, None, is_some, refl, sym, ap, ◌∙◌, subst}
+use Rattle.std.proofs.Common.{◌≡◌, ℕ, Bool, false, List, [], ◌∷◌, length, map, Option, None, is_some, refl, sym, ◌∙◌}
 use Rattle.std.specs.List.{All, concat, list_any}
 use Rattle.std.proofs.lemmas.List.Elements.{All-nil, All-cons}
 use Rattle.std.proofs.lemmas.List.Folds.{list_any_none}
@@ -37,8 +37,7 @@ not-some v0 none = grind arith
 
 whole-lacks : (h : Header) (bytes : Bytes) (n : ℕ) → n ≡ record_count h (length bytes) → AreWhole h bytes n
     → list_any (lacks_values h bytes) h.vars ≡ false
-whole-lacks h bytes n counted whole =
-    let all = subst (AreWhole h bytes) counted whole in list_any_none (lacks_values h bytes) h.vars (λ k d lt. ap is_some (all k d lt))
+whole-lacks h bytes n counted whole = grind (arith, list_any_none)
 
 lacks-whole : (h : Header) (bytes : Bytes) → list_any (lacks_values h bytes) h.vars ≡ false
     → AreWhole h bytes (record_count h (length bytes))

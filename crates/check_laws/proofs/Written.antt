@@ -8,12 +8,11 @@ use Rattle.nc_base.specs.declared.{header.Header.Header, version.Version.Version
 use Rattle.nc_base.specs.declared.fault.FormatFault.TheVariants.{HeaderTruncated}
 use Rattle.nc_base.specs.Bytes.{Bytes, AreBytes}
 use Rattle.nc_base.specs.Parts.{Step, Part, done, bytes, decoded, under, chain, Spells, print, Padding}
-use Rattle.nc_base.specs.code.PartRuns.{Outcome}
 use Rattle.nc_base.specs.Versions.{count_width, offset_width}
 use Rattle.nc_base.specs.Grammar.{checked}
 unfoldable use Rattle.nc_base.specs.Grammar.{number, ignored}
 use Rattle.nc_base.proofs.PartOutcomes.{reads}
-use Rattle.nc_fields.specs.Fields.{Field, fields, judged}
+use Rattle.nc_fields.specs.Fields.{Field, fields}
 use Rattle.check_laws.specs.Written.{IsWritten, AreWritten}
 
 -- ---- the fields of what is spelled
@@ -34,22 +33,13 @@ pub decoded-fields : {A B : Type 0} (steps : List Step) (decode : A → Result B
     (from : Bytes) (x : A) (y : B) (rest : Bytes) → Spells p from x rest → decode x ≡ Ok y
     → fields steps (decoded decode encode p) from ≡ fields steps p from
 unfolding fields
-decoded-fields {A = A} steps decode encode p from x y rest s e =
-    ap (λ (o : Outcome A). elim o as (λ (o : Outcome A). List Field) [
-      | Ok x ↦ judged (decode x.0) (fields steps p from)
-      | Err e ↦ fields steps p from
-    ]) (reads p from x rest s)
-    ∙ ap (λ r. judged r (fields steps p from)) e
+decoded-fields {A = A} steps decode encode p from x y rest s e = grind (arith, reads)
 
 pub chain-fields : {A B : Type 0} (steps : List Step) (get : B → Option A) (p : Part A) (next : A → Part B)
     (from : Bytes) (x : A) (middle : Bytes) → Spells p from x middle
     → fields steps (chain get p next) from ≡ fields steps p from ++ fields steps (next x) middle
 unfolding fields
-chain-fields {A = A} steps get p next from x middle s =
-    ap (λ (o : Outcome A). elim o as (λ (o : Outcome A). List Field) [
-      | Ok x ↦ fields steps p from ++ fields steps (next x.0) x.1
-      | Err e ↦ fields steps p from
-    ]) (reads p from x middle s)
+chain-fields {A = A} steps get p next from x middle s = grind (arith, reads)
 
 -- ---- fields that are written, in two lists
 
@@ -199,7 +189,4 @@ number-field steps w from n rest (digits, (count, is), e) = record {
 pub tested-field : (steps : List Step) (w : Width) (test : ℕ → Bool) (fault : FormatFault) (p : Part ℕ) (from : Bytes) (x y : ℕ)
     (rest : Bytes) → Spells p from x rest → (if test x then Ok x else Err fault) ≡ Ok y → x ≡ y → IsNumberField steps p w from x
     → IsNumberField steps (checked test fault p) w from y
-tested-field steps w test fault p from x y rest s e same f = record {
-  listed = decoded-fields steps (λ x. if test x then Ok x else Err fault) (λ x. x) p from x y rest s e ∙ f.listed;
-  is = f.is ∙ same;
-}
+tested-field steps w test fault p from x y rest s e same f = grind (arith, decoded-fields)

@@ -1,41 +1,39 @@
 -- The parts of a header whose fields are as they are written: their bytes are what is written of their values.
-use Rattle.std.proofs.Common.{◌≡◌, ℕ, suc, zero, ◌*◌, ◌/◌, ◌==◌, ◌||◌, ◌&&◌, not, Bool, true, false, List, [], ◌∷◌, ◌++◌, length, map, take, drop, Option, Some, Result, Ok, Err, refl, sym, ap, ◌∙◌, subst, arith, append_assoc, append-nil, nat_lt, codes, if◌then◌else◌, slice_get, IfSome, eqb-true, ok_or}
+use Rattle.std.proofs.lemmas.Bool.Decides.{nat_tests}
+use Rattle.std.proofs.lemmas.Grind.{common_steps}
+use Rattle.std.proofs.Common.{◌≡◌, ℕ, suc, zero, ◌*◌, ◌/◌, ◌==◌, ◌||◌, ◌&&◌, not, Bool, true, false, List, [], ◌∷◌, ◌++◌, length, map, drop, Some, Result, Ok, Err, refl, sym, ap, ◌∙◌, subst, arith, append_assoc, append-nil, nat_lt, codes, if◌then◌else◌, slice_get, eqb-true}
 use Rattle.std.proofs.lemmas.Slice.Eq.{bytes_eq-Decides}
 use Rattle.std.proofs.Math.Seq.{drop-append_seam}
-use Rattle.std.specs.Int.{byte_len, from_be_bytes, w32}
+use Rattle.std.specs.Int.{w32}
 use Rattle.std.specs.Str.{bytes_eq}
 use Rattle.nc_base.proofs.Prelude.{mul-div_cancel}
 use Rattle.nc_base.proofs.SoundLaws.{some_size}
 use Rattle.nc_base.specs.declared.{fault.FormatFault.FormatFault, header.Att.Att, header.Dim.Dim, header.Var.Var, header.Header.Header, header.NumRecs.NumRecs, nc_type.NcType.NcType, version.Version.Version}
-use Rattle.nc_base.specs.declared.header.NumRecs.TheVariants.{Known, Streaming}
 use Rattle.nc_base.specs.declared.nc_type.NcType.TheVariants.{Int, Int64}
-use Rattle.nc_base.specs.declared.fault.FormatFault.TheVariants.{NotNetcdf, HeaderTruncated, BadTag, BadCount, BadName, BadType, FloatingType, BadShape, TwoRecordDims, BadOffset, TooLarge}
+use Rattle.nc_base.specs.declared.fault.FormatFault.TheVariants.{NotNetcdf, HeaderTruncated, BadTag, BadCount, BadName, FloatingType, BadShape, TwoRecordDims, BadOffset, TooLarge}
 use Rattle.nc_base.specs.Bytes.{Bytes, padding_len}
-use Rattle.nc_base.specs.Types.{size_of, code_of, type_of_code}
-use Rattle.nc_base.specs.Versions.{count_width, offset_width, count_limit, offset_limit, version_byte, streaming_mark}
+use Rattle.nc_base.specs.Types.{size_of, code_of}
+use Rattle.nc_base.specs.Versions.{count_width, offset_width, count_limit, offset_limit, version_byte}
 use Rattle.nc_base.specs.Names.{is_name}
 use Rattle.nc_base.specs.Sizes.{has_record_dim, padded_size, padded_total, record_vars}
 use Rattle.nc_base.specs.Parts.{Step, Part, bytes, Spells, Magic, VersionByte, Records, Dims, Gatts, Vars, Tag, Count, Item, Name, Length, Text, Padding, TypeCode, Values, Shape, Atts, Vsize, Begin}
-use Rattle.nc_base.specs.Grammar.{strict, checked, count_part, type_in, known_type, version_in, numrecs_in, number_of_numrecs, is_dimid, is_within_limits, dimension_tag, attribute_tag, variable_tag, dim_after, att_after, dimid_after, var_after, vsize_of, first}
+use Rattle.nc_base.specs.Grammar.{strict, checked, count_part, type_in, version_in, numrecs_in, number_of_numrecs, is_dimid, is_within_limits, dimension_tag, attribute_tag, variable_tag, dim_after, att_after, dimid_after, var_after, vsize_of, first}
 unfoldable use Rattle.nc_base.specs.Grammar.{number, limited_part, offset_part, ignored, name_part, type_part, each, counted, list_head, list_part, dim_part, dim_list, att_part, att_list, dimid_part, shape_part, var_part, var_list, version_part, magic_part, numrecs_part, header_by}
 use Rattle.nc_fields.specs.Fields.{Field, fields}
 use Rattle.nc_fields.specs.Lenient.{any_length_limit, lenient, may_be_name, sized_type_in}
 use Rattle.check_laws.specs.Agreement.{att_without_values, var_without_values, without_values}
-use Rattle.nc_fields.specs.Entries.{number_in}
 use Rattle.check_laws.specs.Written.{AreWritten, WrittenFieldsAreCanonical}
 use Rattle.check_laws.proofs.Agreement.{Extends, extends-same, extends-map}
 use Rattle.check_laws.proofs.AgreeingParts.{below-any, same-total}
-use Rattle.nc_fields.proofs.Numbers.{number-in_count}
 use Rattle.check_laws.proofs.OddNames.{name-may-be}
-use Rattle.check_laws.proofs.Written.{whole_field, Writes, writes-done, writes-under, writes-decoded, writes-chain, writes-bytes, is-width-32, is-width-count, is-width-offset, writes-number, writes-ignored, IsNumberField, number-field, tested-field}
+use Rattle.check_laws.proofs.Written.{Writes, writes-done, writes-under, writes-decoded, writes-chain, writes-bytes, is-width-32, is-width-count, is-width-offset, writes-number, writes-ignored, IsNumberField, number-field, tested-field}
 
 -- ---- values that pass a test
 
 -- a test that was passed
 pub passed : {A : Type 0} (b : Bool) {x y : A} (wrong : FormatFault) → ◌≡◌ {A = Result A FormatFault} (if b then Ok x else Err wrong) (Ok y)
     → (b ≡ true) × (x ≡ y)
-passed true wrong e = (refl, cc)
-passed false wrong e = absurd cc
+passed v0 wrong e = grind arith
 
 writes-tested : {A : Type 0} {h : Header} {steps : List Step} (test : A → Bool) (fault : FormatFault) {p q : Part A} {from : Bytes}
     {x y : A} {rest : Bytes} → Writes h (λ x. x) steps p q from x rest
@@ -100,23 +98,10 @@ writes-name v {text = text} (n, m, c, (t, m2, (x, (len, is), e), (u, m3, any, (s
 sized-same : (is_float is_double : Bool) (r : Result NcType FormatFault) (ty : NcType)
     → (if is_float || is_double then Err FloatingType else r) ≡ Ok ty
     → (if is_float then Ok Int else (if is_double then Ok Int64 else (if is_float || is_double then Err FloatingType else r))) ≡ Ok ty
-sized-same true is_double r ty e = absurd cc
-sized-same false true r ty e = absurd cc
-sized-same false false r ty e = e
-
-not-floating : (b : Bool) (r : Result NcType FormatFault) (ty : NcType) → (if b then Err FloatingType else r) ≡ Ok ty → r ≡ Ok ty
-not-floating true r ty e = absurd cc
-not-floating false r ty e = e
-
-known-some : (v : Version) (o : Option NcType) (ty : NcType) → ok_or (known_type v o) BadType ≡ Ok ty → o ≡ Some ty
-known-some v o ty e = grind arith
-
-found-code : (code : ℕ) (ty : NcType) → type_of_code code ≡ Some ty → code_of ty ≡ code
-found-code code ty e = grind (arith, eqb-true)
+sized-same v0 v1 r ty e = grind arith
 
 code-same : (v : Version) (code : ℕ) (ty : NcType) → type_in v code ≡ Ok ty → code_of ty ≡ code
-code-same v code ty e =
-    found-code code ty (known-some v (type_of_code code) ty (not-floating ((code == 5) || (code == 6)) _ ty e))
+code-same v code ty e = grind (arith, nat_tests)
 
 writes-type : {h : Header} {steps : List Step} (v : Version) {from : Bytes} {ty : NcType} {rest : Bytes}
     → Spells (type_part strict v) from ty rest → Writes h (λ ty. ty) steps (type_part strict v) (type_part lenient v) from ty rest
@@ -137,9 +122,7 @@ each-joined : {A : Type 0} (element : List A → Part A) (n : ℕ) (before : Lis
     → Spells (each element n before) from all rest → Joined n before all
 unfolding Spells each
 each-joined element zero before from all rest s = record { xs = []; joined = s.0 ∙ sym (append-nil before); count = refl }
-each-joined element (suc n) before from all rest (x, middle, s, t) =
-    let j = each-joined element n (before ++ x ∷ []) middle all rest t in
-    record { xs = x ∷ j.xs; joined = j.joined ∙ append_assoc before (x ∷ []) j.xs; count = ap suc j.count }
+each-joined element (suc n) before from all rest (x, middle, s, t) = grind (arith, common_steps, each-joined element n (before ++ x ∷ []) middle all rest t)
 
 -- each element is written, where it stands in this list
 abbrev WritesEach : {A B : Type 0} → Header → (A → B) → (List A → List B) → List Step → (List A → Part A) → (List B → Part B)
@@ -183,13 +166,7 @@ count-field steps v from n rest (k, s, e) =
 tag-numbers : (h : Header) (steps : List Step) (v : Version) {p q : Part ℕ} {from middle : Bytes} {found n : ℕ}
     → IsNumberField (Tag ∷ steps) p w32 from found → IsNumberField (Count ∷ steps) q (count_width v) middle n
     → AreWritten h (fields (Tag ∷ steps) p from ++ fields (Count ∷ steps) q middle) → (not (found == 0) && (n == 0)) ≡ false
-tag-numbers h steps v {p = p} {q = q} {from = from} {middle = middle} {n = n} a b w =
-    let size = byte_len (count_width v) in
-    let listed = subst (λ fs. AreWritten h (fs ++ fields (Count ∷ steps) q middle)) a.listed w in
-    let both = subst (λ fs. AreWritten h (whole_field (Tag ∷ steps) from 4 ∷ fs)) b.listed listed in
-    let count = subst (λ n. (not (from_be_bytes w32 (take 4 from) == 0) && (n == 0)) ≡ false)
-    (number-in_count v (take size middle) ∙ b.is) both.0 in
-    subst (λ t. (not (t == 0) && (n == 0)) ≡ false) a.is count
+tag-numbers h steps v {p = p} {q = q} {from = from} {middle = middle} {n = n} a b w = grind arith
 
 writes-head : {h : Header} {steps : List Step} (v : Version) (tag : ℕ) {from : Bytes} {n : ℕ} {rest : Bytes}
     → Spells (list_head v tag) from n rest → Writes h (λ n. n) steps (list_head v tag) (list_head v tag) from n rest
@@ -289,13 +266,7 @@ writes-shape v dims s =
 vsize-number : (h : Header) (i : ℕ) (steps : List Step) {p : Part ℕ} {from : Bytes} {vsize : ℕ} (more : List Field) (var : Var)
     → IsNumberField (Vsize ∷ Item i ∷ steps) p (count_width h.version) from vsize → slice_get h.vars i ≡ Some var
     → AreWritten h (fields (Vsize ∷ Item i ∷ steps) p from ++ more) → vsize ≡ vsize_of h.version (padded_size h.dims var)
-vsize-number h i steps {p = p} {from = from} {vsize = vsize} more var f there w =
-    let size = byte_len (count_width h.version) in
-    let expected : Var → ℕ = λ (x : Var). vsize_of h.version (padded_size h.dims x) in
-    let listed = subst (λ fs. AreWritten h (fs ++ more)) f.listed w in
-    let number = number-in_count h.version (take size from) ∙ f.is in
-    subst (λ n. n ≡ expected var) number
-    (subst (λ (o : Option Var). IfSome o (λ (x : Var). number_in size (take size from) ≡ expected x)) there listed.0)
+vsize-number h i steps {p = p} {from = from} {vsize = vsize} more var f there w = grind arith
 
 writes-var : (h : Header) (i : ℕ) {steps : List Step} (total : ℕ) {from : Bytes} {var : Var} {rest : Bytes} → slice_get h.vars i ≡ Some var
     → Spells (var_part strict h.version h.dims total) from var rest
@@ -343,8 +314,7 @@ three-letters : (letters : Bytes) → bytes_eq letters (codes "CDF") ≡ true �
 three-letters letters e = grind (arith, bytes_eq-Decides letters (codes "CDF"))
 
 one-byte : (byte : Bytes) (v : Version) → length byte ≡ 1 → version_in byte ≡ Ok v → version_byte v ∷ [] ≡ byte
-one-byte (b ∷ []) v count e = grind (arith, eqb-true)
-one-byte _ v count e = absurd (omega arith)
+one-byte v0 v count e = grind (arith, common_steps)
 
 writes-version : {h : Header} {steps : List Step} {from : Bytes} {v : Version} {rest : Bytes} → Spells version_part from v rest
     → Writes h (λ v. v) steps version_part version_part from v rest
@@ -364,25 +334,11 @@ writes-magic (letters, m, (x, (count, is), e), s) =
     (λ w. ap Some (sym (sym p.1 ∙ three-letters x p.0)))
 
 same-numrecs : (v : Version) (n : ℕ) (numrecs : NumRecs) → numrecs_in strict v n ≡ Ok numrecs → number_of_numrecs v numrecs ≡ n
-same-numrecs v n numrecs e = by-tests (n == streaming_mark v) refl (nat_lt n (count_limit v)) e
-  where
-    by-tests : (b : Bool) → (n == streaming_mark v) ≡ b → (c : Bool)
-        → (if b then Ok Streaming else (if c then Ok (Known n) else Err BadCount)) ≡ Ok numrecs → number_of_numrecs v numrecs ≡ n
-    by-tests true is c e = let same : Streaming ≡ numrecs = cc in subst (λ x. number_of_numrecs v x ≡ n) same (sym (eqb-true _ _ is))
-    by-tests false is true e = let same : Known n ≡ numrecs = cc in subst (λ x. number_of_numrecs v x ≡ n) same refl
-    by-tests false is false e = absurd cc
+same-numrecs v n numrecs e = grind arith
 
 -- the lenient rules take it, too
 any-numrecs : (v : Version) (n : ℕ) (numrecs : NumRecs) → numrecs_in strict v n ≡ Ok numrecs → numrecs_in lenient v n ≡ Ok numrecs
-any-numrecs v n numrecs e = by-tests (n == streaming_mark v) (nat_lt n (count_limit v)) (nat_lt n (any_length_limit v)) (below-any v n) e
-  where
-    by-tests : (mark below any : Bool) → (below ≡ true → any ≡ true)
-        → (if mark then Ok Streaming else (if below then Ok (Known n) else Err BadCount)) ≡ Ok numrecs
-        → (if mark then Ok Streaming else (if any then Ok (Known n) else Err BadCount)) ≡ Ok numrecs
-    by-tests true below any le e = e
-    by-tests false true true le e = e
-    by-tests false true false le e = absurd (let never : false ≡ true = le refl in cc)
-    by-tests false false any le e = absurd cc
+any-numrecs v n numrecs e = grind (arith, below-any)
 
 writes-numrecs : {h : Header} {steps : List Step} (v : Version) {from : Bytes} {n : NumRecs} {rest : Bytes}
     → Spells (numrecs_part strict v) from n rest → Writes h (λ n. n) steps (numrecs_part strict v) (numrecs_part lenient v) from n rest

@@ -1,7 +1,7 @@
 -- Law. What the strict rules of `Grammar` read of a header, told from its fields as the lenient rules list them. Both read the same, up to
 -- the first field that the strict rules refuse: the first wrong one, or before it a name that isn't valid, the code of a floating type, or a
 -- number that is too large for a length or a number of records.
-use Rattle.std.specs.Prelude.{ℕ, ◌≡◌, ◌↔◌, ◌==◌, ◌||◌, nat_lt, if◌then◌else◌, List, [], ◌∷◌, length, take, drop, map, Option, Some, None}
+use Rattle.std.specs.Prelude.{ℕ, ◌≡◌, ◌↔◌, ◌==◌, ◌||◌, nat_lt, if◌then◌else◌, List, [], ◌∷◌, length, drop, map, Option, Some, None}
 use Rattle.nc_base.specs.declared.{fault.FormatFault.FormatFault, header.Att.Att, header.Var.Var, header.Header.Header}
 use Rattle.nc_base.specs.declared.fault.FormatFault.TheVariants.{BadCount, BadName, FloatingType}
 use Rattle.nc_base.specs.Bytes.{Bytes}
