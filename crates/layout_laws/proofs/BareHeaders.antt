@@ -1,5 +1,5 @@
 -- A header without begins: what is generated from it is the same.
-use Rattle.std.proofs.Common.{◌≡◌, ℕ, Bool, true, false, not, List, [], ◌∷◌, ◌++◌, length, map, refl, sym, ◌∙◌, ap, arith, length-append, if◌then◌else◌}
+use Rattle.std.proofs.Common.{◌≡◌, ℕ, Bool, not, List, [], ◌∷◌, ◌++◌, length, map, refl, sym, ◌∙◌, ap, arith, length-append, if◌then◌else◌}
 use Rattle.std.specs.Prelude.{flat_map}
 use Rattle.std.proofs.lemmas.List.{length-map, map-append}
 use Rattle.std.proofs.lemmas.Grind.{common_steps}
@@ -26,8 +26,7 @@ total-bare dims (var ∷ vars) = grind (arith, common_steps, total-bare dims var
 
 kept-bare : (keep : Bool) (var : Var) (vars bares : List Var) → bares ≡ bare_vars vars
     → (if keep then bare_var var ∷ bares else bares) ≡ bare_vars (if keep then var ∷ vars else vars)
-kept-bare true var vars bares e = ap (λ (vs : List Var). bare_var var ∷ vs) e
-kept-bare false var vars bares e = e
+kept-bare v0 var vars bares e = grind arith
 
 fixed-bare : (dims : List Dim) (vars : List Var) → fixed_vars dims (bare_vars vars) ≡ bare_vars (fixed_vars dims vars)
 fixed-bare dims [] = refl
@@ -42,9 +41,7 @@ record_total-bare : (dims : List Dim) (vars : List Var)
 record_total-bare dims vars = ap (padded_total dims) (records-bare dims vars) ∙ total-bare dims (record_vars dims vars)
 
 size-bare : (dims : List Dim) (vars : List Var) → record_size_of dims (bare_vars vars) ≡ record_size_of dims vars
-size-bare dims [] = refl
-size-bare dims (var ∷ []) = refl
-size-bare dims (var ∷ next ∷ vars) = total-bare dims (var ∷ next ∷ vars)
+size-bare dims v1 = grind (arith, common_steps)
 
 pub record_size-bare : (dims : List Dim) (vars : List Var)
     → record_size_of dims (record_vars dims (bare_vars vars)) ≡ record_size_of dims (record_vars dims vars)
@@ -57,8 +54,7 @@ pub arrays-bare : (dims : List Dim) (n : ℕ) (vars : List Var) (arrays : List B
 arrays-bare dims n [] [] are = tt
 arrays-bare dims n [] (array ∷ arrays) are = are
 arrays-bare dims n (var ∷ vars) [] are = are
-arrays-bare dims n (var ∷ vars) (array ∷ arrays) are =
-    (record { bytes = are.0.bytes; whole = are.0.whole; small = are.0.small }, arrays-bare dims n vars arrays are.1)
+arrays-bare dims n (var ∷ vars) (array ∷ arrays) are = grind (arith, arrays-bare dims n vars arrays are.1)
 
 -- ---- the length of the header
 
@@ -102,26 +98,7 @@ len-bare h n known = ap (λ (k : Header). length (header_spelling k)) (bare-is h
 
 slabs-bare : (h : Header) (n : ℕ) (before : List Var) (var : Var)
     → padded_total h.dims (slabs_before (bare h n) (bare_vars before) (bare_var var)) ≡ padded_total h.dims (slabs_before h before var)
-slabs-bare h n before var = by_kind (is_record_var h.dims var)
-  where
-    fixed : List Var → List Var
-    fixed vars = fixed_vars h.dims vars
-
-    records : List Var → List Var
-    records vars = record_vars h.dims vars
-
-    by_kind : (b : Bool)
-        → padded_total h.dims (if b then fixed (bare_vars h.vars) ++ records (bare_vars before) else fixed (bare_vars before))
-        ≡ padded_total h.dims (if b then fixed h.vars ++ records before else fixed before)
-    by_kind true =
-        omega (
-          arith,
-          padded_total-append h.dims (fixed (bare_vars h.vars)) (records (bare_vars before)),
-          padded_total-append h.dims (fixed h.vars) (records before),
-          fixed_total-bare h.dims h.vars,
-          record_total-bare h.dims before,
-        )
-    by_kind false = fixed_total-bare h.dims before
+slabs-bare h n before var = grind (arith, padded_total-append, fixed_total-bare, record_total-bare)
 
 begin-bare : (h : Header) (n : ℕ) (before : List Var) (var : Var) → h.numrecs ≡ Known n
     → begin_after (bare h n) (bare_vars before) (bare_var var) ≡ begin_after h before var
@@ -130,12 +107,7 @@ begin-bare h n before var known = omega (arith, len-bare h n known, slabs-bare h
 vars-bare : (h : Header) (n : ℕ) (before vars : List Var) → h.numrecs ≡ Known n
     → vars_with_begins (bare h n) (bare_vars before) (bare_vars vars) ≡ vars_with_begins h before vars
 vars-bare h n before [] known = refl
-vars-bare h n before (var ∷ vars) known =
-    let others = vars_with_begins (bare h n) (bare_vars before ++ bare_var var ∷ []) (bare_vars vars) in
-    ap (λ (at : ℕ). let x : Var = record var { begin_at = at } in x ∷ others) (begin-bare h n before var known)
-    ∙ ap (λ (vs : List Var). let x : Var = record var { begin_at = begin_after h before var } in x ∷ vs)
-    (ap (λ (bs : List Var). vars_with_begins (bare h n) bs (bare_vars vars)) (sym (map-append bare_var before (var ∷ [])))
-    ∙ vars-bare h n (before ++ var ∷ []) vars known)
+vars-bare h n before (var ∷ vars) known = grind (arith, vars-bare h n (before ++ var ∷ []) vars known, begin-bare, map-append)
 
 pub begins-bare : (h : Header) (n : ℕ) → h.numrecs ≡ Known n → with_begins (bare h n) ≡ with_begins h
 unfolding with_begins

@@ -1,5 +1,5 @@
 -- If nothing is found at the begins, each slot begins where a generated file has it.
-use Rattle.std.proofs.Common.{◌≡◌, ℕ, zero, suc, ◌+◌, ◌<◌, ◌≤◌, max, Bool, true, false, not, length, take, filter, ap, arith, Option, Some, None, IfSome, slice_get, inl, inr, ◌⊎◌, if◌then◌else◌, refl}
+use Rattle.std.proofs.Common.{◌≡◌, ℕ, zero, suc, ◌+◌, ◌<◌, ◌≤◌, max, Bool, true, false, not, length, take, filter, ap, arith, Some, inl, inr, ◌⊎◌, if◌then◌else◌, refl}
 use Rattle.std.specs.List.{Contains}
 use Rattle.std.proofs.lemmas.Bool.{cases_lt}
 use Rattle.std.proofs.lemmas.Bool.Decides.{nat_tests}
@@ -27,12 +27,7 @@ pub record IsQuietSlot (layout : Layout) (i : ℕ) (slot : Slot) : Type 0 where
 
 slot-is : (layout : Layout) (i : ℕ) (x : Slot) → Quiet is_of_begin (slot_findings layout i x) → IsQuietSlot layout i x
 unfolding slot_findings
-slot-is layout i x h = record {
-  after_header = grind (arith, nat_tests);
-  in_order = λ fixed. grind (arith, nat_tests);
-  before_records = λ most at fixed. grind (arith, nat_tests);
-  in_place = λ begin at rec. grind (arith, nat_tests);
-}
+slot-is layout i x h = grind (arith, nat_tests)
 
 -- it begins where the blocks before it end, with their padding, or the header
 pub record IsQuietBlock (layout : Layout) (b : Extent) : Type 0 where
@@ -97,12 +92,7 @@ fixed-next layout i x quiet at fixed done =
 
 fixed-below : (layout : Layout) (i : ℕ) → FindsNone is_of_begin layout → AreInPlace layout i
 fixed-below layout zero quiet = λ k x at lt is. absurd (omega arith)
-fixed-below layout (suc i) quiet = λ k x at lt is. by_order k x at is lt (cases_lt k i) (fixed-below layout i quiet)
-  where
-    by_order : (k : ℕ) (x : Slot) → At layout.slots k x → is_fixed x ≡ true → k < suc i → (k < i) ⊎ (i ≤ k) → AreInPlace layout i
-        → x.begin ≡ fixed_place layout k
-    by_order k x at is lt (inl less) done = done k x at less is
-    by_order k x at is lt (inr more) done = fixed-next layout k x quiet at is (λ j y at_y h. done j y at_y (omega arith))
+fixed-below layout (suc i) quiet = grind (arith, fixed-below layout i quiet, cases_lt, fixed-next)
 
 -- ---- record slots
 
@@ -139,8 +129,4 @@ slot-canonical layout i x quiet at = by_kind x.is_record refl
     by_kind false is = fixed-below layout (suc i) quiet i x at (omega arith) (ap not is)
 
 pub quiet-begins : QuietBeginsAreCanonical
-quiet-begins layout quiet i = by_slot (slice_get layout.slots i) refl
-  where
-    by_slot : (o : Option Slot) → slice_get layout.slots i ≡ o → IfSome o (λ (slot : Slot). slot.begin ≡ canonical_begin layout i slot)
-    by_slot None at = tt
-    by_slot (Some slot) at = slot-canonical layout i slot quiet at
+quiet-begins layout quiet i = grind (arith, slot-canonical)

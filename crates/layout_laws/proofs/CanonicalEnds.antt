@@ -1,5 +1,5 @@
 -- Where slots and blocks end if each slot begins in its canonical place.
-use Rattle.std.proofs.Common.{◌≡◌, ℕ, zero, suc, ◌+◌, ◌-◌, ◌*◌, ◌<◌, ◌≤◌, true, length, filter, ◌∙◌, ap, subst, arith, Option, Some, IfSome, inl, inr, ◌⊎◌}
+use Rattle.std.proofs.Common.{◌≡◌, ℕ, zero, suc, ◌+◌, ◌-◌, ◌*◌, ◌<◌, ◌≤◌, true, length, filter, subst, arith, Option, Some, IfSome, inl, inr, ◌⊎◌}
 use Rattle.std.specs.List.{Contains}
 use Rattle.std.proofs.lemmas.Bool.{cases_lt, lt-ltb}
 use Rattle.std.proofs.lemmas.Option.{slice_get_within}
@@ -55,10 +55,7 @@ fixed-ends-all layout k x h at is =
 
 pub times-pred : (n m : ℕ) → 0 < n → (n - 1) * m + m ≡ n * m
 times-pred zero m some = absurd (omega arith)
-times-pred (suc n) m some = let same : suc n - 1 ≡ n = omega arith in ap (λ k. k * m + m) same ∙ one_more n m
-  where
-    one_more : (n m : ℕ) → n * m + m ≡ suc n * m
-    one_more n m = grind arith
+times-pred (suc n) m some = grind arith
 
 pub used-le : (layout : Layout) → HasCanonicalBegins layout → used_end layout ≤ canonical_len layout
 used-le layout h =

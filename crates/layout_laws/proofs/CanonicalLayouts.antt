@@ -1,5 +1,5 @@
 -- Where each slot begins in its canonical place, nothing is found at the begins; nor at the end of a file of the canonical length.
-use Rattle.std.proofs.Common.{◌≡◌, ℕ, ◌+◌, ◌<◌, ◌≤◌, max, Bool, true, false, not, length, take, filter, ap, arith, inl, inr, ◌⊎◌, refl}
+use Rattle.std.proofs.Common.{◌≡◌, ℕ, ◌+◌, ◌<◌, ◌≤◌, max, true, length, take, filter, ap, arith, inl, inr, ◌⊎◌}
 use Rattle.std.specs.List.{Contains}
 use Rattle.std.proofs.lemmas.Bool.{cases_lt}
 use Rattle.std.proofs.lemmas.Bool.Decides.{nat_tests}
@@ -24,11 +24,7 @@ use Rattle.layout_laws.proofs.CanonicalEnds.{fixed-place, slab-place, records-pl
 -- ---- what holds of a slot
 
 fixed-or-record : (x : Slot) → (is_fixed x ≡ true) ⊎ (x.is_record ≡ true)
-fixed-or-record x = by_kind x.is_record
-  where
-    by_kind : (b : Bool) → (not b ≡ true) ⊎ (b ≡ true)
-    by_kind true = inr refl
-    by_kind false = inl refl
+fixed-or-record x = grind arith
 
 slot-quiet : (layout : Layout) (i : ℕ) (x : Slot) → HasCanonicalBegins layout → At layout.slots i x → IsQuietSlot layout i x
 slot-quiet layout i x h at = record {
@@ -110,8 +106,7 @@ not-after layout h =
 
 block-quiet : (layout : Layout) (b : Extent) → IsSoundLayout layout → HasCanonicalBegins layout → Contains (blocks layout) b
     → IsQuietBlock layout b
-block-quiet layout b sound h has =
-    record { not_before = before-le layout b b.begin (ends-before layout sound h b has); not_after = not-after layout h b has }
+block-quiet layout b sound h has = grind (arith, before-le, ends-before, not-after)
 
 -- ---- no findings
 
@@ -133,9 +128,7 @@ unfolding end_findings
 end-begin layout = grind arith
 
 pub begins-quiet : CanonicalBeginsAreQuiet
-begins-quiet layout sound h =
-    all-quiet is_of_begin layout (λ n. refl) (λ n. refl) (λ i x at. slot-none layout i x (slot-quiet layout i x h at)) (end-begin layout)
-    (λ b has. block-none layout b (block-quiet layout b sound h has))
+begins-quiet layout sound h = grind (arith, all-quiet, slot-none, slot-quiet, end-begin, block-none, block-quiet)
 
 -- ---- the end of the file
 
@@ -168,10 +161,4 @@ unfolding end_findings
 end-none layout values padding used = grind (arith, nat_tests)
 
 pub length-quiet : CanonicalLengthIsQuiet
-length-quiet layout sound h len =
-    let le = used-le layout h in
-    let ge = padding-ge layout sound h in
-    let padding = padding-used layout in
-    let values = values-used layout in
-    all-quiet is_of_end layout (λ n. refl) (λ n. refl) (λ i x at. slot-end layout i x)
-    (end-none layout (omega arith) (omega arith) (omega arith)) (λ b has. block-end layout b)
+length-quiet layout sound h len = grind (arith, used-le, padding-ge, padding-used, values-used, all-quiet, slot-end, end-none, block-end)

@@ -25,16 +25,13 @@ parts kind a b c d h = (grind (arith, list_any-append), grind (arith, list_any-a
 quiet-from : (kind : LayoutFact → Bool) (f : ℕ → Slot → List LayoutFinding) (i : ℕ) (slots : List Slot) (k m : ℕ) (x : Slot)
     → Quiet kind (each_slot f i slots) → At slots k x → m ≡ i + k → Quiet kind (f m x)
 quiet-from kind f i [] k m x h at is = cc
-quiet-from kind f i (y ∷ ys) zero m x h at is =
-    let same : x ≡ y = cc in let here : m ≡ i = omega arith in grind (arith, list_any-append)
-quiet-from kind f i (y ∷ ys) (suc k) m x h at is =
-    quiet-from kind f (i + 1) ys k m x (grind (arith, list_any-append)) at (omega arith)
+quiet-from kind f i (y ∷ ys) zero m x h at is = grind (arith, list_any-append)
+quiet-from kind f i (y ∷ ys) (suc k) m x h at is = grind (arith, quiet-from kind f (i + 1) ys k m x (grind (arith, list_any-append)) at (omega arith), list_any-append)
 
 pub quiet-slot : (kind : LayoutFact → Bool) (layout : Layout) (i : ℕ) (x : Slot) → FindsNone kind layout → At layout.slots i x
     → Quiet kind (slot_findings layout i x)
 unfolding layout_findings
-quiet-slot kind layout i x h at =
-    quiet-from kind (slot_findings layout) 0 layout.slots i i x (parts kind (numrecs_findings layout) _ _ _ h).0 at (omega arith)
+quiet-slot kind layout i x h at = grind (arith, quiet-from, parts)
 
 pub quiet-end : (kind : LayoutFact → Bool) (layout : Layout) → FindsNone kind layout → Quiet kind (end_findings layout)
 unfolding layout_findings
@@ -52,9 +49,7 @@ quiet-flat kind f (c ∷ bs) b h has =
 pub quiet-block : (kind : LayoutFact → Bool) (layout : Layout) (b : Extent) → FindsNone kind layout → Contains (blocks layout) b
     → Quiet kind (block_findings layout.header_end (blocks layout) b)
 unfolding layout_findings
-quiet-block kind layout b h has =
-    quiet-flat kind (block_findings layout.header_end (blocks layout)) (blocks layout) b
-    (parts kind (numrecs_findings layout) _ _ _ h).2 has
+quiet-block kind layout b h has = grind (arith, quiet-flat, parts)
 
 -- ---- the converse
 
@@ -68,9 +63,7 @@ each-quiet kind f i (y ∷ ys) each =
 flat-quiet : (kind : LayoutFact → Bool) (f : Extent → List LayoutFinding) (bs : List Extent)
     → ((b : Extent) → Contains bs b → Quiet kind (f b)) → Quiet kind (flat_map f bs)
 flat-quiet kind f [] each = refl
-flat-quiet kind f (b ∷ bs) each =
-    let first = each b (contains-here b bs) in
-    let others = flat-quiet kind f bs (λ c has. each c (contains-there b c bs has)) in grind (arith, list_any-append)
+flat-quiet kind f (b ∷ bs) each = grind (arith, flat-quiet kind f bs (λ c has. each c (contains-there b c bs has)), contains-here, contains-there, list_any-append)
 
 numrecs-quiet : (kind : LayoutFact → Bool) (layout : Layout) → ((n : ℕ) → kind (facts.Streaming n) ≡ false)
     → ((n : ℕ) → kind (facts.UnusedRecords n) ≡ false) → Quiet kind (numrecs_findings layout)
@@ -88,9 +81,4 @@ pub all-quiet : (kind : LayoutFact → Bool) (layout : Layout) → ((n : ℕ) �
     → Quiet kind (end_findings layout)
     → ((b : Extent) → Contains (blocks layout) b → Quiet kind (block_findings layout.header_end (blocks layout) b)) → FindsNone kind layout
 unfolding layout_findings
-all-quiet kind layout streamed unused slots end bs =
-    all-of kind (numrecs_findings layout) (each_slot (slot_findings layout) 0 layout.slots) (end_findings layout)
-    (flat_map (block_findings layout.header_end (blocks layout)) (blocks layout)) (numrecs-quiet kind layout streamed unused)
-    (each-quiet kind (slot_findings layout) 0 layout.slots (λ k m x at is.
-    subst (λ n. Quiet kind (slot_findings layout n x)) (let e : k ≡ m = omega arith in e) (slots k x at)))
-    end (flat-quiet kind (block_findings layout.header_end (blocks layout)) (blocks layout) bs)
+all-quiet kind layout streamed unused slots end bs = grind (arith, all-of, numrecs-quiet, each-quiet, flat-quiet)

@@ -1,17 +1,15 @@
 -- The begins of a generated file are the canonical ones.
-use Rattle.std.proofs.Common.{◌≡◌, ℕ, ◌+◌, Bool, true, false, List, [], ◌∷◌, ◌++◌, length, take, map, sum_by, refl, sym, ◌∙◌, ap, subst, append_assoc, arith, if◌then◌else◌, IfSome, slice_get, Some}
+use Rattle.std.proofs.Common.{◌≡◌, ℕ, ◌+◌, List, [], ◌∷◌, ◌++◌, length, take, map, refl, sym, ◌∙◌, ap, subst, append_assoc, arith, IfSome, slice_get, Some}
 use Rattle.std.proofs.lemmas.List.{map-append, length-map}
 use Rattle.nc_base.specs.declared.{header.Header.Header, header.Var.Var}
-use Rattle.nc_base.specs.GeneratedFile.{fixed_vars, slabs_before, begin_after, vars_with_begins, with_begins}
+use Rattle.nc_base.specs.GeneratedFile.{slabs_before, begin_after, vars_with_begins, with_begins}
 use Rattle.nc_base.specs.Grammar.{header_spelling}
-use Rattle.nc_base.specs.Sizes.{is_record_var, record_vars, padded_total}
+use Rattle.nc_base.specs.Sizes.{padded_total}
 use Rattle.nc_base.proofs.FilePlaces.{padded_total-append}
 use Rattle.nc_layout.specs.declared.{slot.Slot.Slot}
-use Rattle.nc_layout.specs.Slots.{padded_slab, record_slots}
 use Rattle.nc_layout.specs.HeaderLayout.{slot_of, layout_of}
 use Rattle.layout_laws.specs.HeaderLaws.{CanonicalBeginsAreGenerated}
-use Rattle.layout_laws.specs.Laws.{fixed_bytes, canonical_begin, HasCanonicalBegins}
-use Rattle.nc_layout.specs.SlotRules.{bytes_before}
+use Rattle.layout_laws.specs.Laws.{canonical_begin, HasCanonicalBegins}
 use Rattle.nc_layout.proofs.HeaderSlots.{record_slots-total}
 use Rattle.layout_laws.proofs.HeaderRecords.{fixed_slots-total}
 
@@ -28,36 +26,7 @@ taken-before (x ∷ before) slots = ap (λ (ss : List Slot). x ∷ ss) (taken-be
 pub begin-is : (h : Header) (header_end file_len : ℕ) (before : List Var) (var : Var) (vars : List Var) → h.vars ≡ before ++ var ∷ vars
     → canonical_begin (layout_of h header_end file_len) (length before) (slot_of h.dims var)
     ≡ header_end + padded_total h.dims (slabs_before h before var)
-begin-is h header_end file_len before var vars is = by_kind (is_record_var h.dims var)
-  where
-    slots : List Slot
-    slots = map (slot_of h.dims) h.vars
-
-    taken : take (length before) slots ≡ map (slot_of h.dims) before
-    taken =
-        ap (λ (vs : List Var). take (length before) (map (slot_of h.dims) vs)) is
-        ∙ ap (take (length before)) (map-append (slot_of h.dims) before (var ∷ vars))
-        ∙ ap (λ n. take n (map (slot_of h.dims) before ++ map (slot_of h.dims) (var ∷ vars))) (sym (length-map before (slot_of h.dims)))
-        ∙ taken-before (map (slot_of h.dims) before) (map (slot_of h.dims) (var ∷ vars))
-
-    fixed : fixed_bytes (take (length before) slots) ≡ padded_total h.dims (fixed_vars h.dims before)
-    fixed = ap fixed_bytes taken ∙ fixed_slots-total h.dims before
-
-    in_record : bytes_before slots (length before) ≡ padded_total h.dims (record_vars h.dims before)
-    in_record = ap (λ (ss : List Slot). sum_by padded_slab (record_slots ss)) taken ∙ record_slots-total h.dims before
-
-    by_kind : (b : Bool)
-        → (if b then header_end + fixed_bytes slots + bytes_before slots (length before)
-        else header_end + fixed_bytes (take (length before) slots))
-        ≡ header_end + padded_total h.dims (if b then fixed_vars h.dims h.vars ++ record_vars h.dims before else fixed_vars h.dims before)
-    by_kind true =
-        omega (
-          arith,
-          in_record,
-          fixed_slots-total h.dims h.vars,
-          padded_total-append h.dims (fixed_vars h.dims h.vars) (record_vars h.dims before),
-        )
-    by_kind false = omega (arith, fixed)
+begin-is h header_end file_len before var vars is = grind (arith, map-append, length-map, taken-before, fixed_slots-total, record_slots-total, padded_total-append)
 
 -- a begin that is canonical is that of the generated file
 begin-same : (h : Header) (file_len : ℕ) (before : List Var) (var : Var) (vars : List Var) → h.vars ≡ before ++ var ∷ vars

@@ -43,9 +43,4 @@ generated-canonical h file_len same i =
     (begins-canonical h file_len [] h.vars refl (ap (λ (x : Header). x.vars) same) i)
 
 pub generated-quiet : GeneratedFilesAreQuiet
-generated-quiet h arrays n file_len known are sound begins len =
-    let layout = layout_of h (length (header_spelling h)) file_len in
-    let canonical = generated-canonical h file_len (sym (begins-bare h n known) ∙ begins) in (
-      begins-quiet layout sound canonical,
-      length-quiet layout sound canonical (len ∙ sym (canonical-is h arrays n file_len known are)),
-    )
+generated-quiet h arrays n file_len known are sound begins len = grind (arith, generated-canonical, begins-bare, begins-quiet, length-quiet, canonical-is)

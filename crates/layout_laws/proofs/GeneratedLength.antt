@@ -1,11 +1,12 @@
 -- A file in which nothing is found at begins and at its end is as long as a generated one.
-use Rattle.std.proofs.Common.{◌≡◌, ℕ, zero, suc, ◌+◌, ◌*◌, ◌<◌, ◌≤◌, List, [], length, map, refl, sym, ◌∙◌, ap, arith, length-append}
+use Rattle.std.proofs.lemmas.Grind.{common_steps}
+use Rattle.std.proofs.Common.{◌≡◌, ℕ, zero, suc, ◌+◌, ◌*◌, ◌<◌, ◌≤◌, List, length, map, refl, sym, ◌∙◌, ap, arith, length-append}
 use Rattle.std.specs.Prelude.{flat_map, zip}
 use Rattle.std.specs.List.{range_with_len}
-use Rattle.nc_base.specs.declared.{dataset.Dataset.Dataset, header.Header.Header, header.NumRecs.NumRecs, header.Var.Var}
+use Rattle.nc_base.specs.declared.{dataset.Dataset.Dataset, header.Header.Header, header.Var.Var}
 use Rattle.nc_base.specs.declared.header.NumRecs.TheVariants.{Known}
 use Rattle.nc_base.specs.Bytes.{Bytes}
-use Rattle.nc_base.specs.GeneratedFile.{block, data_of, file_of, fixed_vars, known_records, record_part, vars_with_begins, with_begins}
+use Rattle.nc_base.specs.GeneratedFile.{block, data_of, file_of, fixed_vars, known_records, record_part, with_begins}
 use Rattle.nc_base.specs.GeneratedFile.{is_sole_narrow as is_sole_narrow_var}
 use Rattle.nc_base.specs.Grammar.{header_spelling}
 use Rattle.nc_base.specs.Headers.{AreArrays, bare}
@@ -30,10 +31,7 @@ use Rattle.layout_laws.proofs.HeaderRecords.{fixed_slots-total}
 rows-length : (f : ℕ → List ℕ) (size a n : ℕ) → ((r : ℕ) → a ≤ r → r < a + n → length (f r) ≡ size)
     → length (flat_map f (range_with_len a n)) ≡ n * size
 rows-length f size a zero same = omega arith
-rows-length f size a (suc n) same =
-    let first = same a (omega arith) (omega arith) in
-    let others = rows-length f size (a + 1) n (λ r low high. same r (omega arith) (omega arith)) in
-    omega (arith, length-append (f a) (flat_map f (range_with_len (a + 1) n)))
+rows-length f size a (suc n) same = grind (arith, common_steps, rows-length f size (a + 1) n (λ r low high. same r (omega arith) (omega arith)))
 
 data-length : (h : Header) (arrays : List (List ℕ)) (n : ℕ) → known_records h.numrecs ≡ n → AreArrays h.dims n h.vars arrays
     → length (data_of h arrays) ≡ padded_total h.dims (fixed_vars h.dims h.vars) + n * record_size_of h.dims (record_vars h.dims h.vars)
@@ -53,17 +51,13 @@ file-length : (d : Dataset) (n : ℕ) → known_records d.header.numrecs ≡ n �
     → length (file_of d) ≡ length (header_spelling d.header) + (padded_total d.header.dims (fixed_vars d.header.dims d.header.vars)
     + n * record_size_of d.header.dims (record_vars d.header.dims d.header.vars))
 unfolding file_of with_begins
-file-length d n known are =
-    let h = d.header in
-    let k : Header = record h { vars = vars_with_begins h [] h.vars } in
-    omega (arith, length-append (header_spelling k) (data_of h d.arrays), len-after h, data-length h d.arrays n known are)
+file-length d n known are = grind (arith, common_steps, len-after, data-length)
 
 -- ---- the law
 
 count-known : (h : Header) (header_end file_len n : ℕ) → h.numrecs ≡ Known n → record_count (layout_of h header_end file_len) ≡ n
 unfolding record_count
-count-known h header_end file_len n known =
-    ap (λ (k : NumRecs). record_count (layout_of (record h { numrecs = k }) header_end file_len)) known
+count-known h header_end file_len n known = cc
 
 pub canonical-is : (h : Header) (arrays : List Bytes) (n file_len : ℕ) → h.numrecs ≡ Known n → AreArrays h.dims n h.vars arrays
     → canonical_len (layout_of h (length (header_spelling h)) file_len) ≡ length (file_of (record { header = bare h n; arrays = arrays }))

@@ -1,14 +1,14 @@
 -- The records of a header are those of its slots: their size, their begin and their number.
-use Rattle.std.proofs.Common.{◌≡◌, ℕ, ◌-◌, ◌/◌, min, not, List, [], ◌∷◌, filter, map, fold, sum_by, refl, sym, ◌∙◌, ap, arith}
+use Rattle.std.proofs.lemmas.Grind.{common_steps}
+use Rattle.std.proofs.Common.{◌≡◌, ℕ, ◌-◌, ◌/◌, min, List, [], ◌∷◌, filter, map, fold, sum_by, refl, sym, ◌∙◌, ap, arith}
 use Rattle.std.specs.Option.{option_map_or}
 use Rattle.std.proofs.lemmas.List.Sums.{sum-map}
-use Rattle.nc_base.specs.declared.{header.Dim.Dim, header.Header.Header, header.NumRecs.NumRecs, header.Var.Var}
-use Rattle.nc_base.specs.declared.header.NumRecs.TheVariants.{Known, Streaming}
+use Rattle.nc_base.specs.declared.{header.Dim.Dim, header.Header.Header, header.Var.Var}
 use Rattle.nc_base.specs.GeneratedFile.{fixed_vars}
-use Rattle.nc_base.specs.Sizes.{is_record_var, least_begin, padded_size, padded_total, record_size_of, record_vars, records_between}
+use Rattle.nc_base.specs.Sizes.{least_begin, padded_total, record_size_of, record_vars, records_between}
 use Rattle.nc_base.specs.Sizes.{record_count as header_record_count, record_size as header_record_size}
 use Rattle.nc_layout.specs.declared.{slot.Slot.Slot}
-use Rattle.nc_layout.specs.Slots.{is_fixed, is_sole_narrow, least, padded_slab, record_count, record_size, record_slots, records_begin, records_by_length}
+use Rattle.nc_layout.specs.Slots.{is_fixed, is_sole_narrow, least, record_count, record_size, record_slots, records_begin, records_by_length}
 use Rattle.nc_layout.specs.HeaderLayout.{slot_of, layout_of}
 use Rattle.nc_layout.specs.code.Records.{slab_if}
 use Rattle.nc_layout.proofs.HeaderSlots.{kept-slot, slots-total, record_slots-are}
@@ -20,22 +20,17 @@ use Rattle.layout_laws.specs.Laws.{fixed_bytes}
 fixed_slots-are : (dims : List Dim) (vars : List Var)
     → filter is_fixed (map (slot_of dims) vars) ≡ map (slot_of dims) (fixed_vars dims vars)
 fixed_slots-are dims [] = refl
-fixed_slots-are dims (var ∷ vars) =
-    kept-slot (not (is_record_var dims var)) dims var (fixed_vars dims vars) _ (fixed_slots-are dims vars)
+fixed_slots-are dims (var ∷ vars) = grind (arith, fixed_slots-are dims vars, kept-slot)
 
 pub fixed_slots-total : (dims : List Dim) (vars : List Var)
     → fixed_bytes (map (slot_of dims) vars) ≡ padded_total dims (fixed_vars dims vars)
-fixed_slots-total dims vars =
-    ap (sum_by padded_slab) (fixed_slots-are dims vars) ∙ slots-total dims (fixed_vars dims vars)
-    ∙ sym (sum-map (padded_size dims) (fixed_vars dims vars))
+fixed_slots-total dims vars = grind (arith, fixed_slots-are, slots-total, sum-map)
 
 -- ---- the record size
 
 slots-size : (dims : List Dim) (vars : List Var)
     → sum_by (slab_if (is_sole_narrow (map (slot_of dims) vars))) (map (slot_of dims) vars) ≡ record_size_of dims vars
-slots-size dims [] = refl
-slots-size dims (var ∷ []) = omega arith
-slots-size dims (var ∷ next ∷ vars) = slots-total dims (var ∷ next ∷ vars) ∙ sym (sum-map (padded_size dims) (var ∷ next ∷ vars))
+slots-size dims v1 = grind (arith, common_steps)
 
 pub size-is : (dims : List Dim) (vars : List Var) → record_size (map (slot_of dims) vars) ≡ record_size_of dims (record_vars dims vars)
 size-is dims vars =
@@ -77,8 +72,4 @@ by-length h header_end file_len =
 
 pub count-is : (h : Header) (header_end file_len : ℕ) → record_count (layout_of h header_end file_len) ≡ header_record_count h file_len
 unfolding record_count
-count-is h header_end file_len = by_numrecs h.numrecs refl
-  where
-    by_numrecs : (n : NumRecs) → h.numrecs ≡ n → record_count (layout_of h header_end file_len) ≡ header_record_count h file_len
-    by_numrecs (Known n) at = grind arith
-    by_numrecs Streaming at = grind (arith, by-length h header_end file_len)
+count-is h header_end file_len = grind (arith, by-length)

@@ -60,11 +60,8 @@ filtered-at {X} p xs i x has =
 there-from : {A : Type 0} (f : ℕ → Slot → List A) (i : ℕ) (slots : List Slot) (k m : ℕ) (x : Slot) (a : A) → At slots k x → m ≡ i + k
     → Contains (f m x) a → Contains (each_slot f i slots) a
 there-from {A} f i [] k m x a at is has = cc
-there-from {A} f i (y ∷ ys) zero m x a at is has =
-    let e : f m x ≡ f i y = (let same : x ≡ y = cc in let here : m ≡ i = omega arith in cc) in
-    Contains-append_left (f i y) (each_slot f (i + 1) ys) a (subst (λ (bs : List A). Contains bs a) e has)
-there-from {A} f i (y ∷ ys) (suc k) m x a at is has =
-    Contains-append_right (f i y) (each_slot f (i + 1) ys) a (there-from f (i + 1) ys k m x a at (omega arith) has)
+there-from {A} f i (y ∷ ys) zero m x a at is has = grind (arith, Contains-append_left)
+there-from {A} f i (y ∷ ys) (suc k) m x a at is has = grind (arith, there-from f (i + 1) ys k m x a at (omega arith) has, Contains-append_right)
 
 pub each-there : {A : Type 0} (f : ℕ → Slot → List A) (slots : List Slot) (k : ℕ) (x : Slot) (a : A) → At slots k x → Contains (f k x) a
     → Contains (each_slot f 0 slots) a
@@ -138,16 +135,10 @@ total-reach f p slots b m (suc i) each =
 -- ---- a slab in the record
 
 pub slab-le : (slots : List Slot) (x : Slot) → (x.slab ≤ slab_in_record slots x) × (slab_in_record slots x ≤ padded_slab x)
-slab-le slots x = by_kind (is_sole_narrow (record_slots slots))
-  where
-    by_kind : (b : Bool) → (x.slab ≤ (if b then x.slab else padded_slab x)) × ((if b then x.slab else padded_slab x) ≤ padded_slab x)
-    by_kind true = (omega arith, omega arith)
-    by_kind false = (omega arith, omega arith)
+slab-le slots x = grind arith
 
 sole-length : (rs : List Slot) → is_sole_narrow rs ≡ true → sum_by (λ (x : Slot). 1) rs ≡ 1
-sole-length [] is = cc
-sole-length (x ∷ []) is = refl
-sole-length (x ∷ y ∷ rs) is = cc
+sole-length v0 is = grind arith
 
 none-sum : (f : Slot → ℕ) (rs : List Slot) → sum_by (λ (x : Slot). 1) rs ≡ 0 → sum_by f rs ≡ 0
 none-sum f [] none = refl

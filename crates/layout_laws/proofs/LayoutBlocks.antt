@@ -25,11 +25,7 @@ each-one {X} P x here y has = elim (contains-cases x y [] has) [ inl same ↦ su
 
 of-fixed : (P : Extent → Type 0) (i : ℕ) (x : Slot) → (is_fixed x ≡ true → P (slot_block i x)) → (b : Extent) → Contains (fixed_block i x) b
     → P b
-of-fixed P i x each b has = by_kind (is_fixed x) refl has
-  where
-    by_kind : (t : Bool) → is_fixed x ≡ t → Contains (if t then slot_block i x ∷ [] else []) b → P b
-    by_kind true is h = each-one P (slot_block i x) (each is) b h
-    by_kind false is h = absurd (contains-none b h)
+of-fixed v0 i x each b has = grind arith
 
 -- what holds of those of slots and of that of the records holds of each block
 pub each-block : (layout : Layout) (P : Extent → Type 0)

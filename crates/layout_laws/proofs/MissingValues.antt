@@ -1,5 +1,5 @@
 -- Values are found to be missing exactly if some variable has a first missing value.
-use Rattle.std.proofs.Common.{◌≡◌, ℕ, ◌≤◌, Bool, false, List, [], ◌∷◌, length, map, refl, sym, ap, subst, arith, Option, None, All, nat_lt}
+use Rattle.std.proofs.Common.{◌≡◌, ℕ, ◌≤◌, Bool, false, List, [], ◌∷◌, length, map, refl, ap, arith, Option, None, All}
 use Rattle.std.specs.List.{list_any}
 use Rattle.std.specs.Prelude.{is_some}
 use Rattle.std.proofs.lemmas.Bool.{le-ltb, ltb-false}
@@ -10,7 +10,6 @@ use Rattle.nc_base.specs.Bytes.{Bytes}
 use Rattle.nc_base.specs.Places.{first_missing}
 use Rattle.nc_base.specs.Sizes.{record_count, record_size}
 use Rattle.nc_layout.specs.declared.{slot.Slot.Slot, slot.Layout.Layout, blocks.Extent.Extent}
-use Rattle.nc_layout.specs.Slots.{record_size as slots_size}
 use Rattle.nc_layout.specs.Blocks.{blocks}
 use Rattle.nc_layout.specs.BlockRules.{block_findings}
 use Rattle.nc_layout.specs.FileEnd.{end_findings, values_end}
@@ -31,9 +30,7 @@ use Rattle.layout_laws.proofs.WholeVariables.{whole-slot, whole-variable}
 pub unmapped : (P : Slot → Type 0) (dims : List Dim) (vars : List Var) → All P (map (slot_of dims) vars)
     → All (λ (var : Var). P (slot_of dims var)) vars
 unmapped P dims [] all = All-nil _
-unmapped P dims (var ∷ vars) all =
-    All-cons (λ (x : Var). P (slot_of dims x)) var vars (All-head P (slot_of dims var) (map (slot_of dims) vars) all)
-    (unmapped P dims vars (All-tail P (slot_of dims var) (map (slot_of dims) vars) all))
+unmapped P dims (var ∷ vars) all = grind (arith, unmapped P dims vars (All-tail P (slot_of dims var) (map (slot_of dims) vars) all), All-cons, All-head, All-tail)
 
 -- the number and the size of records may be those of the header
 abbrev AreWhole : Header → Bytes → Type 0
@@ -41,16 +38,10 @@ AreWhole h bytes =
     All (IsWholeSlot (length bytes) (record_size h) (record_count h (length bytes))) (map (slot_of h.dims) h.vars)
 
 to-header : (h : Header) (bytes : Bytes) (header_end : ℕ) → AreWholeSlots (layout_of h header_end (length bytes)) → AreWhole h bytes
-to-header h bytes header_end are =
-    let slots = map (slot_of h.dims) h.vars in
-    subst (λ size. All (IsWholeSlot (length bytes) size (record_count h (length bytes))) slots) (size-is h.dims h.vars)
-    (subst (λ n. All (IsWholeSlot (length bytes) (slots_size slots) n) slots) (count-is h header_end (length bytes)) are)
+to-header h bytes header_end are = grind (arith, size-is, count-is)
 
 of-header : (h : Header) (bytes : Bytes) (header_end : ℕ) → AreWhole h bytes → AreWholeSlots (layout_of h header_end (length bytes))
-of-header h bytes header_end are =
-    let slots = map (slot_of h.dims) h.vars in
-    subst (λ n. All (IsWholeSlot (length bytes) (slots_size slots) n) slots) (sym (count-is h header_end (length bytes)))
-    (subst (λ size. All (IsWholeSlot (length bytes) size (record_count h (length bytes))) slots) (sym (size-is h.dims h.vars)) are)
+of-header h bytes header_end are = grind (arith, count-is, size-is)
 
 -- no value of the variable is missing
 abbrev HasAll : Header → Bytes → Var → Type 0
@@ -80,8 +71,7 @@ not-some o none = grind arith
 
 none-lack : (h : Header) (bytes : Bytes) (vars : List Var) → list_any (lacks_values h bytes) vars ≡ false → All (HasAll h bytes) vars
 none-lack h bytes [] none = All-nil _
-none-lack h bytes (var ∷ vars) none =
-    All-cons (HasAll h bytes) var vars (not-some _ (grind arith)) (none-lack h bytes vars (grind arith))
+none-lack h bytes (var ∷ vars) none = grind (arith, none-lack h bytes vars (grind arith), All-cons, not-some)
 
 all-have : (h : Header) (bytes : Bytes) (vars : List Var) → All (HasAll h bytes) vars → list_any (lacks_values h bytes) vars ≡ false
 all-have h bytes vars all = list_any_none (lacks_values h bytes) vars (λ k d lt. ap is_some (all k d lt))
@@ -90,11 +80,7 @@ same-test : (a b : Bool) → (a ≡ false → b ≡ false) → (b ≡ false → 
 same-test a b to from = grind arith
 
 pub short-lacks : ShortFilesLackValues
-short-lacks h bytes header_end sound =
-    let end = values_end (layout_of h header_end (length bytes)) in
-    same-test (nat_lt (length bytes) end) (list_any (lacks_values h bytes) h.vars)
-    (λ no. all-have h bytes h.vars (all-present h bytes header_end sound (ltb-false (length bytes) end no)))
-    (λ no. le-ltb (length bytes) end (values-present h bytes header_end sound (none-lack h bytes h.vars no)))
+short-lacks h bytes header_end sound = grind (arith, same-test, all-have, all-present, ltb-false, le-ltb, values-present, none-lack)
 
 -- ---- the finding
 
@@ -111,9 +97,7 @@ unfolding end_findings
 end-none layout within = grind (arith, nat_tests)
 
 values-quiet : (layout : Layout) → values_end layout ≤ layout.file_len → finds is_of_missing layout ≡ false
-values-quiet layout within =
-    all-quiet is_of_missing layout (λ n. refl) (λ n. refl) (λ i x at. slot-other layout i x) (end-none layout within)
-    (λ b has. block-other layout b)
+values-quiet layout within = grind (arith, all-quiet, slot-other, end-none, block-other)
 
 quiet-within : (layout : Layout) → IsSoundLayout layout → finds is_of_missing layout ≡ false → values_end layout ≤ layout.file_len
 quiet-within layout sound none =

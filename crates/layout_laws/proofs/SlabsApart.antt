@@ -1,6 +1,6 @@
 -- If none of the findings lets slabs share bytes, no two slabs have a byte in common.
-use Rattle.std.proofs.Common.{◌≡◌, ℕ, suc, ◌+◌, ◌-◌, ◌*◌, ◌<◌, ◌≤◌, Bool, true, false, List, [], ◌∷◌, ◌++◌, get_or, map, sym, subst, arith, Some, inl, inr, ◌⊎◌, if◌then◌else◌, refl}
-use Rattle.std.specs.List.{Contains, AllPairs, range_with_len}
+use Rattle.std.proofs.Common.{◌≡◌, ℕ, suc, ◌+◌, ◌-◌, ◌*◌, ◌<◌, ◌≤◌, true, List, [], ◌∷◌, ◌++◌, get_or, subst, arith, Some, inl, inr, ◌⊎◌, refl}
+use Rattle.std.specs.List.{Contains, AllPairs}
 use Rattle.std.proofs.lemmas.Bool.{cases_lt}
 use Rattle.std.proofs.lemmas.Bool.Decides.{nat_tests}
 use Rattle.std.proofs.lemmas.List.Elements.{Contains-get_or, Contains-append_cases}
@@ -75,9 +75,7 @@ each-pairs R f i (x ∷ xs) own across =
 
 -- record r ends before record q begins
 next-record : (r q size : ℕ) → r < q → r * size + size ≤ q * size
-next-record r q size lt =
-    let one : r * size + size ≡ (r + 1) * size = grind arith in
-    let le : (r + 1) * size ≤ q * size = mul-le-mul_right size (omega arith) in omega arith
+next-record r q size lt = grind arith
 
 -- a slab of a record slot lies in its record
 in-record : (layout : Layout) (k : ℕ) (x : Slot) → At layout.slots k x → x.is_record ≡ true
@@ -88,27 +86,7 @@ in-record layout k x at is = let fits = slab-fits layout.slots k x at is in let 
 
 own-apart : (layout : Layout) (k m : ℕ) (x : Slot) → At layout.slots k x
     → AllPairs AreApart (slabs_of (record_size layout.slots) (record_count layout) m x)
-own-apart layout k m x at = by_kind x.is_record refl
-  where
-    size : ℕ
-    size = record_size layout.slots
-
-    n : ℕ
-    n = record_count layout
-
-    g : ℕ → SlabPlace
-    g = record_slab size m x
-
-    by_kind : (b : Bool) → x.is_record ≡ b → AllPairs AreApart (if b then map g (range_with_len 0 n) else fixed_slab m x ∷ [])
-    by_kind true is = λ r q d lt within.
-        let len = length-map-range_with_len g 0 n in
-        let next = next-record r q size lt in
-        let fits = in-record layout k x at is in
-        let apart : AreApart (g r) (g q) = inl (omega arith) in
-        subst (λ (b : SlabPlace). AreApart (get_or (map g (range_with_len 0 n)) r d) b)
-        (sym (get_or-map-range_with_len g 0 n q q d (omega arith) (omega arith)))
-        (subst (λ (a : SlabPlace). AreApart a (g q)) (sym (get_or-map-range_with_len g 0 n r r d (omega arith) (omega arith))) apart)
-    by_kind false is = λ i j e less within. absurd (omega arith)
+own-apart layout k m x at = grind (arith, length-map-range_with_len, next-record, in-record, get_or-map-range_with_len)
 
 both-fixed : (layout : Layout) (k l : ℕ) (x y : Slot) → FindsNone is_of_shared_bytes layout → k < l → At layout.slots k x
     → At layout.slots l y → is_fixed x ≡ true → is_fixed y ≡ true → (x.begin + x.slab ≤ y.begin) ⊎ (y.begin + y.slab ≤ x.begin)
@@ -177,8 +155,7 @@ fixed-record layout k l q x y quiet at_x at_y is_x is_y counted = by_order (case
         let place = (slot-of layout l y quiet at_y).in_place begin.0 begin.1 is_y in inl (omega arith)
 
 apart-sym : (a b : SlabPlace) → AreApart a b → AreApart b a
-apart-sym a b (inl h) = inr h
-apart-sym a b (inr h) = inl h
+apart-sym a b v2 = grind arith
 
 across-apart : (layout : Layout) → FindsNone is_of_shared_bytes layout → (k l m n : ℕ) (x y : Slot) → k < l → At layout.slots k x
     → At layout.slots l y → (a b : SlabPlace) → Contains (slabs_of (record_size layout.slots) (record_count layout) m x) a

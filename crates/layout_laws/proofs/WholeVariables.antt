@@ -68,8 +68,7 @@ each-row-ends size len base stride strides vs k (suc n) all (suc q) m lt is =
 
 -- a factor of a product that isn't 0
 some-factor : (a b : ℕ) → 0 < a * b → 0 < b
-some-factor a zero some = absurd (omega arith)
-some-factor a (suc b) some = omega arith
+some-factor a v1 some = grind arith
 
 -- where the values of a slab end in the file, the slab does
 slab-ends : (size len base : ℕ) (lens : List ℕ) → 0 < product lens → AllEnd size len base (slab_strides size lens) (vectors_below lens)
@@ -88,18 +87,7 @@ slab-ends size len base (suc m ∷ lens) some all =
 fixed-ends : (h : Header) (b : Bytes) (var : Var) (n : ℕ) → 0 < product (slab_lens h.dims var.dimids) → is_record_var h.dims var ≡ false
     → first_missing h b var n ≡ None → var.begin_at + slab_size h.dims var ≤ length b
 unfolding value_offsets
-fixed-ends h b var n some fixed none = at_kind (is_record_var h.dims var) fixed (none-ends (size_of var.ty) b _ none)
-  where
-    lens : List ℕ
-    lens = slab_lens h.dims var.dimids
-
-    at_kind : (kind : Bool) → kind ≡ false
-        → AllEnd (size_of var.ty) (length b) var.begin_at
-        (if kind then record_size h ∷ slab_strides (size_of var.ty) lens else slab_strides (size_of var.ty) lens)
-        (vectors_below (if kind then n ∷ lens else lens))
-        → var.begin_at + product lens * size_of var.ty ≤ length b
-    at_kind true e all = cc
-    at_kind false e all = slab-ends (size_of var.ty) (length b) var.begin_at lens some all
+fixed-ends h b var n some fixed none = grind (arith, none-ends, slab-ends)
 
 record-ends : (h : Header) (b : Bytes) (var : Var) (n : ℕ) → 0 < product (slab_lens h.dims var.dimids) → is_record_var h.dims var ≡ true
     → first_missing h b var n ≡ None → (r : ℕ) → r < n → var.begin_at + r * record_size h + slab_size h.dims var ≤ length b
@@ -121,22 +109,12 @@ record-ends h b var n some growing none = at_kind (is_record_var h.dims var) gro
         0 n all r r lt (omega arith))
 
 pub some-values : (count size : ℕ) → 1 ≤ count * size → 0 < count
-some-values zero size some = absurd (omega arith)
-some-values (suc n) size some = omega arith
+some-values v0 size some = grind arith
 
 pub whole-slot : (h : Header) (b : Bytes) (var : Var) (n : ℕ) → 1 ≤ slab_size h.dims var → first_missing h b var n ≡ None
     → IsWholeSlot (length b) (record_size h) n (slot_of h.dims var)
-whole-slot h b var n some none =
-    let values : 0 < product (slab_lens h.dims var.dimids) = some-values (product (slab_lens h.dims var.dimids)) (size_of var.ty) some in
-    record {
-      fixed = λ is. fixed-ends h b var n values is none;
-      records = λ is. record-ends h b var n values is none;
-    }
+whole-slot h b var n some none = grind (arith, some-values, fixed-ends, record-ends)
 
 pub whole-variable : (h : Header) (b : Bytes) (var : Var) (n : ℕ) → IsWholeSlot (length b) (record_size h) n (slot_of h.dims var)
     → first_missing h b var n ≡ None
-whole-variable h b var n whole = by_kind (is_record_var h.dims var) refl
-  where
-    by_kind : (kind : Bool) → is_record_var h.dims var ≡ kind → first_missing h b var n ≡ None
-    by_kind true is = record-whole h b var n is (whole.records is)
-    by_kind false is = fixed-whole h b var n is (whole.fixed is)
+whole-variable h b var n whole = grind (arith, record-whole, fixed-whole)

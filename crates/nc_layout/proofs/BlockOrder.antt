@@ -1,26 +1,21 @@
 -- The order of blocks, and blocks that have been sorted by their begins.
-use Rattle.std.proofs.Common.{◌≡◌, zero, suc, ◌≤◌, Bool, true, false, cond, List, [], ◌∷◌, filter, refl, sym, ◌∙◌, ap, subst, arith, inl, inr, ◌⊎◌}
+use Rattle.std.proofs.Common.{◌≡◌, suc, ◌≤◌, Bool, true, false, cond, List, [], ◌∷◌, filter, refl, sym, ◌∙◌, ap, subst, arith, inl, inr, ◌⊎◌}
 use Rattle.std.specs.List.{Contains, AllPairs}
 use Rattle.std.specs.List.Sorted.{IsNonDecreasingBy, IsStableByKey, ties}
 use Rattle.std.specs.Ordering.{nat_cmp, is_lt}
 use Rattle.std.proofs.lemmas.List.Kept.{AllPairs-filter}
-use Rattle.std.proofs.lemmas.Grind.{common_steps}
 use Rattle.std.proofs.lemmas.Bool.Decides.{nat_tests}
-use Rattle.std.proofs.lemmas.Bool.{le-ltb, false≢true}
+use Rattle.std.proofs.lemmas.Bool.{false≢true}
 use Rattle.nc_layout.specs.declared.{finding.Block.Block, blocks.Extent.Extent}
-use Rattle.nc_layout.specs.declared.finding.Block.TheVariants.{Var, Records}
 use Rattle.nc_layout.specs.Blocks.{is_listed_before, precedes}
 
 -- ---- one block before another
 
 listed-irrefl : (b : Block) → is_listed_before b b ≡ false
-listed-irrefl (Var i) = le-ltb i i (omega arith)
-listed-irrefl Records = refl
+listed-irrefl v0 = grind arith
 
 listed-asym : (b c : Block) → is_listed_before b c ≡ true → is_listed_before c b ≡ false
-listed-asym (Var i) (Var j) h = grind (arith, common_steps)
-listed-asym (Var i) Records h = refl
-listed-asym Records c h = cc
+listed-asym v0 v1 h = grind arith
 
 -- a block doesn't precede one that precedes it
 pub precedes-asym : (b c : Extent) → precedes b c ≡ true → precedes c b ≡ false
@@ -49,15 +44,10 @@ pub contains-there : {X : Type 0} (x c : X) (xs : List X) → Contains xs c → 
 contains-there {X} x c xs (k, lt, at) = (suc k, omega arith, at)
 
 pub contains-cases : {X : Type 0} (x c : X) (xs : List X) → Contains (x ∷ xs) c → (x ≡ c) ⊎ Contains xs c
-contains-cases {X} x c xs (zero, lt, at) = inl at
-contains-cases {X} x c xs (suc k, lt, at) = inr (k, omega arith, at)
+contains-cases {X} x c xs v4 = grind arith
 
 pub contains-none : {X : Type 0} (c : X) → Contains [] c → ⊥
 contains-none {X} c (k, lt, at) = omega arith
-
--- what holds of the only element holds of each
-pub each-one : {X : Type 0} (P : X → Type 0) (x : X) → P x → (y : X) → Contains (x ∷ []) y → P y
-each-one {X} P x here y has = elim (contains-cases x y [] has) [ inl same ↦ subst P same here | inr none ↦ absurd (contains-none y none) ]
 
 -- what a filter keeps is in the list and passes, and what passes is kept
 pub contains-filter : {X : Type 0} (p : X → Bool) (xs : List X) (c : X) → Contains xs c → p c ≡ true → Contains (filter p xs) c

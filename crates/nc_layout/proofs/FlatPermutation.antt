@@ -1,9 +1,10 @@
 -- A list in another order gives the same lists joined in another order.
-use Rattle.std.proofs.Common.{◌≡◌, ℕ, suc, ◌+◌, ◌-◌, ◌<◌, ◌≤◌, ◌≢◌, List, [], ◌∷◌, ◌++◌, length, get_or, set, take, drop, sym, ◌∙◌, ap, subst, arith, inl, inr, ◌⊎◌, append_assoc}
+use Rattle.std.proofs.lemmas.Grind.{common_steps}
+use Rattle.std.proofs.Common.{◌≡◌, ℕ, suc, ◌+◌, ◌-◌, ◌<◌, List, [], ◌∷◌, ◌++◌, length, get_or, set, take, drop, sym, ◌∙◌, ap, subst, arith, append_assoc}
 use Rattle.std.specs.Prelude.{flat_map, IsPermutation}
 use Rattle.std.specs.List.{swap}
 use Rattle.std.proofs.lemmas.Bool.{cases_lt}
-use Rattle.std.proofs.lemmas.List.{at_drop_more, take-append-drop, length-take-le, set-append_right, set_comm, get_or-drop, length-drop}
+use Rattle.std.proofs.lemmas.List.{at_drop_more, take-append-drop, length-take-le, set-append_right, set_comm, length-drop}
 use Rattle.std.proofs.lemmas.List.Concat.{flat_map-append}
 use Rattle.std.proofs.lemmas.List.Sorted.{IsPermutation-refl, IsPermutation-trans, IsPermutation-append_left, IsPermutation-append_right, IsPermutation-append_comm, IsPermutation-keeps}
 use Rattle.std.proofs.Math.Seq.{set-append_seam}
@@ -32,12 +33,7 @@ spread {X} {Y} f us bs cs x y = simp (flat_map-append, append_assoc)
 
 exchanged : {X Y : Type 0} (f : X → List Y) (us bs cs : List X) (x y : X)
     → IsPermutation (flat_map f (us ++ x ∷ (bs ++ y ∷ cs))) (flat_map f (us ++ y ∷ (bs ++ x ∷ cs)))
-exchanged {X} {Y} f us bs cs x y =
-    subst (λ (ys : List Y). IsPermutation ys (flat_map f (us ++ y ∷ (bs ++ x ∷ cs)))) (sym (spread f us bs cs x y))
-    (subst (λ (ys : List Y). IsPermutation (flat_map f us ++ (((f x ++ flat_map f bs) ++ f y) ++ flat_map f cs)) ys)
-    (sym (spread f us bs cs y x))
-    (IsPermutation-append_right (flat_map f us) _ _
-    (IsPermutation-append_left (flat_map f cs) _ _ (ends_exchanged (f x) (flat_map f bs) (f y)))))
+exchanged {X} {Y} f us bs cs x y = grind (arith, spread, IsPermutation-append_right, IsPermutation-append_left, ends_exchanged)
 
 set_twice : {X : Type 0} (l : List X) (i j : ℕ) (d : X) → i < j → j < length l
     → set (set l i (get_or l j d)) j (get_or l i d)
@@ -58,16 +54,7 @@ set_twice {X} l i j d lt within =
 
 split_twice : {X : Type 0} (l : List X) (i j : ℕ) (d : X) → i < j → j < length l
     → l ≡ take i l ++ get_or l i d ∷ (take (j - (i + 1)) (drop (i + 1) l) ++ get_or l j d ∷ drop (j - (i + 1) + 1) (drop (i + 1) l))
-split_twice {X} l i j d lt within =
-    let tail = drop (i + 1) l in
-    let k = j - (i + 1) in
-    let tail_len : length tail ≡ length l - (i + 1) = length-drop (i + 1) l in
-    let k_within : k < length tail = omega arith in
-    let place : i + 1 + k ≡ j = omega arith in
-    let same : get_or tail k d ≡ get_or l j d = get_or-drop (i + 1) l k d ∙ ap (λ n. get_or l n d) place in
-    split_at l i d (omega arith)
-    ∙ ap (λ (xs : List X). take i l ++ get_or l i d ∷ xs) (split_at tail k d k_within)
-    ∙ ap (λ (z : X). take i l ++ get_or l i d ∷ (take k tail ++ z ∷ drop (k + 1) tail)) same
+split_twice {X} l i j d lt within = grind (arith, common_steps)
 
 swapped-up : {X Y : Type 0} (f : X → List Y) (l : List X) (i j : ℕ) (d : X) → i < j → j < length l
     → IsPermutation (flat_map f l) (flat_map f (set (set l i (get_or l j d)) j (get_or l i d)))
@@ -79,25 +66,11 @@ swapped-up {X} f l i j d lt within =
     (exchanged f (take i l) (take (j - (i + 1)) (drop (i + 1) l)) (drop (j - (i + 1) + 1) (drop (i + 1) l)) (get_or l i d) (get_or l j d)))
 
 set_itself : {X : Type 0} (l : List X) (i : ℕ) (d : X) → i < length l → set (set l i (get_or l i d)) i (get_or l i d) ≡ l
-set_itself {X} l i d lt =
-    let same = set_at l i d (get_or l i d) lt ∙ sym (split_at l i d lt) in ap (λ (xs : List X). set xs i (get_or l i d)) same ∙ same
+set_itself {X} l i d lt = grind (arith, common_steps)
 
 swapped : {X Y : Type 0} (f : X → List Y) (l : List X) (i j : ℕ) (d : X) → i < length l → j < length l
     → IsPermutation (flat_map f l) (flat_map f (set (set l i (get_or l j d)) j (get_or l i d)))
-swapped {X} f l i j d in_i in_j = by_order (cases_lt i j) (cases_lt j i)
-  where
-    by_order : (i < j) ⊎ (j ≤ i) → (j < i) ⊎ (i ≤ j)
-        → IsPermutation (flat_map f l) (flat_map f (set (set l i (get_or l j d)) j (get_or l i d)))
-    by_order (inl up) other = swapped-up f l i j d up in_j
-    by_order (inr le) (inl down) =
-        let apart : j ≢ i = omega arith in
-        subst (λ (xs : List X). IsPermutation (flat_map f l) (flat_map f xs)) (set_comm l j i (get_or l i d) (get_or l j d) apart)
-        (swapped-up f l j i d down in_i)
-    by_order (inr le) (inr ge) =
-        let same : i ≡ j = omega arith in
-        subst (λ k. IsPermutation (flat_map f l) (flat_map f (set (set l i (get_or l k d)) k (get_or l i d)))) same
-        (subst (λ (xs : List X). IsPermutation (flat_map f l) (flat_map f xs)) (sym (set_itself l i d in_i))
-        (IsPermutation-refl (flat_map f l)))
+swapped {X} f l i j d in_i in_j = grind (arith, cases_lt, swapped-up, set_comm, set_itself, IsPermutation-refl)
 
 pub flat_map-IsPermutation : {X Y : Type 0} (f : X → List Y) (xs ys : List X) → IsPermutation xs ys
     → IsPermutation (flat_map f xs) (flat_map f ys)

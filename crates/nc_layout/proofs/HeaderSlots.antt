@@ -1,8 +1,8 @@
 -- The slots of a header's variables: which have records, and how many bytes they take.
-use Rattle.std.proofs.Common.{◌≡◌, ℕ, ◌+◌, ◌<◌, ◌≤◌, Bool, true, false, List, [], ◌∷◌, ◌++◌, length, get_or, take, map, sum_by, refl, sym, ◌∙◌, ap, subst, arith, All, if◌then◌else◌}
+use Rattle.std.proofs.Common.{◌≡◌, ℕ, ◌+◌, ◌<◌, ◌≤◌, Bool, List, [], ◌∷◌, ◌++◌, length, get_or, take, map, sum_by, refl, sym, ◌∙◌, ap, subst, arith, All, if◌then◌else◌}
 use Rattle.std.proofs.lemmas.Grind.{common_steps}
-use Rattle.std.proofs.lemmas.List.{take_more, map-append}
-use Rattle.std.proofs.lemmas.List.Elements.{All-append, All-cons, All-head, All-nil, All-tail}
+use Rattle.std.proofs.lemmas.List.{take_more}
+use Rattle.std.proofs.lemmas.List.Elements.{All-cons, All-head, All-nil, All-tail}
 use Rattle.std.proofs.lemmas.List.Sums.{sum-map}
 use Rattle.nc_base.specs.declared.{header.Dim.Dim, header.Header.Header, header.Var.Var}
 use Rattle.nc_base.specs.Sizes.{is_record_var, record_vars, padded_size, padded_total, slab_size, slab_limit}
@@ -24,10 +24,7 @@ pub record AreSlots (dims : List Dim) (vars : List Var) (slots : List Slot) : Ty
 
 slots-push : (dims : List Dim) (vars : List Var) (slots : List Slot) (x : Var) → HasSmallSlab dims x → AreSlots dims vars slots
     → AreSlots dims (vars ++ x ∷ []) (slots ++ slot_of dims x ∷ [])
-slots-push dims vars slots x small so_far = record {
-  are = ap (λ (ss : List Slot). ss ++ slot_of dims x ∷ []) so_far.are ∙ sym (map-append (slot_of dims) vars (x ∷ []));
-  small = All-append (HasSmallSlab dims) vars (x ∷ []) so_far.small (All-cons (HasSmallSlab dims) x [] small (All-nil (HasSmallSlab dims)));
-}
+slots-push dims vars slots x small so_far = grind (arith, common_steps)
 
 -- one more slot
 pub slots-more : (dims : List Dim) (vars : List Var) (i : ℕ) (slots : List Slot) (x : Var) → i < length vars → x ≡ get_or vars i x
@@ -46,8 +43,7 @@ slots-total dims (var ∷ vars) = grind (arith, common_steps, slots-total dims v
 
 pub kept-slot : (keep : Bool) (dims : List Dim) (var : Var) (vars : List Var) (slots : List Slot) → slots ≡ map (slot_of dims) vars
     → (if keep then slot_of dims var ∷ slots else slots) ≡ map (slot_of dims) (if keep then var ∷ vars else vars)
-kept-slot true dims var vars slots e = ap (λ (ss : List Slot). slot_of dims var ∷ ss) e
-kept-slot false dims var vars slots e = e
+kept-slot v0 dims var vars slots e = grind arith
 
 pub record_slots-are : (dims : List Dim) (vars : List Var)
     → record_slots (map (slot_of dims) vars) ≡ map (slot_of dims) (record_vars dims vars)
@@ -64,9 +60,7 @@ record_slots-total dims vars =
 
 small_slabs-of : (dims : List Dim) (vars : List Var) → All IsSoundSlot (map (slot_of dims) vars) → All (HasSmallSlab dims) vars
 small_slabs-of dims [] sound = All-nil (HasSmallSlab dims)
-small_slabs-of dims (var ∷ vars) sound =
-    All-cons (HasSmallSlab dims) var vars (All-head IsSoundSlot (slot_of dims var) (map (slot_of dims) vars) sound).small_slab
-    (small_slabs-of dims vars (All-tail IsSoundSlot (slot_of dims var) (map (slot_of dims) vars) sound))
+small_slabs-of dims (var ∷ vars) sound = grind (arith, small_slabs-of dims vars (All-tail IsSoundSlot (slot_of dims var) (map (slot_of dims) vars) sound), All-cons, All-head, All-tail)
 
 -- the slabs of a sound layout keep the limit
 pub small_slabs : (h : Header) (header_end file_len : ℕ) → IsSoundLayout (layout_of h header_end file_len)

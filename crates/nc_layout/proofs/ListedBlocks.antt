@@ -1,8 +1,7 @@
 -- The blocks of a file are listed in the order of the header, the records last.
-use Rattle.std.proofs.Common.{◌≡◌, ℕ, ◌+◌, ◌≤◌, Bool, true, false, not, List, [], ◌∷◌, ◌++◌, get_or, refl, sym, ◌∙◌, ap, subst, arith, Option, Some, None, inl, inr, if◌then◌else◌}
+use Rattle.std.proofs.Common.{◌≡◌, ℕ, ◌+◌, ◌≤◌, Bool, true, false, not, List, [], ◌∷◌, ◌++◌, get_or, refl, sym, ap, arith, Option, Some, None, inl, inr, if◌then◌else◌}
 use Rattle.std.specs.List.{Contains, AllPairs}
 use Rattle.std.specs.Option.{option_map_or}
-use Rattle.std.proofs.lemmas.Bool.{lt-ltb}
 use Rattle.std.proofs.lemmas.List.{append-nil}
 use Rattle.std.proofs.lemmas.List.Elements.{Contains-get_or}
 use Rattle.std.proofs.lemmas.List.Kept.{AllPairs-cons}
@@ -36,8 +35,7 @@ fixed_from (slot ∷ slots) i b has = by_kind slot.is_record has (λ h. fixed_fr
         ]
 
 listed-from : (i : ℕ) (a b : Extent) → a.block ≡ Var i → IsSlotBlock (i + 1) b → Listed a b
-listed-from i a b is h =
-    ap (λ x. is_listed_before x b.block) is ∙ ap (is_listed_before (Var i)) h.is ∙ lt-ltb i h.index (omega (arith, h.from))
+listed-from i a b is h = grind arith
 
 fixed-listed : (slots : List Slot) (i : ℕ) → AllPairs Listed (each_slot fixed_block i slots)
 fixed-listed [] i = λ j k d lt within. absurd (omega arith)
@@ -57,8 +55,7 @@ fixed-listed (slot ∷ slots) i = by_kind slot.is_record (fixed-listed slots (i 
 
 with_records : (slots : List Slot) (n : ℕ) (begin : Option ℕ)
     → AllPairs Listed (each_slot fixed_block 0 slots ++ option_map_or (λ b. records_block slots n b ∷ []) begin [])
-with_records slots n None = subst (λ (bs : List Extent). AllPairs Listed bs) (sym (append-nil (each_slot fixed_block 0 slots)))
-    (fixed-listed slots 0)
+with_records slots n None = grind (arith, append-nil, fixed-listed)
 with_records slots n (Some begin) =
     all_pairs_push Listed (each_slot fixed_block 0 slots) (records_block slots n begin) (fixed-listed slots 0)
     (λ k d lt. last (get_or (each_slot fixed_block 0 slots) k d)

@@ -69,11 +69,7 @@ fold_min-le n (m ∷ ns) = let h = fold_min-le (min n m) ns in omega arith
 
 least-small : (rs : List Slot) (b : ℕ) → All IsSoundSlot rs → least (map (λ (slot : Slot). slot.begin) rs) ≡ Some b → b < 2 ^ 63
 least-small [] b sound is = cc
-least-small (slot ∷ rs) b sound is =
-    let first = All-head IsSoundSlot slot rs sound in
-    let h = fold_min-le slot.begin (map (λ (slot : Slot). slot.begin) rs) in
-    let e : fold min slot.begin (map (λ (slot : Slot). slot.begin) rs) ≡ b = cc in
-    omega (arith, first.small_begin)
+least-small (slot ∷ rs) b sound is = grind (arith, All-head, fold_min-le)
 
 pub records_begin-small : (slots : List Slot) (b : ℕ) → All IsSoundSlot slots → records_begin slots ≡ Some b → b < 2 ^ 63
 unfolding records_begin
@@ -98,20 +94,12 @@ greatest-ge a xs = greatest_from-ge (λ (slot : Slot). slot.begin) a (filter is_
 -- where no slot begins as late as m, none begins at m
 none_above : (xs : List Slot) (a m : ℕ) → greatest_from a xs < m → prefix_len (fails m) xs ≡ length xs
 none_above [] a m small = refl
-none_above (x ∷ xs) a m small =
-    grind (
-      arith,
-      common_steps,
-      greatest-ge (max a x.begin) xs,
-      none_above xs a m,
-      none_above xs (max a x.begin) m,
-    )
+none_above (x ∷ xs) a m small = grind (arith, none_above xs a m, none_above xs (max a x.begin) m, greatest-ge)
 
 -- a slot begins at the greatest begin, unless that is the number
 attained : (xs : List Slot) (a m : ℕ) → m ≡ greatest_from a xs → a < m → prefix_len (fails m) xs < length xs
 attained [] a m is more = absurd (omega arith)
-attained (x ∷ xs) a m is more =
-    grind (arith, common_steps, greatest-ge (max a x.begin) xs, attained xs a m, attained xs (max a x.begin) m)
+attained (x ∷ xs) a m is more = grind (arith, attained xs a m, attained xs (max a x.begin) m, greatest-ge)
 
 greatest_begin-push : (xs : List Slot) (y : Slot) → y.is_record ≡ false → greatest_begin (xs ++ y ∷ []) ≡ max (greatest_begin xs) y.begin
 greatest_begin-push xs y is = simp (filter-append, map-append, fold-append) (grind arith)

@@ -1,6 +1,6 @@
 -- What is left of a list of slots in a loop, one slot on.
-use Rattle.std.proofs.Common.{◌≡◌, ℕ, ◌+◌, ◌<◌, ◌≤◌, min, Bool, true, false, List, [], ◌∷◌, length, get_or, drop, map, fold, sum_by, refl, ◌∙◌, ap, arith, Option, Some, None, ◌^◌, if◌then◌else◌}
-use Rattle.std.proofs.lemmas.List.{at_drop_more}
+use Rattle.std.proofs.lemmas.Grind.{common_steps}
+use Rattle.std.proofs.Common.{◌≡◌, ℕ, ◌+◌, ◌<◌, ◌≤◌, min, Bool, true, List, [], ◌∷◌, length, get_or, drop, map, fold, sum_by, refl, ◌∙◌, ap, arith, Option, Some, None, ◌^◌}
 use Rattle.std.proofs.lemmas.List.Sums.{sum_by-cons, sum_by-le-sum_by}
 use Rattle.nc_layout.specs.declared.slot.Slot.{Slot}
 use Rattle.nc_layout.specs.Slots.{padded_slab, is_sole_narrow, record_slots, slab_in_record, record_size, records_begin, least}
@@ -12,8 +12,7 @@ rest slots i = record_slots (drop i slots)
 
 pub rest-taken : (slots : List Slot) (i : ℕ) (d : Slot) → i < length slots → (get_or slots i d).is_record ≡ true
     → rest slots i ≡ get_or slots i d ∷ rest slots (i + 1)
-rest-taken slots i d lt is =
-    at_drop_more record_slots slots i d lt ∙ ap (λ b. if b then get_or slots i d ∷ rest slots (i + 1) else rest slots (i + 1)) is
+rest-taken slots i d lt is = grind (arith, common_steps)
 
 -- ---- the least begin
 
@@ -46,8 +45,7 @@ unfolding record_size
 record_size-is slots narrow is = slab_in_record-is slots narrow is (record_slots slots)
 
 slab_if-le : (narrow : Bool) (slot : Slot) → slab_if narrow slot ≤ padded_slab slot
-slab_if-le true slot = omega arith
-slab_if-le false slot = omega arith
+slab_if-le v0 slot = grind arith
 
 -- a record isn't larger than its padded slabs
 pub record_size-le : (slots : List Slot) → record_size slots ≤ sum_by padded_slab (record_slots slots)

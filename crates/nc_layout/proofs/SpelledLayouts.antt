@@ -1,7 +1,7 @@
 -- A header that bytes spell, by whatever rules, has a sound layout.
-use Rattle.std.proofs.Common.{◌≡◌, ℕ, zero, suc, ◌+◌, ◌^◌, ◌<◌, ◌≤◌, Bool, true, false, List, [], ◌∷◌, ◌++◌, length, refl, sym, subst, append_assoc, append-nil, arith, ◌==◌, if◌then◌else◌, Result, Ok, Err, All}
+use Rattle.std.proofs.lemmas.Grind.{common_steps}
+use Rattle.std.proofs.Common.{◌≡◌, ℕ, zero, suc, ◌+◌, ◌^◌, ◌<◌, ◌≤◌, Bool, true, List, [], ◌∷◌, ◌++◌, length, sym, subst, append_assoc, append-nil, arith, if◌then◌else◌, Result, Ok, Err, All}
 use Rattle.std.proofs.lemmas.Bool.{ltb-true, leb-true}
-use Rattle.std.proofs.lemmas.List.{nil_from_length}
 use Rattle.std.proofs.lemmas.List.Elements.{All-nil, All-cons, All-append, All-map}
 use Rattle.nc_base.specs.declared.{fault.FormatFault.FormatFault, header.Dim.Dim, header.Var.Var, header.Header.Header, version.Version.Version}
 use Rattle.nc_base.specs.Bytes.{Bytes}
@@ -9,7 +9,7 @@ use Rattle.nc_base.specs.Versions.{offset_limit}
 use Rattle.nc_base.specs.Sizes.{record_limit, record_vars, padded_total}
 use Rattle.nc_base.specs.Headers.{IsDimid, AreDimids}
 use Rattle.nc_base.specs.Parts.{Part, Spells}
-use Rattle.nc_base.specs.Grammar.{Rules, offset_part, each, counted, list_part, is_dimid, dimid_part, dimid_after, shape_part, is_within_limits, var_part, var_after, var_list, header_by}
+use Rattle.nc_base.specs.Grammar.{Rules, offset_part, each, counted, list_part, dimid_part, dimid_after, shape_part, is_within_limits, var_part, var_after, var_list, header_by}
 use Rattle.nc_base.proofs.SoundLaws.{some_product, some_count, some_size}
 use Rattle.nc_base.proofs.Printable.{total-append, one-total}
 use Rattle.nc_base.proofs.Tests.{and_parts}
@@ -20,8 +20,7 @@ use Rattle.nc_layout.proofs.HeaderSlots.{record_slots-total}
 -- a test that was passed
 passed : {A : Type 0} (b : Bool) (x y : A) (wrong : FormatFault) → ◌≡◌ {A = Result A FormatFault} (if b then Ok x else Err wrong) (Ok y)
     → (b ≡ true) × (x ≡ y)
-passed true x y wrong e = (refl, cc)
-passed false x y wrong e = absurd cc
+passed v0 x y wrong e = grind arith
 
 -- ---- lists
 
@@ -32,28 +31,19 @@ each-keeps : {A : Type 0} (element : List A → Part A) (P : List A → Type 0)
     → P all
 unfolding Spells each
 each-keeps element P step zero before from all rest s kept = subst P (sym s.0) kept
-each-keeps element P step (suc n) before from all rest (x, middle, s, t) kept =
-    each-keeps element P step n (before ++ x ∷ []) middle all rest t (step before from x middle s kept)
+each-keeps element P step (suc n) before from all rest (x, middle, s, t) kept = grind (arith, each-keeps element P step n (before ++ x ∷ []) middle all rest t (step before from x middle s kept))
 
 -- ---- shapes
-
-is-dimid : (dims : List Dim) (before : List ℕ) (id : ℕ) → is_dimid dims (length before == 0) id ≡ true → IsDimid dims before id
-is-dimid dims before id e = grind (arith, nil_from_length)
 
 dimid-spelled : (v : Version) (dims : List Dim) (before : List ℕ) (from : Bytes) (id : ℕ) (rest : Bytes)
     → Spells (dimid_after v dims before) from id rest → IsDimid dims before id
 unfolding Spells dimid_part
-dimid-spelled v dims before from id rest (k, s, e) =
-    let p = passed _ k id _ e in is-dimid dims before id (subst (λ k. is_dimid dims (length before == 0) k ≡ true) p.1 p.0)
+dimid-spelled v dims before from id rest v6 = grind (arith, common_steps)
 
 dimids-push : (dims : List Dim) (before ids : List ℕ) (id : ℕ) → AreDimids dims before ids → IsDimid dims (before ++ ids) id
     → AreDimids dims before (ids ++ id ∷ [])
 dimids-push dims before [] id known is = (subst (λ ids. IsDimid dims ids id) (append-nil before) is, tt)
-dimids-push dims before (next ∷ ids) id known is = (
-  known.0,
-  dimids-push dims (before ++ next ∷ []) ids id known.1
-      (subst (λ ids. IsDimid dims ids id) (sym (append_assoc before (next ∷ []) ids)) is),
-)
+dimids-push dims before (next ∷ ids) id known is = grind (arith, dimids-push dims (before ++ next ∷ []) ids id known.1 (subst (λ ids. IsDimid dims ids id) (sym (append_assoc before (next ∷ []) ids)) is))
 
 shape-spelled : (v : Version) (dims : List Dim) (from : Bytes) (ids : List ℕ) (rest : Bytes) → Spells (shape_part v dims) from ids rest
     → AreDimids dims [] ids
@@ -84,16 +74,7 @@ record AreWithinLimits (dims : List Dim) (vars : List Var) : Type 0 where
 var-sound : (dims : List Dim) (before : List Var) (var : Var) → AreDimids dims [] var.dimids → var.begin_at < 2 ^ 63
     → is_within_limits dims (padded_total dims (record_vars dims before)) var.dimids var.ty ≡ true
     → HasSoundSlot dims var × (padded_total dims (record_vars dims (before ++ var ∷ [])) ≤ record_limit)
-var-sound dims before var shape begin within =
-    let both = and_parts _ _ within in
-    let below = leb-true _ _ both.1 in (
-      record {
-        some_bytes = some_product _ _ (some_count dims var.dimids shape) (some_size var.ty);
-        small_slab = leb-true _ _ both.0;
-        small_begin = begin;
-      },
-      omega (arith, total-append dims before (var ∷ []), one-total dims var, below),
-    )
+var-sound dims before var shape begin within = grind (arith, and_parts, leb-true, some_product, some_count, some_size, total-append, one-total)
 
 var-spelled : (r : Rules) (v : Version) (dims : List Dim) (before : List Var) (from : Bytes) (x : Var) (rest : Bytes)
     → Spells (var_after r v dims before) from x rest → AreWithinLimits dims before → AreWithinLimits dims (before ++ x ∷ [])

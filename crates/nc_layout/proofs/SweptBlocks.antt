@@ -12,7 +12,7 @@ use Rattle.nc_layout.specs.declared.{finding.LayoutFinding.LayoutFinding, blocks
 use Rattle.nc_layout.specs.Blocks.{precedes, before}
 use Rattle.nc_layout.specs.BlockRules.{greatest_end, first_block, first_at_end, findings_after, block_findings}
 use Rattle.nc_layout.specs.code.Sweep.{value_end, padding_end, further, reached_with, end_of, findings_at, swept}
-use Rattle.nc_layout.proofs.BlockOrder.{precedes-asym, precedes-irrefl, Ascending, contains-here, contains-there, contains-cases, contains-none, each-one, contains-filter, filter-contains}
+use Rattle.nc_layout.proofs.BlockOrder.{precedes-asym, precedes-irrefl, Ascending, contains-here, contains-there, contains-cases, contains-none, contains-filter, filter-contains}
 use Rattle.nc_layout.proofs.FlatPermutation.{flat_map-IsPermutation}
 
 -- ---- the greatest end
@@ -123,11 +123,7 @@ furthest-kept end bs c b h below less = record {
 }
 
 furthest-only : (end : Extent → ℕ) (b : Extent) → IsFurthest end (b ∷ []) b
-furthest-only end b = record {
-  among = contains-here b [];
-  most = λ d has. each-one (λ (x : Extent). end x ≤ end b) b (omega arith) d has;
-  first = λ d has same. inl (each-one (λ (x : Extent). b ≡ x) b refl d has);
-}
+furthest-only end b = grind arith
 
 -- one more block, which all others precede
 furthest-more : (end : Extent → ℕ) (bs : List Extent) (o : Option Extent) (b : Extent) → Furthest end bs o
