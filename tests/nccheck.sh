@@ -29,11 +29,23 @@ stdout '2 checked: 1 with errors, 0 with violations, 0 with notes, 1 with nothin
 stderr 'nccheck: none.nc: cannot open\nnccheck: dir: cannot open\n'
 run "$nccheck" -q -s none.nc dir cut.nc stations.nc
 verdict summary 2
+# Paths on standard input
+stdout "cut.nc:500: error: $missing
+cut.nc:500: error: $missing
+3 checked: 2 with errors, 0 with violations, 0 with notes, 1 with nothing to report; 3 not checked\n"
+stderr 'nccheck: none.nc: cannot open\nnccheck: caf\351.nc: cannot open\nnccheck: : cannot open\n'
+run bash -c 'printf "caf\351.nc\0\0stations.nc\0cut.nc" | "$0" -0 -s cut.nc none.nc' "$nccheck"
+verdict list_after_the_words 2
+run bash -c '"$0" -0 </dev/null' "$nccheck"
+verdict empty_list 0
+stderr 'nccheck: -: read failed\n'
+run bash -c '"$0" -0 <.' "$nccheck"
+verdict list_that_cannot_be_read 2
 stdout "nccheck $(cat "$top/VERSION")\n"
 run "$nccheck" -q none.nc -V -h
 verdict version_is_that_of_the_file_VERSION 0
 run bash -c '"$0" -h | head -n 1' "$nccheck"
-stdout 'usage: nccheck [-q] [-s] [-l level] [-i kinds] [file ...]\n'
+stdout 'usage: nccheck [-q] [-s] [-0] [-l level] [-i kinds] [file ...]\n'
 verdict help_begins_with_the_usage 0
 stderr 'nccheck: -q: cannot open\n'
 run "$nccheck" -- -q
@@ -41,12 +53,12 @@ verdict file_that_begins_with_a_dash 2
 run "$nccheck" -i missing,gap cut.nc
 verdict ignored_kinds 0
 for words in '' '-x cut.nc' '-i wrong cut.nc' '-l bad cut.nc' '-l' '-l note -l error cut.nc'; do
-    stderr 'usage: nccheck [-q] [-s] [-l level] [-i kinds] [file ...]\n'
+    stderr 'usage: nccheck [-q] [-s] [-0] [-l level] [-i kinds] [file ...]\n'
     # shellcheck disable=SC2086
     run "$nccheck" $words
     verdict "usage_of${words:+_}${words// /_}" 2
 done
-stderr 'usage: nccheck [-q] [-s] [-l level] [-i kinds] [file ...]\n'
+stderr 'usage: nccheck [-q] [-s] [-0] [-l level] [-i kinds] [file ...]\n'
 run "$nccheck" cut.nc $'caf\351.nc'
 verdict word_that_is_not_utf_8 2
 stderr 'nccheck: write failed\nnccheck: write failed\n'
@@ -76,6 +88,14 @@ mkdir many
 for n in {1..1000}; do cp cut.nc "many/$n.nc"; done
 run bash -c 'ulimit -v 20000 && "$0" -q many/*.nc' "$nccheck"
 verdict many_files 1
+
+# A list of ten thousand files too, which is checked as it is read: the first file has its line before the list has ended.
+run bash -c 'ulimit -v 20000 && for _ in {1..10}; do printf "%s\0" many/*.nc; done | "$0" -q -0' "$nccheck"
+verdict long_list 1
+stdout "cut.nc:500: error: $missing\n"
+run bash -c '{ printf "cut.nc\0"; for _ in {1..50}; do [ -s line ] && exit; sleep 0.1; done; printf "late\0"; } | "$0" -0 | tee line
+    exit "${PIPESTATUS[1]}"' "$nccheck"
+verdict list_that_goes_on 1
 
 # Each word of a long command line is checked, in its order.
 for n in {1..1000}; do echo "many/$n.nc:500: error: $missing"; done >"$work/want/stdout"

@@ -192,12 +192,17 @@ stdout 'look\n'
 recipe 'nccheck -q f.nc'
 verdict cut_file_to_look_at 0
 cp "$samples/stations.nc" whole.nc
-recipe 'xargs'
-verdict archive 123
+recipe 'nccheck -0 -s'
+verdict archive 1
 run cat report trouble
 stdout './f.nc:500: error: missing: var[2] "temperature" record 2: found 500 bytes, expected at least 504
 2 checked: 1 with errors, 0 with violations, 0 with notes, 1 with nothing to report; 0 not checked\n'
 verdict archive_has_a_cut_file 0
+recipe 'xargs'
+verdict archive_by_four_processes 123
+run cat report
+stdout './f.nc:500: error: missing: var[2] "temperature" record 2: found 500 bytes, expected at least 504\n'
+verdict archive_has_a_cut_file_again 0
 
 # Each example that begins with a prompt or as a rule of make has been run.
 first_lines() {

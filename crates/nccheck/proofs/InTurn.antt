@@ -1,21 +1,20 @@
--- A run over one path after another.
-use Rattle.std.proofs.Common.{◌≡◌, ℕ, ◌+◌, ◌<◌, ◌≤◌, ◌||◌, ◌&&◌, not, nat_lt, if◌then◌else◌, inl, inr, true, false, Bool, List}
-use Rattle.std.proofs.Common.{[], ◌∷◌, ◌++◌, length, get_or, drop, refl, sym, ap, ◌∙◌, subst, Option, Some, None, Result, Ok, Err, append_assoc, arith}
+-- A run over one item after another.
+use Rattle.std.proofs.Common.{◌≡◌, ℕ, ◌+◌, ◌||◌, ◌&&◌, not, nat_lt, if◌then◌else◌, inl, inr, true, false, Bool, List}
+use Rattle.std.proofs.Common.{[], ◌∷◌, ◌++◌, refl, sym, ap, ◌∙◌, subst, fold, Option, Some, None, Result, Ok, Err, arith}
 use Rattle.std.specs.Bool.{OnTrue}
-use Rattle.std.proofs.lemmas.List.{append-nil, drop_all, drop_more}
 use Rattle.std.proofs.lemmas.List.Folds.{list_any-append}
 use Rattle.std.proofs.lemmas.List.Sums.{fold-append}
-use Rattle.std.specs.Borrow.{Bor}
 use Rattle.nc_base.specs.Bytes.{Bytes}
-use Rattle.nc_check.specs.declared.kind.Severity.TheVariants.{Error, Violation, Note}
-use Rattle.cli_base.specs.Arguments.{texts_of}
 use Rattle.devices.specs.Openers.{OpenerView}
 use Rattle.devices.specs.Sinks.{SinkView}
+use Rattle.devices.specs.code.PathOpens.{NamesAsBefore}
 use Rattle.devices.specs.code.SinkWrites.{Written}
 use Rattle.nccheck.specs.CommandLine.{Asked}
-use Rattle.nccheck.specs.Runs.{ChecksNamed, ChecksNone, ChecksPath, Either, ends_run, has_ended, IsTold, Openings, openings, RunsOver, State}
-use Rattle.nccheck.specs.Tallies.{Answer, counted, no_files, status_of, tally_of, total}
-use Rattle.nccheck.specs.code.Counts.{IsCount}
+use Rattle.nccheck.specs.PathLists.{is_path, Item, Path, Unread}
+use Rattle.nccheck.specs.Runs.{ChecksItem, ChecksNamed, ChecksNone, ChecksPath, Either, ends_run, Fails, has_ended, IsTold, Openings, openings, RunsOver, State}
+use Rattle.nccheck.specs.Tallies.{Answer, counted, status_of}
+use Rattle.nccheck.specs.code.Counts.{Counts, IsCount}
+use Rattle.nccheck.specs.declared.fault.FileFault.TheVariants.{CannotOpen}
 use Rattle.nccheck.specs.declared.tally.Tally.{Tally}
 
 -- the line of a fault was written, whatever the call answered
@@ -23,8 +22,37 @@ pub is_told : {X E : Type 0} (old new : SinkView) (text : Bytes) (result : Resul
 is_told old new text (Ok done) written = inl written
 is_told old new text (Err failure) written = inr written
 
+-- ---- either of two
+
+pub either_first : (b : Bool) (First Second : Type 0) → b ≡ true → First → Either b First Second
+either_first true First Second is first = first
+either_first false First Second is first = absurd cc
+
+pub either_second : (b : Bool) (First Second : Type 0) → b ≡ false → Second → Either b First Second
+either_second true First Second is second = absurd cc
+either_second false First Second is second = second
+
+either_map : (b : Bool) (First Second First' Second' : Type 0) → (First → First') → (Second → Second') → Either b First Second → Either b First' Second'
+either_map true First Second First' Second' f g x = f x
+either_map false First Second First' Second' f g x = g x
+
+either_second_map : (b : Bool) (First Second Second' : Type 0) → (Second → Second') → Either b First Second → Either b First Second'
+either_second_map b First Second Second' g x = either_map b First Second First Second' (λ (y : First). y) g x
+
+-- a run that a fault has ended, here or later
+ended_map : (b e : Bool) (First Second Second' : Type 0) → (b || e) ≡ true → (e ≡ true → Second → Second') → Either b First Second → Either b First Second'
+ended_map true e First Second Second' is g x = x
+ended_map false e First Second Second' is g x = g is x
+
+-- a run that none has ended
+going_map : (b e : Bool) (First Second First' Second' : Type 0) → (b || e) ≡ false → (e ≡ false → Second → Second') → Either b First Second → Either b First' Second'
+going_map true e First Second First' Second' is g x = absurd cc
+going_map false e First Second First' Second' is g x = g is x
+
+-- ---- what paths name
+
 -- what a path names at this time is what it named at first
-pub from_first : {P : Type 0} (is_transparent : Bool) (first now : Bytes → Option Bytes) (view : P → OpenerView) (a : Asked) (file : Bytes)
+from_first : {P : Type 0} (is_transparent : Bool) (first now : Bytes → Option Bytes) (view : P → OpenerView) (a : Asked) (file : Bytes)
     (old new : State P) (answer : Answer) → now file ≡ first file
     → ChecksPath (openings is_transparent now view) a file old new answer → ChecksPath (openings is_transparent first view) a file old new answer
 from_first is_transparent first now view a file old new answer same c = record {
@@ -34,82 +62,94 @@ from_first is_transparent first now view a file old new answer same c = record {
   tells = c.tells;
 }
 
--- what a run over the paths so far keeps: whatever a run over the others does, all has been done by both
-abbrev pub RunsUpTo : {P : Type 0} → Openings P → Asked → List Bytes → List Bytes → State P → State P → List Answer → Type 0
-RunsUpTo {P = P} o a files others old now done =
-    (new : State P) (more : List Answer) → RunsOver o a others now new more → RunsOver o a files old new (done ++ more)
+module _ {P : Type 0} (is_transparent : Bool) (first now : Bytes → Option Bytes) (view : P → OpenerView) (a : Asked) (same : NamesAsBefore first now) where
+  item_named : (item : Item) (old new : State P) (answer : Answer)
+      → ChecksItem (openings is_transparent now view) a item old new answer → ChecksItem (openings is_transparent first view) a item old new answer
+  item_named (Path file) old new answer c =
+      let failed = Fails file CannotOpen old new answer in
+      either_map (is_path file) (ChecksPath (openings is_transparent now view) a file old new answer) failed
+      (ChecksPath (openings is_transparent first view) a file old new answer) failed
+      (from_first is_transparent first now view a file old new answer (same file)) (λ (x : failed). x) c
+  item_named Unread old new answer c = c
 
--- one more path was checked, and the run goes on
-up_next : {P : Type 0} (o : Openings P) (a : Asked) (files : List Bytes) (file : Bytes) (others : List Bytes)
-    (old now next : State P) (done : List Answer) (answer : Answer)
-    → RunsUpTo o a files (file ∷ others) old now done → ChecksPath o a file now next answer → ends_run answer ≡ false
-    → RunsUpTo o a files others old next (done ++ answer ∷ [])
-up_next {P = P} o a files file others old now next done answer up checks goes_on new more runs =
-    subst (λ (answers : List Answer). RunsOver o a files old new answers) (sym (append_assoc done (answer ∷ []) more))
-    (up new (answer ∷ more) (record {
-      mid = next;
-      answer = answer;
-      others = more;
-      first = checks;
-      goes_on = subst (λ (b : Bool). Either b (ChecksNone next new more) (RunsOver o a others next new more)) (sym goes_on) runs;
-      all = refl;
-    }))
+  runs_named : (items : List Item) (old new : State P) (answers : List Answer)
+      → RunsOver (openings is_transparent now view) a items old new answers → RunsOver (openings is_transparent first view) a items old new answers
+  runs_named [] old new answers r = r
+  runs_named (item ∷ items) old new answers r = record {
+    mid = r.mid;
+    answer = r.answer;
+    others = r.others;
+    first = item_named item old r.mid r.answer r.first;
+    goes_on = either_second_map (ends_run r.answer) (ChecksNone r.mid new r.others) _ _ (runs_named items r.mid new r.others) r.goes_on;
+    all = r.all;
+  }
 
--- one more path was checked, and the run ends there
-up_end : {P : Type 0} (o : Openings P) (a : Asked) (files : List Bytes) (file : Bytes) (others : List Bytes)
-    (old now next : State P) (done : List Answer) (answer : Answer)
-    → RunsUpTo o a files (file ∷ others) old now done → ChecksPath o a file now next answer → ends_run answer ≡ true
-    → RunsOver o a files old next (done ++ answer ∷ [])
-up_end {P = P} o a files file others old now next done answer up checks ends =
-    up next (answer ∷ []) (record {
-      mid = next;
-      answer = answer;
-      others = [];
-      first = checks;
-      goes_on = subst (λ (b : Bool). Either b (ChecksNone next next []) (RunsOver o a others next next [])) (sym ends) (record { same = refl; none = refl });
-      all = refl;
-    })
+  pub counts_named : (items : List Item) (old new : State P) (before : Tally) (after : Option Tally)
+      → Counts (openings is_transparent now view) a items old new before after → Counts (openings is_transparent first view) a items old new before after
+  counts_named items old new before after c = record { answers = c.answers; runs = runs_named items old new c.answers c.runs; counts = c.counts }
 
--- no path is left
-up_all : {P : Type 0} (o : Openings P) (a : Asked) (files others : List Bytes) (old now : State P) (done : List Answer)
-    → others ≡ [] → RunsUpTo o a files others old now done → RunsOver o a files old now done
-up_all {P = P} o a files others old now done none up =
-    subst (λ (answers : List Answer). RunsOver o a files old now answers) (append-nil done)
-    (up now [] (subst (λ (left : List Bytes). RunsOver o a left now now []) (sym none) (record { same = refl; none = refl })))
+-- ---- one run after another
+
+module _ {P : Type 0} (o : Openings P) (a : Asked) where
+  runs_then : (items others : List Item) (old mid new : State P) (done more : List Answer) → RunsOver o a items old mid done
+      → has_ended done ≡ false → RunsOver o a others mid new more → RunsOver o a (items ++ others) old new (done ++ more)
+  runs_then [] others old mid new done more r none next =
+      subst (λ (answers : List Answer). RunsOver o a others old new (answers ++ more)) (sym r.none)
+      (subst (λ (start : State P). RunsOver o a others start new more) r.same next)
+  runs_then (item ∷ items) others old mid new done more r none next = record {
+    mid = r.mid;
+    answer = r.answer;
+    others = r.others ++ more;
+    first = r.first;
+    goes_on = going_map _ (has_ended r.others) _ _ _ _ (ap has_ended (sym r.all) ∙ none)
+        (λ still x. runs_then items others r.mid mid new r.others more x still next) r.goes_on;
+    all = ap (λ (answers : List Answer). answers ++ more) r.all;
+  }
+
+  -- after a fault nothing else is checked
+  runs_stop : (items others : List Item) (old new : State P) (done : List Answer) → RunsOver o a items old new done
+      → has_ended done ≡ true → RunsOver o a (items ++ others) old new done
+  runs_stop [] others old new done r ended = let none : has_ended done ≡ false = ap has_ended r.none in absurd cc
+  runs_stop (item ∷ items) others old new done r ended = record {
+    mid = r.mid;
+    answer = r.answer;
+    others = r.others;
+    first = r.first;
+    goes_on = ended_map _ (has_ended r.others) _ _ _ (ap has_ended (sym r.all) ∙ ended)
+        (λ later x. runs_stop items others r.mid new r.others x later) r.goes_on;
+    all = r.all;
+  }
+
+  -- one item
+  runs_one : (item : Item) (old new : State P) (answer : Answer) → ChecksItem o a item old new answer → RunsOver o a (item ∷ []) old new (answer ∷ [])
+  runs_one item old new answer checks = record {
+    mid = new;
+    answer = answer;
+    others = [];
+    first = checks;
+    goes_on = both (ends_run answer) _ (record { same = refl; none = refl });
+    all = refl;
+  }
+    where
+      both : (b : Bool) (First : Type 0) → First → Either b First First
+      both true First x = x
+      both false First x = x
 
 -- ---- counted
 
--- the paths so far, of which there are n, and how many came to what
-pub record CountsUpTo {P : Type 0} (o : Openings P) (a : Asked) (files others : List Bytes) (old now : State P) (tally : Tally) (n : ℕ)
-    : Type 0 where
-  pub done : List Answer
-  pub up_to : RunsUpTo o a files others old now done
-  pub is : tally ≡ tally_of done
-  pub goes_on : has_ended done ≡ false
-  pub few : total tally ≤ n
+ended_then : (done more : List Answer) → has_ended done ≡ false → has_ended (done ++ more) ≡ has_ended more
+ended_then done more none = list_any-append ends_run done more ∙ ap (λ (b : Bool). b || has_ended more) none
 
-pub counts_start : {P : Type 0} (o : Openings P) (a : Asked) (files : List Bytes) (old : State P) → CountsUpTo o a files files old old no_files 0
-counts_start o a files old =
-    record { done = []; up_to = λ new more runs. runs; is = refl; goes_on = refl; few = omega arith }
-
-tally_next : (done : List Answer) (answer : Answer) → tally_of (done ++ answer ∷ []) ≡ counted (tally_of done) answer
-tally_next done answer = fold-append counted no_files done (answer ∷ [])
-
-alone : (a b : Bool) → a ≡ b → (a || false) ≡ b
-alone true b is = is
-alone false b is = is
-
-ended_next : (done : List Answer) (answer : Answer) (b : Bool) → has_ended done ≡ false → ends_run answer ≡ b
-    → has_ended (done ++ answer ∷ []) ≡ b
-ended_next done answer b none is =
-    list_any-append ends_run done (answer ∷ []) ∙ ap (λ x. x || (ends_run answer || false)) none ∙ alone (ends_run answer) b is
-
-total_next : (t : Tally) (answer : Answer) → total (counted t answer) ≡ total t + 1
-total_next t (Ok (Some Error)) = omega arith
-total_next t (Ok (Some Violation)) = omega arith
-total_next t (Ok (Some Note)) = omega arith
-total_next t (Ok None) = omega arith
-total_next t (Err fault) = omega arith
+count_then : (first mid : Tally) (done more : List Answer) (after : Option Tally) → IsCount first done (Some mid) → IsCount mid more after
+    → IsCount first (done ++ more) after
+count_then first mid done more (Some after) one two = (
+  two.0 ∙ ap (λ (t : Tally). fold counted t more) one.0 ∙ sym (fold-append counted first done more),
+  ended_then done more one.1 ∙ two.1,
+)
+count_then first mid done more None one two = (
+  ended_then done more one.1 ∙ two.0,
+  ap status_of (fold-append counted first done more ∙ ap (λ (t : Tally). fold counted t more) (sym one.0)) ∙ two.1,
+)
 
 -- after an answer that ends the run, a path was not checked
 ended_status : (t : Tally) (answer : Answer) → ends_run answer ≡ true → status_of (counted t answer) ≡ 2
@@ -119,41 +159,49 @@ ended_status t (Err fault) ends = trouble t.not_checked _
     trouble : (n k : ℕ) → (if nat_lt 0 (n + 1) then 2 else k) ≡ 2
     trouble n k = grind arith
 
--- the next path of those that are left
-texts_left : (xs : List (Bor Bytes)) (i : ℕ) (d : Bor Bytes) → i < length xs
-    → texts_of (drop i xs) ≡ (get_or xs i d).now ∷ texts_of (drop (i + 1) xs)
-texts_left xs i d lt = ap texts_of (drop_more xs i d lt)
+alone : (a b : Bool) → a ≡ b → (a || false) ≡ b
+alone true b is = is
+alone false b is = is
 
-module _ {P : Type 0} (o : Openings P) (a : Asked) (files : List Bytes) (xs : List (Bor Bytes)) (i : ℕ) where
-  -- in a loop over the paths: the run goes on
-  pub loop_next : (d : Bor Bytes) (old now next : State P) (tally : Tally) (answer : Answer) → i < length xs
-      → CountsUpTo o a files (texts_of (drop i xs)) old now tally i → ChecksPath o a (get_or xs i d).now now next answer → ends_run answer ≡ false
-      → CountsUpTo o a files (texts_of (drop (i + 1) xs)) old next (counted tally answer) (i + 1)
-  loop_next d old now next tally answer lt c checks goes_on = record {
-    done = c.done ++ answer ∷ [];
-    up_to = up_next o a files (get_or xs i d).now (texts_of (drop (i + 1) xs)) old now next c.done answer
-        (subst (λ (left : List Bytes). RunsUpTo o a files left old now c.done) (texts_left xs i d lt) c.up_to) checks goes_on;
-    is = ap (λ (t : Tally). counted t answer) c.is ∙ sym (tally_next c.done answer);
-    goes_on = ended_next c.done answer false c.goes_on goes_on;
-    few = omega (arith, total_next tally answer, c.few);
+module _ {P : Type 0} (o : Openings P) (a : Asked) where
+  pub counts_none : (now : State P) (tally : Tally) → Counts o a [] now now tally (Some tally)
+  counts_none now tally = record { answers = []; runs = record { same = refl; none = refl }; counts = (refl, refl) }
+
+  -- one item, after which the run goes on
+  pub counts_one : (item : Item) (old new : State P) (tally : Tally) (answer : Answer) → ChecksItem o a item old new answer
+      → ends_run answer ≡ false → Counts o a (item ∷ []) old new tally (Some (counted tally answer))
+  counts_one item old new tally answer checks goes_on = record {
+    answers = answer ∷ [];
+    runs = runs_one o a item old new answer checks;
+    counts = (refl, alone (ends_run answer) false goes_on);
   }
 
-  -- the run ends
-  pub loop_end : (d : Bor Bytes) (old now next : State P) (tally : Tally) (answer : Answer) → i < length xs
-      → CountsUpTo o a files (texts_of (drop i xs)) old now tally i → ChecksPath o a (get_or xs i d).now now next answer → ends_run answer ≡ true
-      → (answers : List Answer) × RunsOver o a files old next answers × IsCount answers None
-  loop_end d old now next tally answer lt c checks ends = (
-    c.done ++ answer ∷ [],
-    up_end o a files (get_or xs i d).now (texts_of (drop (i + 1) xs)) old now next c.done answer
-        (subst (λ (left : List Bytes). RunsUpTo o a files left old now c.done) (texts_left xs i d lt) c.up_to) checks ends,
-    (ended_next c.done answer true c.goes_on ends, ap status_of (tally_next c.done answer) ∙ ended_status (tally_of c.done) answer ends),
-  )
+  -- one item, whose fault ends the run
+  pub counts_end : (item : Item) (old new : State P) (tally : Tally) (answer : Answer) → ChecksItem o a item old new answer
+      → ends_run answer ≡ true → Counts o a (item ∷ []) old new tally None
+  counts_end item old new tally answer checks ends = record {
+    answers = answer ∷ [];
+    runs = runs_one o a item old new answer checks;
+    counts = (alone (ends_run answer) true ends, ended_status tally answer ends);
+  }
 
-  -- no path is left
-  pub loop_all : (old now : State P) (tally : Tally) → length xs ≤ i → CountsUpTo o a files (texts_of (drop i xs)) old now tally i
-      → (answers : List Answer) × RunsOver o a files old now answers × IsCount answers (Some tally)
-  loop_all old now tally le c =
-      (c.done, up_all o a files (texts_of (drop i xs)) old now c.done (ap texts_of (drop_all i xs le)) c.up_to, (c.is, c.goes_on))
+  -- items, and then others
+  pub counts_then : (items others : List Item) (old mid new : State P) (first between : Tally) (after : Option Tally)
+      → Counts o a items old mid first (Some between) → Counts o a others mid new between after → Counts o a (items ++ others) old new first after
+  counts_then items others old mid new first between after one two = record {
+    answers = one.answers ++ two.answers;
+    runs = runs_then o a items others old mid new one.answers two.answers one.runs one.counts.1 two.runs;
+    counts = count_then first between one.answers two.answers after one.counts two.counts;
+  }
+
+  -- items of which one has ended the run, so that others don't matter
+  pub counts_stop : (items others : List Item) (old new : State P) (tally : Tally) → Counts o a items old new tally None
+      → Counts o a (items ++ others) old new tally None
+  counts_stop items others old new tally c = record {
+    answers = c.answers;
+    runs = runs_stop o a items others old new c.answers c.runs c.counts.0;
+    counts = c.counts;
+  }
 
 -- ---- the last line
 

@@ -1,5 +1,5 @@
 -- Definition. What the words of the command line ask for.
-use Rattle.std.specs.Prelude.{ℕ, ◌==◌, Bool, List, [], ◌∷◌, codes, Option, Some, None, fold, if◌then◌else◌}
+use Rattle.std.specs.Prelude.{ℕ, ◌==◌, Bool, true, false, List, [], ◌∷◌, codes, Option, Some, None, unwrap_or, fold, if◌then◌else◌}
 use Rattle.std.specs.List.{list_all, slice_split}
 use Rattle.std.specs.Str.{byte, bytes_eq}
 use Rattle.clap.specs.Words.{App, Row, Rule, all_of, fault_of, first_of, matches_of, new_app, new_rule, with_rule}
@@ -17,11 +17,11 @@ use Rattle.nccheck.specs.Lines.{Filter}
 abbrev pub files_rule : Rule
 files_rule = record (new_rule (codes "file")) { action = Some Append }
 
--- `nccheck [-q] [-s] [-l level] [-i kinds] file ...`
+-- `nccheck [-q] [-s] [-0] [-l level] [-i kinds] [file ...]`
 unfoldable pub nccheck : App
 nccheck = fold with_rule (quiet (new_app (codes "nccheck"))) (
-    flag (codes "quiet") (codes "q") ∷ flag (codes "summary") (codes "s") ∷ option (codes "level") (codes "l")
-    ∷ option (codes "ignored") (codes "i") ∷ files_rule ∷ [])
+    flag (codes "quiet") (codes "q") ∷ flag (codes "summary") (codes "s") ∷ flag (codes "list") (codes "0")
+    ∷ option (codes "level") (codes "l") ∷ option (codes "ignored") (codes "i") ∷ files_rule ∷ [])
 
 -- ---- what its entries ask for
 
@@ -48,9 +48,15 @@ abbrev pub ignored_in : Option Bytes → Option (List Bytes)
 ignored_in None = Some []
 ignored_in (Some word) = kinds_said word
 
--- the paths of files, what to report of them, and whether to count them
+-- without a file, those of a list alone
+abbrev pub files_in : Bool → Option (List Bytes) → Option (List Bytes)
+files_in true files = Some (unwrap_or files [])
+files_in false files = files
+
+-- the paths of files, whether more are read from standard input, what to report of them, and whether to count them
 pub record Asked : Type 0 where
   pub files : List Bytes
+  pub has_list : Bool
   pub filter : Filter
   pub is_quiet : Bool
   pub is_counted : Bool
@@ -59,6 +65,7 @@ pub record Asked : Type 0 where
 abbrev pub asked_with : List Row → Option (List Bytes) → Option Severity → Option (List Bytes) → Option Asked
 asked_with rows (Some files) (Some level) (Some ignored) = Some (record {
   files = files;
+  has_list = is_given rows (codes "list");
   filter = record { level = level; ignored = ignored };
   is_quiet = is_given rows (codes "quiet");
   is_counted = is_given rows (codes "summary");
@@ -67,7 +74,8 @@ asked_with rows files level ignored = None
 
 unfoldable pub asked_in : List Row → Option Asked
 asked_in rows =
-    asked_with rows (all_of (codes "file") rows) (level_in (first_of (codes "level") rows)) (ignored_in (first_of (codes "ignored") rows))
+    asked_with rows (files_in (is_given rows (codes "list")) (all_of (codes "file") rows)) (level_in (first_of (codes "level") rows))
+    (ignored_in (first_of (codes "ignored") rows))
 
 -- the first word is the program's name
 unfoldable pub asked_by : List Bytes → Option Asked

@@ -26,7 +26,7 @@ unfoldable pub flush_line : Bytes
 flush_line = codes "nccheck: write failed\n"
 
 unfoldable pub usage_line : Bytes
-usage_line = codes "usage: nccheck [-q] [-s] [-l level] [-i kinds] [file ...]\n"
+usage_line = codes "usage: nccheck [-q] [-s] [-0] [-l level] [-i kinds] [file ...]\n"
 
 unfoldable pub opt_fault_line : OptFault → Bytes
 opt_fault_line opt.OutOfMemory = codes "nccheck: out of memory\n"

@@ -28,6 +28,7 @@ unfoldable pub option_lines : Bytes
 option_lines =
     codes "  -q        write no lines of findings\n"
     ++ codes "  -s        count the files in a last line\n"
+    ++ codes "  -0        check the files too whose paths standard input has, each ended by a NUL\n"
     ++ codes "  -l level  report what is at least as grave: error, violation (the default) or note\n"
     ++ codes "  -i kinds  report nothing of these kinds, which have commas between them\n"
     ++ codes "  -V        print the version\n"

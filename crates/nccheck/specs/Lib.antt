@@ -3,6 +3,7 @@ pub mod KindWords
 pub mod Paths
 pub mod Details
 pub mod Lines
+pub mod PathLists
 pub mod CommandLine
 pub mod Faults
 pub mod Info

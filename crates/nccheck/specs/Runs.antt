@@ -1,12 +1,15 @@
 -- Definition. What a run of the program has done.
-use Rattle.std.specs.Prelude.{ℕ, ◌≡◌, ◌⊎◌, ◌&&◌, not, Bool, true, false, if◌then◌else◌, List, [], ◌∷◌}
-use Rattle.std.specs.Prelude.{Option, Some, None, IsSomeAnd, MatchOption, Result, Ok, Err}
+use Rattle.std.specs.Prelude.{ℕ, ◌≡◌, ◌+◌, ◌^◌, ◌≤◌, ◌⊎◌, ◌&&◌, not, Bool, true, false, if◌then◌else◌, List, [], ◌∷◌, ◌++◌, codes, length, map}
+use Rattle.std.specs.Prelude.{Option, Some, None, IfSome, IsSomeAnd, MatchOption, Result, Ok, Err}
 use Rattle.std.specs.Bool.{OnTrue}
+use Rattle.std.specs.Io.KnownBytes.{Consumes}
 use Rattle.std.specs.List.{list_any}
 use Rattle.nc_base.specs.Bytes.{Bytes}
 use Rattle.devices.specs.Failures.{HasFailed, one_more}
 use Rattle.devices.specs.Openers.{OpenerView}
+use Rattle.devices.specs.Readers.{ReaderView}
 use Rattle.devices.specs.Sinks.{SinkView, Appended, FailedPartway}
+use Rattle.devices.specs.Uses.{Use}
 use Rattle.nc_check.specs.Reports.{IsReport}
 use Rattle.nc_fields.specs.declared.header.Listing.{Listing}
 use Rattle.nc_check.specs.declared.{finding.Finding.Finding, kind.Severity.Severity, report.Report.Report}
@@ -16,6 +19,7 @@ use Rattle.nccheck.specs.CommandLine.{Asked, asked_by}
 use Rattle.nccheck.specs.Faults.{file_line, flush_line, opt_fault_line}
 use Rattle.nccheck.specs.Info.{info_in, info_text}
 use Rattle.nccheck.specs.Lines.{gravest, lines}
+use Rattle.nccheck.specs.PathLists.{is_path, Item, items_in, ListEnd, Path, Unread, Whole, Broken}
 use Rattle.nccheck.specs.Tallies.{Answer, status_of, summary_line, tally_of}
 use Rattle.nccheck.specs.declared.{fault.FileFault.FileFault, info.Info.Info}
 use Rattle.nccheck.specs.declared.fault.FileFault.TheVariants.{CannotOpen, ReadFailed, OutOfMemory, WriteFailed}
@@ -79,6 +83,11 @@ pub record OpensFile {A : Type 0} (old new : OpenerView) (answer : Result A File
 
 -- ---- one path of a run
 
+-- of the two, the first exactly on true
+abbrev pub Either : Bool → Type 0 → Type 0 → Type 0
+Either true First Second = First
+Either false First Second = Second
+
 -- how a run sees what opens paths; the bytes that a path names, if any, are known where what is opened is transparent
 pub record Openings (P : Type 0) : Type 0 where
   pub is_transparent : Bool
@@ -114,7 +123,19 @@ pub record ChecksPath {P : Type 0} (o : Openings P) (a : Asked) (file : Bytes) (
   pub checks : OnTrue o.is_transparent (ChecksNamed a (o.named file) file old.out new.out answer)
   pub tells : Tells file old.err new.err answer
 
--- ---- the paths of a run, in turn
+-- nothing was opened or written but the line of this fault
+pub record Fails {P : Type 0} (file : Bytes) (fault : FileFault) (old new : State P) (answer : Answer) : Type 0 where
+  pub opener : new.opener ≡ old.opener
+  pub out : new.out ≡ old.out
+  pub is : answer ≡ Err fault
+  pub tells : Tells file old.err new.err answer
+
+-- what came of a path, or of a list that can't be read on
+abbrev pub ChecksItem : {P : Type 0} → Openings P → Asked → Item → State P → State P → Answer → Type 0
+ChecksItem o a (Path file) old new answer = Either (is_path file) (ChecksPath o a file old new answer) (Fails file CannotOpen old new answer)
+ChecksItem o a Unread old new answer = Fails (codes "-") ReadFailed old new answer
+
+-- ---- the items of a run, in turn
 
 -- a failed allocation and a failed standard output end the run
 abbrev pub ends_run : Answer → Bool
@@ -124,30 +145,25 @@ ends_run (Err ReadFailed) = false
 ends_run (Err OutOfMemory) = true
 ends_run (Err WriteFailed) = true
 
--- of the two, the first exactly on true
-abbrev pub Either : Bool → Type 0 → Type 0 → Type 0
-Either true First Second = First
-Either false First Second = Second
-
--- no path was checked
+-- nothing was checked
 pub record ChecksNone {P : Type 0} (old new : State P) (answers : List Answer) : Type 0 where
   pub same : new ≡ old
   pub none : answers ≡ []
 
--- the path was checked, and then, unless the run ended there, what `Others` says
-pub record ChecksFirst {P : Type 0} (o : Openings P) (a : Asked) (file : Bytes) (old new : State P) (answers : List Answer)
+-- the item was checked, and then, unless the run ended there, what `Others` says
+pub record ChecksFirst {P : Type 0} (o : Openings P) (a : Asked) (item : Item) (old new : State P) (answers : List Answer)
     (Others : State P → State P → List Answer → Type 0) : Type 0 where
   pub mid : State P
   pub answer : Answer
   pub others : List Answer
-  pub first : ChecksPath o a file old mid answer
+  pub first : ChecksItem o a item old mid answer
   pub goes_on : Either (ends_run answer) (ChecksNone mid new others) (Others mid new others)
   pub all : answers ≡ answer ∷ others
 
--- the paths were checked in turn, with these answers, up to one whose fault ends the run
-abbrev pub RunsOver : {P : Type 0} → Openings P → Asked → List Bytes → State P → State P → List Answer → Type 0
+-- the items were checked in turn, with these answers, up to one whose fault ends the run
+abbrev pub RunsOver : {P : Type 0} → Openings P → Asked → List Item → State P → State P → List Answer → Type 0
 RunsOver o a [] old new answers = ChecksNone old new answers
-RunsOver o a (file ∷ files) old new answers = ChecksFirst o a file old new answers (RunsOver o a files)
+RunsOver o a (item ∷ items) old new answers = ChecksFirst o a item old new answers (RunsOver o a items)
 
 -- a fault has ended the run
 abbrev pub has_ended : List Answer → Bool
@@ -165,12 +181,34 @@ pub record WritesNothing {P : Type 0} (mid new : State P) (before status : ℕ) 
   pub same : new ≡ mid
   pub stays : status ≡ before
 
--- all paths were checked in turn, up to one whose fault ends the run; if there was none, and it is asked for, a line says what came of them,
--- or a prefix of it if standard output fails
-pub record RunsFiles {P : Type 0} (o : Openings P) (a : Asked) (old new : State P) (status : ℕ) : Type 0 where
+-- ---- the list on standard input
+
+-- a list of these bytes can be read: they are all that there is, if that is known, or the reader has failed after them (a list isn't read on
+-- either after 2^64 - 1 bytes)
+abbrev pub HasBytes : ListEnd → ReaderView → ReaderView → Bytes → Type 0
+HasBytes Whole old new bytes = IfSome old.remaining (λ all. bytes ≡ all) × (new.failures ≡ old.failures)
+HasBytes Broken old new bytes =
+    Consumes old.remaining new.remaining bytes × (HasFailed old.failures new.failures ⊎ (2 ^ 64 ≤ length bytes + 1))
+
+pub record ReadsList (old new : ReaderView) (items : List Item) : Type 0 where
+  pub bytes : Bytes
+  pub end : ListEnd
+  pub has : HasBytes end old new bytes
+  pub is : items ≡ items_in end bytes
+
+-- it isn't touched
+pub record ReadsNothing (old new : ReaderView) (items : List Item) : Type 0 where
+  pub same : new ≡ old
+  pub none : items ≡ []
+
+-- all paths of the words, and then the items of the list if it is asked for, were checked in turn, up to one whose fault ends the run; if there
+-- was none, and it is asked for, a line says what came of them, or a prefix of it if standard output fails
+pub record RunsFiles {P : Type 0} (o : Openings P) (a : Asked) (input : Use ReaderView) (old new : State P) (status : ℕ) : Type 0 where
+  pub listed : List Item
+  pub reads : Either a.has_list (ReadsList input.before input.after listed) (ReadsNothing input.before input.after listed)
   pub answers : List Answer
   pub mid : State P
-  pub runs : RunsOver o a a.files old mid answers
+  pub runs : RunsOver o a (map Path a.files ++ listed) old mid answers
   pub opener : new.opener ≡ mid.opener
   pub ends : Either (a.is_counted && not (has_ended answers))
       (Writes (summary_line (tally_of answers)) mid new (status_of (tally_of answers)) status)
@@ -183,33 +221,36 @@ abbrev pub Refuses : Option Asked → OptFault → Type 0
 Refuses asked opt.Usage = asked ≡ None
 Refuses asked opt.OutOfMemory = Unit {0}
 
--- nothing was opened or written, but the line of a fault of the command line to standard error, or a prefix of it
-pub record RefusesWords {P : Type 0} (asked : Option Asked) (old new : State P) (status : ℕ) : Type 0 where
+-- nothing was opened, read or written, but the line of a fault of the command line to standard error, or a prefix of it
+pub record RefusesWords {P : Type 0} (asked : Option Asked) (input : Use ReaderView) (old new : State P) (status : ℕ) : Type 0 where
   pub fault : OptFault
   pub refuses : Refuses asked fault
+  pub unread : input.after ≡ input.before
   pub opener : new.opener ≡ old.opener
   pub out : new.out ≡ old.out
   pub tells : IsTold old.err new.err (opt_fault_line fault)
   pub trouble : status ≡ 2
 
 -- the words were refused, or the paths that they name were checked
-abbrev pub RunsAsked : {P : Type 0} → Openings P → Option Asked → State P → State P → ℕ → Type 0
-RunsAsked o asked old new status = RefusesWords asked old new status ⊎ IsSomeAnd asked (λ a. RunsFiles o a old new status)
+abbrev pub RunsAsked : {P : Type 0} → Openings P → Option Asked → Use ReaderView → State P → State P → ℕ → Type 0
+RunsAsked o asked input old new status =
+    RefusesWords asked input old new status ⊎ IsSomeAnd asked (λ a. RunsFiles o a input old new status)
 
--- what the program tells of itself was written, and nothing was opened
-pub record Informs {P : Type 0} (info : Info) (old new : State P) (status : ℕ) : Type 0 where
+-- what the program tells of itself was written, and nothing was opened or read
+pub record Informs {P : Type 0} (info : Info) (input : Use ReaderView) (old new : State P) (status : ℕ) : Type 0 where
+  pub unread : input.after ≡ input.before
   pub opener : new.opener ≡ old.opener
   pub writes : Writes (info_text info) old new 0 status
 
 -- `-V` or `-h` among the words was answered, whatever else is there; without them, what the words ask for was done
-abbrev pub RunsWords : {P : Type 0} → Openings P → List Bytes → State P → State P → ℕ → Type 0
-RunsWords o words old new status =
-    MatchOption (info_in words) (RunsAsked o (asked_by words) old new status) (λ info. Informs info old new status)
+abbrev pub RunsWords : {P : Type 0} → Openings P → List Bytes → Use ReaderView → State P → State P → ℕ → Type 0
+RunsWords o words input old new status =
+    MatchOption (info_in words) (RunsAsked o (asked_by words) input old new status) (λ info. Informs info input old new status)
 
 -- the run, and then the flush of standard output
-pub record Runs {P : Type 0} (o : Openings P) (words : List Bytes) (old new : State P) (status : ℕ) : Type 0 where
+pub record Runs {P : Type 0} (o : Openings P) (words : List Bytes) (input : Use ReaderView) (old new : State P) (status : ℕ) : Type 0 where
   pub mid : State P
   pub before : ℕ
-  pub runs : RunsWords o words old mid before
+  pub runs : RunsWords o words input old mid before
   pub opener : new.opener ≡ mid.opener
   pub flushes : Writes [] mid new before status

@@ -6,7 +6,7 @@ ghost use Rattle.std.specs.Str.{byte};
 ghost use Rattle.clap.specs.Words.{all_of, app_of, found_of, rows_of, rule_of};
 ghost use Rattle.cli_base.specs.Arguments.{texts_of};
 ghost use Rattle.cli_base.specs.code.Answers.{AnswersBy, text_of};
-ghost use Rattle.nccheck.specs.CommandLine.{asked_by, asked_in, files_rule, ignored_in, kinds_said, level_in, level_said, nccheck};
+ghost use Rattle.nccheck.specs.CommandLine.{asked_by, asked_in, files_in, files_rule, ignored_in, kinds_said, level_in, level_said, nccheck};
 ghost use Rattle.nccheck.specs.KindWords.{is_kind_word};
 ghost use Rattle.nccheck.specs.code.Options.{asked_for, texts_in};
 
@@ -18,7 +18,7 @@ use nc_base::Sequence;
 use nc_check::Severity;
 use std::alloc::{AllocError, Global};
 
-/// Returns the command `nccheck [-q] [-s] [-l level] [-i kinds] file ...` of nccheck(1).
+/// Returns the command `nccheck [-q] [-s] [-0] [-l level] [-i kinds] [file ...]` of nccheck(1).
 ///
 /// The command takes each option at most once, before, between or after the files. [`options_of`] reads the matches of the command.
 ///
@@ -33,6 +33,7 @@ pub fn command<'a>(alloc: Global) -> Result<Command<'a>, AllocError>
         .disable_version_flag(true)
         .arg(flag(alloc, "quiet", 'q'))?
         .arg(flag(alloc, "summary", 's'))?
+        .arg(flag(alloc, "list", '0'))?
         .arg(option(alloc, "level", 'l'))?
         .arg(option(alloc, "ignored", 'i'))?
         .arg(files(alloc))
@@ -66,17 +67,19 @@ pub(crate) fn options_of_words<'a>(
 ///
 /// # Errors
 ///
-/// [`OptFault::Usage`] if no file is named, if the value of `-l` isn't `error`, `violation` or `note`, or if a part of the value of `-i` between
+/// [`OptFault::Usage`] if no file is named and `-0` isn't given, if the value of `-l` isn't `error`, `violation` or `note`, or if a part of the value of `-i` between
 /// its commas isn't the word of a kind. [`OptFault::OutOfMemory`] only if an allocation failed.
 #[tactic(auto, unfolding(crate::specs::CommandLine::asked_in))]
 pub fn options_of<'a>(alloc: Global, matches: &ArgMatches<'a>) -> Result<CheckOptions<'a>, OptFault>
     ensures { AnswersBy asked_for (asked_in (rows_of (found_of matches.now))) result }
 {
-    let files = values_of(matches, "file").ok_or(OptFault::Usage)?;
+    let has_list = is_given(matches, "list");
+    let files = files_in(has_list, values_of(matches, "file")).ok_or(OptFault::Usage)?;
     let level = level_in(value_of(matches, "level")).ok_or(OptFault::Usage)?;
     let ignored = ignored_in(alloc, value_of(matches, "ignored"))?.ok_or(OptFault::Usage)?;
     Ok(CheckOptions {
         files: Sequence::from_vec(Vec::from_slice(alloc, files)?),
+        has_list,
         filter: FilterOptions { level, ignored },
         is_quiet: is_given(matches, "quiet"),
         is_counted: is_given(matches, "summary"),
@@ -88,6 +91,17 @@ fn values_of<'a, 'b>(matches: &'b ArgMatches<'a>, id: &str) -> Option<&'b [&'a s
     ensures { texts_in result ≡ all_of id.now (rows_of (found_of matches.entry.now)) }
 {
     matches.get_strs(id)
+}
+
+/// Returns the files that are given, or, if there is a list, no files in place of `None`.
+fn files_in<'a, 'b>(has_list: bool, files: Option<&'b [&'a str]>) -> Option<&'b [&'a str]>
+    ensures { texts_in result ≡ files_in has_list (texts_in files.entry) }
+{
+    match files {
+        Some(files) => Some(files),
+        None if has_list => Some(&[]),
+        None => None,
+    }
 }
 
 /// Returns the level that `word`, the value of `-l`, asks for, or that of violations if there is no word. Returns `None` if the word is no

@@ -73,5 +73,5 @@ pub fn put_command_line_fault<W: Sink>(sink: &mut W, fault: OptFault) -> Result<
 pub(crate) fn usage_line() -> &'static [u8]
     ensures { result.now ≡ usage_line }
 {
-    b"usage: nccheck [-q] [-s] [-l level] [-i kinds] [file ...]\n"
+    b"usage: nccheck [-q] [-s] [-0] [-l level] [-i kinds] [file ...]\n"
 }

@@ -78,6 +78,7 @@ fn option_lines() -> &'static [u8]
 {
     b"  -q        write no lines of findings\n  \
     -s        count the files in a last line\n  \
+    -0        check the files too whose paths standard input has, each ended by a NUL\n  \
     -l level  report what is at least as grave: error, violation (the default) or note\n  \
     -i kinds  report nothing of these kinds, which have commas between them\n  \
     -V        print the version\n  \

@@ -5,8 +5,10 @@
 //! standard streams, and flushes standard error.
 #![tactic(auto)]
 
+mod checking;
 mod command_line;
 mod content;
+mod counting;
 mod details;
 mod fault;
 mod fault_details;
@@ -20,6 +22,7 @@ mod line;
 mod number;
 mod options;
 mod passed;
+mod path_list;
 mod report_lines;
 mod running;
 mod tally;

@@ -17,6 +17,8 @@ pub struct FilterOptions<'a> {
 pub struct CheckOptions<'a> {
     /// The paths of the files, in the order of the words.
     pub files: Sequence<&'a str>,
+    /// True if more paths are read from standard input, each ended by a NUL: `-0`.
+    pub has_list: bool,
     /// Which findings to report.
     pub filter: FilterOptions<'a>,
     /// True if no finding is written to standard output: `-q`.

@@ -21,15 +21,15 @@ pub(crate) const TROUBLE: u8 = 2;
 #[derive(Clone, Copy, Debug, PartialEq, Eq)]
 pub(crate) struct Tally {
     /// Those with an error.
-    pub with_errors: u64,
+    pub with_errors: u128,
     /// Those with a violation, and no error.
-    pub with_violations: u64,
+    pub with_violations: u128,
     /// Those with notes alone.
-    pub with_notes: u64,
+    pub with_notes: u128,
     /// Those of which nothing was reported.
-    pub with_nothing: u64,
+    pub with_nothing: u128,
     /// Those that could not be checked.
-    pub not_checked: u64,
+    pub not_checked: u128,
 }
 
 impl Tally {
@@ -48,7 +48,7 @@ impl Tally {
 
     /// Returns the tally with one more file, of which the gravest that was reported is given, or why it wasn't checked.
     pub fn with(self, answer: Result<Option<Severity>, FileFault>) -> Tally
-        requires { total self + 1 < 2 ^ 64 }
+        requires { total self + 1 < 2 ^ 128 }
         ensures { result ≡ counted self answer }
     {
         let mut tally = self;
@@ -64,12 +64,10 @@ impl Tally {
 
     /// Returns how many files were checked.
     fn checked(self) -> u128
+        requires { total self < 2 ^ 128 }
         ensures { result ≡ checked self }
     {
-        self.with_errors as u128
-            + self.with_violations as u128
-            + self.with_notes as u128
-            + self.with_nothing as u128
+        self.with_errors + self.with_violations + self.with_notes + self.with_nothing
     }
 
     /// Returns the status of a run over these files.
@@ -130,11 +128,12 @@ fn put_count<W: Sink>(sink: &mut W, n: u128, count: Count) -> Result<(), WriteFa
 /// Writes the line that says how many files were checked, and what was reported of them.
 #[tactic(auto, using(devices::proofs::Writes::writes), unfolding(crate::specs::Tallies::summary_line))]
 pub(crate) fn put_summary<W: Sink>(sink: &mut W, tally: Tally) -> Result<(), WriteFailed>
+    requires { total tally < 2 ^ 128 }
     ensures { Wrote W.view sink.old sink.new (summary_line tally) result }
 {
     put_count(sink, tally.checked(), Count::Checked)?;
     put_reported(sink, tally)?;
-    put_count(sink, tally.not_checked as u128, Count::NotChecked)
+    put_count(sink, tally.not_checked, Count::NotChecked)
 }
 
 /// Writes what was reported of the files that were checked.
@@ -142,8 +141,8 @@ pub(crate) fn put_summary<W: Sink>(sink: &mut W, tally: Tally) -> Result<(), Wri
 fn put_reported<W: Sink>(sink: &mut W, tally: Tally) -> Result<(), WriteFailed>
     ensures { Wrote W.view sink.old sink.new (reported_text tally) result }
 {
-    put_count(sink, tally.with_errors as u128, Count::WithErrors)?;
-    put_count(sink, tally.with_violations as u128, Count::WithViolations)?;
-    put_count(sink, tally.with_notes as u128, Count::WithNotes)?;
-    put_count(sink, tally.with_nothing as u128, Count::WithNothing)
+    put_count(sink, tally.with_errors, Count::WithErrors)?;
+    put_count(sink, tally.with_violations, Count::WithViolations)?;
+    put_count(sink, tally.with_notes, Count::WithNotes)?;
+    put_count(sink, tally.with_nothing, Count::WithNothing)
 }

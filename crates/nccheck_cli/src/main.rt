@@ -1,14 +1,14 @@
-//! The program `nccheck [-q] [-s] [-l level] [-i kinds] [file ...]`: what is wrong or odd in netCDF classic files.
+//! The program `nccheck [-q] [-s] [-0] [-l level] [-i kinds] [file ...]`: what is wrong or odd in netCDF classic files.
 //!
 //! A line on standard output tells each finding, and a line on standard error each trouble. The exit status is 0 if nothing was reported,
 //! 1 if something was, and 2 after trouble.
 //!
-//! [`nccheck::run_with`] does all of this. This crate gives it the words of the command line, the files of the system, and the standard
-//! streams through buffers of a line.
+//! [`nccheck::run_with`] does all of this. This crate gives it the words of the command line, the files of the system, standard input, and
+//! standard output and standard error through buffers of a line.
 #![tactic(auto)]
 
 use cli_base::OptFault;
-use devices::{DirectFiles, Flush, IoSink};
+use devices::{CountedRead, DirectFiles, Flush, IoSink};
 use nccheck::{put_command_line_fault, run_with};
 use std::fs::File;
 use std::io::{LineWriter, Write};
@@ -59,7 +59,7 @@ fn main(rt: HostRuntime) -> ExitCode {
 /// Runs the program on the words that it was called with, with `stderr` as standard error, and returns its exit status. Errs with
 /// `Usage` if a word isn't UTF-8, and with `OutOfMemory` if an allocation failed before the run. Trouble in the run is no error:
 /// [`run_with`] tells it on `stderr`, and the status is 2.
-fn run_words<R: Env + Files<File = File> + Print + AllocGlobal, E: Write + Drop>(
+fn run_words<R: Env + Files<File = File> + Input + Print + AllocGlobal, E: Write + Drop>(
     rt: &R,
     stderr: E,
 ) -> Result<u8, OptFault> {
@@ -67,13 +67,15 @@ fn run_words<R: Env + Files<File = File> + Print + AllocGlobal, E: Write + Drop>
     let arguments: Vec<String> = env::args(rt)?.collect(alloc)?;
     let words: Vec<&str> = arguments.iter().map(|word| word.as_str()).collect(alloc)?;
     let mut files = DirectFiles::new(rt);
+    let mut input = CountedRead::new(rt.reader());
     let mut out = IoSink::new(WholeLines {
         lines: LineWriter::with_capacity(alloc, LINE_HELD_BACK, io::writer(rt))?,
     });
     let mut err = IoSink::new(WholeLines {
         lines: LineWriter::with_capacity(alloc, LINE_HELD_BACK, stderr)?,
     });
-    let status = run_with(&mut files, alloc, words.as_slice(), &mut out, &mut err);
+    let words = words.as_slice();
+    let status = run_with(&mut files, alloc, words, &mut input, &mut out, &mut err);
     let _ = err.flush();
     Ok(status)
 }

@@ -2,7 +2,7 @@
 
 use crate::faults::{FAULTS, NAMES};
 use crate::layouts::{BEGINS, CUT, FIELDS};
-use devices::{MemFile, MemFiles, SliceSink};
+use devices::{CountedRead, MemFile, MemFiles, SliceSink};
 use nccheck::run_with;
 use std::alloc::{AllocError, Global};
 use std::process::Abort;
@@ -25,6 +25,7 @@ fn has_lines(alloc: Global, bytes: &[u8], lines: &[u8]) -> bool {
         &mut MemFiles::new(&listed),
         alloc,
         &words,
+        &mut CountedRead::new(b"".as_slice()),
         &mut out,
         &mut err,
     );

@@ -1,19 +1,22 @@
 //! Runs over several files, with options and trouble.
 
 use crate::files::CLEAN;
-use devices::{MemFile, MemFiles, SliceSink};
+use devices::{CountedRead, MemFile, MemFiles, SliceSink};
 use nccheck::run_with;
 use std::alloc::{AllocError, Global};
+use std::io;
+use std::io::{ErrorKind, Read};
 use std::process::Abort;
 use test_files::{COORDINATES, TWO_RECORDS, patched};
 
 /// How the program is used.
-const USAGE: &[u8] = b"usage: nccheck [-q] [-s] [-l level] [-i kinds] [file ...]\n";
+const USAGE: &[u8] = b"usage: nccheck [-q] [-s] [-0] [-l level] [-i kinds] [file ...]\n";
 
 /// The usage, with a line an option.
-const HELP: &[u8] = b"usage: nccheck [-q] [-s] [-l level] [-i kinds] [file ...]\n  \
+const HELP: &[u8] = b"usage: nccheck [-q] [-s] [-0] [-l level] [-i kinds] [file ...]\n  \
     -q        write no lines of findings\n  \
     -s        count the files in a last line\n  \
+    -0        check the files too whose paths standard input has, each ended by a NUL\n  \
     -l level  report what is at least as grave: error, violation (the default) or note\n  \
     -i kinds  report nothing of these kinds, which have commas between them\n  \
     -V        print the version\n  \
@@ -157,14 +160,111 @@ const RUNS: &[Run<'_>] = &[
     ),
 ];
 
+/// Standard input: bytes, three a read, and after them the end, or an error.
+#[derive(Clone, Copy)]
+struct Input<'a> {
+    bytes: &'a [u8],
+    fails: bool,
+}
+
+impl Read for Input<'_> {
+    fn read(&mut self, into: &mut [u8]) -> io::Result<usize> {
+        if self.bytes.is_empty() && self.fails {
+            return Err(ErrorKind::Other.into());
+        }
+        let n = into.len().min(3).min(self.bytes.len());
+        let (first, rest) = self.bytes.split_at(n);
+        into[..n].copy_from_slice(first);
+        self.bytes = rest;
+        Ok(n)
+    }
+}
+
+/// Standard input of a run that doesn't read it.
+const UNREAD: Input<'_> = Input {
+    bytes: b"names\0",
+    fails: false,
+};
+
+/// Runs over lists of paths: standard input, whether a read of it fails at last, and the run.
+const LISTS: &[(&[u8], bool, Run<'_>)] = &[
+    (b"", false, (&["nccheck", "-0"], ROOM, 0, b"", b"")),
+    (
+        b"clean\0names\0",
+        false,
+        (&["nccheck", "-0"], ROOM, 1, LINE, b""),
+    ),
+    (
+        b"clean\0names",
+        false,
+        (&["nccheck", "-0"], ROOM, 1, LINE, b""),
+    ),
+    // the words come first, and a file that is named twice counts twice
+    (
+        b"clean\0records\0clean",
+        false,
+        (
+            &["nccheck", "names", "-0s", "none"],
+            ROOM,
+            2,
+            b"names:84: violation: duplicate-name: var[1] \"x\" name: found the name of number 0\n\
+            4 checked: 0 with errors, 1 with violations, 0 with notes, 3 with nothing to report; 1 not checked\n",
+            b"nccheck: none: cannot open\n",
+        ),
+    ),
+    // paths that can't be opened
+    (
+        b"caf\xe9.nc\0\0names\0",
+        false,
+        (
+            &["nccheck", "-0"],
+            ROOM,
+            2,
+            LINE,
+            b"nccheck: caf\xe9.nc: cannot open\nnccheck: : cannot open\n",
+        ),
+    ),
+    // a list that can't be read on
+    (
+        b"names\0clean",
+        true,
+        (
+            &["nccheck", "-0", "-q", "-s"],
+            ROOM,
+            2,
+            b"1 checked: 0 with errors, 1 with violations, 0 with notes, 0 with nothing to report; 1 not checked\n",
+            b"nccheck: -: read failed\n",
+        ),
+    ),
+    // a run that has ended
+    (
+        b"names\0none\0",
+        true,
+        (
+            &["nccheck", "-0"],
+            9,
+            2,
+            b"names:84:",
+            b"nccheck: names: write failed\n",
+        ),
+    ),
+];
+
 /// Returns true if the run over these files ends as wanted.
-fn ends(alloc: Global, files: &[MemFile<'_>], run: &Run<'_>) -> bool {
+fn ends(alloc: Global, files: &[MemFile<'_>], run: &Run<'_>, input: Input<'_>) -> bool {
     let (words, room, status, lines, trouble) = *run;
     let mut line_space = [0; ROOM];
     let mut trouble_space = [0; 128];
     let mut out = SliceSink::new(&mut line_space[..room.min(ROOM)], 7);
     let mut err = SliceSink::new(&mut trouble_space, 5);
-    let ended = run_with(&mut MemFiles::new(files), alloc, words, &mut out, &mut err);
+    let ended = run_with(
+        &mut MemFiles::new(files),
+        alloc,
+        words,
+        &mut CountedRead::new(input),
+        &mut out,
+        &mut err,
+    );
     ended == status && out.taken() == lines && err.taken() == trouble
 }
 
@@ -190,7 +290,14 @@ fn runs_end_with_their_status(rt: HostRuntime) -> Result<(), AllocError> {
         },
     ];
     for run in RUNS {
-        assert!(rt; ends(rt.alloc(), &files, run), "{:?}", run.0);
+        assert!(rt; ends(rt.alloc(), &files, run, UNREAD), "{:?}", run.0);
+    }
+    for (bytes, fails, run) in LISTS {
+        let input = Input {
+            bytes: *bytes,
+            fails: *fails,
+        };
+        assert!(rt; ends(rt.alloc(), &files, run, input), "{bytes:?}");
     }
     Ok(())
 }

@@ -1,16 +1,54 @@
--- For contracts. The files of a run, counted.
-use Rattle.std.specs.Prelude.{◌≡◌, true, false, List, Option, Some, None}
+-- For contracts. The items of a run, counted, and the bytes of a list, taken one after the other.
+use Rattle.std.specs.Prelude.{◌≡◌, true, false, List, ◌++◌, fold, map, Option, Some, None}
+use Rattle.nc_base.specs.Bytes.{Bytes}
+use Rattle.devices.specs.Readers.{ReaderView}
 use Rattle.nccheck.specs.CommandLine.{Asked}
-use Rattle.nccheck.specs.Runs.{has_ended, Openings, RunsOver, State}
-use Rattle.nccheck.specs.Tallies.{Answer, status_of, tally_of}
+use Rattle.nccheck.specs.PathLists.{Item, items_after, ListEnd, Path}
+use Rattle.nccheck.specs.Runs.{Either, has_ended, Openings, ReadsList, ReadsNothing, RunsOver, State}
+use Rattle.nccheck.specs.Tallies.{Answer, counted, no_files, status_of}
 use Rattle.nccheck.specs.declared.tally.Tally.{Tally}
 
--- the files of these answers, counted, or nothing if a fault has ended the run
-abbrev pub IsCount : List Answer → Option Tally → Type 0
-IsCount answers (Some t) = (t ≡ tally_of answers) × (has_ended answers ≡ false)
-IsCount answers None = (has_ended answers ≡ true) × (status_of (tally_of answers) ≡ 2)
+-- those of these answers were counted too, or a fault has ended the run
+abbrev pub IsCount : Tally → List Answer → Option Tally → Type 0
+IsCount before answers (Some after) = (after ≡ fold counted before answers) × (has_ended answers ≡ false)
+IsCount before answers None = (has_ended answers ≡ true) × (status_of (fold counted before answers) ≡ 2)
 
-pub record Counts {P : Type 0} (o : Openings P) (a : Asked) (old new : State P) (tally : Option Tally) : Type 0 where
+pub record Counts {P : Type 0} (o : Openings P) (a : Asked) (items : List Item) (old new : State P) (before : Tally) (after : Option Tally)
+    : Type 0 where
   pub answers : List Answer
-  pub runs : RunsOver o a a.files old new answers
-  pub counts : IsCount answers tally
+  pub runs : RunsOver o a items old new answers
+  pub counts : IsCount before answers after
+
+-- these bytes, after a path begun, give these items, and then another path is begun
+pub record Gives (bytes begun now : Bytes) (items : List Item) : Type 0 where
+  pub is : (end : ListEnd) (more : Bytes) → items_after end begun (bytes ++ more) ≡ items ++ items_after end now more
+
+-- they give these items first
+pub record GivesFirst (bytes begun : Bytes) (items : List Item) : Type 0 where
+  pub others : ListEnd → Bytes → List Item
+  pub is : (end : ListEnd) (more : Bytes) → items_after end begun (bytes ++ more) ≡ items ++ others end more
+
+-- the items of these bytes were checked, or those up to one whose fault ends the run
+abbrev pub TakesItems : Bytes → Bytes → Bytes → List Item → Option Tally → Type 0
+TakesItems bytes begun now items (Some after) = Gives bytes begun now items
+TakesItems bytes begun now items None = GivesFirst bytes begun items
+
+pub record Takes {P : Type 0} (o : Openings P) (a : Asked) (bytes begun now : Bytes) (old new : State P) (before : Tally) (after : Option Tally)
+    : Type 0 where
+  pub items : List Item
+  pub counts : Counts o a items old new before after
+  pub takes : TakesItems bytes begun now items after
+
+-- the items of the list were counted
+pub record CountsList {P : Type 0} (o : Openings P) (a : Asked) (first last : ReaderView) (old new : State P) (before : Tally)
+    (after : Option Tally) : Type 0 where
+  pub items : List Item
+  pub reads : ReadsList first last items
+  pub counts : Counts o a items old new before after
+
+-- the files of the words were counted, and then the items of the list, if it is asked for
+pub record CountsAll {P : Type 0} (o : Openings P) (a : Asked) (first last : ReaderView) (old new : State P) (after : Option Tally)
+    : Type 0 where
+  pub items : List Item
+  pub reads : Either a.has_list (ReadsList first last items) (ReadsNothing first last items)
+  pub counts : Counts o a (map Path a.files ++ items) old new no_files after

@@ -10,7 +10,7 @@ abbrev pub filter_for : FilterOptions → Filter
 filter_for o = record { level = o.level; ignored = texts_of o.ignored }
 
 abbrev pub asked_for : CheckOptions → Asked
-asked_for o = record { files = texts_of o.files; filter = filter_for o.filter; is_quiet = o.is_quiet; is_counted = o.is_counted }
+asked_for o = record { files = texts_of o.files; has_list = o.has_list; filter = filter_for o.filter; is_quiet = o.is_quiet; is_counted = o.is_counted }
 
 -- the texts that are borrowed
 abbrev pub texts_in : Option (Bor (List (Bor (List ℕ)))) → Option (List (List ℕ))

@@ -9,58 +9,66 @@ use Rattle.nccheck.proofs.running.check_files.Goals as goal
 
 pub returns-in-None-clause-runs : goal.returns-in-None-clause-runs
 returns-in-None-clause-runs g c =
-    let e = c.in-None.ensures in
+    let e = c.in-None.ensures.counts in
     record {
-      answers = e.answers;
-      mid = state g.O.Sink.view g.E.Sink.view c.check_each.new.opener c.check_each.new.out c.check_each.new.err;
-      runs = e.runs;
+      listed = e.items;
+      reads = e.reads;
+      answers = e.counts.answers;
+      mid = state g.O.Sink.view g.E.Sink.view c.check_all.new.opener c.check_all.new.out c.check_all.new.err;
+      runs = e.counts.runs;
       opener = refl;
-      ends = no_line_after_fault (asked_for c.args.options.now).is_counted (has_ended e.answers) _ _ e.counts.0 (record { same = refl; stays = sym e.counts.1 });
+      ends = no_line_after_fault (asked_for c.args.options.now).is_counted (has_ended e.counts.answers) _ _ e.counts.counts.0 (record { same = refl; stays = sym e.counts.counts.1 });
     }
 
 pub returns-then-not-options-clause-runs : goal.returns-then-not-options-clause-runs
 returns-then-not-options-clause-runs g c =
-    let e = c.in-Some.ensures in
+    let e = c.in-Some.ensures.counts in
     record {
-      answers = e.answers;
-      mid = state g.O.Sink.view g.E.Sink.view c.check_each.new.opener c.check_each.new.out c.check_each.new.err;
-      runs = e.runs;
+      listed = e.items;
+      reads = e.reads;
+      answers = e.counts.answers;
+      mid = state g.O.Sink.view g.E.Sink.view c.check_all.new.opener c.check_all.new.out c.check_all.new.err;
+      runs = e.counts.runs;
       opener = refl;
-      ends = no_line_asked_for (asked_for c.args.options.now).is_counted (has_ended e.answers) _ _ c.if-not-options.true
-          (record { same = refl; stays = c.status.ensures ∙ ap status_of e.counts.0 });
+      ends = no_line_asked_for (asked_for c.args.options.now).is_counted (has_ended e.counts.answers) _ _ c.if-not-options.true
+          (record { same = refl; stays = c.status.ensures ∙ ap status_of e.counts.counts.0 });
     }
 
 pub returns-in-Ok-clause-runs : goal.returns-in-Ok-clause-runs
 returns-in-Ok-clause-runs g c =
-    let e = c.in-Some.ensures in
-    let old = g.O.Sink.view c.check_each.new.out in
+    let e = c.in-Some.ensures.counts in
+    let old = g.O.Sink.view c.check_all.new.out in
     let new = g.O.Sink.view c.put_summary.new.sink in
     record {
-      answers = e.answers;
-      mid = state g.O.Sink.view g.E.Sink.view c.check_each.new.opener c.check_each.new.out c.check_each.new.err;
-      runs = e.runs;
+      listed = e.items;
+      reads = e.reads;
+      answers = e.counts.answers;
+      mid = state g.O.Sink.view g.E.Sink.view c.check_all.new.opener c.check_all.new.out c.check_all.new.err;
+      runs = e.counts.runs;
       opener = refl;
-      ends = line_follows (asked_for c.args.options.now).is_counted (has_ended e.answers) _ _ c.if-not-options.false e.counts.1
+      ends = line_follows (asked_for c.args.options.now).is_counted (has_ended e.counts.answers) _ _ c.if-not-options.false e.counts.counts.1
           (inl (
-            subst (λ (t : Tally). Appended old new (summary_line t)) e.counts.0 c.in-Ok.ensures,
+            subst (λ (t : Tally). Appended old new (summary_line t)) e.counts.counts.0 c.in-Ok.ensures,
             refl,
-            c.status-in-Ok.ensures ∙ ap status_of e.counts.0,
+            c.status-in-Ok.ensures ∙ ap status_of e.counts.counts.0,
           ));
     }
 
 pub returns-in-Err-clause-runs : goal.returns-in-Err-clause-runs
 returns-in-Err-clause-runs g c =
-    let e = c.in-Some.ensures in
-    let old = g.O.Sink.view c.check_each.new.out in
+    let e = c.in-Some.ensures.counts in
+    let old = g.O.Sink.view c.check_all.new.out in
     let new = g.O.Sink.view c.put_summary.new.sink in
     record {
-      answers = e.answers;
-      mid = state g.O.Sink.view g.E.Sink.view c.check_each.new.opener c.check_each.new.out c.check_each.new.err;
-      runs = e.runs;
+      listed = e.items;
+      reads = e.reads;
+      answers = e.counts.answers;
+      mid = state g.O.Sink.view g.E.Sink.view c.check_all.new.opener c.check_all.new.out c.check_all.new.err;
+      runs = e.counts.runs;
       opener = refl;
-      ends = line_follows (asked_for c.args.options.now).is_counted (has_ended e.answers) _ _ c.if-not-options.false e.counts.1
+      ends = line_follows (asked_for c.args.options.now).is_counted (has_ended e.counts.answers) _ _ c.if-not-options.false e.counts.counts.1
           (inr (
-            subst (λ (t : Tally). FailedPartway old new (summary_line t)) e.counts.0 c.in-Err.ensures,
+            subst (λ (t : Tally). FailedPartway old new (summary_line t)) e.counts.counts.0 c.in-Err.ensures,
             is_told _ _ _ c.put_flush_fault.result c.put_flush_fault.ensures,
             refl,
           ));

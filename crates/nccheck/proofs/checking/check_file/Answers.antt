@@ -1,5 +1,5 @@
 use Rattle.nccheck.proofs.Openings.{opens_file}
-use Rattle.nccheck.proofs.running.check_file.Goals as goal
+use Rattle.nccheck.proofs.checking.check_file.Goals as goal
 
 pub returns-clause-opens : goal.returns-clause-opens
 returns-clause-opens g c =

@@ -1,0 +1,18 @@
+use Rattle.std.proofs.Common.{◌≤◌, map, Some, take}
+use Rattle.cli_base.specs.Arguments.{texts_of}
+use Rattle.devices.specs.code.PathOpens.{NamesAsBefore}
+use Rattle.nccheck.specs.PathLists.{Path}
+use Rattle.nccheck.specs.Runs.{openings, state}
+use Rattle.nccheck.specs.Tallies.{no_files, total}
+use Rattle.nccheck.specs.code.Counts.{Counts}
+use Rattle.nccheck.specs.code.Options.{asked_for}
+use Rattle.nccheck.proofs.counting.check_each.Given as goal
+
+abbrev pub invariant-loop-file : goal.invariant-loop-file
+invariant-loop-file g l = record {
+  names : NamesAsBefore (g.P.Opener.named l.fn.opener) (g.P.Opener.named l.opener);
+  counts : Counts (openings g.P.Source.Source.is_transparent (g.P.Opener.named l.fn.opener) g.P.Opener.view) (asked_for l.options)
+      (map Path (texts_of (take l.file-index l.files)))
+      (state g.O.Sink.view g.E.Sink.view l.fn.opener l.fn.out l.fn.err) (state g.O.Sink.view g.E.Sink.view l.opener l.out l.err) no_files (Some l.tally);
+  few : total l.tally ≤ l.file-index;
+}

@@ -1,0 +1,40 @@
+-- Definition. Lists of paths, each ended by a NUL, the last one with or without.
+use Rattle.std.specs.Prelude.{ℕ, ◌==◌, ◌&&◌, Bool, nat_le, if◌then◌else◌, List, [], ◌∷◌, ◌++◌, length}
+use Rattle.std.specs.Str.{is_utf8}
+use Rattle.nc_base.specs.Bytes.{Bytes}
+
+-- the greatest length of a path that is opened
+abbrev pub longest_path : ℕ
+longest_path = 65535
+
+-- it is opened, if it is UTF-8 and not too long
+unfoldable pub is_path : Bytes → Bool
+is_path file = nat_le (length file) longest_path && is_utf8 file
+
+-- with one more byte; of a path that is too long no more are kept
+unfoldable pub with_byte : Bytes → ℕ → Bytes
+with_byte path b = if nat_le (length path) longest_path then path ++ b ∷ [] else path
+
+-- what a run comes to: a path, or a list that can't be read on
+pub data Item : Type 0 where
+  Path : Bytes → Item
+  Unread : Item
+
+-- how a list ends: with its last byte, or where it can't be read on
+pub data ListEnd : Type 0 where
+  Whole : ListEnd
+  Broken : ListEnd
+
+-- after all bytes, of which these belong to a path that no NUL has ended
+abbrev pub last_items : ListEnd → Bytes → List Item
+last_items Whole [] = []
+last_items Whole (b ∷ bs) = Path (b ∷ bs) ∷ []
+last_items Broken begun = Unread ∷ []
+
+-- with a path begun, the items that these bytes give
+abbrev pub items_after : ListEnd → Bytes → Bytes → List Item
+items_after end begun [] = last_items end begun
+items_after end begun (b ∷ bs) = if b == 0 then Path begun ∷ items_after end [] bs else items_after end (with_byte begun b) bs
+
+abbrev pub items_in : ListEnd → Bytes → List Item
+items_in end bytes = items_after end [] bytes

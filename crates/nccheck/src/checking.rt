@@ -1,0 +1,156 @@
+//! The check of one path.
+
+ghost use Rattle.std.specs.Prelude.{◌≡◌, false, Err, OnErr};
+ghost use Rattle.std.specs.Bool.{OnTrue};
+ghost use Rattle.devices.specs.code.PathOpens.{NamesAsBefore};
+ghost use Rattle.devices.specs.code.SinkWrites.{Wrote};
+ghost use Rattle.nccheck.specs.PathLists.{Path};
+ghost use Rattle.nccheck.specs.Runs.{ChecksBytes, ChecksItem, ChecksNamed, ChecksPath, ends_run, OpensFile, openings};
+ghost use Rattle.nccheck.specs.Runs.{ReadFailsOnly, shown, state, WriteFailsOnly};
+ghost use Rattle.nccheck.specs.code.Options.{asked_for};
+
+use crate::fault::FileFault;
+use crate::fault_text::put_file_fault;
+use crate::options::CheckOptions;
+use crate::path_list::path_of;
+use crate::report_lines::{gravest, put_lines};
+use devices::{Opener, Sink, Source, WriteFailed};
+use nc_check::{Report, Severity, check};
+use std::alloc::Global;
+
+/// Checks the file at this path, if it can be opened by that, as the options ask, writes the line of a fault to standard error, and returns the
+/// answer.
+#[tactic(auto, using(crate::proofs::InTurn::is_told))]
+pub(crate) fn check_item<P: Opener, O: Sink, E: Sink>(
+    opener: &mut P,
+    alloc: Global,
+    file: &[u8],
+    options: &CheckOptions<'_>,
+    out: &mut O,
+    err: &mut E,
+) -> Result<Option<Severity>, FileFault>
+    ensures checks { ChecksItem
+        (openings P.Source.is_transparent (P.named opener.old) P.view) (asked_for options.now)
+        (Path file.now) (state O.view E.view opener.old out.old err.old)
+        (state O.view E.view opener.new out.new err.new) result }
+    ensures names { NamesAsBefore (P.named opener.old) (P.named opener.new) }
+{
+    match path_of(file) {
+        Some(path) => check_and_tell(opener, alloc, path, options, out, err),
+        None => {
+            let fault = FileFault::CannotOpen;
+            let _ = put_file_fault(err, file, fault);
+            Err(fault)
+        }
+    }
+}
+
+/// Checks the file at this path as the options ask, writes the line of a fault to standard error, and returns the answer.
+#[tactic(auto, using(crate::proofs::InTurn::is_told))]
+fn check_and_tell<P: Opener, O: Sink, E: Sink>(
+    opener: &mut P,
+    alloc: Global,
+    file: &str,
+    options: &CheckOptions<'_>,
+    out: &mut O,
+    err: &mut E,
+) -> Result<Option<Severity>, FileFault>
+    ensures checks { ChecksPath
+        (openings P.Source.is_transparent (P.named opener.old) P.view) (asked_for options.now)
+        file.now (state O.view E.view opener.old out.old err.old)
+        (state O.view E.view opener.new out.new err.new) result }
+    ensures names { NamesAsBefore (P.named opener.old) (P.named opener.new) }
+{
+    let answer = check_file(opener, alloc, file, options, out);
+    if let Err(fault) = answer {
+        let _ = put_file_fault(err, file.as_bytes(), fault);
+    }
+    answer
+}
+
+/// Returns true if a run doesn't go on after this answer.
+pub(crate) fn ends_run(answer: Result<Option<Severity>, FileFault>) -> bool
+    ensures { result ≡ ends_run answer }
+{
+    match answer {
+        Ok(_) => false,
+        Err(fault) => is_fatal(fault),
+    }
+}
+
+/// Returns true if a run doesn't go on after this fault.
+fn is_fatal(fault: FileFault) -> bool
+    ensures { result ≡ ends_run (Err fault) }
+{
+    match fault {
+        FileFault::CannotOpen => false,
+        FileFault::ReadFailed => false,
+        FileFault::OutOfMemory => true,
+        FileFault::WriteFailed => true,
+    }
+}
+
+/// Checks the file at this path, writes its lines as the options ask, and gives the file back to the opener. Returns how grave the gravest
+/// is that was reported, if anything was.
+fn check_file<P: Opener, O: Sink>(
+    opener: &mut P,
+    alloc: Global,
+    file: &str,
+    options: &CheckOptions<'_>,
+    out: &mut O,
+) -> Result<Option<Severity>, FileFault>
+    ensures opens { OpensFile (P.view opener.old) (P.view opener.new) result }
+    ensures writes { WriteFailsOnly (O.view out.old) (O.view out.new) result }
+    ensures checks { OnTrue P.Source.is_transparent (ChecksNamed
+        (asked_for options.now) (P.named opener.old file.now) file.now
+        (O.view out.old) (O.view out.new) result) }
+    ensures names { NamesAsBefore (P.named opener.old) (P.named opener.new) }
+{
+    let mut source = opener.open(file)?;
+    let answer = check_source(&mut source, alloc, file, options, out);
+    opener.close(source);
+    answer
+}
+
+/// The length of the buffer that a file is read through, in bytes.
+const BUFFER_LEN: usize = 4096;
+
+/// Checks the source's file through a buffer of 4096 bytes, and writes its lines as the options ask. Returns how grave the gravest
+/// is that was reported, if anything was.
+fn check_source<S: Source, O: Sink>(
+    source: &mut S,
+    alloc: Global,
+    file: &str,
+    options: &CheckOptions<'_>,
+    out: &mut O,
+) -> Result<Option<Severity>, FileFault>
+    ensures reads { ReadFailsOnly (S.view source.old).failures (S.view source.new).failures result }
+    ensures writes { WriteFailsOnly (O.view out.old) (O.view out.new) result }
+    ensures checks { OnTrue S.is_transparent (ChecksBytes
+        (asked_for options.now) (S.view source.old).bytes file.now
+        (O.view out.old) (O.view out.new) result) }
+{
+    let mut buf = [0u8; BUFFER_LEN];
+    let report = check(alloc, source, &mut buf)?;
+    put_unless_quiet(out, file, &report, options)?;
+    Ok(gravest(&report, &options.filter))
+}
+
+/// Writes the lines of a report, unless the options ask for none: then it doesn't err.
+#[tactic(auto, using(devices::proofs::Writes::writes))]
+fn put_unless_quiet<O: Sink>(
+    out: &mut O,
+    file: &str,
+    report: &Report,
+    options: &CheckOptions<'_>,
+) -> Result<(), WriteFailed>
+    ensures text { Wrote O.view out.old out.new
+        (shown (asked_for options.now) file.now report.now.listing report.now.findings) result }
+    ensures not_quiet { OnErr result (options.now.is_quiet ≡ false) }
+{
+    if options.is_quiet {
+        Ok(())
+    } else {
+        put_lines(out, file.as_bytes(), report, &options.filter)
+    }
+}

@@ -1,0 +1,212 @@
+//! The files of a run, checked in turn and counted: those of the words, and then those of a list.
+
+ghost use Rattle.std.specs.Prelude.{◌≡◌, ◌+◌, ◌<◌, ◌≤◌, ◌^◌, [], ◌∷◌, codes, length, map, option_map, IfSome};
+ghost use Rattle.cli_base.specs.Arguments.{texts_of};
+ghost use Rattle.devices.specs.Readers.{view_of};
+ghost use Rattle.devices.specs.code.PathOpens.{NamesAsBefore};
+ghost use Rattle.nccheck.specs.Faults.{file_line};
+ghost use Rattle.nccheck.specs.PathLists.{last_items, Path, Whole};
+ghost use Rattle.nccheck.specs.Runs.{IsTold, openings, state};
+ghost use Rattle.nccheck.specs.Tallies.{counted, no_files, total};
+ghost use Rattle.nccheck.specs.code.Counts.{Counts, CountsAll, CountsList, Takes};
+ghost use Rattle.nccheck.specs.code.Options.{asked_for};
+ghost use Rattle.nccheck.specs.declared.fault.FileFault.TheVariants.{ReadFailed};
+
+use crate::checking::{check_item, ends_run};
+use crate::fault::FileFault;
+use crate::fault_text::put_file_fault;
+use crate::options::CheckOptions;
+use crate::path_list::{ListedPath, push_byte};
+use crate::tally::Tally;
+use devices::{CountedRead, Opener, Sink};
+use std::alloc::Global;
+use std::io::Read;
+
+/// Checks the files of the options in turn, and then those of the list on `input`, if the options ask for that, and counts them by what came of
+/// each. Returns `None` after a fault that ends the run.
+pub(crate) fn check_all<P: Opener, R: Read, O: Sink, E: Sink>(
+    opener: &mut P,
+    alloc: Global,
+    options: &CheckOptions<'_>,
+    input: &mut CountedRead<R>,
+    out: &mut O,
+    err: &mut E,
+) -> Option<Tally>
+    ensures counts { CountsAll
+        (openings P.Source.is_transparent (P.named opener.old) P.view) (asked_for options.now)
+        (view_of R.remaining input.old) (view_of R.remaining input.new)
+        (state O.view E.view opener.old out.old err.old)
+        (state O.view E.view opener.new out.new err.new) result }
+    ensures few { IfSome result (λ tally. total tally < 2 ^ 128) }
+{
+    let tally = check_each(opener, alloc, options, out, err)?;
+    if options.has_list {
+        check_list(opener, alloc, options, input, tally, out, err)
+    } else {
+        Some(tally)
+    }
+}
+
+/// Checks the files of the options in turn, and counts them. Returns `None` after a fault that ends the run.
+fn check_each<P: Opener, O: Sink, E: Sink>(
+    opener: &mut P,
+    alloc: Global,
+    options: &CheckOptions<'_>,
+    out: &mut O,
+    err: &mut E,
+) -> Option<Tally>
+    ensures counts { Counts
+        (openings P.Source.is_transparent (P.named opener.old) P.view) (asked_for options.now)
+        (map Path (asked_for options.now).files)
+        (state O.view E.view opener.old out.old err.old)
+        (state O.view E.view opener.new out.new err.new) no_files result }
+    ensures few { IfSome result (λ tally. total tally < 2 ^ 64) }
+    ensures names { NamesAsBefore (P.named opener.old) (P.named opener.new) }
+{
+    let files = options.files.as_slice();
+    let mut tally = Tally::new();
+    for file in files {
+        tally = check_and_count(opener, alloc, file.as_bytes(), options, tally, out, err)?;
+    }
+    Some(tally)
+}
+
+/// Checks the file at this path as the options ask, and returns the tally with it, or `None` after a fault that ends the run.
+fn check_and_count<P: Opener, O: Sink, E: Sink>(
+    opener: &mut P,
+    alloc: Global,
+    file: &[u8],
+    options: &CheckOptions<'_>,
+    tally: Tally,
+    out: &mut O,
+    err: &mut E,
+) -> Option<Tally>
+    requires { total tally + 1 < 2 ^ 128 }
+    ensures counts { Counts
+        (openings P.Source.is_transparent (P.named opener.old) P.view) (asked_for options.now)
+        (Path file.now ∷ [])
+        (state O.view E.view opener.old out.old err.old)
+        (state O.view E.view opener.new out.new err.new) tally result }
+    ensures few { IfSome result (λ more. total more ≤ total tally + 1) }
+    ensures names { NamesAsBefore (P.named opener.old) (P.named opener.new) }
+{
+    let answer = check_item(opener, alloc, file, options, out, err);
+    if ends_run(answer) {
+        return None;
+    }
+    Some(tally.with(answer))
+}
+
+/// A list of paths that is being read.
+#[derive(Drop)]
+struct PathList {
+    /// The bytes of a path that no NUL has ended yet.
+    path: ListedPath,
+    /// The tally of the paths before it.
+    tally: Tally,
+}
+
+/// The length of the buffer that the list is read through, in bytes.
+const BUFFER_LEN: usize = 4096;
+
+/// Checks the files of the list on `input`, each as soon as the end of its path was read, and counts them. Returns `None` after a fault that ends
+/// the run.
+fn check_list<P: Opener, R: Read, O: Sink, E: Sink>(
+    opener: &mut P,
+    alloc: Global,
+    options: &CheckOptions<'_>,
+    input: &mut CountedRead<R>,
+    tally: Tally,
+    out: &mut O,
+    err: &mut E,
+) -> Option<Tally>
+    requires { total tally < 2 ^ 64 }
+    ensures counts { CountsList
+        (openings P.Source.is_transparent (P.named opener.old) P.view) (asked_for options.now)
+        (view_of R.remaining input.old) (view_of R.remaining input.new)
+        (state O.view E.view opener.old out.old err.old)
+        (state O.view E.view opener.new out.new err.new) tally result }
+    ensures few { IfSome result (λ more. total more < 2 ^ 128) }
+{
+    let mut buf = [0u8; BUFFER_LEN];
+    let mut list = PathList {
+        path: ListedPath::new(),
+        tally,
+    };
+    for _turn in 0..u64::MAX {
+        match input.read_some(&mut buf) {
+            Ok(0) => return check_last(opener, alloc, options, &list, out, err),
+            Ok(n) => check_bytes(opener, alloc, options, &buf[..n], &mut list, out, err)?,
+            Err(_) => return Some(tell_unread(list.tally, err)),
+        }
+    }
+    Some(tell_unread(list.tally, err))
+}
+
+/// Checks the files of which these bytes of the list end the path, and counts them. Returns `None` after a fault that ends the run.
+fn check_bytes<P: Opener, O: Sink, E: Sink>(
+    opener: &mut P,
+    alloc: Global,
+    options: &CheckOptions<'_>,
+    bytes: &[u8],
+    list: &mut PathList,
+    out: &mut O,
+    err: &mut E,
+) -> Option<()>
+    requires { total list.old.tally + length bytes.now < 2 ^ 128 }
+    ensures takes { Takes
+        (openings P.Source.is_transparent (P.named opener.old) P.view) (asked_for options.now)
+        bytes.now list.old.path.items list.new.path.items
+        (state O.view E.view opener.old out.old err.old)
+        (state O.view E.view opener.new out.new err.new)
+        list.old.tally (option_map (λ _. list.new.tally) result) }
+    ensures few { total list.new.tally ≤ total list.old.tally + length bytes.now }
+    ensures names { NamesAsBefore (P.named opener.old) (P.named opener.new) }
+{
+    for b in bytes {
+        if *b != 0 {
+            push_byte(&mut list.path, *b);
+            continue;
+        }
+        let path = list.path.as_slice();
+        list.tally = check_and_count(opener, alloc, path, options, list.tally, out, err)?;
+        list.path.clear();
+    }
+    Some(())
+}
+
+/// Checks the file whose path the list ends with, if there is one, and counts it. Returns `None` after a fault that ends the run.
+fn check_last<P: Opener, O: Sink, E: Sink>(
+    opener: &mut P,
+    alloc: Global,
+    options: &CheckOptions<'_>,
+    list: &PathList,
+    out: &mut O,
+    err: &mut E,
+) -> Option<Tally>
+    requires { total list.now.tally + 1 < 2 ^ 128 }
+    ensures counts { Counts
+        (openings P.Source.is_transparent (P.named opener.old) P.view) (asked_for options.now)
+        (last_items Whole list.now.path.items)
+        (state O.view E.view opener.old out.old err.old)
+        (state O.view E.view opener.new out.new err.new) list.now.tally result }
+    ensures few { IfSome result (λ more. total more ≤ total list.now.tally + 1) }
+{
+    let path = list.path.as_slice();
+    if path.is_empty() {
+        Some(list.tally)
+    } else {
+        check_and_count(opener, alloc, path, options, list.tally, out, err)
+    }
+}
+
+/// Writes the line for a list that can't be read on to standard error, and returns the tally with that.
+#[tactic(auto, using(crate::proofs::InTurn::is_told))]
+fn tell_unread<E: Sink>(tally: Tally, err: &mut E) -> Tally
+    requires { total tally + 1 < 2 ^ 128 }
+    ensures tells { IsTold (E.view err.old) (E.view err.new) (file_line (codes "-") ReadFailed) }
+    ensures tally { result ≡ counted tally (Err ReadFailed) }
+{
+    let _ = put_file_fault(err, b"-", FileFault::ReadFailed);
+    tally.with(Err(FileFault::ReadFailed))
+}
