@@ -61,7 +61,7 @@ done
 stderr 'usage: nccheck [-q] [-s] [-0] [-l level] [-i kinds] [file ...]\n'
 run "$nccheck" cut.nc $'caf\351.nc'
 verdict word_that_is_not_utf_8 2
-stderr 'nccheck: write failed\nnccheck: write failed\n'
+stderr 'nccheck: write failed\n'
 run bash -c '"$0" -V >&-' "$nccheck"
 verdict version_to_a_closed_standard_output 2
 stderr 'nccheck: cut.nc: write failed\nnccheck: write failed\n'
