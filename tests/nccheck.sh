@@ -33,7 +33,7 @@ verdict summary 2
 stdout "cut.nc:500: error: $missing
 cut.nc:500: error: $missing
 3 checked: 2 with errors, 0 with violations, 0 with notes, 1 with nothing to report; 3 not checked\n"
-stderr 'nccheck: none.nc: cannot open\nnccheck: caf\351.nc: cannot open\nnccheck: : cannot open\n'
+stderr 'nccheck: none.nc: cannot open\nnccheck: caf\\351.nc: cannot open\nnccheck: : cannot open\n'
 run bash -c 'printf "caf\351.nc\0\0stations.nc\0cut.nc" | "$0" -0 -s cut.nc none.nc' "$nccheck"
 verdict list_after_the_words 2
 run bash -c '"$0" -0 </dev/null' "$nccheck"
@@ -41,6 +41,29 @@ verdict empty_list 0
 stderr 'nccheck: -: read failed\n'
 run bash -c '"$0" -0 <.' "$nccheck"
 verdict list_that_cannot_be_read 2
+
+# Lines are lines, and short, whatever stands in paths and names
+letters() { head -c "$1" /dev/zero | tr '\0' "$2"; }
+cp cut.nc $'caf\303\251\n\\\'.nc'
+stdout "caf\303\251\\\\n\\\\\\\\'.nc:500: error: $missing\n"
+run "$nccheck" $'caf\303\251\n\\\'.nc'
+verdict path_with_a_line_end 1
+stderr "nccheck: $(letters 64 p)...: cannot open\n"
+stdout '1 checked: 0 with errors, 0 with violations, 0 with notes, 1 with nothing to report; 1 not checked\n'
+run bash -c "$(declare -f letters)"'; { letters 65536 p; printf "\0stations.nc"; } | "$0" -0 -s' "$nccheck"
+verdict path_that_is_too_long 2
+{
+    printf 'CDF\1'
+    head -c 20 /dev/zero
+    printf '\0\0\0\13\0\0\0\1\0\0\4L'
+    letters 1100 n
+    printf '\0\0\0\0\0\0\0\14\0\0\0\1\0\0\0\5axyz1\0\0\0\0\0\0\2\0\0\0\1z\0x\0\0\0\0\4\0\0\0\4\0\0\4\240\0\0\0\0'
+} >long.nc
+stdout "long.nc:32: violation: long-name: var[0] name length: found 1100, expected at most 256
+long.nc:1169: violation: padding: var[0] \"$(letters 64 n)\"... att[0] \"axyz1\" padding: found 0x007800, expected 0x000000\n"
+run "$nccheck" long.nc
+verdict long_name 1
+
 stdout "nccheck $(cat "$top/VERSION")\n"
 run "$nccheck" -q none.nc -V -h
 verdict version_is_that_of_the_file_VERSION 0

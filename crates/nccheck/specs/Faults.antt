@@ -5,6 +5,7 @@ use Rattle.nc_fields.specs.declared.list_fault.ListFault.{ListFault}
 use Rattle.nc_fields.specs.declared.list_fault.ListFault.TheVariants as list
 use Rattle.cli_base.specs.declared.fault.OptFault.{OptFault}
 use Rattle.cli_base.specs.declared.fault.OptFault.TheVariants as opt
+use Rattle.nccheck.specs.Shown.{shown_path}
 use Rattle.nccheck.specs.declared.fault.FileFault.{FileFault}
 use Rattle.nccheck.specs.declared.fault.FileFault.TheVariants.{CannotOpen, ReadFailed, OutOfMemory, WriteFailed}
 
@@ -19,7 +20,7 @@ fault_words OutOfMemory = codes "out of memory"
 fault_words WriteFailed = codes "write failed"
 
 unfoldable pub file_line : Bytes → FileFault → Bytes
-file_line file fault = concat_parts (codes "nccheck: " ∷ file ∷ codes ": " ∷ fault_words fault ∷ codes "\n" ∷ [])
+file_line file fault = concat_parts (codes "nccheck: " ∷ shown_path file ∷ codes ": " ∷ fault_words fault ∷ codes "\n" ∷ [])
 
 -- the line of `-s`, or lines that were held back, could not be written
 unfoldable pub flush_line : Bytes

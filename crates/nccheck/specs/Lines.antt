@@ -15,6 +15,7 @@ use Rattle.nc_check.specs.declared.finding.Fact.TheVariants as fact
 use Rattle.nc_check.specs.declared.kind.Severity.TheVariants.{Error, Violation, Note}
 use Rattle.nccheck.specs.Details.{details}
 use Rattle.nccheck.specs.Paths.{KnownNames, field_path, names_after, no_names, slab_path}
+use Rattle.nccheck.specs.Shown.{shown_path}
 use Rattle.nccheck.specs.Words.{each_of, kind_word, severity_word}
 
 -- of the layout, in the data: at a slab that isn't whole, or anywhere
@@ -37,7 +38,7 @@ entry_of l f = option_and_then (slice_get l.entries) f.field
 
 -- the file and the offset
 unfoldable pub position_text : Bytes → ℕ → Bytes
-position_text file offset = concat_parts (file ∷ codes ":" ∷ decimal offset ∷ codes ": " ∷ [])
+position_text file offset = concat_parts (shown_path file ∷ codes ":" ∷ decimal offset ∷ codes ": " ∷ [])
 
 -- the severity and the kind
 unfoldable pub kind_text : Kind → Bytes

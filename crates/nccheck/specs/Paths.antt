@@ -2,7 +2,6 @@
 -- the bytes of the name were read.
 use Rattle.std.specs.Prelude.{ℕ, Bool, true, false, if◌then◌else◌, List, [], ◌∷◌, codes, fold, Option, Some, None, option_map, slice_get, Result, Ok, Err}
 use Rattle.nc_base.specs.Bytes.{Bytes, concat_parts}
-use Rattle.nc_base.specs.Escapes.{escaped_text}
 use Rattle.nc_base.specs.declared.{fault.FormatFault.FormatFault, header.Header.Header, header.Var.Var}
 use Rattle.nc_fields.specs.declared.{place.Owner.Owner, place.FieldName.FieldName, place.Place.Place, entry.Content.Content, entry.Entry.Entry}
 use Rattle.nc_fields.specs.declared.place.Owner.TheVariants as owner
@@ -11,6 +10,7 @@ use Rattle.nc_fields.specs.declared.entry.Content.TheVariants as content
 use Rattle.nc_layout.specs.declared.{finding.Block.Block, finding.Slab.Slab}
 use Rattle.nc_layout.specs.declared.finding.Block.TheVariants as block
 use Rattle.nc_layout.specs.declared.finding.Slab.TheVariants as slab
+use Rattle.nccheck.specs.Shown.{shown_name}
 use Rattle.nccheck.specs.Words.{around, field_word}
 
 -- ---- names
@@ -52,10 +52,10 @@ names_after entries = fold with_field no_names entries
 
 -- ---- paths
 
--- a name between quotes, with the escapes of a string in a dump
+-- a name after a space
 unfoldable pub quoted : Option Bytes → Bytes
 quoted None = []
-quoted (Some name) = concat_parts (codes " \"" ∷ escaped_text name ∷ codes "\"" ∷ [])
+quoted (Some name) = concat_parts (codes " " ∷ shown_name name ∷ [])
 
 -- an element of a list: `dim[`, for one, and the number and the name of a dimension
 unfoldable pub element : Bytes → ℕ → Option Bytes → Bytes

@@ -7,10 +7,10 @@ ghost use Rattle.nccheck.specs.code.Names.{bytes_of, known};
 
 use crate::known_names::Names;
 use crate::number::put_around;
+use crate::shown::put_name;
 use crate::words::put_field_word;
-use cdl_print::put_escaped;
 use devices::{Sink, WriteFailed, put};
-use nc_base::{FormatFault, Header, Quoting};
+use nc_base::{FormatFault, Header};
 use nc_fields::{Owner, Place};
 use nc_layout::{Block, Slab};
 
@@ -72,17 +72,16 @@ fn put_element<W: Sink>(
     put_quoted(sink, name)
 }
 
-/// Writes a name between quotes after a space, with the escapes of a string in a dump; nothing if there is no name.
-#[tactic(auto, using(devices::proofs::Writes::writes), unfolding(crate::specs::Paths::quoted, nc_base::specs::Escapes::escaped_text))]
+/// Writes a name between quotes after a space, or nothing if there is no name.
+#[tactic(auto, using(devices::proofs::Writes::writes), unfolding(crate::specs::Paths::quoted))]
 fn put_quoted<W: Sink>(sink: &mut W, name: Option<&[u8]>) -> Result<(), WriteFailed>
     ensures { Wrote W.view sink.old sink.new (quoted (bytes_of name.entry)) result }
 {
     let Some(name) = name else {
         return Ok(());
     };
-    put(sink, b" \"")?;
-    put_escaped(sink, Quoting::InString, name)?;
-    put(sink, b"\"")
+    put(sink, b" ")?;
+    put_name(sink, name)
 }
 
 /// Writes the path of a variable, with its name if the header is whole.

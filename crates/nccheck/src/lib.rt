@@ -25,6 +25,7 @@ mod passed;
 mod path_list;
 mod report_lines;
 mod running;
+mod shown;
 mod tally;
 mod words;
 

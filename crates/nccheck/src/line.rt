@@ -8,6 +8,7 @@ ghost use Rattle.nccheck.specs.code.Names.{entry_in, known};
 use crate::details::put_details;
 use crate::field_path::{put_field_path, put_slab_path};
 use crate::known_names::Names;
+use crate::shown::put_file;
 use crate::words::{kind_word, severity_word};
 use devices::{Sink, WriteFailed, put, put_decimal};
 use nc_base::{FormatFault, Header};
@@ -40,7 +41,7 @@ pub(crate) fn put_line<W: Sink>(
 fn put_position<W: Sink>(sink: &mut W, file: &[u8], offset: u64) -> Result<(), WriteFailed>
     ensures { Wrote W.view sink.old sink.new (position_text file.now offset) result }
 {
-    put(sink, file)?;
+    put_file(sink, file)?;
     put(sink, b":")?;
     put_decimal(sink, offset as u128)?;
     put(sink, b": ")

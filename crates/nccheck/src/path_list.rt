@@ -7,7 +7,7 @@ use arrayvec::ArrayVec;
 use std::str;
 
 /// The greatest length of a path that is opened, in bytes.
-const LONGEST_PATH: usize = 65_535;
+pub(crate) const LONGEST_PATH: usize = 65_535;
 
 /// A path as a list gives it, byte by byte: of one that is too long, one byte more than the longest path has.
 pub(crate) type ListedPath = ArrayVec<u8, 65_536>;

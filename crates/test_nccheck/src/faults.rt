@@ -214,8 +214,8 @@ pub const NAMES: &[Changed<'_>] = &[
         TWO_RECORDS,
         &[(19, b"\x02m\xe9!!")],
         b"f:4: note: unused-records: numrecs: found 2, expected 0\n\
-        f:20: violation: name-characters: dim[0] \"m\xe9\" name\n\
-        f:22: violation: padding: dim[0] \"m\xe9\" name padding: found 0x2121, expected 0x0000\n",
+        f:20: violation: name-characters: dim[0] \"m\\351\" name\n\
+        f:22: violation: padding: dim[0] \"m\\351\" name padding: found 0x2121, expected 0x0000\n",
     ),
     // names at which reading stops: of no bytes, with control characters, with NULs inside, and a NUL alone
     (

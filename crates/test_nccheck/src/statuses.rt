@@ -49,6 +49,21 @@ const RUNS: &[Run<'_>] = &[
         LINE,
         b"nccheck: none: cannot open\n",
     ),
+    // paths with control characters and backslashes, which are escaped, and with quotes and letters, which are not
+    (
+        &["nccheck", "a\t\n\x01\x7f\\\"'\u{e9}"],
+        ROOM,
+        2,
+        b"",
+        b"nccheck: a\\t\\n\\001\\177\\\\\"'\xc3\xa9: cannot open\n",
+    ),
+    (
+        &["nccheck", "names\\"],
+        ROOM,
+        1,
+        b"names\\\\:84: violation: duplicate-name: var[1] \"x\" name: found the name of number 0\n",
+        b"",
+    ),
     // the files are counted
     (
         &["nccheck", "-s", "clean", "names", "none", "records"],
@@ -221,7 +236,7 @@ const LISTS: &[(&[u8], bool, Run<'_>)] = &[
             ROOM,
             2,
             LINE,
-            b"nccheck: caf\xe9.nc: cannot open\nnccheck: : cannot open\n",
+            b"nccheck: caf\\351.nc: cannot open\nnccheck: : cannot open\n",
         ),
     ),
     // a list that can't be read on
@@ -282,6 +297,10 @@ fn runs_end_with_their_status(rt: HostRuntime) -> Result<(), AllocError> {
         },
         MemFile {
             path: "names",
+            bytes: equal_names.as_slice(),
+        },
+        MemFile {
+            path: "names\\",
             bytes: equal_names.as_slice(),
         },
         MemFile {
