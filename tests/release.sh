@@ -85,6 +85,9 @@ verdict files_are_completed 0
 run completed ncgen -bk nc6
 stdout 'nc6\n'
 verdict kinds_after_grouped_options 0
+run completed nccheck -qs0l n
+stdout 'note\n'
+verdict levels_after_grouped_options 0
 touch ./-k.nc
 run completed ncdump -- -k
 stdout '-k.nc\n'

@@ -1,7 +1,6 @@
 -- A run over a list whose bytes come part by part.
 use Rattle.std.proofs.Common.{◌≡◌, ℕ, ◌+◌, ◌<◌, ◌≤◌, ◌^◌, List, [], ◌∷◌, ◌++◌, ◌⊎◌, codes, inl, inr, refl, sym, ap, ◌∙◌, append_assoc, append-nil, length, take, map, true, false, Bool, subst, Option, Some, None, IfSome, Err, arith, unwrap_or}
-use Rattle.std.specs.Io.KnownBytes.{Consumes, IsAtEnd}
-use Rattle.std.proofs.KnownBytes.{Consumes-kept, Consumes-nil, Consumes-trans}
+use Rattle.std.specs.Io.KnownBytes.{Consumes, IsAtEnd, Keeps}
 use Rattle.std.proofs.lemmas.List.{length-append, length-take-le}
 use Rattle.nc_base.specs.Bytes.{Bytes}
 use Rattle.devices.specs.Failures.{HasFailed}
@@ -29,6 +28,24 @@ takes_named is_transparent first now view a bytes begun last old new before afte
   counts = counts_named is_transparent first now view a same t.items old new before after t.counts;
   takes = t.takes;
 }
+
+-- ---- bytes that a reader has given
+
+consumes_none : (a : Option Bytes) → Consumes a a []
+consumes_none None = tt
+consumes_none (Some xs) = refl
+
+consumes_then : (a b c : Option Bytes) (first second : Bytes) → Consumes a b first → Consumes b c second → Consumes a c (first ++ second)
+consumes_then None b c first second one two = tt
+consumes_then (Some xs) None c first second one two = absurd one
+consumes_then (Some xs) (Some ys) None first second one two = absurd two
+consumes_then (Some xs) (Some ys) (Some zs) first second one two = one ∙ ap (λ (rest : Bytes). first ++ rest) two ∙ sym (append_assoc first second zs)
+
+consumes_kept : (a b c : Option Bytes) (bytes : Bytes) → Consumes a b bytes → Keeps b c → Consumes a c bytes
+consumes_kept None b c bytes one kept = tt
+consumes_kept (Some xs) None c bytes one kept = absurd one
+consumes_kept (Some xs) (Some ys) None bytes one kept = absurd kept
+consumes_kept (Some xs) (Some ys) (Some zs) bytes one kept = one ∙ ap (λ (rest : Bytes). bytes ++ rest) (sym kept)
 
 -- all bytes, if they are known
 all_read : (a b : Option Bytes) (bytes rest : Bytes) → Consumes a b bytes → IfSome b (λ left. rest ≡ left) → IfSome a (λ all. bytes ++ rest ≡ all)
@@ -118,7 +135,7 @@ module _ {P : Type 0} (o : Openings P) (a : Asked) where
   pub read_none : (start : ReaderView) (old : State P) (tally : Tally) → ReadUpTo start start [] old old tally tally 0
   read_none start old tally = record {
     bytes = [];
-    part = Consumes-nil start.remaining;
+    part = consumes_none start.remaining;
     failures = refl;
     takes = takes_none [] old tally;
     enough = omega arith;
@@ -130,7 +147,7 @@ module _ {P : Type 0} (o : Openings P) (a : Asked) where
       → Takes o a (take k following) begun last now new tally (Some more) → ReadUpTo start next last old new first more (n + 1)
   read_more start here next begun last before following old now new first tally more n k up handed some same takes = record {
     bytes = up.bytes ++ take k following;
-    part = Consumes-trans start.remaining here.remaining next.remaining up.bytes (take k following) up.part handed.bytes;
+    part = consumes_then start.remaining here.remaining next.remaining up.bytes (take k following) up.part handed.bytes;
     failures = handed.failures ∙ up.failures;
     takes = takes_then up.bytes (take k following) [] begun last old now new first tally (Some more) up.takes takes;
     enough = let within : k ≤ length following = omega (arith, handed.within, same) in
@@ -152,7 +169,7 @@ module _ {P : Type 0} (o : Openings P) (a : Asked) where
           end = Whole;
           has = (
             all_read start.remaining next.remaining (up.bytes ++ part) rest
-                (Consumes-trans start.remaining here.remaining next.remaining up.bytes part up.part handed.bytes) (known_left next.remaining),
+                (consumes_then start.remaining here.remaining next.remaining up.bytes part up.part handed.bytes) (known_left next.remaining),
             handed.failures ∙ up.failures,
           );
           is = sym (all.takes.is Whole rest);
@@ -168,7 +185,7 @@ module _ {P : Type 0} (o : Openings P) (a : Asked) where
       let t = up.takes in
       let nothing : take k following ≡ [] = ap (λ (i : ℕ). take i following) none in
       let kept : Consumes here.remaining next.remaining [] = subst (Consumes here.remaining next.remaining) nothing handed.bytes in
-      let part = Consumes-trans start.remaining here.remaining next.remaining up.bytes [] up.part kept in
+      let part = consumes_then start.remaining here.remaining next.remaining up.bytes [] up.part kept in
       record {
         items = t.items ++ last_items Whole begun;
         reads = record {
@@ -208,7 +225,7 @@ module _ {P : Type 0} (o : Openings P) (a : Asked) where
       → ReadUpTo start here begun old now first tally n → NoneHandedOver here next → Fails (codes "-") ReadFailed now new (Err ReadFailed)
       → CountsList o a start next old new first (Some (counted tally (Err ReadFailed)))
   read_failed start here next begun old now new first tally n up none fails =
-      broken start here next begun old now new first tally n up (Consumes-kept start.remaining here.remaining next.remaining up.bytes up.part none.bytes)
+      broken start here next begun old now new first tally n up (consumes_kept start.remaining here.remaining next.remaining up.bytes up.part none.bytes)
       (inl (subst (λ (count : ℕ). HasFailed count next.failures) up.failures none.failures)) fails
 
   -- since it is too long

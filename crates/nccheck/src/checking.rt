@@ -18,8 +18,8 @@ use devices::{Opener, Sink, Source, WriteFailed};
 use nc_check::{Report, Severity, check};
 use std::alloc::Global;
 
-/// Checks the file at this path, if it can be opened by that, as the options ask, writes the line of a fault to standard error, and returns the
-/// answer.
+/// Checks the file at this path as the options ask, writes the line of a fault to standard error, and returns the answer. A path that isn't
+/// UTF-8 or is too long can't be opened.
 #[tactic(auto, using(crate::proofs::InTurn::is_told))]
 pub(crate) fn check_item<P: Opener, O: Sink, E: Sink>(
     opener: &mut P,

@@ -67,8 +67,8 @@ pub(crate) fn options_of_words<'a>(
 ///
 /// # Errors
 ///
-/// [`OptFault::Usage`] if no file is named and `-0` isn't given, if the value of `-l` isn't `error`, `violation` or `note`, or if a part of the value of `-i` between
-/// its commas isn't the word of a kind. [`OptFault::OutOfMemory`] only if an allocation failed.
+/// [`OptFault::Usage`] if no file is named and `-0` isn't given, if the value of `-l` isn't `error`, `violation` or `note`, or if a part of the
+/// value of `-i` between its commas isn't the word of a kind. [`OptFault::OutOfMemory`] only if an allocation failed.
 #[tactic(auto, unfolding(crate::specs::CommandLine::asked_in))]
 pub fn options_of<'a>(alloc: Global, matches: &ArgMatches<'a>) -> Result<CheckOptions<'a>, OptFault>
     ensures { AnswersBy asked_for (asked_in (rows_of (found_of matches.now))) result }
@@ -130,8 +130,8 @@ fn level_of(word: &str) -> Option<Severity>
     }
 }
 
-/// Returns the words of the kinds that `word`, the value of `-i`, has, or no words if there is no value. Returns `None` if one of them isn't the
-/// word of a kind. Errs only if an allocation failed.
+/// Returns the words of kinds in `word`, the value of `-i`, or no words if there is no value. Returns `None` if one of them isn't the word of
+/// a kind. Errs only if an allocation failed.
 fn ignored_in<'a>(
     alloc: Global,
     word: Option<&'a str>,

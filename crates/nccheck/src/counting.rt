@@ -22,8 +22,8 @@ use devices::{CountedRead, Opener, Sink};
 use std::alloc::Global;
 use std::io::Read;
 
-/// Checks the files of the options in turn, and then those of the list on `input`, if the options ask for that, and counts them by what came of
-/// each. Returns `None` after a fault that ends the run.
+/// Checks the files of the options in turn, and then those of the list on `input` if the options ask for that, and counts them by what came
+/// of each. Returns `None` after a fault that ends the run.
 pub(crate) fn check_all<P: Opener, R: Read, O: Sink, E: Sink>(
     opener: &mut P,
     alloc: Global,
@@ -97,7 +97,7 @@ fn check_and_count<P: Opener, O: Sink, E: Sink>(
     Some(tally.with(answer))
 }
 
-/// A list of paths that is being read.
+/// How far a list of paths was read.
 #[derive(Drop)]
 struct PathList {
     /// The bytes of a path that no NUL has ended yet.
@@ -109,8 +109,8 @@ struct PathList {
 /// The length of the buffer that the list is read through, in bytes.
 const BUFFER_LEN: usize = 4096;
 
-/// Checks the files of the list on `input`, each as soon as the end of its path was read, and counts them. Returns `None` after a fault that ends
-/// the run.
+/// Checks the files of the list on `input`, each as soon as the end of its path was read, and counts them. Returns `None` after a fault that
+/// ends the run. A list of more bytes than a `u64` counts isn't read to its end.
 fn check_list<P: Opener, R: Read, O: Sink, E: Sink>(
     opener: &mut P,
     alloc: Global,

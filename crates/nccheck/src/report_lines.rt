@@ -15,8 +15,8 @@ use devices::{Sink, WriteFailed};
 use nc_check::{Finding, Kind, Report, Severity};
 use nc_fields::Listing;
 
-/// Writes a line for each finding of a report that is grave enough and of no ignored kind, in the order of the report. Each line begins with `file`, which
-/// is the path of the file.
+/// Writes a line for each finding of a report that is grave enough and of no ignored kind, in the order of the report. Each line begins
+/// with `file`, which is the path of the file.
 ///
 /// # Errors
 ///

@@ -22,11 +22,11 @@ use std::io::Read;
 /// Runs the program, and returns its exit status. `words` is the command line, with the program's name first; `opener` opens the files;
 /// `input` is standard input, `out` is standard output, and `err` is standard error.
 ///
-/// The status is 2 if the words are no command line, if a file or the list on standard input can't be opened or read, if standard output fails, or
-/// if an allocation fails; a line on standard error says so. Otherwise it is 1 if something was reported of a file, and 0 if nothing was. Files are
-/// checked in the order of the words, and then in that of the list, which is read only if the words ask for that. After a file that can't be
-/// opened or read the run goes on with the next one; a failure of standard output or of an allocation ends it. Standard output is flushed in any
-/// case. Standard error is not flushed.
+/// The status is 2 if the words are no command line, if a file can't be opened or read, if the list on standard input can't be read, if
+/// standard output fails, or if an allocation fails; a line on standard error says so. Otherwise it is 1 if something was reported of a file,
+/// and 0 if nothing was, or if the words ask for the version or for help. Files are checked in the order of the words, and then in that of
+/// the list, which is read only if the words ask for that. After a file that can't be opened or read the run goes on with the next one; a
+/// failure of standard output or of an allocation ends it. Standard output is flushed in any case. Standard error is not flushed.
 #[tactic(auto, using(crate::proofs::InTurn::is_told))]
 pub fn run_with<P: Opener, R: Read, O: Flush, E: Sink>(
     opener: &mut P,
