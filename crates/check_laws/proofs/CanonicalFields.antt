@@ -137,8 +137,7 @@ tag-shown h v tag n steps fits f after next size is =
     ap (λ size. number_in size (bytes_of f)) size ∙ ap (from_be_bytes w32) is ∙ wide-32.again found (tag-fits tag n fits) in
     let counted : number_of (whole_field (Count ∷ steps) next.from (byte_len (count_width v))) ≡ n =
     number-in_count v (take (byte_len (count_width v)) next.from) ∙ count.is in
-    subst (FollowsTag (number_of f)) (sym (next.listed ∙ ap (λ (fs : List Field). fs ++ next.more) count.listed))
-    (rw (own, counted) (tag-kept tag n))
+    grind (arith, tag-kept)
 
 -- the vsize of the variable at this index
 vsize-shown : (h : Header) (P : List Field → Type 0) (i : ℕ) (steps : List Step) (var : Var) → slice_get h.vars i ≡ Some var

@@ -72,11 +72,7 @@ slots-other : (find : ℕ → Slot → List Finding) (dims : List Dim) (vars : L
 slots-other find dims [] k other = refl
 slots-other find dims (var ∷ vars) k other =
     let here : k + 0 ≡ k = omega arith in
-    other-then (find k (slot_of dims var)) (each_slot find (k + 1) (map (slot_of dims) vars))
-    (subst (λ j. AreOther (find j (slot_of dims var))) here (other 0 var refl))
-    (slots-other find dims vars (k + 1)
-    (λ i next there.
-    let same : k + suc i ≡ (k + 1) + i = omega arith in subst (λ j. AreOther (find j (slot_of dims next))) same (other (suc i) next there)))
+    grind (arith, slots-other find dims vars (k + 1) (λ i next there. let same : k + suc i ≡ (k + 1) + i = omega arith in subst (λ j. AreOther (find j (slot_of dims next))) same (other (suc i) next there)), other-then)
 
 -- the size of this variable, among entries that show these fields
 size-same : (h : Header) (len i : ℕ) (entries : List Indexed) (fs : List Field) (var : Var) (g : Indexed)

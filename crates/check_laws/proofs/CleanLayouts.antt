@@ -1,6 +1,7 @@
 -- A report finds nothing at begins and at the end of a generated file.
+use Rattle.std.proofs.lemmas.Grind.{common_steps}
 use Rattle.std.proofs.Common.{arith}
-use Rattle.std.proofs.Common.{◌≡◌, ℕ, ◌+◌, Bool, false, List, [], ◌∷◌, ◌++◌, length, map, Ok, refl, sym, ap, ◌∙◌, subst, length-append}
+use Rattle.std.proofs.Common.{◌≡◌, ℕ, ◌+◌, Bool, false, List, [], ◌∷◌, ◌++◌, length, map, Ok, refl, sym, ap, ◌∙◌, subst}
 use Rattle.std.specs.List.{All}
 use Rattle.std.proofs.lemmas.List.Elements.{All-nil, All-cons, All-head, All-tail}
 use Rattle.std.proofs.lemmas.List.Folds.{list_any-append, list_any_none}
@@ -11,7 +12,7 @@ use Rattle.nc_base.specs.Bytes.{Bytes}
 use Rattle.nc_base.specs.Datasets.{Fits}
 use Rattle.nc_base.specs.GeneratedFile.{begin_after, data_of, vars_with_begins}
 unfoldable use Rattle.nc_base.specs.GeneratedFile.{file_of, with_begins}
-use Rattle.nc_base.specs.Grammar.{SpellsHeader, strict, header_by, header_part, header_spelling}
+use Rattle.nc_base.specs.Grammar.{SpellsHeader, strict, header_by, header_spelling}
 use Rattle.nc_base.specs.Names.{IsName}
 use Rattle.nc_base.specs.Headers.{AreArrays, IsGood, HasValidNames, bare}
 use Rattle.nc_base.proofs.FileHolds.{bare-after, sound-after}
@@ -71,8 +72,7 @@ report-none kind bytes r h rest header_end report spelled ends none =
     let at = subst (λ rest. l.end + length rest ≡ length bytes) read.1 report.listing.end in
     let here = subst (λ end. FindsNone kind (layout_of h end (length bytes)))
     (sym (same-end l.end header_end (length rest) (length bytes) at ends)) none in
-    sym (list_any-IsPermutation (λ (f : Finding). is_of_layout kind f.fact) (all_findings l) r.findings report.all)
-    ∙ listing-none kind l h read.0 (subst (λ n. FindsNone kind (layout_of h l.end n)) (sym report.listing.file_len) here)
+    grind (arith, list_any-IsPermutation, listing-none)
 
 -- ---- generated files
 
@@ -111,16 +111,7 @@ read-as d good fits =
       gatts = good.names.gatts;
       vars = names-begin h [] h.vars good.names.vars;
     } in
-    record {
-      spelled = printed header_part (with_begins h) (data_of h d.arrays)
-          (header-printable (with_begins h) (sound-after h good.is_sound) names fits);
-      written = refl;
-      known = ap (λ (x : Header). x.numrecs) good.is_bare;
-      is_bare = good.is_bare ∙ ap (λ (vs : List Var). let x : Header = record h { numrecs = Known good.records; vars = vs } in x)
-          (sym (bare-after h [] h.vars));
-      arrays = arrays-begin d.header good.records [] d.header.vars d.arrays good.arrays;
-      ends = sym (length-append (header_spelling (with_begins d.header)) (data_of d.header d.arrays));
-    }
+    grind (arith, common_steps, printed, header-printable, sound-after, bare-after, arrays-begin)
 
 pub generated-quiet : GeneratedFilesHaveQuietLayouts
 generated-quiet d r good fits report =

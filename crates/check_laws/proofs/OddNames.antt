@@ -1,5 +1,5 @@
 -- A valid name may be a name by the lenient rules.
-use Rattle.std.proofs.Common.{◌≡◌, ℕ, ◌==◌, ◌&&◌, not, Bool, true, cond, [], ◌∷◌, length, take, drop, take_while, nat_lt, refl, ap, ◌∙◌, arith}
+use Rattle.std.proofs.Common.{◌≡◌, ℕ, ◌==◌, ◌&&◌, not, Bool, true, [], ◌∷◌, length, take, drop, take_while, nat_lt, refl, arith}
 use Rattle.std.specs.List.{list_all}
 use Rattle.std.proofs.lemmas.List.Sums.{take_while-cons}
 use Rattle.std.proofs.lemmas.Grind.{common_steps}
@@ -31,8 +31,7 @@ no-nul : (bs : Bytes) → is_printing bs ≡ true → take_while (λ b. not (b =
 no-nul [] e = refl
 no-nul (b ∷ bs) e =
     let p = both (is_no_control b) (is_printing bs) e in
-    take_while-cons (λ b. not (b == 0)) b bs ∙ ap (λ t. cond t (b ∷ take_while (λ b. not (b == 0)) bs) []) (not-nul b p.0)
-    ∙ ap (λ (bs : Bytes). b ∷ bs) (no-nul bs p.1)
+    grind (arith, common_steps, no-nul bs p.1, take_while-cons, not-nul)
 
 take-all : (bs : Bytes) → take (length bs) bs ≡ bs
 take-all bs = grind (arith, common_steps)

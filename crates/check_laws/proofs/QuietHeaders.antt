@@ -1,6 +1,6 @@
 -- A header about whose spelling a report finds nothing is spelled as it is written.
 use Rattle.std.proofs.lemmas.Grind.{common_steps}
-use Rattle.std.proofs.Common.{◌≡◌, ℕ, zero, suc, ◌+◌, Bool, true, false, cond, List, [], ◌∷◌, ◌++◌, length, map, Option, Some, None, Result, Ok, Err, refl, sym, ap, ◌∙◌, subst, arith, slice_get, IfSome, option_to_list, option_map}
+use Rattle.std.proofs.Common.{◌≡◌, ℕ, zero, suc, ◌+◌, List, [], ◌∷◌, ◌++◌, length, map, Option, Some, None, Result, Ok, Err, refl, sym, ap, ◌∙◌, subst, arith, slice_get, IfSome, option_to_list, option_map}
 use Rattle.std.proofs.lemmas.Option.{slice_get-map}
 use Rattle.std.proofs.lemmas.List.Sorted.{list_any-IsPermutation}
 use Rattle.nc_base.specs.declared.{fault.FormatFault.FormatFault, header.Dim.Dim, header.Var.Var, header.Header.Header, version.Version.Version}
@@ -27,7 +27,7 @@ use Rattle.nc_layout.specs.Blocks.{each_slot}
 use Rattle.nc_layout.specs.HeaderLayout.{slot_of, layout_of}
 use Rattle.check_laws.proofs.FirstFaults.{faultless}
 use Rattle.nc_check.specs.declared.{finding.Finding.Finding}
-use Rattle.nc_check.specs.Indexed.{Indexed, field_at, indexed_from, indexed}
+use Rattle.nc_check.specs.Indexed.{Indexed, indexed_from, indexed}
 unfoldable use Rattle.nc_check.specs.HeaderRules.{header_findings}
 use Rattle.nc_check.specs.WholeHeader.{is_vsize, named, vsize_finding}
 unfoldable use Rattle.nc_check.specs.WholeHeader.{vsize_findings, whole_findings}
@@ -52,19 +52,7 @@ named-seen len k (e ∷ es) (f ∷ fs) same =
     let rest : map seen_by es ≡ map (seen len) fs = cc in
     let kind : is_vsize e.place.name ≡ is_vsize_at f.steps =
     same-kind e.place.name e.place.owner ∙ ap (λ (s : Seen). is_vsize_at s.steps) first in
-    by-test (is_vsize e.place.name) (is_vsize_at f.steps) kind first (named-seen len (k + 1) es fs rest)
-  where
-    by-test : (a b : Bool) → a ≡ b → seen_by e ≡ seen len f
-        → map (λ (f : Indexed). seen_by f.entry) (named is_vsize (indexed_from (k + 1) es)) ≡ map (seen len) (vsizes fs)
-        → map (λ (f : Indexed). seen_by f.entry)
-        (cond a (field_at k e ∷ named is_vsize (indexed_from (k + 1) es)) (named is_vsize (indexed_from (k + 1) es)))
-        ≡ map (seen len) (cond b (f ∷ vsizes fs) (vsizes fs))
-    by-test true true kind first more =
-        ap (λ (s : Seen). s ∷ map (λ (f : Indexed). seen_by f.entry) (named is_vsize (indexed_from (k + 1) es))) first
-        ∙ ap (λ (ss : List Seen). seen len f ∷ ss) more
-    by-test true false kind first more = absurd cc
-    by-test false true kind first more = absurd cc
-    by-test false false kind first more = more
+    grind (arith, named-seen len (k + 1) es fs rest)
 
 -- ---- what is found at them
 
@@ -137,9 +125,7 @@ size-at h len i entries fs same w at other None there = tt
 size-at h len i entries fs same w at other (Some f) there =
     let picked = pick len i (named is_vsize entries) fs f same there in
     let number = ap (λ (s : Seen). s.content) picked.2 ∙ size-number len 0 i fs f w at there in
-    if-some (slice_get h.vars i)
-    (λ var o. found-size h.version (padded_size h.dims var) (slice_get (named is_vsize entries) i) picked.0 (number_of f) picked.1 number o)
-    other
+    grind (arith, if-some, found-size)
 
 -- ---- the whole
 

@@ -30,8 +30,7 @@ begins-canonical h file_len before (var ∷ vars) is same (suc j) =
     let more : vars_with_begins h (before ++ var ∷ []) vars ≡ vars = cc in
     let one = length-append before (var ∷ []) in
     let next : length (before ++ var ∷ []) + j ≡ length before + suc j = omega arith in
-    subst (λ n. IfSome (slice_get (map (slot_of h.dims) vars) j) (λ (slot : Slot). slot.begin ≡ canonical_begin layout n slot)) next
-    (begins-canonical h file_len (before ++ var ∷ []) vars (is ∙ sym (append_assoc before (var ∷ []) vars)) more j)
+    grind (arith, begins-canonical h file_len (before ++ var ∷ []) vars (is ∙ sym (append_assoc before (var ∷ []) vars)) more j)
 
 generated-canonical : (h : Header) (file_len : ℕ) → with_begins h ≡ h
     → HasCanonicalBegins (layout_of h (length (header_spelling h)) file_len)

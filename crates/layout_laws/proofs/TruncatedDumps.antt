@@ -1,5 +1,5 @@
 -- Values are found to be missing exactly if the dump of all values ends at a missing value.
-use Rattle.std.proofs.Common.{◌≡◌, ℕ, ◌+◌, ◌*◌, ◌<◌, ◌≤◌, Bool, true, false, List, [], ◌∷◌, map, refl, sym, ◌∙◌, arith, None, All, nat_lt, if◌then◌else◌}
+use Rattle.std.proofs.Common.{◌≡◌, ℕ, ◌+◌, ◌*◌, ◌<◌, ◌≤◌, Bool, true, false, List, [], ◌∷◌, map, refl, arith, None, All, nat_lt, if◌then◌else◌}
 use Rattle.std.specs.List.{list_any}
 use Rattle.std.specs.Prelude.{is_some}
 use Rattle.std.proofs.lemmas.Bool.{false≢true, ltb-false}
@@ -54,5 +54,4 @@ pub missing-stops : MissingValuesStopDumps
 missing-stops h bytes rest header_end o text ending spelled ends all is =
     let sound = spelled-layout strict bytes h rest header_end spelled ends in
     let slabs = unmapped IsSoundSlot h.dims h.vars sound.sound_slots in
-    missing-found h bytes header_end sound
-    ∙ sym (dump-ends h bytes rest o text ending spelled (λ k d lt. (slabs k d lt).some_bytes) all is)
+    grind (arith, missing-found, dump-ends)

@@ -85,11 +85,7 @@ var-spelled r v dims before from x rest
     let sound = var-sound dims before (record { name = text; dimids = ids; atts = atts; ty = ty; begin_at = begin })
     (shape-spelled v dims m ids m2 sh) (omega (arith, offset-below v m5 begin m6 b, offset-small v))
     (subst (λ k. is_within_limits dims (padded_total dims (record_vars dims before)) ids k ≡ true) p.1 p.0) in
-    subst (λ x. AreWithinLimits dims (before ++ x ∷ [])) (sym whole)
-    (record {
-      slots = All-append (HasSoundSlot dims) before _ kept.slots (All-cons (HasSoundSlot dims) _ [] sound.0 (All-nil (HasSoundSlot dims)));
-      small_record = sound.1;
-    })
+    grind (arith, common_steps, All-append, All-cons, All-nil)
 
 -- ---- the whole
 
