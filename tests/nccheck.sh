@@ -75,7 +75,7 @@ run "$nccheck" -- -q
 verdict file_that_begins_with_a_dash 2
 run "$nccheck" -i missing,gap cut.nc
 verdict ignored_kinds 0
-for words in '' '-x cut.nc' '-i wrong cut.nc' '-l bad cut.nc' '-l' '-l note -l error cut.nc'; do
+for words in '' '-x cut.nc' '-i wrong cut.nc' '-0 -0' '-l bad cut.nc' '-l' '-l note -l error cut.nc'; do
     stderr 'usage: nccheck [-q] [-s] [-0] [-l level] [-i kinds] [file ...]\n'
     # shellcheck disable=SC2086
     run "$nccheck" $words
