@@ -205,8 +205,10 @@ fn ones(n: u32) -> u8
 #[inline(always)]
 fn put_sign(text: &mut [u8], at: usize, number: i128) -> usize
     requires { at + 1 ≤ length text.old }
-    ensures end { result + length (decimal (unsigned_abs number)) ≡ at + length (signed_decimal number) }
-    ensures written { take result text.new ++ decimal (unsigned_abs number) ≡ take at text.old ++ signed_decimal number }
+    ensures end { result + length (decimal (unsigned_abs number))
+        ≡ at + length (signed_decimal number) }
+    ensures written { take result text.new ++ decimal (unsigned_abs number)
+        ≡ take at text.old ++ signed_decimal number }
 {
     put_if(text, at, number < 0, b'-')
 }

@@ -158,7 +158,8 @@ fn kinds_in<'a>(alloc: Global, word: &'a str) -> Result<Option<Sequence<&'a str>
 
 /// Returns the parts of `word` between its commas, also empty ones. Errs only if an allocation failed.
 fn parts_of<'a>(alloc: Global, word: &'a str) -> Result<Sequence<&'a str>, AllocError>
-    ensures { IfOk result (λ words. texts_of words ≡ slice_split (λ (b : ℕ). b == byte ",") word.entry.now) }
+    ensures { IfOk result (λ words. texts_of words
+        ≡ slice_split (λ (b : ℕ). b == byte ",") word.entry.now) }
 {
     Ok(Sequence::from_vec(word.split(',').collect(alloc)?))
 }

@@ -48,7 +48,8 @@ fn put_lines_of<W: Sink>(
     filter: &FilterOptions<'_>,
     findings: &[Finding],
 ) -> Result<(), WriteFailed>
-    ensures { Wrote W.view sink.old sink.new (lines (filter_for filter.now) file.now listing.now findings.now) result }
+    ensures { Wrote W.view sink.old sink.new
+        (lines (filter_for filter.now) file.now listing.now findings.now) result }
 {
     let mut passed = nothing_passed();
     for finding in findings {
