@@ -1,5 +1,5 @@
 #!/usr/bin/env bash
-# Runs the tests of crates/test_allocation, and bin/ncdump and bin/ncgen, with one allocation refused (refuse.c), and so for each
+# Runs the tests of crates/test_allocation, and the programs in bin/, with one allocation refused (refuse.c), and so for each
 # allocation in turn. It proves nothing.
 #
 # A test ends with the error of memory where one of its allocations is refused, and passes where none is. How many it has is written
@@ -7,9 +7,9 @@
 # - dumps allocate as often as the headers and the selections that they begin with, since a dump does not allocate for values;
 # - texts are generated with as many allocations as they are prepared, since writing a file does not allocate.
 #
-# A program says in one line that it is out of memory where one of its allocations is refused, writes nothing else, and leaves an old
-# output as it was; where none is, it does what it was asked for. So it does where room for one of two lists of its words is refused:
-# that is asked for again.
+# A program says in one line that it is out of memory where one of its allocations is refused (nccheck with status 2), writes nothing
+# else, and leaves an old output as it was; where none is, it does what it was asked for. So it does where room for one of two lists of
+# its words is refused: that is asked for again.
 set -u
 . "$(dirname "$0")/verdicts.sh"
 crate=$top/crates/test_allocation
@@ -68,12 +68,15 @@ makes() {
     cp "$2" "$work/want/$made"
 }
 
+# status that a program ends with if it is out of memory
+trouble=1
+
 # is_out_of_memory OF: the last run says that it is, for its text or file OF, or for its words, or that it can't open its output, for
 # which it has no buffer; nothing else is written, and an old output is as it was.
 is_out_of_memory() {
     local old=
     if [ -n "$made" ]; then IFS= read -r -d '' old <"$made"; fi
-    [ "$status" = 'status 1' ] && [ -z "$out" ] && [ "$old" = "${made:+$'old\n'}" ] || return
+    [ "$status" = "status $trouble" ] && [ -z "$out" ] && [ "$old" = "${made:+$'old\n'}" ] || return
     [ "$err" = "$1: out of memory"$'\n' ] || [ "$err" = "${1%%:*}: out of memory"$'\n' ] ||
         [ "$err" = "ncgen: $made: cannot open"$'\n' ]
 }
@@ -130,6 +133,11 @@ note_on_standard_input() {
     "$ncgen" -o made.nc <"$samples/note.cdl"
 }
 
+# check_of_a_list: bin/nccheck checks and counts the file of a list on standard input.
+check_of_a_list() {
+    printf '%s\0' "$samples/counters.nc" | "$nccheck" -s -0
+}
+
 # tests_of_the_crate: their names, as the program lists them.
 tests_of_the_crate() {
     "$tests" --list | grep ': test$' | sort
@@ -172,6 +180,14 @@ echo old >"$work/old"
 makes made.nc "$work/old"
 stderr "ncgen: $samples/counters.cdl: line 5: unknown type\n"
 endures text_with_a_fault 1 "ncgen: $samples/counters.cdl" "$ncgen" -o made.nc "$samples/counters.cdl"
+
+trouble=2
+head -c 500 "$samples/stations.nc" >../cut.nc
+stdout '../cut.nc:500: error: missing: var[2] "temperature" record 2: found 500 bytes, expected at least 504\n'
+endures check_of_a_cut_file 1 'nccheck: ../cut.nc' "$nccheck" ../cut.nc
+stdout '1 checked: 0 with errors, 0 with violations, 0 with notes, 1 with nothing to report; 0 not checked\n'
+endures check_of_a_list 0 "nccheck: $samples/counters.nc" check_of_a_list
+trouble=1
 
 # Of each of many variables no more is held than its name and a few numbers: at most 1,500 bytes are asked for in a dump, and 3,000
 # where a file is made, with those that are given back as lists grow.

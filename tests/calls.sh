@@ -1,6 +1,7 @@
 #!/usr/bin/env bash
-# Runs bin/ncdump and bin/ncgen under strace on files and texts of some 100,000 bytes, and counts their calls of the system: each reads
-# and writes large parts. Then the system refuses calls, which aren't made again. Without strace, nothing is tried.
+# Runs the programs under strace on files and texts of some 100,000 bytes, and counts their calls of the system: each reads and writes large
+# parts, and nccheck no more of a file than its header and a buffer. Then the system refuses calls, which aren't made again. Without strace,
+# nothing is tried.
 set -u
 . "$(dirname "$0")/verdicts.sh"
 
@@ -32,6 +33,17 @@ dumped() {
     calls "writes_of_dump_of_$1" write 4 "$1.nc" "$ncdump" "$1.nc"
 }
 
+# checked NAME MOST BYTES: bin/nccheck finds nothing in the file NAME.nc, and has read it in at most MOST calls, and at most BYTES of it.
+checked() {
+    calls "reads_of_header_of_$1" pread64 "$2" "$1.nc" "$nccheck" "$1.nc"
+    run awk '/^open/ { bytes = 0 } /^pread64/ { bytes += $NF } END { if (bytes > most) print bytes " bytes are read" }' most="$3" \
+        "$work/calls"
+    verdict "bytes_of_header_of_$1" 0
+}
+
+# status that a program ends with after a refused call
+trouble=1
+
 # refused NAME CALL FIRST LAST ERROR FILE LINE COMMAND..: the system refuses calls of this kind on the file, whose path is absolute, with this
 # error, from number FIRST on. The command says so in this line, and makes no such call after number LAST.
 refused() {
@@ -40,7 +52,7 @@ refused() {
     : >"$work/got/stdout"
     count=$(grep -c "^$2(" "$work/calls")
     if [ "$count" -lt "$3" ] || [ "$count" -gt "$4" ]; then echo "$count calls of $2, where $3 to $4 are wanted" >>"$work/got/stderr"; fi
-    verdict "$1" 1
+    verdict "$1" "$trouble"
 }
 
 # tenfold COUNT: rows of ten numbers, as values of a variable.
@@ -83,5 +95,15 @@ for error in EIO ENOSPC; do
         "$ncdump" numbers.nc
     refused "writes_of_file_refused_with_$error" write 1 3 "$error" "$PWD/made.nc" 'ncgen: made.nc: write failed' \
         "$ncgen" -o made.nc numbers.cdl
+done
+# The header of `attribute` has 100,000 bytes, and that of `numbers` less than a buffer.
+checked attribute 26 106496
+checked numbers 1 4096
+trouble=2
+for error in EIO EINTR; do
+    refused "first_read_of_header_refused_with_$error" pread64 1 1 "$error" "$PWD/attribute.nc" 'nccheck: attribute.nc: read failed' \
+        "$nccheck" attribute.nc
+    refused "third_read_of_header_refused_with_$error" pread64 3 3 "$error" "$PWD/attribute.nc" 'nccheck: attribute.nc: read failed' \
+        "$nccheck" attribute.nc
 done
 summary

@@ -15,7 +15,7 @@ import tempfile
 from pathlib import Path
 
 TOP = Path(__file__).resolve().parent.parent
-NCGEN, NCDUMP = TOP / "bin" / "ncgen", TOP / "bin" / "ncdump"
+NCGEN, NCDUMP, NCCHECK = (TOP / "bin" / program for program in ("ncgen", "ncdump", "nccheck"))
 REFUSE = TOP / "tests" / "refuse.c"
 KB, MB = 1 << 10, 1 << 20
 # the versions, each with the bytes of a count and those of an offset
@@ -51,6 +51,12 @@ def dumped(text):
     return asked({0}, NCDUMP, "made.nc")
 
 
+def checked(text):
+    """What a check of the file of the text asks for, in which long names are all that is found."""
+    generated(text)
+    return asked({0, 1}, NCCHECK, "made.nc")
+
+
 def comment(length):
     return b"netcdf t {\n//" + b"x" * length + b"\n}\n"
 
@@ -77,6 +83,10 @@ def note(length):
     return b'netcdf t {\n:note = "' + b"a" * length + b'" ;\n}\n'
 
 
+def notes(count):
+    return b"netcdf t {\n" + b"".join(b":n%d = 1 ;\n" % n for n in range(count)) + b"}\n"
+
+
 def named(length):
     name = b"a" * length
     return b"netcdf t {\ndimensions: %s = 1 ;\nvariables: byte %s(%s) ;\n%s:%s = 1b ;\ndata: %s = 1 ;\n}\n" % ((name,) * 6)
@@ -90,11 +100,14 @@ TEXTS = {
     "characters in 64 MiB": (generated, lambda: characters(64 * MB - 100), 210_000_000),  # 201_337_817
     "attribute of 64 MiB": (generated, lambda: note(64 * MB - 100), 210_000_000),  # 201_336_401
     "attribute of 64 MiB dumped": (dumped, lambda: note(64 * MB - 100), 280_000_000),  # 267_200_033
+    "attribute of 64 MiB checked": (checked, lambda: note(64 * MB - 100), 35_000),  # 33_327
     "250,000 short rows": (generated, lambda: short_rows(250_000), 7_200_000),  # 6_827_157
     "names of 1,000 bytes": (generated, lambda: named(1_000), 105_000),  # 95_632
     "names of 1,000 bytes dumped": (dumped, lambda: named(1_000), 90_000),  # 82_906
     "names of a megabyte": (generated, lambda: named(MB), 31_000_000),  # 29_371_861
     "names of a megabyte dumped": (dumped, lambda: named(MB), 13_500_000),  # 12_584_994
+    "names of a megabyte checked": (checked, lambda: named(MB), 16_500_000),  # 15_685_639
+    "10,000 attributes checked": (checked, lambda: notes(10_000), 33_500_000),  # 32_340_975
 }
 
 

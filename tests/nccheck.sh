@@ -2,7 +2,6 @@
 # Runs bin/nccheck on files on disk, and compares its standard output, its standard error and its status.
 set -u
 . "$(dirname "$0")/verdicts.sh"
-nccheck=$top/bin/nccheck
 missing='missing: var[2] "temperature" record 2: found 500 bytes, expected at least 504'
 
 cp "$samples/stations.nc" "$samples/records.nc" .
@@ -112,6 +111,13 @@ for n in {1..1000}; do cp cut.nc "many/$n.nc"; done
 run bash -c 'ulimit -v 20000 && "$0" -q many/*.nc' "$nccheck"
 verdict many_files 1
 
+# A line doesn't grow with a name: 1,000 attributes of a variable whose name has 10,000 letters, with a line for each.
+name=$(printf 'a%.0s' {1..10000}) other=$(printf 'b%.0s' {1..250})
+{ printf 'netcdf t {\nvariables: int %s ;\n' "$name" && printf ":${other}_%08d = 1 ;\n" {1..1000} | sed "s/^/$name/" && echo '}'; } >long.cdl
+"$ncgen" -o long.nc long.cdl
+run bash -c '"$0" long.nc >long.txt; status=$?; [ "$(wc -l <long.txt)" = 1001 ] && [ "$(wc -c <long.txt)" -lt 200000 ] && exit $status' "$nccheck"
+verdict lines_on_attributes_of_a_long_name 1
+
 # A list of ten thousand files too, which is checked as it is read: the first file has its line before the list has ended.
 run bash -c 'ulimit -v 20000 && for _ in {1..10}; do printf "%s\0" many/*.nc; done | "$0" -q -0' "$nccheck"
 verdict long_list 1
@@ -129,6 +135,12 @@ verdict each_word_in_its_order 1
 for _ in {1..8}; do for n in {1..1000}; do echo "many/$n.nc:500: error: $missing"; done; done | LC_ALL=C sort >"$work/want/stdout"
 run bash -c 'for _ in {1..8}; do ls many/*; done | xargs -n 1000 -P 4 "$0" | { sleep 1; LC_ALL=C sort; }' "$nccheck"
 verdict lines_of_processes_that_share_a_pipe 0
+
+# A file that becomes shorter after it was opened ends where it ends now (early_end.c): what is missing of its header is no zeros.
+${CC:-cc} -shared -fPIC -o "$work/early_end.so" "$top/tests/early_end.c" || exit 1
+stdout 'stations.nc:200: error: header-truncated: var[0] "station_name" att[0] name: found 304, expected 9 bytes\n'
+run env END=200 LD_PRELOAD="$work/early_end.so" "$nccheck" stations.nc
+verdict early_end_in_the_header 1
 
 # A file of the system is given back: more files than may be open at a time.
 run bash -c 'ulimit -n 16 && "$0" -q many/*.nc' "$nccheck"

@@ -2,11 +2,12 @@
 top=$(cd "$(dirname "$0")/.." && pwd)
 ncdump=$top/bin/ncdump
 ncgen=$top/bin/ncgen
+nccheck=$top/bin/nccheck
 samples=$top/samples
 passed=0
 failed=0
 
-if ! [ -x "$ncdump" ] || ! [ -x "$ncgen" ] || ! [ -x "$top/bin/nccheck" ]; then
+if ! [ -x "$ncdump" ] || ! [ -x "$ncgen" ] || ! [ -x "$nccheck" ]; then
     echo "$0: a program in bin/ is missing: run make first" >&2
     exit 1
 fi
