@@ -192,17 +192,30 @@ stdout 'look\n'
 recipe 'nccheck -q f.nc'
 verdict cut_file_to_look_at 0
 cp "$samples/stations.nc" whole.nc
-recipe 'nccheck -0 -s'
+found='./f.nc:500: error: missing: var[2] "temperature" record 2: found 500 bytes, expected at least 504\n'
+counted='2 checked: 1 with errors, 0 with violations, 0 with notes, 1 with nothing to report; 0 not checked\n'
+recipe 'nccheck -0 -s >report;'
 verdict archive 1
-run cat report trouble
-stdout './f.nc:500: error: missing: var[2] "temperature" record 2: found 500 bytes, expected at least 504
-2 checked: 1 with errors, 0 with violations, 0 with notes, 1 with nothing to report; 0 not checked\n'
-verdict archive_has_a_cut_file 0
-recipe 'xargs'
-verdict archive_by_four_processes 123
-run cat report
-stdout './f.nc:500: error: missing: var[2] "temperature" record 2: found 500 bytes, expected at least 504\n'
-verdict archive_has_a_cut_file_again 0
+for processes in one four; do
+    run cat report trouble
+    stdout "$found$counted"
+    verdict "archive_has_a_cut_file_for_${processes}_at_a_time" 0
+    rm report trouble
+    recipe 'xargs'
+    verdict "archive_by_four_processes_after_$processes" 123
+done
+stdout './f.nc\n'
+recipe '! -exec'
+verdict files_with_an_error 0
+head -c 500 "$samples/stations.nc" >g.nc
+echo './g.nc:1: error: of yesterday' | cat - <(printf "$found") | sort >yesterday
+stdout "${found//f.nc/g.nc}"
+recipe 'comm -13'
+verdict new_since_yesterday 0
+run cat yesterday
+stdout "$found${found//f.nc/g.nc}"
+verdict what_is_yesterday_tomorrow 0
+cd ..
 
 # Each example that begins with a prompt or as a rule of make has been run.
 first_lines() {

@@ -88,6 +88,12 @@ verdict kinds_after_grouped_options 0
 run completed nccheck -qs0l n
 stdout 'note\n'
 verdict levels_after_grouped_options 0
+run completed nccheck -i gap,end
+stdout 'gap,end-padding\n'
+verdict kinds_after_a_comma 0
+run completed nccheck -i ''
+sed -n 's/^\.BR \(.*\) " (\(error\|violation\|note\))"$/\1/; T; s/\\//g; p' "$top/man/nccheck.1" >"$work/want/stdout"
+verdict all_kinds_of_the_page_are_completed 0
 touch ./-k.nc
 run completed ncdump -- -k
 stdout '-k.nc\n'
