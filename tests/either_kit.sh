@@ -3,7 +3,8 @@
 # stand-in says so of each crate, and gives the programs of bin/. Also tries what a newcomer may have: no rt, one of another kit, little memory.
 set -u
 . "$(dirname "$0")/verdicts.sh"
-export PROGRAMS=$top/bin CALLS=$work/calls KIT=rattle-kit-13b UNPROVED=
+export PROGRAMS=$top/bin CALLS=$work/calls KIT=rattle-kit-13b UNPROVED= MEMINFO=$work/meminfo
+echo 'MemAvailable: 1073741824 kB' >"$MEMINFO"
 
 mkdir "$work/kit" "$work/tools"
 cat >"$work/kit/rt" <<'END'
@@ -84,8 +85,8 @@ run env PATH="$work/kit:$PATH" KIT=rattle-kit-12a ./build.sh
 stderr "The command rt is of no kit that proves this repository: 'rt version' says 'rattle-kit-12a logic 0', and has to say rattle-kit-13b or rattle-kit-13f.\n"
 verdict rt_of_another_kit 1
 
-echo 'MemAvailable: 5242880 kB' >"$work/meminfo"
-run env PATH="$work/kit:$PATH" MEMINFO="$work/meminfo" ./kit.sh nproc
+echo 'MemAvailable: 5242880 kB' >"$MEMINFO"
+run env PATH="$work/kit:$PATH" ./kit.sh nproc
 stdout '1\n'
 stderr "A proof takes up to 4 GB of memory, and 5 GB are free: 1 of $(nproc) processors are used.\n"
 verdict little_memory 0
