@@ -4,7 +4,7 @@ sample = samples/stations
 keep = mkdir -p bin && cp crates/$(1)_cli/out/$(1)_cli bin/$(1) && $(call stamp,$(1))
 # gives a program a section with the version, which `strings` finds
 stamp = printf 'juniperbrick %s\n' "$$(cat VERSION)" >bin/version && \
-	if command -v objcopy >/dev/null; then objcopy --remove-section .juniperbrick --add-section .juniperbrick=bin/version bin/$(1); fi
+	if command -v objcopy >/dev/null; then objcopy --remove-section .version --add-section .version=bin/version bin/$(1); fi
 # where `make install` puts the programs, their manual pages, completions, documents and samples
 PREFIX = /usr/local
 # what comes before the names of the installed programs and pages, and of the folder of documents, such as juniper- beside Unidata's
