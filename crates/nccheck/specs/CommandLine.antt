@@ -8,8 +8,8 @@ use Rattle.cli_base.specs.Arguments.{flag, if_faultless, is_given, option, quiet
 use Rattle.nc_base.specs.Bytes.{Bytes}
 use Rattle.nc_check.specs.declared.kind.Severity.{Severity}
 use Rattle.nc_check.specs.declared.kind.Severity.TheVariants.{Error, Violation, Note}
+use Rattle.check_lines.specs.Lines.{Filter}
 use Rattle.nccheck.specs.KindWords.{is_kind_word}
-use Rattle.nccheck.specs.Lines.{Filter}
 
 -- ---- the command, as a parse reads it
 

@@ -5,7 +5,7 @@ use Rattle.nc_fields.specs.declared.list_fault.ListFault.{ListFault}
 use Rattle.nc_fields.specs.declared.list_fault.ListFault.TheVariants as list
 use Rattle.cli_base.specs.declared.fault.OptFault.{OptFault}
 use Rattle.cli_base.specs.declared.fault.OptFault.TheVariants as opt
-use Rattle.nccheck.specs.Shown.{shown_path}
+use Rattle.check_lines.specs.Shown.{shown_path}
 use Rattle.nccheck.specs.declared.fault.FileFault.{FileFault}
 use Rattle.nccheck.specs.declared.fault.FileFault.TheVariants.{CannotOpen, ReadFailed, OutOfMemory, WriteFailed}
 

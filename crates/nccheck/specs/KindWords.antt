@@ -4,7 +4,7 @@ use Rattle.std.specs.List.{list_any}
 use Rattle.std.specs.Str.{bytes_eq}
 use Rattle.nc_base.specs.Bytes.{Bytes}
 use Rattle.nc_check.specs.declared.kind.Kind.{Kind}
-use Rattle.nccheck.specs.Words.{kind_word}
+use Rattle.check_lines.specs.Words.{kind_word}
 use Rattle.nccheck.specs.declared.kind_words.TheConstants.{KINDS}
 
 -- the word of one of the kinds that are listed

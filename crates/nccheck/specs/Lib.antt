@@ -1,10 +1,5 @@
-pub mod Words
 pub mod KindWords
 pub mod PathLists
-pub mod Shown
-pub mod Paths
-pub mod Details
-pub mod Lines
 pub mod CommandLine
 pub mod Faults
 pub mod Info

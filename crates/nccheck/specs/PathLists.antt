@@ -2,10 +2,7 @@
 use Rattle.std.specs.Prelude.{ℕ, ◌==◌, ◌&&◌, Bool, nat_le, if◌then◌else◌, List, [], ◌∷◌, ◌++◌, length}
 use Rattle.std.specs.Str.{is_utf8}
 use Rattle.nc_base.specs.Bytes.{Bytes}
-
--- the greatest length of a path that is opened
-abbrev pub longest_path : ℕ
-longest_path = 65535
+use Rattle.check_lines.specs.Shown.{longest_path}
 
 -- it is opened, if it is UTF-8 and not too long
 unfoldable pub is_path : Bytes → Bool

@@ -15,10 +15,10 @@ use Rattle.nc_fields.specs.declared.header.Listing.{Listing}
 use Rattle.nc_check.specs.declared.{finding.Finding.Finding, kind.Severity.Severity, report.Report.Report}
 use Rattle.cli_base.specs.declared.fault.OptFault.{OptFault}
 use Rattle.cli_base.specs.declared.fault.OptFault.TheVariants as opt
+use Rattle.check_lines.specs.Lines.{gravest, lines}
 use Rattle.nccheck.specs.CommandLine.{Asked, asked_by}
 use Rattle.nccheck.specs.Faults.{file_line, flush_line, opt_fault_line}
 use Rattle.nccheck.specs.Info.{info_in, info_text}
-use Rattle.nccheck.specs.Lines.{gravest, lines}
 use Rattle.nccheck.specs.PathLists.{is_path, Item, items_in, ListEnd, Path, Unread, Whole, Broken}
 use Rattle.nccheck.specs.Tallies.{Answer, status_of, summary_line, tally_of}
 use Rattle.nccheck.specs.declared.{fault.FileFault.FileFault, info.Info.Info}

@@ -13,7 +13,7 @@ use crate::fault::FileFault;
 use crate::fault_text::put_file_fault;
 use crate::options::CheckOptions;
 use crate::path_list::path_of;
-use crate::report_lines::{gravest, put_lines};
+use check_lines::{gravest, put_lines};
 use devices::{Opener, Sink, Source, WriteFailed};
 use nc_check::{Report, Severity, check};
 use std::alloc::Global;

@@ -11,7 +11,8 @@ ghost use Rattle.nccheck.specs.KindWords.{is_kind_word};
 ghost use Rattle.nccheck.specs.code.Options.{asked_for, texts_in};
 
 use crate::kind_words::is_kind_word;
-use crate::options::{CheckOptions, FilterOptions};
+use crate::options::CheckOptions;
+use check_lines::FilterOptions;
 use clap::{Arg, ArgAction, ArgMatches, Command};
 use cli_base::{OptFault, flag, is_given, option, value_of};
 use nc_base::Sequence;

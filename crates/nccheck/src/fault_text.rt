@@ -5,7 +5,7 @@ ghost use Rattle.devices.specs.code.SinkWrites.{Wrote};
 ghost use Rattle.nccheck.specs.Faults.{fault_words, file_line, flush_line, opt_fault_line, usage_line};
 
 use crate::fault::FileFault;
-use crate::shown::put_file;
+use check_lines::put_file;
 use cli_base::OptFault;
 use devices::{Sink, WriteFailed, put};
 

@@ -3,7 +3,7 @@
 ghost use Rattle.std.specs.Prelude.{◌≡◌};
 ghost use Rattle.nccheck.specs.KindWords.{EachKindHasAWord, is_kind_word};
 
-use crate::words::kind_word;
+use check_lines::kind_word;
 use nc_check::Kind;
 
 /// All kinds of findings, in their order.

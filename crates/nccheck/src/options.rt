@@ -1,16 +1,7 @@
 //! Which files to check, and what to report.
 
+use check_lines::FilterOptions;
 use nc_base::Sequence;
-use nc_check::Severity;
-
-/// Which findings to report: those that are grave enough, and not of an ignored kind.
-#[derive(Debug, Drop)]
-pub struct FilterOptions<'a> {
-    /// How grave a finding has to be at least: `-l`.
-    pub level: Severity,
-    /// The words of the kinds that are ignored: `-i`.
-    pub ignored: Sequence<&'a str>,
-}
 
 /// Which files to check, and what to report of them (the options of nccheck(1)).
 #[derive(Debug, Drop)]

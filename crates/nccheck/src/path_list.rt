@@ -4,10 +4,8 @@ ghost use Rattle.std.specs.Prelude.{◌≡◌, false, true, MatchOption};
 ghost use Rattle.nccheck.specs.PathLists.{is_path, with_byte};
 
 use arrayvec::ArrayVec;
+use check_lines::LONGEST_PATH;
 use std::str;
-
-/// The greatest length of a path that is opened, in bytes.
-pub(crate) const LONGEST_PATH: usize = 65_535;
 
 /// A path as a list gives it, byte by byte: of one that is too long, one byte more than the longest path has.
 pub(crate) type ListedPath = ArrayVec<u8, 65_536>;

@@ -2,12 +2,9 @@
 use Rattle.std.specs.Borrow.{Bor}
 use Rattle.std.specs.Prelude.{ℕ, List, Option, option_map}
 use Rattle.cli_base.specs.Arguments.{texts_of}
+use Rattle.check_lines.specs.code.Filters.{filter_for}
 use Rattle.nccheck.specs.CommandLine.{Asked}
-use Rattle.nccheck.specs.Lines.{Filter}
-use Rattle.nccheck.specs.declared.{options.CheckOptions.CheckOptions, options.FilterOptions.FilterOptions}
-
-abbrev pub filter_for : FilterOptions → Filter
-filter_for o = record { level = o.level; ignored = texts_of o.ignored }
+use Rattle.nccheck.specs.declared.options.CheckOptions.{CheckOptions}
 
 abbrev pub asked_for : CheckOptions → Asked
 asked_for o = record { files = texts_of o.files; has_list = o.has_list; filter = filter_for o.filter; is_quiet = o.is_quiet; is_counted = o.is_counted }

@@ -1,0 +1,6 @@
+pub mod Words
+pub mod Shown
+pub mod Paths
+pub mod Details
+pub mod Lines
+pub mod code

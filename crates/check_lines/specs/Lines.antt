@@ -1,0 +1,101 @@
+-- Definition. The line of a finding, `FILE:OFFSET: SEVERITY: KIND: PATH`, with `: found F, expected E` where its kind has them; and the lines
+-- of a report.
+use Rattle.std.specs.Prelude.{ℕ, ◌+◌, ◌&&◌, not, Bool, true, false, if◌then◌else◌, List, [], ◌∷◌, codes, decimal, take, Option, Some, None, slice_get, Result}
+use Rattle.std.specs.List.{list_any}
+use Rattle.std.specs.Option.{option_and_then}
+use Rattle.std.specs.Str.{bytes_eq}
+use Rattle.nc_base.specs.Bytes.{Bytes, concat_parts}
+use Rattle.nc_base.specs.declared.{fault.FormatFault.FormatFault, header.Header.Header}
+use Rattle.nc_fields.specs.declared.{entry.Entry.Entry, header.Listing.Listing}
+use Rattle.nc_layout.specs.declared.finding.LayoutFact.{LayoutFact}
+use Rattle.nc_layout.specs.declared.finding.LayoutFact.TheVariants as layout
+use Rattle.nc_check.specs.Kinds.{kind_of, severity_of}
+use Rattle.nc_check.specs.declared.{finding.Fact.Fact, finding.Finding.Finding, kind.Kind.Kind, kind.Severity.Severity}
+use Rattle.nc_check.specs.declared.finding.Fact.TheVariants as fact
+use Rattle.nc_check.specs.declared.kind.Severity.TheVariants.{Error, Violation, Note}
+use Rattle.check_lines.specs.Details.{details}
+use Rattle.check_lines.specs.Paths.{KnownNames, field_path, names_after, no_names, slab_path}
+use Rattle.check_lines.specs.Shown.{shown_path}
+use Rattle.check_lines.specs.Words.{each_of, kind_word, severity_word}
+
+-- of the layout, in the data: at a slab that isn't whole, or anywhere
+abbrev pub layout_path : Result Header FormatFault → LayoutFact → Bytes
+layout_path header (layout.Missing n end of) = slab_path header of
+layout_path header x = codes "data"
+
+abbrev pub data_path : Result Header FormatFault → Fact → Bytes
+data_path header (fact.Layout x) = layout_path header x
+data_path header x = codes "data"
+
+-- at a field, with the names that are known there, or in the data
+unfoldable pub path : Listing → KnownNames → Option Entry → Fact → Bytes
+path l names (Some e) x = field_path names e.place
+path l names None x = data_path l.header x
+
+-- the field at which it is found
+abbrev pub entry_of : Listing → Finding → Option Entry
+entry_of l f = option_and_then (slice_get l.entries) f.field
+
+-- the file and the offset
+unfoldable pub position_text : Bytes → ℕ → Bytes
+position_text file offset = concat_parts (shown_path file ∷ codes ":" ∷ decimal offset ∷ codes ": " ∷ [])
+
+-- the severity and the kind
+unfoldable pub kind_text : Kind → Bytes
+kind_text kind = concat_parts (severity_word (severity_of kind) ∷ codes ": " ∷ kind_word kind ∷ codes ": " ∷ [])
+
+-- with the names that are known
+unfoldable pub line_with : Bytes → Listing → KnownNames → Finding → Bytes
+line_with file l names f = concat_parts (
+    position_text file f.offset ∷ kind_text (kind_of f.fact) ∷ path l names (entry_of l f) f.fact ∷ details l (entry_of l f) f.fact ∷ codes "\n" ∷ [])
+
+-- the names of the fields up to this one
+abbrev pub names_at : List Entry → Option ℕ → KnownNames
+names_at entries (Some i) = names_after (take (i + 1) entries)
+names_at entries None = no_names
+
+abbrev pub line : Bytes → Listing → Finding → Bytes
+line file l f = line_with file l (names_at l.entries f.field) f
+
+-- ---- reports
+
+-- a severity is reported at a level, the least that is
+abbrev pub is_at_level : Severity → Severity → Bool
+is_at_level Note severity = true
+is_at_level Violation Note = false
+is_at_level Violation severity = true
+is_at_level Error Error = true
+is_at_level Error severity = false
+
+-- the level from which on findings are reported, and the words of the kinds that aren't
+pub record Filter : Type 0 where
+  pub level : Severity
+  pub ignored : List Bytes
+
+abbrev pub is_ignored : List Bytes → Kind → Bool
+is_ignored words kind = list_any (λ (word : Bytes). bytes_eq word (kind_word kind)) words
+
+abbrev pub is_reported : Filter → Finding → Bool
+is_reported filter f =
+    is_at_level filter.level (severity_of (kind_of f.fact)) && not (is_ignored filter.ignored (kind_of f.fact))
+
+-- the line of a finding, if it is reported
+abbrev pub line_if : Filter → Bytes → Listing → Finding → Bytes
+line_if filter file l f = if is_reported filter f then line file l f else []
+
+-- the lines of these findings
+abbrev pub lines : Filter → Bytes → Listing → List Finding → Bytes
+lines filter file l findings = each_of (line_if filter file l) findings
+
+-- one of them is reported, and is of this severity or a graver one
+abbrev pub has_reported : Filter → Severity → List Finding → Bool
+has_reported filter severity findings =
+    list_any (λ (f : Finding). is_reported filter f && is_at_level severity (severity_of (kind_of f.fact))) findings
+
+-- the gravest severity of those that are reported
+abbrev pub gravest : Filter → List Finding → Option Severity
+gravest filter findings =
+    if has_reported filter Error findings then Some Error
+    else if has_reported filter Violation findings then Some Violation
+    else if has_reported filter Note findings then Some Note
+    else None

@@ -1,0 +1,94 @@
+-- Definition. Paths: the words that say where a finding lies. A path names what a field belongs to by its number, and by its name too, once
+-- the bytes of the name were read.
+use Rattle.std.specs.Prelude.{ℕ, Bool, true, false, if◌then◌else◌, List, [], ◌∷◌, codes, fold, Option, Some, None, option_map, slice_get, Result, Ok, Err}
+use Rattle.nc_base.specs.Bytes.{Bytes, concat_parts}
+use Rattle.nc_base.specs.declared.{fault.FormatFault.FormatFault, header.Header.Header, header.Var.Var}
+use Rattle.nc_fields.specs.declared.{place.Owner.Owner, place.FieldName.FieldName, place.Place.Place, entry.Content.Content, entry.Entry.Entry}
+use Rattle.nc_fields.specs.declared.place.Owner.TheVariants as owner
+use Rattle.nc_fields.specs.declared.place.FieldName.TheVariants as name
+use Rattle.nc_fields.specs.declared.entry.Content.TheVariants as content
+use Rattle.nc_layout.specs.declared.{finding.Block.Block, finding.Slab.Slab}
+use Rattle.nc_layout.specs.declared.finding.Block.TheVariants as block
+use Rattle.nc_layout.specs.declared.finding.Slab.TheVariants as slab
+use Rattle.check_lines.specs.Shown.{shown_name}
+use Rattle.check_lines.specs.Words.{around, field_word}
+
+-- ---- names
+
+-- the names that are known: of a dimension, a global attribute or a variable, and of an attribute of a variable
+pub record KnownNames : Type 0 where
+  pub element : Option Bytes
+  pub att : Option Bytes
+
+abbrev pub no_names : KnownNames
+no_names = record { element = None; att = None }
+
+-- a name begins at this field, or it is its bytes
+abbrev pub is_of_name : FieldName → Bool
+is_of_name name.NameLength = true
+is_of_name name.Name = true
+is_of_name field = false
+
+abbrev pub name_in : FieldName → Content → Option Bytes
+name_in name.Name (content.Bytes bytes) = Some bytes
+name_in field c = None
+
+-- with this name of what has this owner's place
+abbrev pub renamed : Owner → Option Bytes → KnownNames → KnownNames
+renamed owner.Header bytes names = names
+renamed (owner.Dim i) bytes names = record names { element = bytes }
+renamed (owner.GlobalAtt i) bytes names = record names { element = bytes }
+renamed (owner.Var i) bytes names = record names { element = bytes }
+renamed (owner.VarAtt i k) bytes names = record names { att = bytes }
+
+-- after one more field
+unfoldable pub with_field : KnownNames → Entry → KnownNames
+with_field names entry =
+    if is_of_name entry.place.name then renamed entry.place.owner (name_in entry.place.name entry.content) names else names
+
+-- after these fields, the first ones of a header
+abbrev pub names_after : List Entry → KnownNames
+names_after entries = fold with_field no_names entries
+
+-- ---- paths
+
+-- a name after a space
+unfoldable pub quoted : Option Bytes → Bytes
+quoted None = []
+quoted (Some name) = concat_parts (codes " " ∷ shown_name name ∷ [])
+
+-- an element of a list: `dim[`, for one, and the number and the name of a dimension
+unfoldable pub element : Bytes → ℕ → Option Bytes → Bytes
+element word i name = concat_parts (around word i (codes "]") ∷ quoted name ∷ [])
+
+-- with a space after it
+unfoldable pub element_part : Bytes → ℕ → Option Bytes → Bytes
+element_part word i name = concat_parts (element word i name ∷ codes " " ∷ [])
+
+-- what a field belongs to
+unfoldable pub owner_path : KnownNames → Owner → Bytes
+owner_path names owner.Header = []
+owner_path names (owner.Dim i) = element_part (codes "dim[") i names.element
+owner_path names (owner.GlobalAtt i) = element_part (codes "gatt[") i names.element
+owner_path names (owner.Var i) = element_part (codes "var[") i names.element
+owner_path names (owner.VarAtt i k) =
+    concat_parts (element_part (codes "var[") i names.element ∷ element_part (codes "att[") k names.att ∷ [])
+
+unfoldable pub field_path : KnownNames → Place → Bytes
+field_path names place = concat_parts (owner_path names place.owner ∷ field_word place.name ∷ [])
+
+-- the name of a variable, if the header is whole
+abbrev pub var_name : Result Header FormatFault → ℕ → Option Bytes
+var_name (Ok header) i = option_map (λ (var : Var). var.name) (slice_get header.vars i)
+var_name (Err fault) i = None
+
+unfoldable pub var_path : Result Header FormatFault → ℕ → Bytes
+var_path header i = element (codes "var[") i (var_name header i)
+
+unfoldable pub block_path : Result Header FormatFault → Block → Bytes
+block_path header (block.Var i) = var_path header i
+block_path header block.Records = codes "the records"
+
+unfoldable pub slab_path : Result Header FormatFault → Slab → Bytes
+slab_path header (slab.Var i) = var_path header i
+slab_path header (slab.Record i n) = concat_parts (var_path header i ∷ around (codes " record ") n [] ∷ [])

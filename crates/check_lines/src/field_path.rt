@@ -1,0 +1,143 @@
+//! Paths: the words that say where a finding lies.
+
+ghost use Rattle.std.specs.Prelude.{◌≡◌};
+ghost use Rattle.devices.specs.code.SinkWrites.{Wrote};
+ghost use Rattle.check_lines.specs.Paths.{block_path, element, element_part, field_path, owner_path, quoted, slab_path, var_name, var_path};
+ghost use Rattle.check_lines.specs.code.Names.{bytes_of, known};
+
+use crate::known_names::Names;
+use crate::number::put_around;
+use crate::shown::put_name;
+use crate::words::put_field_word;
+use devices::{Sink, WriteFailed, put};
+use nc_base::{FormatFault, Header};
+use nc_fields::{Owner, Place};
+use nc_layout::{Block, Slab};
+
+/// Writes the path of a field, with the names that are known at it.
+#[tactic(auto, using(devices::proofs::Writes::writes), unfolding(crate::specs::Paths::field_path))]
+pub(crate) fn put_field_path<W: Sink>(
+    sink: &mut W,
+    names: Names<'_>,
+    place: Place,
+) -> Result<(), WriteFailed>
+    ensures { Wrote W.view sink.old sink.new (field_path (known names.entry) place) result }
+{
+    put_owner(sink, names, place.owner)?;
+    put_field_word(sink, place.name)
+}
+
+/// Writes what a field belongs to.
+#[tactic(auto, using(devices::proofs::Writes::writes), unfolding(crate::specs::Paths::owner_path))]
+fn put_owner<W: Sink>(sink: &mut W, names: Names<'_>, owner: Owner) -> Result<(), WriteFailed>
+    ensures { Wrote W.view sink.old sink.new (owner_path (known names.entry) owner) result }
+{
+    match owner {
+        Owner::Header => Ok(()),
+        Owner::Dim(i) => put_element_part(sink, b"dim[", i, names.element),
+        Owner::GlobalAtt(i) => put_element_part(sink, b"gatt[", i, names.element),
+        Owner::Var(i) => put_element_part(sink, b"var[", i, names.element),
+        Owner::VarAtt { var, att } => {
+            put_element_part(sink, b"var[", var, names.element)?;
+            put_element_part(sink, b"att[", att, names.att)
+        }
+    }
+}
+
+/// Writes an element of a list, and a space after it.
+#[tactic(auto, using(devices::proofs::Writes::writes), unfolding(crate::specs::Paths::element_part))]
+fn put_element_part<W: Sink>(
+    sink: &mut W,
+    word: &[u8],
+    i: u64,
+    name: Option<&[u8]>,
+) -> Result<(), WriteFailed>
+    ensures { Wrote W.view sink.old sink.new (element_part word.now i (bytes_of name.entry)) result }
+{
+    put_element(sink, word, i, name)?;
+    put(sink, b" ")
+}
+
+/// Writes an element of a list: what it is, with an opening bracket, its number, and its name if there is one.
+#[tactic(auto, using(devices::proofs::Writes::writes), unfolding(crate::specs::Paths::element))]
+fn put_element<W: Sink>(
+    sink: &mut W,
+    word: &[u8],
+    i: u64,
+    name: Option<&[u8]>,
+) -> Result<(), WriteFailed>
+    ensures { Wrote W.view sink.old sink.new (element word.now i (bytes_of name.entry)) result }
+{
+    put_around(sink, word, i as u128, b"]")?;
+    put_quoted(sink, name)
+}
+
+/// Writes a name between quotes after a space, or nothing if there is no name.
+#[tactic(auto, using(devices::proofs::Writes::writes), unfolding(crate::specs::Paths::quoted))]
+fn put_quoted<W: Sink>(sink: &mut W, name: Option<&[u8]>) -> Result<(), WriteFailed>
+    ensures { Wrote W.view sink.old sink.new (quoted (bytes_of name.entry)) result }
+{
+    let Some(name) = name else {
+        return Ok(());
+    };
+    put(sink, b" ")?;
+    put_name(sink, name)
+}
+
+/// Writes the path of a variable, with its name if the header is whole.
+#[tactic(auto, unfolding(crate::specs::Paths::var_path))]
+pub(crate) fn put_var_path<W: Sink>(
+    sink: &mut W,
+    header: &Result<Header, FormatFault>,
+    i: u64,
+) -> Result<(), WriteFailed>
+    ensures { Wrote W.view sink.old sink.new (var_path header.now i) result }
+{
+    put_element(sink, b"var[", i, var_name(header, i))
+}
+
+/// Returns the name of a variable, if the header is whole.
+fn var_name<'a>(header: &'a Result<Header, FormatFault>, i: u64) -> Option<&'a [u8]>
+    ensures { bytes_of result ≡ var_name header.entry.now i }
+{
+    match header {
+        Ok(header) => {
+            let var = header.vars.as_slice().get(i as usize)?;
+            Some(var.name.as_slice())
+        }
+        Err(_) => None,
+    }
+}
+
+/// Writes the path of a block.
+#[tactic(auto, unfolding(crate::specs::Paths::block_path))]
+pub(crate) fn put_block_path<W: Sink>(
+    sink: &mut W,
+    header: &Result<Header, FormatFault>,
+    block: Block,
+) -> Result<(), WriteFailed>
+    ensures { Wrote W.view sink.old sink.new (block_path header.now block) result }
+{
+    match block {
+        Block::Var(i) => put_var_path(sink, header, i),
+        Block::Records => put(sink, b"the records"),
+    }
+}
+
+/// Writes the path of a slab.
+#[tactic(auto, using(devices::proofs::Writes::writes), unfolding(crate::specs::Paths::slab_path))]
+pub(crate) fn put_slab_path<W: Sink>(
+    sink: &mut W,
+    header: &Result<Header, FormatFault>,
+    slab: Slab,
+) -> Result<(), WriteFailed>
+    ensures { Wrote W.view sink.old sink.new (slab_path header.now slab) result }
+{
+    match slab {
+        Slab::Var(i) => put_var_path(sink, header, i),
+        Slab::Record { var, record } => {
+            put_var_path(sink, header, var)?;
+            put_around(sink, b" record ", record as u128, b"")
+        }
+    }
+}

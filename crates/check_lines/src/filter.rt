@@ -1,0 +1,13 @@
+//! Which findings to report.
+
+use nc_base::Sequence;
+use nc_check::Severity;
+
+/// Which findings to report: those that are grave enough, and not of an ignored kind.
+#[derive(Debug, Drop)]
+pub struct FilterOptions<'a> {
+    /// How grave a finding has to be at least: `-l`.
+    pub level: Severity,
+    /// The words of the kinds that are ignored: `-i`.
+    pub ignored: Sequence<&'a str>,
+}

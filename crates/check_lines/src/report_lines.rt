@@ -1,0 +1,138 @@
+//! The lines of a report.
+
+ghost use Rattle.std.specs.Prelude.{◌≡◌, IfOk};
+ghost use Rattle.cli_base.specs.Arguments.{texts_of};
+ghost use Rattle.devices.specs.code.SinkWrites.{Wrote};
+ghost use Rattle.check_lines.specs.Lines.{gravest, has_reported, is_at_level, is_ignored, is_reported, line_if, lines};
+ghost use Rattle.check_lines.specs.code.Filters.{filter_for};
+ghost use Rattle.check_lines.specs.code.Names.{IsPassed};
+
+use crate::filter::FilterOptions;
+use crate::line::put_line;
+use crate::passed::{Passed, nothing_passed, pass_to};
+use crate::words::kind_word;
+use devices::{Sink, WriteFailed};
+use nc_check::{Finding, Kind, Report, Severity};
+use nc_fields::Listing;
+
+/// Writes a line for each finding of a report that is grave enough and of no ignored kind, in the order of the report. Each line begins
+/// with `file`, which is the path of the file.
+///
+/// # Errors
+///
+/// The sink failed. It took some prefix of the lines.
+pub fn put_lines<W: Sink>(
+    sink: &mut W,
+    file: &[u8],
+    report: &Report,
+    filter: &FilterOptions<'_>,
+) -> Result<(), WriteFailed>
+    ensures { Wrote W.view sink.old sink.new
+        (lines (filter_for filter.now) file.now report.now.listing report.now.findings) result }
+{
+    put_lines_of(
+        sink,
+        file,
+        &report.listing,
+        filter,
+        report.findings.as_slice(),
+    )
+}
+
+/// Writes the lines of these findings. It goes over the fields of the listing along with them.
+#[tactic(auto, using(devices::proofs::Writes::writes))]
+fn put_lines_of<W: Sink>(
+    sink: &mut W,
+    file: &[u8],
+    listing: &Listing,
+    filter: &FilterOptions<'_>,
+    findings: &[Finding],
+) -> Result<(), WriteFailed>
+    ensures { Wrote W.view sink.old sink.new
+        (lines (filter_for filter.now) file.now listing.now findings.now) result }
+{
+    let mut passed = nothing_passed();
+    for finding in findings {
+        passed = put_line_if(sink, file, listing, filter, passed, finding)?;
+    }
+    Ok(())
+}
+
+/// Writes the line of a finding, if it is reported. Returns what is known of the fields that were passed.
+#[tactic(auto, using(devices::proofs::Writes::writes))]
+fn put_line_if<'a, W: Sink>(
+    sink: &mut W,
+    file: &[u8],
+    listing: &'a Listing,
+    filter: &FilterOptions<'_>,
+    passed: Passed<'a>,
+    finding: &Finding,
+) -> Result<Passed<'a>, WriteFailed>
+    requires { IsPassed listing.now.entries passed }
+    ensures text { Wrote W.view sink.old sink.new
+        (line_if (filter_for filter.now) file.now listing.entry.now finding.now) result }
+    ensures passed { IfOk result (IsPassed listing.entry.now.entries) }
+{
+    if !is_reported(filter, finding) {
+        return Ok(passed);
+    }
+    let passed = pass_to(passed, listing.entries.as_slice(), finding.field);
+    put_line(sink, file, listing, passed.names, finding)?;
+    Ok(passed)
+}
+
+/// Returns the gravest severity of the findings of the report that are reported, or `None` if none is.
+pub fn gravest(report: &Report, filter: &FilterOptions<'_>) -> Option<Severity>
+    ensures { result ≡ gravest (filter_for filter.now) report.now.findings }
+{
+    if has_reported(report, filter, Severity::Error) {
+        Some(Severity::Error)
+    } else if has_reported(report, filter, Severity::Violation) {
+        Some(Severity::Violation)
+    } else if has_reported(report, filter, Severity::Note) {
+        Some(Severity::Note)
+    } else {
+        None
+    }
+}
+
+/// Returns true if a finding of the report is reported and at least this grave.
+fn has_reported(report: &Report, filter: &FilterOptions<'_>, severity: Severity) -> bool
+    ensures { result ≡ has_reported (filter_for filter.now) severity report.now.findings }
+{
+    let findings = report.findings.as_slice();
+    findings.iter().any(|finding| {
+        is_reported(filter, finding) && is_at_level(severity, finding.fact.kind().severity())
+    })
+}
+
+/// Returns true if the finding is grave enough, and of no ignored kind.
+fn is_reported(filter: &FilterOptions<'_>, finding: &Finding) -> bool
+    ensures { result ≡ is_reported (filter_for filter.now) finding.now }
+{
+    let kind = finding.fact.kind();
+    is_at_level(filter.level, kind.severity()) && !is_ignored(filter.ignored.as_slice(), kind)
+}
+
+/// Returns true if one of the words is that of this kind.
+fn is_ignored(words: &[&str], kind: Kind) -> bool
+    ensures { result ≡ is_ignored (texts_of words.now) kind }
+{
+    for word in words {
+        if *word == kind_word(kind) {
+            return true;
+        }
+    }
+    false
+}
+
+/// Returns true if this severity is reported at this level.
+fn is_at_level(level: Severity, severity: Severity) -> bool
+    ensures { result ≡ is_at_level level severity }
+{
+    match level {
+        Severity::Note => true,
+        Severity::Violation => !matches!(severity, Severity::Note),
+        Severity::Error => matches!(severity, Severity::Error),
+    }
+}

@@ -1,0 +1,155 @@
+//! How a line shows the bytes of names and paths.
+
+ghost use Rattle.std.specs.Prelude.{◌≡◌, ◌≤◌};
+ghost use Rattle.std.specs.List.{list_all};
+ghost use Rattle.std.specs.Str.{is_utf8};
+ghost use Rattle.devices.specs.code.SinkWrites.{Wrote};
+ghost use Rattle.check_lines.specs.Shown.{dots, shown, shown_byte, shown_name, shown_path, stays};
+ghost use Rattle.check_lines.specs.Words.{each_of};
+
+use cdl_print::put_escaped;
+use devices::{Sink, WriteFailed, put};
+use nc_base::Quoting;
+use std::str;
+
+/// How bytes stand in a line.
+#[derive(Clone, Copy, Debug, PartialEq, Eq)]
+enum Form {
+    /// Between quotes, so that quotes in them need an escape.
+    Quoted,
+    /// Without quotes.
+    Bare,
+}
+
+/// The greatest length of a path that is opened, in bytes. Longer paths aren't shown whole.
+pub const LONGEST_PATH: usize = 65_535;
+
+/// The length of the longest name that is shown whole, in bytes.
+const LONGEST_NAME: usize = 256;
+
+/// How many bytes are shown of what is too long to be shown whole.
+const SHOWN_OF_LONG: usize = 64;
+
+/// Writes a name between quotes; of a long one its beginning, with dots after the quotes.
+#[tactic(auto, using(devices::proofs::Writes::writes), unfolding(crate::specs::Shown::shown_name))]
+pub(crate) fn put_name<W: Sink>(sink: &mut W, name: &[u8]) -> Result<(), WriteFailed>
+    ensures { Wrote W.view sink.old sink.new (shown_name name.now) result }
+{
+    put(sink, b"\"")?;
+    put_shown(sink, Form::Quoted, LONGEST_NAME, name)?;
+    put(sink, b"\"")?;
+    put(sink, dots(LONGEST_NAME, name))
+}
+
+/// Writes a path as lines show it; of one that is too long to be opened its beginning, and dots.
+///
+/// # Errors
+///
+/// The sink failed. It took some prefix of the text.
+#[tactic(auto, using(devices::proofs::Writes::writes), unfolding(crate::specs::Shown::shown_path))]
+pub fn put_file<W: Sink>(sink: &mut W, file: &[u8]) -> Result<(), WriteFailed>
+    ensures { Wrote W.view sink.old sink.new (shown_path file.now) result }
+{
+    put_shown(sink, Form::Bare, LONGEST_PATH, file)?;
+    put(sink, dots(LONGEST_PATH, file))
+}
+
+/// Returns what follows the beginning of bytes that are longer than `longest`: dots, otherwise nothing.
+fn dots(longest: usize, bytes: &[u8]) -> &'static [u8]
+    ensures { result.now ≡ dots longest bytes.now }
+{
+    if bytes.len() <= longest { b"" } else { b"..." }
+}
+
+/// Writes bytes as they stand in a line, or only the first ones if there are more than `longest`.
+#[tactic(auto, unfolding(crate::specs::Shown::shown))]
+fn put_shown<W: Sink>(
+    sink: &mut W,
+    form: Form,
+    longest: usize,
+    bytes: &[u8],
+) -> Result<(), WriteFailed>
+    requires { 64 ≤ longest }
+    ensures { Wrote W.view sink.old sink.new (shown form longest bytes.now) result }
+{
+    if bytes.len() <= longest {
+        put_bytes(sink, form, !is_utf8(bytes), bytes)
+    } else {
+        put_bytes(sink, form, true, &bytes[..SHOWN_OF_LONG])
+    }
+}
+
+/// Writes bytes as they stand in a line, all at once if each stands for itself.
+fn put_bytes<W: Sink>(
+    sink: &mut W,
+    form: Form,
+    in_octal: bool,
+    bytes: &[u8],
+) -> Result<(), WriteFailed>
+    ensures { Wrote W.view sink.old sink.new (each_of (shown_byte form in_octal) bytes.now) result }
+{
+    if all_stay(form, in_octal, bytes) {
+        put(sink, bytes)
+    } else {
+        put_each(sink, form, in_octal, bytes)
+    }
+}
+
+/// Returns true if each of the bytes stands for itself.
+fn all_stay(form: Form, in_octal: bool, bytes: &[u8]) -> bool
+    ensures { result ≡ list_all (stays form in_octal) bytes.now }
+{
+    bytes.iter().all(|b| stays(form, in_octal, *b))
+}
+
+/// Writes bytes as they stand in a line, one after the other.
+#[tactic(auto, using(devices::proofs::Writes::writes))]
+fn put_each<W: Sink>(
+    sink: &mut W,
+    form: Form,
+    in_octal: bool,
+    bytes: &[u8],
+) -> Result<(), WriteFailed>
+    ensures { Wrote W.view sink.old sink.new (each_of (shown_byte form in_octal) bytes.now) result }
+{
+    for b in bytes {
+        put_byte(sink, form, in_octal, *b)?;
+    }
+    Ok(())
+}
+
+/// Writes a byte as it stands in a line.
+fn put_byte<W: Sink>(sink: &mut W, form: Form, in_octal: bool, b: u8) -> Result<(), WriteFailed>
+    ensures { Wrote W.view sink.old sink.new (shown_byte form in_octal b) result }
+{
+    if stays(form, in_octal, b) {
+        put(sink, &[b])
+    } else if b >= 0x80 {
+        put(
+            sink,
+            &[b'\\', b'0' + b / 64, b'0' + b / 8 % 8, b'0' + b % 8],
+        )
+    } else {
+        put_escaped(sink, Quoting::InString, &[b])
+    }
+}
+
+/// Returns true if a byte stands for itself. `in_octal` is true if those from 0x80 on don't.
+fn stays(form: Form, in_octal: bool, b: u8) -> bool
+    ensures { result ≡ stays form in_octal b }
+{
+    if b >= 0x80 {
+        !in_octal
+    } else if b == b'"' || b == b'\'' {
+        matches!(form, Form::Bare)
+    } else {
+        !(b.is_ascii_control() || b == b'\\')
+    }
+}
+
+/// Returns true if the bytes are UTF-8.
+fn is_utf8(bytes: &[u8]) -> bool
+    ensures { result ≡ is_utf8 bytes.now }
+{
+    str::from_utf8(bytes).is_ok()
+}

@@ -1,6 +1,0 @@
-use Rattle.std.proofs.Common.{◌∙◌}
-use Rattle.nc_base.proofs.NameLemmas.{is_ok-is_utf8}
-use Rattle.nccheck.proofs.shown.is_utf8.Goals as goal
-
-pub returns : goal.returns
-returns c = c.is_ok.ensures.value ∙ is_ok-is_utf8 _ _ _ _ c.from_utf8.ensures.cases
