@@ -74,7 +74,7 @@ verdict changed_file 0
 recipe 'new.tmp'
 verdict file_under_another_name_first 0
 rm tides.nc
-rule 'DELETE_ON_ERROR' tides.nc
+rule '%.nc: %.cdl' tides.nc
 verdict rule_for_a_file 0
 run ncdump tides.nc
 cp tides.cdl "$work/want/stdout"
