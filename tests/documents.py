@@ -8,7 +8,6 @@
 - A link to a file leads to one that is there, and a link to a heading to one that stands in its document.
 - A file of code that is named, with its folders or without, is there.
 - A definition that is named by its file, as `File.word`, stands in a file of that name in `specs/`, if there is one.
-- A function that docs/PROVED.md names with its module, as `name` (within: `module`), stands in a file of the code of that name.
 - The code at the head of a crate's `src/lib.rt` is the body of a function of the crate `uses`, which may end with `Ok(())` besides.
 - Each block of Rattle in a document stands so in a file of the code.
 - The first line of each file of `specs/` says its kind, and those for contracts are the ones in `specs/code/`.
@@ -22,7 +21,7 @@
   PAGE_COLUMNS bytes, which of the three `mandoc` alone looks at.
 - VERSION, the newest version of CHANGELOG.md and the manual pages agree.
 
-The last line is 'N passed, M failed'; a link, a file, a definition, such a function, an example, a file of `specs/`, a line of such a list, a
+The last line is 'N passed, M failed'; a link, a file, a definition, an example, a file of `specs/`, a line of such a list, a
 command, a page by its lines and under a tool, and a file that names the version count as one each.
 """
 
@@ -53,8 +52,6 @@ FILE = re.compile(r"`((?!\S*\bFile\.antt)[\w/.]+\.(?:rt|antt|py|sh|c))`")
 CODE = ["crates/*/src", "crates/*/specs", "crates/*/proofs", "tests", "bench", "samples"]
 # a definition, named by its file
 NAMED = re.compile(r"`([A-Z]\w+)\.(?!antt`)(\w+)`")
-# functions, and the module that they stand in
-WITHIN = re.compile(r"((?:`\w+(?:::\w+)?`(?:, )?)+) \(within: `(\w+)`\)")
 # an example at the head of a crate, and the body of a function
 EXAMPLE = re.compile(r"^//! ```\n((?://!.*\n)*?)//! ```\n", re.M)
 BODY = re.compile(r"^(?:pub fn .*)?\{\n((?:    .*\n|\n)*)\}\n", re.M)
@@ -120,15 +117,6 @@ def definitions():
             if file in files:
                 said = "" if re.search(rf"(?<![\w.]){word}\b", files[file]) else "ISN'T THERE"
                 yield f"{document.relative_to(TOP)}: {file}.{word}", said
-
-
-def functions():
-    """Each function that PROVED.md names with its module."""
-    for names, module in WITHIN.findall(PROVED.read_text()):
-        text = "".join(path.read_text() for path in TOP.glob(f"crates/*/src/**/{module}.rt"))
-        for name in re.findall(r"(\w+)`", names):
-            said = "" if re.search(rf"\bfn {name}\b", text) else "ISN'T THERE"
-            yield f"docs/PROVED.md: {name} (within: {module})", said
 
 
 def examples():
@@ -285,7 +273,7 @@ def main():
     if sys.argv[1:] == ["--lines"]:
         PROVED.write_text(counted(PROVED.read_text()))
         return 0
-    checks = [links, files, definitions, functions, examples, kinds, believed, length, pages, versions]
+    checks = [links, files, definitions, examples, kinds, believed, length, pages, versions]
     if sys.argv[1:] != ["--text"]:
         missing = [it for it in PROGRAMS if not os.access(it, os.X_OK)]
         if missing:
