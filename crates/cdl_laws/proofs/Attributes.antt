@@ -1,7 +1,7 @@
 -- The values of an attribute are read back.
-use Rattle.std.proofs.Common.{◌≡◌, ℕ, zero, suc, ◌+◌, ◌*◌, ◌/◌, ◌^◌, ◌<◌, true, false, List, [], ◌∷◌, length, drop, take, map, sym, ◌∙◌, ap, refl, subst, arith, length-take, length-drop, ℤ, pos, unsigned_abs, if◌then◌else◌, Ok}
+use Rattle.std.proofs.Common.{◌≡◌, ℕ, zero, suc, ◌+◌, ◌*◌, ◌/◌, ◌^◌, ◌<◌, true, false, List, [], ◌∷◌, ◌++◌, length, drop, take, map, sym, ◌∙◌, ap, refl, subst, arith, length-take, length-drop, ℤ, pos, unsigned_abs, if◌then◌else◌, Ok}
 use Rattle.cdl_laws.proofs.Prelude.{flat_map, mul-div_cancel, ints, take-append-drop, get_or-drop, AreBytes, Att, NcType, Char, Version, numbers, numbers_from, bytes_of_number, IsInRange, size_of, IsSoundAtt, att_text, numbers_text, joined, without_trailing_nuls, IsName, is_char, has_type, trimmed_att, HasSomeNumber, Characters, has_number, in_turn, add_constant, some_size, is_had, Each, each_map}
-use Rattle.nc_base.proofs.NumberBytes.{numbers_in_range}
+use Rattle.nc_base.proofs.NumberBytes.{bytes_read_back, numbers_in_range}
 use Rattle.cdl_laws.proofs.Acts.{numbers_added, chars_added}
 use Rattle.cdl_laws.proofs.Declarations.{IsListOf, chars_list, numbers_list, numbers_said, suffixed, first, others, all_bytes}
 use Rattle.cdl_laws.proofs.Wholes.{Speaks}
@@ -29,7 +29,10 @@ pub numbers_back : (ty : NcType) (n : ℕ) (bytes : List ℕ) → AreBytes bytes
 numbers_back ty zero [] small h = refl
 numbers_back ty zero (b ∷ bytes) small h = absurd (let e : suc (length bytes) ≡ 0 * size_of ty = h in omega (arith, e))
 numbers_back ty (suc n) bytes small h =
-    grind (arith, take_bytes, take-append-drop, numbers_back ty n (drop (size_of ty) bytes) (drop_bytes (size_of ty) bytes small) (len_drop ty n bytes h))
+    let rest = flat_map (bytes_of_number ty) (numbers_from ty n (drop (size_of ty) bytes)) in
+    ap (λ first. first ++ rest) (bytes_read_back ty (take (size_of ty) bytes) (take_bytes (size_of ty) bytes small) (len_take ty n bytes h)) ∙
+    ap (λ later. take (size_of ty) bytes ++ later) (numbers_back ty n (drop (size_of ty) bytes) (drop_bytes (size_of ty) bytes small) (len_drop ty n bytes h)) ∙
+    take-append-drop (size_of ty) bytes
 
 pub numbers_range : (ty : NcType) (n : ℕ) (bytes : List ℕ) → AreBytes bytes → length bytes ≡ n * size_of ty → Each (IsInRange ty) (numbers_from ty n bytes)
 numbers_range ty zero bytes small h = tt

@@ -77,7 +77,7 @@ pub numeral_again : (v : Version) (ty : NcType) (n : ℤ) → unsigned_abs n < 2
     numeral v (signed_decimal n ++ number_suffix ty) ≡ Some (record { value = n; ty = ty })
 unfolding numeral parts
 numeral_again v ty (pos n) h k l =
-    search (rules, first_sign, decimal, number_suffix, decimal_digits, decimal_nonempty, option_map, number, unsigned_again)
+    rw (first_sign (decimal n) (number_suffix ty) (decimal_digits n) (decimal_nonempty n h)) (ap (option_map number) (unsigned_again v false ty n h k l))
 numeral_again v ty (negsuc n) h k l = ap (option_map number) (unsigned_again v true ty (suc n) h k l)
 
 -- a number as a value
