@@ -5,6 +5,7 @@ pub mod Strings
 pub mod StringContents
 pub mod Scans
 pub mod PlainTokens
+pub mod Gaps
 pub mod Sizes
 pub mod Suffixes
 pub mod Decimals

@@ -68,15 +68,19 @@ scan_blank at_start bs h =
 pub feeds_on : (b : ℕ) (xs : List ℕ) → (b == 0x0a) ≡ false → count_by (λ b. b == 0x0a) (b ∷ xs) ≡ count_by (λ b. b == 0x0a) xs
 feeds_on b xs h = sum_by-append (λ b. cond (b == 0x0a) 1 0) (b ∷ []) xs ∙ ap (λ c. 0 + cond c 1 0 + count_by (λ b. b == 0x0a) xs) h ∙ (let e : 0 + 0 + count_by (λ b. b == 0x0a) xs ≡ count_by (λ b. b == 0x0a) xs = omega arith in e)
 
-digits_flat : (bs : List ℕ) → count_by (λ b. b == 0x0a) (take (prefix_len goes_on_number bs) bs) ≡ 0
-digits_flat [] = refl
-digits_flat (b ∷ bs) = by (goes_on_number b) refl (digits_flat bs)
+-- a run of bytes of a class that it is not in has none
+pub run_flat : (p : ℕ → Bool) → ((b : ℕ) → p b ≡ true → (b == 0x0a) ≡ false) → (bs : List ℕ) → count_by (λ b. b == 0x0a) (take (prefix_len p bs) bs) ≡ 0
+run_flat p other [] = refl
+run_flat p other (b ∷ bs) = by (p b) refl (run_flat p other bs)
   where
-    by : (c : Bool) → goes_on_number b ≡ c → count_by (λ b. b == 0x0a) (take (prefix_len goes_on_number bs) bs) ≡ 0 → count_by (λ b. b == 0x0a) (take (cond c (1 + prefix_len goes_on_number bs) 0) (b ∷ bs)) ≡ 0
+    by : (c : Bool) → p b ≡ c → count_by (λ b. b == 0x0a) (take (prefix_len p bs) bs) ≡ 0 → count_by (λ b. b == 0x0a) (take (cond c (1 + prefix_len p bs) 0) (b ∷ bs)) ≡ 0
     by true h on =
-        let other : (b == 0x0a) ≡ false = grind (arith, h) in
-        ap (λ n. count_by (λ b. b == 0x0a) (take n (b ∷ bs))) (let e : 1 + prefix_len goes_on_number bs ≡ suc (prefix_len goes_on_number bs) = omega arith in e) ∙ feeds_on b (take (prefix_len goes_on_number bs) bs) other ∙ on
+        ap (λ n. count_by (λ b. b == 0x0a) (take n (b ∷ bs))) (let e : 1 + prefix_len p bs ≡ suc (prefix_len p bs) = omega arith in e) ∙
+        feeds_on b (take (prefix_len p bs) bs) (other b h) ∙ on
     by false h on = refl
+
+digits_flat : (bs : List ℕ) → count_by (λ b. b == 0x0a) (take (prefix_len goes_on_number bs) bs) ≡ 0
+digits_flat bs = run_flat goes_on_number (λ b h. grind (arith, h)) bs
 
 pub number_flat : (bs : List ℕ) → begins_number bs ≡ true → count_by (λ b. b == 0x0a) (take (1 + prefix_len goes_on_number (drop 1 bs)) bs) ≡ 0
 number_flat bs h = grind (arith, false≢true, number_low, feeds_on, digits_flat)

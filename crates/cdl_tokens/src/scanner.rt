@@ -2,7 +2,7 @@
 
 ghost use Rattle.std.specs.Prelude.{◌≡◌, ◌+◌, ◌≤◌, ◌<◌, ◌==◌, length, IfSome, count_by, drop, slice_index, take, nat_lt, false, true, Some, None};
 ghost use Rattle.cdl_tokens.specs.code.PlainTokens.{IsComma, IsListed, IsPlainString, IsUnderscore};
-ghost use Rattle.cdl_tokens.specs.Scan.{scan, token};
+ghost use Rattle.cdl_tokens.specs.Scan.{gap, scan, token};
 ghost use Rattle.cdl_tokens.specs.Tokens.{line_at, raw, tokens};
 
 use crate::bytes::{byte_at, is_blank, is_digit, is_mark};
@@ -258,7 +258,7 @@ impl<'a> Scanner<'a> {
             if !is_blank(self.text[self.at]) {
                 return;
             }
-            *self = self.after_byte();
+            *self = self.after_gap(1);
         }
     }
 
@@ -293,7 +293,7 @@ impl<'a> Scanner<'a> {
         ensures on { offset_of self.old ≤ offset_of self.new }
     {
         if self.at < self.text.len() && self.text[self.at] == b' ' {
-            *self = self.after_byte();
+            *self = self.after_gap(1);
             return true;
         }
         false
@@ -377,7 +377,7 @@ impl<'a> Scanner<'a> {
             let (first, line) = (self.at, self.line);
             match found.kind {
                 Some(kind) => {
-                    *self = self.after(found.len, false);
+                    *self = self.after_token(found.len);
                     return Token {
                         kind,
                         line,
@@ -385,7 +385,7 @@ impl<'a> Scanner<'a> {
                         past: self.at,
                     };
                 }
-                None => *self = self.after(found.len, self.at_start),
+                None => *self = self.after_gap(found.len),
             }
         }
         Token {
@@ -396,28 +396,31 @@ impl<'a> Scanner<'a> {
         }
     }
 
-    /// Returns the scanner one byte further on. Its line is one more if the passed byte is a line feed.
-    fn after_byte(self) -> Scanner<'a>
-        requires { self.at < length self.text.now }
+    /// Returns the scanner after the gap that comes next, of `len` bytes: one of white space, or a comment, which has no line feed. So the
+    /// line is one more only if the first byte is a line feed.
+    fn after_gap(self, len: usize) -> Scanner<'a>
+        requires gap { scan self.at_start (drop self.at self.text.now) ≡ gap len }
+        requires some { self.at < length self.text.now }
+        requires within { self.at + len ≤ length self.text.now }
         ensures text { result.text.now ≡ self.entry.text.now }
-        ensures at { result.at ≡ self.entry.at + 1 }
+        ensures at { result.at ≡ self.entry.at + len }
         ensures at_start { result.at_start ≡ self.entry.at_start }
     {
         let is_feed = self.text[self.at] == b'\n';
         Scanner {
             text: self.text,
-            at: self.at + 1,
+            at: self.at + len,
             line: self.line + is_feed as u64,
             at_start: self.at_start,
         }
     }
 
-    /// Returns the scanner `len` bytes further on. Each line feed passed adds one to its line. `at_start` is true if no token is read yet.
-    fn after(self, len: usize, at_start: bool) -> Scanner<'a>
+    /// Returns the scanner after a token of `len` bytes. Each line feed passed adds one to its line.
+    fn after_token(self, len: usize) -> Scanner<'a>
         requires { self.at + len ≤ length self.text.now }
         ensures text { result.text.now ≡ self.entry.text.now }
         ensures at { result.at ≡ self.entry.at + len }
-        ensures at_start { result.at_start ≡ at_start }
+        ensures at_start { result.at_start ≡ false }
     {
         let (_, rest) = self.text.split_at(self.at);
         let (passed, _) = rest.split_at(len);
@@ -425,7 +428,7 @@ impl<'a> Scanner<'a> {
             text: self.text,
             at: self.at + len,
             line: self.line + count_of(passed, b'\n') as u64,
-            at_start,
+            at_start: false,
         }
     }
 }
