@@ -8,7 +8,7 @@ use cdl_values::ReadError;
 use std::alloc::AllocError;
 
 /// Why a call that reads several statements gives up.
-#[derive(Clone, Copy, Debug, PartialEq, Eq)]
+#[derive(Clone, Copy)]
 pub enum ParseError {
     /// An allocation failed; nothing is said of the text.
     OutOfMemory,

@@ -21,7 +21,7 @@ use cdl_tokens::{TokenKind, number_of_token};
 use nc_base::{ListedArray, Version};
 
 /// Why the quick pass over a statement stops. It doesn't name the fault of the statement.
-#[derive(Clone, Copy, Debug)]
+#[derive(Clone, Copy)]
 pub enum FastPathFault {
     /// An allocation failed.
     OutOfMemory,

@@ -13,7 +13,7 @@ use nc_base::Quoting;
 use std::str;
 
 /// How bytes stand in a line.
-#[derive(Clone, Copy, Debug, PartialEq, Eq)]
+#[derive(Clone, Copy)]
 enum Form {
     /// Between quotes, so that quotes in them need an escape.
     Quoted,

@@ -9,7 +9,7 @@ use nc_fields::{Entry, FieldName};
 use std::alloc::{AllocError, Global};
 
 /// A field of a listing that is a number.
-#[derive(Clone, Copy, Debug)]
+#[derive(Clone, Copy)]
 pub(crate) struct NumberField {
     /// Its index in the listing.
     pub(crate) index: u64,

@@ -19,7 +19,7 @@ pub(crate) struct Fields {
 }
 
 /// A field that is to be read: its place, its offset, and how many bytes it has to have.
-#[derive(Clone, Copy, Debug)]
+#[derive(Clone, Copy)]
 pub(crate) struct Start {
     pub(crate) place: Place,
     pub(crate) offset: u64,

@@ -3,7 +3,7 @@
 use crate::place::{FieldName, Owner, Place};
 
 /// A list of a header.
-#[derive(Clone, Copy, Debug, PartialEq, Eq)]
+#[derive(Clone, Copy)]
 pub(crate) enum ListName {
     /// The dimensions.
     Dims,

@@ -17,7 +17,7 @@ use std::alloc::Global;
 const NC_VARIABLE: u32 = 11;
 
 /// A variable that was read, with the bytes that a record has up to and including it.
-#[derive(Debug, Drop)]
+#[derive(Drop)]
 pub(crate) struct CountedVar {
     pub(crate) var: Var,
     /// The bytes of the padded slabs of all record variables up to and including `var`.

@@ -3,7 +3,7 @@
 use nc_base::{NcType, Var};
 
 /// A variable that was read, with the bytes that a record has up to and including it.
-#[derive(Debug, Drop)]
+#[derive(Drop)]
 pub(crate) struct SizedVar {
     pub(crate) var: Var,
     /// The bytes of the padded slabs of all record variables up to and including `var`.
@@ -11,7 +11,7 @@ pub(crate) struct SizedVar {
 }
 
 /// The type of a variable that was read, with the bytes that a record has up to and including that variable.
-#[derive(Debug, Drop)]
+#[derive(Drop)]
 pub(crate) struct SizedType {
     pub(crate) ty: NcType,
     /// The bytes of the padded slabs of all record variables up to and including the one that has this type.

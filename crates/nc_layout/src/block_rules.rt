@@ -13,7 +13,7 @@ use nc_base::Sequence;
 use std::alloc::AllocError;
 
 /// How far the blocks reach that have been passed.
-#[derive(Clone, Copy, Debug, PartialEq, Eq)]
+#[derive(Clone, Copy)]
 pub(crate) struct Reached {
     /// The first block with the greatest end.
     pub values: Option<Extent>,

@@ -116,7 +116,7 @@ fn begins_records(slot: &Slot, begin: u64) -> bool
 }
 
 /// Where the values of a block end, and where their padding ends.
-#[derive(Clone, Copy, Debug, PartialEq, Eq)]
+#[derive(Clone, Copy)]
 struct Ends {
     values: u128,
     padding: u128,

@@ -15,7 +15,7 @@ use nc_base::{NumRecs, Sequence};
 use std::alloc::AllocError;
 
 /// Where the blocks of a file end, or the header if that is later.
-#[derive(Clone, Copy, Debug, PartialEq, Eq)]
+#[derive(Clone, Copy)]
 pub(crate) struct FileEnds {
     /// The greatest end of the blocks that aren't empty.
     pub values: u128,

@@ -9,7 +9,7 @@ use crate::slot::{Layout, Slot};
 use nc_base::{NumRecs, padding_len};
 
 /// The records of a file.
-#[derive(Clone, Copy, Debug, PartialEq, Eq)]
+#[derive(Clone, Copy)]
 pub(crate) struct FileRecords {
     /// The offset at which they begin, if there are record slots.
     pub begin: Option<u64>,

@@ -16,7 +16,7 @@ use nc_base::{Sequence, Version};
 use std::alloc::AllocError;
 
 /// What the rules on one slot depend on of the slots before it, and how many are left.
-#[derive(Clone, Copy, Debug, PartialEq, Eq)]
+#[derive(Clone, Copy)]
 pub(crate) struct PassedSlots {
     /// The greatest begin of the slots before it that aren't record slots.
     pub latest_begin: u64,

@@ -8,7 +8,7 @@ use devices::{OpenFailed, WriteFailed};
 use nc_fields::ListFault;
 
 /// Why a file could not be checked, or its lines not written.
-#[derive(Clone, Copy, Debug, PartialEq, Eq)]
+#[derive(Clone, Copy)]
 pub enum FileFault {
     /// The path can't be opened.
     CannotOpen,

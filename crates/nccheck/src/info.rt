@@ -9,7 +9,7 @@ use crate::fault_text::usage_line;
 use devices::{Sink, WriteFailed, put};
 
 /// What the program tells of itself.
-#[derive(Clone, Copy, Debug, PartialEq, Eq)]
+#[derive(Clone, Copy)]
 pub(crate) enum Info {
     /// The version: `-V`.
     Version,

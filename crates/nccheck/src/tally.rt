@@ -18,7 +18,7 @@ const REPORTED: u8 = 1;
 pub(crate) const TROUBLE: u8 = 2;
 
 /// How many files of a run were checked. Each counts once, for the gravest of what was reported of it.
-#[derive(Clone, Copy, Debug, PartialEq, Eq)]
+#[derive(Clone, Copy)]
 pub(crate) struct Tally {
     /// Those with an error.
     pub with_errors: u128,
@@ -85,7 +85,7 @@ impl Tally {
 }
 
 /// What the last line counts.
-#[derive(Clone, Copy, Debug, PartialEq, Eq)]
+#[derive(Clone, Copy)]
 enum Count {
     /// Files that were checked.
     Checked,

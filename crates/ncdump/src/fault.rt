@@ -35,7 +35,7 @@ pub enum DumpFault {
 }
 
 /// Why a file could not be opened or dumped.
-#[derive(Clone, Copy, Debug, PartialEq, Eq)]
+#[derive(Clone, Copy)]
 pub enum FileFault {
     /// The path can't be opened.
     CannotOpen,
@@ -44,7 +44,7 @@ pub enum FileFault {
 }
 
 /// Why a run failed.
-#[derive(Debug, Drop)]
+#[derive(Drop)]
 pub enum Failure {
     /// The command line could not be read.
     CommandLine(OptFault),

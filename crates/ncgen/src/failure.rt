@@ -10,7 +10,7 @@ use cli_base::OptFault;
 use devices::{CloseFailed, CreateFailed, OpenFailed, WriteFailed};
 
 /// Why no file was made of a text.
-#[derive(Clone, Copy, Debug, PartialEq, Eq)]
+#[derive(Clone, Copy)]
 pub enum InputFault {
     /// The path can't be opened.
     CannotOpen,
@@ -21,7 +21,7 @@ pub enum InputFault {
 }
 
 /// Why a file was not written.
-#[derive(Clone, Copy, Debug, PartialEq, Eq)]
+#[derive(Clone, Copy)]
 pub enum OutputFault {
     /// The output can't be created.
     CannotOpen,
@@ -30,7 +30,7 @@ pub enum OutputFault {
 }
 
 /// Why a run failed.
-#[derive(Debug, Drop)]
+#[derive(Drop)]
 pub enum Failure {
     /// The command line could not be read.
     CommandLine(OptFault),
