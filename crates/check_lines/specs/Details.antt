@@ -14,9 +14,9 @@ use Rattle.nc_fields.specs.Entries.{number_of}
 use Rattle.nc_layout.specs.declared.finding.Block.{Block}
 use Rattle.nc_layout.specs.declared.finding.LayoutFact.{LayoutFact}
 use Rattle.nc_layout.specs.declared.finding.LayoutFact.TheVariants as layout
-use Rattle.nc_check.specs.declared.finding.Fact.{Fact}
-use Rattle.nc_check.specs.declared.finding.Fact.TheVariants as fact
-use Rattle.nc_check.specs.FieldRules.{highest_rank, large_count, longest_name}
+use Rattle.nc_report.specs.declared.finding.Fact.{Fact}
+use Rattle.nc_report.specs.declared.finding.Fact.TheVariants as fact
+use Rattle.nc_report.specs.FieldRules.{highest_rank, large_count, longest_name}
 use Rattle.check_lines.specs.Paths.{block_path, var_path}
 use Rattle.check_lines.specs.Words.{around, each_of}
 

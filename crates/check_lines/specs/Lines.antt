@@ -9,10 +9,10 @@ use Rattle.nc_base.specs.declared.{fault.FormatFault.FormatFault, header.Header.
 use Rattle.nc_fields.specs.declared.{entry.Entry.Entry, header.Listing.Listing}
 use Rattle.nc_layout.specs.declared.finding.LayoutFact.{LayoutFact}
 use Rattle.nc_layout.specs.declared.finding.LayoutFact.TheVariants as layout
-use Rattle.nc_check.specs.Kinds.{kind_of, severity_of}
-use Rattle.nc_check.specs.declared.{finding.Fact.Fact, finding.Finding.Finding, kind.Kind.Kind, kind.Severity.Severity}
-use Rattle.nc_check.specs.declared.finding.Fact.TheVariants as fact
-use Rattle.nc_check.specs.declared.kind.Severity.TheVariants.{Error, Violation, Note}
+use Rattle.nc_report.specs.Kinds.{kind_of, severity_of}
+use Rattle.nc_report.specs.declared.{finding.Fact.Fact, finding.Finding.Finding, kind.Kind.Kind, kind.Severity.Severity}
+use Rattle.nc_report.specs.declared.finding.Fact.TheVariants as fact
+use Rattle.nc_report.specs.declared.kind.Severity.TheVariants.{Error, Violation, Note}
 use Rattle.check_lines.specs.Details.{details}
 use Rattle.check_lines.specs.Paths.{KnownNames, field_path, names_after, no_names, slab_path}
 use Rattle.check_lines.specs.Shown.{shown_path}

@@ -14,8 +14,8 @@ use crate::layout_details::{
 };
 use crate::number::put_around;
 use devices::{Sink, WriteFailed, put, put_decimal};
-use nc_check::{Fact, HIGHEST_RANK, LARGE_COUNT, LONGEST_NAME};
 use nc_fields::{Entry, Listing, Owner};
+use nc_report::{Fact, HIGHEST_RANK, LARGE_COUNT, LONGEST_NAME};
 
 /// Writes what a fact says of what is found at a field, or in the data, and of what is expected in its place.
 #[tactic(auto, using(devices::proofs::Writes::writes), unfolding(crate::specs::Details::details))]

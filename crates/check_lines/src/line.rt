@@ -12,9 +12,9 @@ use crate::shown::put_file;
 use crate::words::{kind_word, severity_word};
 use devices::{Sink, WriteFailed, put, put_decimal};
 use nc_base::{FormatFault, Header};
-use nc_check::{Fact, Finding, Kind};
 use nc_fields::{Entry, Listing};
 use nc_layout::LayoutFact;
+use nc_report::{Fact, Finding, Kind};
 
 /// Writes the line of a finding, with the names that are known at its field.
 #[tactic(auto, using(devices::proofs::Writes::writes), unfolding(crate::specs::Lines::line_with))]

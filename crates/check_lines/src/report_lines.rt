@@ -12,8 +12,8 @@ use crate::line::put_line;
 use crate::passed::{Passed, nothing_passed, pass_to};
 use crate::words::kind_word;
 use devices::{Sink, WriteFailed};
-use nc_check::{Finding, Kind, Report, Severity};
 use nc_fields::Listing;
+use nc_report::{Finding, Kind, Report, Severity};
 
 /// Writes a line for each finding of a report that is grave enough and of no ignored kind, in the order of the report. Each line begins
 /// with `file`, which is the path of the file.

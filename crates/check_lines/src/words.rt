@@ -6,8 +6,8 @@ ghost use Rattle.check_lines.specs.Words.{field_word, kind_word, severity_word};
 
 use crate::number::put_around;
 use devices::{Sink, WriteFailed, put};
-use nc_check::{Kind, Severity};
 use nc_fields::FieldName;
+use nc_report::{Kind, Severity};
 
 /// Returns the word of a severity.
 #[tactic(auto, unfolding(crate::specs::Words::severity_word))]

@@ -12,7 +12,7 @@ use std::alloc::{AllocError, Global};
 /// Returns the layout of a file of `file_len` bytes with this header, which ends at the offset `header_end`. Returns `None` if the layout
 /// isn't sound ([`Layout::is_sound`]), as the rules need it. Errs only if an allocation fails.
 ///
-/// If the bytes of the file spell the header, its layout is sound (`layout_laws::laws::spelled_headers_have_sound_layouts`).
+/// If the bytes of the file spell the header, its layout is sound (`ncnccheck_laws::laws::spelled_headers_have_sound_layouts`).
 pub fn sound_layout(
     alloc: Global,
     header: &Header,

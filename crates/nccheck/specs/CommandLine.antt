@@ -6,8 +6,8 @@ use Rattle.clap.specs.Words.{App, Row, Rule, all_of, fault_of, first_of, matches
 use Rattle.clap.specs.declared.builder.ArgAction.TheVariants.{Append}
 use Rattle.cli_base.specs.Arguments.{flag, if_faultless, is_given, option, quiet}
 use Rattle.nc_base.specs.Bytes.{Bytes}
-use Rattle.nc_check.specs.declared.kind.Severity.{Severity}
-use Rattle.nc_check.specs.declared.kind.Severity.TheVariants.{Error, Violation, Note}
+use Rattle.nc_report.specs.declared.kind.Severity.{Severity}
+use Rattle.nc_report.specs.declared.kind.Severity.TheVariants.{Error, Violation, Note}
 use Rattle.check_lines.specs.Lines.{Filter}
 use Rattle.nccheck.specs.KindWords.{is_kind_word}
 

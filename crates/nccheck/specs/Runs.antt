@@ -10,9 +10,9 @@ use Rattle.devices.specs.Openers.{OpenerView}
 use Rattle.devices.specs.Readers.{ReaderView}
 use Rattle.devices.specs.Sinks.{SinkView, Appended, FailedPartway}
 use Rattle.devices.specs.Uses.{Use}
-use Rattle.nc_check.specs.Reports.{IsReport}
+use Rattle.nc_report.specs.Reports.{IsReport}
 use Rattle.nc_fields.specs.declared.header.Listing.{Listing}
-use Rattle.nc_check.specs.declared.{finding.Finding.Finding, kind.Severity.Severity, report.Report.Report}
+use Rattle.nc_report.specs.declared.{finding.Finding.Finding, kind.Severity.Severity, report.Report.Report}
 use Rattle.cli_base.specs.declared.fault.OptFault.{OptFault}
 use Rattle.cli_base.specs.declared.fault.OptFault.TheVariants as opt
 use Rattle.check_lines.specs.Lines.{gravest, lines}

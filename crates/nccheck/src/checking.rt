@@ -15,7 +15,7 @@ use crate::options::CheckOptions;
 use crate::path_list::path_of;
 use check_lines::{gravest, put_lines};
 use devices::{Opener, Sink, Source, WriteFailed};
-use nc_check::{Report, Severity, check};
+use nc_report::{Report, Severity, check};
 use std::alloc::Global;
 
 /// Checks the file at this path as the options ask, writes the line of a fault to standard error, and returns the answer. A path that isn't

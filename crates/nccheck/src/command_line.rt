@@ -16,7 +16,7 @@ use check_lines::FilterOptions;
 use clap::{Arg, ArgAction, ArgMatches, Command};
 use cli_base::{OptFault, flag, is_given, option, value_of};
 use nc_base::Sequence;
-use nc_check::Severity;
+use nc_report::Severity;
 use std::alloc::{AllocError, Global};
 
 /// Returns the command `nccheck [-q] [-s] [-0] [-l level] [-i kinds] [file ...]` of nccheck(1).

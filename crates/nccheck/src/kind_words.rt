@@ -4,7 +4,7 @@ ghost use Rattle.std.specs.Prelude.{◌≡◌};
 ghost use Rattle.nccheck.specs.KindWords.{EachKindHasAWord, is_kind_word};
 
 use check_lines::kind_word;
-use nc_check::Kind;
+use nc_report::Kind;
 
 /// All kinds of findings, in their order.
 pub(crate) const KINDS: &[Kind] = &[

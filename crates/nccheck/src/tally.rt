@@ -6,7 +6,7 @@ ghost use Rattle.nccheck.specs.Tallies.{checked, count_text, count_words, counte
 
 use crate::fault::FileFault;
 use devices::{Sink, WriteFailed, put, put_decimal};
-use nc_check::Severity;
+use nc_report::Severity;
 
 /// The status of a run in which nothing was reported of any file.
 pub(crate) const CLEAN: u8 = 0;

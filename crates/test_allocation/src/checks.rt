@@ -1,8 +1,8 @@
 //! Checks of files.
 
 use devices::{DripSource, FailWhen};
-use nc_check::{Kind, check};
 use nc_fields::ListFault;
+use nc_report::{Kind, check};
 use std::alloc::AllocError;
 
 /// A file with two variables of one name, which is longer than what is kept without an allocation.

@@ -3,7 +3,6 @@
 use crate::files::{EMPTY_LISTS, ODD_HEADER, STREAMED_HEADER};
 use devices::{DripSource, FailWhen};
 use nc_base::{NumRecs, Version};
-use nc_check::check;
 use nc_fields::FieldName::{
     AttsCount, AttsTag, Begin, Count, DimId, DimsCount, DimsTag, GlobalAttsCount, GlobalAttsTag,
     Length, Magic, Name, NameLength, NamePadding, NumRecs as Records, Padding, Rank, Type, Values,
@@ -11,6 +10,7 @@ use nc_fields::FieldName::{
 };
 use nc_fields::Owner::{Dim, GlobalAtt, Header, Var, VarAtt};
 use nc_fields::{Content, Entry, FieldName, ListFault, Listing, Owner, Place, list_fields};
+use nc_report::check;
 use std::process::Abort;
 use std::test::Fail;
 

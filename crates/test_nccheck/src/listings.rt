@@ -1,13 +1,13 @@
-//! What is found in small listings, by the rules of `nc_check` on fields and attributes.
+//! What is found in small listings, by the rules of `nc_report` on fields and attributes.
 
 use nc_base::{FormatFault, Sequence};
-use nc_check::{Fact, Finding, findings_of};
 use nc_fields::FieldName::{
     AttsCount, AttsTag, Count, DimsCount, DimsTag, Name, NameLength, NamePadding, Padding, Rank,
     Type, Values, VarsCount, VarsTag,
 };
 use nc_fields::Owner::{Dim, GlobalAtt, Header, Var, VarAtt};
 use nc_fields::{Content, Entry, FieldBytes, FieldName, Listing, Owner, Place};
+use nc_report::{Fact, Finding, findings_of};
 use std::alloc::{AllocError, Global};
 use std::process::Abort;
 

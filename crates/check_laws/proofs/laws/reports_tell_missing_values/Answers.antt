@@ -1,5 +1,0 @@
-use Rattle.check_laws.proofs.MissingFindings.{missing-told}
-use Rattle.check_laws.proofs.laws.reports_tell_missing_values.Goals as goal
-
-pub returns : goal.returns
-returns c = missing-told

@@ -1,8 +1,0 @@
-use Rattle.check_laws.proofs.WholeFiles.{whole-hold, generated-whole}
-use Rattle.check_laws.proofs.laws.whole_files_hold_datasets.Goals as goal
-
-pub returns-clause-holds : goal.returns-clause-holds
-returns-clause-holds c = whole-hold
-
-pub returns-clause-generated : goal.returns-clause-generated
-returns-clause-generated c = generated-whole

@@ -1,5 +1,0 @@
-use Rattle.layout_laws.proofs.LayoutSlabs.{missing-slab}
-use Rattle.layout_laws.proofs.laws.missing_values_have_slab.Goals as goal
-
-pub returns : goal.returns
-returns c = missing-slab

@@ -1,9 +1,0 @@
-use Rattle.layout_laws.proofs.GeneratedBegins.{canonical-generated}
-use Rattle.layout_laws.proofs.GeneratedLength.{quiet-generated}
-use Rattle.layout_laws.proofs.laws.quiet_files_are_as_generated.Goals as goal
-
-pub returns-clause-begins : goal.returns-clause-begins
-returns-clause-begins c = canonical-generated
-
-pub returns-clause-files : goal.returns-clause-files
-returns-clause-files c = quiet-generated

@@ -1,5 +1,0 @@
-use Rattle.nc_layout.proofs.SpelledLayouts.{spelled-layout}
-use Rattle.layout_laws.proofs.laws.spelled_headers_have_sound_layouts.Goals as goal
-
-pub returns : goal.returns
-returns c = spelled-layout

@@ -1,8 +1,0 @@
-use Rattle.std.proofs.Common.{◌≡◌, drop}
-use Rattle.std.specs.Prelude.{find}
-use Rattle.nc_check.specs.Indexed.{indexed, indexed_from}
-use Rattle.nc_check.specs.FieldRules.{is_floating}
-use Rattle.nc_check.proofs.field_rules.floating_finding.Given as goal
-
-abbrev pub invariant-loop-i : goal.invariant-loop-i
-invariant-loop-i l = find is_floating (indexed_from l.i (drop l.i l.entries)) ≡ find is_floating (indexed l.entries)

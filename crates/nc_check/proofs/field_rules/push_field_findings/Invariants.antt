@@ -1,9 +1,0 @@
-use Rattle.std.proofs.Common.{◌≡◌, ◌++◌, drop}
-use Rattle.std.specs.Prelude.{flat_map}
-use Rattle.nc_check.specs.Indexed.{indexed, indexed_from}
-use Rattle.nc_check.specs.FieldRules.{findings_at}
-use Rattle.nc_check.proofs.field_rules.push_field_findings.Given as goal
-
-abbrev pub invariant-loop-i : goal.invariant-loop-i
-invariant-loop-i l =
-    l.found ++ flat_map findings_at (indexed_from l.i (drop l.i l.entries)) ≡ l.fn.found ++ flat_map findings_at (indexed l.entries)

@@ -1,0 +1,12 @@
+use Rattle.std.proofs.Common.{◌≡◌, ◌++◌, drop}
+use Rattle.nc_report.specs.Indexed.{indexed, indexed_from}
+use Rattle.nc_report.specs.Ahead.{ahead_of}
+use Rattle.nc_report.specs.AttributeRules.{attribute_finding}
+use Rattle.nc_report.specs.code.Passes.{each_backward}
+use Rattle.nc_report.proofs.attribute_rules.push_attribute_findings.Given as goal
+
+abbrev pub invariant-loop-i : goal.invariant-loop-i
+invariant-loop-i l = record {
+  ahead : l.ahead ≡ ahead_of (indexed_from l.i (drop l.i l.entries));
+  found : l.found ≡ l.fn.found ++ each_backward (attribute_finding (indexed l.entries)) (indexed_from l.i (drop l.i l.entries));
+}

@@ -1,0 +1,23 @@
+use Rattle.std.proofs.Common.{◌≡◌, List, [], ◌++◌, sym, ◌∙◌, ap, subst}
+use Rattle.std.specs.Prelude.{IsPermutation}
+use Rattle.std.proofs.lemmas.List.Sorted.{IsPermutation-append_right}
+use Rattle.nc_report.specs.declared.finding.Finding.{Finding}
+use Rattle.nc_report.specs.HeaderRules.{header_findings}
+use Rattle.nc_report.proofs.header_rules.header_findings.Goals as goal
+
+-- what has been appended part by part, the last part in another order
+appended : (a b c d found start one two three : List Finding) → start ≡ [] → one ≡ start ++ a → two ≡ one ++ b → three ≡ two ++ c
+    → IsPermutation d found → IsPermutation (a ++ b ++ c ++ d) (three ++ found)
+appended a b c d found start one two three is0 is1 is2 is3 same =
+    let first : one ≡ a = is1 ∙ ap (λ (xs : List Finding). xs ++ a) is0 in
+    let all : three ≡ a ++ b ++ c = is3 ∙ ap (λ (xs : List Finding). xs ++ c) (is2 ∙ ap (λ (xs : List Finding). xs ++ b) first) in
+    subst (λ (xs : List Finding). IsPermutation (a ++ b ++ c ++ d) (xs ++ found)) (sym all)
+    (IsPermutation-append_right (a ++ b ++ c) d found same)
+
+pub returns : goal.returns
+unfolding header_findings
+returns c =
+    let attributes = c.in_ok-push_attribute_findings.ensures in
+    subst (λ (xs : List Finding). IsPermutation (header_findings c.args.entries.now) xs) (sym attributes.1)
+    (appended _ _ _ _ attributes.0 _ _ _ _ c.new-found.ensures c.in_ok-push_field_findings.ensures c.in_ok-push_floating_finding.ensures
+    c.in_ok-names.ensures.found attributes.2)

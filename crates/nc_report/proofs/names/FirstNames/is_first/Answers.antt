@@ -1,0 +1,20 @@
+use Rattle.std.proofs.Common.{◌≡◌, ◌∙◌, ap, sym, None, Some}
+use Rattle.std.specs.Option.{option_copied}
+use Rattle.nc_report.specs.NameRules.{is_index}
+use Rattle.nc_report.specs.code.FirstNames.{index_of}
+use Rattle.nc_report.proofs.NameKeys.{index-found}
+use Rattle.nc_report.proofs.names.FirstNames.is_first.Goals as goal
+
+pub returns-in_default : goal.returns-in_default
+returns-in_default c =
+    let none : index_of c.args.self.now (c.args.list, c.args.name.now) ≡ None =
+    sym (index-found c.args.self.now.first (c.hash.result, (c.args.list, c.args.name)) c.hash.ensures)
+    ∙ sym c.get.ensures.value ∙ ap option_copied c.in_default.is in
+    sym (ap (is_index c.args.index) none)
+
+pub returns : goal.returns
+returns c =
+    let some : index_of c.args.self.now (c.args.list, c.args.name.now) ≡ Some c.in-Some.first.now =
+    sym (index-found c.args.self.now.first (c.hash.result, (c.args.list, c.args.name)) c.hash.ensures)
+    ∙ sym c.get.ensures.value ∙ ap option_copied c.in-Some.is in
+    sym (ap (is_index c.args.index) some)

@@ -1,0 +1,9 @@
+use Rattle.std.proofs.Common.{◌≡◌, ◌<◌, ◌^◌, take}
+use Rattle.nc_report.specs.code.FirstNames.{hash}
+use Rattle.nc_report.proofs.names.hash.Given as goal
+
+abbrev pub invariant-loop-b : goal.invariant-loop-b
+invariant-loop-b l = record {
+  below : l.sum < 2 ^ 32;
+  is : l.sum ≡ hash (l.fn.list, take l.b-index l.name);
+}

@@ -1,0 +1,13 @@
+use Rattle.std.proofs.Common.{List, rules, sym, subst}
+use Rattle.std.specs.List.{AllPairs}
+use Rattle.std.proofs.lemmas.List.Sorted.{answers_always}
+use Rattle.nc_report.specs.declared.finding.Finding.{Finding}
+use Rattle.nc_report.specs.Reports.{finding_cmp, IsInOrder}
+use Rattle.nc_report.proofs.OneOrder.{sorted-order}
+use Rattle.nc_report.proofs.Reported.{key, findings-total}
+use Rattle.nc_report.proofs.report.in_order.Goals as goal
+
+pub returns-clause-in_order : goal.returns-clause-in_order
+returns-clause-in_order c =
+    subst (λ (found : List Finding). AllPairs IsInOrder found) (sym c.from_vec.ensures)
+    (sorted-order finding_cmp findings-total _ (c.sort_unstable_by_key.ensures.sorted key (answers_always _ _ _ (λ f a r q k. search rules))))

@@ -1,0 +1,20 @@
+use Rattle.std.proofs.Common.{ℕ, List, ◌++◌, ◌+◌, ap, ap₂, sym, ◌∙◌, append_assoc, drop, slice_get}
+use Rattle.std.proofs.lemmas.List.{at_drop_more}
+use Rattle.std.specs.Option.{option_to_list}
+use Rattle.nc_layout.specs.declared.slot.Slot.{Slot}
+use Rattle.nc_layout.specs.Slots.{padded_slab}
+use Rattle.nc_layout.specs.Blocks.{each_slot}
+use Rattle.nc_report.specs.declared.finding.Finding.{Finding}
+use Rattle.nc_report.specs.code.WholeHeaders.{vsize_fact}
+use Rattle.nc_report.proofs.whole_header.push_vsize_findings.Goals as goal
+
+pub loop-i-preserved : goal.loop-i-preserved
+loop-i-preserved c =
+    let slots = c.as_slice-slots.result.now in
+    let i = c.loop-i.i in
+    let f : ℕ → Slot → List Finding = λ i slot. option_to_list (vsize_fact c.args.layout.now.version (padded_slab slot) (slice_get c.args.vsizes.now i)) in
+    let rest = each_slot f (i + 1) (drop (i + 1) slots) in
+    let step = at_drop_more (each_slot f i) slots i _ c.loop-i-test.true in
+    ap (λ xs. xs ++ rest) c.in_ok-push_some.ensures
+    ∙ ap (λ o. (c.loop-i.found ++ option_to_list o) ++ rest) (c.vsize_finding.ensures ∙ ap₂ (λ k o. vsize_fact c.args.layout.now.version k o) c.padded_slab.ensures c.field_at-vsize.ensures)
+    ∙ append_assoc c.loop-i.found _ rest ∙ ap (λ xs. c.loop-i.found ++ xs) (sym step) ∙ c.loop-i.invariant

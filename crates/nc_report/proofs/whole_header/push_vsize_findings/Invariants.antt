@@ -1,0 +1,11 @@
+use Rattle.std.proofs.Common.{◌≡◌, ◌++◌, drop, slice_get}
+use Rattle.std.specs.Option.{option_to_list}
+use Rattle.nc_layout.specs.Slots.{padded_slab}
+use Rattle.nc_layout.specs.Blocks.{each_slot}
+use Rattle.nc_report.specs.code.WholeHeaders.{vsize_fact}
+use Rattle.nc_report.proofs.whole_header.push_vsize_findings.Given as goal
+
+abbrev pub invariant-loop-i : goal.invariant-loop-i
+invariant-loop-i l =
+    l.found ++ each_slot (λ i slot. option_to_list (vsize_fact l.layout.version (padded_slab slot) (slice_get l.vsizes i))) l.i (drop l.i l.slots)
+    ≡ l.fn.found ++ each_slot (λ i slot. option_to_list (vsize_fact l.layout.version (padded_slab slot) (slice_get l.vsizes i))) 0 l.slots

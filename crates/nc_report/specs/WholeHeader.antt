@@ -1,0 +1,71 @@
+-- Definition. Findings that need a whole header: the sizes of its variables, and the layout of the file.
+use Rattle.std.specs.Prelude.{ℕ, ◌==◌, Bool, true, false, if◌then◌else◌, List, [], ◌++◌, filter, map, slice_get, Option, Some, None, Ok, Err}
+use Rattle.std.specs.Option.{option_to_list}
+use Rattle.nc_base.specs.declared.{version.Version.Version}
+use Rattle.nc_base.specs.Grammar.{vsize_of}
+use Rattle.nc_fields.specs.declared.{place.FieldName.FieldName, header.Listing.Listing}
+use Rattle.nc_fields.specs.declared.place.FieldName.TheVariants as name
+use Rattle.nc_fields.specs.Entries.{number_of}
+use Rattle.nc_layout.specs.declared.{slot.Layout.Layout, finding.LayoutFinding.LayoutFinding}
+use Rattle.nc_layout.specs.declared.finding.LayoutPlace.TheVariants as places
+use Rattle.nc_layout.specs.Slots.{padded_slab}
+use Rattle.nc_layout.specs.Blocks.{each_slot}
+use Rattle.nc_layout.specs.Findings.{layout_findings}
+use Rattle.nc_layout.specs.HeaderLayout.{layout_of}
+use Rattle.nc_report.specs.declared.{finding.Fact.Fact, finding.Finding.Finding}
+use Rattle.nc_report.specs.declared.finding.Fact.TheVariants as fact
+use Rattle.nc_report.specs.Indexed.{Indexed, indexed, finding}
+
+-- ---- the fields that these findings lie at
+
+abbrev pub is_numrecs : FieldName → Bool
+is_numrecs name.NumRecs = true
+is_numrecs field = false
+
+abbrev pub is_vsize : FieldName → Bool
+is_vsize name.Vsize = true
+is_vsize field = false
+
+abbrev pub is_begin : FieldName → Bool
+is_begin name.Begin = true
+is_begin field = false
+
+-- the fields whose name passes the test
+abbrev pub named : (FieldName → Bool) → List Indexed → List Indexed
+named test fields = filter (λ (f : Indexed). test f.entry.place.name) fields
+
+-- ---- sizes
+
+-- the size of a variable isn't what is written for a padded slab of this size (`vsize`; a whole header has the field)
+abbrev pub vsize_finding : Version → ℕ → Option Indexed → Option Finding
+vsize_finding v padded None = None
+vsize_finding v padded (Some f) =
+    let expected = vsize_of v padded in if number_of f.entry.content == expected then None else Some (finding f (fact.Vsize expected))
+
+unfoldable pub vsize_findings : Layout → List Indexed → List Finding
+vsize_findings layout fields = each_slot (λ i slot. option_to_list (vsize_finding layout.version (padded_slab slot) (slice_get (named is_vsize fields) i))) 0 layout.slots
+
+-- ---- the layout
+
+-- the fact is found at the field (a whole header has it)
+abbrev pub found_at : Option Indexed → Fact → Finding
+found_at (Some f) fact = finding f fact
+found_at None fact = record { offset = 0; field = None; fact = fact }
+
+-- a finding about the layout, at its field
+abbrev pub located : List Indexed → LayoutFinding → Finding
+located fields l = elim l.place [
+  | places.NumRecs ↦ found_at (slice_get (named is_numrecs fields) 0) (fact.Layout l.fact)
+  | places.Vsize i ↦ found_at (slice_get (named is_vsize fields) i) (fact.Layout l.fact)
+  | places.Begin i ↦ found_at (slice_get (named is_begin fields) i) (fact.Layout l.fact)
+  | places.Data offset ↦ record { offset = offset; field = None; fact = fact.Layout l.fact }
+]
+
+-- ---- all of them
+
+-- in a file with this layout, whose header has these fields
+abbrev pub layout_facts : Layout → List Indexed → List Finding
+layout_facts layout fields = vsize_findings layout fields ++ map (located fields) (layout_findings layout)
+
+unfoldable pub whole_findings : Listing → List Finding
+whole_findings l = elim l.header [ Ok h ↦ layout_facts (layout_of h l.end l.file_len) (indexed l.entries) | Err fault ↦ [] ]

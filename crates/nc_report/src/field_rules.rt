@@ -1,0 +1,230 @@
+//! Findings at a field alone.
+
+ghost use Rattle.std.specs.Prelude.{◌≡◌, ◌++◌, OnOk, IfOk, map};
+ghost use Rattle.std.specs.Option.{option_to_list};
+ghost use Rattle.nc_report.specs.Indexed.{field_at, finding, finding_at, indexed};
+ghost use Rattle.nc_report.specs.FieldRules.{bytes_fact, content_facts, fault_fact, field_findings, findings_at, floating_finding, floating_findings, fact_if, form_fact, has_nonzero, is_floating_in, is_large_count, is_not_nfc, magic_fact, number_fact};
+
+use crate::ahead::is_type;
+use crate::finding::{Fact, Finding, finding_at, push_some};
+use nc_base::{FormatFault, Sequence, is_valid_name};
+use nc_fields::{Content, Entry, FieldName, HDF5_SIGNATURE};
+use std::alloc::{AllocError, Global};
+use unicode_normalization::is_nfc;
+
+/// The most bytes that a name of netCDF-C has (`NC_MAX_NAME`).
+pub const LONGEST_NAME: u64 = 256;
+
+/// The most dimensions that a variable of netCDF-C has (`NC_MAX_VAR_DIMS`).
+pub const HIGHEST_RANK: u64 = 1024;
+
+/// What a dimension's length and the number of records are below in CDF-1 and CDF-2, by the NetCDF Classic Format Specification: 2^31.
+pub const LARGE_COUNT: u64 = 1 << 31;
+
+/// The first bytes of a file that gzip has packed.
+const GZIP_SIGNATURE: [u8; 2] = *b"\x1f\x8b";
+
+/// The streaming mark of CDF-1 and CDF-2, which stands in place of the number of records.
+const STREAMING: u64 = (1 << 32) - 1;
+
+/// Appends the findings at fields alone.
+#[tactic(auto, unfolding(crate::specs::FieldRules::field_findings))]
+pub(crate) fn push_field_findings(
+    found: &mut Sequence<Finding>,
+    alloc: Global,
+    entries: &[Entry],
+) -> Result<(), AllocError>
+    ensures { OnOk result (found.new ≡ found.old ++ field_findings (indexed entries.now)) }
+{
+    for (i, entry) in entries.iter().enumerate() {
+        push_findings_at(found, alloc, i as u64, entry)?;
+    }
+    Ok(())
+}
+
+/// Appends the findings at this field, which has this index.
+fn push_findings_at(
+    found: &mut Sequence<Finding>,
+    alloc: Global,
+    i: u64,
+    entry: &Entry,
+) -> Result<(), AllocError>
+    ensures { OnOk result (found.new ≡ found.old ++ findings_at (field_at i entry.now)) }
+{
+    match entry.fault {
+        Some(fault) => found.push(fault_finding(i, entry, fault)),
+        None => push_content_findings(found, alloc, i, entry),
+    }
+}
+
+/// Returns the finding of this fault at this field, which has this index.
+fn fault_finding(i: u64, entry: &Entry, fault: FormatFault) -> Finding
+    ensures { result ≡ finding (field_at i entry.now) (fault_fact fault entry.now.content) }
+{
+    finding_at(i, entry.offset, fault_fact(fault, &entry.content))
+}
+
+/// Returns what this fault of a field with this content shows.
+fn fault_fact(fault: FormatFault, content: &Content) -> Fact
+    ensures { result ≡ fault_fact fault content.now }
+{
+    match (fault, content) {
+        (FormatFault::NotNetcdf, Content::Bytes(bytes)) => magic_fact(bytes.as_slice()),
+        _ => Fact::Fault(fault),
+    }
+}
+
+/// Returns what is shown by these bytes, which are kept of the start of a file that doesn't begin with `CDF`.
+fn magic_fact(bytes: &[u8]) -> Fact
+    ensures { result ≡ magic_fact bytes.now }
+{
+    if bytes == HDF5_SIGNATURE.as_slice() {
+        Fact::Hdf5
+    } else if bytes.starts_with(&GZIP_SIGNATURE) {
+        Fact::Gzip
+    } else if bytes.is_empty() {
+        Fact::EmptyFile
+    } else {
+        Fact::Fault(FormatFault::NotNetcdf)
+    }
+}
+
+/// Appends what the content of this field shows, which has this index and no fault.
+fn push_content_findings(
+    found: &mut Sequence<Finding>,
+    alloc: Global,
+    i: u64,
+    entry: &Entry,
+) -> Result<(), AllocError>
+    ensures { OnOk result (found.new ≡ found.old
+        ++ map (finding (field_at i entry.now)) (content_facts entry.now.place.name entry.now.size entry.now.content)) }
+{
+    let name = entry.place.name;
+    match &entry.content {
+        Content::Number(n) => {
+            push_fact(found, i, entry.offset, number_fact(name, entry.size, *n))
+        }
+        Content::Bytes(bytes) => {
+            let bytes = bytes.as_slice();
+            push_fact(found, i, entry.offset, bytes_fact(name, bytes))?;
+            push_fact(found, i, entry.offset, form_fact(alloc, name, bytes)?)
+        }
+        Content::Values { .. } | Content::Cut => Ok(()),
+    }
+}
+
+/// Appends a finding of this fact at the field of this index and offset, if there is one.
+fn push_fact(
+    found: &mut Sequence<Finding>,
+    i: u64,
+    offset: u64,
+    fact: Option<Fact>,
+) -> Result<(), AllocError>
+    ensures { OnOk result (found.new ≡ found.old ++ map (finding_at i offset) (option_to_list fact)) }
+{
+    if let Some(fact) = fact {
+        found.push(finding_at(i, offset, fact))?;
+    }
+    Ok(())
+}
+
+/// Returns what a number of this many bytes shows, as the field of this name.
+fn number_fact(name: FieldName, size: u128, n: u64) -> Option<Fact>
+    ensures { result ≡ number_fact name size n }
+{
+    match name {
+        FieldName::NumRecs => fact_if(is_large_count(size, n) && n != STREAMING, Fact::LargeCount),
+        FieldName::Length => fact_if(is_large_count(size, n), Fact::LargeCount),
+        FieldName::NameLength => fact_if(n > LONGEST_NAME, Fact::LongName),
+        FieldName::Rank => fact_if(n > HIGHEST_RANK, Fact::HighRank),
+        _ => None,
+    }
+}
+
+/// Returns true if a number of this many bytes has four, and its top bit is 1.
+fn is_large_count(size: u128, n: u64) -> bool
+    ensures { result ≡ is_large_count size n }
+{
+    size == 4 && LARGE_COUNT <= n
+}
+
+/// Returns what bytes show, as the field of this name.
+fn bytes_fact(name: FieldName, bytes: &[u8]) -> Option<Fact>
+    ensures { result ≡ bytes_fact name bytes.now }
+{
+    match name {
+        FieldName::Name => fact_if(!is_valid_name(bytes), Fact::NameCharacters),
+        FieldName::NamePadding | FieldName::Padding => {
+            fact_if(has_nonzero(bytes), Fact::Padding)
+        }
+        _ => None,
+    }
+}
+
+/// Returns what the characters of bytes show, as the field of this name.
+fn form_fact(alloc: Global, name: FieldName, bytes: &[u8]) -> Result<Option<Fact>, AllocError>
+    ensures { IfOk result (λ fact. fact ≡ form_fact name bytes.now) }
+{
+    match name {
+        FieldName::Name => Ok(fact_if(is_not_nfc(alloc, bytes)?, Fact::NotNfc)),
+        _ => Ok(None),
+    }
+}
+
+/// Returns the fact, if the condition holds.
+fn fact_if(holds: bool, fact: Fact) -> Option<Fact>
+    ensures { result ≡ fact_if holds fact }
+{
+    if holds { Some(fact) } else { None }
+}
+
+/// Returns true if a byte isn't 0.
+fn has_nonzero(bytes: &[u8]) -> bool
+    ensures { result ≡ has_nonzero bytes.now }
+{
+    bytes.iter().any(|b| *b != 0)
+}
+
+/// Returns true if the bytes are the UTF-8 of a text that isn't in normal form NFC.
+fn is_not_nfc(alloc: Global, bytes: &[u8]) -> Result<bool, AllocError>
+    ensures { IfOk result (λ b. b ≡ is_not_nfc bytes.now) }
+{
+    match str::from_utf8(bytes) {
+        Ok(text) => Ok(!is_nfc(alloc, text)?),
+        Err(_) => Ok(false),
+    }
+}
+
+/// Appends a finding at the first type that is `float` or `double`.
+#[tactic(auto, unfolding(crate::specs::FieldRules::floating_findings))]
+pub(crate) fn push_floating_finding(
+    found: &mut Sequence<Finding>,
+    entries: &[Entry],
+) -> Result<(), AllocError>
+    ensures { OnOk result (found.new ≡ found.old ++ floating_findings (indexed entries.now)) }
+{
+    push_some(found, floating_finding(entries))
+}
+
+/// Returns the finding at the first type that is `float` or `double`.
+fn floating_finding(entries: &[Entry]) -> Option<Finding>
+    ensures { result ≡ floating_finding (indexed entries.now) }
+{
+    for (i, entry) in entries.iter().enumerate() {
+        if is_floating(entry) {
+            let fact = Fact::Fault(FormatFault::FloatingType);
+            return Some(finding_at(i as u64, entry.offset, fact));
+        }
+    }
+    None
+}
+
+/// Returns true if the field is the type code of `float` or `double`.
+fn is_floating(entry: &Entry) -> bool
+    ensures { result ≡ is_floating_in entry.now.place.name entry.now.content }
+{
+    match entry.content {
+        Content::Number(code) => is_type(entry.place.name) && (code == 5 || code == 6),
+        _ => false,
+    }
+}

@@ -1,0 +1,112 @@
+//! The names of the lists of a header, with where each came first.
+
+ghost use Rattle.std.specs.Prelude.{◌≡◌, None, IfOk, OnOk};
+ghost use Rattle.std.specs.Option.{option_or};
+ghost use Rattle.nc_report.specs.NameRules.{NameKey, is_index, is_same_key, list_of};
+ghost use Rattle.nc_report.specs.code.FirstNames.{hash, index_if, index_of, list_number};
+
+use nc_fields::Owner;
+use std::alloc::{AllocError, Global};
+use std::collections::BTreeMap;
+
+/// A list whose elements have names.
+#[derive(Clone, Copy, PartialEq, Eq, PartialOrd, Ord)]
+pub(crate) enum NameList {
+    /// The dimensions.
+    Dims,
+    /// The global attributes.
+    GlobalAtts,
+    /// The variables.
+    Vars,
+    /// The attributes of the variable of this number.
+    VarAtts(u64),
+}
+
+/// Returns the list that this is an element of, if it is one.
+pub(crate) fn list_of(owner: Owner) -> Option<NameList>
+    ensures { result ≡ list_of owner }
+{
+    match owner {
+        Owner::Header => None,
+        Owner::Dim(_) => Some(NameList::Dims),
+        Owner::GlobalAtt(_) => Some(NameList::GlobalAtts),
+        Owner::Var(_) => Some(NameList::Vars),
+        Owner::VarAtt { var, .. } => Some(NameList::VarAtts(var)),
+    }
+}
+
+/// Returns a number that goes with the list. Few lists share it.
+fn list_number(list: NameList) -> u64
+    ensures { result ≡ list_number list }
+{
+    match list {
+        NameList::Dims => 0,
+        NameList::GlobalAtts => 1,
+        NameList::Vars => 2,
+        NameList::VarAtts(var) => var,
+    }
+}
+
+/// Returns the hash of a name of the list, a number below 2^32.
+#[tactic(auto, using(std::proofs::lemmas::List::Sums::fold_more))]
+fn hash(list: NameList, name: &[u8]) -> u64
+    ensures { result ≡ hash (list, name.now) }
+{
+    let mut sum = list_number(list) % (1 << 32);
+    for b in name {
+        sum = (sum * 31 + *b as u64) % (1 << 32);
+    }
+    sum
+}
+
+/// The names of the lists of a header, with the index of the first field that is each of them. The time to find a name grows with the
+/// logarithm of the number of names.
+// The hash comes first in a key: most names of a list begin alike, and two numbers are compared sooner than two names. Names that share a
+// hash cost what they would without it.
+#[derive(Drop)]
+pub(crate) struct FirstNames<'a> {
+    first: BTreeMap<(u64, (NameList, &'a [u8])), u64>,
+}
+
+impl<'a> FirstNames<'a> {
+    /// Returns no names. Does not allocate.
+    pub(crate) fn new(alloc: Global) -> FirstNames<'a>
+        ensures { (key : NameKey) → index_of result key ≡ None }
+    {
+        FirstNames {
+            first: BTreeMap::new(alloc),
+        }
+    }
+
+    /// Adds a name of the list with this index, if it isn't there. Returns the index that went with the name before. Errs only if an
+    /// allocation failed.
+    pub(crate) fn add(
+        &mut self,
+        list: NameList,
+        name: &'a [u8],
+        index: u64,
+    ) -> Result<Option<u64>, AllocError>
+        ensures first { IfOk result (λ first. first ≡ index_of self.old (list, name.now)) }
+        ensures names { OnOk result ((key : NameKey) → index_of self.new key
+            ≡ option_or (index_of self.old key) (index_if (is_same_key (list, name.now) key) index)) }
+    {
+        // the name is searched for once, unless it was there
+        let key = (hash(list, name), (list, name));
+        let earlier = self.first.insert(key, index)?;
+        if let Some(first) = earlier {
+            self.first.insert(key, first)?;
+        }
+        Ok(earlier)
+    }
+
+    /// Returns true if this index goes with this name of the list.
+    pub(crate) fn is_first(&self, list: NameList, name: &'a [u8], index: u64) -> bool
+        ensures { result ≡ is_index index (index_of self.now (list, name.now)) }
+    {
+        let key = (hash(list, name), (list, name));
+        let Some(first) = self.first.get(&key) else {
+            return false;
+        };
+        *first == index
+    }
+}

@@ -1,0 +1,60 @@
+//! The fields of a header at which findings about sizes and the layout lie.
+
+ghost use Rattle.std.specs.Prelude.{◌≡◌, IfOk};
+ghost use Rattle.nc_report.specs.Indexed.{field_at, indexed};
+ghost use Rattle.nc_report.specs.code.WholeHeaders.{HoldsNumbers, number_field};
+
+use nc_base::Sequence;
+use nc_fields::{Entry, FieldName};
+use std::alloc::{AllocError, Global};
+
+/// A field of a listing that is a number.
+#[derive(Clone, Copy)]
+pub(crate) struct NumberField {
+    /// Its index in the listing.
+    pub(crate) index: u64,
+    /// Its offset in the file.
+    pub(crate) offset: u64,
+    /// The number.
+    pub(crate) number: u64,
+}
+
+/// The number of records, the sizes and the begins of variables, in the order of the header.
+#[derive(Drop)]
+pub(crate) struct NumberFields {
+    pub(crate) numrecs: Sequence<NumberField>,
+    pub(crate) vsizes: Sequence<NumberField>,
+    pub(crate) begins: Sequence<NumberField>,
+}
+
+/// Returns the number of records, the sizes and the begins of a listing. Errs only if an allocation fails.
+pub(crate) fn number_fields(alloc: Global, entries: &[Entry]) -> Result<NumberFields, AllocError>
+    ensures { IfOk result (HoldsNumbers (indexed entries.now)) }
+{
+    let mut fields = NumberFields {
+        numrecs: Sequence::new(alloc),
+        vsizes: Sequence::new(alloc),
+        begins: Sequence::new(alloc),
+    };
+    for (index, entry) in entries.iter().enumerate() {
+        let index = index as u64;
+        match entry.place.name {
+            FieldName::NumRecs => fields.numrecs.push(number_field(index, entry))?,
+            FieldName::Vsize => fields.vsizes.push(number_field(index, entry))?,
+            FieldName::Begin => fields.begins.push(number_field(index, entry))?,
+            _ => {}
+        }
+    }
+    Ok(fields)
+}
+
+/// Returns what is kept of the field of this index: its offset and the number that it is, or 0 if it is none.
+fn number_field(index: u64, entry: &Entry) -> NumberField
+    ensures { result ≡ number_field (field_at index entry.now) }
+{
+    NumberField {
+        index,
+        offset: entry.offset,
+        number: entry.content.number(),
+    }
+}

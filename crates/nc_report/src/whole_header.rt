@@ -1,0 +1,132 @@
+//! Findings that need a whole header.
+
+ghost use Rattle.std.specs.Prelude.{◌≡◌, ◌++◌, map, slice_get, OnOk, IsPermutation};
+ghost use Rattle.nc_layout.specs.Findings.{IsSoundLayout, layout_findings};
+ghost use Rattle.nc_report.specs.WholeHeader.{whole_findings};
+ghost use Rattle.nc_report.specs.code.WholeHeaders.{HasSoundLayout, found_at_number, located_number, vsize_fact, vsize_facts};
+
+use crate::finding::{Fact, Finding, finding_at, push_some};
+use crate::number_fields::{NumberField, NumberFields, number_fields};
+use nc_base::{Sequence, Version};
+use nc_fields::Listing;
+use nc_layout::{Layout, LayoutFinding, LayoutPlace, layout_findings, padded_slab, sound_layout};
+use std::alloc::{AllocError, Global};
+
+/// Appends what is found about the sizes of variables and about the layout of the file, if the header is whole. Errs only if an allocation
+/// fails.
+pub(crate) fn push_whole_findings(
+    found: &mut Sequence<Finding>,
+    alloc: Global,
+    listing: &Listing,
+) -> Result<(), AllocError>
+    ensures { OnOk result (HasSoundLayout listing.now
+        → IsPermutation (found.old ++ whole_findings listing.now) found.new) }
+{
+    if let Ok(header) = &listing.header {
+        if let Some(layout) = sound_layout(alloc, header, listing.end, listing.file_len)? {
+            let fields = number_fields(alloc, listing.entries.as_slice())?;
+            push_vsize_findings(found, &layout, &fields.vsizes)?;
+            push_layout_findings(found, alloc, &layout, &fields)?;
+        }
+    }
+    Ok(())
+}
+
+/// Appends what is found of the sizes of the variables.
+fn push_vsize_findings(
+    found: &mut Sequence<Finding>,
+    layout: &Layout,
+    vsizes: &Sequence<NumberField>,
+) -> Result<(), AllocError>
+    requires { IsSoundLayout layout.now }
+    ensures { OnOk result (found.new ≡ found.old ++ vsize_facts layout.now vsizes.now) }
+{
+    let slots = layout.slots.as_slice();
+    for (i, slot) in slots.iter().enumerate() {
+        let vsize = field_at(vsizes, i as u64);
+        push_some(
+            found,
+            vsize_finding(layout.version, padded_slab(*slot), vsize),
+        )?;
+    }
+    Ok(())
+}
+
+/// Returns the finding that the size of a variable isn't what is written for a padded slab of `padded` bytes, if so.
+fn vsize_finding(version: Version, padded: u64, vsize: Option<NumberField>) -> Option<Finding>
+    ensures { result ≡ vsize_fact version padded vsize }
+{
+    let field = vsize?;
+    let expected = version.vsize_of(padded);
+    if field.number == expected {
+        return None;
+    }
+    Some(finding_at(field.index, field.offset, Fact::Vsize { expected }))
+}
+
+/// Appends what is found about the layout, at the fields of the header.
+fn push_layout_findings(
+    found: &mut Sequence<Finding>,
+    alloc: Global,
+    layout: &Layout,
+    fields: &NumberFields,
+) -> Result<(), AllocError>
+    requires { IsSoundLayout layout.now }
+    ensures { OnOk result (IsPermutation
+        (found.old ++ map (located_number fields.now) (layout_findings layout.now)) found.new) }
+{
+    let of_layout = layout_findings(alloc, layout)?;
+    push_located(found, fields, of_layout.as_slice())
+}
+
+/// Appends these findings, at the fields of the header.
+fn push_located(
+    found: &mut Sequence<Finding>,
+    fields: &NumberFields,
+    of_layout: &[LayoutFinding],
+) -> Result<(), AllocError>
+    ensures { OnOk result (found.new ≡ found.old ++ map (located_number fields.now) of_layout.now) }
+{
+    for finding in of_layout {
+        found.push(located(fields, *finding))?;
+    }
+    Ok(())
+}
+
+/// Returns the finding, at its field.
+fn located(fields: &NumberFields, finding: LayoutFinding) -> Finding
+    ensures { result ≡ located_number fields.now finding }
+{
+    let fact = Fact::Layout(finding.fact);
+    match finding.place {
+        LayoutPlace::NumRecs => found_at(field_at(&fields.numrecs, 0), fact),
+        LayoutPlace::Vsize(i) => found_at(field_at(&fields.vsizes, i), fact),
+        LayoutPlace::Begin(i) => found_at(field_at(&fields.begins, i), fact),
+        LayoutPlace::Data(offset) => Finding {
+            offset,
+            field: None,
+            fact,
+        },
+    }
+}
+
+/// Returns the field in this place, if there is one.
+fn field_at(fields: &Sequence<NumberField>, i: u64) -> Option<NumberField>
+    ensures { result ≡ slice_get fields.now i }
+{
+    fields.as_slice().get(i as usize).copied()
+}
+
+/// Returns the finding of this fact at the field; at the start of the file, if there is no field.
+fn found_at(field: Option<NumberField>, fact: Fact) -> Finding
+    ensures { result ≡ found_at_number field fact }
+{
+    match field {
+        Some(field) => finding_at(field.index, field.offset, fact),
+        None => Finding {
+            offset: 0,
+            field: None,
+            fact,
+        },
+    }
+}

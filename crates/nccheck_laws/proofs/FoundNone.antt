@@ -1,0 +1,84 @@
+-- What holds of each slot, of each block and at the end of the file if no finding is of a kind, and the converse.
+use Rattle.std.proofs.Common.{◌≡◌, ℕ, zero, suc, ◌+◌, Bool, false, List, [], ◌∷◌, ◌++◌, refl, subst, arith, inl, inr}
+use Rattle.std.specs.Prelude.{flat_map}
+use Rattle.std.specs.List.{list_any, Contains}
+use Rattle.std.proofs.lemmas.List.Folds.{list_any-append}
+use Rattle.nc_layout.specs.declared.{slot.Slot.Slot, slot.Layout.Layout, finding.LayoutFact.LayoutFact, finding.LayoutFinding.LayoutFinding, blocks.Extent.Extent}
+use Rattle.nc_layout.specs.declared.finding.LayoutFact.TheVariants as facts
+use Rattle.nc_layout.specs.Blocks.{each_slot, blocks}
+use Rattle.nc_layout.specs.NumRecsRules.{numrecs_findings}
+use Rattle.nc_layout.specs.SlotRules.{slot_findings}
+use Rattle.nc_layout.specs.BlockRules.{block_findings}
+use Rattle.nc_layout.specs.FileEnd.{end_findings}
+use Rattle.nc_layout.specs.Findings.{layout_findings}
+use Rattle.nc_layout.proofs.BlockOrder.{contains-none, contains-here, contains-there, contains-cases}
+use Rattle.nccheck_laws.specs.LayoutLaws.{FindsNone}
+use Rattle.nccheck_laws.proofs.IndexedSlots.{At}
+
+-- none of these findings is of the kind
+abbrev pub Quiet : (LayoutFact → Bool) → List LayoutFinding → Type 0
+Quiet kind findings = list_any (λ (finding : LayoutFinding). kind finding.fact) findings ≡ false
+
+parts : (kind : LayoutFact → Bool) (a b c d : List LayoutFinding) → Quiet kind (a ++ b ++ c ++ d) → Quiet kind b × Quiet kind c × Quiet kind d
+parts kind a b c d h = (grind (arith, list_any-append), grind (arith, list_any-append), grind (arith, list_any-append))
+
+quiet-from : (kind : LayoutFact → Bool) (f : ℕ → Slot → List LayoutFinding) (i : ℕ) (slots : List Slot) (k m : ℕ) (x : Slot)
+    → Quiet kind (each_slot f i slots) → At slots k x → m ≡ i + k → Quiet kind (f m x)
+quiet-from kind f i [] k m x h at is = cc
+quiet-from kind f i (y ∷ ys) zero m x h at is = grind (arith, list_any-append)
+quiet-from kind f i (y ∷ ys) (suc k) m x h at is = grind (arith, quiet-from kind f (i + 1) ys k m x (grind (arith, list_any-append)) at (omega arith), list_any-append)
+
+pub quiet-slot : (kind : LayoutFact → Bool) (layout : Layout) (i : ℕ) (x : Slot) → FindsNone kind layout → At layout.slots i x
+    → Quiet kind (slot_findings layout i x)
+unfolding layout_findings
+quiet-slot kind layout i x h at = grind (arith, quiet-from, parts)
+
+pub quiet-end : (kind : LayoutFact → Bool) (layout : Layout) → FindsNone kind layout → Quiet kind (end_findings layout)
+unfolding layout_findings
+quiet-end kind layout h = (parts kind (numrecs_findings layout) _ _ _ h).1
+
+quiet-flat : (kind : LayoutFact → Bool) (f : Extent → List LayoutFinding) (bs : List Extent) (b : Extent) → Quiet kind (flat_map f bs)
+    → Contains bs b → Quiet kind (f b)
+quiet-flat kind f [] b h has = absurd (contains-none b has)
+quiet-flat kind f (c ∷ bs) b h has =
+    elim (contains-cases c b bs has) [
+      | inl here ↦ subst (λ (x : Extent). Quiet kind (f x)) here (grind (arith, list_any-append))
+      | inr later ↦ quiet-flat kind f bs b (grind (arith, list_any-append)) later
+    ]
+
+pub quiet-block : (kind : LayoutFact → Bool) (layout : Layout) (b : Extent) → FindsNone kind layout → Contains (blocks layout) b
+    → Quiet kind (block_findings layout.header_end (blocks layout) b)
+unfolding layout_findings
+quiet-block kind layout b h has = grind (arith, quiet-flat, parts)
+
+-- ---- the converse
+
+each-quiet : (kind : LayoutFact → Bool) (f : ℕ → Slot → List LayoutFinding) (i : ℕ) (slots : List Slot)
+    → ((k m : ℕ) (x : Slot) → At slots k x → m ≡ i + k → Quiet kind (f m x)) → Quiet kind (each_slot f i slots)
+each-quiet kind f i [] each = refl
+each-quiet kind f i (y ∷ ys) each =
+    let first = each 0 i y refl (omega arith) in
+    let others = each-quiet kind f (i + 1) ys (λ k m x at is. each (suc k) m x at (omega arith)) in grind (arith, list_any-append)
+
+flat-quiet : (kind : LayoutFact → Bool) (f : Extent → List LayoutFinding) (bs : List Extent)
+    → ((b : Extent) → Contains bs b → Quiet kind (f b)) → Quiet kind (flat_map f bs)
+flat-quiet kind f [] each = refl
+flat-quiet kind f (b ∷ bs) each = grind (arith, flat-quiet kind f bs (λ c has. each c (contains-there b c bs has)), contains-here, contains-there, list_any-append)
+
+numrecs-quiet : (kind : LayoutFact → Bool) (layout : Layout) → ((n : ℕ) → kind (facts.Streaming n) ≡ false)
+    → ((n : ℕ) → kind (facts.UnusedRecords n) ≡ false) → Quiet kind (numrecs_findings layout)
+unfolding numrecs_findings
+numrecs-quiet kind layout streamed unused = grind arith
+
+all-of : (kind : LayoutFact → Bool) (a b c d : List LayoutFinding) → Quiet kind a → Quiet kind b → Quiet kind c → Quiet kind d
+    → Quiet kind (a ++ b ++ c ++ d)
+all-of kind a b c d first second third fourth = grind (arith, list_any-append)
+
+-- no finding is of a kind that isn't one of findings at the number of records
+pub all-quiet : (kind : LayoutFact → Bool) (layout : Layout) → ((n : ℕ) → kind (facts.Streaming n) ≡ false)
+    → ((n : ℕ) → kind (facts.UnusedRecords n) ≡ false)
+    → ((i : ℕ) (x : Slot) → At layout.slots i x → Quiet kind (slot_findings layout i x))
+    → Quiet kind (end_findings layout)
+    → ((b : Extent) → Contains (blocks layout) b → Quiet kind (block_findings layout.header_end (blocks layout) b)) → FindsNone kind layout
+unfolding layout_findings
+all-quiet kind layout streamed unused slots end bs = grind (arith, all-of, numrecs-quiet, each-quiet, flat-quiet)

@@ -1,0 +1,140 @@
+-- A report finds that values are missing exactly if some variable of the header has a first missing value.
+use Rattle.std.proofs.Common.{◌≡◌, ℕ, ◌+◌, ◌||◌, Bool, false, List, [], ◌∷◌, ◌++◌, length, map, flat_map, find, Option, Some, None, Ok, refl, sym, ap, ◌∙◌, subst}
+use Rattle.std.specs.List.{All, list_any}
+use Rattle.std.specs.Option.{option_to_list, option_map}
+use Rattle.std.proofs.lemmas.Bool.{false≢true}
+use Rattle.std.proofs.lemmas.List.Elements.{All-nil, All-append, All-map}
+use Rattle.std.proofs.lemmas.List.Folds.{list_any-append, list_any_none}
+use Rattle.std.proofs.lemmas.List.Sorted.{list_any-IsPermutation}
+use Rattle.nc_base.specs.declared.{fault.FormatFault.FormatFault, header.Header.Header}
+use Rattle.nc_base.specs.declared.fault.FormatFault.TheVariants.{FloatingType}
+use Rattle.nc_base.specs.Bytes.{Bytes}
+use Rattle.nc_base.specs.Grammar.{strict, header_by}
+use Rattle.nc_base.proofs.PartOutcomes.{reads}
+use Rattle.nc_fields.specs.declared.{entry.Entry.Entry, entry.Content.Content, place.FieldName.FieldName, header.Listing.Listing}
+use Rattle.nc_fields.specs.declared.entry.Content.TheVariants as content
+use Rattle.nc_fields.specs.declared.place.FieldName.TheVariants as name
+use Rattle.nc_fields.specs.Lenient.{lenient}
+use Rattle.nccheck_laws.specs.Agreement.{without_values}
+use Rattle.nccheck_laws.proofs.StrictHeaders.{strict-headers}
+use Rattle.nc_layout.specs.declared.{slot.Layout.Layout}
+use Rattle.nc_layout.specs.Findings.{layout_findings}
+use Rattle.nccheck_laws.specs.HeaderLaws.{finds, is_of_missing}
+use Rattle.nc_layout.specs.HeaderLayout.{layout_of}
+use Rattle.nccheck_laws.proofs.MissingValues.{missing-found}
+use Rattle.nc_layout.proofs.SpelledLayouts.{spelled-layout}
+use Rattle.nc_report.specs.declared.{finding.Fact.Fact, finding.Finding.Finding}
+use Rattle.nc_report.specs.declared.finding.Fact.TheVariants as fact
+use Rattle.nc_report.specs.Indexed.{Indexed, field_at, indexed_from, indexed, finding}
+use Rattle.nc_report.specs.FieldRules.{fault_fact, number_fact, bytes_fact, form_fact, content_facts, facts_with, facts_of, findings_at, is_floating}
+unfoldable use Rattle.nc_report.specs.FieldRules.{field_findings, floating_findings}
+unfoldable use Rattle.nc_report.specs.HeaderRules.{header_findings}
+use Rattle.nc_report.specs.WholeHeader.{vsize_findings, located, layout_facts, whole_findings}
+unfoldable use Rattle.nc_report.specs.Reports.{all_findings}
+use Rattle.nccheck_laws.specs.FaultLaws.{is_missing, ReportsTellMissingValues}
+use Rattle.nccheck_laws.proofs.FaultFindings.{fault-fact, only, if-none}
+use Rattle.nccheck_laws.proofs.LayoutFacts.{all-located, is-read, whole-header, same-layout}
+use Rattle.nccheck_laws.proofs.QuietRules.{is_layout, Plain, plain-names, plain-attributes, plain-vsizes}
+
+-- the finding is that values are missing
+abbrev pub tells_missing : Finding → Bool
+tells_missing f = is_missing f.fact
+
+-- ---- findings of other facts
+
+abbrev OtherFact : Fact → Type 0
+OtherFact fact = is_layout fact ≡ false
+
+abbrev pub Other : Finding → Type 0
+Other f = OtherFact f.fact
+
+pub all-other : (fs : List Finding) → All Plain fs → All Other fs
+all-other fs plain k x lt = (plain k x lt).1
+
+-- ---- at fields alone
+
+other-number : (place : FieldName) (size n : ℕ) → All OtherFact (option_to_list (number_fact place size n))
+other-number name.NumRecs size n = if-none OtherFact _ _ refl
+other-number name.Length size n = if-none OtherFact _ _ refl
+other-number name.NameLength size n = if-none OtherFact _ _ refl
+other-number name.Rank size n = if-none OtherFact _ _ refl
+other-number place size n = All-nil OtherFact
+
+other-bytes : (place : FieldName) (bs : Bytes) → All OtherFact (option_to_list (bytes_fact place bs))
+other-bytes name.Name bs = if-none OtherFact _ _ refl
+other-bytes name.NamePadding bs = if-none OtherFact _ _ refl
+other-bytes name.Padding bs = if-none OtherFact _ _ refl
+other-bytes place bs = All-nil OtherFact
+
+other-form : (place : FieldName) (bs : Bytes) → All OtherFact (option_to_list (form_fact place bs))
+other-form name.Name bs = if-none OtherFact _ _ refl
+other-form place bs = All-nil OtherFact
+
+other-content : (place : FieldName) (size : ℕ) (c : Content) → All OtherFact (content_facts place size c)
+other-content place size (content.Number n) = other-number place size n
+other-content place size (content.Bytes bs) = All-append OtherFact _ _ (other-bytes place bs) (other-form place bs)
+other-content place size c = All-nil OtherFact
+
+other-facts : (o : Option FormatFault) (place : FieldName) (size : ℕ) (c : Content) → All OtherFact (facts_with o place size c)
+other-facts (Some fault) place size c = only OtherFact (fault_fact fault c) (fault-fact OtherFact fault c refl refl refl refl)
+other-facts None place size c = other-content place size c
+
+other-fields : (i : ℕ) (es : List Entry) → All Other (flat_map findings_at (indexed_from i es))
+other-fields i [] = All-nil Other
+other-fields i (e ∷ es) =
+    All-append Other _ _
+    (All-map Other (finding (field_at i e)) (facts_of e) (other-facts e.fault e.place.name e.size e.content))
+    (other-fields (i + 1) es)
+
+other-floating : (o : Option Indexed) → All Other (option_to_list (option_map (λ f. finding f (fact.Fault FloatingType)) o))
+other-floating (Some f) = only Other (finding f (fact.Fault FloatingType)) refl
+other-floating None = All-nil Other
+
+pub other-header : (es : List Entry) → All Other (header_findings es)
+unfolding header_findings field_findings floating_findings
+other-header es =
+    let fs = indexed es in
+    All-append Other _ _
+    (All-append Other _ _
+    (All-append Other _ _ (other-fields 0 es) (other-floating (find is_floating fs)))
+    (all-other _ (plain-names fs)))
+    (all-other _ (plain-attributes fs))
+
+-- ---- about the layout
+
+not-missing : (x : Fact) → OtherFact x → is_missing x ≡ false
+not-missing (fact.Layout x) other = absurd (false≢true (sym other))
+not-missing x other = refl
+
+-- what comes after findings of other facts
+after-others : (xs ys : List Finding) → All Other xs → list_any tells_missing (xs ++ ys) ≡ list_any tells_missing ys
+after-others xs ys others =
+    list_any-append tells_missing xs ys ∙ ap (λ b. b || list_any tells_missing ys) (list_any_none tells_missing xs
+    (λ k d lt. not-missing _ (others k d lt)))
+
+layout-tells : (layout : Layout) (fs : List Indexed) → list_any tells_missing (layout_facts layout fs) ≡ finds is_of_missing layout
+layout-tells layout fs =
+    after-others (vsize_findings layout fs) (map (located fs) (layout_findings layout)) (all-other _ (plain-vsizes layout fs))
+    ∙ all-located is_missing is_of_missing (λ fact. refl) fs (layout_findings layout)
+
+-- ---- the law
+
+pub listing-tells : (l : Listing) (h : Header) → l.header ≡ Ok h
+    → list_any tells_missing (all_findings l) ≡ finds is_of_missing (layout_of h l.end l.file_len)
+unfolding all_findings
+listing-tells l h same =
+    after-others (header_findings l.entries) (whole_findings l) (other-header l.entries)
+    ∙ ap (list_any tells_missing) (whole-header l h same)
+    ∙ layout-tells (layout_of h l.end l.file_len) (indexed l.entries)
+
+pub missing-told : ReportsTellMissingValues
+missing-told bytes r h rest report spelled =
+    let l = r.listing in
+    let read = is-read bytes report.listing.rest l.header (without_values h) rest report.listing.header
+    (reads (header_by lenient) bytes (without_values h) rest (strict-headers bytes h rest spelled).0) in
+    let ends = subst (λ rest. l.end + length rest ≡ length bytes) read.1 report.listing.end in
+    sym (list_any-IsPermutation tells_missing (all_findings l) r.findings report.all)
+    ∙ listing-tells l (without_values h) read.0
+    ∙ ap (finds is_of_missing) (same-layout h l.end l.file_len)
+    ∙ ap (λ n. finds is_of_missing (layout_of h l.end n)) report.listing.file_len
+    ∙ missing-found h bytes l.end (spelled-layout strict bytes h rest l.end spelled ends)

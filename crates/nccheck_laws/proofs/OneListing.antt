@@ -1,0 +1,98 @@
+-- Each list of bytes has one listing.
+use Rattle.std.proofs.Common.{◌≡◌, ℕ, ◌-◌, List, [], ◌∷◌, length, map, Option, Result, Ok, Err, refl, sym, ap, ap₂, ◌∙◌, arith}
+use Rattle.nc_base.specs.declared.{header.Header.Header, fault.FormatFault.FormatFault}
+use Rattle.nc_base.specs.Bytes.{Bytes}
+use Rattle.nc_base.specs.Parts.{Step}
+use Rattle.nc_base.specs.Grammar.{header_by}
+use Rattle.nc_base.specs.code.PartRuns.{Outcome, with_rest, run}
+unfoldable use Rattle.nc_base.specs.code.PartRuns.{left_after}
+use Rattle.nc_base.proofs.PartOutcomes.{Tells, tells, reads, stops}
+use Rattle.nc_file.proofs.PartRuns.{shorter}
+use Rattle.nc_fields.specs.declared.{entry.Content.Content, entry.Entry.Entry, header.Listing.Listing}
+use Rattle.nc_fields.specs.Fields.{Field, fields}
+use Rattle.nc_fields.specs.Entries.{Seen, seen_by, steps_of}
+unfoldable use Rattle.nc_fields.specs.Entries.{seen}
+use Rattle.nc_fields.specs.Lenient.{lenient}
+use Rattle.nc_fields.specs.Listings.{IsListing, IsOutcome}
+use Rattle.nccheck_laws.proofs.EntryPlaces.{entries-told}
+use Rattle.nccheck_laws.proofs.FieldPlaces.{ArePlaced, placed-header}
+
+-- ---- entries
+
+-- what is seen in fields that have places
+entries-of : (file_len : ℕ) (fs : List Field) → ArePlaced fs → (es : List Entry) × (map seen_by es ≡ map (seen file_len) fs)
+unfolding seen
+entries-of file_len [] p = ([], refl)
+entries-of file_len (f ∷ fs) p =
+    let s = seen file_len f in
+    let e : Entry = record { place = p.0.0; offset = s.offset; size = s.size; content = s.content; fault = s.fault } in
+    let first : seen_by e ≡ s = same-seen (steps_of e.place) f.steps s.offset s.size s.content s.fault p.0.1 in
+    let others = entries-of file_len fs p.1 in
+    (e ∷ others.0, ap₂ (λ x xs. x ∷ xs) first others.1)
+  where
+    same-seen : (steps other : List Step) (offset size : ℕ) (c : Content) (o : Option FormatFault) → steps ≡ other
+        → (let one : Seen = record { steps = steps; offset = offset; size = size; content = c; fault = o } in
+        let two : Seen = record { steps = other; offset = offset; size = size; content = c; fault = o } in
+        one ≡ two)
+    same-seen steps other offset size c o same = cc
+
+-- ---- outcomes
+
+abbrev result_of : Outcome Header → Result Header FormatFault
+result_of (Ok x) = Ok (x.0)
+result_of (Err e) = Err (e.0)
+
+abbrev rest_of : Outcome Header → Bytes
+rest_of (Ok x) = x.1
+rest_of (Err e) = e.1
+
+is-outcome : (bytes : Bytes) (o : Outcome Header) → Tells (header_by lenient) bytes o → IsOutcome bytes (rest_of o) (result_of o)
+is-outcome bytes v1 t = grind arith
+
+rest-left : (o : Outcome Header) → left_after o ≡ length (rest_of o)
+unfolding left_after
+rest-left v0 = grind arith
+
+outcome-told : (bytes rest : Bytes) (r : Result Header FormatFault) → IsOutcome bytes rest r
+    → run (header_by lenient) bytes ≡ with_rest r rest
+outcome-told bytes rest (Ok h) is = reads (header_by lenient) bytes h rest is
+outcome-told bytes rest (Err fault) is = stops (header_by lenient) bytes fault rest is
+
+result-told : (r : Result Header FormatFault) (rest : Bytes) → result_of (with_rest r rest) ≡ r
+result-told v0 rest = grind arith
+
+rest-told : (r : Result Header FormatFault) (rest : Bytes) → rest_of (with_rest r rest) ≡ rest
+rest-told v0 rest = grind arith
+
+-- ---- listings
+
+pub listing_of : (bytes : Bytes) → (l : Listing) × IsListing bytes l
+listing_of bytes =
+    let o = run (header_by lenient) bytes in
+    let e = entries-of (length bytes) (fields [] (header_by lenient) bytes) (placed-header bytes) in (
+      record { entries = e.0; header = result_of o; end = length bytes - length (rest_of o); file_len = length bytes },
+      record {
+        entries = e.1;
+        rest = rest_of o;
+        header = is-outcome bytes o (tells (header_by lenient) bytes);
+        end = omega (arith, shorter (header_by lenient) bytes, rest-left o);
+        file_len = refl;
+      },
+    )
+
+same-listing : (es ds : List Entry) (h g : Result Header FormatFault) (end other file_len more : ℕ) → es ≡ ds → h ≡ g → end ≡ other
+    → file_len ≡ more
+    → (let one : Listing = record { entries = es; header = h; end = end; file_len = file_len } in
+    let two : Listing = record { entries = ds; header = g; end = other; file_len = more } in
+    one ≡ two)
+same-listing es ds h g end other file_len more entries headers ends lens = cc
+
+-- two listings of the same bytes are the same
+pub one-listing : (bytes : Bytes) (k l : Listing) → IsListing bytes k → IsListing bytes l → k ≡ l
+one-listing bytes k l one two =
+    let told = sym (outcome-told bytes one.rest k.header one.header) ∙ outcome-told bytes two.rest l.header two.header in
+    let headers = sym (result-told k.header one.rest) ∙ ap result_of told ∙ result-told l.header two.rest in
+    let rests = sym (rest-told k.header one.rest) ∙ ap rest_of told ∙ rest-told l.header two.rest in
+    same-listing k.entries l.entries k.header l.header k.end l.end k.file_len l.file_len
+    (entries-told k.entries l.entries (one.entries ∙ sym two.entries)) headers
+    (omega (arith, one.end, two.end, ap length rests)) (one.file_len ∙ sym two.file_len)

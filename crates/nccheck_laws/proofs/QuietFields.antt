@@ -1,0 +1,167 @@
+-- What a field shows at which nothing is found about its spelling.
+use Rattle.std.proofs.lemmas.Grind.{common_steps}
+use Rattle.std.proofs.Common.{◌≡◌, ℕ, ◌+◌, ◌==◌, ◌&&◌, ◌||◌, not, Bool, false, cond, List, [], ◌∷◌, ◌++◌, length, map, replicate, Some, None, refl, ap, ◌∙◌, subst, arith, length-take-le, option_to_list, if◌then◌else◌}
+use Rattle.std.proofs.lemmas.Bool.{ltb-false}
+use Rattle.nc_base.specs.declared.{header.Header.Header}
+use Rattle.nc_base.specs.Bytes.{Bytes}
+use Rattle.nc_base.specs.Parts.{Step, Padding, Tag, Count, Vsize, Item, Dims, Gatts, Vars, Atts}
+use Rattle.nc_fields.specs.declared.{entry.Content.Content, entry.Entry.Entry, place.FieldName.FieldName, place.Owner.Owner}
+use Rattle.nc_fields.specs.declared.entry.Content.TheVariants as content
+use Rattle.nc_fields.specs.declared.place.FieldName.TheVariants as name
+use Rattle.nc_fields.specs.Fields.{Field}
+use Rattle.nc_fields.specs.Entries.{Seen, seen_by, steps_of, name_steps, owner_steps, whole_content, cut_content}
+unfoldable use Rattle.nc_fields.specs.Entries.{seen}
+use Rattle.nccheck_laws.specs.Written.{bytes_of, number_of, IsWrittenTag, IsWritten, AreWritten}
+use Rattle.nccheck_laws.proofs.Vsizes.{IsWhole, AreWhole, IsVsizeWritten, AreVsizesWritten}
+use Rattle.nc_report.specs.declared.{finding.Fact.Fact, finding.Finding.Finding}
+use Rattle.nc_report.specs.declared.finding.Fact.TheVariants as fact
+use Rattle.nc_report.specs.Indexed.{Indexed, field_at, indexed, indexed_from, finding, each_before}
+use Rattle.nc_report.specs.Ahead.{ahead_of, is_field, next_number, number_in}
+use Rattle.nc_report.specs.AttributeRules.{empty_list, finding_by_name, attribute_finding}
+use Rattle.nc_report.specs.NameRules.{is_first}
+use Rattle.nc_report.specs.FieldRules.{has_nonzero, content_facts, facts_with, findings_at}
+unfoldable use Rattle.nc_report.specs.FieldRules.{field_findings}
+unfoldable use Rattle.nc_report.specs.AttributeRules.{attribute_findings}
+use Rattle.nccheck_laws.specs.ReportLaws.{is_of_spelling, has_any}
+
+-- nothing of these findings is about the spelling
+abbrev pub AreOther : List Finding → Type 0
+AreOther findings = has_any is_of_spelling findings ≡ false
+
+pub neither : (a b : Bool) → (a || b) ≡ false → (a ≡ false) × (b ≡ false)
+neither v0 b e = grind arith
+
+pub both-other : (xs ys : List Finding) → AreOther (xs ++ ys) → AreOther xs × AreOther ys
+both-other xs ys e = grind (arith, common_steps)
+
+-- ---- what is shown
+
+-- of the number of a list's elements, after its tag
+abbrev ShowsCount : ℕ → List Step → Content → Type 0
+ShowsCount tag (Count ∷ steps) (content.Number n) = (not (tag == 0) && (n == 0)) ≡ false
+ShowsCount tag steps c = Unit {0}
+
+abbrev ShowsAfter : ℕ → List Seen → Type 0
+ShowsAfter tag [] = Unit {0}
+ShowsAfter tag (s ∷ after) = ShowsCount tag s.steps s.content
+
+-- of a field with these steps and this content, before these
+abbrev Shows : List Step → Content → List Seen → Type 0
+Shows (Padding ∷ steps) (content.Bytes bs) after = has_nonzero bs ≡ false
+Shows (Tag ∷ steps) (content.Number tag) after = ShowsAfter tag after
+Shows steps c after = Unit {0}
+
+abbrev pub AreQuiet : List Seen → Type 0
+AreQuiet [] = Unit {0}
+AreQuiet (s ∷ after) = (s.fault ≡ None → Shows s.steps s.content after) × AreQuiet after
+
+-- ---- from the findings
+
+padding-shows : (b : Bool) (f : Indexed) (more : List Fact)
+    → AreOther (map (finding f) (option_to_list (if b then Some fact.Padding else None) ++ more)) → b ≡ false
+padding-shows v0 f more e = grind arith
+
+count-shows : (tag : ℕ) (steps : List Step) (f : Indexed) (i offset : ℕ) (c : Content)
+    → AreOther (option_to_list (empty_list f (content.Number tag) (number_in i offset c))) → ShowsCount tag steps c
+count-shows tag v1 f i offset v5 e = grind arith
+
+after-shows : (tag : ℕ) (f : Indexed) (k : ℕ) (after : List Entry)
+    → AreOther (option_to_list (empty_list f (content.Number tag) (next_number is_field (indexed_from k after))))
+    → ShowsAfter tag (map seen_by after)
+after-shows tag f k [] e = tt
+after-shows tag f k (g ∷ after) e = count-shows tag (steps_of g.place) f k g.offset g.content e
+
+tag-shows : (steps : List Step) (f : Indexed) (c : Content) (k : ℕ) (after : List Entry)
+    → AreOther (option_to_list (empty_list f c (next_number is_field (indexed_from k after)))) → Shows (Tag ∷ steps) c (map seen_by after)
+tag-shows steps f (content.Number tag) k after e = after-shows tag f k after e
+tag-shows steps f (content.Bytes bs) k after e = tt
+tag-shows steps f (content.Values b) k after e = tt
+tag-shows steps f content.Cut k after e = tt
+
+filling-shows : (steps : List Step) (place : FieldName) (size : ℕ) (f : Indexed) (c : Content) (after : List Seen)
+    → ((bs : Bytes) → AreOther (map (finding f) (content_facts place size (content.Bytes bs))) → has_nonzero bs ≡ false)
+    → AreOther (map (finding f) (content_facts place size c)) → Shows (Padding ∷ steps) c after
+filling-shows steps place size f v3 after go e = grind arith
+
+place-shows : (first : Bool) (place : FieldName) (o : Owner) (f : Indexed) (k : ℕ) (after : List Entry)
+    → AreOther (map (finding f) (content_facts place f.entry.size f.entry.content))
+    → AreOther (option_to_list (finding_by_name first place f (ahead_of (indexed_from k after))))
+    → Shows (name_steps place ++ owner_steps o) f.entry.content (map seen_by after)
+place-shows first name.Magic o f k after e d = tt
+place-shows first name.Version o f k after e d = tt
+place-shows first name.NumRecs o f k after e d = tt
+place-shows first name.DimsTag o f k after e d = tag-shows (Dims ∷ owner_steps o) f f.entry.content k after d
+place-shows first name.DimsCount o f k after e d = tt
+place-shows first name.GlobalAttsTag o f k after e d = tag-shows (Gatts ∷ owner_steps o) f f.entry.content k after d
+place-shows first name.GlobalAttsCount o f k after e d = tt
+place-shows first name.VarsTag o f k after e d = tag-shows (Vars ∷ owner_steps o) f f.entry.content k after d
+place-shows first name.VarsCount o f k after e d = tt
+place-shows first name.NameLength o f k after e d = tt
+place-shows first name.Name o f k after e d = tt
+place-shows first name.NamePadding o f k after e d = grind (arith, filling-shows, padding-shows)
+place-shows first name.Length o f k after e d = tt
+place-shows first name.Type o f k after e d = tt
+place-shows first name.Count o f k after e d = tt
+place-shows first name.Values o f k after e d = tt
+place-shows first name.Padding o f k after e d = grind (arith, filling-shows, padding-shows)
+place-shows first name.Rank o f k after e d = tt
+place-shows first (name.DimId i) o f k after e d = tt
+place-shows first name.AttsTag o f k after e d = tag-shows (Atts ∷ owner_steps o) f f.entry.content k after d
+place-shows first name.AttsCount o f k after e d = tt
+place-shows first name.Vsize o f k after e d = tt
+place-shows first name.Begin o f k after e d = tt
+
+quiet-from : (all : List Indexed) (k : ℕ) (entries : List Entry) → AreOther (field_findings (indexed_from k entries))
+    → AreOther (each_before (attribute_finding all) (indexed_from k entries)) → AreQuiet (map seen_by entries)
+unfolding field_findings
+quiet-from all k [] e d = tt
+quiet-from all k (entry ∷ entries) e d =
+    let f = field_at k entry in
+    let at = both-other (findings_at f) (field_findings (indexed_from (k + 1) entries)) e in
+    let after = indexed_from (k + 1) entries in
+    let by = both-other (option_to_list (attribute_finding all f after)) (each_before (attribute_finding all) after) d in (
+      λ sound.
+          place-shows (is_first all f) entry.place.name entry.place.owner f (k + 1) entries
+          (subst (λ fault. AreOther (map (finding f) (facts_with fault entry.place.name entry.size entry.content))) sound at.0)
+          by.0,
+      quiet-from all (k + 1) entries at.1 by.1,
+    )
+
+pub quiet-entries : (entries : List Entry) → AreOther (field_findings (indexed entries)) → AreOther (attribute_findings (indexed entries))
+    → AreQuiet (map seen_by entries)
+unfolding attribute_findings
+quiet-entries entries e d = quiet-from (indexed entries) 0 entries e d
+
+-- ---- fields that are as they are written
+
+all-zeros : (bs : Bytes) → has_nonzero bs ≡ false → bs ≡ replicate (length bs) 0
+all-zeros [] e = refl
+all-zeros (b ∷ bs) e =
+    let d = neither (not (b == 0)) (has_nonzero bs) e in
+    let zero : b ≡ 0 = is-zero b d.0 in
+    rw zero (ap (λ (bs : Bytes). 0 ∷ bs) (all-zeros bs d.1))
+  where
+    is-zero : (b : ℕ) → not (b == 0) ≡ false → b ≡ 0
+    is-zero b e = grind arith
+
+pub seen-content : (len : ℕ) (f : Field) → IsWhole f → (seen len f).content ≡ whole_content f.steps f.size f.start
+unfolding seen
+seen-content len f w = ap (λ b. cond b (cut_content f.steps f.start) (whole_content f.steps f.size f.start)) w.whole
+
+tag-written : (len tag : ℕ) (fs : List Field) → AreWhole fs → ShowsAfter tag (map (seen len) fs) → IsWrittenTag tag fs
+unfolding seen
+tag-written len tag v2 w e = grind arith
+
+is-written : (h : Header) (len : ℕ) (steps : List Step) (f : Field) (fs : List Field) → IsWhole f → AreWhole fs → IsVsizeWritten h steps f
+    → Shows steps (whole_content steps f.size f.start) (map (seen len) fs) → IsWritten h steps f fs
+is-written h len (Padding ∷ steps) f fs w whole size e =
+    all-zeros (bytes_of f) e ∙ ap (λ n. replicate n 0) (length-take-le f.size f.start (ltb-false _ _ w.whole))
+is-written h len (Tag ∷ steps) f fs w whole size e = tag-written len (number_of f) fs whole e
+is-written h len (Vsize ∷ Item i ∷ steps) f fs w whole size e = size
+is-written h len steps f fs w whole size e = tt
+
+pub quiet-written : (h : Header) (len : ℕ) (fs : List Field) → AreQuiet (map (seen len) fs) → AreWhole fs → AreVsizesWritten h fs
+    → AreWritten h fs
+unfolding seen
+quiet-written h len [] quiet whole sizes = tt
+quiet-written h len (f ∷ fs) quiet whole sizes = grind (arith, quiet-written h len fs quiet.1 whole.1 sizes.1, is-written, seen-content)

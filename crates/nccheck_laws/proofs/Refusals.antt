@@ -1,0 +1,157 @@
+-- The first entry of a listing that the strict rules refuse.
+use Rattle.std.proofs.Common.{le_trans, ◌≡◌, ℕ, ◌-◌, ◌≤◌, Bool, true, false, cond, nat_lt, List, [], ◌∷◌, ◌++◌, length, map, drop, Option, Some, None, refl, sym, ap, ◌∙◌, subst, arith}
+use Rattle.std.specs.List.{All}
+use Rattle.std.proofs.lemmas.List.{length-drop}
+use Rattle.std.proofs.lemmas.List.Elements.{All-nil, All-cons}
+use Rattle.nc_base.specs.declared.fault.FormatFault.{FormatFault}
+use Rattle.nc_base.specs.Bytes.{Bytes}
+use Rattle.nc_base.specs.Parts.{Step, Magic}
+use Rattle.nc_fields.specs.declared.{entry.Entry.Entry}
+use Rattle.nc_fields.specs.Fields.{Field}
+unfoldable use Rattle.nc_fields.specs.Entries.{seen}
+use Rattle.nc_fields.specs.Entries.{Seen, seen_by, steps_of, whole_content, cut_content}
+use Rattle.nccheck_laws.specs.Agreement.{refusal_in, refusal, first_refusal}
+use Rattle.nccheck_laws.proofs.Agreement.{first_of}
+use Rattle.nccheck_laws.proofs.FieldOrder.{Descend}
+
+-- why the strict rules refuse an entry
+abbrev pub refusal_of : Entry → Option FormatFault
+refusal_of e = refusal_in e.size e.content (steps_of e.place) e.fault
+
+-- ---- an entry is refused as its field is
+
+same-refusal : (len : ℕ) (f : Field) (e : Entry) → seen_by e ≡ seen len f → refusal_of e ≡ refusal f
+unfolding seen
+same-refusal len f e is = ap (λ (s : Seen). refusal_in s.size s.content s.steps s.fault) is ∙ by-test (nat_lt (length f.start) f.size)
+  where
+    cut-refusal : (steps : List Step) → refusal_in f.size (cut_content steps f.start) steps f.fault ≡ f.fault
+    cut-refusal (Magic ∷ steps) = refl
+    cut-refusal steps = refl
+
+    by-test : (b : Bool)
+        → refusal_in f.size (cond b (cut_content f.steps f.start) (whole_content f.steps f.size f.start)) f.steps f.fault
+        ≡ cond b f.fault (refusal_in f.size (whole_content f.steps f.size f.start) f.steps f.fault)
+    by-test true = cut-refusal f.steps
+    by-test false = refl
+
+same-offset : (len : ℕ) (f : Field) (e : Entry) → seen_by e ≡ seen len f → e.offset ≡ len - length f.start
+unfolding seen
+same-offset len f e is = ap (λ (s : Seen). s.offset) is
+
+-- ---- all of them
+
+-- these entries are those of these fields
+abbrev pub AreEntriesOf : ℕ → List Field → List Entry → Type 0
+AreEntriesOf len fs es = map seen_by es ≡ map (seen len) fs
+
+first-same : (len : ℕ) (f : Field) (fs : List Field) (e : Entry) (es : List Entry) → AreEntriesOf len (f ∷ fs) (e ∷ es)
+    → seen_by e ≡ seen len f
+first-same len f fs e es is = cc
+
+others-same : (len : ℕ) (f : Field) (fs : List Field) (e : Entry) (es : List Entry) → AreEntriesOf len (f ∷ fs) (e ∷ es)
+    → AreEntriesOf len fs es
+others-same len f fs e es is = cc
+
+-- none is refused
+none-of : (f : Field) (o : Option FormatFault) (others : Option (FormatFault × Bytes)) → first_of f o others ≡ None
+    → (o ≡ None) × (others ≡ None)
+none-of f (Some fault) others is = absurd cc
+none-of f None others is = (refl, is)
+
+pub none-refused : (len : ℕ) (fs : List Field) (es : List Entry) → AreEntriesOf len fs es → first_refusal fs ≡ None
+    → All (λ (e : Entry). refusal_of e ≡ None) es
+none-refused len fs [] is none = All-nil (λ (e : Entry). refusal_of e ≡ None)
+none-refused len [] (e ∷ es) is none = absurd cc
+none-refused len (f ∷ fs) (e ∷ es) is none =
+    let both = none-of f (refusal f) (first_refusal fs) none in
+    All-cons (λ (e : Entry). refusal_of e ≡ None) e es (same-refusal len f e (first-same len f fs e es is) ∙ both.0)
+    (none-refused len fs es (others-same len f fs e es is) both.1)
+
+-- entries after a field begin after it
+later : (len top bottom : ℕ) (fs : List Field) (es : List Entry) → AreEntriesOf len fs es → Descend top bottom fs
+    → All (λ (e : Entry). len - top ≤ e.offset) es
+later len top bottom fs [] is d = All-nil (λ (e : Entry). len - top ≤ e.offset)
+later len top bottom [] (e ∷ es) is d = absurd cc
+later len top bottom (f ∷ fs) (e ∷ es) is d =
+    let others = later len (length f.start) bottom fs es (others-same len f fs e es is) d.1 in
+    let at = same-offset len f e (first-same len f fs e es is) in
+    All-cons (λ (e : Entry). len - top ≤ e.offset) e es (omega (arith, at, d.0)) (λ k x lt. below (others k x lt) d.0)
+  where
+    below : {n low high : ℕ} → len - low ≤ n → low ≤ high → len - high ≤ n
+    below a b = omega (arith, a, b)
+
+-- the rest after an entry, in a file of this length, which may end inside of it
+pub record Ends (len : ℕ) (e : Entry) (rest : Bytes) : Type 0 where
+  pub within : e.offset ≤ len
+  pub left : length rest ≡ len - e.offset - e.size
+
+-- the first entry that is refused, those before it, and those after it, which don't begin before it
+pub record FirstRefused (len : ℕ) (es : List Entry) (fault : FormatFault) (rest : Bytes) : Type 0 where
+  pub front : List Entry
+  pub entry : Entry
+  pub back : List Entry
+  pub is : es ≡ front ++ entry ∷ back
+  pub before : All (λ (e : Entry). refusal_of e ≡ None) front
+  pub refused : refusal_of entry ≡ Some fault
+  pub after : All (λ (e : Entry). entry.offset ≤ e.offset) back
+  pub ends : Ends len entry rest
+
+one-more : {len : ℕ} {es : List Entry} {fault : FormatFault} {rest : Bytes} (e : Entry) → refusal_of e ≡ None
+    → FirstRefused len es fault rest → FirstRefused len (e ∷ es) fault rest
+one-more e none r = record {
+  front = e ∷ r.front;
+  entry = r.entry;
+  back = r.back;
+  is = ap (λ es. e ∷ es) r.is;
+  before = All-cons (λ (e : Entry). refusal_of e ≡ None) e r.front none r.before;
+  refused = r.refused;
+  after = r.after;
+  ends = r.ends;
+}
+
+here : {len : ℕ} {fault : FormatFault} {rest : Bytes} (e : Entry) (es : List Entry) → refusal_of e ≡ Some fault
+    → All (λ (x : Entry). e.offset ≤ x.offset) es → Ends len e rest → FirstRefused len (e ∷ es) fault rest
+here e es refused after ends = record {
+  front = [];
+  entry = e;
+  back = es;
+  is = refl;
+  before = All-nil (λ (e : Entry). refusal_of e ≡ None);
+  refused = refused;
+  after = after;
+  ends = ends;
+}
+
+same-size : (len : ℕ) (f : Field) (e : Entry) → seen_by e ≡ seen len f → e.size ≡ f.size
+unfolding seen
+same-size len f e is = ap (λ (s : Seen). s.size) is
+
+ends-at : (len : ℕ) (f : Field) (e : Entry) → seen_by e ≡ seen len f → length f.start ≤ len → Ends len e (drop f.size f.start)
+ends-at len f e is within =
+    let offset = same-offset len f e is in
+    let size = same-size len f e is in
+    record { within = omega (arith, offset); left = omega (arith, offset, size, within, length-drop f.size f.start) }
+
+by-refusal : (len : ℕ) (f : Field) (e : Entry) (es : List Entry) (fault : FormatFault) (rest : Bytes) (o : Option FormatFault)
+    (others : Option (FormatFault × Bytes)) → refusal_of e ≡ o → first_of f o others ≡ Some (fault, rest)
+    → All (λ (x : Entry). e.offset ≤ x.offset) es → Ends len e (drop f.size f.start)
+    → (others ≡ Some (fault, rest) → FirstRefused len es fault rest) → FirstRefused len (e ∷ es) fault rest
+by-refusal len f e es fault rest (Some found) others is refused after ends go =
+    let pair : (found, drop f.size f.start) ≡ (fault, rest) = cc in
+    here e es (is ∙ ap (λ (p : FormatFault × Bytes). Some (p.0)) pair) after
+    (subst (Ends len e) (ap (λ (p : FormatFault × Bytes). p.1) pair) ends)
+by-refusal len f e es fault rest None others is refused after ends go = one-more e is (go refused)
+
+pub first-refused : (len top bottom : ℕ) (fs : List Field) (es : List Entry) (fault : FormatFault) (rest : Bytes) → AreEntriesOf len fs es
+    → top ≤ len → Descend top bottom fs → first_refusal fs ≡ Some (fault, rest) → FirstRefused len es fault rest
+first-refused len top bottom [] es fault rest is le d refused = absurd cc
+first-refused len top bottom (f ∷ fs) [] fault rest is le d refused = absurd cc
+first-refused len top bottom (f ∷ fs) (e ∷ es) fault rest is le d refused =
+    let same = first-same len f fs e es is in
+    let others = others-same len f fs e es is in
+    let within = le_trans d.0 le in
+    by-refusal len f e es fault rest (refusal f) (first_refusal fs) (same-refusal len f e same) refused
+    (subst (λ n. All (λ (x : Entry). n ≤ x.offset) es) (sym (same-offset len f e same))
+    (later len (length f.start) bottom fs es others d.1))
+    (ends-at len f e same within)
+    (first-refused len (length f.start) bottom fs es fault rest others within d.1)

@@ -1,0 +1,57 @@
+-- Values are found to be missing exactly if the dump of all values ends at a missing value.
+use Rattle.std.proofs.Common.{◌≡◌, ℕ, ◌+◌, ◌*◌, ◌<◌, ◌≤◌, Bool, true, false, List, [], ◌∷◌, map, refl, arith, None, All, nat_lt, if◌then◌else◌}
+use Rattle.std.specs.List.{list_any}
+use Rattle.std.specs.Prelude.{is_some}
+use Rattle.std.proofs.lemmas.Bool.{false≢true, ltb-false}
+use Rattle.std.proofs.lemmas.List.Elements.{All-head, All-tail}
+use Rattle.nc_base.specs.declared.{header.Header.Header, header.Var.Var}
+use Rattle.nc_base.specs.Bytes.{Bytes}
+use Rattle.nc_base.specs.Dump.{Options, Ending, IsDump, stopped, unknown, shown, has_values, is_selected, shown_data, values_in_file, variables_text}
+use Rattle.nc_base.specs.Grammar.{SpellsHeader, strict}
+use Rattle.nc_base.specs.Places.{first_missing}
+use Rattle.nc_base.specs.Sizes.{slab_size}
+use Rattle.nc_base.proofs.HeaderOutcomes.{one-header, header-fine}
+use Rattle.nc_base.proofs.SlabBytes.{record-whole}
+use Rattle.nc_layout.specs.Findings.{IsSoundSlot}
+use Rattle.nccheck_laws.specs.HeaderLaws.{MissingValuesStopDumps, ShowsAllValues, is_truncated, lacks_values}
+use Rattle.nccheck_laws.proofs.MissingValues.{missing-found, unmapped}
+use Rattle.nc_layout.proofs.SpelledLayouts.{spelled-layout}
+use Rattle.nccheck_laws.proofs.WholeVariables.{some-values}
+
+-- the slab has at least one byte
+abbrev HasBytes : Header → Var → Type 0
+HasBytes h var = 1 ≤ slab_size h.dims var
+
+-- only a record variable has no values, and only without records
+no-count : (count n : ℕ) (kind : Bool) → 0 < count → nat_lt 0 (count * (if kind then n else 1)) ≡ false → (kind ≡ true) × (n ≡ 0)
+no-count count n kind some none = grind (arith, ltb-false)
+
+-- a variable without values has no missing one
+no-values : (h : Header) (bytes : Bytes) (var : Var) (n : ℕ) → HasBytes h var → has_values h.dims n var ≡ false
+    → first_missing h bytes var n ≡ None
+no-values h bytes var n some none = grind (arith, no-count, some-values, record-whole)
+
+-- a data section of all variables ends at a missing value exactly if one of them has one
+section-ends : (h : Header) (bytes : Bytes) (n width : ℕ) (test : Var → Bool) → ((var : Var) → test var ≡ true)
+    → (v : ℕ) (vars : List Var) → All (HasBytes h) vars
+    → is_truncated (variables_text (shown_data h (values_in_file h bytes n) n width) v vars (map test vars)).ending
+    ≡ list_any (λ (var : Var). is_some (first_missing h bytes var n)) vars
+section-ends h bytes n width test all v [] some = refl
+section-ends h bytes n width test all v (var ∷ vars) some = grind (arith, section-ends h bytes n width test all (v + 1) vars (All-tail (HasBytes h) var vars some), no-values, All-head, All-tail, false≢true)
+
+-- without options that choose, each variable is selected
+selects-all : (h : Header) (o : Options) → ShowsAllValues o → (var : Var) → is_selected h o var ≡ true
+selects-all h o all var = cc
+
+dump-ends : (h : Header) (bytes rest : Bytes) (o : Options) (text : Bytes) (ending : Ending) → SpellsHeader bytes h rest
+    → All (HasBytes h) h.vars → ShowsAllValues o → IsDump bytes o text ending
+    → is_truncated ending ≡ list_any (lacks_values h bytes) h.vars
+dump-ends h bytes rest o text ending spelled some all (stopped fault end stops) = absurd (header-fine bytes h rest fault end spelled stops)
+dump-ends h bytes rest o text ending spelled some all (unknown k more index s u) = grind arith
+dump-ends h bytes rest o text ending spelled some all (shown k more n section s knows count is) = grind (arith, one-header, section-ends, selects-all)
+
+pub missing-stops : MissingValuesStopDumps
+missing-stops h bytes rest header_end o text ending spelled ends all is =
+    let sound = spelled-layout strict bytes h rest header_end spelled ends in
+    let slabs = unmapped IsSoundSlot h.dims h.vars sound.sound_slots in
+    grind (arith, missing-found, dump-ends)

@@ -1,0 +1,5 @@
+use Rattle.nccheck_laws.proofs.MissingFindings.{missing-told}
+use Rattle.nccheck_laws.proofs.laws.reports_tell_missing_values.Goals as goal
+
+pub returns : goal.returns
+returns c = missing-told

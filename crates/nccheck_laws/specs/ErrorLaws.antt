@@ -1,0 +1,39 @@
+-- Law. What a report says of the values of a file, whatever their types: whether each is in the file, and in bytes of its own. Without an
+-- error, all of them are.
+use Rattle.std.specs.Prelude.{ℕ, ◌≡◌, ◌≢◌, false, length, Ok}
+use Rattle.std.specs.List.{All, list_any}
+use Rattle.nc_base.specs.declared.header.Header.{Header}
+use Rattle.nc_base.specs.Bytes.{Bytes}
+use Rattle.nc_layout.specs.HeaderLayout.{layout_of}
+use Rattle.nccheck_laws.specs.HeaderLaws.{lacks_values}
+use Rattle.nccheck_laws.specs.LayoutLaws.{is_of_shared_bytes, SharesNoByte}
+use Rattle.nc_report.specs.declared.{finding.Finding.Finding, report.Report.Report}
+use Rattle.nc_report.specs.declared.kind.Severity.TheVariants.{Error}
+use Rattle.nc_report.specs.Kinds.{kind_of, severity_of}
+use Rattle.nc_report.specs.Reports.{IsReport}
+use Rattle.nccheck_laws.specs.FaultLaws.{finds_missing}
+use Rattle.nccheck_laws.specs.ReportLaws.{has_any, is_of_layout}
+
+-- if the header is listed to its end, then values are found to be missing exactly if some variable has a first missing value
+abbrev pub ListedHeadersTellMissingValues : Type 0
+ListedHeadersTellMissingValues = (bytes : Bytes) (r : Report) (h : Header) → IsReport bytes r → r.listing.header ≡ Ok h
+    → finds_missing r ≡ list_any (lacks_values h bytes) h.vars
+
+-- and if nothing is found that lets slabs share bytes, then no byte lies in two slabs, or in a slab and the header
+abbrev pub ListedHeadersHaveSlabsApart : Type 0
+ListedHeadersHaveSlabsApart = (bytes : Bytes) (r : Report) (h : Header) → IsReport bytes r → r.listing.header ≡ Ok h
+    → has_any (is_of_layout is_of_shared_bytes) r.findings ≡ false → SharesNoByte (layout_of h r.listing.end (length bytes))
+
+-- no finding is an error
+abbrev pub HasNoError : Report → Type 0
+HasNoError r = All (λ (f : Finding). severity_of (kind_of f.fact) ≢ Error) r.findings
+
+-- each value of a variable is in the file, and shares no byte with another one or with the header, which ends here
+pub record HasValues (bytes : Bytes) (h : Header) (header_end : ℕ) : Type 0 where
+  pub whole : list_any (lacks_values h bytes) h.vars ≡ false
+  pub apart : SharesNoByte (layout_of h header_end (length bytes))
+
+-- if no finding is an error, then the header is listed to its end, and each value can be had
+abbrev pub ReportsWithoutErrorsHaveValues : Type 0
+ReportsWithoutErrorsHaveValues = (bytes : Bytes) (r : Report) → IsReport bytes r → HasNoError r
+    → (h : Header) × (r.listing.header ≡ Ok h) × HasValues bytes h r.listing.end

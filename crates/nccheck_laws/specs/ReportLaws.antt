@@ -1,0 +1,106 @@
+-- Law. If nothing is found about the spelling of a header that the strict rules read, then the file begins with the one spelling in which
+-- this header is written: the rules on padding, on lists without elements and on the sizes of variables are complete. They find nothing in
+-- such a file. If nothing is found at begins and at the end of the file either, then the file has the header and the length of a generated
+-- file. Without faults and missing values, the file holds a dataset. The report of a generated file has no fault and no missing values, and
+-- finds nothing about the spelling, at begins and at the end.
+use Rattle.std.specs.Prelude.{ℕ, ◌≡◌, ◌↔◌, Bool, true, false, List, ◌++◌, length}
+use Rattle.std.specs.List.{list_any}
+use Rattle.nc_base.specs.declared.{dataset.Dataset.Dataset, header.Header.Header}
+use Rattle.nc_base.specs.declared.header.NumRecs.TheVariants.{Known}
+use Rattle.nc_base.specs.Bytes.{Bytes, AreBytes}
+use Rattle.nc_base.specs.Datasets.{HoldsDataset, Fits}
+use Rattle.nc_base.specs.GeneratedFile.{file_of, with_begins}
+use Rattle.nc_base.specs.Grammar.{SpellsHeader, header_spelling}
+use Rattle.nc_base.specs.Headers.{AreArrays, IsGood, bare}
+use Rattle.nc_layout.specs.declared.finding.LayoutFact.{LayoutFact}
+use Rattle.nccheck_laws.specs.LayoutLaws.{is_of_begin, is_of_end}
+use Rattle.nc_report.specs.declared.{finding.Fact.Fact, finding.Finding.Finding, report.Report.Report}
+use Rattle.nc_report.specs.declared.finding.Fact.TheVariants as fact
+use Rattle.nc_report.specs.Reports.{IsReport}
+use Rattle.nccheck_laws.specs.FaultLaws.{HasNoFault, finds_missing}
+
+-- a fact about the spelling of a header: it says the same as the header's own spelling, in other bytes
+abbrev pub is_of_spelling : Fact → Bool
+is_of_spelling (fact.Fault fault) = false
+is_of_spelling fact.Hdf5 = false
+is_of_spelling fact.Gzip = false
+is_of_spelling fact.EmptyFile = false
+is_of_spelling fact.NameCharacters = false
+is_of_spelling fact.LargeCount = false
+is_of_spelling fact.EmptyList = true
+is_of_spelling fact.LongName = false
+is_of_spelling (fact.DuplicateName first) = false
+is_of_spelling fact.NotNfc = false
+is_of_spelling fact.Padding = true
+is_of_spelling fact.EmptyAttribute = false
+is_of_spelling fact.TrailingNul = false
+is_of_spelling (fact.FillType code) = false
+is_of_spelling fact.FillCount = false
+is_of_spelling fact.HighRank = false
+is_of_spelling (fact.Vsize expected) = true
+is_of_spelling (fact.Layout fact) = false
+
+-- one of the findings is a fact of this kind
+abbrev pub has_any : (Fact → Bool) → List Finding → Bool
+has_any kind findings = list_any (λ (f : Finding). kind f.fact) findings
+
+abbrev pub QuietSpellingsAreCanonical : Type 0
+QuietSpellingsAreCanonical = (bytes : Bytes) (r : Report) (h : Header) (rest : Bytes) → AreBytes bytes → IsReport bytes r
+    → SpellsHeader bytes h rest → has_any is_of_spelling r.findings ≡ false → bytes ≡ header_spelling h ++ rest
+
+-- and nothing is found about the spelling of a header that is spelled so
+abbrev pub CanonicalSpellingsAreQuiet : Type 0
+CanonicalSpellingsAreQuiet = (bytes : Bytes) (r : Report) (h : Header) (rest : Bytes) → IsReport bytes r → SpellsHeader bytes h rest
+    → bytes ≡ header_spelling h ++ rest → has_any is_of_spelling r.findings ≡ false
+
+-- if no fault and nothing about the spelling is found, then the file begins with the one spelling of its header
+abbrev pub QuietHeadersAreCanonical : Type 0
+QuietHeadersAreCanonical = (bytes : Bytes) (r : Report) → AreBytes bytes → IsReport bytes r → HasNoFault r
+    → has_any is_of_spelling r.findings ≡ false
+    → (h : Header) × (rest : Bytes) × SpellsHeader bytes h rest × (bytes ≡ header_spelling h ++ rest)
+
+-- a fact about the layout that is of this kind
+abbrev pub is_of_layout : (LayoutFact → Bool) → Fact → Bool
+is_of_layout kind (fact.Layout fact) = kind fact
+is_of_layout kind fact = false
+
+-- nothing is found at begins and at the end of the file
+pub record HasQuietLayout (r : Report) : Type 0 where
+  pub begins : has_any (is_of_layout is_of_begin) r.findings ≡ false
+  pub end : has_any (is_of_layout is_of_end) r.findings ≡ false
+
+-- Each variable of the header begins where it does in a generated file. If the number of records is known, then the file that is generated
+-- from the header without begins, and from any arrays of these sizes, has this very header, and the length of a file of these bytes.
+pub record IsAsGenerated (bytes : Bytes) (h : Header) : Type 0 where
+  pub begins : with_begins h ≡ h
+  pub files : (n : ℕ) (arrays : List Bytes) → h.numrecs ≡ Known n → AreArrays h.dims n h.vars arrays
+      → (with_begins (bare h n) ≡ h) × (length bytes ≡ length (file_of (record { header = bare h n; arrays = arrays })))
+
+-- if no fault is found, and nothing about the spelling, at begins and at the end of the file, then the file begins with the one spelling of
+-- its header, which is that of a generated file, and has the length of one
+abbrev pub QuietFilesAreCanonical : Type 0
+QuietFilesAreCanonical = (bytes : Bytes) (r : Report) → AreBytes bytes → IsReport bytes r → HasNoFault r
+    → has_any is_of_spelling r.findings ≡ false → HasQuietLayout r
+    → (h : Header) × (rest : Bytes) × SpellsHeader bytes h rest × (bytes ≡ header_spelling h ++ rest) × IsAsGenerated bytes h
+
+-- a report has no fault, and finds no missing values
+pub record FindsWholeFile (r : Report) : Type 0 where
+  pub no_fault : HasNoFault r
+  pub no_missing : finds_missing r ≡ false
+
+-- that is so exactly if the file holds a dataset
+abbrev pub WholeFilesHoldDatasets : Type 0
+WholeFilesHoldDatasets = (bytes : Bytes) (r : Report) → IsReport bytes r → FindsWholeFile r ↔ ((d : Dataset) × HoldsDataset bytes d)
+
+-- and so it is in the file of each good dataset that fits
+abbrev pub GeneratedFilesAreFoundWhole : Type 0
+GeneratedFilesAreFoundWhole = (d : Dataset) (r : Report) → IsGood d → Fits d.header → IsReport (file_of d) r → FindsWholeFile r
+
+-- nor is anything found at begins and at the end of such a file
+abbrev pub GeneratedFilesHaveQuietLayouts : Type 0
+GeneratedFilesHaveQuietLayouts = (d : Dataset) (r : Report) → IsGood d → Fits d.header → IsReport (file_of d) r → HasQuietLayout r
+
+-- nor about the spelling of its header
+abbrev pub GeneratedFilesHaveQuietSpellings : Type 0
+GeneratedFilesHaveQuietSpellings = (d : Dataset) (r : Report) → IsGood d → Fits d.header → IsReport (file_of d) r
+    → has_any is_of_spelling r.findings ≡ false
