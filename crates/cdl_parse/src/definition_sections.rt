@@ -35,7 +35,8 @@ pub fn read_definitions<'a>(alloc: Global, start: Cutter<'a>) -> Result<Defined<
     ensures shaped { IfOk result (λ d. AreShaped d.definitions.dims d.definitions.variables) }
     ensures ends { IfOk result (λ d. is_done d.rest ≡ false → is_early d.definitions.section ≡ false) }
     ensures same { IfOk result (λ d. SameText start.entry d.rest) }
-    ensures lines { IfOk result (λ d. closing_of d.rest d.lines ≡ closing_line (pieces_left start.entry)) }
+    ensures lines { IfOk result (λ d. closing_of d.rest d.lines
+        ≡ closing_line (pieces_left start.entry)) }
 {
     let mut definitions = Definitions::new(alloc);
     let mut cutter = start;

@@ -112,7 +112,8 @@ struct Contents {
 /// Reads all statements of a text, and returns what they declare and list. `start` is a cutter at the text's start. The sizes of slabs,
 /// arrays and the record aren't checked: [`finish`] does that. Errs with the fault of the first bad statement, or if an allocation failed.
 fn read_contents(alloc: Global, start: Cutter<'_>) -> Result<Contents, ParseError>
-    ensures reads { length (text_of start.entry) < 2 ^ 63 → ReadsAll result (run_from start.entry empty) }
+    ensures reads { length (text_of start.entry) < 2 ^ 63
+        → ReadsAll result (run_from start.entry empty) }
     ensures line { IfOk result (λ c. c.closing_line ≡ closing_line (pieces_left start.entry)) }
 {
     let Defined {
@@ -177,7 +178,8 @@ fn read_values<'a>(
     ensures reads { ReadsAsDefined start.entry dims.now vars.now names.now section result }
     ensures past { IfOk result (λ values. is_done values.rest ≡ false → is_over values.section ≡ true) }
     ensures same { IfOk result (λ values. SameText start.entry values.rest) }
-    ensures lines { IfOk result (λ values. closing_of values.rest values.lines ≡ closing_of start.entry before) }
+    ensures lines { IfOk result (λ values. closing_of values.rest values.lines
+        ≡ closing_of start.entry before) }
 {
     match section {
         Section::Values => read_data_section(alloc, dims, vars, names, start, before),
@@ -205,7 +207,8 @@ fn read_data_section<'a>(
     ensures reads { ReadsAsDefined start.entry dims.now vars.now names.now Section.Values result }
     ensures past { IfOk result (λ values. is_done values.rest ≡ false → is_over values.section ≡ true) }
     ensures same { IfOk result (λ values. SameText start.entry values.rest) }
-    ensures lines { IfOk result (λ values. closing_of values.rest values.lines ≡ closing_of start.entry before) }
+    ensures lines { IfOk result (λ values. closing_of values.rest values.lines
+        ≡ closing_of start.entry before) }
 {
     let targets = targets_of(alloc, dims, vars)?;
     let data = read_data(alloc, names, targets, start, before)?;

@@ -32,7 +32,8 @@ pub(crate) fn put_att_list<W: Sink>(
 /// Writes the attributes of a list, one after another, without the tag and the number before them. Errs if the sink fails.
 fn put_atts<W: Sink>(sink: &mut W, version: Version, atts: &[Att]) -> Result<(), WriteFailed>
     requires { All (IsSoundAtt version) atts.now }
-    ensures { Wrote W.view sink.old sink.new (flat_map (print (att_part strict version)) atts.now) result }
+    ensures { Wrote W.view sink.old sink.new
+        (flat_map (print (att_part strict version)) atts.now) result }
 {
     for att in atts {
         put_att(sink, version, att)?;

@@ -30,7 +30,8 @@ pub(crate) fn put_var_list<W: Sink>(
     requires few_dims { length dims.now < count_limit version }
     requires sound { All (IsSoundVar version dims.now) vars.now }
     requires begins { All (λ var. var.begin_at < offset_limit version) vars.now }
-    ensures { Wrote W.view sink.old sink.new (print (var_list strict version dims.now) vars.now) result }
+    ensures { Wrote W.view sink.old sink.new
+        (print (var_list strict version dims.now) vars.now) result }
 {
     put_list_head(sink, version, NC_VARIABLE, vars.len() as u64)?;
     put_vars(sink, version, dims, vars)
@@ -66,7 +67,8 @@ fn put_var<W: Sink>(
     requires few_dims { length dims.now < count_limit version }
     requires sound { IsSoundVar version dims.now var.now }
     requires begin { var.now.begin_at < offset_limit version }
-    ensures { Wrote W.view sink.old sink.new (print (var_part strict version dims.now 0) var.now) result }
+    ensures { Wrote W.view sink.old sink.new
+        (print (var_part strict version dims.now 0) var.now) result }
 {
     put_name(sink, version, var.name.as_slice())?;
     put_shape(sink, version, var.dimids.as_slice())?;
