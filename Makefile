@@ -62,9 +62,10 @@ kit:
 	@$(sources)
 	./kit.sh
 
-# All proofs (the newer kit leaves out those that an earlier run on this machine made from the same files), the tests and the programs' stored
-# runs.
+# The names of libraries, in seconds; then all proofs (the newer kit leaves out those that an earlier run on this machine made from the same
+# files), the tests and the programs' stored runs.
 test-proofs:
+	tests/crates.py
 	./kit.sh rt ci
 	$(call keep,ncdump)
 	$(call keep,ncgen)
