@@ -28,7 +28,7 @@ pub records-bare : (dims : List Dim) (vars : List Var) → record_vars dims (map
 records-bare dims [] = refl
 records-bare dims (var ∷ vars) = grind (arith, records-bare dims vars)
 
-record_size_of-bare : (dims : List Dim) (vars : List Var) → record_size_of dims (map bare_var vars) ≡ record_size_of dims vars
+pub record_size_of-bare : (dims : List Dim) (vars : List Var) → record_size_of dims (map bare_var vars) ≡ record_size_of dims vars
 record_size_of-bare dims vars = grind (arith, sum, map-map, padded_size, bare_var)
 
 size-bare : (h : Header) (vars : List Var) → record_size (record h { vars = map bare_var vars }) ≡ record_size (record h { vars = vars })
@@ -65,7 +65,7 @@ list-len v dims xs =
     ∙ both _ _ _ _ (ap (λ (n : ℕ). length (print (list_head v variable_tag) n)) (length-map xs bare_var)) (each-len (var_bytes v dims) xs (var-len v dims))
     ∙ ap length (sym (list-printed v variable_tag (var_after strict v dims) (var_bytes v dims) xs (var-printed v dims)))
 
-header-len-bare : (h : Header) (vars : List Var) → length (header_spelling (record h { vars = map bare_var vars })) ≡ length (header_spelling (record h { vars = vars }))
+pub header-len-bare : (h : Header) (vars : List Var) → length (header_spelling (record h { vars = map bare_var vars })) ≡ length (header_spelling (record h { vars = vars }))
 unfolding print header_by
 header-len-bare h vars = grind (arith, length-append, list-len)
 

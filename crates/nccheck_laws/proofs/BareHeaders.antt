@@ -1,19 +1,16 @@
 -- A header without begins: what is generated from it is the same.
-use Rattle.std.proofs.Common.{◌≡◌, ℕ, Bool, not, List, [], ◌∷◌, ◌++◌, length, map, refl, sym, ◌∙◌, ap, arith, length-append, if◌then◌else◌}
-use Rattle.std.specs.Prelude.{flat_map}
-use Rattle.std.proofs.lemmas.List.{length-map, map-append}
+use Rattle.std.proofs.Common.{◌≡◌, ℕ, Bool, not, List, [], ◌∷◌, ◌++◌, length, map, refl, sym, ◌∙◌, ap, arith, if◌then◌else◌}
+use Rattle.std.proofs.lemmas.List.{map-append}
 use Rattle.std.proofs.lemmas.Grind.{common_steps}
-use Rattle.nc_base.specs.declared.{header.Dim.Dim, header.Header.Header, header.NumRecs.NumRecs, header.Var.Var, version.Version.Version}
+use Rattle.nc_base.specs.declared.{header.Dim.Dim, header.Header.Header, header.NumRecs.NumRecs, header.Var.Var}
 use Rattle.nc_base.specs.declared.header.NumRecs.TheVariants.{Known}
 use Rattle.nc_base.specs.Bytes.{Bytes}
 use Rattle.nc_base.specs.GeneratedFile.{begin_after, fixed_vars, slabs_before, vars_with_begins, with_begins}
-use Rattle.nc_base.specs.Grammar.{variable_tag, number, offset_part, var_part, var_after, var_list, strict, header_by, header_spelling}
+use Rattle.nc_base.specs.Grammar.{header_spelling}
 use Rattle.nc_base.specs.Headers.{AreArrays, bare, bare_var}
-use Rattle.nc_base.specs.Parts.{print}
 use Rattle.nc_base.specs.Sizes.{is_record_var, padded_total, record_size_of, record_vars}
-use Rattle.nc_base.proofs.FileHolds.{records-bare}
+use Rattle.nc_base.proofs.FileHolds.{header-len-bare, record_size_of-bare, records-bare}
 use Rattle.nc_base.proofs.FilePlaces.{padded_total-append}
-use Rattle.nc_base.proofs.PrintedLists.{IsPrintedAs, list-printed}
 
 abbrev pub bare_vars : List Var → List Var
 bare_vars vars = map bare_var vars
@@ -40,12 +37,9 @@ record_total-bare : (dims : List Dim) (vars : List Var)
     → padded_total dims (record_vars dims (bare_vars vars)) ≡ padded_total dims (record_vars dims vars)
 record_total-bare dims vars = ap (padded_total dims) (records-bare dims vars) ∙ total-bare dims (record_vars dims vars)
 
-size-bare : (dims : List Dim) (vars : List Var) → record_size_of dims (bare_vars vars) ≡ record_size_of dims vars
-size-bare dims v1 = grind (arith, common_steps)
-
 pub record_size-bare : (dims : List Dim) (vars : List Var)
     → record_size_of dims (record_vars dims (bare_vars vars)) ≡ record_size_of dims (record_vars dims vars)
-record_size-bare dims vars = ap (record_size_of dims) (records-bare dims vars) ∙ size-bare dims (record_vars dims vars)
+record_size-bare dims vars = ap (record_size_of dims) (records-bare dims vars) ∙ record_size_of-bare dims (record_vars dims vars)
 
 -- ---- arrays
 
@@ -58,41 +52,11 @@ arrays-bare dims n (var ∷ vars) (array ∷ arrays) are = grind (arith, arrays-
 
 -- ---- the length of the header
 
--- a variable's bytes, whatever stands before it
-abbrev var_bytes : Version → List Dim → Var → Bytes
-var_bytes v dims var = print (var_part strict v dims 0) var
-
-var-printed : (v : Version) (dims : List Dim) → IsPrintedAs (var_after strict v dims) (var_bytes v dims)
-unfolding print var_part
-var-printed v dims before var = refl
-
-var-len : (v : Version) (dims : List Dim) (var : Var) → length (var_bytes v dims (bare_var var)) ≡ length (var_bytes v dims var)
-unfolding print var_part offset_part number
-var-len v dims var = grind (arith, length-append)
-
-vars-len : (v : Version) (dims : List Dim) (vars : List Var)
-    → length (flat_map (var_bytes v dims) (bare_vars vars)) ≡ length (flat_map (var_bytes v dims) vars)
-vars-len v dims [] = refl
-vars-len v dims (var ∷ vars) = grind (arith, length-append, var-len v dims var, vars-len v dims vars)
-
-list-len : (v : Version) (dims : List Dim) (vars : List Var)
-    → length (print (var_list strict v dims) (bare_vars vars)) ≡ length (print (var_list strict v dims) vars)
-unfolding var_list
-list-len v dims vars =
-    let printed = list-printed v variable_tag (var_after strict v dims) (var_bytes v dims) in
-    let one = printed (bare_vars vars) (var-printed v dims) in
-    let other = printed vars (var-printed v dims) in
-    grind (arith, length-append, length-map vars bare_var, vars-len v dims vars)
-
-header-len : (h : Header) → length (header_spelling (record h { vars = bare_vars h.vars })) ≡ length (header_spelling h)
-unfolding print header_by
-header-len h = grind (arith, length-append, list-len)
-
 bare-is : (h : Header) (n : ℕ) → h.numrecs ≡ Known n → bare h n ≡ (let x : Header = record h { vars = bare_vars h.vars } in x)
 bare-is h n known = ap (λ (k : NumRecs). let x : Header = record h { numrecs = k; vars = bare_vars h.vars } in x) (sym known)
 
 pub len-bare : (h : Header) (n : ℕ) → h.numrecs ≡ Known n → length (header_spelling (bare h n)) ≡ length (header_spelling h)
-len-bare h n known = ap (λ (k : Header). length (header_spelling k)) (bare-is h n known) ∙ header-len h
+len-bare h n known = ap (λ (k : Header). length (header_spelling k)) (bare-is h n known) ∙ header-len-bare h h.vars
 
 -- ---- begins
 

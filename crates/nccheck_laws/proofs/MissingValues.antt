@@ -66,7 +66,7 @@ all-present h bytes header_end sound within =
 
 -- ---- tests
 
-not-some : (o : Option ℕ) → is_some o ≡ false → o ≡ None
+pub not-some : (o : Option ℕ) → is_some o ≡ false → o ≡ None
 not-some o none = grind arith
 
 none-lack : (h : Header) (bytes : Bytes) (vars : List Var) → list_any (lacks_values h bytes) vars ≡ false → All (HasAll h bytes) vars

@@ -1,9 +1,9 @@
 -- The order of findings tells all of them apart.
-use Rattle.std.proofs.Common.{◌≡◌, ℕ, refl, sym, ap, Option, Some, None}
+use Rattle.std.proofs.Common.{◌≡◌, ℕ, false, refl, sym, ap, Option, Some, None}
 use Rattle.std.specs.declared.cmp.Ordering.{Ordering}
 use Rattle.std.specs.declared.cmp.Ordering.TheVariants.{Less, Equal, Greater}
 use Rattle.std.specs.Option.{option_cmp}
-use Rattle.std.specs.Ordering.{nat_cmp, ordering_then}
+use Rattle.std.specs.Ordering.{is_eq, nat_cmp, ordering_then}
 use Rattle.std.proofs.lemmas.Cmp.{ranked}
 use Rattle.nc_base.specs.declared.fault.FormatFault.{FormatFault}
 use Rattle.nc_base.specs.declared.fault.FormatFault.TheVariants as fault
@@ -38,6 +38,11 @@ option None None e = refl
 option (Some i) (Some k) e = ap Some (number i k e)
 option o p e = cc
 
+-- what is told apart by an order isn't the same
+apart : {A : Type 0} (r : Ordering) → is_eq r ≡ false → r ≡ Equal → A
+apart Equal told e = cc
+apart r told e = cc
+
 -- ---- facts
 
 same-fault : (a b : FormatFault) → faults.ghosts.cmp a b ≡ Equal → a ≡ b
@@ -53,12 +58,12 @@ same-fault fault.BadShape fault.BadShape e = refl
 same-fault fault.TwoRecordDims fault.TwoRecordDims e = refl
 same-fault fault.BadOffset fault.BadOffset e = refl
 same-fault fault.TooLarge fault.TooLarge e = refl
-same-fault a b e = cc
+same-fault a b e = apart (faults.ghosts.cmp a b) refl e
 
 same-block : (a b : Block) → blocks.ghosts.cmp a b ≡ Equal → a ≡ b
 same-block (block.Var i) (block.Var k) e = ap block.Var (number i k e)
 same-block block.Records block.Records e = refl
-same-block a b e = cc
+same-block a b e = apart (blocks.ghosts.cmp a b) refl e
 
 -- a number, and what comes after it
 beside : {X : Type 0} (R : X → X → Ordering) → ((x y : X) → R x y ≡ Equal → x ≡ y) → (i k : ℕ) (x y : X)
@@ -76,7 +81,7 @@ beside-both R sure i k m n x y e =
 same-slab : (a b : Slab) → slabs.ghosts.cmp a b ≡ Equal → a ≡ b
 same-slab (slab.Var i) (slab.Var k) e = ap slab.Var (number i k e)
 same-slab (slab.Record i m) (slab.Record k n) e = let parts = beside nat_cmp number i k m n e in cc
-same-slab a b e = cc
+same-slab a b e = apart (slabs.ghosts.cmp a b) refl e
 
 same-layout : (a b : LayoutFact) → layouts.ghosts.cmp a b ≡ Equal → a ≡ b
 same-layout (layout.Streaming i) (layout.Streaming k) e = ap layout.Streaming (number i k e)
@@ -92,7 +97,7 @@ same-layout (layout.Gap i x) (layout.Gap k y) e = let parts = beside blocks.ghos
 same-layout (layout.Missing i m x) (layout.Missing k n y) e = let parts = beside-both slabs.ghosts.cmp same-slab i k m n x y e in cc
 same-layout (layout.EndPadding i m) (layout.EndPadding k n) e = let parts = beside nat_cmp number i k m n e in cc
 same-layout (layout.Trailing i m x) (layout.Trailing k n y) e = let parts = beside-both (option_cmp nat_cmp) option i k m n x y e in cc
-same-layout a b e = cc
+same-layout a b e = apart (layouts.ghosts.cmp a b) refl e
 
 same-fact : (a b : Fact) → facts.ghosts.cmp a b ≡ Equal → a ≡ b
 same-fact (fact.Fault a) (fact.Fault b) e = ap fact.Fault (same-fault a b e)
@@ -113,7 +118,7 @@ same-fact fact.FillCount fact.FillCount e = refl
 same-fact fact.HighRank fact.HighRank e = refl
 same-fact (fact.Vsize i) (fact.Vsize k) e = ap fact.Vsize (number i k e)
 same-fact (fact.Layout a) (fact.Layout b) e = ap fact.Layout (same-layout a b e)
-same-fact a b e = cc
+same-fact a b e = apart (facts.ghosts.cmp a b) refl e
 
 same-record : (i k : ℕ) (a b : Fact) (o p : Option ℕ) → i ≡ k → a ≡ b → o ≡ p
     → (let one : Finding = record { offset = i; fact = a; field = o } in

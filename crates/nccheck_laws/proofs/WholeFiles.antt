@@ -1,6 +1,6 @@
 -- A report has no fault and finds no missing values exactly if the file holds a dataset.
 use Rattle.std.proofs.Common.{arith}
-use Rattle.std.proofs.Common.{◌≡◌, ℕ, Bool, false, List, [], ◌∷◌, length, map, Option, None, is_some, refl, sym, ◌∙◌}
+use Rattle.std.proofs.Common.{◌≡◌, ℕ, Bool, false, List, [], ◌∷◌, length, map, None, refl, sym, ◌∙◌}
 use Rattle.std.specs.List.{All, concat, list_any}
 use Rattle.std.proofs.lemmas.List.Elements.{All-nil, All-cons}
 use Rattle.std.proofs.lemmas.List.Folds.{list_any_none}
@@ -19,6 +19,7 @@ use Rattle.nccheck_laws.specs.ReportLaws.{FindsWholeFile, WholeFilesHoldDatasets
 use Rattle.nc_report.specs.Reports.{IsReport}
 use Rattle.nccheck_laws.proofs.FirstFaults.{faultless}
 use Rattle.nccheck_laws.proofs.MissingFindings.{missing-told}
+use Rattle.nccheck_laws.proofs.MissingValues.{not-some}
 use Rattle.nccheck_laws.proofs.QuietFields.{neither}
 
 -- none of the variables has a first missing value among this number of records
@@ -31,9 +32,6 @@ none-passes : {A : Type 0} (test : A → Bool) (xs : List A) → list_any test x
 none-passes test [] none = All-nil _
 none-passes test (x ∷ xs) none =
     let both = neither (test x) (list_any test xs) none in All-cons (λ x. test x ≡ false) x xs both.0 (none-passes test xs both.1)
-
-not-some : (o : Option ℕ) → is_some o ≡ false → o ≡ None
-not-some v0 none = grind arith
 
 whole-lacks : (h : Header) (bytes : Bytes) (n : ℕ) → n ≡ record_count h (length bytes) → AreWhole h bytes n
     → list_any (lacks_values h bytes) h.vars ≡ false
