@@ -1,7 +1,7 @@
 -- The characters of a variable, some after others.
 use Rattle.std.proofs.Common.{◌≡◌, ℕ, suc, ℤ, pos, ◌+◌, ◌-◌, ◌%◌, ◌<◌, ◌≤◌, true, cond, ◌&&◌, List, [], ◌∷◌, ◌++◌, length, map, take, drop, replicate, sym, ◌/◌, ◌∙◌, ap, refl, subst, arith, append_assoc, length-append, Result, Ok, Err, ◌==◌, OnOk, rules}
 use Rattle.std.proofs.lemmas.List.{replicate-append-replicate}
-use Rattle.cdl_print.proofs.Prelude.{false≢true, cond-false, cond-true, nat_tests, nil_from_length, length-map, map-append, append-nil, take-append-drop, escaped_text, numbers, numbers_from, variable_prefix, Look, is_char, begins_row, char_lead, char_text, char_piece, held, piece, pieces, later_pieces, NcType, Char, place-add, held_other, held_nul, held_first, held_untrimmed, SinkView, Written, next_char_lead, shown, part_text, part_bytes, row_index_after_part, held_after, IsAfterPart, IsAfter, values_after, IsAfterNext, WrittenNext, Progress, escaped-append}
+use Rattle.cdl_print.proofs.Prelude.{false≢true, cond-false, cond-true, nat_tests, nil_from_length, length-map, map-append, append-nil, take-append-drop, escaped_text, numbers, numbers_from, variable_prefix, Look, is_char, begins_row, char_lead, char_text, char_piece, held, piece, pieces, later_pieces, NcType, Char, place-add, held_other, held_nul, held_first, held_untrimmed, SinkView, Written, next_char_lead, shown, part_text, part_bytes, row_index_after_part, held_after, IsAfterPart, IsAfter, values_after, IsAfterNext, WrittenNext, Progress, escaped-append, flat_map, escaped_in_string}
 use Rattle.cdl_print.proofs.Begun.{IsBegun, begun_at_first}
 use Rattle.cdl_print.proofs.TrailingNuls.{without-cons}
 
@@ -21,6 +21,12 @@ char_text_is look nuls b = ap (λ (t : List ℕ). cond (look.trimmed && (b == 0)
 none_held : escaped_text (replicate 0 0) ≡ []
 unfolding escaped_text
 none_held = refl
+
+-- characters before which no NUL is held back
+pub none_before : (bytes : List ℕ) → part_text 0 bytes ≡ flat_map escaped_in_string bytes
+unfolding part_text escaped_text
+none_before [] = refl
+none_before (b ∷ bytes) = refl
 
 one_more_held : (n : ℕ) → escaped_text (replicate (n + 1) 0) ≡ escaped_text (replicate n 0) ++ escaped_text (0 ∷ [])
 one_more_held n = ap escaped_text (sym (replicate-append-replicate n 1 0)) ∙ escaped-append (replicate n 0) (0 ∷ [])

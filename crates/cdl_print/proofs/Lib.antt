@@ -1,6 +1,7 @@
 pub mod Begun
 pub mod Runs
 pub mod Joined
+pub mod Lanes
 pub mod NumberRows
 pub mod PrintingLaws
 pub mod TrailingNuls

@@ -1,25 +1,31 @@
 //! The characters of a variable as CDL writes them.
 
-ghost use Rattle.std.specs.Prelude.{◌≡◌, ◌+◌, ◌-◌, ◌<◌, ◌≤◌, ◌==◌, ◌^◌, true, length, replicate, if◌then◌else◌, OnOk};
+ghost use Rattle.std.specs.Prelude.{◌≡◌, ◌+◌, ◌++◌, ◌-◌, ◌<◌, ◌≤◌, ◌==◌, ◌^◌, true, length, replicate, if◌then◌else◌, OnOk};
 ghost use Rattle.nc_base.specs.Escapes.{escaped_text};
 ghost use Rattle.nc_base.specs.ValueText.{is_char};
 ghost use Rattle.devices.specs.code.SinkWrites.{Wrote};
-ghost use Rattle.cdl_print.specs.code.Leads.{look_at};
+ghost use Rattle.cdl_print.specs.code.Leads.{look_at, next_char_lead};
 ghost use Rattle.cdl_print.specs.code.Printing.{next, next_part, part_text, IsAfterNext, IsAfterPart, WroteNext};
 
-use crate::escaped::put_escaped;
+use crate::escaped::{gather_escaped, put_escaped};
 use crate::layout::Layout;
+use crate::number_row::Gathered;
 use crate::progress::{Progress, row_index_after};
 use devices::{Sink, WriteFailed, put};
 use nc_base::Quoting;
 
+/// The most characters of a row that are written at once. Each takes at most four bytes with its escape.
+const AT_ONCE: usize = 1000;
+
 /// Writes the next characters of a variable, `bytes`, row by row, and moves `progress` past them. Before the first character of a row it
-/// writes what [`Layout::char_lead`] returns. In a trimmed layout it holds NULs back until a character other than NUL follows in the row.
-/// If the sink fails, `progress` stays before the part of a row that wasn't written whole.
+/// writes what [`Layout::put_char_lead`] puts. In a trimmed layout it holds NULs back until a character other than NUL follows in the row.
+/// `text` is a buffer in which the text of a row is gathered, and may hold anything. If the sink fails, `progress` stays before the part of
+/// a row that wasn't written whole.
 pub fn put_char_values<W: Sink>(
     sink: &mut W,
     layout: &Layout<'_>,
     progress: &mut Progress,
+    text: &mut Gathered,
     bytes: &[u8],
 ) -> Result<(), WriteFailed>
     requires character { is_char layout.now.ty ≡ true }
@@ -29,8 +35,12 @@ pub fn put_char_values<W: Sink>(
 {
     let mut rest = bytes;
     while !rest.is_empty() {
-        let (part, others) = rest.split_at(len_in_row(layout.row, progress.row_index, rest.len()));
-        put_next_part(sink, layout, progress, part)?;
+        let (part, others) = rest.split_at(len_in_row(
+            layout.row,
+            progress.row_index,
+            rest.len().min(AT_ONCE),
+        ));
+        put_next_part(sink, layout, progress, text, part)?;
         rest = others;
     }
     Ok(())
@@ -55,6 +65,7 @@ fn put_next_part<W: Sink>(
     sink: &mut W,
     layout: &Layout<'_>,
     progress: &mut Progress,
+    text: &mut Gathered,
     part: &[u8],
 ) -> Result<(), WriteFailed>
     requires character { is_char layout.now.ty ≡ true }
@@ -64,17 +75,16 @@ fn put_next_part<W: Sink>(
     ensures after { OnOk result (IsAfterNext (next layout.now progress.old part.now) progress.new) }
     ensures wrote { WroteNext W.view sink.old sink.new (next layout.now progress.old part.now) result }
 {
-    put_part_with_lead(sink, layout, progress, part)
+    put_part_with_lead(sink, layout, progress, text, part)
 }
 
-/// Writes the lead, which is what [`Layout::char_lead`] returns, then the NULs that were held back, and then the characters of `part`
-/// without those that [`Layout::shown_chars`] leaves out. If none is left, only the lead is written. Moves `progress` past `part`. NULs at
-/// its end that weren't written are held back, or dropped if the row ends there.
-#[tactic(auto, using(devices::proofs::Writes::writes))]
+/// Writes the characters of `part` with what stands before them ([`put_shown_with_lead`]), but without those that [`Layout::shown_chars`]
+/// leaves out. Moves `progress` past `part`. NULs at its end that weren't written are held back, or dropped if the row ends there.
 fn put_part_with_lead<W: Sink>(
     sink: &mut W,
     layout: &Layout<'_>,
     progress: &mut Progress,
+    text: &mut Gathered,
     part: &[u8],
 ) -> Result<(), WriteFailed>
     requires within { progress.old.position + length part.now ≤ layout.now.total }
@@ -82,8 +92,7 @@ fn put_part_with_lead<W: Sink>(
     ensures after { OnOk result (IsAfterPart (look_at layout.now) progress.old part.now progress.new) }
 {
     let shown = layout.shown_chars(part);
-    put(sink, layout.char_lead(progress))?;
-    put_shown(sink, progress.held_nuls, shown)?;
+    put_shown_with_lead(sink, layout, progress, text, shown)?;
     let count = part.len() as u128;
     let row_index = row_index_after(layout.row, progress.row_index, count);
     *progress = Progress {
@@ -111,6 +120,27 @@ fn held_nuls_after(held_nuls: u128, row_index: u128, count: u128, shown: u128) -
     } else {
         count - shown
     }
+}
+
+/// Writes the lead, which is what [`Layout::put_char_lead`] puts, then the NULs that were held back, and then the characters of `shown`. If
+/// there are none of these, only the lead is written. Unless NULs were held back, all of it is gathered in `text`, and written in one piece.
+#[tactic(auto, using(devices::proofs::Writes::writes, crate::proofs::CharRows::none_before))]
+fn put_shown_with_lead<W: Sink>(
+    sink: &mut W,
+    layout: &Layout<'_>,
+    progress: &Progress,
+    text: &mut Gathered,
+    shown: &[u8],
+) -> Result<(), WriteFailed>
+    ensures { Wrote W.view sink.old sink.new (next_char_lead (look_at layout.now) progress.now ++ part_text progress.now.held_nuls shown.now) result }
+{
+    let start = layout.put_char_lead(text, 0, progress);
+    if progress.held_nuls != 0 || shown.len() > AT_ONCE {
+        put(sink, &text[..start])?;
+        return put_shown(sink, progress.held_nuls, shown);
+    }
+    let end = gather_escaped(text, start, Quoting::InString, shown);
+    put(sink, &text[..end])
 }
 
 /// Writes the `held_nuls` NULs that were held back, and then the characters of `shown` with their escapes. Writes nothing if there are

@@ -1,6 +1,6 @@
 //! What the text of a variable's values depends on.
 
-ghost use Rattle.std.specs.Prelude.{◌≡◌, ◌+◌, ◌<◌, ◌≤◌, ◌&&◌, length};
+ghost use Rattle.std.specs.Prelude.{◌≡◌, ◌+◌, ◌++◌, ◌<◌, ◌≤◌, ◌&&◌, length, take};
 ghost use Rattle.std.specs.Ordering.{int_eq};
 ghost use Rattle.nc_base.specs.Headers.{IsSound};
 ghost use Rattle.nc_base.specs.Sizes.{is_record_var};
@@ -11,6 +11,7 @@ ghost use Rattle.cdl_print.specs.code.Printing.{shown};
 use crate::gap::{Gap, gap_in_row};
 use crate::progress::Progress;
 use crate::trailing_nuls::without_trailing_nuls;
+use cdl_number_text::put_bytes;
 use nc_base::{
     Dim, Header, NcType, Var, dim_len, fill_of, is_record_var, prints_fill, value_count,
 };
@@ -165,19 +166,23 @@ impl Layout<'_> {
         }
     }
 
-    /// Returns what stands before the next character, apart from NULs held back. If the character is its row's first, this closes the
-    /// string of the row before it, if there is one, and opens a string. Otherwise it is empty.
-    pub fn char_lead(&self, progress: &Progress) -> &'static [u8]
-        ensures { result.now ≡ next_char_lead (look_at self.now) progress.now }
+    /// Puts what stands before the next character, apart from NULs held back, at the offset `at` of `text`, and returns the offset at which
+    /// it ends. If the character is its row's first, this closes the string of the row before it, if there is one, and opens a string.
+    /// Otherwise it is empty. Needs room for 6 bytes in `text`.
+    #[inline(always)]
+    pub fn put_char_lead(&self, text: &mut [u8], at: usize, progress: &Progress) -> usize
+        requires { at + 6 ≤ length text.old }
+        ensures written { take result text.new ≡ take at text.old ++ next_char_lead (look_at self.now) progress.now }
+        ensures short { result ≤ at + 6 }
     {
         if progress.row_index != 0 {
-            b""
+            at
         } else if !self.in_rows {
-            b" \""
+            put_bytes(text, at, b" \"")
         } else if progress.position == 0 {
-            b"\n  \""
+            put_bytes(text, at, b"\n  \"")
         } else {
-            b"\",\n  \""
+            put_bytes(text, at, b"\",\n  \"")
         }
     }
 }

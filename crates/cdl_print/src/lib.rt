@@ -23,6 +23,7 @@ mod escaped;
 mod gap;
 mod head;
 mod layout;
+mod literal;
 mod name;
 mod number;
 mod number_line;

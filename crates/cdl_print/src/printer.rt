@@ -90,7 +90,7 @@ impl<'a> ValuePrinter<'a> {
     }
 
     /// Writes the next values of the variable. `bytes` must have whole values, big-endian and one after the other, and no more of them than
-    /// the variable has left, as [`takes`](ValuePrinter::takes) tests. Numbers are gathered in `text`, which may hold anything: one buffer
+    /// the variable has left, as [`takes`](ValuePrinter::takes) tests. Their text is gathered in `text`, which may hold anything: one buffer
     /// serves all variables.
     ///
     /// # Errors
@@ -145,7 +145,7 @@ impl<'a> ValuePrinter<'a> {
 }
 
 /// Writes the next values of a variable, by [`put_char_values`] or [`put_number_values`], and moves `progress` past them. `bytes` has them,
-/// big-endian; they must be no more than the variable has left. `text` is a buffer for numbers, and may hold anything. After an error
+/// big-endian; they must be no more than the variable has left. `text` is a buffer for their text, and may hold anything. After an error
 /// `progress` may be anything.
 fn put_next_values<W: Sink>(
     sink: &mut W,
@@ -159,7 +159,7 @@ fn put_next_values<W: Sink>(
     ensures wrote { WroteNext W.view sink.old sink.new (next layout.now progress.old bytes.now) result }
 {
     if layout.is_char() {
-        put_char_values(sink, layout, progress, bytes)
+        put_char_values(sink, layout, progress, text, bytes)
     } else {
         put_number_values(sink, layout, progress, text, bytes)
     }

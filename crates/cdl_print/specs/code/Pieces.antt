@@ -1,6 +1,8 @@
 -- For contracts. What the parts of a dump are put together from.
-use Rattle.std.specs.Prelude.{ℕ, suc, ◌==◌, ◌||◌, Bool, if◌then◌else◌, List, [], ◌∷◌, map, codes, ◌≡◌, ◌<◌, false, length, slice_index, slice_index_or}
+use Rattle.std.specs.Prelude.{ℕ, suc, ◌==◌, ◌||◌, Bool, if◌then◌else◌, List, [], ◌∷◌, map, codes}
+use Rattle.std.specs.Char.{is_ascii_control}
 use Rattle.std.specs.Fmt.{signed_decimal}
+use Rattle.std.specs.Str.{byte}
 use Rattle.nc_base.specs.Bytes.{concat_parts}
 use Rattle.nc_base.specs.Escapes.{begins_with_digit_or_mark, is_reserved, escaped_name, escaped_text}
 use Rattle.nc_base.specs.HeadText.{att_lines, dim_lines, dim_name, dimensions_word, global_word, joined, string_break, var_lines, variables_word}
@@ -12,9 +14,9 @@ use Rattle.nc_base.specs.Numbers.{number_of}
 unfoldable pub prefix_escape : List ℕ → List ℕ
 prefix_escape name = if begins_with_digit_or_mark name || is_reserved name then 92 ∷ [] else []
 
--- of each byte there is a mark, which says whether it passes the test
-abbrev pub AreMarks : (ℕ → Bool) → List ℕ → List Bool → Type 0
-AreMarks test bytes marks = (k : ℕ) → k < length bytes → slice_index_or marks k false ≡ test (slice_index bytes k)
+-- a byte that a string has with an escape
+abbrev pub needs_escape : ℕ → Bool
+needs_escape b = is_ascii_control b || (b == byte "\"") || (b == byte "'") || (b == byte "\\")
 
 -- how many bytes there are up to the first line feed and with it; all, if there is none
 abbrev pub line_len : List ℕ → ℕ
