@@ -94,23 +94,13 @@ fn put_literal_run(text: &mut [u8], at: usize, bytes: &[u8]) -> usize
     ensures literal { list_all is_literal (take result bytes.now) ≡ true }
     ensures text { take (at + result) text.new ≡ take at text.old ++ take result bytes.now }
 {
-    let copied = put_block(text, at, bytes);
-    literal_run(u8x16::from_slice(&text[at..])).min(copied)
-}
-
-/// Copies the first 16 bytes, or all if they are fewer, to the offset `at` of `text`, and returns how many. Needs room for 16 bytes.
-#[inline(always)]
-fn put_block(text: &mut [u8], at: usize, bytes: &[u8]) -> usize
-    requires { at + 16 ≤ length text.old }
-    ensures within { result ≤ length bytes.now }
-    ensures text { take (at + result) text.new ≡ take at text.old ++ take result bytes.now }
-{
     if bytes.len() < LANES {
         put_bytes(text, at, bytes);
-        return bytes.len();
+        return literal_run(u8x16::from_slice(&text[at..])).min(bytes.len());
     }
-    put_bytes(text, at, &bytes[..LANES]);
-    LANES
+    let vector = u8x16::from_slice(bytes);
+    vector.copy_to_slice(&mut text[at..]);
+    literal_run(vector)
 }
 
 /// Puts the byte `b` at the offset `at` of `text`, written as `escape` says, and returns the offset at which it ends. Needs room for four

@@ -1,17 +1,33 @@
-use Rattle.std.proofs.Common.{arith, sym, ap, ◌∙◌}
-use Rattle.cdl_print.proofs.Prelude.{is_literal, list_all}
+use Rattle.std.proofs.Common.{◌+◌, ◌++◌, List, ℕ, arith, sym, ap, ◌∙◌, take}
+use Rattle.std.proofs.lemmas.Simd.{take_more_put_chunk}
+use Rattle.devices.proofs.Writes.{take_all_of}
+use Rattle.cdl_print.proofs.Prelude.{is_literal, length-take-le, list_all}
 use Rattle.cdl_print.proofs.Lanes.{copied_part, read_again, run_at}
 use Rattle.cdl_print.proofs.escaped.put_literal_run.Goals as goal
 
+pub returns-then-bytes-lt-LANES : goal.returns-then-bytes-lt-LANES
+returns-then-bytes-lt-LANES c =
+    let at = c.args.at in
+    let bytes = c.args.bytes.now in
+    let new = c.put_bytes.new.text in
+    let run = c.literal_run.ensures in
+    let copied = ap (λ m. take m new) (sym c.put_bytes.ensures.end) ∙ c.put_bytes.ensures.written ∙ ap (λ (xs : List ℕ). take at c.args.text.now ++ xs) (sym (take_all_of bytes)) in
+    let text = copied_part c.args.text.now new bytes at _ c.min.result copied (omega arith) (omega arith) in
+    record {
+      within = omega (arith, c.min.ensures);
+      literal = ap (list_all is_literal) (sym (read_again c.args.text.now new bytes at c.min.result text (omega arith))) ∙ run_at is_literal new at 16 c.min.result (omega (arith, run.len, c.min.ensures)) (omega (arith, run.within, c.min.ensures));
+      text = text;
+    }
+
 pub returns : goal.returns
 returns c =
+    let at = c.args.at in
+    let bytes = c.args.bytes.now in
     let old = c.args.text.now in
-    let new = c.put_block-copied.new.text in
-    let run = c.literal_run.ensures in
-    let text = copied_part old new c.args.bytes.now c.args.at _ c.min.result c.put_block-copied.ensures.text (omega arith) (omega arith) in
+    let run = c.literal_run-2.ensures in
+    let copied = take_more_put_chunk at old (take 16 bytes) (at + 16) (omega (arith, length-take-le 16 bytes (omega arith))) (omega arith) in
     record {
-      within = omega (arith, c.put_block-copied.ensures.within, c.min.ensures);
-      literal = ap (list_all is_literal) (sym (read_again old new c.args.bytes.now c.args.at c.min.result text (omega arith)))
-          ∙ run_at is_literal new c.args.at 16 c.min.result (omega (arith, run.len, c.min.ensures)) (omega (arith, run.within, c.min.ensures));
-      text = text;
+      within = omega (arith, run.within);
+      literal = run_at is_literal bytes 0 16 _ (omega (arith, run.len)) run.within;
+      text = copied_part old _ bytes at 16 _ copied (omega arith) run.within;
     }
