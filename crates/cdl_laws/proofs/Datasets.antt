@@ -1,6 +1,6 @@
 -- A dataset that a text can declare is read back from its full dump.
-use Rattle.std.proofs.Common.{◌≡◌, ℕ, ◌+◌, ◌*◌, ◌-◌, ◌/◌, ◌<◌, true, List, [], ◌∷◌, ◌++◌, length, map, ◌∙◌, ap, refl, arith, append_assoc, length-append, Option, slice_index_or, ◌≤◌, ◌⊎◌}
-use Rattle.cdl_laws.proofs.Prelude.{mul-add-div, div-eq_of_lt, Dataset, Dim, Header, Var, Version, values_in_dataset, fill_value, AreArrays, IsName, numbers, slab_count, record_vars, is_char, trimmed_var, array_of, records_in, Draft, Listing, Each, list_all, slab_size, record_size_of, padded_size, slab_limit, is_within_limits, and_both, le-leb}
+use Rattle.std.proofs.Common.{◌≡◌, ℕ, ◌+◌, ◌*◌, ◌-◌, ◌/◌, ◌<◌, true, List, [], ◌∷◌, ◌++◌, length, map, ◌∙◌, ap, refl, arith, append_assoc, length-append, Option, slice_index_or, ◌⊎◌}
+use Rattle.cdl_laws.proofs.Prelude.{mul-add-div, div-eq_of_lt, Dataset, Dim, Header, Var, Version, values_in_dataset, fill_value, AreArrays, IsName, numbers, slab_count, record_vars, is_char, trimmed_var, array_of, records_in, Draft, Listing, Each, list_all, record_size_of, padded_size, has_small_array, and_both, le-leb}
 use Rattle.cdl_laws.proofs.Given.{IsBack, is_back}
 use Rattle.cdl_laws.proofs.Acts.{no_draft}
 use Rattle.cdl_laws.proofs.DataTexts.{AreGiven, given_draft, given_drafts}
@@ -78,11 +78,11 @@ records_back v h n width vars arrays backs slabs none_none = grind (arith, count
 
 -- ---- limits
 
-pub all_small : (v : Version) (h : Header) (n width : ℕ) (vars : List Var) (arrays : List (List ℕ)) (backs : AreBack v h n width vars arrays) → AreArrays h.dims n vars arrays → Each (λ (var : Var). slab_size h.dims var ≤ slab_limit) vars →
-    list_all (is_within_limits h.dims n) (given_drafts vars (listings v h n width vars arrays backs)) ≡ true
-all_small v h n width (var ∷ vars) (a ∷ arrays) backs are slabs =
-    grind (arith, and_both, le-leb, all_small v h n width vars arrays backs.1 are.1 slabs.1)
-all_small v h n width _ _ backs are slabs = grind arith
+pub all_small : (v : Version) (h : Header) (n width : ℕ) (vars : List Var) (arrays : List (List ℕ)) (backs : AreBack v h n width vars arrays) → AreArrays h.dims n vars arrays →
+    list_all (has_small_array h.dims n) (given_drafts vars (listings v h n width vars arrays backs)) ≡ true
+all_small v h n width (var ∷ vars) (a ∷ arrays) backs are =
+    grind (arith, and_both, le-leb, all_small v h n width vars arrays backs.1 are.1)
+all_small v h n width _ _ backs are = grind arith
 
 pub record_trimmed : (dims : List Dim) (vars : List Var) → record_vars dims (map trimmed_var vars) ≡ map trimmed_var (record_vars dims vars)
 record_trimmed dims [] = refl

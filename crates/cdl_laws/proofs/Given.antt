@@ -1,10 +1,9 @@
 -- The array of a variable is given back by the text of its values.
-use Rattle.std.proofs.Common.{◌≡◌, ℕ, zero, suc, ◌*◌, ◌-◌, ◌<◌, ◌≤◌, Bool, true, false, List, [], ◌∷◌, length, drop, take, map, sym, ◌∙◌, ap, refl, subst, arith, length-take, length-drop, ℤ, pos, ◌&&◌, ◌==◌, not, nat_lt, slice_index, find, None, Some, rules, if◌then◌else◌, Option}
-use Rattle.cdl_laws.proofs.Prelude.{flat_map, int_eq, lt_of_mul-lt-mul_right, false≢true, Decides-int_eq, take-append-drop, Att, Dim, Header, Var, NcType, Version, fill_value, is_fill_att, value_count, IsArray, IsName, numbers, bytes_of_number, IsInRange, dim_len, is_record_shape, is_record_var, product, slab_lens, look_of, is_char, row_len, trimmed_att, trimmed_var, listable_of, filled, array_of, and_left, is_off, is_on, look-type, length-numbers_from, Each, each_map, has_values, listed_values, Listing, and_false, option_map}
+use Rattle.std.proofs.Common.{◌≡◌, ℕ, zero, suc, ◌*◌, ◌<◌, ◌≤◌, true, false, List, [], ◌∷◌, length, drop, take, map, sym, ◌∙◌, ap, refl, subst, arith, length-take, length-drop, ℤ, pos, ◌&&◌, ◌==◌, not, nat_lt, find, None, Some, rules, if◌then◌else◌, Option}
+use Rattle.cdl_laws.proofs.Prelude.{flat_map, int_eq, lt_of_mul-lt-mul_right, false≢true, Decides-int_eq, take-append-drop, Att, Dim, Header, Var, NcType, Version, fill_value, is_fill_att, value_count, IsArray, IsName, numbers, bytes_of_number, IsInRange, is_record_var, product, slab_lens, look_of, is_char, row_len, trimmed_att, trimmed_var, listable_of, filled, array_of, and_left, is_off, is_on, look-type, length-numbers_from, Each, each_drop, each_map, each_take, slab_rows, has_values, listed_values, Listing, and_false, option_map}
 use Rattle.cdl_laws.proofs.Attributes.{numbers_back, numbers_range, all_fit, all_small, count_is}
 use Rattle.cdl_laws.proofs.Characters.{flat, IsCharacter}
 use Rattle.cdl_laws.proofs.DataTexts.{Gives, IsRoomFor, gives_numbers, gives_table, gives_line, given_draft, IsGivenBy}
-use Rattle.cdl_laws.proofs.Outcomes.{each_take, each_drop}
 
 -- ---- the fill value
 
@@ -55,38 +54,6 @@ listed_line v h var n width [] some len range char name fill rank whole = grind 
 listed_line v h var n width _ some len range char name fill rank whole = grind (arith, gives_line, room_is, look-type, row_all, trimmed_fill, are_characters)
 
 -- ---- characters at rank 2 and up
-
--- the last dimension divides
-last_divides : (f : ℕ → ℕ) (x : ℕ) (xs : List ℕ) → product (map f (x ∷ xs)) ≡ product (map f (take (length xs) (x ∷ xs))) * f (slice_index (x ∷ xs) (length xs))
-last_divides f x [] = let e : f x * 1 ≡ 1 * f x = omega arith in e
-last_divides f x (y ∷ ys) = grind (arith, last_divides f y ys)
-
-last_place : (n : ℕ) → suc (suc n) - 1 ≡ suc n
-last_place n = omega arith
-
--- a slab is rows, which all dimensions but the last count where none of them is the record dimension
-pub record HasRows (dims : List Dim) (ids : List ℕ) : Type 0 where
-  pub rows : ℕ
-  pub whole : product (slab_lens dims ids) ≡ rows * row_len dims ids 0
-  pub all : is_record_shape dims ids ≡ false → rows ≡ product (map (dim_len dims) (take (length ids - 1) ids))
-
-pub slab_rows : (dims : List Dim) (ids : List ℕ) → nat_lt (length ids) 2 ≡ false → HasRows dims ids
-slab_rows dims (a ∷ b ∷ ids) h = by (is_record_shape dims (a ∷ b ∷ ids)) refl
-  where
-    f : ℕ → ℕ
-    f = dim_len dims
-
-    row : f (slice_index (b ∷ ids) (length ids)) ≡ row_len dims (a ∷ b ∷ ids) 0
-    row = sym (rw (h) (ap (λ k. f (slice_index (a ∷ b ∷ ids) k)) (last_place (length ids))))
-
-    by : (is : Bool) → is_record_shape dims (a ∷ b ∷ ids) ≡ is → HasRows dims (a ∷ b ∷ ids)
-    by true is =
-        let n = product (map f (take (length ids) (b ∷ ids))) in
-        record { rows = n; whole = rw (is) (last_divides f b ids ∙ ap (λ m. n * m) row); all = λ no. absurd (false≢true (sym no ∙ is)) }
-    by false is =
-        let n = product (map f (take (suc (length ids)) (a ∷ b ∷ ids))) in
-        record { rows = n; whole = rw (is) (last_divides f a (b ∷ ids) ∙ ap (λ m. n * m) row); all = λ no. ap (λ k. product (map f (take k (a ∷ b ∷ ids)))) (sym (last_place (length ids))) }
-slab_rows dims _ h = cc
 
 rows_of : ℕ → ℕ → List ℤ → List (List ℤ)
 rows_of zero row xs = []

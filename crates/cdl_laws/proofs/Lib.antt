@@ -18,13 +18,13 @@ pub mod Attributes
 pub mod Sayables
 pub mod Given
 pub mod Datasets
-pub mod TextReadsBack
 pub mod Outcomes
 pub mod Said
 pub mod Fine
 pub mod MeaningsAreGood
 pub mod Trimmed
-pub mod Long
+pub mod TextReadsBack
+pub mod SecondTrips
 pub mod TokensRead
 pub mod TextTokens
 pub mod PiecesRead

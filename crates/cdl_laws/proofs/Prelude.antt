@@ -1,22 +1,22 @@
 -- The names that proofs of this crate cite from elsewhere, passed on from one place.
-pub use Rattle.cdl_laws.specs.Goods.{IsNearlySayable, LimitIsNeeded, MeaningsAreGood, MeaningsAreNearlySayable, NearlyIsSayable}
+pub use Rattle.cdl_laws.specs.Goods.{IsNearlySayable, MeaningsAreGood, MeaningsAreNearlySayable, NearlyIsSayable}
 pub use Rattle.cdl_laws.specs.PieceLaws.{AttributeReadsBack, AttributesReadBack, DataReadsBack, DeclarationsReadBack, DimensionsReadBack, GlobalAttributesReadBack, IsBeforeData, IsStatement, MarksReadBack, PiecesAreStatements, SaysStatement, brace_piece, declaration, dimensions, globals, opening_line, opening_piece, said_dim, variables}
 pub use Rattle.cdl_laws.specs.Reading.{cut_lexemes, lexemes, with_lexeme}
 unfoldable pub use Rattle.cdl_laws.specs.Reading.{lexemes_at, pieces_of}
 pub use Rattle.cdl_laws.specs.RoundTrip.{IsFull, TextReadsBack}
 pub use Rattle.cdl_laws.specs.TokenLaws.{AreToken, BlanksAndMarksStop, ConstantsReadBack, NamesReadBack, StandsForBytes, StopsNumber, StopsWord, StringsReadBack, StringsStandForBytes, ValuesReadBack}
 pub use Rattle.cdl_laws.specs.Trims.{FillValueSurvivesTrim, MeaningsAreSayable, MeaningsComeBack, SecondTripIsSame, TrimmedIsSayable, TrimsOnce, has_cut_fill}
-pub use Rattle.cdl_statements.specs.Meaning.{array_of, closing_line, dataset_of, empty, header_of, is_within_limits, meaning, records_in, records_of, listed_values}
-pub use Rattle.cdl_statements.specs.Bounds.{text_limit}
+pub use Rattle.cdl_statements.specs.Meaning.{array_of, closing_line, dataset_of, empty, has_small_array, header_of, meaning, records_in, listed_values}
+unfoldable pub use Rattle.cdl_statements.specs.SoundHeaders.{is_sound}
 unfoldable pub use Rattle.cdl_statements.specs.Meaning.{finished, are_within_limits, piece_read, run}
-pub use Rattle.cdl_statements.specs.State.{Listable, Draft, Joined, Listing, Numbers, Rows, State, add_characters, add_constant, add_number, add_row, change_named, int_within, dim_len_of, filled, first_type, in_turn, listed_by, unless, values_in, when, with_att, with_values, ◌>>=◌}
+pub use Rattle.cdl_statements.specs.State.{Listable, Draft, Joined, Listing, Numbers, Rows, State, add_constant, add_number, add_row, change_named, int_within, filled, first_type, in_turn, values_in, with_att, with_values, ◌>>=◌}
 unfoldable pub use Rattle.cdl_statements.specs.State.{act, add_att, add_dim, add_dimid, add_var, change_variable, listable_of, has_number, listing_of, type_of}
 pub use Rattle.cdl_statements.proofs.PieceLengths.{pieces_by_steps}
 pub use Rattle.cdl_statements.specs.Lexemes.{Lexeme, is_end_kind, is_mark, is_opening_kind, is_word, is_word_kind, lexeme}
 unfoldable pub use Rattle.cdl_statements.specs.Lexemes.{name_of}
 pub use Rattle.cdl_statements.specs.Pieces.{section_of}
 unfoldable pub use Rattle.cdl_statements.specs.Pieces.{pieces_at}
-pub use Rattle.cdl_statements.specs.Shapes.{Attribute, Close, Characters, DeclareDimensions, Dimension, End, Listed, Enter, Number, Open, Statement, DeclareVariables, Underscore, Value, Variable, after_member, assigned, at_end, attribute_or_mark, both, constant, constants, dimension, first_bad, if_so, in_parentheses, other_statement, section_mark, section_number, token_fault}
+pub use Rattle.cdl_statements.specs.Shapes.{Attribute, Close, Characters, DeclareDimensions, Dimension, End, Listed, Enter, Number, Open, Statement, DeclareVariables, Underscore, Value, Variable, after_member, assigned, at_end, attribute_or_mark, both, constant, constants, dimension, first_bad, if_so, in_parentheses, other_statement, section_mark, token_fault}
 unfoldable pub use Rattle.cdl_statements.specs.Shapes.{shape}
 pub use Rattle.cdl_statements.specs.Statements.{statements}
 pub use Rattle.cdl_statements.specs.code.CutSteps.{going_on, step, unless_end, with_first}
@@ -50,8 +50,8 @@ unfoldable pub use Rattle.nc_base.specs.Fill.{fill_value}
 unfoldable pub use Rattle.nc_base.specs.GeneratedFile.{file_of, with_begins}
 pub use Rattle.nc_base.specs.HeadText.{att_text, broken_text, dim_name, joined, without_trailing_nuls}
 unfoldable pub use Rattle.nc_base.specs.HeadText.{att_line, att_lines, chars_text, currently_word, dim_len_text, dim_line, dim_lines, dimensions_word, dims_text, gatts_text, global_word, head_text, netcdf_word, numbers_text, shape_text, string_break, unlimited_word, var_lines, variables_word, vars_text}
-pub use Rattle.nc_base.specs.Headers.{AreArrays, AreDimids, IsArray, IsDimid, IsGood, IsSound, IsSoundAtt, IsSoundDim, IsSoundVar, bare, bare_var}
-pub use Rattle.nc_base.specs.Sizes.{has_record_dim, value_count, array_limit, dim_len, is_record_shape, is_record_var, padded_size, product, record_limit, record_size, record_size_of, record_vars, slab_count, slab_lens, slab_limit, slab_size}
+pub use Rattle.nc_base.specs.Headers.{AreArrays, AreDimids, IsArray, IsDimid, IsGood, IsSoundAtt, IsSoundDim, IsSoundVar, bare, bare_var}
+pub use Rattle.nc_base.specs.Sizes.{has_record_dim, value_count, is_record_var, padded_size, product, record_size_of, record_vars, slab_count, slab_lens}
 pub use Rattle.nc_base.specs.Names.{IsName, ends_with_space, has_name_bytes, may_begin_name, may_follow_in_name}
 pub use Rattle.nc_base.specs.NumberLaws.{IsInRange}
 pub use Rattle.nc_base.specs.Numbers.{bytes_of_number, number_of, numbers_from}
@@ -67,14 +67,13 @@ pub use Rattle.nc_base.specs.declared.{dataset.Dataset.Dataset, header.Att.Att, 
 pub use Rattle.nc_base.specs.declared.header.NumRecs.TheVariants.{Known, Streaming}
 pub use Rattle.nc_base.specs.declared.nc_type.NcType.TheVariants.{Byte, Char, Int, Int64, Short, Ubyte, Uint, Uint64, Ushort}
 pub use Rattle.nc_base.specs.declared.version.Version.TheVariants.{Cdf1, Cdf2, Cdf5}
-pub use Rattle.std.proofs.Math.Nat.{div-eq_of_lt, div-lt_iff_lt-mul, lt-div-mul-add, lt_of_mul-lt-mul_right, mod-eq_of_lt, mul-add-div, mul-div_cancel, mul-le-mul, mul-le-mul_left, mul-le-mul_right, mul_comm, zero-mod}
+pub use Rattle.std.proofs.Math.Nat.{div-eq_of_lt, lt_of_mul-lt-mul_right, mod-eq_of_lt, mul-add-div, mul-div_cancel, zero-mod}
 pub use Rattle.std.proofs.Math.Seq.{drop-append_seam, take-append_seam, take-length}
 pub use Rattle.std.proofs.lemmas.Bool.{eqb-true, false≢true, le-leb, lt-ltb}
 pub use Rattle.std.proofs.lemmas.Bool.Decides.{Decides-int_eq}
 pub use Rattle.std.proofs.lemmas.Fmt.{decimal_nonempty, first_decimal}
-pub use Rattle.std.proofs.lemmas.Grind.{flat_map-append}
 pub use Rattle.std.proofs.lemmas.Int.{ints}
-pub use Rattle.std.proofs.lemmas.List.{drop-drop, get_or-drop, get_or-replicate, length-append, length-drop, length-map, length-replicate, length-take, map-append, replicate_more, take-append-drop}
+pub use Rattle.std.proofs.lemmas.List.{drop-drop, get_or-drop, length-append, length-map, length-replicate, length-take, map-append, replicate_more, take-append-drop}
 pub use Rattle.std.proofs.lemmas.List.Folds.{list_all-append, list_any-append}
 pub use Rattle.std.proofs.lemmas.List.Sums.{suffix_len-take_no, suffix_len-take_yes}
 pub use Rattle.std.proofs.lemmas.Slice.Eq.{bytes_eq-Decides}
@@ -86,15 +85,19 @@ pub use Rattle.std.specs.Option.{ok_or, option_and_then, option_map}
 pub use Rattle.std.specs.Ordering.{int_eq}
 pub use Rattle.std.specs.Str.{bytes_eq}
 unfoldable pub use Rattle.std.specs.Str.{chars, is_utf8}
-pub use Rattle.nc_base.proofs.Tests.{and_left, and_right, and_both, is_off, none_before, not_none, or_second, is_on}
+pub use Rattle.nc_base.proofs.Tests.{and_left, and_right, and_both, is_off, not_none, or_second, is_on}
 pub use Rattle.cdl_tokens.proofs.Words.{word_at_start, until_at_start, and_false, value_at_start}
-pub use Rattle.nc_base.proofs.SoundLaws.{some_product, some_size, some_count}
+pub use Rattle.nc_base.proofs.SoundLaws.{some_size, some_count}
 pub use Rattle.nc_base.proofs.Printable.{some-limit}
 pub use Rattle.nc_base.proofs.Found.{all-at}
 pub use Rattle.cdl_tokens.proofs.PlainStrings.{inner_of}
 pub use Rattle.nc_base.proofs.ValueLaws.{look-type, length-numbers_from}
 pub use Rattle.nc_base.proofs.CharacterRows.{prefix_is, pieces_are, a_row}
 unfoldable pub use Rattle.nc_base.proofs.CharacterRows.{char_pieces, printed}
-pub use Rattle.nc_base.proofs.FilePlaces.{length-numbers}
 pub use Rattle.cdl_statements.proofs.InRange.{is_had}
-pub use Rattle.cdl_laws.proofs.Lists.{Each, EachAfter, all_of, any_each, each_after, each_map, each_of, or_left, or_right}
+pub use Rattle.cdl_laws.proofs.Lists.{EachAfter, each_after, or_left, or_right}
+pub use Rattle.cdl_statements.proofs.Each.{Each, all_of, each_drop, each_map, each_more, each_of, each_take}
+pub use Rattle.cdl_statements.proofs.Meanings.{IsByte, IsWhole, are_bytes, meanings_are_whole, number_bytes}
+pub use Rattle.cdl_statements.proofs.Results.{OkIs, any_each, ok_next, ok_then, ok_unless, ok_when, turns}
+pub use Rattle.cdl_statements.proofs.Rows.{slab_rows}
+pub use Rattle.cdl_statements.proofs.SoundTests.{sound_is_tested}

@@ -1,10 +1,9 @@
 -- A dataset without the NULs at the end of its attributes, and the fill values of its characters.
 use Rattle.std.proofs.Common.{◌≡◌, ℕ, ◌+◌, ◌-◌, ◌*◌, ◌≤◌, ◌<◌, Bool, true, false, List, [], ◌∷◌, length, map, sym, ◌∙◌, ap, refl, subst, arith, zero, suc, take, get_or, if◌then◌else◌, ◌==◌, All, rules, ℤ, pos, ◌&&◌, nat_lt, None, Some}
-use Rattle.cdl_laws.proofs.Prelude.{take-length, length-take, length-map, suffix_len-take_yes, suffix_len-take_no, suffix_len, AreBytes, Dataset, Att, Dim, Header, Known, Var, NcType, Version, fill_value, IsGood, IsSoundAtt, IsSoundVar, AreArrays, bare, bare_var, without_trailing_nuls, IsName, record_vars, size_of, is_char, count_limit, TrimsOnce, TrimmedIsSayable, SecondTripIsSame, AreDistinct, AreSayableAtts, IsSayableVar, HasSomeNumber, trimmed, trimmed_att, trimmed_var, trimmed_header, each_map, each_of, all_of, default_fill_of, false≢true, eqb-true, Char, number_of, code_of, FillValueSurvivesTrim, MeaningsAreSayable, MeaningsComeBack, and_left, and_right}
+use Rattle.cdl_laws.proofs.Prelude.{take-length, length-take, length-map, suffix_len-take_yes, suffix_len-take_no, suffix_len, AreBytes, Dataset, Att, Dim, Header, Known, Var, NcType, Version, fill_value, IsGood, IsSoundAtt, IsSoundVar, AreArrays, bare, bare_var, without_trailing_nuls, IsName, record_vars, size_of, is_char, count_limit, TrimsOnce, TrimmedIsSayable, AreDistinct, AreSayableAtts, IsSayableVar, HasSomeNumber, trimmed, trimmed_att, trimmed_var, trimmed_header, each_map, each_of, all_of, default_fill_of, false≢true, eqb-true, Char, number_of, code_of, FillValueSurvivesTrim, and_left, and_right}
 use Rattle.cdl_laws.proofs.Attributes.{take_bytes}
 use Rattle.cdl_laws.proofs.Datasets.{same_record, record_trimmed}
-use Rattle.cdl_laws.proofs.MeaningsAreGood.{each_of_map, meanings_are_good, meanings_are_nearly_sayable, nearly_is_sayable}
-use Rattle.cdl_laws.proofs.TextReadsBack.{text_reads_back}
+use Rattle.cdl_laws.proofs.MeaningsAreGood.{each_of_map}
 use Rattle.std.specs.Prelude.{unwrap_or}
 use Rattle.cdl_laws.proofs.Given.{found_trimmed}
 
@@ -30,14 +29,14 @@ none_left xs = grind (arith, take-length xs, stripped xs)
 bytes_once : (xs : List ℕ) → without_trailing_nuls (without_trailing_nuls xs) ≡ without_trailing_nuls xs
 bytes_once xs = search (rules, none_left, take-length)
 
-att_once : (att : Att) → trimmed_att (trimmed_att att) ≡ trimmed_att att
+pub att_once : (att : Att) → trimmed_att (trimmed_att att) ≡ trimmed_att att
 att_once att = grind (arith, bytes_once att.vals)
 
-map_once : {X : Type 0} (f : X → X) → ((x : X) → f (f x) ≡ f x) → (xs : List X) → map f (map f xs) ≡ map f xs
+pub map_once : {X : Type 0} (f : X → X) → ((x : X) → f (f x) ≡ f x) → (xs : List X) → map f (map f xs) ≡ map f xs
 map_once f e [] = refl
 map_once f e (x ∷ xs) = ap (λ y. y ∷ map f (map f xs)) (e x) ∙ ap (λ ys. f x ∷ ys) (map_once f e xs)
 
-var_once : (var : Var) → trimmed_var (trimmed_var var) ≡ trimmed_var var
+pub var_once : (var : Var) → trimmed_var (trimmed_var var) ≡ trimmed_var var
 var_once var = ap (λ (atts : List Att). record var { atts = atts }) (map_once trimmed_att att_once var.atts)
 
 pub trims_once : TrimsOnce
@@ -84,7 +83,7 @@ arrays_still : (dims : List Dim) (n : ℕ) (vars : List Var) (arrays : List (Lis
 arrays_still dims n (var ∷ vars) (x ∷ arrays) a = (record { bytes = a.0.bytes; whole = a.0.whole; small = a.0.small }, arrays_still dims n vars arrays a.1)
 arrays_still dims n _ _ a = grind arith
 
-good_still : (d : Dataset) → IsGood d → IsGood (trimmed d)
+pub good_still : (d : Dataset) → IsGood d → IsGood (trimmed d)
 good_still d g = record {
   records = g.records;
   is_bare = bare_still d.header g.records g.is_bare;
@@ -128,9 +127,6 @@ trimmed_is_sayable d s = record {
   records = λ e. s.records (no_vars (record_vars d.header.dims d.header.vars) (sym (record_trimmed d.header.dims d.header.vars) ∙ e));
 }
 
-pub second_trip_is_same : SecondTripIsSame
-second_trip_is_same d o p first second s full full_again text text_again = search (rules, text_reads_back, trimmed_is_sayable, map_once, att_once, var_once)
-
 -- ---- fill values of characters
 
 -- what an attribute of this type and these values makes the fill value of characters
@@ -160,11 +156,3 @@ cut_changes vals h e =
 pub fill_value_survives_trim : FillValueSurvivesTrim
 unfolding fill_value
 fill_value_survives_trim var char = grind (arith, found_trimmed var.atts, chars_kept, cut_changes)
-
-pub meanings_are_sayable : MeaningsAreSayable
-meanings_are_sayable text v d bytes short e =
-    grind (arith, meanings_are_nearly_sayable text v d bytes short e, fill_value_survives_trim)
-
-pub meanings_come_back : MeaningsComeBack
-meanings_come_back text v d o p first second bytes short e plain full full_again text_first text_second =
-    grind (arith, meanings_are_good text v d bytes short e, second_trip_is_same d o p first second, nearly_is_sayable, meanings_are_nearly_sayable, fill_value_survives_trim)

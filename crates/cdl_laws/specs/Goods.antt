@@ -1,24 +1,19 @@
 -- Law. What a text means is a good dataset, and a text can declare it but for the fill values of characters.
-use Rattle.std.specs.Prelude.{◌≡◌, ℕ, ◌^◌, ◌≤◌, true, [], length, map, All, Ok}
+use Rattle.std.specs.Prelude.{◌≡◌, true, [], map, All, Ok}
 use Rattle.nc_base.specs.Bytes.{Bytes, AreBytes}
-use Rattle.nc_base.specs.declared.{dataset.Dataset.Dataset, header.Dim.Dim, header.Var.Var, header.NumRecs.TheVariants.Known, version.Version.Version, version.Version.TheVariants.Cdf1}
+use Rattle.nc_base.specs.declared.{dataset.Dataset.Dataset, header.Dim.Dim, header.Var.Var, header.NumRecs.TheVariants.Known, version.Version.Version}
 use Rattle.nc_base.specs.Fill.{fill_value}
 use Rattle.nc_base.specs.Headers.{IsGood}
 use Rattle.nc_base.specs.Sayable.{AreDistinct, AreSayableAtts, IsSayable, trimmed_var}
 use Rattle.nc_base.specs.Sizes.{record_vars}
 use Rattle.nc_base.specs.ValueText.{is_char}
 use Rattle.cdl_statements.specs.Meaning.{meaning}
-use Rattle.cdl_statements.specs.Bounds.{text_limit}
 
 -- ---- what a text means is good
 
--- what a text of bytes within the limit means is a good dataset, of the version asked for
+-- what a text of bytes means is a good dataset, of the version asked for
 abbrev pub MeaningsAreGood : Type 0
-MeaningsAreGood = (text : Bytes) (v : Version) (d : Dataset) → AreBytes text → length text ≤ text_limit → meaning text v ≡ Ok d → IsGood d × (d.header.version ≡ v)
-
--- without a limit that would be false: some text of bytes has a meaning in the first version that is no good dataset
-abbrev pub LimitIsNeeded : Type 0
-LimitIsNeeded = (n : ℕ) → 2 ^ 31 ≤ n → (text : Bytes) × (d : Dataset) × AreBytes text × (meaning text Cdf1 ≡ Ok d) × (IsGood d → ⊥)
+MeaningsAreGood = (text : Bytes) (v : Version) (d : Dataset) → AreBytes text → meaning text v ≡ Ok d → IsGood d × (d.header.version ≡ v)
 
 -- ---- a text can nearly declare it
 
@@ -32,7 +27,7 @@ pub record IsNearlySayable (d : Dataset) : Type 0 where
   pub records : record_vars d.header.dims d.header.vars ≡ [] → d.header.numrecs ≡ Known 0
 
 abbrev pub MeaningsAreNearlySayable : Type 0
-MeaningsAreNearlySayable = (text : Bytes) (v : Version) (d : Dataset) → AreBytes text → length text ≤ text_limit → meaning text v ≡ Ok d → IsNearlySayable d
+MeaningsAreNearlySayable = (text : Bytes) (v : Version) (d : Dataset) → AreBytes text → meaning text v ≡ Ok d → IsNearlySayable d
 
 -- a variable of characters has the same fill value without the NULs at the end of its attributes
 abbrev pub KeepsFill : Var → Type 0

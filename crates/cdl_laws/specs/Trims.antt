@@ -1,5 +1,5 @@
 -- Law. Datasets without the NULs at the end of their attributes: what of them a second text keeps, and when their fill values change.
-use Rattle.std.specs.Prelude.{◌≡◌, ◌↔◌, ◌≤◌, Bool, true, false, ◌&&◌, ◌==◌, nat_lt, length, find, All, None, Some, Ok}
+use Rattle.std.specs.Prelude.{◌≡◌, ◌↔◌, Bool, true, false, ◌&&◌, ◌==◌, nat_lt, length, find, All, None, Some, Ok}
 use Rattle.nc_base.specs.Bytes.{Bytes, AreBytes}
 use Rattle.nc_base.specs.declared.{dataset.Dataset.Dataset, header.Att.Att, header.Var.Var, version.Version.Version}
 use Rattle.nc_base.specs.Dump.{Options, whole}
@@ -9,7 +9,6 @@ use Rattle.nc_base.specs.HeadText.{without_trailing_nuls}
 use Rattle.nc_base.specs.Sayable.{IsSayable, trimmed_var, trimmed}
 use Rattle.nc_base.specs.ValueText.{is_char}
 use Rattle.cdl_statements.specs.Meaning.{meaning}
-use Rattle.cdl_statements.specs.Bounds.{text_limit}
 use Rattle.cdl_laws.specs.RoundTrip.{IsFull}
 
 -- ---- a second round trip
@@ -46,11 +45,11 @@ HasPlainFill var = is_char var.ty ≡ true → has_cut_fill var ≡ false
 
 -- so what a text means is sayable if and only if no variable of characters has such a fill value
 abbrev pub MeaningsAreSayable : Type 0
-MeaningsAreSayable = (text : Bytes) (v : Version) (d : Dataset) → AreBytes text → length text ≤ text_limit → meaning text v ≡ Ok d
+MeaningsAreSayable = (text : Bytes) (v : Version) (d : Dataset) → AreBytes text → meaning text v ≡ Ok d
     → IsSayable d ↔ All HasPlainFill d.header.vars
 
 -- the dump of what a text means, and the dump of what that means, mean one dataset
 abbrev pub MeaningsComeBack : Type 0
-MeaningsComeBack = (text : Bytes) (v : Version) (d : Dataset) (o p : Options) (first second : Bytes) → AreBytes text → length text ≤ text_limit → meaning text v ≡ Ok d
+MeaningsComeBack = (text : Bytes) (v : Version) (d : Dataset) (o p : Options) (first second : Bytes) → AreBytes text → meaning text v ≡ Ok d
     → All HasPlainFill d.header.vars → IsFull o → IsFull p → IsText d o first whole → IsText (trimmed d) p second whole
     → (meaning first v ≡ Ok (trimmed d)) × (meaning second v ≡ Ok (trimmed d))

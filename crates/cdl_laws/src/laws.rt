@@ -5,7 +5,7 @@
 //! attributes are those of attributes of characters.
 
 ghost use Rattle.nc_base.specs.declared.version.Version.{Version};
-ghost use Rattle.cdl_laws.specs.Goods.{LimitIsNeeded, MeaningsAreGood, MeaningsAreNearlySayable, NearlyIsSayable};
+ghost use Rattle.cdl_laws.specs.Goods.{MeaningsAreGood, MeaningsAreNearlySayable, NearlyIsSayable};
 ghost use Rattle.cdl_laws.specs.PieceLaws.{PiecesAreStatements, MarksReadBack, DimensionsReadBack, DeclarationsReadBack, AttributesReadBack, GlobalAttributesReadBack, DataReadsBack};
 ghost use Rattle.cdl_laws.specs.RoundTrip.{DumpsTellDatasetsApart, TextReadsBack};
 ghost use Rattle.cdl_laws.specs.RowLaws.{RowsReadBack, EmptyRowsReadBack};
@@ -73,19 +73,13 @@ pub fn dumps_tell_datasets_apart()
     ensures { DumpsTellDatasetsApart }
 {}
 
-/// If a text of at most 268,435,456 bytes means a dataset, then this dataset is good (it keeps the format's rules and this project's
+/// If a text means a dataset, then this dataset is good (it keeps the format's rules and this project's
 /// limits, and each begin is 0), and of the version that was asked for.
 pub fn meanings_are_good()
     ensures { MeaningsAreGood }
 {}
 
-/// Without a limit on the length of texts [`meanings_are_good`] would be false: a text with an attribute of 2^31 characters or more has a
-/// meaning in CDF-1 that isn't a good dataset.
-pub fn limit_is_needed()
-    ensures { LimitIsNeeded }
-{}
-
-/// If a text of at most 268,435,456 bytes means a dataset, then this dataset is good. No two of its dimensions, of its variables, of its
+/// If a text means a dataset, then this dataset is good. No two of its dimensions, of its variables, of its
 /// own attributes, or of the attributes of one variable have the same name. Each attribute of numbers has a value. If there is no record
 /// variable, the number of records is 0.
 ///
@@ -108,7 +102,7 @@ pub fn fill_value_survives_trim()
     ensures { FillValueSurvivesTrim }
 {}
 
-/// If a text of at most 268,435,456 bytes means a dataset, then a text can declare this dataset (in the sense of `IsSayable`) if and only
+/// If a text means a dataset, then a text can declare this dataset (in the sense of `IsSayable`) if and only
 /// if none of its variables of characters is in the one case that [`fill_value_survives_trim`] excepts.
 pub fn meanings_are_sayable()
     ensures { MeaningsAreSayable }
@@ -131,7 +125,7 @@ pub fn second_trip_is_same()
     ensures { SecondTripIsSame }
 {}
 
-/// If a text of at most 268,435,456 bytes means a dataset that a text can declare, then the full dump of this dataset (of all values, under
+/// If a text means a dataset that a text can declare, then the full dump of this dataset (of all values, under
 /// a valid name) means a second dataset. The full dump of the second dataset means the second dataset again. This is
 /// [`second_trip_is_same`] for a dataset that a text means.
 pub fn meanings_come_back()

@@ -1,24 +1,27 @@
 -- What a text declares is the dataset that it means.
-use Rattle.std.proofs.Common.{◌≡◌, ℕ, Bool, true, false, List, [], ◌∷◌, map, refl, sym, ap, ◌∙◌, ◌&&◌, if◌then◌else◌, nat_le, Option, None, Some, Ok, is_some, arith, rules}
-use Rattle.cdl_parse.proofs.Prelude.{filter, list_all, Att, Dim, Header, Known, Var, Version, checked_record_size, has_small_slab, record_limit, record_size, is_record_var, array_of, dataset_of, finished, header_of, is_within_limits, are_within_limits, records_in, AllList, AreShaped, records_kept, whole_array, whole_arrays, Draft, State, dataset_of_declared, or_too_large, Declared, and_left}
+use Rattle.std.proofs.Common.{◌≡◌, ℕ, All, Bool, true, false, List, [], ◌∷◌, map, refl, sym, ap, ◌∙◌, ◌&&◌, if◌then◌else◌, Option, None, Some, Ok, arith, rules}
+use Rattle.cdl_parse.proofs.Prelude.{list_all, All-head, All-tail, Att, Dim, Header, Known, Var, Version, array_of, dataset_of, finished, has_small_array, header_of, is_within_limits, are_within_limits, records_in, AllList, AreShaped, records_kept, whole_array, whole_arrays, Draft, State, dataset_of_declared, le-leb, or_too_large, Declared}
 use Rattle.std.proofs.lemmas.Grind.{flat_map-append}
-use Rattle.cdl_parse.proofs.SizeLimits.{all_are, all_small, has_small, listed_count, listed_of, var_of}
+use Rattle.std.proofs.lemmas.Bool.Decides.{same_from_decides}
+use Rattle.std.specs.Bool.{Decides}
+use Rattle.nc_base.specs.Headers.{IsSound, IsSoundVar}
+use Rattle.cdl_statements.specs.SoundHeaders.{is_sound}
+use Rattle.cdl_statements.proofs.SoundTests.{sound_is_tested}
+use Rattle.cdl_tokens.proofs.Words.{and_false}
+use Rattle.cdl_parse.proofs.SizeLimits.{all_are, listed_count, listed_of, var_of}
 
--- ---- the slabs of the record variables
+-- ---- sound headers
 
-kept_all : {X : Type 0} (p q : X → Bool) (xs : List X) → list_all p xs ≡ true → list_all p (filter q xs) ≡ true
-kept_all p q [] h = refl
-kept_all p q (x ∷ xs) h = search (rules, kept_all p q xs)
+-- what the code finds is what the test says
+pub tested : (found : Bool) (h : Header) → Decides found (IsSound h) → found ≡ is_sound h
+tested found h says = same_from_decides found (is_sound h) says (sound_is_tested h)
 
-of_vars : (dims : List Dim) (drafts : List Draft) → list_all (has_small_slab dims) (map var_of drafts) ≡ list_all (has_small dims) drafts
-of_vars dims [] = refl
-of_vars dims (d ∷ drafts) = ap (λ b. has_small dims d && b) (of_vars dims drafts)
-
--- where the arrays keep their limits, the record's limit decides
-pub record_checked : (v : Version) (s : State) → list_all (is_within_limits s.dims (records_in s.dims s.drafts)) s.drafts ≡ true →
-    checked_record_size (header_of v s) ≡ (if nat_le (record_size (header_of v s)) record_limit then Some (record_size (header_of v s)) else None)
-record_checked v s small =
-    grind (arith, all_small s.dims (records_in s.dims s.drafts) s.drafts, kept_all (has_small_slab s.dims) (is_record_var s.dims) (map var_of s.drafts), of_vars s.dims s.drafts, and_left)
+-- where the header is sound, each slab keeps its limit, and the arrays decide
+slabs_small : (v : Version) (dims : List Dim) (n : ℕ) (drafts : List Draft) → All (IsSoundVar v dims) (map var_of drafts) → list_all (is_within_limits dims n) drafts ≡ list_all (has_small_array dims n) drafts
+slabs_small v dims n [] sound = refl
+slabs_small v dims n (d ∷ drafts) sound =
+    let slab = le-leb _ _ (All-head (IsSoundVar v dims) d.var (map var_of drafts) sound).slab in
+    rw (slab) (ap (λ b. has_small_array dims n d && b) (slabs_small v dims n drafts (All-tail (IsSoundVar v dims) d.var (map var_of drafts) sound)))
 
 -- ---- the arrays
 
@@ -42,9 +45,10 @@ unfolding finished
 answer v s line true is = rw (is) (ap Ok (dataset_is v s))
 answer v s line false is = rw (is) refl
 
-enough_is : (v : Version) (s : State) (small within : Bool) → list_all (is_within_limits s.dims (records_in s.dims s.drafts)) s.drafts ≡ small → nat_le (record_size (header_of v s)) record_limit ≡ within → are_within_limits v s ≡ (small && within)
+enough_is : (v : Version) (s : State) (sound small : Bool) → is_sound (header_of v s) ≡ sound → list_all (is_within_limits s.dims (records_in s.dims s.drafts)) s.drafts ≡ small → are_within_limits v s ≡ (sound && small)
 unfolding are_within_limits
-enough_is v s small within a b = rw (a) (rw (b) refl)
+enough_is v s true small a b = rw (a) (sym (slabs_small v s.dims (records_in s.dims s.drafts) s.drafts ((sound_is_tested (header_of v s)).0 a).vars) ∙ b)
+enough_is v s false small a b = rw (a) refl
 
 some_of : {A : Type 0} (b : Bool) (n m : A) → (if b then Some n else None) ≡ Some m → (b ≡ true) × (n ≡ m)
 some_of b n m h = grind arith
@@ -56,7 +60,7 @@ none_of b n h = grind arith
 pub array_too_large : (v : Version) (s : State) (line : ℕ) → records_kept s.dims s.drafts ≡ None → finished v line (Ok s) ≡ or_too_large line None
 array_too_large v s line none =
     let small = none_of (list_all (is_within_limits s.dims (records_in s.dims s.drafts)) s.drafts) (records_in s.dims s.drafts) none in
-    answer v s line false (enough_is v s false (nat_le (record_size (header_of v s)) record_limit) small refl)
+    answer v s line false (enough_is v s (is_sound (header_of v s)) false refl small ∙ and_false (is_sound (header_of v s)))
 
 -- the header that these make
 abbrev pub header_with : Version → ℕ → State → Header
@@ -75,13 +79,15 @@ pub header_at : (v : Version) (n : ℕ) (s : State) (dims : List Dim) (gatts : L
     header_with v n s ≡ record { version = v; numrecs = Known n; dims = dims; gatts = gatts; vars = vars }
 header_at v n s dims gatts vars listed is att-is lists = search (rules, all_are)
 
-pub record_too_large : (v : Version) (s : State) (line n : ℕ) → records_kept s.dims s.drafts ≡ Some n → checked_record_size (header_with v n s) ≡ None → finished v line (Ok s) ≡ or_too_large line None
-record_too_large v s line n kept none =
+pub unsound : (v : Version) (s : State) (line n : ℕ) → records_kept s.dims s.drafts ≡ Some n → is_sound (header_with v n s) ≡ false → finished v line (Ok s) ≡ or_too_large line None
+unsound v s line n kept bad =
     let some = some_of (list_all (is_within_limits s.dims (records_in s.dims s.drafts)) s.drafts) (records_in s.dims s.drafts) n kept in
-    let checked = sym (record_checked v s some.0) ∙ ap checked_record_size (sym (same_header v s n some.1)) ∙ none in
-    let over = none_of (nat_le (record_size (header_of v s)) record_limit) (record_size (header_of v s)) checked in
-    answer v s line false (enough_is v s true false some.0 over)
+    answer v s line false (enough_is v s false true (ap is_sound (sym (same_header v s n some.1)) ∙ bad) some.0)
 
-pub is_declared : (v : Version) (s : State) (line n : ℕ) → records_kept s.dims s.drafts ≡ Some n → is_some (checked_record_size (header_with v n s)) ≡ true →
+pub is_declared : (v : Version) (s : State) (line n : ℕ) → records_kept s.dims s.drafts ≡ Some n → is_sound (header_with v n s) ≡ true →
     finished v line (Ok s) ≡ or_too_large line (Some (record { header = header_with v n s; listed = map (listed_of s.dims) s.drafts }))
-is_declared v s line n kept there = grind (arith, same_header v s n, answer v s line true, enough_is v s true true, some_of)
+is_declared v s line n kept sound =
+    let some = some_of (list_all (is_within_limits s.dims (records_in s.dims s.drafts)) s.drafts) (records_in s.dims s.drafts) n kept in
+    let same = same_header v s n some.1 in
+    answer v s line true (enough_is v s true true (ap is_sound (sym same) ∙ sound) some.0) ∙
+    ap (λ (h : Header). or_too_large line (Some (record { header = h; listed = map (listed_of s.dims) s.drafts }))) (sym same)

@@ -1,5 +1,5 @@
 -- The names that proofs of this crate cite from elsewhere, passed on from one place.
-pub use Rattle.cdl_statements.specs.Meaning.{array_of, closing_line, dataset_of, empty, header_of, is_within_limits, starting_line, meaning, records_in, listed_values}
+pub use Rattle.cdl_statements.specs.Meaning.{array_of, closing_line, dataset_of, empty, has_small_array, header_of, starting_line, meaning, records_in, listed_values}
 pub use Rattle.cdl_statements.proofs.Readings.{checked, shaped}
 unfoldable pub use Rattle.cdl_statements.specs.Meaning.{finished, are_within_limits, piece_read, run}
 pub use Rattle.std.specs.Option.{ok_or}
@@ -14,7 +14,7 @@ pub use Rattle.cdl_parse.specs.code.DeclaredDatasets.{dataset_of_declared, or_to
 pub use Rattle.cdl_parse.specs.code.Defined.{Makes, after_mark, is_defining, is_early, is_over, state_of}
 pub use Rattle.cdl_parse.specs.code.DimensionNames.{dim_names, is_dimension_name, with_new_dim}
 pub use Rattle.cdl_parse.specs.code.Drafts.{draft, draft_of, drafts_of, is_variable_name, var_of, variable_names, with_new_draft}
-pub use Rattle.cdl_parse.specs.code.Extents.{records_for, records_kept, records_within, with_all}
+pub use Rattle.cdl_parse.specs.code.Extents.{is_within_limits, records_for, records_kept, records_within, with_all}
 pub use Rattle.cdl_parse.specs.code.Runs.{FailsAt, ReadsOn, at_line, run_after}
 pub use Rattle.cdl_parse.specs.code.TakenNames.{duplicate_name_or}
 pub use Rattle.cdl_parse.specs.code.VariablePositions.{at_position}
@@ -53,21 +53,20 @@ pub use Rattle.cdl_values.specs.declared.read_error.ReadError.TheVariants.{Fault
 unfoldable pub use Rattle.nc_base.specs.Fill.{fill_value}
 pub use Rattle.nc_base.specs.Headers.{AreDimids}
 pub use Rattle.nc_base.specs.Headers.{IsDimid}
-pub use Rattle.nc_base.specs.Sizes.{value_count, array_limit, dim_len, is_record_dim, is_record_var, product, record_limit, record_size, slab_count, slab_lens, slab_limit, slab_size}
+pub use Rattle.nc_base.specs.Sizes.{value_count, array_limit, dim_len, is_record_dim, is_record_var, product, slab_count, slab_lens, slab_limit, slab_size}
 pub use Rattle.nc_base.specs.Names.{is_name}
 pub use Rattle.nc_base.specs.Numbers.{bytes_of_number}
 pub use Rattle.nc_base.specs.code.OwedValues.{fills, whole_array, whole_arrays}
-pub use Rattle.nc_base.specs.code.SizeParts.{checked_record_size, has_small_slab}
 pub use Rattle.nc_base.specs.declared.{header.Att.Att, header.Dim.Dim, header.Header.Header, header.NumRecs.TheVariants.Known, header.Var.Var, nc_type.NcType.NcType, version.Version.Version}
 pub use Rattle.std.proofs.lemmas.Bool.{cases_Bool, cond-false, cond-true, false≢true, le-leb}
 pub use Rattle.std.proofs.lemmas.List.{append-nil, get_or_append_left, length-append, length-map, map-append, set-get_or}
 pub use Rattle.std.proofs.lemmas.List.Elements.{All-cons, All-head, All-nil, All-push, All-tail}
-pub use Rattle.std.specs.List.{concat, filter, flat_map, list_all, list_any, position, position_from, position_or_len}
+pub use Rattle.std.specs.List.{concat, flat_map, list_all, list_any, position, position_from, position_or_len}
 pub use Rattle.std.specs.Ordering.{int_eq, is_eq, nat_cmp}
 pub use Rattle.std.specs.Str.{bytes_eq}
 pub use Rattle.std.specs.Vec.Iter.{into_iter_items}
 pub use Rattle.std.specs.declared.alloc.AllocError.{AllocError}
-pub use Rattle.nc_base.proofs.Tests.{and_left, none_before}
+pub use Rattle.nc_base.proofs.Tests.{none_before}
 pub use Rattle.nc_base.proofs.SoundLaws.{some_count, some_product}
 pub use Rattle.cdl_values.proofs.NamePositions.{any_is, new_is}
 pub use Rattle.cdl_values.proofs.AllowedNames.{stopped}

@@ -1,17 +1,17 @@
-//! The end of a text: the number of records, and the limits on sizes.
+//! The end of a text: the number of records, and the limits on counts and sizes.
 
 ghost use Rattle.std.specs.Prelude.{◌≡◌, IfSome};
 ghost use Rattle.cdl_parse.specs.code.DeclaredDatasets.{Finishes};
 
 use crate::declared_values::Declared;
 use crate::records::records_within_limits;
-use nc_base::{Att, Dim, Header, ListedArray, NumRecs, Sequence, Var, Version, rec_size};
+use nc_base::{Att, Dim, Header, ListedArray, NumRecs, Sequence, Var, Version};
 
 /// Finishes the reading of a text: makes a header of what it declares, with the number of records that [`records_within_limits`] returns,
 /// and returns it with `listed`, the listed values of each variable in the order of `vars`. `gatts` are the attributes of the dataset.
 ///
-/// Returns `None` if the dataset is too large: a slab or an array of more than 2^48 bytes, or a record of more than 2^62 bytes.
-/// Does not allocate.
+/// Returns `None` if the dataset is too large: an array of more than 2^48 bytes, or a header that isn't sound ([`Header::sound`]), since a
+/// count passes the version's limit, a slab has more than 2^48 bytes, or a record more than 2^62. Does not allocate.
 pub fn finish(
     version: Version,
     dims: Sequence<Dim>,
@@ -30,7 +30,7 @@ pub fn finish(
         gatts,
         vars,
     };
-    if rec_size(&header).is_none() {
+    if !header.sound() {
         return None;
     }
     Some(Declared {

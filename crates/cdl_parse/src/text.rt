@@ -31,7 +31,7 @@ use std::alloc::Global;
 /// # Errors
 ///
 /// The fault of the first bad statement, with the line of its first token. [`TooLarge`](CdlKind::TooLarge), with the line of the closing
-/// brace, if no statement is bad, but a slab or an array has more than 2^48 bytes, or a record more than 2^62.
+/// brace, if no statement is bad, but an array has more than 2^48 bytes or the header isn't sound ([`Header::sound`](nc_base::Header::sound)).
 /// [`OutOfMemory`](CdlKind::OutOfMemory), with line 0, as soon as an allocation failed, or if memory can't hold a variable's values.
 pub fn parse(alloc: Global, text: &[u8], version: Version) -> Result<Dataset, CdlFault>
     ensures { MeansOrOutOfMemory result (meaning text.now version) }
@@ -75,7 +75,7 @@ impl ParseError {
 }
 
 /// Reads a text, and returns what it declares. [`declared`] only turns the error into a [`CdlFault`]. Errs with the fault of the first bad
-/// statement; with `TooLarge`, on the closing brace's line, if a slab, an array or the record is too large; or if an allocation failed.
+/// statement; with `TooLarge`, on the closing brace's line, if an array is too large or the header isn't sound; or if an allocation failed.
 fn read_declared(alloc: Global, text: &[u8], version: Version) -> Result<Declared, ParseError>
     ensures reads { ReadsOn (λ d. Ok (dataset_of_declared d)) result (meaning text.now version) }
     ensures one_each { IfOk result (λ d. length d.listed ≡ length d.header.vars) }
@@ -109,8 +109,8 @@ struct Contents {
     closing_line: u64,
 }
 
-/// Reads all statements of a text, and returns what they declare and list. `start` is a cutter at the text's start. The sizes of slabs,
-/// arrays and the record aren't checked: [`finish`] does that. Errs with the fault of the first bad statement, or if an allocation failed.
+/// Reads all statements of a text, and returns what they declare and list. `start` is a cutter at the text's start. The sizes of
+/// arrays and the header aren't checked: [`finish`] does that. Errs with the fault of the first bad statement, or if an allocation failed.
 fn read_contents(alloc: Global, start: Cutter<'_>) -> Result<Contents, ParseError>
     ensures reads { length (text_of start.entry) < 2 ^ 63
         → ReadsAll result (run_from start.entry empty) }

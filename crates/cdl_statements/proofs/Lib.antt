@@ -14,3 +14,9 @@ pub mod PassedValues
 pub mod Prelude
 pub mod InRange
 pub mod Readings
+pub mod SoundTests
+pub mod Each
+pub mod Results
+pub mod Rows
+pub mod ListedValues
+pub mod Meanings

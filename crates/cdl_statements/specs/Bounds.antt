@@ -2,7 +2,7 @@
 use Rattle.std.specs.Prelude.{ℕ}
 use Rattle.cdl_statements.specs.declared.{fault.CdlFault.CdlFault, fault.CdlKind.TheVariants.OutOfMemory}
 
--- no longer text is read (its dataset could have counts that no field holds)
+-- `ncgen` reads no longer text
 abbrev pub text_limit : ℕ
 text_limit = 268435456
 

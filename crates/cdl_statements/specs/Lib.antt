@@ -4,6 +4,7 @@ pub mod Shapes
 pub mod Statements
 pub mod FaultWords
 pub mod State
+pub mod SoundHeaders
 pub mod Meaning
 pub mod Bounds
 pub mod code

@@ -4,11 +4,12 @@ use Rattle.std.specs.List.{flat_map, list_all}
 use Rattle.nc_base.specs.Bytes.{Bytes}
 use Rattle.nc_base.specs.declared.{dataset.Dataset.Dataset, header.Dim.Dim, header.Header.Header, header.NumRecs.TheVariants.Known, version.Version.Version}
 use Rattle.nc_base.specs.Fill.{fill_value}
-use Rattle.nc_base.specs.Sizes.{value_count, is_record_var, slab_count, slab_size, record_size, slab_limit, array_limit, record_limit}
+use Rattle.nc_base.specs.Sizes.{value_count, is_record_var, slab_count, array_limit}
 use Rattle.nc_base.specs.Numbers.{bytes_of_number}
 use Rattle.nc_base.specs.Types.{size_of}
 use Rattle.cdl_statements.specs.Lexemes.{Lexeme, lexeme}
 use Rattle.cdl_statements.specs.Shapes.{shape, first_bad}
+use Rattle.cdl_statements.specs.SoundHeaders.{is_sound}
 use Rattle.cdl_statements.specs.Statements.{statements}
 use Rattle.cdl_statements.specs.declared.{fault.CdlFault.CdlFault, fault.CdlKind.CdlKind, section.Section.TheVariants.Unopened}
 use Rattle.cdl_statements.specs.declared.fault.CdlKind.TheVariants.{Syntax, TooLarge}
@@ -71,14 +72,12 @@ header_of v s = record {
 abbrev pub dataset_of : Version → State → Dataset
 dataset_of v s = record { header = header_of v s; arrays = map (array_of s.dims (records_in s.dims s.drafts)) s.drafts }
 
-abbrev pub is_within_limits : List Dim → ℕ → Draft → Bool
-is_within_limits dims n d = nat_le (slab_size dims d.var) slab_limit && nat_le (value_count dims d.var n * size_of d.var.ty) array_limit
+abbrev pub has_small_array : List Dim → ℕ → Draft → Bool
+has_small_array dims n d = nat_le (value_count dims d.var n * size_of d.var.ty) array_limit
 
--- the limits of slabs, of arrays and of the record (`Grammar.is_within_limits` bounds the padded slabs; a record differs from these only if
--- it has one narrow slab, which is far below the limit)
+-- the header is sound, which limits counts, slabs and the record, and each array keeps its limit
 unfoldable pub are_within_limits : Version → State → Bool
-are_within_limits v s =
-    list_all (is_within_limits s.dims (records_in s.dims s.drafts)) s.drafts && nat_le (record_size (header_of v s)) record_limit
+are_within_limits v s = is_sound (header_of v s) && list_all (has_small_array s.dims (records_in s.dims s.drafts)) s.drafts
 
 -- the line of the last piece but one: in a text without a fault, the closing brace
 abbrev pub closing_line : List (List Token) → ℕ

@@ -1,7 +1,7 @@
 -- The names that proofs of this crate cite from elsewhere, passed on from one place.
-pub use Rattle.cdl_laws.proofs.MeaningsAreGood.{meanings_are_good}
 pub use Rattle.cdl_statements.specs.Meaning.{meaning}
-pub use Rattle.cdl_statements.specs.Bounds.{out_of_memory, text_limit}
+pub use Rattle.cdl_statements.proofs.Meanings.{IsWhole, meanings_are_whole}
+pub use Rattle.cdl_statements.specs.Bounds.{out_of_memory}
 pub use Rattle.cdl_statements.specs.declared.fault.CdlFault.{CdlFault}
 pub use Rattle.clap.specs.Words.{App, HasKind, Row, app_of, fault_of, found_of, is_simple, is_simple_and_free, kind_of, matches_of, new_app, new_rule, rows_of, rule_of, with_rule}
 pub use Rattle.cli_base.specs.Arguments.{flag, option, quiet, texts_of}
@@ -9,12 +9,11 @@ unfoldable pub use Rattle.devices.specs.Failures.{HasFailed}
 pub use Rattle.devices.specs.Readers.{ReaderView, view_of}
 pub use Rattle.devices.specs.Sinks.{FailedPartway, IsPrefix, IsPrefixIf, SinkView, StoppedShort}
 unfoldable pub use Rattle.devices.specs.Sinks.{IsCut, append, is_transparent}
-pub use Rattle.nc_base.proofs.Fitting.{Fits-from_fits, IsSound-with_begins, begins-below}
-pub use Rattle.nc_base.specs.Bytes.{AreBytes}
+pub use Rattle.nc_base.proofs.Fitting.{IsSound-with_begins, begins-below}
 pub use Rattle.nc_base.specs.GeneratedFile.{block, fits, is_sole_narrow, known_records, record_part, vars_with_begins}
 unfoldable pub use Rattle.nc_base.specs.GeneratedFile.{data_of, file_of, fill_bytes, padded_slab, with_begins}
 pub use Rattle.nc_base.specs.Grammar.{header_spelling}
-pub use Rattle.nc_base.specs.Headers.{AreArrays, IsGood, IsSound, bare_var}
+pub use Rattle.nc_base.specs.Headers.{IsSound, bare_var}
 pub use Rattle.nc_base.specs.code.OwedValues.{AreListed, whole_array, whole_arrays}
 pub use Rattle.nc_base.specs.declared.{dataset.Dataset.Dataset, header.Header.Header, version.Version.Version}
 pub use Rattle.nc_walk.specs.code.RecordSlabs.{record_slabs}

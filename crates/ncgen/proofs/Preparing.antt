@@ -1,6 +1,6 @@
 -- A text's file stands ready to be written.
-use Rattle.std.proofs.Common.{◌≡◌, ◌≤◌, inl, inr, ◌∙◌, ℕ, List, [], ◌++◌, length, Bool, true, false, if◌then◌else◌, Result, Ok, Err, refl, sym, ap, subst}
-use Rattle.ncgen.proofs.Prelude.{AreBytes, Dataset, Header, Version, file_of, fits, header_spelling, known_records, with_begins, AreArrays, IsGood, IsSound, whole_arrays, SinkView, record_slabs, IsSound-with_begins, begins-below, CdlFault, meaning, out_of_memory, text_limit, meanings_are_good, Generates, Refuses, file_or_fault, generated, IsReady, Prepares, file_of_prepared, GenFault, Cdl, OffsetTooLarge, WriteFailed}
+use Rattle.std.proofs.Common.{◌≡◌, inl, inr, ◌∙◌, ℕ, List, [], ◌++◌, length, Bool, true, false, if◌then◌else◌, Result, Ok, Err, refl, sym, ap, subst}
+use Rattle.ncgen.proofs.Prelude.{Dataset, Header, Version, file_of, fits, header_spelling, known_records, with_begins, IsSound, IsWhole, SinkView, record_slabs, IsSound-with_begins, begins-below, CdlFault, meaning, out_of_memory, meanings_are_whole, Generates, Refuses, file_or_fault, generated, IsReady, Prepares, file_of_prepared, GenFault, Cdl, OffsetTooLarge, WriteFailed}
 use Rattle.nc_file.specs.code.Begins.{offset_too_large}
 use Rattle.nc_walk.specs.declared.write.record_slab.RecordSlab.{RecordSlab}
 use Rattle.nc_file.specs.declared.write.begins.OffsetTooLarge.{OffsetTooLarge as NoRoom}
@@ -35,19 +35,12 @@ means text v d (inr memory) = absurd (ok-is-no-err (dataset_of_declared d) out_o
     ok-is-no-err : (d : Dataset) (fault : CdlFault) → (Ok d ≡ Err fault) → ⊥
     ok-is-no-err d fault e = subst is-ok e tt
 
-module _ (text : List ℕ) (v : Version) (d : Declared) (bytes : AreBytes text) (few : length text ≤ text_limit) (answers : MeansOrOutOfMemory (as_dataset (Ok d)) (meaning text v)) where
+module _ (text : List ℕ) (v : Version) (d : Declared) (answers : MeansOrOutOfMemory (as_dataset (Ok d)) (meaning text v)) where
   is-meaning : meaning text v ≡ Ok (dataset_of_declared d)
   is-meaning = means text v d answers
 
-  pub good : IsGood (dataset_of_declared d)
-  good = (meanings_are_good text v (dataset_of_declared d) bytes few is-meaning).0
-
-  abbrev n : ℕ
-  n = known_records d.header.numrecs
-
-  arrays : AreArrays d.header.dims n d.header.vars (whole_arrays d.header.dims n d.header.vars d.listed)
-  arrays = subst (λ (k : ℕ). AreArrays d.header.dims k d.header.vars (whole_arrays d.header.dims n d.header.vars d.listed))
-      (sym (ap (λ (h : Header). known_records h.numrecs) good.is_bare)) good.arrays
+  pub whole : IsWhole v (dataset_of_declared d)
+  whole = meanings_are_whole text v (dataset_of_declared d) is-meaning
 
   -- the dataset doesn't fit
   pub too-large : fits d.header ≡ false → Refuses (generated text v) OffsetTooLarge
@@ -56,7 +49,7 @@ module _ (text : List ℕ) (v : Version) (d : Declared) (bytes : AreBytes text) 
 
   -- the header with its begins is sound
   pub sound : IsSound (with_begins d.header)
-  sound = IsSound-with_begins d.header good.is_sound
+  sound = IsSound-with_begins d.header whole.sound
 
   module _ (each : length d.listed ≡ length d.header.vars) (fit : fits d.header ≡ true)
       (slabs : List RecordSlab) (of_record : slabs ≡ record_slabs 0 (with_begins d.header).dims (with_begins d.header).vars) where
@@ -68,7 +61,9 @@ module _ (text : List ℕ) (v : Version) (d : Declared) (bytes : AreBytes text) 
     is-ready = record {
       sound = sound;
       begins = begins-below d.header fit;
-      listed = listed-after d.header d.header.dims n [] d.header.vars d.listed (are-listed d.header.dims n d.header.vars d.listed each arrays);
+      listed =
+          (let n = known_records d.header.numrecs in
+          listed-after d.header d.header.dims n [] d.header.vars d.listed (are-listed d.header.dims n d.header.vars d.listed each whole.arrays));
       slabs = of_record;
     }
 

@@ -1,6 +1,5 @@
 pub mod Generated
 pub mod Generates
-pub mod Laws
 pub mod CommandLine
 pub mod Faults
 pub mod Inputs

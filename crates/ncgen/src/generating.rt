@@ -1,7 +1,5 @@
 //! The file of a text.
 
-ghost use Rattle.std.specs.Prelude.{◌≤◌, length};
-ghost use Rattle.cdl_statements.specs.Bounds.{text_limit};
 ghost use Rattle.ncgen.specs.Generated.{generated};
 ghost use Rattle.ncgen.specs.Generates.{Generates};
 ghost use Rattle.ncgen.specs.code.Prepared.{Prepares};
@@ -18,7 +16,7 @@ use std::alloc::Global;
 /// Reads a CDL text, and returns the netCDF classic file of the dataset that the text declares in this version, ready to be written
 /// (ncgen(1)).
 ///
-/// Needs a text of at most 268,435,456 bytes (256 MiB). Allocates for what it declares and for the values that it lists, not for the file.
+/// Allocates for what the text declares and for the values that it lists, not for the file.
 ///
 /// # Errors
 ///
@@ -26,7 +24,6 @@ use std::alloc::Global;
 /// would begin at an offset that is too large for the version. As soon as an allocation fails, [`GenFault::Cdl`] with the kind
 /// `OutOfMemory`.
 pub fn prepare(alloc: Global, text: &[u8], version: Version) -> Result<Prepared, GenFault>
-    requires { length text.now ≤ text_limit }
     ensures { Prepares (generated text.now version) result }
 {
     let Declared { header, listed } = declared(alloc, text, version)?;
@@ -41,8 +38,7 @@ pub fn prepare(alloc: Global, text: &[u8], version: Version) -> Result<Prepared,
 
 /// Reads a CDL text, and writes to the sink the netCDF classic file of the dataset that the text declares in this version (ncgen(1)).
 ///
-/// Needs a text of at most 268,435,456 bytes (256 MiB). Allocates for what the text declares and for the values that it lists, not for the
-/// file.
+/// Allocates for what the text declares and for the values that it lists, not for the file.
 ///
 /// For callers of the library: the program itself calls [`prepare`] and [`Prepared::write`], and creates its output in between.
 ///
@@ -55,7 +51,6 @@ pub fn generate<W: Sink>(
     version: Version,
     sink: &mut W,
 ) -> Result<(), GenFault>
-    requires { length text.now ≤ text_limit }
     ensures { Generates (generated text.now version) (W.view sink.old) (W.view sink.new) result }
 {
     let prepared = prepare(alloc, text, version)?;

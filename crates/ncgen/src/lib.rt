@@ -21,7 +21,6 @@ mod fault;
 mod fault_text;
 mod generating;
 mod input;
-pub mod laws;
 mod options;
 mod output;
 mod prepared;

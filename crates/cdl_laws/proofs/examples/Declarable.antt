@@ -1,8 +1,7 @@
 -- A dataset that a text can declare.
 use Rattle.std.proofs.Common.{zero, suc, [], ◌∷◌, refl, arith, All, codes}
-use Rattle.cdl_laws.proofs.Prelude.{is_utf8, chars, AreBytes, Dataset, Att, Dim, Known, Var, Short, Cdf1, IsGood, IsSoundVar, IsSoundDim, IsName, IsSayable, IsSayableVar}
+use Rattle.cdl_laws.proofs.Prelude.{are_bytes, is_utf8, chars, AreBytes, Dataset, Att, Dim, Known, Var, Short, Cdf1, IsGood, IsSoundVar, IsSoundDim, IsName, IsSayable, IsSayableVar}
 use lib.Utf8.{encode}
-use Rattle.cdl_laws.proofs.MeaningsAreGood.{are_bytes}
 
 abbrev dim : Dim
 dim = record { name = codes "x"; len = 2 }

@@ -1,8 +1,9 @@
 -- The datasets of a few texts, and sizes at their limits, by computation.
 use Prim.Native.String.{String}
 use Rattle.std.proofs.Common.{◌≡◌, ℕ, List, [], ◌∷◌, ◌^◌, refl, Bool, true, false, ℤ, pos, codes, map, Some, Ok}
-use Rattle.cdl_laws.proofs.Prelude.{Dataset, NcType, Byte, Char, Short, Int, Ubyte, Cdf1, Cdf5, Ended, State, Draft, Numbers, text_limit, meaning, are_within_limits}
+use Rattle.cdl_laws.proofs.Prelude.{Dataset, NcType, Byte, Char, Short, Int, Ubyte, Cdf1, Cdf5, Ended, State, Draft, Numbers, is_sound, meaning, are_within_limits}
 use Rattle.nc_base.proofs.examples.Written.{dim, att, var, dataset}
+use Rattle.cdl_statements.specs.Bounds.{text_limit}
 use Rattle.cdl_laws.proofs.examples.Written.{texts_computed}
 
 abbrev means : String → Dataset → String × Dataset
@@ -82,5 +83,5 @@ greatest_sizes : fit (
     ∷ (draft (codes "a") (0 ∷ 1 ∷ 1 ∷ 2 ∷ []) Short [] ∷ draft (codes "b") (0 ∷ []) Byte (pos 1 ∷ pos 2 ∷ pos 3 ∷ []) ∷ [])
     ∷ [])
     ≡ true ∷ false ∷ true ∷ false ∷ true ∷ false ∷ []
-unfolding are_within_limits
+unfolding are_within_limits is_sound
 greatest_sizes = refl

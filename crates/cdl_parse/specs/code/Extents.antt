@@ -1,10 +1,10 @@
 -- For contracts. How far what is listed reaches.
-use Rattle.std.specs.Prelude.{ℕ, ◌≡◌, ◌<◌, ◌+◌, ◌-◌, ◌*◌, ◌/◌, ◌&&◌, All, nat_le, max, if◌then◌else◌, List, ◌∷◌, length, Option, None, Some}
+use Rattle.std.specs.Prelude.{ℕ, ◌≡◌, ◌<◌, ◌+◌, ◌-◌, ◌*◌, ◌/◌, ◌&&◌, All, Bool, nat_le, max, if◌then◌else◌, List, ◌∷◌, length, Option, None, Some}
 use Rattle.std.specs.List.{list_all}
 use Rattle.nc_base.specs.declared.{header.Dim.Dim, header.Var.Var}
 use Rattle.nc_base.specs.Sizes.{is_record_var, slab_count, slab_size, slab_limit, array_limit}
 use Rattle.nc_base.specs.Types.{size_of}
-use Rattle.cdl_statements.specs.Meaning.{is_within_limits, records_in}
+use Rattle.cdl_statements.specs.Meaning.{has_small_array, records_in}
 use Rattle.cdl_statements.specs.State.{Draft}
 use Rattle.cdl_values.specs.code.Listed.{AllList, AreShaped}
 use Rattle.cdl_parse.specs.declared.records.Extent.{Extent}
@@ -30,6 +30,10 @@ with_all dims (Some e) _ _ = Some e
 -- the number of records; None where the array of the widest variable over them passes the limit
 abbrev pub records_within : Extent → Option ℕ
 records_within e = if nat_le e.records array_limit && nat_le (e.records * e.widest) array_limit then Some e.records else None
+
+-- the variable's slab keeps its limit, and over n records its array does
+abbrev pub is_within_limits : List Dim → ℕ → Draft → Bool
+is_within_limits dims n d = nat_le (slab_size dims d.var) slab_limit && has_small_array dims n d
 
 -- the number of records; None where over that many records a slab or an array passes its limit
 abbrev pub records_kept : List Dim → List Draft → Option ℕ

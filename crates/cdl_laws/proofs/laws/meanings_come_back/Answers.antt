@@ -1,4 +1,4 @@
-use Rattle.cdl_laws.proofs.Trimmed.{meanings_come_back}
+use Rattle.cdl_laws.proofs.SecondTrips.{meanings_come_back}
 use Rattle.cdl_laws.proofs.laws.meanings_come_back.Goals as goal
 
 pub returns : goal.returns
