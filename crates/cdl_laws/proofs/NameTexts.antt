@@ -6,9 +6,9 @@ use Rattle.cdl_laws.proofs.Prelude.{flat_map, list_all, bytes_eq, false≢true, 
 
 pub no_escape : (b c : ℕ) → goes_on_word b ≡ true → is_escape b c ≡ false
 no_escape b c h = elim (b == 0x5c) as (λ w. (b == 0x5c) ≡ w → is_escape b c ≡ false) [
-      | true ↦ (λ e. absurd (false≢true (subst (λ n. goes_on_word n ≡ true) (eqb-true b 0x5c e) h)))
-      | false ↦ (λ e. rw (e) refl)
-    ] refl
+  | true ↦ (λ e. absurd (false≢true (subst (λ n. goes_on_word n ≡ true) (eqb-true b 0x5c e) h)))
+  | false ↦ (λ e. rw (e) refl)
+] refl
 
 pub escapable : (b : ℕ) → may_follow_in_name b ≡ true → is_escapable b ≡ true
 escapable b h = grind arith
