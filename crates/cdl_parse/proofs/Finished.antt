@@ -1,9 +1,7 @@
 -- What a text declares is the dataset that it means.
-use Rattle.std.proofs.Common.{◌≡◌, ℕ, All, Bool, true, false, List, [], ◌∷◌, map, refl, sym, ap, ◌∙◌, ◌&&◌, if◌then◌else◌, Option, None, Some, Ok, arith, rules}
-use Rattle.cdl_parse.proofs.Prelude.{list_all, All-head, All-tail, Att, Dim, Header, Known, Var, Version, array_of, dataset_of, finished, has_small_array, header_of, is_within_limits, are_within_limits, records_in, AllList, AreShaped, records_kept, whole_array, whole_arrays, Draft, State, dataset_of_declared, le-leb, or_too_large, Declared}
+use Rattle.std.proofs.Common.{◌≡◌, ℕ, All, Bool, SomeIff, true, false, List, [], ◌∷◌, map, refl, sym, ap, ◌∙◌, ◌&&◌, if◌then◌else◌, Option, None, Some, Ok, arith, rules}
+use Rattle.cdl_parse.proofs.Prelude.{list_all, All-head, All-tail, Att, Dim, Header, Known, Var, Version, array_of, dataset_of, finished, has_small_array, header_of, is_within_limits, are_within_limits, records_in, AllList, AreShaped, records_kept, whole_array, whole_arrays, Draft, State, dataset_of_declared, if_sound, le-leb, or_too_large, Declared}
 use Rattle.std.proofs.lemmas.Grind.{flat_map-append}
-use Rattle.std.proofs.lemmas.Bool.Decides.{same_from_decides}
-use Rattle.std.specs.Bool.{Decides}
 use Rattle.nc_base.specs.Headers.{IsSound, IsSoundVar}
 use Rattle.cdl_statements.specs.SoundHeaders.{is_sound}
 use Rattle.cdl_statements.proofs.SoundTests.{sound_is_tested}
@@ -12,9 +10,9 @@ use Rattle.cdl_parse.proofs.SizeLimits.{all_are, listed_count, listed_of, var_of
 
 -- ---- sound headers
 
--- what the code finds is what the test says
-pub tested : (found : Bool) (h : Header) → Decides found (IsSound h) → found ≡ is_sound h
-tested found h says = same_from_decides found (is_sound h) says (sound_is_tested h)
+-- what the code gives for a sound header alone
+pub given_if_sound : (given : Option Declared) (h : Header) (listed : List (List ℕ)) → SomeIff given (IsSound h) (record { header = h; listed = listed }) → given ≡ if_sound h listed
+given_if_sound given h listed is = grind (arith, sound_is_tested h)
 
 -- where the header is sound, each slab keeps its limit, and the arrays decide
 slabs_small : (v : Version) (dims : List Dim) (n : ℕ) (drafts : List Draft) → All (IsSoundVar v dims) (map var_of drafts) → list_all (is_within_limits dims n) drafts ≡ list_all (has_small_array dims n) drafts
@@ -79,15 +77,22 @@ pub header_at : (v : Version) (n : ℕ) (s : State) (dims : List Dim) (gatts : L
     header_with v n s ≡ record { version = v; numrecs = Known n; dims = dims; gatts = gatts; vars = vars }
 header_at v n s dims gatts vars listed is att-is lists = search (rules, all_are)
 
-pub unsound : (v : Version) (s : State) (line n : ℕ) → records_kept s.dims s.drafts ≡ Some n → is_sound (header_with v n s) ≡ false → finished v line (Ok s) ≡ or_too_large line None
+unsound : (v : Version) (s : State) (line n : ℕ) → records_kept s.dims s.drafts ≡ Some n → is_sound (header_with v n s) ≡ false → finished v line (Ok s) ≡ or_too_large line None
 unsound v s line n kept bad =
     let some = some_of (list_all (is_within_limits s.dims (records_in s.dims s.drafts)) s.drafts) (records_in s.dims s.drafts) n kept in
     answer v s line false (enough_is v s false true (ap is_sound (sym (same_header v s n some.1)) ∙ bad) some.0)
 
-pub is_declared : (v : Version) (s : State) (line n : ℕ) → records_kept s.dims s.drafts ≡ Some n → is_sound (header_with v n s) ≡ true →
+is_declared : (v : Version) (s : State) (line n : ℕ) → records_kept s.dims s.drafts ≡ Some n → is_sound (header_with v n s) ≡ true →
     finished v line (Ok s) ≡ or_too_large line (Some (record { header = header_with v n s; listed = map (listed_of s.dims) s.drafts }))
 is_declared v s line n kept sound =
     let some = some_of (list_all (is_within_limits s.dims (records_in s.dims s.drafts)) s.drafts) (records_in s.dims s.drafts) n kept in
     let same = same_header v s n some.1 in
     answer v s line true (enough_is v s true true (ap is_sound (sym same) ∙ sound) some.0) ∙
     ap (λ (h : Header). or_too_large line (Some (record { header = h; listed = map (listed_of s.dims) s.drafts }))) (sym same)
+
+pub finished_as : (v : Version) (s : State) (line n : ℕ) → records_kept s.dims s.drafts ≡ Some n → finished v line (Ok s) ≡ or_too_large line (if_sound (header_with v n s) (map (listed_of s.dims) s.drafts))
+finished_as v s line n kept = by (is_sound (header_with v n s)) refl
+  where
+    by : (sound : Bool) → is_sound (header_with v n s) ≡ sound → finished v line (Ok s) ≡ or_too_large line (if sound then Some (record { header = header_with v n s; listed = map (listed_of s.dims) s.drafts }) else None)
+    by true is = is_declared v s line n kept is
+    by false is = unsound v s line n kept is

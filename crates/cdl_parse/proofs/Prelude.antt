@@ -10,7 +10,7 @@ pub use Rattle.cdl_parse.specs.code.AttributeRead.{att_read, att_said, constants
 pub use Rattle.cdl_parse.specs.code.ClosingLines.{closing_after, closing_of, with_line}
 pub use Rattle.cdl_parse.specs.code.DataSections.{BeginsData, Closes, IsInDataSection, ReadsOne, TakesStatement, given_at}
 pub use Rattle.cdl_parse.specs.code.Declarations.{ReadsDimension, added, continued, declared, is_open_after, next_dimid, read_on, type_first, with_begun}
-pub use Rattle.cdl_parse.specs.code.DeclaredDatasets.{dataset_of_declared, or_too_large}
+pub use Rattle.cdl_parse.specs.code.DeclaredDatasets.{dataset_of_declared, if_sound, or_too_large}
 pub use Rattle.cdl_parse.specs.code.Defined.{Makes, after_mark, is_defining, is_early, is_over, state_of}
 pub use Rattle.cdl_parse.specs.code.DimensionNames.{dim_names, is_dimension_name, with_new_dim}
 pub use Rattle.cdl_parse.specs.code.Drafts.{draft, draft_of, drafts_of, is_variable_name, var_of, variable_names, with_new_draft}

@@ -1,6 +1,7 @@
 //! The end of a text: the number of records, and the limits on counts and sizes.
 
-ghost use Rattle.std.specs.Prelude.{◌≡◌, IfSome};
+ghost use Rattle.std.specs.Prelude.{◌≡◌, IfSome, SomeIff};
+ghost use Rattle.nc_base.specs.Headers.{IsSound};
 ghost use Rattle.cdl_parse.specs.code.DeclaredDatasets.{Finishes};
 
 use crate::declared_values::Declared;
@@ -30,6 +31,13 @@ pub fn finish(
         gatts,
         vars,
     };
+    declared_if_sound(header, listed)
+}
+
+/// Returns the header with these listed values, or `None` if the header isn't sound. Does not allocate.
+fn declared_if_sound(header: Header, listed: Vec<ListedArray>) -> Option<Declared>
+    ensures { SomeIff result (IsSound header) (record { header = header; listed = listed.items }) }
+{
     if !header.sound() {
         return None;
     }

@@ -1,16 +1,21 @@
 -- For contracts. What a text declares, as a dataset: each variable's listed values, and the fill value where it has none.
-use Rattle.std.specs.Prelude.{ℕ, ◌≡◌, List, Option, None, Some, Result, Ok, Err}
-use Rattle.nc_base.specs.declared.{dataset.Dataset.Dataset, header.Att.Att, header.Dim.Dim, header.Var.Var, version.Version.Version}
+use Rattle.std.specs.Prelude.{ℕ, ◌≡◌, if◌then◌else◌, List, Option, None, Some, Result, Ok, Err}
+use Rattle.nc_base.specs.declared.{dataset.Dataset.Dataset, header.Att.Att, header.Dim.Dim, header.Header.Header, header.Var.Var, version.Version.Version}
 use Rattle.nc_base.specs.GeneratedFile.{known_records}
 use Rattle.nc_base.specs.code.OwedValues.{whole_arrays}
 use Rattle.cdl_statements.specs.declared.{fault.CdlFault.CdlFault, fault.CdlKind.TheVariants.TooLarge}
 use Rattle.cdl_statements.specs.Meaning.{finished}
+use Rattle.cdl_statements.specs.SoundHeaders.{is_sound}
 use Rattle.cdl_statements.specs.State.{State}
 use Rattle.cdl_values.specs.code.Listed.{AllList, AreShaped}
 use Rattle.cdl_parse.specs.declared.declared_values.Declared.{Declared}
 
 abbrev pub dataset_of_declared : Declared → Dataset
 dataset_of_declared d = record { header = d.header; arrays = whole_arrays d.header.dims (known_records d.header.numrecs) d.header.vars d.listed }
+
+-- what is declared, if the header is sound
+abbrev pub if_sound : Header → List (List ℕ) → Option Declared
+if_sound header listed = if is_sound header then Some (record { header = header; listed = listed }) else None
 
 -- the dataset, or where none is declared the fault that it is too large
 abbrev pub or_too_large : ℕ → Option Declared → Result Dataset CdlFault

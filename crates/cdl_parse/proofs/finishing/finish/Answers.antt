@@ -1,7 +1,6 @@
-use Rattle.std.proofs.Common.{rules, ◌≡◌, ◌∙◌, ap, sym, true, false, None, Some, List, ℕ, map}
-use Rattle.cdl_parse.proofs.Prelude.{Known, Dim, Header, or_too_large}
-use Rattle.cdl_statements.specs.SoundHeaders.{is_sound}
-use Rattle.cdl_parse.proofs.Finished.{array_too_large, header_at, is_declared, kept_at, tested, unsound}
+use Rattle.std.proofs.Common.{rules, ◌≡◌, ◌∙◌, ap, sym, None, Some, List, ℕ, map}
+use Rattle.cdl_parse.proofs.Prelude.{Known, Dim, Header, if_sound, or_too_large}
+use Rattle.cdl_parse.proofs.Finished.{array_too_large, finished_as, given_if_sound, header_at, kept_at}
 use Rattle.cdl_parse.proofs.SizeLimits.{all_are, listed_of}
 use Rattle.cdl_parse.proofs.finishing.finish.Goals as goal
 
@@ -14,26 +13,15 @@ returns-in_err-records-clause-declares c = λ s is att-is lists shaped line.
     (kept_at c.as_slice.result.now a.dims c.as_slice-2.result.now a.vars c.as_slice-3.result.now a.listed.items s c.records_within_limits.result c.as_slice.ensures c.as_slice-2.ensures c.as_slice-3.ensures.value is lists shaped c.records_within_limits.ensures ∙ none) ∙
     ap (or_too_large line) (sym gives)
 
-pub returns-then-not-sound-clause-declares : goal.returns-then-not-sound-clause-declares
-returns-then-not-sound-clause-declares c = λ s is att-is lists shaped line.
-    let a = c.args in
-    let n = c.in_ok-records.records in
-    let kept : c.records_within_limits.result ≡ Some n = search rules in
-    let bad : c.sound.result ≡ false = search rules in
-    unsound a.version s line n
-    (kept_at c.as_slice.result.now a.dims c.as_slice-2.result.now a.vars c.as_slice-3.result.now a.listed.items s c.records_within_limits.result c.as_slice.ensures c.as_slice-2.ensures c.as_slice-3.ensures.value is lists shaped c.records_within_limits.ensures ∙ kept)
-    (ap is_sound (header_at a.version n s a.dims a.gatts a.vars a.listed.items is att-is lists) ∙ sym (tested c.sound.result _ c.sound.ensures) ∙ bad)
-
 pub returns-clause-declares : goal.returns-clause-declares
 returns-clause-declares c = λ s is att-is lists shaped line.
     let a = c.args in
     let n = c.in_ok-records.records in
     let kept : c.records_within_limits.result ≡ Some n = search rules in
-    let good : c.sound.result ≡ true = search rules in
     let same = header_at a.version n s a.dims a.gatts a.vars a.listed.items is att-is lists in
-    is_declared a.version s line n
-    (kept_at c.as_slice.result.now a.dims c.as_slice-2.result.now a.vars c.as_slice-3.result.now a.listed.items s c.records_within_limits.result c.as_slice.ensures c.as_slice-2.ensures c.as_slice-3.ensures.value is lists shaped c.records_within_limits.ensures ∙ kept)
-    (ap is_sound same ∙ sym (tested c.sound.result _ c.sound.ensures) ∙ good) ∙
-    ap (λ (h : Header). or_too_large line (Some (record { header = h; listed = map (listed_of s.dims) s.drafts }))) same ∙
-    ap (λ (ls : List (List ℕ)). or_too_large line (Some (record { header = record { version = a.version; numrecs = Known n; dims = a.dims; gatts = a.gatts; vars = a.vars }; listed = ls })))
-    (ap (λ (ds : List Dim). map (listed_of ds) s.drafts) is ∙ sym (all_are a.dims a.vars a.listed.items s.drafts lists).1 ∙ sym c.from_vec.ensures)
+    finished_as a.version s line n
+    (kept_at c.as_slice.result.now a.dims c.as_slice-2.result.now a.vars c.as_slice-3.result.now a.listed.items s c.records_within_limits.result c.as_slice.ensures c.as_slice-2.ensures c.as_slice-3.ensures.value is lists shaped c.records_within_limits.ensures ∙ kept) ∙
+    ap (λ (h : Header). or_too_large line (if_sound h (map (listed_of s.dims) s.drafts))) same ∙
+    ap (λ (ls : List (List ℕ)). or_too_large line (if_sound (record { version = a.version; numrecs = Known n; dims = a.dims; gatts = a.gatts; vars = a.vars }) ls))
+    (ap (λ (ds : List Dim). map (listed_of ds) s.drafts) is ∙ sym (all_are a.dims a.vars a.listed.items s.drafts lists).1) ∙
+    ap (or_too_large line) (sym (given_if_sound c.declared_if_sound.result _ a.listed.items c.declared_if_sound.ensures))
