@@ -1,8 +1,5 @@
 //! Texts that are read, and the files that they give.
 
-ghost use Rattle.std.specs.Prelude.{◌≤◌, length};
-ghost use Rattle.cdl_statements.specs.Bounds.{text_limit};
-
 use cdl_parse::{CdlFault, CdlKind, declared, parse};
 use devices::{CountedRead, SliceSink};
 use nc_base::Version;
@@ -121,14 +118,6 @@ fn texts_are_refused(rt: HostRuntime) -> Result<(), AllocError> {
     Ok(())
 }
 
-/// The bytes of the text, which fails if it is too long to be generated.
-fn short_text<'a>(rt: &impl Abort, text: &'a [u8]) -> &'a [u8]
-    ensures { length result.now ≤ text_limit }
-{
-    assert!(rt; text.len() <= 268_435_456);
-    text
-}
-
 /// Fails unless the answer is success, or memory that is refused.
 fn succeeds(rt: &impl Abort, answer: Result<(), GenFault>) -> Result<(), AllocError> {
     if answer == Err(GenFault::Cdl(OUT_OF_MEMORY)) {
@@ -147,7 +136,7 @@ fn generates(
 ) -> Result<(), AllocError> {
     let mut into = [0; 512];
     let mut sink = SliceSink::new(&mut into, 7);
-    let answer = generate(alloc, short_text(rt, text), version, &mut sink);
+    let answer = generate(alloc, text, version, &mut sink);
     assert!(rt; answer.is_ok() || sink.taken().is_empty());
     succeeds(rt, answer)
 }
@@ -163,7 +152,7 @@ fn texts_are_generated(rt: HostRuntime) -> Result<(), AllocError> {
 #[test]
 fn texts_are_prepared(rt: HostRuntime) -> Result<(), AllocError> {
     for (version, text) in TEXTS {
-        let answer = prepare(rt.alloc(), short_text(&rt, *text), *version);
+        let answer = prepare(rt.alloc(), *text, *version);
         succeeds(&rt, answer.map(|_| ()))?;
     }
     Ok(())

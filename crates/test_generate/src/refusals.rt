@@ -1,21 +1,20 @@
 //! Texts that give no file: nothing of it is written.
 
-use crate::generating::{short_text, writes};
 use cdl_parse::{CdlFault, CdlKind};
 use devices::SliceSink;
 use nc_base::Version;
-use ncgen::{GenFault, prepare};
+use ncgen::{GenFault, generate, prepare};
 use std::alloc::Global;
 use std::process::Abort;
 use std::test::*;
 
 /// Fails unless the text gives this fault where it is prepared, and where it is generated, with nothing written.
 fn is_refused(rt: &impl Abort, alloc: Global, version: Version, text: &[u8], want: GenFault) {
-    let fault = prepare(alloc, short_text(rt, text), version).err();
+    let fault = prepare(alloc, text, version).err();
     assert!(rt; fault == Some(want), "{want} in {version:?}");
     let mut into = [0; 16];
     let mut sink = SliceSink::new(&mut into, 16);
-    let answer = writes(rt, alloc, version, text, &mut sink);
+    let answer = generate(alloc, text, version, &mut sink);
     assert!(rt;
         answer == Err(want) && sink.taken().is_empty(),
         "{want} in {version:?}"
@@ -85,6 +84,6 @@ fn texts_that_give_no_file(rt: HostRuntime) {
         NEXT,
         GenFault::OffsetTooLarge,
     );
-    assert!(rt; prepare(rt.alloc(), short_text(&rt, LAST), Version::Cdf1).is_ok());
-    assert!(rt; prepare(rt.alloc(), short_text(&rt, NEXT), Version::Cdf2).is_ok());
+    assert!(rt; prepare(rt.alloc(), LAST, Version::Cdf1).is_ok());
+    assert!(rt; prepare(rt.alloc(), NEXT, Version::Cdf2).is_ok());
 }

@@ -1,10 +1,9 @@
 //! Files that are written into sinks with little room, and how often a writer is called.
 
-use crate::generating::writes;
 use crate::rows::{self, Row};
 use devices::{IoSink, SliceSink};
 use nc_base::Version;
-use ncgen::GenFault;
+use ncgen::{GenFault, generate};
 use std::alloc::{AllocError, Global};
 use std::io;
 use std::io::Write;
@@ -24,7 +23,7 @@ fn begins(
     assert!(rt; 1 <= step);
     let mut into = Vec::from_elem(alloc, 0, bytes.len())?;
     let mut sink = SliceSink::new(into.as_mut_slice(), step);
-    let answer = writes(rt, alloc, version, text, &mut sink);
+    let answer = generate(alloc, text, version, &mut sink);
     assert!(rt;
         answer == want && sink.taken() == bytes,
         "{} in {version:?}",
@@ -144,7 +143,7 @@ impl Write for Counting {
 fn takes_few_writes(rt: &impl Abort, alloc: Global, text: &str, len: u64, calls: u64) {
     let mut writer = Counting { calls: 0, len: 0 };
     let mut sink = IoSink::new(&mut writer);
-    let answer = writes(rt, alloc, Version::Cdf1, text.as_bytes(), &mut sink);
+    let answer = generate(alloc, text.as_bytes(), Version::Cdf1, &mut sink);
     assert!(rt; answer.is_ok());
     assert!(rt; writer.len == len, "{}", writer.len);
     assert!(rt; writer.calls <= calls, "{}", writer.calls);
