@@ -110,7 +110,8 @@ fn put_part_with_lead<W: Sink>(
 fn held_nuls_after(held_nuls: u128, row_index: u128, count: u128, shown: u128) -> u128
     requires within { shown ≤ count }
     requires few { held_nuls + count < 2 ^ 128 }
-    ensures held_nuls { result ≡ (if row_index == 0 then 0 else (if shown == 0 then held_nuls else 0) + (count - shown)) }
+    ensures held_nuls { result
+        ≡ (if row_index == 0 then 0 else (if shown == 0 then held_nuls else 0) + (count - shown)) }
     ensures few { result ≤ held_nuls + count }
 {
     if row_index == 0 {
@@ -132,7 +133,8 @@ fn put_shown_with_lead<W: Sink>(
     text: &mut Gathered,
     shown: &[u8],
 ) -> Result<(), WriteFailed>
-    ensures { Wrote W.view sink.old sink.new (next_char_lead (look_at layout.now) progress.now ++ part_text progress.now.held_nuls shown.now) result }
+    ensures { Wrote W.view sink.old sink.new
+        (next_char_lead (look_at layout.now) progress.now ++ part_text progress.now.held_nuls shown.now) result }
 {
     let start = layout.put_char_lead(text, 0, progress);
     if progress.held_nuls != 0 || shown.len() > AT_ONCE {

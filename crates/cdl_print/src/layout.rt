@@ -172,7 +172,8 @@ impl Layout<'_> {
     #[inline(always)]
     pub fn put_char_lead(&self, text: &mut [u8], at: usize, progress: &Progress) -> usize
         requires { at + 6 ≤ length text.old }
-        ensures written { take result text.new ≡ take at text.old ++ next_char_lead (look_at self.now) progress.now }
+        ensures written { take result text.new
+            ≡ take at text.old ++ next_char_lead (look_at self.now) progress.now }
         ensures short { result ≤ at + 6 }
     {
         if progress.row_index != 0 {

@@ -22,7 +22,8 @@ pub fn without_trailing_nuls(bytes: &[u8]) -> &[u8]
 /// left then.
 fn len_without_nul_blocks(bytes: &[u8]) -> usize
     ensures within { result ≤ length bytes.now }
-    ensures only_nuls { result + suffix_len (λ b. b == 0) bytes.now ≡ length bytes.now + suffix_len (λ b. b == 0) (take result bytes.now) }
+    ensures only_nuls { result + suffix_len (λ b. b == 0) bytes.now
+        ≡ length bytes.now + suffix_len (λ b. b == 0) (take result bytes.now) }
 {
     let mut rest = bytes;
     while rest.len() >= BLOCK {
