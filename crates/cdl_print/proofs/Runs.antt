@@ -1,7 +1,9 @@
 -- Names and strings that are written a few bytes at a time, and the lines of a string.
-use Rattle.std.proofs.Common.{◌≡◌, ℕ, ◌+◌, ◌<◌, ◌≤◌, ◌==◌, Bool, true, false, cond, List, [], ◌∷◌, ◌++◌, length, take, drop, refl, sym, ap, ◌∙◌, arith, rules, suc, min, append_assoc, if◌then◌else◌, not, nat_lt, position, Some, None, get_or}
+use Rattle.std.proofs.Common.{◌≡◌, ℕ, ◌+◌, ◌<◌, ◌≤◌, ◌==◌, Bool, true, false, cond, List, [], ◌∷◌, ◌++◌, length, take, drop, refl, sym, ap, ◌∙◌, arith, rules, suc, min, append_assoc, if◌then◌else◌, ap₂, ◌&&◌, not, nat_lt, position, Some, None, get_or}
 use Rattle.cdl_print.proofs.Prelude.{common_steps, flat_map-append, prefix_len-le-length, append-nil, take-append-drop, concat_parts, broken_text, string_break, nat_tests, flat_map, list_all, position_or_len, escaped_name, is_reserved, escaped_text, escaped_in_string, is_literal, escaped_in, stands_for_itself, line_len, line_text}
 use Rattle.nc_base.specs.declared.escape.Quoting.{Quoting}
+use Rattle.std.proofs.Math.Seq.{take-add, take-append_seam}
+use Rattle.std.proofs.lemmas.List.Folds.{list_all-append}
 
 pub flat_map_parts : (f : ℕ → List ℕ) (n : ℕ) (xs prefix back : List ℕ) → prefix ≡ take n xs → back ≡ drop n xs → flat_map f xs ≡ flat_map f prefix ++ flat_map f back
 flat_map_parts f n xs prefix back e d =
@@ -10,6 +12,15 @@ flat_map_parts f n xs prefix back e d =
 pub flat_map_itself : (p : ℕ → Bool) (f : ℕ → List ℕ) → ((b : ℕ) → p b ≡ true → f b ≡ b ∷ []) → (piece : List ℕ) → list_all p piece ≡ true → flat_map f piece ≡ piece
 flat_map_itself p f at [] h = refl
 flat_map_itself p f at (b ∷ piece) h = search (rules, flat_map_itself p f at piece)
+
+-- a prefix that passes a test goes on with some more that pass
+pub plain_more : (p : ℕ → Bool) (bytes others few : List ℕ) (len m : ℕ) → others ≡ drop len bytes → few ≡ take m others → list_all p (take len bytes) ≡ true → list_all p few ≡ true
+    → list_all p (take (len + length few) bytes) ≡ true
+plain_more p bytes others few len m back front so_far more =
+    let whole : few ++ drop m others ≡ others = ap (λ (xs : List ℕ). xs ++ drop m others) front ∙ take-append-drop m others in
+    let next : take (length few) (drop len bytes) ≡ few = ap (take (length few)) (sym (whole ∙ back)) ∙ take-append_seam few (drop m others) in
+    ap (list_all p) (take-add len (length few) bytes ∙ ap (λ (xs : List ℕ). take len bytes ++ xs) next) ∙ list_all-append p (take len bytes) few
+    ∙ ap₂ (λ (a b : Bool). a && b) so_far more
 
 -- a run of bytes that stand for themselves is put
 pub run_put : (p : ℕ → Bool) (f : ℕ → List ℕ) → ((b : ℕ) → p b ≡ true → f b ≡ b ∷ []) → (before after bytes others : List ℕ) (run : ℕ)

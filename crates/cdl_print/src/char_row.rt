@@ -14,7 +14,7 @@ use crate::progress::{Progress, row_index_after};
 use devices::{Sink, WriteFailed, put};
 use nc_base::Quoting;
 
-/// The most characters of a row that are written at once. Each takes at most four bytes with its escape.
+/// The most characters of a row that are gathered to be written at once. Each takes at most four bytes with its escape.
 const AT_ONCE: usize = 1000;
 
 /// Writes the next characters of a variable, `bytes`, row by row, and moves `progress` past them. Before the first character of a row it
@@ -35,11 +35,7 @@ pub fn put_char_values<W: Sink>(
 {
     let mut rest = bytes;
     while !rest.is_empty() {
-        let (part, others) = rest.split_at(len_in_row(
-            layout.row,
-            progress.row_index,
-            rest.len().min(AT_ONCE),
-        ));
+        let (part, others) = rest.split_at(len_in_row(layout.row, progress.row_index, rest.len()));
         put_next_part(sink, layout, progress, text, part)?;
         rest = others;
     }

@@ -20,32 +20,70 @@ pub fn put_escaped<W: Sink>(sink: &mut W, quoting: Quoting, bytes: &[u8]) -> Res
 {
     let mut rest = bytes;
     while !rest.is_empty() {
-        let (few, others) = rest.split_at(rest.len().min(AT_ONCE));
+        let (plain, others) = rest.split_at(plain_len(quoting, rest));
+        put(sink, plain)?;
+        let (few, more) = others.split_at(others.len().min(AT_ONCE));
         put_few_escaped(sink, quoting, few)?;
-        rest = others;
+        rest = more;
     }
     Ok(())
 }
 
-/// Writes at most [`AT_ONCE`] bytes of a name or of a string (`quoting`) in one piece, each with its escape if it needs one. If they are
-/// from a name and none needs one, as is so in most names, they are written as they are, and not copied first.
+/// Returns a number of bytes at the start of a name or of a string (`quoting`) of which none needs an escape. They are tested by
+/// [`AT_ONCE`], up to the first of these pieces in which one needs one.
+fn plain_len(quoting: Quoting, bytes: &[u8]) -> usize
+    ensures within { result ≤ length bytes.now }
+    ensures plain { list_all (stands_for_itself quoting) (take result bytes.now) ≡ true }
+{
+    let mut len = 0;
+    while len < bytes.len() {
+        let (_, others) = bytes.split_at(len);
+        let (few, _) = others.split_at(others.len().min(AT_ONCE));
+        if !are_plain(quoting, few) {
+            break;
+        }
+        len += few.len();
+    }
+    len
+}
+
+/// Returns true if none of the bytes needs an escape in a name or in a string (`quoting`). It tests all of them, so that the compiler can
+/// use vector instructions.
+fn are_plain(quoting: Quoting, bytes: &[u8]) -> bool
+    ensures { result ≡ list_all (stands_for_itself quoting) bytes.now }
+{
+    let mut all = true;
+    for b in bytes {
+        all = all & is_plain(quoting, *b);
+    }
+    all
+}
+
+/// Returns true if the byte needs no escape in a name or in a string (`quoting`). Returns what [`Quoting::is_plain`] does, but has no
+/// branch for bytes of a string, as [`are_plain`] needs it.
+#[inline(always)]
+fn is_plain(quoting: Quoting, b: u8) -> bool
+    ensures { result ≡ stands_for_itself quoting b }
+{
+    match quoting {
+        Quoting::InName => quoting.is_plain(b),
+        Quoting::InString => {
+            (b >= b' ') & (b != 0x7f) & (b != b'"') & (b != b'\'') & (b != b'\\')
+        }
+    }
+}
+
+/// Writes at most [`AT_ONCE`] bytes of a name or of a string (`quoting`) in one piece, each with its escape if it needs one.
 fn put_few_escaped<W: Sink>(sink: &mut W, quoting: Quoting, bytes: &[u8]) -> Result<(), WriteFailed>
     requires { length bytes.now ≤ 128 }
     ensures { Wrote W.view sink.old sink.new (flat_map (escaped_in quoting) bytes.now) result }
 {
-    if quoting == Quoting::InName && are_plain(quoting, bytes) {
-        return put(sink, bytes);
+    if bytes.is_empty() {
+        return Ok(());
     }
     let mut text = [0; 4 * AT_ONCE + LANES];
     let end = gather_escaped(&mut text, 0, quoting, bytes);
     put(sink, &text[..end])
-}
-
-/// Returns true if none of the bytes needs an escape in a name or in a string (`quoting`).
-fn are_plain(quoting: Quoting, bytes: &[u8]) -> bool
-    ensures { result ≡ list_all (stands_for_itself quoting) bytes.now }
-{
-    bytes.iter().all(|b| quoting.is_plain(*b))
 }
 
 /// Puts bytes of a name or of a string (`quoting`) at the offset `at` of `text`, each with its escape if it needs one, and returns the

@@ -1,9 +1,10 @@
-use Rattle.std.proofs.Common.{sym, ◌∙◌}
-use Rattle.cdl_print.proofs.Prelude.{escaped_in, stands_for_itself}
-use Rattle.cdl_print.proofs.Runs.{flat_map_itself, plain_itself}
+use Rattle.std.proofs.Common.{◌≡◌, ◌∙◌, ◌==◌, ℕ, List, true, sym, [], ◌∷◌, refl, length, arith}
+use Rattle.cdl_print.proofs.Begun.{appended_none}
 use Rattle.cdl_print.proofs.escaped.put_few_escaped.Goals as goal
 
-pub returns-then-are_plain : goal.returns-then-are_plain
-returns-then-are_plain g c =
-    let q = c.args.quoting in
-    rw (flat_map_itself (stands_for_itself q) (escaped_in q) (plain_itself q) c.args.bytes.now (sym c.are_plain.ensures ∙ c.if-are_plain.true)) c.put.ensures
+no_bytes : (bs : List ℕ) → (length bs == 0) ≡ true → bs ≡ []
+no_bytes [] h = refl
+no_bytes (b ∷ bs) h = grind (arith, h)
+
+pub returns-then-is_empty : goal.returns-then-is_empty
+returns-then-is_empty g c = rw (no_bytes c.args.bytes.now (sym c.is_empty.ensures ∙ c.if-is_empty.true)) (appended_none (g.W.Sink.view c.args.sink.now))
