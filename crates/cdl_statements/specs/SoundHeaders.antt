@@ -8,7 +8,7 @@ use Rattle.nc_base.specs.Sizes.{slab_size, record_size, slab_limit, record_limit
 use Rattle.nc_base.specs.Types.{size_of}
 use Rattle.nc_base.specs.Versions.{count_limit, has_type}
 
--- the version can count so many
+-- the version can count this number of elements
 abbrev pub is_countable : Version → ℕ → Bool
 is_countable v n = nat_lt n (count_limit v)
 
