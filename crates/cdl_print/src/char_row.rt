@@ -120,7 +120,8 @@ fn held_nuls_after(held_nuls: u128, row_index: u128, count: u128, shown: u128) -
 }
 
 /// Writes the lead, which is what [`Layout::put_char_lead`] puts, then the NULs that were held back, and then the characters of `shown`. If
-/// there are none of these, only the lead is written. Unless NULs were held back, all of it is gathered in `text`, and written in one piece.
+/// there are none of these, only the lead is written. Unless NULs were held back or there are more than [`AT_ONCE`] characters, all of it is
+/// gathered in `text`, and written in one piece.
 #[tactic(auto, using(devices::proofs::Writes::writes, crate::proofs::CharRows::none_before))]
 fn put_shown_with_lead<W: Sink>(
     sink: &mut W,

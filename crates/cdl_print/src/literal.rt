@@ -11,8 +11,8 @@ use std::simd::prelude::*;
 /// The number of bytes that are tested at once.
 pub const LANES: usize = 16;
 
-/// The bytes from 0x20 on that need an escape, each at the index that its lower four bits are. An index that none of them has has a byte
-/// with other lower bits.
+/// The bytes from 0x20 on that need an escape, each at the index that its lower four bits give. Any other index holds a byte whose lower four
+/// bits give another index, so that no byte equals what it finds there.
 const ESCAPED: [u8; 16] = [1, 0, b'"', 0, 0, 0, 0, b'\'', 0, 0, 0, 0, b'\\', 0, 0, 0x7f];
 
 /// Returns how many bytes of the vector come before the first one that needs an escape in a string, or 16 if none needs one.
