@@ -1,6 +1,7 @@
 pub mod Words
 pub mod Shown
 pub mod Paths
+pub mod Messages
 pub mod Details
 pub mod Lines
 pub mod code

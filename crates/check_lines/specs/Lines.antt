@@ -1,13 +1,11 @@
 -- Definition. The line of a finding, `FILE:OFFSET: SEVERITY: KIND: PATH`, with `: found F, expected E` where its kind has them; and the lines
 -- of a report.
-use Rattle.std.specs.Prelude.{ℕ, ◌+◌, ◌&&◌, not, Bool, true, false, if◌then◌else◌, List, [], ◌∷◌, codes, decimal, take, Option, Some, None, slice_get, Result}
+use Rattle.std.specs.Prelude.{ℕ, ◌+◌, ◌&&◌, not, Bool, true, false, if◌then◌else◌, List, [], ◌∷◌, codes, decimal, take, Option, Some, None, slice_get}
 use Rattle.std.specs.List.{list_any}
 use Rattle.std.specs.Option.{option_and_then}
 use Rattle.std.specs.Str.{bytes_eq}
 use Rattle.nc_base.specs.Bytes.{Bytes, concat_parts}
-use Rattle.nc_base.specs.declared.{fault.FormatFault.FormatFault, header.Header.Header}
 use Rattle.nc_fields.specs.declared.{entry.Entry.Entry, header.Listing.Listing}
-use Rattle.nc_layout.specs.declared.finding.LayoutFact.{LayoutFact}
 use Rattle.nc_layout.specs.declared.finding.LayoutFact.TheVariants as layout
 use Rattle.nc_report.specs.Kinds.{kind_of, severity_of}
 use Rattle.nc_report.specs.declared.{finding.Fact.Fact, finding.Finding.Finding, kind.Kind.Kind, kind.Severity.Severity}
@@ -18,19 +16,11 @@ use Rattle.check_lines.specs.Paths.{KnownNames, field_path, names_after, no_name
 use Rattle.check_lines.specs.Shown.{shown_path}
 use Rattle.check_lines.specs.Words.{each_of, kind_word, severity_word}
 
--- of the layout, in the data: at a slab that isn't whole, or anywhere
-abbrev pub layout_path : Result Header FormatFault → LayoutFact → Bytes
-layout_path header (layout.Missing n end of) = slab_path header of
-layout_path header x = codes "data"
-
-abbrev pub data_path : Result Header FormatFault → Fact → Bytes
-data_path header (fact.Layout x) = layout_path header x
-data_path header x = codes "data"
-
--- at a field, with the names that are known there, or in the data
+-- at a field, with the names that are known there, or in the data: at a slab that isn't whole, or anywhere
 unfoldable pub path : Listing → KnownNames → Option Entry → Fact → Bytes
 path l names (Some e) x = field_path names e.place
-path l names None x = data_path l.header x
+path l names None (fact.Layout (layout.Missing n end of)) = slab_path l.header of
+path l names None x = codes "data"
 
 -- the field at which it is found
 abbrev pub entry_of : Listing → Finding → Option Entry

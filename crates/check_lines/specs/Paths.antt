@@ -1,6 +1,6 @@
 -- Definition. Paths: the words that say where a finding lies. A path names what a field belongs to by its number, and by its name too, once
 -- the bytes of the name were read.
-use Rattle.std.specs.Prelude.{ℕ, Bool, true, false, if◌then◌else◌, List, [], ◌∷◌, codes, fold, Option, Some, None, option_map, slice_get, Result, Ok, Err}
+use Rattle.std.specs.Prelude.{ℕ, List, [], ◌∷◌, codes, decimal, fold, Option, Some, None, option_map, slice_get, Result, Ok, Err}
 use Rattle.nc_base.specs.Bytes.{Bytes, concat_parts}
 use Rattle.nc_base.specs.declared.{fault.FormatFault.FormatFault, header.Header.Header, header.Var.Var}
 use Rattle.nc_fields.specs.declared.{place.Owner.Owner, place.FieldName.FieldName, place.Place.Place, entry.Content.Content, entry.Entry.Entry}
@@ -11,7 +11,6 @@ use Rattle.nc_layout.specs.declared.{finding.Block.Block, finding.Slab.Slab}
 use Rattle.nc_layout.specs.declared.finding.Block.TheVariants as block
 use Rattle.nc_layout.specs.declared.finding.Slab.TheVariants as slab
 use Rattle.check_lines.specs.Shown.{shown_name}
-use Rattle.check_lines.specs.Words.{around, field_word}
 
 -- ---- names
 
@@ -23,15 +22,9 @@ pub record KnownNames : Type 0 where
 abbrev pub no_names : KnownNames
 no_names = record { element = None; att = None }
 
--- a name begins at this field, or it is its bytes
-abbrev pub is_of_name : FieldName → Bool
-is_of_name name.NameLength = true
-is_of_name name.Name = true
-is_of_name field = false
-
-abbrev pub name_in : FieldName → Content → Option Bytes
-name_in name.Name (content.Bytes bytes) = Some bytes
-name_in field c = None
+abbrev pub bytes_in : Content → Option Bytes
+bytes_in (content.Bytes bytes) = Some bytes
+bytes_in c = None
 
 -- with this name of what has this owner's place
 abbrev pub renamed : Owner → Option Bytes → KnownNames → KnownNames
@@ -41,10 +34,15 @@ renamed (owner.GlobalAtt i) bytes names = record names { element = bytes }
 renamed (owner.Var i) bytes names = record names { element = bytes }
 renamed (owner.VarAtt i k) bytes names = record names { att = bytes }
 
+-- once a field of this name was read: a name begins at its length, and is known after its bytes
+abbrev pub names_with : FieldName → Owner → Content → KnownNames → KnownNames
+names_with name.NameLength owner c names = renamed owner None names
+names_with name.Name owner c names = renamed owner (bytes_in c) names
+names_with field owner c names = names
+
 -- after one more field
 unfoldable pub with_field : KnownNames → Entry → KnownNames
-with_field names entry =
-    if is_of_name entry.place.name then renamed entry.place.owner (name_in entry.place.name entry.content) names else names
+with_field names entry = names_with entry.place.name entry.place.owner entry.content names
 
 -- after these fields, the first ones of a header
 abbrev pub names_after : List Entry → KnownNames
@@ -59,7 +57,33 @@ quoted (Some name) = concat_parts (codes " " ∷ shown_name name ∷ [])
 
 -- an element of a list: `dim[`, for one, and the number and the name of a dimension
 unfoldable pub element : Bytes → ℕ → Option Bytes → Bytes
-element word i name = concat_parts (around word i (codes "]") ∷ quoted name ∷ [])
+element word i name = concat_parts (word ∷ decimal i ∷ codes "]" ∷ quoted name ∷ [])
+
+-- a field, without what it belongs to
+unfoldable pub field_word : FieldName → Bytes
+field_word name.Magic = codes "magic"
+field_word name.Version = codes "version"
+field_word name.NumRecs = codes "numrecs"
+field_word name.DimsTag = codes "dims tag"
+field_word name.DimsCount = codes "dims count"
+field_word name.GlobalAttsTag = codes "gatts tag"
+field_word name.GlobalAttsCount = codes "gatts count"
+field_word name.VarsTag = codes "vars tag"
+field_word name.VarsCount = codes "vars count"
+field_word name.NameLength = codes "name length"
+field_word name.Name = codes "name"
+field_word name.NamePadding = codes "name padding"
+field_word name.Length = codes "length"
+field_word name.Type = codes "type"
+field_word name.Count = codes "count"
+field_word name.Values = codes "values"
+field_word name.Padding = codes "padding"
+field_word name.Rank = codes "rank"
+field_word (name.DimId k) = element (codes "dimid[") k None
+field_word name.AttsTag = codes "atts tag"
+field_word name.AttsCount = codes "atts count"
+field_word name.Vsize = codes "vsize"
+field_word name.Begin = codes "begin"
 
 -- with a space after it
 unfoldable pub element_part : Bytes → ℕ → Option Bytes → Bytes
@@ -91,4 +115,4 @@ block_path header block.Records = codes "the records"
 
 unfoldable pub slab_path : Result Header FormatFault → Slab → Bytes
 slab_path header (slab.Var i) = var_path header i
-slab_path header (slab.Record i n) = concat_parts (var_path header i ∷ around (codes " record ") n [] ∷ [])
+slab_path header (slab.Record i n) = concat_parts (var_path header i ∷ codes " record " ∷ decimal n ∷ [])

@@ -1,8 +1,6 @@
--- Definition. The words of severities, of kinds of findings, and of fields.
-use Rattle.std.specs.Prelude.{ℕ, List, [], ◌∷◌, codes, decimal, map}
+-- Definition. The words of severities and of kinds of findings.
+use Rattle.std.specs.Prelude.{List, codes, map}
 use Rattle.nc_base.specs.Bytes.{Bytes, concat_parts}
-use Rattle.nc_fields.specs.declared.place.FieldName.{FieldName}
-use Rattle.nc_fields.specs.declared.place.FieldName.TheVariants as name
 use Rattle.nc_report.specs.declared.{kind.Kind.Kind, kind.Severity.Severity}
 use Rattle.nc_report.specs.declared.kind.Kind.TheVariants.{NotNetcdf, Hdf5, Gzip, EmptyFile, UnknownVersion, HeaderTruncated, BadTag, BadCount, BadName, NameCharacters, FloatingType, BadType, BadShape, TwoRecordDims, TooLarge, BadOffset, LargeCount, Streaming, UnusedRecords, EmptyList, LongName, DuplicateName, NotNfc, Padding, EmptyAttribute, TrailingNul, FillValue, HighRank, Vsize, LargeVariable, BeginInHeader, Overlap, Unpadded, Order, AfterRecords, RecordPlace, Gap, Missing, EndPadding, Trailing}
 use Rattle.nc_report.specs.declared.kind.Severity.TheVariants.{Error, Violation, Note}
@@ -57,33 +55,3 @@ kind_word Trailing = codes "trailing"
 -- the texts of these elements, one after the other
 abbrev pub each_of : {X : Type 0} → (X → Bytes) → List X → Bytes
 each_of text xs = concat_parts (map text xs)
-
--- a number between two words
-unfoldable pub around : Bytes → ℕ → Bytes → Bytes
-around before n after = concat_parts (before ∷ decimal n ∷ after ∷ [])
-
--- a field, without what it belongs to
-unfoldable pub field_word : FieldName → Bytes
-field_word name.Magic = codes "magic"
-field_word name.Version = codes "version"
-field_word name.NumRecs = codes "numrecs"
-field_word name.DimsTag = codes "dims tag"
-field_word name.DimsCount = codes "dims count"
-field_word name.GlobalAttsTag = codes "gatts tag"
-field_word name.GlobalAttsCount = codes "gatts count"
-field_word name.VarsTag = codes "vars tag"
-field_word name.VarsCount = codes "vars count"
-field_word name.NameLength = codes "name length"
-field_word name.Name = codes "name"
-field_word name.NamePadding = codes "name padding"
-field_word name.Length = codes "length"
-field_word name.Type = codes "type"
-field_word name.Count = codes "count"
-field_word name.Values = codes "values"
-field_word name.Padding = codes "padding"
-field_word name.Rank = codes "rank"
-field_word (name.DimId k) = around (codes "dimid[") k (codes "]")
-field_word name.AttsTag = codes "atts tag"
-field_word name.AttsCount = codes "atts count"
-field_word name.Vsize = codes "vsize"
-field_word name.Begin = codes "begin"

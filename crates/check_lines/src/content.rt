@@ -1,34 +1,25 @@
 //! The content of a field, as a line tells it.
 
-ghost use Rattle.std.specs.Prelude.{◌≡◌, ◌<◌, ◌∷◌, [], codes};
+ghost use Rattle.std.specs.Prelude.{◌≡◌, ◌<◌};
 ghost use Rattle.devices.specs.code.SinkWrites.{Wrote};
-ghost use Rattle.check_lines.specs.Details.{content_text, expected_word, expected_zeros, found_content, found_type, hex_byte, hex_digit, type_word, zeros_text};
+ghost use Rattle.check_lines.specs.Messages.{content_text, digits, hex_byte, hex_digit, hex_text, type_text, type_word, zeros_text};
 ghost use Rattle.check_lines.specs.Words.{each_of};
 
 use devices::{Sink, WriteFailed, put, put_decimal};
 use nc_fields::Content;
 
-/// Writes that the content of a field is found.
-#[tactic(auto, using(devices::proofs::Writes::writes), unfolding(crate::specs::Details::found_content))]
-pub(crate) fn put_found_content<W: Sink>(sink: &mut W, content: &Content) -> Result<(), WriteFailed>
-    ensures { Wrote W.view sink.old sink.new (found_content content.now) result }
+/// Writes the content of a field that is a type code, with the type's word.
+#[tactic(auto, using(devices::proofs::Writes::writes), unfolding(crate::specs::Messages::type_text))]
+pub(crate) fn put_type<W: Sink>(sink: &mut W, content: &Content) -> Result<(), WriteFailed>
+    ensures { Wrote W.view sink.old sink.new (type_text content.now) result }
 {
-    put(sink, b": found ")?;
-    put_content(sink, content)
-}
-
-/// Writes that the content of a field is found, which is a type code, with the type's word.
-#[tactic(auto, using(devices::proofs::Writes::writes), unfolding(crate::specs::Details::found_type))]
-pub(crate) fn put_found_type<W: Sink>(sink: &mut W, content: &Content) -> Result<(), WriteFailed>
-    ensures { Wrote W.view sink.old sink.new (found_type content.now) result }
-{
-    put_found_content(sink, content)?;
+    put_content(sink, content)?;
     put(sink, type_word(content.number()).as_bytes())
 }
 
 /// Returns the word for a type code, in brackets, or nothing for another number.
-#[tactic(auto, unfolding(crate::specs::Details::type_word))]
-pub(crate) fn type_word(code: u64) -> &'static str
+#[tactic(auto, unfolding(crate::specs::Messages::type_word))]
+fn type_word(code: u64) -> &'static str
     ensures { result.now ≡ type_word code }
 {
     match code {
@@ -48,80 +39,53 @@ pub(crate) fn type_word(code: u64) -> &'static str
 }
 
 /// Writes a number in decimal, or bytes in hexadecimal; nothing for other contents.
-#[tactic(auto, using(devices::proofs::Writes::writes), unfolding(crate::specs::Details::content_text))]
-fn put_content<W: Sink>(sink: &mut W, content: &Content) -> Result<(), WriteFailed>
+#[tactic(auto, using(devices::proofs::Writes::writes), unfolding(crate::specs::Messages::content_text))]
+pub(crate) fn put_content<W: Sink>(sink: &mut W, content: &Content) -> Result<(), WriteFailed>
     ensures { Wrote W.view sink.old sink.new (content_text content.now) result }
 {
     match content {
         Content::Number(n) => put_decimal(sink, *n as u128),
-        Content::Bytes(bytes) => {
-            put(sink, b"0x")?;
-            put_hex(sink, bytes.as_slice())
-        }
+        Content::Bytes(bytes) => put_hex(sink, bytes.as_slice(), false),
         Content::Values { .. } | Content::Cut => Ok(()),
     }
 }
 
-/// Writes that as many zeros are expected as the content has bytes.
-#[tactic(auto, using(devices::proofs::Writes::writes), unfolding(crate::specs::Details::expected_zeros))]
-pub(crate) fn put_expected_zeros<W: Sink>(
-    sink: &mut W,
-    content: &Content,
-) -> Result<(), WriteFailed>
-    ensures { Wrote W.view sink.old sink.new (expected_zeros content.now) result }
-{
-    put(sink, expected_word())?;
-    put_zeros(sink, content)
-}
-
-/// Returns what stands before what is expected.
-#[tactic(auto, unfolding(crate::specs::Details::expected_word))]
-pub(crate) fn expected_word() -> &'static [u8]
-    ensures { result.now ≡ expected_word }
-{
-    b", expected "
-}
-
 /// Writes as many zeros in hexadecimal as the content has bytes.
-#[tactic(auto, using(devices::proofs::Writes::writes), unfolding(crate::specs::Details::zeros_text))]
-fn put_zeros<W: Sink>(sink: &mut W, content: &Content) -> Result<(), WriteFailed>
+#[tactic(auto, using(devices::proofs::Writes::writes), unfolding(crate::specs::Messages::zeros_text))]
+pub(crate) fn put_zeros<W: Sink>(sink: &mut W, content: &Content) -> Result<(), WriteFailed>
     ensures { Wrote W.view sink.old sink.new (zeros_text content.now) result }
 {
     match content {
-        Content::Bytes(bytes) => {
-            put(sink, b"0x")?;
-            put_zero_for_each(sink, bytes.as_slice())
-        }
+        Content::Bytes(bytes) => put_hex(sink, bytes.as_slice(), true),
         Content::Number(_) | Content::Values { .. } | Content::Cut => Ok(()),
     }
 }
 
-/// Writes a zero byte in hexadecimal for each byte.
-#[tactic(auto, using(devices::proofs::Writes::writes))]
-fn put_zero_for_each<W: Sink>(sink: &mut W, bytes: &[u8]) -> Result<(), WriteFailed>
-    ensures { Wrote W.view sink.old sink.new (each_of (λ b. codes "00") bytes.now) result }
+/// Writes bytes in hexadecimal, or, if `is_zero` is true, as many that are 0.
+#[tactic(auto, using(devices::proofs::Writes::writes), unfolding(crate::specs::Messages::hex_text))]
+fn put_hex<W: Sink>(sink: &mut W, bytes: &[u8], is_zero: bool) -> Result<(), WriteFailed>
+    ensures { Wrote W.view sink.old sink.new (hex_text is_zero bytes.now) result }
 {
-    for _b in bytes {
-        put(sink, b"00")?;
-    }
-    Ok(())
+    put(sink, b"0x")?;
+    put_digits(sink, bytes, is_zero)
 }
 
-/// Writes bytes in hexadecimal.
+/// Writes two hexadecimal digits for each byte.
 #[tactic(auto, using(devices::proofs::Writes::writes))]
-fn put_hex<W: Sink>(sink: &mut W, bytes: &[u8]) -> Result<(), WriteFailed>
-    ensures { Wrote W.view sink.old sink.new (each_of hex_byte bytes.now) result }
+fn put_digits<W: Sink>(sink: &mut W, bytes: &[u8], is_zero: bool) -> Result<(), WriteFailed>
+    ensures { Wrote W.view sink.old sink.new (each_of (digits is_zero) bytes.now) result }
 {
     for b in bytes {
-        put_hex_byte(sink, *b)?;
+        put_hex_byte(sink, *b, is_zero)?;
     }
     Ok(())
 }
 
-/// Writes a byte as two hexadecimal digits.
-fn put_hex_byte<W: Sink>(sink: &mut W, b: u8) -> Result<(), WriteFailed>
-    ensures { Wrote W.view sink.old sink.new (hex_byte b) result }
+/// Writes a byte as two hexadecimal digits, or 0 in its place.
+fn put_hex_byte<W: Sink>(sink: &mut W, b: u8, is_zero: bool) -> Result<(), WriteFailed>
+    ensures { Wrote W.view sink.old sink.new (digits is_zero b) result }
 {
+    let b = if is_zero { 0 } else { b };
     put(sink, &[hex_digit(b / 16), hex_digit(b % 16)])
 }
 

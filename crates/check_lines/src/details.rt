@@ -2,19 +2,16 @@
 
 ghost use Rattle.std.specs.Prelude.{◌≡◌};
 ghost use Rattle.devices.specs.code.SinkWrites.{Wrote};
-ghost use Rattle.check_lines.specs.Details.{details, expected_at, expected_type, found_at, of_variable, owner_number, owner_number_at};
+ghost use Rattle.check_lines.specs.Details.{details, field_message, owner_number, owner_number_at};
 ghost use Rattle.check_lines.specs.code.Names.{entry_in};
+ghost use Rattle.check_lines.specs.code.Written.{message_of};
 
-use crate::content::{
-    expected_word, put_expected_zeros, put_found_content, put_found_type, type_word,
-};
-use crate::fault_details::{put_expected_below, put_expected_with_fault, put_found_with_fault};
-use crate::layout_details::{
-    put_at_most, put_expected, put_expected_in_layout, put_found_in_layout, put_layout_details,
-};
-use crate::number::put_around;
-use devices::{Sink, WriteFailed, put, put_decimal};
-use nc_fields::{Entry, Listing, Owner};
+use crate::fault_message::{below, fault_message};
+use crate::layout_message::layout_message;
+use crate::message::Part::{FieldContent, FieldType, FieldZeros, Nothing, Number, TypeCode};
+use crate::message::{CONTENT, Message, NO_PARTS, put_message};
+use devices::{Sink, WriteFailed};
+use nc_fields::{Content, Entry, Listing, Owner};
 use nc_report::{Fact, HIGHEST_RANK, LARGE_COUNT, LONGEST_NAME};
 
 /// Writes what a fact says of what is found at a field, or in the data, and of what is expected in its place.
@@ -29,87 +26,59 @@ pub(crate) fn put_details<W: Sink>(
 {
     match entry {
         Some(entry) => {
-            put_found_at(sink, listing, entry, fact)?;
-            put_expected_at(sink, listing, entry, fact)
+            let message = field_message(listing, entry, fact);
+            put_message(sink, &listing.header, &entry.content, message)
         }
         None => match fact {
-            Fact::Layout(fact) => put_layout_details(sink, &listing.header, fact),
+            Fact::Layout(fact) => {
+                put_message(sink, &listing.header, &Content::Cut, layout_message(fact))
+            }
             _ => Ok(()),
         },
     }
 }
 
-/// Writes what is found at a field.
-#[tactic(auto, using(devices::proofs::Writes::writes), unfolding(crate::specs::Details::found_at))]
-fn put_found_at<W: Sink>(
-    sink: &mut W,
-    listing: &Listing,
-    entry: &Entry,
-    fact: Fact,
-) -> Result<(), WriteFailed>
-    ensures { Wrote W.view sink.old sink.new (found_at listing.now entry.now fact) result }
+/// Returns what is found at a field, and what is expected in its place.
+fn field_message(listing: &Listing, entry: &Entry, fact: Fact) -> Message
+    ensures { message_of result ≡ field_message listing.now entry.now fact }
 {
-    match fact {
-        Fact::Fault(fault) => put_found_with_fault(sink, listing.file_len, entry, fault),
+    let (text, parts) = match fact {
+        Fact::Fault(fault) => return fault_message(listing, entry, fault),
+        Fact::Hdf5 => (": found _", CONTENT),
+        Fact::Gzip => (": found 0x1f8b", NO_PARTS),
+        Fact::EmptyFile => (": found 0 bytes", NO_PARTS),
+        Fact::NameCharacters | Fact::NotNfc | Fact::TrailingNul => ("", NO_PARTS),
+        Fact::LargeCount => return below(LARGE_COUNT),
+        Fact::EmptyList => (": found _, expected 0", CONTENT),
+        Fact::LongName => (
+            ": found _, expected at most _",
+            [FieldContent, Number(LONGEST_NAME), Nothing],
+        ),
         Fact::DuplicateName { first } => {
             let number = owner_number_at(listing.entries.as_slice(), first);
-            put_around(sink, b": found the name of number ", number as u128, b"")
+            (
+                ": found the name of number _",
+                [Number(number), Nothing, Nothing],
+            )
         }
-        Fact::Gzip => put(sink, b": found 0x1f8b"),
-        Fact::EmptyFile => put(sink, b": found 0 bytes"),
-        Fact::NameCharacters | Fact::NotNfc | Fact::TrailingNul => Ok(()),
-        Fact::FillType { .. } => put_found_type(sink, &entry.content),
-        Fact::Layout(fact) => put_found_in_layout(sink, &listing.header, fact),
-        _ => put_found_content(sink, &entry.content),
-    }
-}
-
-/// Writes what is expected at a field.
-#[tactic(auto, using(devices::proofs::Writes::writes), unfolding(crate::specs::Details::expected_at))]
-fn put_expected_at<W: Sink>(
-    sink: &mut W,
-    listing: &Listing,
-    entry: &Entry,
-    fact: Fact,
-) -> Result<(), WriteFailed>
-    ensures { Wrote W.view sink.old sink.new (expected_at listing.now entry.now fact) result }
-{
-    match fact {
-        Fact::Fault(fault) => {
-            put_expected_with_fault(sink, listing.entries.as_slice(), entry, fault)
-        }
-        Fact::Hdf5 | Fact::Gzip | Fact::EmptyFile | Fact::NameCharacters => Ok(()),
-        Fact::LargeCount => put_expected_below(sink, LARGE_COUNT),
-        Fact::EmptyList => put_expected(sink, 0),
-        Fact::LongName => put_at_most(sink, LONGEST_NAME),
-        Fact::DuplicateName { .. } | Fact::NotNfc | Fact::TrailingNul => Ok(()),
-        Fact::Padding => put_expected_zeros(sink, &entry.content),
-        Fact::EmptyAttribute => put_around(sink, b", expected at least ", 1, b""),
-        Fact::FillType { expected } => put_expected_type(sink, expected),
-        Fact::FillCount => put_expected(sink, 1),
-        Fact::HighRank => put_at_most(sink, HIGHEST_RANK),
-        Fact::Vsize { expected } => put_expected(sink, expected as u128),
-        Fact::Layout(fact) => put_expected_in_layout(sink, &listing.header, fact),
-    }
-}
-
-/// Writes that the type of the variable is expected, which has this code.
-#[tactic(auto, using(devices::proofs::Writes::writes), unfolding(crate::specs::Details::expected_type))]
-fn put_expected_type<W: Sink>(sink: &mut W, code: u64) -> Result<(), WriteFailed>
-    ensures { Wrote W.view sink.old sink.new (expected_type code) result }
-{
-    put(sink, expected_word())?;
-    put_decimal(sink, code as u128)?;
-    put(sink, type_word(code).as_bytes())?;
-    put(sink, of_variable())
-}
-
-/// Returns what stands after the type of a variable.
-#[tactic(auto, unfolding(crate::specs::Details::of_variable))]
-fn of_variable() -> &'static [u8]
-    ensures { result.now ≡ of_variable }
-{
-    b", the variable's type"
+        Fact::Padding => (": found _, expected _", [FieldContent, FieldZeros, Nothing]),
+        Fact::EmptyAttribute => (": found _, expected at least 1", CONTENT),
+        Fact::FillType { expected } => (
+            ": found _, expected _, the variable's type",
+            [FieldType, TypeCode(expected), Nothing],
+        ),
+        Fact::FillCount => (": found _, expected 1", CONTENT),
+        Fact::HighRank => (
+            ": found _, expected at most _",
+            [FieldContent, Number(HIGHEST_RANK), Nothing],
+        ),
+        Fact::Vsize { expected } => (
+            ": found _, expected _",
+            [FieldContent, Number(expected), Nothing],
+        ),
+        Fact::Layout(fact) => return layout_message(fact),
+    };
+    Message { text, parts }
 }
 
 /// Returns the number of what the field of this index belongs to, or 0 if there is no such field.
@@ -128,9 +97,7 @@ fn owner_number(owner: Owner) -> u64
 {
     match owner {
         Owner::Header => 0,
-        Owner::Dim(i) => i,
-        Owner::GlobalAtt(i) => i,
-        Owner::Var(i) => i,
+        Owner::Dim(i) | Owner::GlobalAtt(i) | Owner::Var(i) => i,
         Owner::VarAtt { att, .. } => att,
     }
 }

@@ -2,16 +2,14 @@
 
 ghost use Rattle.std.specs.Prelude.{◌≡◌};
 ghost use Rattle.devices.specs.code.SinkWrites.{Wrote};
-ghost use Rattle.check_lines.specs.Paths.{block_path, element, element_part, field_path, owner_path, quoted, slab_path, var_name, var_path};
+ghost use Rattle.check_lines.specs.Paths.{block_path, element, element_part, field_path, field_word, owner_path, quoted, slab_path, var_name, var_path};
 ghost use Rattle.check_lines.specs.code.Names.{bytes_of, known};
 
 use crate::known_names::Names;
-use crate::number::put_around;
 use crate::shown::put_name;
-use crate::words::put_field_word;
-use devices::{Sink, WriteFailed, put};
+use devices::{Sink, WriteFailed, put, put_decimal};
 use nc_base::{FormatFault, Header};
-use nc_fields::{Owner, Place};
+use nc_fields::{FieldName, Owner, Place};
 use nc_layout::{Block, Slab};
 
 /// Writes the path of a field, with the names that are known at it.
@@ -68,7 +66,9 @@ fn put_element<W: Sink>(
 ) -> Result<(), WriteFailed>
     ensures { Wrote W.view sink.old sink.new (element word.now i (bytes_of name.entry)) result }
 {
-    put_around(sink, word, i as u128, b"]")?;
+    put(sink, word)?;
+    put_decimal(sink, i as u128)?;
+    put(sink, b"]")?;
     put_quoted(sink, name)
 }
 
@@ -82,6 +82,38 @@ fn put_quoted<W: Sink>(sink: &mut W, name: Option<&[u8]>) -> Result<(), WriteFai
     };
     put(sink, b" ")?;
     put_name(sink, name)
+}
+
+/// Writes the words of a field, without what it belongs to.
+#[tactic(auto, unfolding(crate::specs::Paths::field_word))]
+fn put_field_word<W: Sink>(sink: &mut W, name: FieldName) -> Result<(), WriteFailed>
+    ensures { Wrote W.view sink.old sink.new (field_word name) result }
+{
+    match name {
+        FieldName::Magic => put(sink, b"magic"),
+        FieldName::Version => put(sink, b"version"),
+        FieldName::NumRecs => put(sink, b"numrecs"),
+        FieldName::DimsTag => put(sink, b"dims tag"),
+        FieldName::DimsCount => put(sink, b"dims count"),
+        FieldName::GlobalAttsTag => put(sink, b"gatts tag"),
+        FieldName::GlobalAttsCount => put(sink, b"gatts count"),
+        FieldName::VarsTag => put(sink, b"vars tag"),
+        FieldName::VarsCount => put(sink, b"vars count"),
+        FieldName::NameLength => put(sink, b"name length"),
+        FieldName::Name => put(sink, b"name"),
+        FieldName::NamePadding => put(sink, b"name padding"),
+        FieldName::Length => put(sink, b"length"),
+        FieldName::Type => put(sink, b"type"),
+        FieldName::Count => put(sink, b"count"),
+        FieldName::Values => put(sink, b"values"),
+        FieldName::Padding => put(sink, b"padding"),
+        FieldName::Rank => put(sink, b"rank"),
+        FieldName::DimId(k) => put_element(sink, b"dimid[", k, None),
+        FieldName::AttsTag => put(sink, b"atts tag"),
+        FieldName::AttsCount => put(sink, b"atts count"),
+        FieldName::Vsize => put(sink, b"vsize"),
+        FieldName::Begin => put(sink, b"begin"),
+    }
 }
 
 /// Writes the path of a variable, with its name if the header is whole.
@@ -137,7 +169,8 @@ pub(crate) fn put_slab_path<W: Sink>(
         Slab::Var(i) => put_var_path(sink, header, i),
         Slab::Record { var, record } => {
             put_var_path(sink, header, var)?;
-            put_around(sink, b" record ", record as u128, b"")
+            put(sink, b" record ")?;
+            put_decimal(sink, record as u128)
         }
     }
 }

@@ -1,7 +1,7 @@
 //! The names that are known while the fields of a header are passed.
 
 ghost use Rattle.std.specs.Prelude.{◌≡◌};
-ghost use Rattle.check_lines.specs.Paths.{is_of_name, name_in, no_names, renamed, with_field};
+ghost use Rattle.check_lines.specs.Paths.{bytes_in, no_names, renamed, with_field};
 ghost use Rattle.check_lines.specs.code.Names.{bytes_of, known};
 
 use nc_fields::{Content, Entry, FieldName, Owner};
@@ -30,27 +30,19 @@ pub(crate) fn no_names<'a>() -> Names<'a>
 pub(crate) fn with_field<'a>(names: Names<'a>, entry: &'a Entry) -> Names<'a>
     ensures { known result ≡ with_field (known names.entry) entry.entry.now }
 {
-    if is_of_name(entry.place.name) {
-        let name = name_in(entry.place.name, &entry.content);
-        renamed(entry.place.owner, name, names)
-    } else {
-        names
+    match entry.place.name {
+        FieldName::NameLength => renamed(entry.place.owner, None, names),
+        FieldName::Name => renamed(entry.place.owner, bytes_in(&entry.content), names),
+        _ => names,
     }
 }
 
-/// Returns true if a name begins at this field, or if it is the bytes of a name.
-fn is_of_name(name: FieldName) -> bool
-    ensures { result ≡ is_of_name name }
+/// Returns the bytes that a field is, if it is bytes.
+fn bytes_in<'a>(content: &'a Content) -> Option<&'a [u8]>
+    ensures { bytes_of result ≡ bytes_in content.entry.now }
 {
-    matches!(name, FieldName::NameLength | FieldName::Name)
-}
-
-/// Returns the name that this field is, if it is one and was read.
-fn name_in<'a>(name: FieldName, content: &'a Content) -> Option<&'a [u8]>
-    ensures { bytes_of result ≡ name_in name content.entry.now }
-{
-    match (name, content) {
-        (FieldName::Name, Content::Bytes(bytes)) => Some(bytes.as_slice()),
+    match content {
+        Content::Bytes(bytes) => Some(bytes.as_slice()),
         _ => None,
     }
 }

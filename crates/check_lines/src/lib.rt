@@ -9,13 +9,13 @@
 
 mod content;
 mod details;
-mod fault_details;
+mod fault_message;
 mod field_path;
 mod filter;
 mod known_names;
-mod layout_details;
+mod layout_message;
 mod line;
-mod number;
+mod message;
 mod passed;
 mod report_lines;
 mod shown;

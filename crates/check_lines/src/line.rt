@@ -2,7 +2,7 @@
 
 ghost use Rattle.std.specs.Prelude.{◌≡◌};
 ghost use Rattle.devices.specs.code.SinkWrites.{Wrote};
-ghost use Rattle.check_lines.specs.Lines.{data_path, entry_of, kind_text, layout_path, line_with, path, position_text};
+ghost use Rattle.check_lines.specs.Lines.{entry_of, kind_text, line_with, path, position_text};
 ghost use Rattle.check_lines.specs.code.Names.{entry_in, known};
 
 use crate::details::put_details;
@@ -11,7 +11,6 @@ use crate::known_names::Names;
 use crate::shown::put_file;
 use crate::words::{kind_word, severity_word};
 use devices::{Sink, WriteFailed, put, put_decimal};
-use nc_base::{FormatFault, Header};
 use nc_fields::{Entry, Listing};
 use nc_layout::LayoutFact;
 use nc_report::{Fact, Finding, Kind};
@@ -66,7 +65,7 @@ fn entry_of<'a>(listing: &'a Listing, finding: &Finding) -> Option<&'a Entry>
     listing.entries.as_slice().get(i as usize)
 }
 
-/// Writes the path of a fact at a field, with the names that are known there, or in the data.
+/// Writes the path of a fact at a field, with the names that are known there, or in the data: that of a slab that isn't whole, or the data.
 #[tactic(auto, unfolding(crate::specs::Lines::path))]
 fn put_path<W: Sink>(
     sink: &mut W,
@@ -78,36 +77,11 @@ fn put_path<W: Sink>(
     ensures { Wrote W.view sink.old sink.new
         (path listing.now (known names.entry) (entry_in entry.entry) fact) result }
 {
-    match entry {
-        Some(entry) => put_field_path(sink, names, entry.place),
-        None => put_data_path(sink, &listing.header, fact),
-    }
-}
-
-/// Writes the path of a fact in the data: that of a slab that isn't whole, or the data.
-fn put_data_path<W: Sink>(
-    sink: &mut W,
-    header: &Result<Header, FormatFault>,
-    fact: Fact,
-) -> Result<(), WriteFailed>
-    ensures { Wrote W.view sink.old sink.new (data_path header.now fact) result }
-{
-    match fact {
-        Fact::Layout(fact) => put_layout_path(sink, header, fact),
-        _ => put(sink, b"data"),
-    }
-}
-
-/// Writes the path of a fact about the layout, in the data.
-fn put_layout_path<W: Sink>(
-    sink: &mut W,
-    header: &Result<Header, FormatFault>,
-    fact: LayoutFact,
-) -> Result<(), WriteFailed>
-    ensures { Wrote W.view sink.old sink.new (layout_path header.now fact) result }
-{
-    match fact {
-        LayoutFact::Missing { slab, .. } => put_slab_path(sink, header, slab),
-        _ => put(sink, b"data"),
+    match (entry, fact) {
+        (Some(entry), _) => put_field_path(sink, names, entry.place),
+        (None, Fact::Layout(LayoutFact::Missing { slab, .. })) => {
+            put_slab_path(sink, &listing.header, slab)
+        }
+        (None, _) => put(sink, b"data"),
     }
 }

@@ -43,7 +43,12 @@ pub(crate) fn pass_to<'a>(
     match field {
         Some(i) => {
             let end = end_after(entries, i);
-            pass(from_before(passed, entries, end), entries, end)
+            let before = if passed.count <= end {
+                passed
+            } else {
+                nothing_passed()
+            };
+            pass(before, entries, end)
         }
         None => nothing_passed(),
     }
@@ -57,19 +62,6 @@ fn end_after(entries: &[Entry], i: u64) -> usize
 {
     let len = entries.len();
     if i < len as u64 { i as usize + 1 } else { len }
-}
-
-/// Returns what is known, or, if more fields than these were passed, what is known where no field was.
-fn from_before<'a>(passed: Passed<'a>, entries: &[Entry], end: usize) -> Passed<'a>
-    requires { IsPassed entries.now passed }
-    ensures passed { IsPassed entries.now result }
-    ensures before { result.count ≤ end }
-{
-    if passed.count <= end {
-        passed
-    } else {
-        nothing_passed()
-    }
 }
 
 /// Passes the fields up to this index, and returns what is known after them.

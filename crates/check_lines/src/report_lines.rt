@@ -21,6 +21,7 @@ use nc_report::{Finding, Kind, Report, Severity};
 /// # Errors
 ///
 /// The sink failed. It took some prefix of the lines.
+#[tactic(auto, using(devices::proofs::Writes::writes))]
 pub fn put_lines<W: Sink>(
     sink: &mut W,
     file: &[u8],
@@ -30,30 +31,10 @@ pub fn put_lines<W: Sink>(
     ensures { Wrote W.view sink.old sink.new
         (lines (filter_for filter.now) file.now report.now.listing report.now.findings) result }
 {
-    put_lines_of(
-        sink,
-        file,
-        &report.listing,
-        filter,
-        report.findings.as_slice(),
-    )
-}
-
-/// Writes the lines of these findings. It goes over the fields of the listing along with them.
-#[tactic(auto, using(devices::proofs::Writes::writes))]
-fn put_lines_of<W: Sink>(
-    sink: &mut W,
-    file: &[u8],
-    listing: &Listing,
-    filter: &FilterOptions<'_>,
-    findings: &[Finding],
-) -> Result<(), WriteFailed>
-    ensures { Wrote W.view sink.old sink.new
-        (lines (filter_for filter.now) file.now listing.now findings.now) result }
-{
+    let findings = report.findings.as_slice();
     let mut passed = nothing_passed();
     for finding in findings {
-        passed = put_line_if(sink, file, listing, filter, passed, finding)?;
+        passed = put_line_if(sink, file, &report.listing, filter, passed, finding)?;
     }
     Ok(())
 }

@@ -1,12 +1,8 @@
-//! The words of severities, of kinds of findings, and of fields.
+//! The words of severities and of kinds of findings.
 
 ghost use Rattle.std.specs.Prelude.{◌≡◌};
-ghost use Rattle.devices.specs.code.SinkWrites.{Wrote};
-ghost use Rattle.check_lines.specs.Words.{field_word, kind_word, severity_word};
+ghost use Rattle.check_lines.specs.Words.{kind_word, severity_word};
 
-use crate::number::put_around;
-use devices::{Sink, WriteFailed, put};
-use nc_fields::FieldName;
 use nc_report::{Kind, Severity};
 
 /// Returns the word of a severity.
@@ -67,37 +63,5 @@ pub fn kind_word(kind: Kind) -> &'static str
         Kind::Missing => "missing",
         Kind::EndPadding => "end-padding",
         Kind::Trailing => "trailing",
-    }
-}
-
-/// Writes the words of a field, without what it belongs to.
-#[tactic(auto, unfolding(crate::specs::Words::field_word))]
-pub(crate) fn put_field_word<W: Sink>(sink: &mut W, name: FieldName) -> Result<(), WriteFailed>
-    ensures { Wrote W.view sink.old sink.new (field_word name) result }
-{
-    match name {
-        FieldName::Magic => put(sink, b"magic"),
-        FieldName::Version => put(sink, b"version"),
-        FieldName::NumRecs => put(sink, b"numrecs"),
-        FieldName::DimsTag => put(sink, b"dims tag"),
-        FieldName::DimsCount => put(sink, b"dims count"),
-        FieldName::GlobalAttsTag => put(sink, b"gatts tag"),
-        FieldName::GlobalAttsCount => put(sink, b"gatts count"),
-        FieldName::VarsTag => put(sink, b"vars tag"),
-        FieldName::VarsCount => put(sink, b"vars count"),
-        FieldName::NameLength => put(sink, b"name length"),
-        FieldName::Name => put(sink, b"name"),
-        FieldName::NamePadding => put(sink, b"name padding"),
-        FieldName::Length => put(sink, b"length"),
-        FieldName::Type => put(sink, b"type"),
-        FieldName::Count => put(sink, b"count"),
-        FieldName::Values => put(sink, b"values"),
-        FieldName::Padding => put(sink, b"padding"),
-        FieldName::Rank => put(sink, b"rank"),
-        FieldName::DimId(k) => put_around(sink, b"dimid[", k as u128, b"]"),
-        FieldName::AttsTag => put(sink, b"atts tag"),
-        FieldName::AttsCount => put(sink, b"atts count"),
-        FieldName::Vsize => put(sink, b"vsize"),
-        FieldName::Begin => put(sink, b"begin"),
     }
 }

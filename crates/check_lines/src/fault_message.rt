@@ -1,0 +1,115 @@
+//! What a line says of a field at which reading stops.
+
+ghost use Rattle.std.specs.Prelude.{◌≡◌};
+ghost use Rattle.check_lines.specs.Details.{below, fault_message, is_after_zero_tag, is_list_count, last_type, number_at, tag_of, top_bit};
+ghost use Rattle.check_lines.specs.code.Written.{message_of};
+
+use crate::message::Part::{FieldContent, FieldType, Long, Nothing, Number};
+use crate::message::{CONTENT, Message, NO_PARTS};
+use nc_base::FormatFault;
+use nc_fields::{Entry, FieldName, Listing};
+
+/// Returns what is found at a field with this fault, the last one of the listing, and what is expected in its place.
+pub(crate) fn fault_message(listing: &Listing, entry: &Entry, fault: FormatFault) -> Message
+    ensures { message_of result ≡ fault_message listing.now entry.now fault }
+{
+    let entries = listing.entries.as_slice();
+    let (text, parts) = match fault {
+        FormatFault::NotNetcdf => (": found _, expected 0x434446", CONTENT),
+        FormatFault::UnknownVersion(_) => (": found _, expected 1, 2 or 5", CONTENT),
+        FormatFault::HeaderTruncated => {
+            let bytes_left = listing.file_len.saturating_sub(entry.offset);
+            (
+                ": found _, expected _ bytes",
+                [Number(bytes_left), Long(entry.size), Nothing],
+            )
+        }
+        FormatFault::BadTag => (
+            ": found _, expected 0 or _",
+            [FieldContent, Number(tag_of(entry.place.name)), Nothing],
+        ),
+        FormatFault::BadCount if is_after_zero_tag(entries, entry.place.name) => (
+            ": found _, expected 0",
+            CONTENT,
+        ),
+        FormatFault::BadShape if entry.content.number() < number_at(entries, 4) => (
+            ": found _, expected no record dimension here",
+            CONTENT,
+        ),
+        FormatFault::BadCount | FormatFault::BadOffset => return below(top_bit(entry.size)),
+        FormatFault::BadShape => return below(number_at(entries, 4)),
+        FormatFault::BadName | FormatFault::TooLarge => ("", NO_PARTS),
+        FormatFault::FloatingType => (": found _", [FieldType, Nothing, Nothing]),
+        FormatFault::BadType => (
+            ": found _, expected 1 to _",
+            [FieldType, Number(last_type(entries)), Nothing],
+        ),
+        FormatFault::TwoRecordDims => (": found _, expected at least 1", CONTENT),
+    };
+    Message { text, parts }
+}
+
+/// Returns the message that a number below this one is expected.
+pub(crate) fn below(limit: u64) -> Message
+    ensures { message_of result ≡ below limit }
+{
+    Message {
+        text: ": found _, expected below _",
+        parts: [FieldContent, Number(limit), Nothing],
+    }
+}
+
+/// Returns true if the field of this name, at which reading stops, is the number of a list's elements, and the tag before it is 0.
+fn is_after_zero_tag(entries: &[Entry], name: FieldName) -> bool
+    ensures { result ≡ is_after_zero_tag entries.now name }
+{
+    is_list_count(name) && number_at(entries, entries.len().saturating_sub(2)) == 0
+}
+
+/// Returns true if the field of this name is the number of a list's elements.
+fn is_list_count(name: FieldName) -> bool
+    ensures { result ≡ is_list_count name }
+{
+    matches!(
+        name,
+        FieldName::DimsCount
+            | FieldName::GlobalAttsCount
+            | FieldName::VarsCount
+            | FieldName::AttsCount
+    )
+}
+
+/// Returns the tag of a list with elements, from the name of the field of the tag.
+fn tag_of(name: FieldName) -> u64
+    ensures { result ≡ tag_of name }
+{
+    match name {
+        FieldName::DimsTag => 10,
+        FieldName::VarsTag => 11,
+        _ => 12,
+    }
+}
+
+/// Returns the number that a number of 8 bytes, otherwise one of 4, has to be below for its top bit to be 0.
+fn top_bit(size: u128) -> u64
+    ensures { result ≡ top_bit size }
+{
+    if size == 8 { 1 << 63 } else { 1 << 31 }
+}
+
+/// Returns the greatest type code of the version, which the second field of a header has.
+fn last_type(entries: &[Entry]) -> u64
+    ensures { result ≡ last_type entries.now }
+{
+    if number_at(entries, 1) == 5 { 11 } else { 6 }
+}
+
+/// Returns the number that the field of this index is, or 0 if there is none.
+fn number_at(entries: &[Entry], i: usize) -> u64
+    ensures { result ≡ number_at entries.now i }
+{
+    match entries.get(i) {
+        Some(entry) => entry.content.number(),
+        None => 0,
+    }
+}
