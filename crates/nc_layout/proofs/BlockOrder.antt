@@ -1,11 +1,10 @@
 -- The order of blocks, and blocks that have been sorted by their begins.
-use Rattle.std.proofs.Common.{◌≡◌, suc, ◌≤◌, Bool, true, false, cond, List, [], ◌∷◌, filter, refl, sym, ◌∙◌, ap, subst, arith, inl, inr, ◌⊎◌}
+use Rattle.std.proofs.Common.{◌≡◌, suc, ◌≤◌, Bool, true, false, cond, List, [], ◌∷◌, filter, refl, sym, subst, arith, ◌⊎◌}
 use Rattle.std.specs.List.{Contains, AllPairs}
 use Rattle.std.specs.List.Sorted.{IsNonDecreasingBy, IsStableByKey, ties}
 use Rattle.std.specs.Ordering.{nat_cmp, is_lt}
 use Rattle.std.proofs.lemmas.List.Kept.{AllPairs-filter}
 use Rattle.std.proofs.lemmas.Bool.Decides.{nat_tests}
-use Rattle.std.proofs.lemmas.Bool.{false≢true}
 use Rattle.nc_layout.specs.declared.{finding.Block.Block, blocks.Extent.Extent}
 use Rattle.nc_layout.specs.Blocks.{is_listed_before, precedes}
 
@@ -52,28 +51,15 @@ contains-none {X} c (k, lt, at) = omega arith
 -- what a filter keeps is in the list and passes, and what passes is kept
 pub contains-filter : {X : Type 0} (p : X → Bool) (xs : List X) (c : X) → Contains xs c → p c ≡ true → Contains (filter p xs) c
 contains-filter {X} p [] c has passes = absurd (contains-none c has)
-contains-filter {X} p (x ∷ xs) c has passes = by_place (contains-cases x c xs has) (p x) refl (λ h. contains-filter p xs c h passes)
+contains-filter {X} p (x ∷ xs) c has passes = by_test (p x) refl (λ h. contains-filter p xs c h passes)
   where
-    by_place : (x ≡ c) ⊎ Contains xs c → (b : Bool) → p x ≡ b → (Contains xs c → Contains (filter p xs) c)
-        → Contains (cond b (x ∷ filter p xs) (filter p xs)) c
-    by_place (inl same) true is ih = subst (λ (y : X). Contains (x ∷ filter p xs) y) same (contains-here x (filter p xs))
-    by_place (inl same) false is ih = absurd (false≢true (sym is ∙ ap p same ∙ passes))
-    by_place (inr later) true is ih = contains-there x c (filter p xs) (ih later)
-    by_place (inr later) false is ih = ih later
+    by_test : (t : Bool) → p x ≡ t → (Contains xs c → Contains (filter p xs) c) → Contains (cond t (x ∷ filter p xs) (filter p xs)) c
+    by_test true is ih = grind (arith, ih, contains-cases x c xs has, contains-here x (filter p xs), contains-there x c (filter p xs))
+    by_test false is ih = grind (arith, ih, contains-cases x c xs has)
 
 pub filter-contains : {X : Type 0} (p : X → Bool) (xs : List X) (c : X) → Contains (filter p xs) c → Contains xs c × (p c ≡ true)
 filter-contains {X} p [] c has = absurd (contains-none c has)
-filter-contains {X} p (x ∷ xs) c has = by_test (p x) refl has (λ h. filter-contains p xs c h)
-  where
-    by_test : (b : Bool) → p x ≡ b → Contains (cond b (x ∷ filter p xs) (filter p xs)) c
-        → (Contains (filter p xs) c → Contains xs c × (p c ≡ true))
-        → Contains (x ∷ xs) c × (p c ≡ true)
-    by_test true is h ih =
-        elim (contains-cases x c (filter p xs) h) [
-          | inl same ↦ (subst (λ (y : X). Contains (x ∷ xs) y) same (contains-here x xs), sym (ap p same) ∙ is)
-          | inr later ↦ (contains-there x c xs (ih later).0, (ih later).1)
-        ]
-    by_test false is h ih = (contains-there x c xs (ih h).0, (ih h).1)
+filter-contains {X} p (x ∷ xs) c has = grind (arith, filter-contains p xs c, contains-cases x c (filter p xs), contains-here, contains-there)
 
 -- ---- what a stable sort by begins leaves
 
@@ -96,24 +82,20 @@ ties-tail b bs h x = by_test (ties begins_before x b) (h x)
     by_test false k = k
 
 listed-after : (b c : Extent) (bs : List Extent) → TiesAreListed (b ∷ bs) → Contains bs c → b.begin ≡ c.begin → Listed b c
-listed-after b c bs h has same =
-    let first : AllPairs Listed (b ∷ filter (ties begins_before b) bs) =
-    subst (λ t. AllPairs Listed (cond t (b ∷ filter (ties begins_before b) bs) (filter (ties begins_before b) bs))) (ties-same b b refl)
-    (h b) in
-    after first (contains-filter (ties begins_before b) bs c has (ties-same b c same))
+listed-after b c bs h has same = after (contains-filter (ties begins_before b) bs c has (ties-same b c same))
   where
-    after : AllPairs Listed (b ∷ filter (ties begins_before b) bs) → Contains (filter (ties begins_before b) bs) c → Listed b c
-    after pairs (k, lt, at) = subst (λ (y : Extent). Listed b y) at (pairs 0 (suc k) c (omega arith) (omega arith))
+    after : Contains (filter (ties begins_before b) bs) c → Listed b c
+    after (k, lt, at) = grind (arith, h b 0 (suc k) c, ties-same b b)
 
 ascending : (bs : List Extent) → IsNonDecreasingBy (λ (b : Extent). b.begin) bs → TiesAreListed bs → Ascending bs
 ascending [] up tied = tt
 ascending (b ∷ bs) up tied = (
-  λ c has. let le = later c has in let listed = listed-after b c bs tied has in grind (arith, nat_tests),
+  λ c has. grind (arith, nat_tests, later c has, listed-after b c bs tied has),
   ascending bs (λ i j d le lt. up (suc i) (suc j) d (omega arith) (omega arith)) (ties-tail b bs tied),
 )
   where
     later : (c : Extent) → Contains bs c → b.begin ≤ c.begin
-    later c (k, lt, at) = subst (λ (y : Extent). b.begin ≤ y.begin) at (up 0 (suc k) c (omega arith) (omega arith))
+    later c (k, lt, at) = grind (arith, up 0 (suc k) c)
 
 pub ascending-sorted : (xs ys : List Extent) → IsNonDecreasingBy (λ (b : Extent). b.begin) ys
     → IsStableByKey (λ (b : Extent). b.begin) nat_cmp xs ys

@@ -1,4 +1,3 @@
-pub mod Examples
 pub mod SlotLists
 pub mod BlockLists
 pub mod PassedLists

@@ -1,12 +1,12 @@
 -- What is kept of the slots that a loop has passed, one slot on.
-use Rattle.std.proofs.Common.{◌≡◌, ℕ, ◌+◌, ◌<◌, ◌≤◌, max, min, Bool, true, false, not, cond, List, [], ◌∷◌, ◌++◌, length, get_or, drop, take, map, fold, filter, sum_by, count_by, refl, sym, ◌∙◌, ap, arith, Option, Some, ◌^◌, All, if◌then◌else◌, nat_lt, ◌==◌, ◌&&◌, is_some, slice_get}
+use Rattle.std.proofs.Common.{◌≡◌, ℕ, ◌+◌, ◌<◌, ◌≤◌, max, min, Bool, true, false, not, List, [], ◌∷◌, ◌++◌, length, get_or, drop, take, map, fold, filter, sum_by, count_by, refl, sym, ◌∙◌, ap, arith, Option, Some, ◌^◌, All, if◌then◌else◌, nat_lt, ◌==◌, ◌&&◌, is_some, slice_get}
 use Rattle.std.proofs.lemmas.Bool.Decides.{nat_tests}
 use Rattle.std.specs.List.{list_any, prefix_len}
 use Rattle.std.proofs.lemmas.Grind.{common_steps, fold-append}
 use Rattle.std.proofs.lemmas.List.{at_drop_more, take_more, map-append, length-take-le}
 use Rattle.std.proofs.lemmas.List.Elements.{filter-append, All-filter, All-head}
 use Rattle.std.proofs.lemmas.List.Folds.{position_or_len_push}
-use Rattle.std.proofs.lemmas.List.Sums.{sum_by-cons, sum_by-append}
+use Rattle.std.proofs.lemmas.List.Sums.{sum_by-append}
 use Rattle.std.proofs.lemmas.Option.{slice_get_within, get_or_from_slice_get}
 use Rattle.std.proofs.Math.ListN.{take-append-drop}
 use Rattle.std.specs.Option.{ForSome}
@@ -18,12 +18,6 @@ use Rattle.nc_layout.proofs.SweptBlocks.{greatest_from-ge}
 use Rattle.nc_layout.specs.code.PassedSlots.{HasPassed, passed_after, next_has_successor, is_record_slot, order_after}
 
 -- ---- successors
-
-count_by-cons : (p : Slot → Bool) (x : Slot) (xs : List Slot) → count_by p (x ∷ xs) ≡ cond (p x) 1 0 + count_by p xs
-count_by-cons p x xs = sum_by-cons (λ y. cond (p y) 1 0) x xs
-
-count_by-taken : (p : Slot → Bool) (x : Slot) (xs : List Slot) → p x ≡ true → count_by p (x ∷ xs) ≡ 1 + count_by p xs
-count_by-taken p x xs is = count_by-cons p x xs ∙ ap (λ b. cond b 1 0 + count_by p xs) is
 
 some_passes : (p : Slot → Bool) (xs : List Slot) → list_any p xs ≡ nat_lt 0 (count_by p xs)
 some_passes p [] = refl
@@ -42,11 +36,13 @@ records_begin-some slots = least-some slots
 follows : (p : Slot → Bool) (slots : List Slot) (i left : ℕ) (slot : Slot) → slice_get slots i ≡ Some slot → p slot ≡ true
     → left ≡ count_by p (drop i slots) → nat_lt 1 left ≡ list_any p (drop (i + 1) slots)
 follows p slots i left slot at is count =
-    let step : count_by p (drop i slots) ≡ count_by p (slot ∷ drop (i + 1) slots) =
-    at_drop_more (count_by p) slots i slot (slice_get_within slots i slot at)
-    ∙ ap (λ (y : Slot). count_by p (y ∷ drop (i + 1) slots)) (get_or_from_slice_get slots i slot slot at) in
-    let taken = count_by-taken p slot (drop (i + 1) slots) is in
-    let passes = some_passes p (drop (i + 1) slots) in grind (arith, common_steps)
+    grind (
+      arith,
+      common_steps,
+      some_passes p (drop (i + 1) slots),
+      at_drop_more (count_by p) slots i slot (slice_get_within slots i slot at),
+      get_or_from_slice_get slots i slot slot at,
+    )
 
 pub has_successor_is : (slots : List Slot) (i : ℕ) (passed : PassedSlots) (begin : Option ℕ) (slot : Slot) → HasPassed slots i passed
     → begin ≡ records_begin slots → slice_get slots i ≡ Some slot
@@ -101,11 +97,9 @@ attained : (xs : List Slot) (a m : ℕ) → m ≡ greatest_from a xs → a < m �
 attained [] a m is more = absurd (omega arith)
 attained (x ∷ xs) a m is more = grind (arith, attained xs a m, attained xs (max a x.begin) m, greatest-ge)
 
-greatest_begin-push : (xs : List Slot) (y : Slot) → y.is_record ≡ false → greatest_begin (xs ++ y ∷ []) ≡ max (greatest_begin xs) y.begin
-greatest_begin-push xs y is = simp (filter-append, map-append, fold-append) (grind arith)
-
-greatest_begin-kept : (xs : List Slot) (y : Slot) → y.is_record ≡ true → greatest_begin (xs ++ y ∷ []) ≡ greatest_begin xs
-greatest_begin-kept xs y is = simp (filter-append, map-append, fold-append) (grind arith)
+greatest_begin-push : (xs : List Slot) (y : Slot)
+    → greatest_begin (xs ++ y ∷ []) ≡ (if y.is_record then greatest_begin xs else max (greatest_begin xs) y.begin)
+greatest_begin-push xs y = simp (filter-append, map-append, fold-append) (grind arith)
 
 fixed_slot_at-kept : (xs : List Slot) (y : Slot) (m : ℕ) → prefix_len (fails m) xs < length xs
     → fixed_slot_at (xs ++ y ∷ []) m ≡ fixed_slot_at xs m
@@ -129,21 +123,18 @@ passed-more slots i passed d h lt =
     let front = take i slots in
     let more = take_more slots i d lt in
     let len = length-take-le i slots (omega arith) in
-    let found = attained front 0 passed.latest_begin h.begin in
-    let kept = fixed_slot_at-kept front x passed.latest_begin in
     record {
-      begin = grind (arith, h.begin, greatest_begin-push front x, greatest_begin-kept front x);
+      begin = grind (arith, h.begin, greatest_begin-push front x);
       latest = λ some. grind (
         arith,
         nat_tests,
         h.begin,
         h.latest,
-        found,
-        kept,
+        attained front 0 passed.latest_begin h.begin,
+        fixed_slot_at-kept front x passed.latest_begin,
         fixed_slot_at-new front x x.begin,
         none_above front 0 x.begin,
         greatest_begin-push front x,
-        greatest_begin-kept front x,
       );
       bytes = grind (arith, h.bytes, bytes_before-push slots i x more);
       fixed = grind (arith, common_steps, h.fixed, at_drop_more (count_by is_fixed) slots i d lt);

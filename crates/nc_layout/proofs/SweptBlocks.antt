@@ -1,11 +1,10 @@
 -- One pass over the blocks in their order finds what the definition says of each block.
-use Rattle.std.proofs.Common.{◌≡◌, ℕ, ◌<◌, ◌≤◌, max, Bool, true, false, not, cond, List, [], ◌∷◌, ◌++◌, length, get_or, map, fold, filter, refl, sym, ◌∙◌, ap, subst, arith, Option, Some, None, ◌==◌, inl, inr, ◌⊎◌, eq-eqb, if◌then◌else◌, append_assoc}
+use Rattle.std.proofs.Common.{◌≡◌, ℕ, ◌<◌, ◌≤◌, max, Bool, true, false, not, List, [], ◌∷◌, ◌++◌, get_or, map, fold, filter, refl, sym, ◌∙◌, ap, subst, arith, Option, Some, None, ◌==◌, inl, inr, ◌⊎◌, eq-eqb, append_assoc}
 use Rattle.std.specs.Prelude.{flat_map, IsPermutation}
 use Rattle.std.specs.List.{Contains, find, list_any}
-use Rattle.std.proofs.lemmas.Bool.{cases_lt, lt-ltb, le-ltb, false≢true, eqb-true}
+use Rattle.std.proofs.lemmas.Bool.{cases_lt, eqb-true}
 use Rattle.std.proofs.lemmas.Bool.Decides.{nat_tests}
-use Rattle.std.proofs.lemmas.List.{get_or_default}
-use Rattle.std.proofs.lemmas.List.Elements.{Contains-append_left, Contains-append_cases, Contains-push, Contains-push_cases}
+use Rattle.std.proofs.lemmas.List.Elements.{Contains-get_or, Contains-append_left, Contains-append_cases, Contains-push, Contains-push_cases}
 use Rattle.std.proofs.lemmas.List.Folds.{list_any_none, list_any_at}
 use Rattle.std.proofs.lemmas.List.Sorted.{Contains-permutation, IsPermutation-sym}
 use Rattle.nc_layout.specs.declared.{finding.LayoutFinding.LayoutFinding, blocks.Extent.Extent, block_rules.Reached.Reached}
@@ -23,12 +22,8 @@ greatest_from-ge {X} end a (x ∷ xs) = let h = greatest_from-ge end (max a (end
 
 pub greatest_from-above : {X : Type 0} (end : X → ℕ) (a : ℕ) (xs : List X) (c : X) → Contains xs c → end c ≤ fold max a (map end xs)
 greatest_from-above {X} end a [] c has = absurd (contains-none c has)
-greatest_from-above {X} end a (x ∷ xs) c has = by_place (contains-cases x c xs has) (λ h. greatest_from-above end (max a (end x)) xs c h)
-  where
-    by_place : (x ≡ c) ⊎ Contains xs c → (Contains xs c → end c ≤ fold max (max a (end x)) (map end xs))
-        → end c ≤ fold max (max a (end x)) (map end xs)
-    by_place (inl same) ih = let h = greatest_from-ge end (max a (end x)) xs in let e = ap end same in omega arith
-    by_place (inr later) ih = ih later
+greatest_from-above {X} end a (x ∷ xs) c has =
+    grind (arith, contains-cases x c xs has, greatest_from-above end (max a (end x)) xs c, greatest_from-ge end (max a (end x)) xs)
 
 pub greatest_from-least : {X : Type 0} (end : X → ℕ) (a m : ℕ) (xs : List X) → a ≤ m → ((c : X) → Contains xs c → end c ≤ m)
     → fold max a (map end xs) ≤ m
@@ -50,37 +45,29 @@ find-only : (p : Extent → Bool) (bs : List Extent) (c : Extent) → Contains b
     → ((d : Extent) → Contains bs d → p d ≡ true → d ≡ c) → find p bs ≡ Some c
 find-only p [] c has passes only = absurd (contains-none c has)
 find-only p (b ∷ bs) c has passes only =
-    by_test (p b) refl (contains-cases b c bs has) (λ h. find-only p bs c h passes (λ d k t. only d (contains-there b d bs k) t))
-  where
-    by_test : (t : Bool) → p b ≡ t → (b ≡ c) ⊎ Contains bs c → (Contains bs c → find p bs ≡ Some c) → cond t (Some b) (find p bs) ≡ Some c
-    by_test true is place ih = ap (λ (x : Extent). Some x) (only b (contains-here b bs) is)
-    by_test false is (inl same) ih = absurd (false≢true (sym is ∙ ap p same ∙ passes))
-    by_test false is (inr later) ih = ih later
+    grind (
+      arith,
+      find-only p bs c,
+      contains-cases b c bs has,
+      only b (contains-here b bs),
+      λ (d : Extent) (k : Contains bs d). only d (contains-there b d bs k),
+    )
 
 some_precedes : (bs : List Extent) (c d : Extent) → Contains bs c → precedes c d ≡ true → list_any (λ e. precedes e d) bs ≡ true
 some_precedes bs c d (k, lt, at) is = list_any_at (λ e. precedes e d) bs k c lt (ap (λ (x : Extent). precedes x d) at ∙ is)
 
 none_precedes : (bs : List Extent) (c : Extent) → ((d : Extent) → Contains bs d → (c ≡ d) ⊎ (precedes c d ≡ true))
     → list_any (λ e. precedes e c) bs ≡ false
-none_precedes bs c first = list_any_none (λ e. precedes e c) bs
-    (λ k d lt. no (get_or bs k d) (first (get_or bs k d) (k, lt, default k d lt)))
-  where
-    no : (e : Extent) → (c ≡ e) ⊎ (precedes c e ≡ true) → precedes e c ≡ false
-    no e (inl same) = ap (λ (x : Extent). precedes x c) (sym same) ∙ precedes-irrefl c
-    no e (inr is) = precedes-asym c e is
-
-    default : (k : ℕ) (d : Extent) → k < length bs → get_or bs k (get_or bs k d) ≡ get_or bs k d
-    default k d lt = get_or_default bs k (get_or bs k d) d lt
+none_precedes bs c first =
+    list_any_none (λ e. precedes e c) bs
+    (λ k d lt. grind (arith, first (get_or bs k d) (Contains-get_or bs k d lt), precedes-irrefl c, precedes-asym c (get_or bs k d)))
 
 -- a block of the list that precedes all others is the first
 first_block-is : (bs : List Extent) (c : Extent) → Contains bs c → ((d : Extent) → Contains bs d → (c ≡ d) ⊎ (precedes c d ≡ true))
     → first_block bs ≡ Some c
 first_block-is bs c has first =
-    find-only (λ b. not (list_any (λ e. precedes e b) bs)) bs c has (ap not (none_precedes bs c first)) (λ d k t. only d (first d k) t)
-  where
-    only : (d : Extent) → (c ≡ d) ⊎ (precedes c d ≡ true) → not (list_any (λ e. precedes e d) bs) ≡ true → d ≡ c
-    only d (inl same) t = sym same
-    only d (inr is) t = absurd (false≢true (sym (ap not (some_precedes bs c d has is)) ∙ t))
+    find-only (λ b. not (list_any (λ e. precedes e b) bs)) bs c has (ap not (none_precedes bs c first))
+    (λ d k t. grind (arith, first d k, some_precedes bs c d has))
 
 -- ---- the block that reaches furthest
 
@@ -100,14 +87,8 @@ furthest-next : (end : Extent → ℕ) (bs : List Extent) (c b : Extent) → IsF
     → end c < end b → IsFurthest end (bs ++ b ∷ []) b
 furthest-next end bs c b h below more = record {
   among = Contains-push bs b;
-  most = λ d has. elim (Contains-push_cases bs b d has) [
-    | inl old ↦ (let k = h.most d old in omega arith)
-    | inr same ↦ (let e = ap end same in omega arith)
-  ];
-  first = λ d has same. elim (Contains-push_cases bs b d has) [
-    | inl old ↦ (let k = h.most d old in absurd (omega arith))
-    | inr is ↦ inl is
-  ];
+  most = λ d has. grind (arith, Contains-push_cases bs b d has, h.most d);
+  first = λ d has same. grind (arith, Contains-push_cases bs b d has, h.most d);
 }
 
 furthest-kept : (end : Extent → ℕ) (bs : List Extent) (c b : Extent) → IsFurthest end bs c
@@ -115,11 +96,8 @@ furthest-kept : (end : Extent → ℕ) (bs : List Extent) (c b : Extent) → IsF
     → end b ≤ end c → IsFurthest end (bs ++ b ∷ []) c
 furthest-kept end bs c b h below less = record {
   among = Contains-append_left bs (b ∷ []) c h.among;
-  most = λ d has. elim (Contains-push_cases bs b d has) [ inl old ↦ h.most d old | inr same ↦ (let e = ap end same in omega arith) ];
-  first = λ d has same. elim (Contains-push_cases bs b d has) [
-    | inl old ↦ h.first d old same
-    | inr is ↦ inr (subst (λ (x : Extent). precedes c x ≡ true) is (below c h.among))
-  ];
+  most = λ d has. grind (arith, Contains-push_cases bs b d has, h.most d);
+  first = λ d has same. grind (arith, Contains-push_cases bs b d has, h.first d, below c h.among);
 }
 
 furthest-only : (end : Extent → ℕ) (b : Extent) → IsFurthest end (b ∷ []) b
@@ -130,15 +108,8 @@ furthest-more : (end : Extent → ℕ) (bs : List Extent) (o : Option Extent) (b
     → ((d : Extent) → Contains bs d → precedes d b ≡ true)
     → Furthest end (bs ++ b ∷ []) (further end o b)
 furthest-more end bs None b none below = subst (λ (xs : List Extent). IsFurthest end (xs ++ b ∷ []) b) (sym none) (furthest-only end b)
-furthest-more end bs (Some c) b h below = by_order (cases_lt (end c) (end b))
-  where
-    by_order : (end c < end b) ⊎ (end b ≤ end c) → Furthest end (bs ++ b ∷ []) (further end (Some c) b)
-    by_order (inl more) =
-        subst (λ t. IsFurthest end (bs ++ b ∷ []) (if t then b else c)) (sym (lt-ltb (end c) (end b) more))
-        (furthest-next end bs c b h below more)
-    by_order (inr less) =
-        subst (λ t. IsFurthest end (bs ++ b ∷ []) (if t then b else c)) (sym (le-ltb (end c) (end b) less))
-        (furthest-kept end bs c b h below less)
+furthest-more end bs (Some c) b h below =
+    grind (arith, nat_tests, cases_lt (end c) (end b), furthest-next end bs c b h below, furthest-kept end bs c b h below)
 
 -- ---- the definition goes by the same blocks in another order
 
@@ -202,13 +173,14 @@ before-same bs sorted done rest b same split below above = record { there = ther
     there c has =
         let k = filter-contains (λ d. precedes d b) bs c has in
         let inside = subst (λ (xs : List Extent). Contains xs c) split (Contains-permutation bs sorted c same k.0) in
-        elim (Contains-append_cases done (b ∷ rest) c inside) [
-          | inl old ↦ old
-          | inr others ↦ elim (contains-cases b c rest others) [
-            | inl here ↦ absurd (false≢true (sym (precedes-irrefl b) ∙ ap (λ (x : Extent). precedes x b) here ∙ k.1))
-            | inr later ↦ absurd (false≢true (sym (precedes-asym b c (above c later)) ∙ k.1))
-          ]
-        ]
+        grind (
+          arith,
+          Contains-append_cases done (b ∷ rest) c inside,
+          contains-cases b c rest,
+          precedes-irrefl b,
+          precedes-asym b c,
+          above c,
+        )
 
     back : (c : Extent) → Contains done c → Contains (before bs b) c
     back c has =
