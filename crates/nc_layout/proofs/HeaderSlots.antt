@@ -1,11 +1,11 @@
 -- The slots of a header's variables: which have records, and how many bytes they take.
-use Rattle.std.proofs.Common.{◌≡◌, ℕ, ◌+◌, ◌<◌, ◌≤◌, Bool, List, [], ◌∷◌, ◌++◌, length, get_or, take, map, sum_by, refl, sym, ◌∙◌, ap, subst, arith, All, if◌then◌else◌}
+use Rattle.std.proofs.Common.{◌≡◌, ℕ, ◌+◌, ◌<◌, ◌≤◌, Bool, List, [], ◌∷◌, ◌++◌, length, get_or, take, map, sum_by, refl, subst, arith, All, if◌then◌else◌}
 use Rattle.std.proofs.lemmas.Grind.{common_steps}
-use Rattle.std.proofs.lemmas.List.{take_more}
-use Rattle.std.proofs.lemmas.List.Elements.{All-cons, All-head, All-nil, All-tail}
+use Rattle.std.proofs.lemmas.List.{take_more, get_or-map, length-map}
+use Rattle.std.proofs.lemmas.List.Elements.{All-push}
 use Rattle.std.proofs.lemmas.List.Sums.{sum-map}
 use Rattle.nc_base.specs.declared.{header.Dim.Dim, header.Header.Header, header.Var.Var}
-use Rattle.nc_base.specs.Sizes.{is_record_var, record_vars, padded_size, padded_total, slab_size, slab_limit}
+use Rattle.nc_base.specs.Sizes.{record_vars, padded_size, padded_total, slab_size, slab_limit}
 use Rattle.nc_layout.specs.declared.slot.Slot.{Slot}
 use Rattle.nc_layout.specs.Slots.{padded_slab, record_slots}
 use Rattle.nc_layout.specs.Findings.{IsSoundSlot, IsSoundLayout}
@@ -22,17 +22,12 @@ pub record AreSlots (dims : List Dim) (vars : List Var) (slots : List Slot) : Ty
   pub are : slots ≡ map (slot_of dims) vars
   pub small : All (HasSmallSlab dims) vars
 
-slots-push : (dims : List Dim) (vars : List Var) (slots : List Slot) (x : Var) → HasSmallSlab dims x → AreSlots dims vars slots
-    → AreSlots dims (vars ++ x ∷ []) (slots ++ slot_of dims x ∷ [])
-slots-push dims vars slots x small so_far = grind (arith, common_steps)
-
 -- one more slot
 pub slots-more : (dims : List Dim) (vars : List Var) (i : ℕ) (slots : List Slot) (x : Var) → i < length vars → x ≡ get_or vars i x
     → HasSmallSlab dims x → AreSlots dims (take i vars) slots → AreSlots dims (take (i + 1) vars) (slots ++ slot_of dims x ∷ [])
 slots-more dims vars i slots x lt at small so_far =
-    subst (λ (vs : List Var). AreSlots dims vs (slots ++ slot_of dims x ∷ []))
-    (ap (λ (var : Var). take i vars ++ var ∷ []) at ∙ sym (take_more vars i x lt))
-    (slots-push dims (take i vars) slots x small so_far)
+    let more : take (i + 1) vars ≡ take i vars ++ x ∷ [] = cc (take_more vars i x lt) in
+    rw more (record { are = grind (arith, common_steps); small = All-push (HasSmallSlab dims) (take i vars) x so_far.small small })
 
 -- ---- their bytes
 
@@ -48,21 +43,21 @@ kept-slot v0 dims var vars slots e = grind arith
 pub record_slots-are : (dims : List Dim) (vars : List Var)
     → record_slots (map (slot_of dims) vars) ≡ map (slot_of dims) (record_vars dims vars)
 record_slots-are dims [] = refl
-record_slots-are dims (var ∷ vars) = kept-slot (is_record_var dims var) dims var (record_vars dims vars) _ (record_slots-are dims vars)
+record_slots-are dims (var ∷ vars) = grind (arith, kept-slot, record_slots-are dims vars)
 
 pub record_slots-total : (dims : List Dim) (vars : List Var)
     → sum_by padded_slab (record_slots (map (slot_of dims) vars)) ≡ padded_total dims (record_vars dims vars)
-record_slots-total dims vars =
-    ap (sum_by padded_slab) (record_slots-are dims vars) ∙ slots-total dims (record_vars dims vars)
-    ∙ sym (sum-map (padded_size dims) (record_vars dims vars))
+record_slots-total dims vars = grind (arith, record_slots-are, slots-total, sum-map)
 
 -- ---- sound layouts
 
-small_slabs-of : (dims : List Dim) (vars : List Var) → All IsSoundSlot (map (slot_of dims) vars) → All (HasSmallSlab dims) vars
-small_slabs-of dims [] sound = All-nil (HasSmallSlab dims)
-small_slabs-of dims (var ∷ vars) sound = grind (arith, small_slabs-of dims vars (All-tail IsSoundSlot (slot_of dims var) (map (slot_of dims) vars) sound), All-cons, All-head, All-tail)
+-- what holds of the slots of variables
+pub unmapped : (P : Slot → Type 0) (dims : List Dim) (vars : List Var) → All P (map (slot_of dims) vars)
+    → All (λ (var : Var). P (slot_of dims var)) vars
+unmapped P dims vars all =
+    λ k d lt. subst P (get_or-map (slot_of dims) vars k d (slot_of dims d) lt) (all k (slot_of dims d) (simp length-map lt))
 
 -- the slabs of a sound layout keep the limit
 pub small_slabs : (h : Header) (header_end file_len : ℕ) → IsSoundLayout (layout_of h header_end file_len)
     → All (HasSmallSlab h.dims) h.vars
-small_slabs h header_end file_len sound = small_slabs-of h.dims h.vars sound.sound_slots
+small_slabs h header_end file_len sound = λ k d lt. (unmapped IsSoundSlot h.dims h.vars sound.sound_slots k d lt).small_slab

@@ -1,6 +1,6 @@
 -- What is left of a list of slots in a loop, one slot on.
 use Rattle.std.proofs.lemmas.Grind.{common_steps}
-use Rattle.std.proofs.Common.{◌≡◌, ℕ, ◌+◌, ◌<◌, ◌≤◌, min, Bool, true, List, [], ◌∷◌, length, get_or, drop, map, fold, sum_by, refl, ◌∙◌, ap, arith, Option, Some, None, ◌^◌}
+use Rattle.std.proofs.Common.{◌≡◌, ℕ, ◌+◌, ◌<◌, ◌≤◌, min, Bool, true, List, [], ◌∷◌, length, get_or, drop, map, fold, sum_by, refl, ap, arith, Option, Some, None, ◌^◌}
 use Rattle.std.proofs.lemmas.List.Sums.{sum_by-cons, sum_by-le-sum_by}
 use Rattle.nc_layout.specs.declared.slot.Slot.{Slot}
 use Rattle.nc_layout.specs.Slots.{padded_slab, is_sole_narrow, record_slots, slab_in_record, record_size, records_begin, least}
@@ -35,14 +35,10 @@ records_begin-is slots = least_from-none (record_slots slots)
 
 -- ---- the record size
 
-slab_in_record-is : (slots : List Slot) (narrow : Bool) → narrow ≡ is_sole_narrow (record_slots slots) → (rs : List Slot)
-    → sum_by (slab_if narrow) rs ≡ sum_by (slab_in_record slots) rs
-slab_in_record-is slots narrow is rs = ap (λ b. sum_by (slab_if b) rs) is
-
 pub record_size-is : (slots : List Slot) (narrow : Bool) → narrow ≡ is_sole_narrow (record_slots slots)
     → sum_by (slab_if narrow) (record_slots slots) ≡ record_size slots
 unfolding record_size
-record_size-is slots narrow is = slab_in_record-is slots narrow is (record_slots slots)
+record_size-is slots narrow is = ap (λ b. sum_by (slab_if b) (record_slots slots)) is
 
 slab_if-le : (narrow : Bool) (slot : Slot) → slab_if narrow slot ≤ padded_slab slot
 slab_if-le v0 slot = grind arith
@@ -58,6 +54,5 @@ pub record_size-fits : (slots : List Slot) (narrow : Bool) (i size : ℕ) (d : S
     → size + sum_by (slab_if narrow) (rest slots i) ≡ record_size slots → sum_by padded_slab (record_slots slots) ≤ 2 ^ 62
     → size + slab_if narrow (get_or slots i d) ≤ 2 ^ 62
 record_size-fits slots narrow i size d lt is inv small =
-    let step : sum_by (slab_if narrow) (rest slots i) ≡ slab_if narrow (get_or slots i d) + sum_by (slab_if narrow) (rest slots (i + 1)) =
-    ap (sum_by (slab_if narrow)) (rest-taken slots i d lt is) ∙ sum_by-cons (slab_if narrow) (get_or slots i d) (rest slots (i + 1)) in
-    omega (arith, record_size-le slots)
+    let step = sum_by-cons (slab_if narrow) (get_or slots i d) (rest slots (i + 1)) in
+    grind (arith, rest-taken slots i d lt is, record_size-le slots)

@@ -1,8 +1,8 @@
 -- One pass over the blocks in their order finds what the definition says of each block.
-use Rattle.std.proofs.Common.{◌≡◌, ℕ, ◌<◌, ◌≤◌, max, Bool, true, false, not, List, [], ◌∷◌, ◌++◌, get_or, map, fold, filter, refl, sym, ◌∙◌, ap, subst, arith, Option, Some, None, ◌==◌, inl, inr, ◌⊎◌, eq-eqb, append_assoc}
+use Rattle.std.proofs.Common.{◌≡◌, ℕ, ◌<◌, ◌≤◌, max, Bool, true, false, not, List, [], ◌∷◌, ◌++◌, get_or, map, fold, filter, refl, sym, ◌∙◌, ap, subst, arith, Option, Some, None, ◌==◌, ◌⊎◌, append_assoc}
 use Rattle.std.specs.Prelude.{flat_map, IsPermutation}
 use Rattle.std.specs.List.{Contains, find, list_any}
-use Rattle.std.proofs.lemmas.Bool.{cases_lt, eqb-true}
+use Rattle.std.proofs.lemmas.Bool.{cases_lt}
 use Rattle.std.proofs.lemmas.Bool.Decides.{nat_tests}
 use Rattle.std.proofs.lemmas.List.Elements.{Contains-get_or, Contains-append_left, Contains-append_cases, Contains-push, Contains-push_cases}
 use Rattle.std.proofs.lemmas.List.Folds.{list_any_none, list_any_at}
@@ -100,14 +100,11 @@ furthest-kept end bs c b h below less = record {
   first = λ d has same. grind (arith, Contains-push_cases bs b d has, h.first d, below c h.among);
 }
 
-furthest-only : (end : Extent → ℕ) (b : Extent) → IsFurthest end (b ∷ []) b
-furthest-only end b = grind arith
-
 -- one more block, which all others precede
 furthest-more : (end : Extent → ℕ) (bs : List Extent) (o : Option Extent) (b : Extent) → Furthest end bs o
     → ((d : Extent) → Contains bs d → precedes d b ≡ true)
     → Furthest end (bs ++ b ∷ []) (further end o b)
-furthest-more end bs None b none below = subst (λ (xs : List Extent). IsFurthest end (xs ++ b ∷ []) b) (sym none) (furthest-only end b)
+furthest-more end bs None b none below = grind arith
 furthest-more end bs (Some c) b h below =
     grind (arith, nat_tests, cases_lt (end c) (end b), furthest-next end bs c b h below, furthest-kept end bs c b h below)
 
@@ -126,26 +123,19 @@ no_elements (x ∷ xs) none = absurd (none x (contains-here x xs))
 abbrev Tells : (Extent → ℕ) → List Extent → Option Extent → Type 0
 Tells end xs o = (first_at_end end xs ≡ o) × (greatest_end end xs ≡ end_of end o)
 
-greatest-is : (end : Extent → ℕ) (xs bs : List Extent) (c : Extent) → HaveSame xs bs → IsFurthest end bs c → greatest_end end xs ≡ end c
-greatest-is end xs bs c same h =
-    let least = greatest-least end (end c) xs (λ d has. h.most d (same.there d has)) in
-    let above = greatest-above end xs c (same.back c h.among) in omega arith
-
 furthest-tells : (end : Extent → ℕ) (xs bs : List Extent) (o : Option Extent) → HaveSame xs bs → Furthest end bs o → Tells end xs o
 furthest-tells end xs bs None same none =
-    let empty : xs ≡ [] = no_elements xs (λ c has. contains-none c (subst (λ (ys : List Extent). Contains ys c) none (same.there c has))) in
-    (ap (first_at_end end) empty, ap (greatest_end end) empty)
+    let empty = no_elements xs (λ c has. contains-none c (subst (λ (ys : List Extent). Contains ys c) none (same.there c has))) in grind arith
 furthest-tells end xs bs (Some c) same h =
+    let least = greatest-least end (end c) xs (λ d has. h.most d (same.there d has)) in
+    let above = greatest-above end xs c (same.back c h.among) in
+    let greatest : greatest_end end xs ≡ end c = omega arith in
     let at_end = λ (b : Extent). end b == greatest_end end xs in (
       first_block-is (filter at_end xs) c
-          (contains-filter at_end xs c (same.back c h.among) (eq-eqb (end c) (greatest_end end xs) (sym greatest)))
-          (λ d has. let k = filter-contains at_end xs d has in h.first d (same.there d k.0)
-          (eqb-true (end d) (greatest_end end xs) k.1 ∙ greatest)),
+          (contains-filter at_end xs c (same.back c h.among) (grind (arith, nat_tests)))
+          (λ d has. let k = filter-contains at_end xs d has in grind (arith, nat_tests, h.first d (same.there d k.0))),
       greatest,
     )
-  where
-    greatest : greatest_end end xs ≡ end c
-    greatest = greatest-is end xs bs c same h
 
 -- ---- the findings at one block
 
@@ -184,8 +174,7 @@ before-same bs sorted done rest b same split below above = record { there = ther
 
     back : (c : Extent) → Contains done c → Contains (before bs b) c
     back c has =
-        let inside : Contains sorted c = subst (λ (xs : List Extent). Contains xs c) (sym split)
-        (Contains-append_left done (b ∷ rest) c has) in
+        let inside = subst (λ (xs : List Extent). Contains xs c) (sym split) (Contains-append_left done (b ∷ rest) c has) in
         contains-filter (λ d. precedes d b) bs c (Contains-permutation sorted bs c (IsPermutation-sym bs sorted same) inside) (below c has)
 
 swept-is : (header_end : ℕ) (bs sorted done rest : List Extent) (reached : Reached) → IsPermutation bs sorted → sorted ≡ done ++ rest
@@ -196,19 +185,18 @@ swept-is header_end bs sorted done [] reached same split below up h = refl
 swept-is header_end bs sorted done (b ∷ rest) reached same split below up h =
     let before_b = λ (c : Extent) (has : Contains done c). below c b has (contains-here b rest) in
     let here = findings-same header_end (before bs b) done reached b (before-same bs sorted done rest b same split before_b up.0) h in
-    let after = swept-is header_end bs sorted (done ++ b ∷ []) rest (reached_with reached b) same (split
-    ∙ sym (append_assoc done (b ∷ []) rest))
-    (λ c d in_done in_rest. next c d in_rest (Contains-push_cases done b c in_done)) up.1
+    let after = swept-is header_end bs sorted (done ++ b ∷ []) rest (reached_with reached b) same (split ∙ sym (append_assoc done (b ∷ []) rest))
+    (λ c d in_done in_rest. grind (
+      arith,
+      Contains-push_cases done b c in_done,
+      λ (has : Contains done c). below c d has (contains-there b d rest in_rest),
+      up.0 d in_rest,
+    )) up.1
     (record {
       values = furthest-more value_end done reached.values b h.values before_b;
       padding = furthest-more padding_end done reached.padding b h.padding before_b;
     }) in
-    ap (λ (xs : List LayoutFinding). xs ++ swept header_end (reached_with reached b) rest) here
-    ∙ ap (λ (xs : List LayoutFinding). findings_after header_end (before bs b) b ++ xs) after
-  where
-    next : (c d : Extent) → Contains rest d → Contains done c ⊎ (b ≡ c) → precedes c d ≡ true
-    next c d in_rest (inl has) = below c d has (contains-there b d rest in_rest)
-    next c d in_rest (inr is) = subst (λ (x : Extent). precedes x d ≡ true) is (up.0 d in_rest)
+    grind (arith, here, after)
 
 -- one pass over the sorted blocks finds what there is to find at each of them
 pub swept-blocks : (header_end : ℕ) (bs sorted : List Extent) → IsPermutation bs sorted → Ascending sorted
