@@ -4,14 +4,14 @@ use Rattle.std.proofs.lemmas.Bool.Decides.{nat_tests}
 use Rattle.std.specs.List.{list_any, prefix_len}
 use Rattle.std.proofs.lemmas.Grind.{common_steps, fold-append}
 use Rattle.std.proofs.lemmas.List.{at_drop_more, take_more, map-append, length-take-le}
-use Rattle.std.proofs.lemmas.List.Elements.{filter-append, All-filter, All-head}
+use Rattle.std.proofs.lemmas.List.Elements.{filter-append, All-head, All-tail}
 use Rattle.std.proofs.lemmas.List.Folds.{position_or_len_push}
 use Rattle.std.proofs.lemmas.List.Sums.{sum_by-append}
 use Rattle.std.proofs.lemmas.Option.{slice_get_within, get_or_from_slice_get}
 use Rattle.std.proofs.Math.ListN.{take-append-drop}
 use Rattle.std.specs.Option.{ForSome}
 use Rattle.nc_layout.specs.declared.{slot.Slot.Slot, slot_rules.PassedSlots.PassedSlots}
-use Rattle.nc_layout.specs.Slots.{padded_slab, is_fixed, record_slots, records_begin, least}
+use Rattle.nc_layout.specs.Slots.{padded_slab, is_fixed, record_slots, records_begin}
 use Rattle.nc_layout.specs.Findings.{IsSoundSlot}
 use Rattle.nc_layout.specs.SlotRules.{greatest_begin, fixed_slot_at, bytes_before, has_successor, order}
 use Rattle.nc_layout.proofs.SweptBlocks.{greatest_from-ge}
@@ -23,14 +23,11 @@ some_passes : (p : Slot → Bool) (xs : List Slot) → list_any p xs ≡ nat_lt 
 some_passes p [] = refl
 some_passes p (x ∷ xs) = grind (arith, common_steps, some_passes p xs)
 
-least-some : (slots : List Slot) → is_some (least (map (λ (slot : Slot). slot.begin) (record_slots slots))) ≡ list_any is_record_slot slots
-least-some [] = refl
-least-some (slot ∷ slots) = grind (arith, least-some slots)
-
 -- there are record slots if and only if the records begin somewhere
 pub records_begin-some : (slots : List Slot) → is_some (records_begin slots) ≡ list_any is_record_slot slots
 unfolding records_begin
-records_begin-some slots = least-some slots
+records_begin-some [] = refl
+records_begin-some (slot ∷ slots) = grind (arith, records_begin-some slots)
 
 -- a count that includes the next slot shows whether another follows
 follows : (p : Slot → Bool) (slots : List Slot) (i left : ℕ) (slot : Slot) → slice_get slots i ≡ Some slot → p slot ≡ true
@@ -63,13 +60,11 @@ fold_min-le : (n : ℕ) (ns : List ℕ) → fold min n ns ≤ n
 fold_min-le n [] = omega arith
 fold_min-le n (m ∷ ns) = let h = fold_min-le (min n m) ns in omega arith
 
-least-small : (rs : List Slot) (b : ℕ) → All IsSoundSlot rs → least (map (λ (slot : Slot). slot.begin) rs) ≡ Some b → b < 2 ^ 63
-least-small [] b sound is = cc
-least-small (slot ∷ rs) b sound is = grind (arith, All-head, fold_min-le)
-
 pub records_begin-small : (slots : List Slot) (b : ℕ) → All IsSoundSlot slots → records_begin slots ≡ Some b → b < 2 ^ 63
 unfolding records_begin
-records_begin-small slots b sound is = least-small (record_slots slots) b (All-filter is_record_slot IsSoundSlot slots sound) is
+records_begin-small [] b sound is = cc
+records_begin-small (slot ∷ slots) b sound is =
+    grind (arith, All-head IsSoundSlot slot slots sound, fold_min-le, records_begin-small slots b (All-tail IsSoundSlot slot slots sound))
 
 pub bytes_before-le : (slots : List Slot) (i : ℕ) → bytes_before slots i ≤ sum_by padded_slab (record_slots slots)
 bytes_before-le slots i =
@@ -154,4 +149,4 @@ begin_is_small slots o sound is = λ begin at. records_begin-small slots begin s
 
 pub bytes_are_small : (slots : List Slot) (i bytes : ℕ) → bytes ≡ bytes_before slots i → sum_by padded_slab (record_slots slots) ≤ 2 ^ 62
     → bytes ≤ 2 ^ 62
-bytes_are_small slots i bytes is small = let le = bytes_before-le slots i in omega arith
+bytes_are_small slots i bytes is small = omega (arith, bytes_before-le slots i)

@@ -40,14 +40,11 @@ pub record_size-is : (slots : List Slot) (narrow : Bool) → narrow ≡ is_sole_
 unfolding record_size
 record_size-is slots narrow is = ap (λ b. sum_by (slab_if b) (record_slots slots)) is
 
-slab_if-le : (narrow : Bool) (slot : Slot) → slab_if narrow slot ≤ padded_slab slot
-slab_if-le v0 slot = grind arith
-
 -- a record isn't larger than its padded slabs
 pub record_size-le : (slots : List Slot) → record_size slots ≤ sum_by padded_slab (record_slots slots)
 unfolding record_size
 record_size-le slots =
-    sum_by-le-sum_by (slab_in_record slots) padded_slab (record_slots slots) (slab_if-le (is_sole_narrow (record_slots slots)))
+    sum_by-le-sum_by (slab_in_record slots) padded_slab (record_slots slots) (λ slot. grind arith)
 
 -- the next slab fits into the record
 pub record_size-fits : (slots : List Slot) (narrow : Bool) (i size : ℕ) (d : Slot) → i < length slots → (get_or slots i d).is_record ≡ true

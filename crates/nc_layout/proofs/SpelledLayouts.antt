@@ -1,11 +1,11 @@
 -- A header that bytes spell, by whatever rules, has a sound layout.
 use Rattle.std.proofs.lemmas.Grind.{common_steps}
 use Rattle.std.proofs.Common.{◌≡◌, ℕ, zero, suc, ◌+◌, ◌^◌, ◌<◌, ◌≤◌, Bool, true, List, [], ◌∷◌, ◌++◌, length, sym, subst, append_assoc, append-nil, arith, if◌then◌else◌, Result, Ok, Err, All}
-use Rattle.std.proofs.lemmas.Bool.{ltb-true, leb-true}
+use Rattle.std.proofs.lemmas.Bool.{leb-true}
+use Rattle.std.proofs.lemmas.Bool.Decides.{nat_tests}
 use Rattle.std.proofs.lemmas.List.Elements.{All-nil, All-cons, All-append, All-map}
 use Rattle.nc_base.specs.declared.{fault.FormatFault.FormatFault, header.Dim.Dim, header.Var.Var, header.Header.Header, version.Version.Version}
 use Rattle.nc_base.specs.Bytes.{Bytes}
-use Rattle.nc_base.specs.Versions.{offset_limit}
 use Rattle.nc_base.specs.Sizes.{record_limit, record_vars, padded_total}
 use Rattle.nc_base.specs.Headers.{IsDimid, AreDimids}
 use Rattle.nc_base.specs.Parts.{Part, Spells}
@@ -43,7 +43,7 @@ dimid-spelled v dims before from id rest v6 = grind (arith, common_steps)
 dimids-push : (dims : List Dim) (before ids : List ℕ) (id : ℕ) → AreDimids dims before ids → IsDimid dims (before ++ ids) id
     → AreDimids dims before (ids ++ id ∷ [])
 dimids-push dims before [] id known is = (subst (λ ids. IsDimid dims ids id) (append-nil before) is, tt)
-dimids-push dims before (next ∷ ids) id known is = grind (arith, dimids-push dims (before ++ next ∷ []) ids id known.1 (subst (λ ids. IsDimid dims ids id) (sym (append_assoc before (next ∷ []) ids)) is))
+dimids-push dims before (next ∷ ids) id known is = grind (arith, append_assoc, dimids-push dims (before ++ next ∷ []) ids id known.1)
 
 shape-spelled : (v : Version) (dims : List Dim) (from : Bytes) (ids : List ℕ) (rest : Bytes) → Spells (shape_part v dims) from ids rest
     → AreDimids dims [] ids
@@ -55,12 +55,9 @@ shape-spelled v dims from ids rest (n, m, c, t) =
 
 -- ---- variables
 
-offset-below : (v : Version) (from : Bytes) (n : ℕ) (rest : Bytes) → Spells (offset_part v) from n rest → n < offset_limit v
+offset-below : (v : Version) (from : Bytes) (n : ℕ) (rest : Bytes) → Spells (offset_part v) from n rest → n < 2 ^ 63
 unfolding Spells offset_part
-offset-below v from n rest (m, s, e) = let p = passed _ m n _ e in subst (λ k. k < offset_limit v) p.1 (ltb-true _ _ p.0)
-
-offset-small : (v : Version) → offset_limit v ≤ 2 ^ 63
-offset-small v = grind arith
+offset-below v from n rest (m, s, e) = grind (arith, nat_tests)
 
 -- the slot of this variable is sound
 abbrev HasSoundSlot : List Dim → Var → Type 0
@@ -83,7 +80,7 @@ var-spelled r v dims before from x rest
     (text, m, s, (ids, m2, sh, (atts, m3, a, (ty, m4, (t, ts, e), (vsize, m5, vs, (begin, m6, b, (whole, end))))))) kept =
     let p = passed _ t ty _ e in
     let sound = var-sound dims before (record { name = text; dimids = ids; atts = atts; ty = ty; begin_at = begin })
-    (shape-spelled v dims m ids m2 sh) (omega (arith, offset-below v m5 begin m6 b, offset-small v))
+    (shape-spelled v dims m ids m2 sh) (offset-below v m5 begin m6 b)
     (subst (λ k. is_within_limits dims (padded_total dims (record_vars dims before)) ids k ≡ true) p.1 p.0) in
     grind (arith, common_steps, All-append, All-cons, All-nil)
 
