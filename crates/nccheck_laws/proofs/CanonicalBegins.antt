@@ -1,5 +1,5 @@
 -- If nothing is found at the begins, each slot begins where a generated file has it.
-use Rattle.std.proofs.Common.{◌≡◌, ℕ, zero, suc, ◌+◌, ◌<◌, ◌≤◌, max, Bool, true, false, not, length, take, filter, ap, arith, Some, inl, inr, ◌⊎◌, if◌then◌else◌, refl}
+use Rattle.std.proofs.Common.{◌≡◌, ℕ, zero, suc, ◌+◌, ◌<◌, ◌≤◌, max, true, length, take, filter, arith, Some}
 use Rattle.std.specs.List.{Contains}
 use Rattle.std.proofs.lemmas.Bool.{cases_lt}
 use Rattle.std.proofs.lemmas.Bool.Decides.{nat_tests}
@@ -12,9 +12,9 @@ use Rattle.nc_layout.specs.BlockRules.{greatest_end, block_findings}
 use Rattle.nc_layout.specs.code.Sweep.{padding_end}
 use Rattle.nc_layout.proofs.SweptBlocks.{greatest-above}
 use Rattle.nccheck_laws.specs.LayoutLaws.{is_of_begin, FindsNone, fixed_bytes, canonical_begin, QuietBeginsAreCanonical}
-use Rattle.nccheck_laws.proofs.FoundNone.{Quiet, quiet-slot, quiet-block}
+use Rattle.nccheck_laws.proofs.FoundNone.{quiet-slot, quiet-block}
 use Rattle.nccheck_laws.proofs.IndexedSlots.{At, at-filtered, total-below}
-use Rattle.nccheck_laws.proofs.LayoutBlocks.{each-block, fixed-there, records-there, fixed_place, all-place, before-le, place-reached, begin-ge, begins}
+use Rattle.nccheck_laws.proofs.LayoutBlocks.{each-block, fixed-there, records-there, fixed_place, all-place, before-le, place-reached, begin-ge, first_begin, begins}
 
 -- ---- what the rules say
 
@@ -25,38 +25,30 @@ pub record IsQuietSlot (layout : Layout) (i : ℕ) (slot : Slot) : Type 0 where
   pub in_place : (begin : ℕ) → records_begin layout.slots ≡ Some begin → slot.is_record ≡ true
       → slot.begin ≡ begin + bytes_before layout.slots i
 
-slot-is : (layout : Layout) (i : ℕ) (x : Slot) → Quiet is_of_begin (slot_findings layout i x) → IsQuietSlot layout i x
+slot-of : (layout : Layout) (i : ℕ) (x : Slot) → FindsNone is_of_begin layout → At layout.slots i x → IsQuietSlot layout i x
 unfolding slot_findings
-slot-is layout i x h = grind (arith, nat_tests)
+slot-of layout i x quiet at = let h = quiet-slot is_of_begin layout i x quiet at in grind (arith, nat_tests)
 
 -- it begins where the blocks before it end, with their padding, or the header
 pub record IsQuietBlock (layout : Layout) (b : Extent) : Type 0 where
   pub not_before : greatest_end padding_end (before (blocks layout) b) ≤ b.begin
   pub not_after : b.begin ≤ max layout.header_end (greatest_end padding_end (before (blocks layout) b))
 
-block-is : (layout : Layout) (b : Extent) → Quiet is_of_begin (block_findings layout.header_end (blocks layout) b) → IsQuietBlock layout b
+block-of : (layout : Layout) (b : Extent) → FindsNone is_of_begin layout → Contains (blocks layout) b → IsQuietBlock layout b
 unfolding block_findings
-block-is layout b h = record { not_before = grind (arith, nat_tests); not_after = grind (arith, nat_tests) }
+block-of layout b quiet has =
+    let h = quiet-block is_of_begin layout b quiet has in
+    record { not_before = grind (arith, nat_tests); not_after = grind (arith, nat_tests) }
 
 -- ---- slots that aren't record slots
 
-slot-of : (layout : Layout) (i : ℕ) (x : Slot) → FindsNone is_of_begin layout → At layout.slots i x → IsQuietSlot layout i x
-slot-of layout i x quiet at = slot-is layout i x (quiet-slot is_of_begin layout i x quiet at)
-
-block-of : (layout : Layout) (b : Extent) → FindsNone is_of_begin layout → Contains (blocks layout) b → IsQuietBlock layout b
-block-of layout b quiet has = block-is layout b (quiet-block is_of_begin layout b quiet has)
-
 in_order : (layout : Layout) (j k : ℕ) (y x : Slot) → FindsNone is_of_begin layout → j ≤ k → At layout.slots j y → At layout.slots k x
     → is_fixed y ≡ true → is_fixed x ≡ true → y.begin ≤ x.begin
-in_order layout j k y x quiet le at_y at_x fixed_y fixed_x = by_order (cases_lt j k)
-  where
-    by_order : (j < k) ⊎ (k ≤ j) → y.begin ≤ x.begin
-    by_order (inl lt) =
-        let above = greatest-above (λ (s : Slot). s.begin) (filter is_fixed (take k layout.slots)) y
-        (at-filtered is_fixed layout.slots k j y at_y lt fixed_y) in
-        let ordered = (slot-of layout k x quiet at_x).in_order fixed_x in omega arith
-    by_order (inr ge) =
-        let same : j ≡ k = omega arith in let e : y ≡ x = cc in let f = ap (λ (s : Slot). s.begin) e in omega arith
+in_order layout j k y x quiet le at_y at_x fixed_y fixed_x =
+    let ordered = (slot-of layout k x quiet at_x).in_order fixed_x in
+    let above = λ (lt : j < k). greatest-above (λ (s : Slot). s.begin) (filter is_fixed (take k layout.slots)) y
+    (at-filtered is_fixed layout.slots k j y at_y lt fixed_y) in
+    grind (arith, cases_lt j k, above)
 
 -- the slots before it are in their places, so it is too
 abbrev AreInPlace : Layout → ℕ → Type 0
@@ -74,21 +66,19 @@ fixed-next layout i x quiet at fixed done =
     let block = block-of layout (slot_block i x) quiet (fixed-there layout i x at fixed) in
     let ge = place-reached layout (slot_block i x) i (λ k y at_y lt is. (
       done k y at_y lt is,
-      (let le = in_order layout k i y x quiet (omega arith) at_y at is fixed in grind (arith, nat_tests)),
+      grind (arith, nat_tests, in_order layout k i y x quiet (omega arith) at_y at is fixed),
     )) in
-    omega (arith, slot.after_header, block.not_before, block.not_after, reach)
-  where
-    lower : (k : ℕ) (y : Slot) → At layout.slots k y → is_fixed y ≡ true → precedes (slot_block k y) (slot_block i x) ≡ true
-        → (k < i) ⊎ (i ≤ k) → k < i
-    lower k y at_y is first (inl lt) = lt
-    lower k y at_y is first (inr ge) = let le = in_order layout i k x y quiet ge at at_y fixed is in grind (arith, nat_tests)
-
-    reach : greatest_end padding_end (before (blocks layout) (slot_block i x)) ≤ fixed_place layout i
-    reach =
-        before-le layout (slot_block i x) (fixed_place layout i)
-        (each-block layout (λ c. precedes c (slot_block i x) ≡ true → c.padded_end ≤ fixed_place layout i)
-        (λ k y at_y is first. place-le layout i done k y at_y (lower k y at_y is first (cases_lt k i)) is)
-        (λ begin found first. let le = (slot-of layout i x quiet at).before_records begin found fixed in absurd (grind (arith, nat_tests))))
+    let le = before-le layout (slot_block i x) (fixed_place layout i)
+    (each-block layout (λ c. precedes c (slot_block i x) ≡ true → c.padded_end ≤ fixed_place layout i)
+    (λ k y at_y is first. grind (
+      arith,
+      nat_tests,
+      cases_lt k i,
+      λ (lt : k < i). place-le layout i done k y at_y lt is,
+      λ (le : i ≤ k). in_order layout i k x y quiet le at at_y fixed is,
+    ))
+    (λ begin found first. absurd (grind (arith, nat_tests, slot.before_records begin found fixed)))) in
+    omega (arith, slot.after_header, block.not_before, block.not_after)
 
 fixed-below : (layout : Layout) (i : ℕ) → FindsNone is_of_begin layout → AreInPlace layout i
 fixed-below layout zero quiet = λ k x at lt is. absurd (omega arith)
@@ -106,27 +96,27 @@ records-in-place layout begin quiet found =
     let block = block-of layout b quiet (records-there layout begin found) in
     let le = before-le layout b (fixed_place layout n) (each-block layout (λ c. precedes c b ≡ true → c.padded_end ≤ fixed_place layout n)
     (λ k y at is first. place-le layout n done k y at (slice_get_within layout.slots k y at) is)
-    (λ other again first. let same : other ≡ begin = cc in absurd (grind (arith, nat_tests)))) in
+    (λ other again first. absurd (let same : other ≡ begin = cc in grind (arith, nat_tests)))) in
     let ge = place-reached layout b n (λ k y at lt is. (
       done k y at lt is,
-      (let h = (slot-of layout k y quiet at).before_records begin found is in grind (arith, nat_tests)),
+      grind (arith, nat_tests, (slot-of layout k y quiet at).before_records begin found is),
     )) in
-    let all = all-place layout in
-    omega (arith, block.not_before, block.not_after)
+    omega (arith, all-place layout, block.not_before, block.not_after)
 
 -- ---- the law
 
 slot-canonical : (layout : Layout) (i : ℕ) (x : Slot) → FindsNone is_of_begin layout → At layout.slots i x
     → x.begin ≡ canonical_begin layout i x
-slot-canonical layout i x quiet at = by_kind x.is_record refl
-  where
-    by_kind : (b : Bool) → x.is_record ≡ b
-        → x.begin ≡ (if b then layout.header_end + fixed_bytes layout.slots + bytes_before layout.slots i else fixed_place layout i)
-    by_kind true is =
-        let begin = begins layout.slots i x at is in
-        let place = (slot-of layout i x quiet at).in_place begin.0 begin.1 is in
-        let records = records-in-place layout begin.0 quiet begin.1 in omega arith
-    by_kind false is = fixed-below layout (suc i) quiet i x at (omega arith) (ap not is)
+slot-canonical layout i x quiet at =
+    let begin = first_begin layout.slots in
+    let found = begins layout.slots i x at in
+    grind (
+      arith,
+      found,
+      (slot-of layout i x quiet at).in_place begin,
+      records-in-place layout begin quiet,
+      fixed-below layout (suc i) quiet i x at (omega arith),
+    )
 
 pub quiet-begins : QuietBeginsAreCanonical
 quiet-begins layout quiet i = grind (arith, slot-canonical)

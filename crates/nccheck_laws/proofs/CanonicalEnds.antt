@@ -1,20 +1,25 @@
--- Where slots and blocks end if each slot begins in its canonical place.
-use Rattle.std.proofs.Common.{◌≡◌, ℕ, zero, suc, ◌+◌, ◌-◌, ◌*◌, ◌<◌, ◌≤◌, true, length, filter, subst, arith, Option, Some, IfSome, inl, inr, ◌⊎◌}
+-- Where slots and blocks end if each slot begins in its canonical place; so a file without findings at begins and at its end has the
+-- length of a generated one.
+use Rattle.std.proofs.Common.{◌≡◌, ℕ, zero, suc, ◌+◌, ◌-◌, ◌*◌, ◌<◌, ◌≤◌, true, length, filter, subst, arith, Option, Some, IfSome, max, refl}
 use Rattle.std.specs.List.{Contains}
 use Rattle.std.proofs.lemmas.Bool.{cases_lt, lt-ltb}
+use Rattle.std.proofs.lemmas.Bool.Decides.{nat_tests}
 use Rattle.std.proofs.lemmas.Option.{slice_get_within}
 use Rattle.nc_layout.specs.declared.{slot.Slot.Slot, slot.Layout.Layout, blocks.Extent.Extent}
 use Rattle.nc_layout.specs.Slots.{padded_slab, is_fixed, slab_in_record, record_size, records_begin, record_count}
 use Rattle.nc_layout.specs.Blocks.{slot_block, records_block, blocks, has_values}
 use Rattle.nc_layout.specs.SlotRules.{bytes_before}
-use Rattle.nc_layout.specs.FileEnd.{padding_end, used_end}
+use Rattle.nc_layout.specs.FileEnd.{values_end, padding_end, used_end, end_findings}
 use Rattle.nc_layout.specs.Findings.{IsSoundSlot, IsSoundLayout}
 use Rattle.nc_layout.specs.code.PassedSlots.{is_record_slot}
 use Rattle.nc_layout.proofs.BlockOrder.{contains-filter}
 use Rattle.nc_layout.proofs.SweptBlocks.{greatest_from-ge, greatest_from-above, greatest_from-least}
-use Rattle.nccheck_laws.specs.LayoutLaws.{fixed_bytes, canonical_begin, HasCanonicalBegins, canonical_len}
-use Rattle.nccheck_laws.proofs.IndexedSlots.{At, all-at, total, total-below, total-whole, total-reach, slab-fits, part-le}
-use Rattle.nccheck_laws.proofs.LayoutBlocks.{each-block, fixed-there, records-there, fixed_place, all-place, records_end-above, records_end-le, begin-le, begin-ge, begins, first-record}
+use Rattle.nccheck_laws.specs.LayoutLaws.{fixed_bytes, is_of_end, canonical_begin, HasCanonicalBegins, canonical_len, QuietLengthIsCanonical}
+use Rattle.nccheck_laws.proofs.IndexedSlots.{At, all-at, total-below, total-whole, total-reach, slab-fits, part-le}
+use Rattle.nccheck_laws.proofs.LayoutBlocks.{each-block, fixed-there, records-there, fixed_place, all-place, records_end-above, records_end-le, first_begin, begins, begin-is}
+use Rattle.nccheck_laws.proofs.FoundNone.{Quiet, quiet-end}
+use Rattle.nccheck_laws.proofs.WholeSlots.{quiet-values}
+use Rattle.nccheck_laws.proofs.CanonicalBegins.{quiet-begins}
 
 -- ---- the canonical places
 
@@ -23,20 +28,16 @@ place layout i x h at = subst (λ (o : Option Slot). IfSome o (λ (slot : Slot).
 
 pub fixed-place : (layout : Layout) (i : ℕ) (x : Slot) → HasCanonicalBegins layout → At layout.slots i x → is_fixed x ≡ true
     → x.begin ≡ fixed_place layout i
-fixed-place layout i x h at is = let e = place layout i x h at in grind arith
+fixed-place layout i x h at is = grind (arith, place layout i x h at)
 
 pub slab-place : (layout : Layout) (i : ℕ) (x : Slot) → HasCanonicalBegins layout → At layout.slots i x → x.is_record ≡ true
     → x.begin ≡ layout.header_end + fixed_bytes layout.slots + bytes_before layout.slots i
-slab-place layout i x h at is = let e = place layout i x h at in grind arith
+slab-place layout i x h at is = grind (arith, place layout i x h at)
 
 pub records-place : (layout : Layout) (begin : ℕ) → HasCanonicalBegins layout → records_begin layout.slots ≡ Some begin
     → begin ≡ layout.header_end + fixed_bytes layout.slots
 records-place layout begin h found =
-    let first = first-record layout.slots begin found in
-    let at = slab-place layout first.0 first.1 h first.2 first.3 in
-    let le = begin-le layout.slots begin first.0 first.1 found first.2 first.3 in
-    let ge = begin-ge layout.slots begin (layout.header_end + fixed_bytes layout.slots) found
-    (λ k x there is. let e = slab-place layout k x h there is in omega arith) in omega (arith, first.4)
+    begin-is layout.slots begin (layout.header_end + fixed_bytes layout.slots) found (λ k x at is. slab-place layout k x h at is)
 
 -- a slot that isn't a record slot ends before the next one begins
 pub fixed-ends : (layout : Layout) (k i : ℕ) (x : Slot) → HasCanonicalBegins layout → At layout.slots k x → is_fixed x ≡ true → k < i
@@ -78,59 +79,48 @@ reached layout b has some =
 fixed-reached : (layout : Layout) → IsSoundLayout layout → HasCanonicalBegins layout
     → layout.header_end + fixed_bytes layout.slots ≤ padding_end layout
 fixed-reached layout sound h =
-    by_total (total-reach padded_slab is_fixed layout.slots layout.header_end (padding_end layout) (length layout.slots) (λ k x at lt is.
+    let reach = total-reach padded_slab is_fixed layout.slots layout.header_end (padding_end layout) (length layout.slots) (λ k x at lt is.
     let e = fixed-place layout k x h at is in
     let some = (all-at IsSoundSlot layout.slots k x sound.sound_slots at).some_bytes in
-    let le = reached layout (slot_block k x) (fixed-there layout k x at is) (omega arith) in omega arith))
-  where
-    by_total : (total padded_slab is_fixed layout.slots (length layout.slots) ≡ 0)
-        ⊎ (fixed_place layout (length layout.slots) ≤ padding_end layout) → layout.header_end + fixed_bytes layout.slots ≤ padding_end layout
-    by_total (inl none) =
-        let all = all-place layout in
-        let ge = greatest_from-ge (λ (c : Extent). c.padded_end) layout.header_end (filter has_values (blocks layout)) in omega arith
-    by_total (inr le) = let all = all-place layout in omega arith
+    let le = reached layout (slot_block k x) (fixed-there layout k x at is) (omega arith) in omega arith) in
+    let ge = greatest_from-ge (λ (c : Extent). c.padded_end) layout.header_end (filter has_values (blocks layout)) in
+    omega (arith, all-place layout)
+
+-- the last record reaches its padded end
+records-reached : (layout : Layout) → IsSoundLayout layout → HasCanonicalBegins layout → 0 < record_count layout
+    → canonical_len layout ≤ max (canonical_len layout - record_size layout.slots) (padding_end layout)
+unfolding record_size
+records-reached layout sound h some =
+    let slots = layout.slots in
+    let n = record_count layout in
+    let before = layout.header_end + fixed_bytes slots + (n - 1) * record_size slots in
+    let reach = total-reach (slab_in_record slots) is_record_slot slots before (padding_end layout) (length slots) (λ k x at lt is.
+    let found = begins slots k x at is in
+    let place = slab-place layout k x h at is in
+    let bytes = (all-at IsSoundSlot slots k x sound.sound_slots at).some_bytes in
+    let values = records_end-above slots n (first_begin slots) (λ s. s.slab) k x some at is in
+    let padded = records_end-above slots n (first_begin slots) (slab_in_record slots) k x some at is in
+    let le = reached layout (records_block slots n (first_begin slots)) (records-there layout (first_begin slots) found.0) (omega (arith, found.1)) in
+    omega (arith, part-le slots k)) in
+    omega (arith, total-whole (slab_in_record slots) is_record_slot slots, times-pred n (record_size slots) some)
 
 pub padding-ge : (layout : Layout) → IsSoundLayout layout → HasCanonicalBegins layout → canonical_len layout ≤ padding_end layout
-unfolding record_size
-padding-ge layout sound h = by_count (cases_lt 0 (record_count layout))
-  where
-    n : ℕ
-    n = record_count layout
+padding-ge layout sound h =
+    let fixed = fixed-reached layout sound h in
+    let n = record_count layout in
+    let size = record_size layout.slots in
+    grind (arith, cases_lt 0 n, cases_lt 0 size, records-reached layout sound h)
 
-    size : ℕ
-    size = record_size layout.slots
+-- ---- the law
 
-    base : ℕ
-    base = layout.header_end + fixed_bytes layout.slots
+quiet-end-is : (layout : Layout) → values_end layout ≤ layout.file_len → Quiet is_of_end (end_findings layout)
+    → (layout.file_len ≤ used_end layout) × (padding_end layout ≤ layout.file_len)
+unfolding end_findings
+quiet-end-is layout within h = (grind (arith, nat_tests), grind (arith, nat_tests))
 
-    none-more : n * size ≡ 0 → canonical_len layout ≤ padding_end layout
-    none-more none = let fixed = fixed-reached layout sound h in omega arith
-
-    records : 0 < n → (k : ℕ) (x : Slot) → At layout.slots k x → k < length layout.slots → is_record_slot x ≡ true
-        → base + (n - 1) * size + total (slab_in_record layout.slots) is_record_slot layout.slots k + slab_in_record layout.slots x
-        ≤ padding_end layout
-    records some k x at lt is =
-        let begin = begins layout.slots k x at is in
-        let at_place = slab-place layout k x h at is in
-        let bytes = (all-at IsSoundSlot layout.slots k x sound.sound_slots at).some_bytes in
-        let below = begin-le layout.slots begin.0 k x begin.1 at is in
-        let values = records_end-above layout.slots n begin.0 (λ s. s.slab) k x some at is in
-        let padded = records_end-above layout.slots n begin.0 (slab_in_record layout.slots) k x some at is in
-        let le = reached layout (records_block layout.slots n begin.0) (records-there layout begin.0 begin.1) (omega arith) in
-        let part = part-le layout.slots k in omega arith
-
-    by_total : 0 < n → (total (slab_in_record layout.slots) is_record_slot layout.slots (length layout.slots) ≡ 0)
-        ⊎ (base + (n - 1) * size + total (slab_in_record layout.slots) is_record_slot layout.slots (length layout.slots) ≤ padding_end layout)
-        → canonical_len layout ≤ padding_end layout
-    by_total some (inl none) =
-        let whole = total-whole (slab_in_record layout.slots) is_record_slot layout.slots in
-        none-more (let e : size ≡ 0 = omega arith in grind arith)
-    by_total some (inr le) =
-        let whole = total-whole (slab_in_record layout.slots) is_record_slot layout.slots in
-        let times = times-pred n size some in omega arith
-
-    by_count : (0 < n) ⊎ (n ≤ 0) → canonical_len layout ≤ padding_end layout
-    by_count (inr none) = none-more (let e : n ≡ 0 = omega arith in grind arith)
-    by_count (inl some) =
-        by_total some (total-reach (slab_in_record layout.slots) is_record_slot layout.slots (base + (n - 1) * size) (padding_end layout)
-        (length layout.slots) (records some))
+pub quiet-length : QuietLengthIsCanonical
+quiet-length layout sound quiet_begin quiet_end =
+    let found = quiet-end is_of_end layout quiet_end in
+    let end = quiet-end-is layout (quiet-values is_of_end layout sound (λ file_len end slab. refl) found) found in
+    let begins = quiet-begins layout quiet_begin in
+    omega (arith, used-le layout begins, padding-ge layout sound begins, end.0, end.1)

@@ -1,5 +1,5 @@
 -- Where each slot begins in its canonical place, nothing is found at the begins; nor at the end of a file of the canonical length.
-use Rattle.std.proofs.Common.{◌≡◌, ℕ, ◌+◌, ◌<◌, ◌≤◌, max, true, length, take, filter, ap, arith, inl, inr, ◌⊎◌}
+use Rattle.std.proofs.Common.{◌≡◌, ℕ, ◌+◌, ◌≤◌, max, true, length, take, filter, arith}
 use Rattle.std.specs.List.{Contains}
 use Rattle.std.proofs.lemmas.Bool.{cases_lt}
 use Rattle.std.proofs.lemmas.Bool.Decides.{nat_tests}
@@ -17,31 +17,22 @@ use Rattle.nc_layout.proofs.BlockOrder.{filter-contains}
 use Rattle.nc_layout.proofs.SweptBlocks.{greatest_from-ge, greatest_from-above, greatest_from-least, greatest-above, greatest-least}
 use Rattle.nccheck_laws.proofs.FoundNone.{Quiet, all-quiet}
 use Rattle.nccheck_laws.proofs.IndexedSlots.{At, all-at, filtered-at, slab-le}
-use Rattle.nccheck_laws.proofs.LayoutBlocks.{each-block, all-place, before-le, place-reached, records_end-above, records_end-le, records_end-none}
+use Rattle.nccheck_laws.proofs.LayoutBlocks.{each-block, all-place, before-le, place-reached, records_end-above, records_end-le}
 use Rattle.nccheck_laws.proofs.CanonicalBegins.{IsQuietSlot, IsQuietBlock}
 use Rattle.nccheck_laws.proofs.CanonicalEnds.{fixed-place, slab-place, records-place, fixed-ends, fixed-ends-all, used-le, padding-ge}
 
 -- ---- what holds of a slot
 
-fixed-or-record : (x : Slot) → (is_fixed x ≡ true) ⊎ (x.is_record ≡ true)
-fixed-or-record x = grind arith
-
 slot-quiet : (layout : Layout) (i : ℕ) (x : Slot) → HasCanonicalBegins layout → At layout.slots i x → IsQuietSlot layout i x
 slot-quiet layout i x h at = record {
-  after_header = after (fixed-or-record x);
+  after_header = grind (arith, fixed-place layout i x h at, slab-place layout i x h at);
   in_order = λ fixed.
-      let e = fixed-place layout i x h at fixed in
       greatest-least (λ (s : Slot). s.begin) x.begin (filter is_fixed (take i layout.slots)) (λ c has.
       let k = filtered-at is_fixed layout.slots i c has in
-      let le = fixed-ends layout k.0 i c h k.2 k.3 k.1 in omega arith);
-  before_records = λ most found fixed.
-      let le = fixed-ends-all layout i x h at fixed in let e = records-place layout most h found in omega arith;
-  in_place = λ begin found is. let e = slab-place layout i x h at is in let r = records-place layout begin h found in omega arith;
+      omega (arith, fixed-place layout i x h at fixed, fixed-ends layout k.0 i c h k.2 k.3 k.1));
+  before_records = λ most found fixed. omega (arith, fixed-ends-all layout i x h at fixed, records-place layout most h found);
+  in_place = λ begin found is. omega (arith, slab-place layout i x h at is, records-place layout begin h found);
 }
-  where
-    after : (is_fixed x ≡ true) ⊎ (x.is_record ≡ true) → layout.header_end ≤ x.begin
-    after (inl is) = let e = fixed-place layout i x h at is in omega arith
-    after (inr is) = let e = slab-place layout i x h at is in omega arith
 
 -- ---- what holds of a block
 
@@ -51,29 +42,28 @@ end-padded layout =
     let n = record_count layout in
     each-block layout (λ c. c.end ≤ c.padded_end) (λ k x at is. omega arith)
     (λ begin found. let padded = (records_block layout.slots n begin).padded_end in
-    records_end-le layout.slots n begin padded (λ s. s.slab)
-    (λ none. let e = records_end-none layout.slots n begin (slab_in_record layout.slots) none in omega arith)
-    (λ k x at is some. let above = records_end-above layout.slots n begin (slab_in_record layout.slots) k x some at is in
-    let le = (slab-le layout.slots x).0 in omega arith))
+    records_end-le layout.slots n begin padded (λ s. s.slab) (λ none. grind (arith, nat_tests))
+    (λ k x at is some. omega (
+      arith,
+      records_end-above layout.slots n begin (slab_in_record layout.slots) k x some at is,
+      (slab-le layout.slots x).0,
+    )))
 
 -- a block ends, with its padding, before those that it precedes begin
 fixed-before-fixed : (layout : Layout) (k i : ℕ) (y x : Slot) → IsSoundLayout layout → HasCanonicalBegins layout
     → At layout.slots k y → At layout.slots i x → is_fixed y ≡ true → is_fixed x ≡ true
     → precedes (slot_block k y) (slot_block i x) ≡ true → y.begin + padded_slab y ≤ x.begin
-fixed-before-fixed layout k i y x sound h at_y at_x fixed_y fixed_x first = by_order (cases_lt k i)
-  where
-    by_order : (k < i) ⊎ (i ≤ k) → y.begin + padded_slab y ≤ x.begin
-    by_order (inl lt) = let le = fixed-ends layout k i y h at_y fixed_y lt in let e = fixed-place layout i x h at_x fixed_x in omega arith
-    by_order (inr ge) = at_or_after (cases_lt i k)
-      where
-        at_or_after : (i < k) ⊎ (k ≤ i) → y.begin + padded_slab y ≤ x.begin
-        at_or_after (inl more) =
-            let le = fixed-ends layout i k x h at_x fixed_x more in
-            let e = fixed-place layout k y h at_y fixed_y in
-            let some = (all-at IsSoundSlot layout.slots i x sound.sound_slots at_x).some_bytes in absurd (grind (arith, nat_tests))
-        at_or_after (inr le) =
-            let same : k ≡ i = omega arith in
-            let e : y ≡ x = cc in let f = ap (λ (s : Slot). s.begin) e in absurd (grind (arith, nat_tests))
+fixed-before-fixed layout k i y x sound h at_y at_x fixed_y fixed_x first = grind (
+  arith,
+  nat_tests,
+  cases_lt k i,
+  cases_lt i k,
+  fixed-ends layout k i y h at_y fixed_y,
+  fixed-ends layout i k x h at_x fixed_x,
+  fixed-place layout i x h at_x fixed_x,
+  fixed-place layout k y h at_y fixed_y,
+  (all-at IsSoundSlot layout.slots i x sound.sound_slots at_x).some_bytes,
+)
 
 ends-before : (layout : Layout) → IsSoundLayout layout → HasCanonicalBegins layout → (b : Extent) → Contains (blocks layout) b
     → (c : Extent) → Contains (blocks layout) c → precedes c b ≡ true → c.padded_end ≤ b.begin
@@ -82,27 +72,40 @@ ends-before layout sound h =
     each-block layout (λ b. (c : Extent) → Contains (blocks layout) c → precedes c b ≡ true → c.padded_end ≤ b.begin)
     (λ i x at_x fixed_x. each-block layout (λ c. precedes c (slot_block i x) ≡ true → c.padded_end ≤ x.begin)
     (λ k y at_y fixed_y first. fixed-before-fixed layout k i y x sound h at_y at_x fixed_y fixed_x first)
-    (λ begin found first. let e = records-place layout begin h found in let le = fixed-ends-all layout i x h at_x fixed_x in
-    let some = (all-at IsSoundSlot layout.slots i x sound.sound_slots at_x).some_bytes in absurd (grind (arith, nat_tests))))
+    (λ begin found first. absurd (grind (
+      arith,
+      nat_tests,
+      records-place layout begin h found,
+      fixed-ends-all layout i x h at_x fixed_x,
+      (all-at IsSoundSlot layout.slots i x sound.sound_slots at_x).some_bytes,
+    ))))
     (λ begin found. each-block layout (λ c. precedes c (records_block layout.slots n begin) ≡ true → c.padded_end ≤ begin)
-    (λ k y at_y fixed_y first. let e = records-place layout begin h found in let le = fixed-ends-all layout k y h at_y fixed_y in omega arith)
-    (λ other again first. let same : other ≡ begin = cc in absurd (grind (arith, nat_tests))))
+    (λ k y at_y fixed_y first. omega (arith, records-place layout begin h found, fixed-ends-all layout k y h at_y fixed_y))
+    (λ other again first. absurd (let same : other ≡ begin = cc in grind (arith, nat_tests))))
 
 -- it doesn't begin after the header and the blocks before it end
 not-after : (layout : Layout) → HasCanonicalBegins layout → (b : Extent) → Contains (blocks layout) b
     → b.begin ≤ max layout.header_end (greatest_end sweep.padding_end (before (blocks layout) b))
 not-after layout h =
     each-block layout (λ b. b.begin ≤ max layout.header_end (greatest_end sweep.padding_end (before (blocks layout) b)))
-    (λ i x at_x fixed_x. let e = fixed-place layout i x h at_x fixed_x in
-    let le = place-reached layout (slot_block i x) i (λ k y at_y lt fixed_y. (
-      fixed-place layout k y h at_y fixed_y,
-      (let ends = fixed-ends layout k i y h at_y fixed_y lt in grind (arith, nat_tests)),
-    )) in omega arith)
-    (λ begin found. let e = records-place layout begin h found in let all = all-place layout in
-    let le = place-reached layout (records_block layout.slots (record_count layout) begin) (length layout.slots) (λ k y at_y lt fixed_y. (
-      fixed-place layout k y h at_y fixed_y,
-      (let ends = fixed-ends-all layout k y h at_y fixed_y in grind (arith, nat_tests)),
-    )) in omega arith)
+    (λ i x at_x fixed_x. omega (
+      arith,
+      fixed-place layout i x h at_x fixed_x,
+      place-reached layout (slot_block i x) i (λ k y at_y lt fixed_y. (
+        fixed-place layout k y h at_y fixed_y,
+        grind (arith, nat_tests, fixed-place layout i x h at_x fixed_x, fixed-ends layout k i y h at_y fixed_y lt),
+      )),
+    ))
+    (λ begin found. let b = records_block layout.slots (record_count layout) begin in
+    omega (
+      arith,
+      records-place layout begin h found,
+      all-place layout,
+      place-reached layout b (length layout.slots) (λ k y at_y lt fixed_y. (
+        fixed-place layout k y h at_y fixed_y,
+        grind (arith, nat_tests, records-place layout begin h found, fixed-ends-all layout k y h at_y fixed_y),
+      )),
+    ))
 
 block-quiet : (layout : Layout) (b : Extent) → IsSoundLayout layout → HasCanonicalBegins layout → Contains (blocks layout) b
     → IsQuietBlock layout b

@@ -1,6 +1,6 @@
 -- The records of a header are those of its slots: their size, their begin and their number.
 use Rattle.std.proofs.lemmas.Grind.{common_steps}
-use Rattle.std.proofs.Common.{◌≡◌, ℕ, ◌-◌, ◌/◌, min, List, [], ◌∷◌, filter, map, fold, sum_by, refl, sym, ◌∙◌, ap, arith}
+use Rattle.std.proofs.Common.{◌≡◌, ℕ, ◌-◌, ◌/◌, min, List, [], ◌∷◌, filter, map, fold, sum_by, refl, ap, arith}
 use Rattle.std.specs.Option.{option_map_or}
 use Rattle.std.proofs.lemmas.List.Sums.{sum-map}
 use Rattle.nc_base.specs.declared.{header.Dim.Dim, header.Header.Header, header.Var.Var}
@@ -8,19 +8,20 @@ use Rattle.nc_base.specs.GeneratedFile.{fixed_vars}
 use Rattle.nc_base.specs.Sizes.{least_begin, padded_total, record_size_of, record_vars, records_between}
 use Rattle.nc_base.specs.Sizes.{record_count as header_record_count, record_size as header_record_size}
 use Rattle.nc_layout.specs.declared.{slot.Slot.Slot}
-use Rattle.nc_layout.specs.Slots.{is_fixed, is_sole_narrow, least, record_count, record_size, record_slots, records_begin, records_by_length}
+use Rattle.nc_layout.specs.Slots.{is_fixed, is_sole_narrow, least, record_count, record_size, records_begin, records_by_length}
 use Rattle.nc_layout.specs.HeaderLayout.{slot_of, layout_of}
 use Rattle.nc_layout.specs.code.Records.{slab_if}
-use Rattle.nc_layout.proofs.HeaderSlots.{kept-slot, slots-total, record_slots-are}
+use Rattle.nc_layout.proofs.HeaderSlots.{slots-total, record_slots-are}
 use Rattle.nc_layout.proofs.SlotLists.{record_size-is}
 use Rattle.nccheck_laws.specs.LayoutLaws.{fixed_bytes}
+use Rattle.nccheck_laws.proofs.LayoutBlocks.{min-from}
 
 -- ---- the bytes of the slots that aren't record slots
 
 fixed_slots-are : (dims : List Dim) (vars : List Var)
     → filter is_fixed (map (slot_of dims) vars) ≡ map (slot_of dims) (fixed_vars dims vars)
 fixed_slots-are dims [] = refl
-fixed_slots-are dims (var ∷ vars) = grind (arith, fixed_slots-are dims vars, kept-slot)
+fixed_slots-are dims (var ∷ vars) = grind (arith, fixed_slots-are dims vars)
 
 pub fixed_slots-total : (dims : List Dim) (vars : List Var)
     → fixed_bytes (map (slot_of dims) vars) ≡ padded_total dims (fixed_vars dims vars)
@@ -33,24 +34,21 @@ slots-size : (dims : List Dim) (vars : List Var)
 slots-size dims v1 = grind (arith, common_steps)
 
 pub size-is : (dims : List Dim) (vars : List Var) → record_size (map (slot_of dims) vars) ≡ record_size_of dims (record_vars dims vars)
-size-is dims vars =
-    sym (record_size-is (map (slot_of dims) vars) (is_sole_narrow (record_slots (map (slot_of dims) vars))) refl)
-    ∙ ap (λ (ss : List Slot). sum_by (slab_if (is_sole_narrow ss)) ss) (record_slots-are dims vars)
-    ∙ slots-size dims (record_vars dims vars)
+size-is dims vars = grind (
+  arith,
+  record_size-is (map (slot_of dims) vars) (is_sole_narrow (map (slot_of dims) (record_vars dims vars))),
+  record_slots-are dims vars,
+  slots-size dims (record_vars dims vars),
+)
 
 -- ---- the begin of the records
 
 abbrev begins : List Dim → List Var → List ℕ
 begins dims vars = map (λ (slot : Slot). slot.begin) (map (slot_of dims) vars)
 
-least-with : (dims : List Dim) (a : ℕ) (var : Var) (vars : List Var)
-    → fold min (min a var.begin_at) (begins dims vars) ≡ min a (least_begin var vars)
-least-with dims a var [] = refl
-least-with dims a var (next ∷ vars) = let h = least-with dims (min a var.begin_at) next vars in omega arith
-
 least-is : (dims : List Dim) (var : Var) (vars : List Var) → fold min var.begin_at (begins dims vars) ≡ least_begin var vars
 least-is dims var [] = refl
-least-is dims var (next ∷ vars) = least-with dims var.begin_at next vars
+least-is dims var (next ∷ vars) = grind (arith, min-from, least-is dims next vars)
 
 -- ---- the number of records
 
@@ -62,13 +60,12 @@ records-between dims (var ∷ vars) size file_len = ap (λ (begin : ℕ). (file_
 by-length : (h : Header) (header_end file_len : ℕ)
     → records_by_length (layout_of h header_end file_len) ≡ records_between (header_record_size h) (record_vars h.dims h.vars) file_len
 unfolding records_by_length records_begin
-by-length h header_end file_len =
-    let slots = map (slot_of h.dims) h.vars in
-    ap (λ (size : ℕ). option_map_or (λ (begin : ℕ). (file_len - begin) / size)
-    (least (map (λ (slot : Slot). slot.begin) (record_slots slots))) 0) (size-is h.dims h.vars)
-    ∙ ap (λ (ss : List Slot). option_map_or (λ (begin : ℕ). (file_len - begin) / header_record_size h)
-    (least (map (λ (slot : Slot). slot.begin) ss)) 0) (record_slots-are h.dims h.vars)
-    ∙ records-between h.dims (record_vars h.dims h.vars) (header_record_size h) file_len
+by-length h header_end file_len = grind (
+  arith,
+  size-is h.dims h.vars,
+  record_slots-are h.dims h.vars,
+  records-between h.dims (record_vars h.dims h.vars) (record_size (map (slot_of h.dims) h.vars)) file_len,
+)
 
 pub count-is : (h : Header) (header_end file_len : ℕ) → record_count (layout_of h header_end file_len) ≡ header_record_count h file_len
 unfolding record_count

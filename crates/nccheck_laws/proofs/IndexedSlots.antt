@@ -1,7 +1,8 @@
 -- Slots at their indices, the bytes of the slots before an index, and what each slot gives.
-use Rattle.std.proofs.Common.{◌≡◌, ℕ, zero, suc, ◌+◌, ◌<◌, ◌≤◌, Bool, true, false, List, [], ◌∷◌, length, take, filter, sum_by, refl, ◌∙◌, ap, subst, arith, Option, Some, None, slice_get, inl, inr, ◌⊎◌, if◌then◌else◌}
+use Rattle.std.proofs.Common.{◌≡◌, ℕ, zero, suc, ◌+◌, ◌<◌, max, ◌≤◌, Bool, true, false, List, [], ◌∷◌, length, take, filter, sum_by, refl, sym, ◌∙◌, ap, subst, arith, Some, slice_get, if◌then◌else◌}
 use Rattle.std.specs.List.{All, Contains}
 use Rattle.std.proofs.lemmas.Grind.{common_steps}
+use Rattle.std.proofs.lemmas.List.{length-take}
 use Rattle.std.proofs.lemmas.List.Elements.{All-contains, Contains-append_left, Contains-append_right, Contains-append_cases}
 use Rattle.std.proofs.lemmas.List.Sums.{sum_by-cons, sum_by-le-sum_by}
 use Rattle.std.proofs.lemmas.Option.{slice_get_within, get_or_from_slice_get, slice_get-get_or}
@@ -31,29 +32,24 @@ all-at {X} P xs k x all at = All-contains P xs x all (at-contains xs k x at)
 pub at-all : {X : Type 0} (P : X → Type 0) (xs : List X) → ((k : ℕ) (x : X) → At xs k x → P x) → All P xs
 at-all {X} P xs each = λ k d lt. each k _ (slice_get-get_or xs k d lt)
 
-at-taken : {X : Type 0} (xs : List X) (i k : ℕ) (x : X) → At xs k x → k < i → At (take i xs) k x
-at-taken {X} xs zero k x at lt = absurd (omega arith)
-at-taken {X} [] (suc i) k x at lt = at
-at-taken {X} (y ∷ ys) (suc i) zero x at lt = at
-at-taken {X} (y ∷ ys) (suc i) (suc k) x at lt = at-taken ys i k x at (omega arith)
-
-taken-at : {X : Type 0} (xs : List X) (i k : ℕ) (x : X) → At (take i xs) k x → (k < i) × At xs k x
-taken-at {X} xs zero k x at = cc
-taken-at {X} [] (suc i) k x at = cc
-taken-at {X} (y ∷ ys) (suc i) zero x at = (omega arith, at)
-taken-at {X} (y ∷ ys) (suc i) (suc k) x at = let h = taken-at ys i k x at in (omega (arith, h.0), h.1)
+taken-same : {X : Type 0} (xs : List X) (i k : ℕ) → k < i → slice_get (take i xs) k ≡ slice_get xs k
+taken-same {X} xs zero k lt = absurd (omega arith)
+taken-same {X} [] (suc i) k lt = refl
+taken-same {X} (y ∷ ys) (suc i) zero lt = refl
+taken-same {X} (y ∷ ys) (suc i) (suc k) lt = taken-same ys i k (omega arith)
 
 -- of the first elements, those that pass a test
 pub at-filtered : {X : Type 0} (p : X → Bool) (xs : List X) (i k : ℕ) (x : X) → At xs k x → k < i → p x ≡ true
     → Contains (filter p (take i xs)) x
-at-filtered {X} p xs i k x at lt is = contains-filter p (take i xs) x (at-contains (take i xs) k x (at-taken xs i k x at lt)) is
+at-filtered {X} p xs i k x at lt is = contains-filter p (take i xs) x (at-contains (take i xs) k x (taken-same xs i k lt ∙ at)) is
 
 pub filtered-at : {X : Type 0} (p : X → Bool) (xs : List X) (i : ℕ) (x : X) → Contains (filter p (take i xs)) x
     → (k : ℕ) × (k < i) × At xs k x × (p x ≡ true)
 filtered-at {X} p xs i x has =
     let h = filter-contains p (take i xs) x has in
     let at = contains-at (take i xs) x h.0 in
-    let k = taken-at xs i at.0 x at.1 in (at.0, k.0, k.1, h.1)
+    let lt : at.0 < i = omega (arith, slice_get_within (take i xs) at.0 x at.1, length-take i xs) in
+    (at.0, lt, sym (taken-same xs i at.0 lt) ∙ at.1, h.1)
 
 -- ---- what a function gives of each slot
 
@@ -70,11 +66,12 @@ each-there {A} f slots k x a at has = there-from f 0 slots k k x a at (omega ari
 pub in-from : {A : Type 0} (f : ℕ → Slot → List A) (i : ℕ) (slots : List Slot) (P : A → Type 0)
     → ((k m : ℕ) (x : Slot) → At slots k x → m ≡ i + k → (a : A) → Contains (f m x) a → P a) → (a : A) → Contains (each_slot f i slots) a → P a
 in-from {A} f i [] P each a has = absurd (contains-none a has)
-in-from {A} f i (x ∷ xs) P each a has =
-    elim (Contains-append_cases (f i x) (each_slot f (i + 1) xs) a has) [
-      | inl here ↦ each 0 i x refl (omega arith) a here
-      | inr later ↦ in-from f (i + 1) xs P (λ k m y at is b there. each (suc k) m y at (omega arith) b there) a later
-    ]
+in-from {A} f i (x ∷ xs) P each a has = grind (
+  arith,
+  Contains-append_cases (f i x) (each_slot f (i + 1) xs) a has,
+  each 0 i x refl (omega arith) a,
+  in-from f (i + 1) xs P (λ k m y at is b there. each (suc k) m y at (omega arith) b there) a,
+)
 
 -- what holds of what each slot gives
 pub in-each : {A : Type 0} (f : ℕ → Slot → List A) (slots : List Slot) (P : A → Type 0)
@@ -88,49 +85,25 @@ in-each {A} f slots P each =
 abbrev pub total : (Slot → ℕ) → (Slot → Bool) → List Slot → ℕ → ℕ
 total f p slots i = sum_by f (filter p (take i slots))
 
-pub total-next : (f : Slot → ℕ) (p : Slot → Bool) (slots : List Slot) (i : ℕ) (x : Slot) → At slots i x
-    → total f p slots (suc i) ≡ total f p slots i + (if p x then f x else 0)
-total-next f p [] i x at = cc
-total-next f p (y ∷ ys) zero x at = grind (arith, common_steps)
-total-next f p (y ∷ ys) (suc i) x at = grind (arith, common_steps, total-next f p ys i x at)
-
-pub total-le : (f : Slot → ℕ) (p : Slot → Bool) (slots : List Slot) (i j : ℕ) → i ≤ j → total f p slots i ≤ total f p slots j
-total-le f p slots zero j le = omega arith
-total-le f p slots (suc i) zero le = absurd (omega arith)
-total-le f p [] (suc i) (suc j) le = omega arith
-total-le f p (y ∷ ys) (suc i) (suc j) le = grind (arith, common_steps, total-le f p ys i j (omega arith))
-
 pub total-below : (f : Slot → ℕ) (p : Slot → Bool) (slots : List Slot) (k i : ℕ) (x : Slot) → At slots k x → p x ≡ true → k < i
     → total f p slots k + f x ≤ total f p slots i
-total-below f p slots k i x at is lt =
-    let next = total-next f p slots k x at in let le = total-le f p slots (suc k) i (omega arith) in grind arith
+total-below f p slots k zero x at is lt = absurd (omega arith)
+total-below f p [] k (suc i) x at is lt = cc
+total-below f p (y ∷ ys) zero (suc i) x at is lt = grind (arith, common_steps)
+total-below f p (y ∷ ys) (suc k) (suc i) x at is lt = grind (arith, common_steps, total-below f p ys k i x at is)
 
 pub total-whole : (f : Slot → ℕ) (p : Slot → Bool) (slots : List Slot) → total f p slots (length slots) ≡ sum_by f (filter p slots)
 total-whole f p slots = ap (λ (xs : List Slot). sum_by f (filter p xs)) (take-length slots)
 
 -- a bound on where each of them ends is one on the sum
 pub total-reach : (f : Slot → ℕ) (p : Slot → Bool) (slots : List Slot) (b m i : ℕ)
-    → ((k : ℕ) (x : Slot) → At slots k x → k < i → p x ≡ true → b + total f p slots k + f x ≤ m)
-    → (total f p slots i ≡ 0) ⊎ (b + total f p slots i ≤ m)
-total-reach f p slots b m zero each = inl refl
-total-reach f p slots b m (suc i) each =
-    by_slot (slice_get slots i) refl (total-reach f p slots b m i (λ k x at lt. each k x at (omega arith)))
-  where
-    by_slot : (o : Option Slot) → slice_get slots i ≡ o → (total f p slots i ≡ 0) ⊎ (b + total f p slots i ≤ m)
-        → (total f p slots (suc i) ≡ 0) ⊎ (b + total f p slots (suc i) ≤ m)
-    by_slot None at ih = subst (λ n. (n ≡ 0) ⊎ (b + n ≤ m)) (past slots i at) ih
-      where
-        past : (xs : List Slot) (k : ℕ) → slice_get xs k ≡ None → total f p xs k ≡ total f p xs (suc k)
-        past [] zero none = refl
-        past [] (suc k) none = refl
-        past (y ∷ ys) zero none = cc
-        past (y ∷ ys) (suc k) none = grind (arith, common_steps, past ys k none)
-    by_slot (Some x) at ih = by_test (p x) refl
-      where
-        by_test : (t : Bool) → p x ≡ t → (total f p slots (suc i) ≡ 0) ⊎ (b + total f p slots (suc i) ≤ m)
-        by_test true is = let next = total-next f p slots i x at in let h = each i x at (omega arith) is in inr (grind arith)
-        by_test false is =
-            subst (λ n. (n ≡ 0) ⊎ (b + n ≤ m)) (let e : total f p slots i ≡ total f p slots (suc i) = grind (arith, total-next f p slots i x at) in e) ih
+    → ((k : ℕ) (x : Slot) → At slots k x → k < i → p x ≡ true → b + total f p slots k + f x ≤ m) → b + total f p slots i ≤ max b m
+total-reach f p slots b m zero each = omega arith
+total-reach f p [] b m (suc i) each = omega arith
+total-reach f p (y ∷ ys) b m (suc i) each =
+    let first = each 0 y refl (omega arith) in
+    let others = total-reach f p ys (b + (if p y then f y else 0)) m i
+    (λ k x at lt is. let h = each (suc k) x at (omega arith) is in grind (arith, common_steps)) in grind (arith, common_steps)
 
 -- ---- a slab in the record
 
@@ -150,16 +123,18 @@ unfolding record_size
 slab-fits slots k x at is = by_kind (is_sole_narrow (record_slots slots)) refl
   where
     below : (f : Slot → ℕ) → total f is_record_slot slots k + f x ≤ sum_by f (record_slots slots)
-    below f = let h = total-below f is_record_slot slots k (length slots) x at is (slice_get_within slots k x at) in
-        let e = total-whole f is_record_slot slots in omega arith
+    below f = grind (arith, total-below f is_record_slot slots k (length slots) x at is, slice_get_within slots k x at, total-whole f is_record_slot slots)
 
     by_kind : (b : Bool) → is_sole_narrow (record_slots slots) ≡ b
         → bytes_before slots k + (if b then x.slab else padded_slab x)
         ≤ sum_by (λ (s : Slot). if b then s.slab else padded_slab s) (record_slots slots)
-    by_kind true sole =
-        let count = below (λ s. 1) in let one = sole-length (record_slots slots) sole in
-        let none = none-sum padded_slab (record_slots (take k slots)) (omega arith) in
-        let h = below (λ s. s.slab) in omega arith
+    by_kind true sole = grind (
+      arith,
+      below (λ s. 1),
+      sole-length (record_slots slots) sole,
+      none-sum padded_slab (record_slots (take k slots)),
+      below (λ s. s.slab),
+    )
     by_kind false other = below padded_slab
 
 -- the sum of the slabs in a record over the slots before an index isn't greater than that of the padded slabs

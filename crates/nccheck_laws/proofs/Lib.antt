@@ -4,13 +4,9 @@ pub mod LayoutBlocks
 pub mod CanonicalBegins
 pub mod WholeSlots
 pub mod CanonicalEnds
-pub mod LayoutSlabs
-pub mod CanonicalLength
 pub mod SlabsApart
-pub mod BareHeaders
 pub mod HeaderRecords
-pub mod GeneratedBegins
-pub mod GeneratedLength
+pub mod GeneratedFiles
 pub mod WholeVariables
 pub mod MissingValues
 pub mod TruncatedDumps

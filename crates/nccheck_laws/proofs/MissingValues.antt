@@ -3,21 +3,21 @@ use Rattle.std.proofs.Common.{◌≡◌, ℕ, ◌≤◌, Bool, false, List, [], 
 use Rattle.std.specs.List.{list_any}
 use Rattle.std.specs.Prelude.{is_some}
 use Rattle.std.proofs.lemmas.Bool.{le-ltb, ltb-false}
-use Rattle.std.proofs.lemmas.List.Elements.{All-cons, All-head, All-map, All-nil, All-tail}
+use Rattle.std.proofs.lemmas.List.Elements.{All-cons, All-map, All-nil}
 use Rattle.std.proofs.lemmas.List.Folds.{list_any_none}
-use Rattle.nc_base.specs.declared.{header.Dim.Dim, header.Header.Header, header.Var.Var}
+use Rattle.nc_base.specs.declared.{header.Header.Header, header.Var.Var}
 use Rattle.nc_base.specs.Bytes.{Bytes}
 use Rattle.nc_base.specs.Places.{first_missing}
 use Rattle.nc_base.specs.Sizes.{record_count, record_size}
-use Rattle.nc_layout.specs.declared.{slot.Slot.Slot, slot.Layout.Layout, blocks.Extent.Extent}
-use Rattle.nc_layout.specs.Blocks.{blocks}
+use Rattle.nc_layout.specs.declared.{slot.Layout.Layout}
 use Rattle.nc_layout.specs.BlockRules.{block_findings}
 use Rattle.nc_layout.specs.FileEnd.{end_findings, values_end}
 use Rattle.nc_layout.specs.Findings.{IsSoundLayout, IsSoundSlot}
 use Rattle.nccheck_laws.specs.HeaderLaws.{MissingValuesAreFound, ShortFilesLackValues, finds, is_of_missing, lacks_values}
 use Rattle.nc_layout.specs.HeaderLayout.{layout_of, slot_of}
 use Rattle.nc_layout.specs.SlotRules.{slot_findings}
-use Rattle.nccheck_laws.proofs.LayoutSlabs.{quiet-values}
+pub use Rattle.nc_layout.proofs.HeaderSlots.{unmapped}
+use Rattle.nccheck_laws.proofs.WholeSlots.{quiet-values}
 use Rattle.nccheck_laws.proofs.HeaderRecords.{count-is, size-is}
 use Rattle.nccheck_laws.proofs.FoundNone.{Quiet, all-quiet, quiet-end}
 use Rattle.std.proofs.lemmas.Bool.Decides.{nat_tests}
@@ -25,12 +25,6 @@ use Rattle.nccheck_laws.proofs.WholeSlots.{AreWholeSlots, IsWholeSlot, values-wh
 use Rattle.nccheck_laws.proofs.WholeVariables.{whole-slot, whole-variable}
 
 -- ---- slots and variables
-
--- what holds of the slots of variables
-pub unmapped : (P : Slot → Type 0) (dims : List Dim) (vars : List Var) → All P (map (slot_of dims) vars)
-    → All (λ (var : Var). P (slot_of dims var)) vars
-unmapped P dims [] all = All-nil _
-unmapped P dims (var ∷ vars) all = grind (arith, unmapped P dims vars (All-tail P (slot_of dims var) (map (slot_of dims) vars) all), All-cons, All-head, All-tail)
 
 -- the number and the size of records may be those of the header
 abbrev AreWhole : Header → Bytes → Type 0
@@ -71,7 +65,7 @@ not-some o none = grind arith
 
 none-lack : (h : Header) (bytes : Bytes) (vars : List Var) → list_any (lacks_values h bytes) vars ≡ false → All (HasAll h bytes) vars
 none-lack h bytes [] none = All-nil _
-none-lack h bytes (var ∷ vars) none = grind (arith, none-lack h bytes vars (grind arith), All-cons, not-some)
+none-lack h bytes (var ∷ vars) none = grind (arith, none-lack h bytes vars, All-cons, not-some)
 
 all-have : (h : Header) (bytes : Bytes) (vars : List Var) → All (HasAll h bytes) vars → list_any (lacks_values h bytes) vars ≡ false
 all-have h bytes vars all = list_any_none (lacks_values h bytes) vars (λ k d lt. ap is_some (all k d lt))
@@ -84,20 +78,14 @@ short-lacks h bytes header_end sound = grind (arith, same-test, all-have, all-pr
 
 -- ---- the finding
 
-slot-other : (layout : Layout) (i : ℕ) (slot : Slot) → Quiet is_of_missing (slot_findings layout i slot)
-unfolding slot_findings
-slot-other layout i slot = grind arith
-
-block-other : (layout : Layout) (b : Extent) → Quiet is_of_missing (block_findings layout.header_end (blocks layout) b)
-unfolding block_findings
-block-other layout b = grind arith
-
 end-none : (layout : Layout) → values_end layout ≤ layout.file_len → Quiet is_of_missing (end_findings layout)
 unfolding end_findings
 end-none layout within = grind (arith, nat_tests)
 
 values-quiet : (layout : Layout) → values_end layout ≤ layout.file_len → finds is_of_missing layout ≡ false
-values-quiet layout within = grind (arith, all-quiet, slot-other, end-none, block-other)
+unfolding slot_findings block_findings
+values-quiet layout within =
+    all-quiet is_of_missing layout (λ n. refl) (λ n. refl) (λ i x at. grind arith) (end-none layout within) (λ b has. grind arith)
 
 quiet-within : (layout : Layout) → IsSoundLayout layout → finds is_of_missing layout ≡ false → values_end layout ≤ layout.file_len
 quiet-within layout sound none =
@@ -106,6 +94,4 @@ quiet-within layout sound none =
 pub missing-found : MissingValuesAreFound
 missing-found h bytes header_end sound =
     let layout = layout_of h header_end (length bytes) in
-    same-test (finds is_of_missing layout) (list_any (lacks_values h bytes) h.vars)
-    (λ no. all-have h bytes h.vars (all-present h bytes header_end sound (quiet-within layout sound no)))
-    (λ no. values-quiet layout (values-present h bytes header_end sound (none-lack h bytes h.vars no)))
+    grind (arith, nat_tests, short-lacks h bytes header_end sound, values-quiet layout, quiet-within layout sound)

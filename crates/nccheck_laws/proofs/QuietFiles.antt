@@ -6,8 +6,8 @@ use Rattle.nc_base.specs.Grammar.{SpellsHeader, strict, header_spelling}
 use Rattle.nccheck_laws.specs.LayoutLaws.{is_of_begin, is_of_end}
 use Rattle.nc_layout.specs.HeaderLayout.{layout_of}
 use Rattle.nccheck_laws.proofs.CanonicalBegins.{quiet-begins}
-use Rattle.nccheck_laws.proofs.GeneratedBegins.{canonical-generated}
-use Rattle.nccheck_laws.proofs.GeneratedLength.{quiet-generated}
+use Rattle.nccheck_laws.proofs.GeneratedFiles.{canonical-generated}
+use Rattle.nccheck_laws.proofs.GeneratedFiles.{quiet-generated}
 use Rattle.nc_layout.proofs.SpelledLayouts.{spelled-layout}
 use Rattle.nc_report.specs.declared.{report.Report.Report}
 use Rattle.nc_report.specs.Reports.{IsReport}

@@ -1,9 +1,9 @@
 -- If none of the findings lets slabs share bytes, no two slabs have a byte in common.
-use Rattle.std.proofs.Common.{◌≡◌, ℕ, suc, ◌+◌, ◌-◌, ◌*◌, ◌<◌, ◌≤◌, true, List, [], ◌∷◌, ◌++◌, get_or, subst, arith, Some, inl, inr, ◌⊎◌, refl}
+use Rattle.std.proofs.Common.{◌≡◌, ℕ, suc, ◌+◌, ◌-◌, ◌*◌, ◌<◌, ◌≤◌, true, List, [], ◌∷◌, ◌++◌, get_or, arith, Some, refl}
 use Rattle.std.specs.List.{Contains, AllPairs}
 use Rattle.std.proofs.lemmas.Bool.{cases_lt}
 use Rattle.std.proofs.lemmas.Bool.Decides.{nat_tests}
-use Rattle.std.proofs.lemmas.List.Elements.{Contains-get_or, Contains-append_cases}
+use Rattle.std.proofs.lemmas.List.Elements.{All-append, Contains-get_or}
 use Rattle.std.proofs.lemmas.List.FromFn.{get_or-map-range_with_len, length-map-range_with_len}
 use Rattle.std.proofs.lemmas.List.Kept.{AllPairs-cons}
 use Rattle.std.proofs.Math.Nat.{mul-le-mul_right}
@@ -18,10 +18,10 @@ use Rattle.nc_layout.specs.code.PassedSlots.{is_record_slot}
 use Rattle.nc_layout.specs.code.Sweep.{value_end}
 use Rattle.nc_layout.proofs.BlockOrder.{contains-here, contains-there, contains-filter}
 use Rattle.nc_layout.proofs.SweptBlocks.{greatest-above}
-use Rattle.nccheck_laws.proofs.FoundNone.{Quiet, quiet-slot, quiet-block}
+use Rattle.nccheck_laws.proofs.FoundNone.{quiet-slot, quiet-block}
 use Rattle.nccheck_laws.proofs.IndexedSlots.{At, in-from, in-each, total-below, slab-fits, slab-le}
-use Rattle.nccheck_laws.proofs.LayoutBlocks.{fixed-there, records-there, records_end-above, begins}
-use Rattle.nccheck_laws.proofs.LayoutSlabs.{fixed_slab, each-slab}
+use Rattle.nccheck_laws.proofs.LayoutBlocks.{fixed-there, records-there, records_end-above, first_begin, begins}
+use Rattle.nccheck_laws.proofs.WholeSlots.{fixed_slab, each-slab}
 
 -- ---- what holds of slots and blocks
 
@@ -29,12 +29,11 @@ record IsApartSlot (layout : Layout) (i : ℕ) (slot : Slot) : Type 0 where
   after_header : layout.header_end ≤ slot.begin
   in_place : (begin : ℕ) → records_begin layout.slots ≡ Some begin → slot.is_record ≡ true → slot.begin ≡ begin + bytes_before layout.slots i
 
-slot-is : (layout : Layout) (i : ℕ) (x : Slot) → Quiet is_of_shared_bytes (slot_findings layout i x) → IsApartSlot layout i x
-unfolding slot_findings
-slot-is layout i x h = record { after_header = grind (arith, nat_tests); in_place = λ begin at rec. grind (arith, nat_tests) }
-
 slot-of : (layout : Layout) (i : ℕ) (x : Slot) → FindsNone is_of_shared_bytes layout → At layout.slots i x → IsApartSlot layout i x
-slot-of layout i x quiet at = slot-is layout i x (quiet-slot is_of_shared_bytes layout i x quiet at)
+unfolding slot_findings
+slot-of layout i x quiet at =
+    let h = quiet-slot is_of_shared_bytes layout i x quiet at in
+    record { after_header = grind (arith, nat_tests); in_place = λ begin found rec. grind (arith, nat_tests) }
 
 -- a block begins after the end of each block that precedes it
 ends-first : (layout : Layout) (b c : Extent) → FindsNone is_of_shared_bytes layout → Contains (blocks layout) b → Contains (blocks layout) c
@@ -52,13 +51,10 @@ append-pairs : (R : SlabPlace → SlabPlace → Type 0) (xs ys : List SlabPlace)
 append-pairs R [] ys in_xs in_ys across = in_ys
 append-pairs R (x ∷ xs) ys in_xs in_ys across =
     AllPairs-cons R x (xs ++ ys)
-    (λ k d lt. first (get_or (xs ++ ys) k d) (Contains-append_cases xs ys (get_or (xs ++ ys) k d) (Contains-get_or (xs ++ ys) k d lt)))
+    (All-append (R x) xs ys (λ k d lt. in_xs 0 (suc k) d (omega arith) (omega arith))
+    (λ k d lt. across x (get_or ys k d) (contains-here x xs) (Contains-get_or ys k d lt)))
     (append-pairs R xs ys (λ i j d lt within. in_xs (suc i) (suc j) d (omega arith) (omega arith)) in_ys
     (λ a b in_a in_b. across a b (contains-there x a xs in_a) in_b))
-  where
-    first : (e : SlabPlace) → Contains xs e ⊎ Contains ys e → R x e
-    first e (inl (k, lt, at)) = subst (λ (y : SlabPlace). R x y) at (in_xs 0 (suc k) e (omega arith) (omega arith))
-    first e (inr has) = across x e (contains-here x xs) has
 
 each-pairs : (R : SlabPlace → SlabPlace → Type 0) (f : ℕ → Slot → List SlabPlace) (i : ℕ) (slots : List Slot)
     → ((k m : ℕ) (x : Slot) → At slots k x → AllPairs R (f m x))
@@ -84,91 +80,68 @@ in-record layout k x at is = let fits = slab-fits layout.slots k x at is in let 
 
 -- ---- two slabs
 
+abbrev size : Layout → ℕ
+size layout = record_size layout.slots
+
 own-apart : (layout : Layout) (k m : ℕ) (x : Slot) → At layout.slots k x
-    → AllPairs AreApart (slabs_of (record_size layout.slots) (record_count layout) m x)
+    → AllPairs AreApart (slabs_of (size layout) (record_count layout) m x)
 own-apart layout k m x at = grind (arith, length-map-range_with_len, next-record, in-record, get_or-map-range_with_len)
 
-both-fixed : (layout : Layout) (k l : ℕ) (x y : Slot) → FindsNone is_of_shared_bytes layout → k < l → At layout.slots k x
-    → At layout.slots l y → is_fixed x ≡ true → is_fixed y ≡ true → (x.begin + x.slab ≤ y.begin) ⊎ (y.begin + y.slab ≤ x.begin)
-both-fixed layout k l x y quiet lt at_x at_y is_x is_y = by_order (cases_lt y.begin x.begin)
-  where
-    by_order : (y.begin < x.begin) ⊎ (x.begin ≤ y.begin) → (x.begin + x.slab ≤ y.begin) ⊎ (y.begin + y.slab ≤ x.begin)
-    by_order (inl later) =
-        inr (ends-first layout (slot_block l y) (slot_block k x) quiet (fixed-there layout l y at_y is_y) (fixed-there layout k x at_x is_x)
-        (grind (arith, nat_tests)))
-    by_order (inr earlier) =
-        inl (ends-first layout (slot_block k x) (slot_block l y) quiet (fixed-there layout k x at_x is_x) (fixed-there layout l y at_y is_y)
-        (grind (arith, nat_tests)))
+both-fixed : (layout : Layout) (k l : ℕ) (x y : Slot) → FindsNone is_of_shared_bytes layout → At layout.slots k x → At layout.slots l y
+    → k < l → is_fixed x ≡ true → is_fixed y ≡ true → AreApart (fixed_slab k x) (fixed_slab l y)
+both-fixed layout k l x y quiet at_x at_y lt is_x is_y =
+    let b = fixed-there layout k x at_x is_x in
+    let c = fixed-there layout l y at_y is_y in
+    grind (
+      arith,
+      nat_tests,
+      ends-first layout (slot_block k x) (slot_block l y) quiet b c,
+      ends-first layout (slot_block l y) (slot_block k x) quiet c b,
+    )
 
-both-record : (layout : Layout) (k l r q : ℕ) (x y : Slot) → FindsNone is_of_shared_bytes layout → k < l → At layout.slots k x
-    → At layout.slots l y → x.is_record ≡ true → y.is_record ≡ true
-    → (x.begin + r * record_size layout.slots + x.slab ≤ y.begin + q * record_size layout.slots)
-    ⊎ (y.begin + q * record_size layout.slots + y.slab ≤ x.begin + r * record_size layout.slots)
-both-record layout k l r q x y quiet lt at_x at_y is_x is_y = by_order (cases_lt q r)
-  where
-    size : ℕ
-    size = record_size layout.slots
+-- where a record slot begins
+in-place : (layout : Layout) (k : ℕ) (x : Slot) → FindsNone is_of_shared_bytes layout → At layout.slots k x → x.is_record ≡ true
+    → x.begin ≡ first_begin layout.slots + bytes_before layout.slots k
+in-place layout k x quiet at is = (slot-of layout k x quiet at).in_place (first_begin layout.slots) (begins layout.slots k x at is).0 is
 
-    begin : (b : ℕ) × (records_begin layout.slots ≡ Some b)
-    begin = begins layout.slots k x at_x is_x
-
-    place_x : x.begin ≡ begin.0 + bytes_before layout.slots k
-    place_x = (slot-of layout k x quiet at_x).in_place begin.0 begin.1 is_x
-
-    place_y : y.begin ≡ begin.0 + bytes_before layout.slots l
-    place_y = (slot-of layout l y quiet at_y).in_place begin.0 begin.1 is_y
-
-    by_order : (q < r) ⊎ (r ≤ q) → (x.begin + r * size + x.slab ≤ y.begin + q * size) ⊎ (y.begin + q * size + y.slab ≤ x.begin + r * size)
-    by_order (inl later) =
-        let fits = in-record layout l y at_y is_y in
-        let next = next-record q r size later in inr (omega (arith, place_x, place_y))
-    by_order (inr earlier) =
-        let below = total-below padded_slab is_record_slot layout.slots k l x at_x is_x lt in
-        let up : r * size ≤ q * size = mul-le-mul_right size earlier in inl (omega (arith, place_x, place_y))
+both-record : (layout : Layout) (k l r q : ℕ) (x y : Slot) → FindsNone is_of_shared_bytes layout → At layout.slots k x
+    → At layout.slots l y → k < l → x.is_record ≡ true → y.is_record ≡ true
+    → AreApart (record_slab (size layout) k x r) (record_slab (size layout) l y q)
+both-record layout k l r q x y quiet at_x at_y lt is_x is_y =
+    let place_x = in-place layout k x quiet at_x is_x in
+    let place_y = in-place layout l y quiet at_y is_y in
+    let fits = in-record layout l y at_y is_y in
+    let below = total-below padded_slab is_record_slot layout.slots k l x at_x is_x lt in
+    grind (arith, cases_lt q r, next-record q r (size layout), λ (le : r ≤ q). mul-le-mul_right (size layout) le)
 
 fixed-record : (layout : Layout) (k l q : ℕ) (x y : Slot) → FindsNone is_of_shared_bytes layout → At layout.slots k x → At layout.slots l y
-    → is_fixed x ≡ true → y.is_record ≡ true → q < record_count layout
-    → (x.begin + x.slab ≤ y.begin + q * record_size layout.slots) ⊎ (y.begin + q * record_size layout.slots + y.slab ≤ x.begin)
-fixed-record layout k l q x y quiet at_x at_y is_x is_y counted = by_order (cases_lt begin.0 x.begin)
-  where
-    size : ℕ
-    size = record_size layout.slots
-
-    n : ℕ
-    n = record_count layout
-
-    begin : (b : ℕ) × (records_begin layout.slots ≡ Some b)
-    begin = begins layout.slots l y at_y is_y
-
-    c : Extent
-    c = records_block layout.slots n begin.0
-
-    by_order : (begin.0 < x.begin) ⊎ (x.begin ≤ begin.0) → (x.begin + x.slab ≤ y.begin + q * size) ⊎ (y.begin + q * size + y.slab ≤ x.begin)
-    by_order (inl later) =
-        let apart = ends-first layout c (slot_block k x) quiet (records-there layout begin.0 begin.1) (fixed-there layout k x at_x is_x)
-        (grind (arith, nat_tests)) in
-        let above = records_end-above layout.slots n begin.0 (λ s. s.slab) l y (omega arith) at_y is_y in
-        let last : q * size ≤ (n - 1) * size = mul-le-mul_right size (omega arith) in inr (omega arith)
-    by_order (inr earlier) =
-        let apart = ends-first layout (slot_block k x) c quiet (fixed-there layout k x at_x is_x) (records-there layout begin.0 begin.1)
-        (grind (arith, nat_tests)) in
-        let place = (slot-of layout l y quiet at_y).in_place begin.0 begin.1 is_y in inl (omega arith)
-
-apart-sym : (a b : SlabPlace) → AreApart a b → AreApart b a
-apart-sym a b v2 = grind arith
+    → is_fixed x ≡ true → y.is_record ≡ true → q < record_count layout → AreApart (fixed_slab k x) (record_slab (size layout) l y q)
+fixed-record layout k l q x y quiet at_x at_y is_x is_y counted =
+    let n = record_count layout in
+    let begin = first_begin layout.slots in
+    let b = fixed-there layout k x at_x is_x in
+    let c = records-there layout begin (begins layout.slots l y at_y is_y).0 in
+    let above = records_end-above layout.slots n begin (λ s. s.slab) l y (omega arith) at_y is_y in
+    let last : q * size layout ≤ (n - 1) * size layout = mul-le-mul_right (size layout) (omega arith) in
+    let place = in-place layout l y quiet at_y is_y in
+    grind (
+      arith,
+      nat_tests,
+      ends-first layout (slot_block k x) (records_block layout.slots n begin) quiet b c,
+      ends-first layout (records_block layout.slots n begin) (slot_block k x) quiet c b,
+    )
 
 across-apart : (layout : Layout) → FindsNone is_of_shared_bytes layout → (k l m n : ℕ) (x y : Slot) → k < l → At layout.slots k x
-    → At layout.slots l y → (a b : SlabPlace) → Contains (slabs_of (record_size layout.slots) (record_count layout) m x) a
-    → Contains (slabs_of (record_size layout.slots) (record_count layout) n y) b → AreApart a b
+    → At layout.slots l y → (a b : SlabPlace) → Contains (slabs_of (size layout) (record_count layout) m x) a
+    → Contains (slabs_of (size layout) (record_count layout) n y) b → AreApart a b
 across-apart layout quiet k l m n x y lt at_x at_y a b in_a in_b =
-    let size = record_size layout.slots in
     let count = record_count layout in
-    each-slab size count m x (λ c. AreApart c b)
-    (λ is_x. each-slab size count n y (AreApart (fixed_slab m x)) (λ is_y. both-fixed layout k l x y quiet lt at_x at_y is_x is_y)
+    each-slab (size layout) count m x (λ c. AreApart c b)
+    (λ is_x. each-slab (size layout) count n y (AreApart (fixed_slab m x)) (both-fixed layout k l x y quiet at_x at_y lt is_x)
     (λ is_y q counted. fixed-record layout k l q x y quiet at_x at_y is_x is_y counted) b in_b)
-    (λ is_x r counted. each-slab size count n y (AreApart (record_slab size m x r))
-    (λ is_y. apart-sym (fixed_slab n y) (record_slab size m x r) (fixed-record layout l k r y x quiet at_y at_x is_y is_x counted))
-    (λ is_y q within. both-record layout k l r q x y quiet lt at_x at_y is_x is_y) b in_b) a in_a
+    (λ is_x r counted. each-slab (size layout) count n y (AreApart (record_slab (size layout) m x r))
+    (λ is_y. grind (arith, fixed-record layout l k r y x quiet at_y at_x is_y is_x counted))
+    (λ is_y q within. both-record layout k l r q x y quiet at_x at_y lt is_x is_y) b in_b) a in_a
 
 -- ---- the law
 

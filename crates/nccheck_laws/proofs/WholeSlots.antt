@@ -1,18 +1,23 @@
--- The slots whose slabs are all whole in the file, and the end of the values.
-use Rattle.std.proofs.Common.{◌≡◌, ℕ, ◌+◌, ◌-◌, ◌*◌, ◌<◌, ◌≤◌, true, false, not, filter, ap, arith, All}
+-- The slots whose slabs are all whole in the file, the end of the values, and the first slab that isn't whole.
+use Rattle.std.proofs.Common.{◌≡◌, ℕ, ◌+◌, ◌-◌, ◌*◌, ◌<◌, ◌≤◌, Bool, true, false, not, List, [], ◌∷◌, filter, ap, arith, All, Some, None, slice_get}
 use Rattle.std.specs.List.{Contains}
 use Rattle.std.proofs.lemmas.Bool.{lt-ltb}
 use Rattle.std.proofs.lemmas.Bool.Decides.{nat_tests}
+use Rattle.std.proofs.lemmas.List.FromFn.{get_or-map-range_with_len, length-map-range_with_len}
 use Rattle.std.proofs.Math.Nat.{mul-le-mul_right}
-use Rattle.nc_layout.specs.declared.{slot.Slot.Slot, slot.Layout.Layout, blocks.Extent.Extent}
-use Rattle.nc_layout.specs.Slots.{record_size, record_count}
+use Rattle.nc_layout.specs.declared.{slot.Slot.Slot, slot.Layout.Layout, blocks.Extent.Extent, finding.LayoutFact.LayoutFact, finding.Slab.Slab, file_end.SlabPlace.SlabPlace}
+use Rattle.nc_layout.specs.declared.finding.Slab.TheVariants as slabs
+use Rattle.nc_layout.specs.declared.finding.LayoutFact.TheVariants as facts
+use Rattle.nc_layout.specs.Slots.{is_fixed, record_size, record_count}
 use Rattle.nc_layout.specs.Blocks.{slot_block, records_block, blocks, has_values}
-use Rattle.nc_layout.specs.FileEnd.{values_end}
+use Rattle.nc_layout.specs.FileEnd.{values_end, first_slab, is_cut, record_slab, slabs_of, all_slabs, first_cut_slab, end_findings}
 use Rattle.nc_layout.specs.Findings.{IsSoundSlot, IsSoundLayout}
-use Rattle.nc_layout.proofs.BlockOrder.{contains-filter, filter-contains}
+use Rattle.nc_layout.proofs.BlockOrder.{contains-here, contains-none, contains-cases, contains-filter, filter-contains}
 use Rattle.nc_layout.proofs.SweptBlocks.{greatest_from-above, greatest_from-least}
-use Rattle.nccheck_laws.proofs.IndexedSlots.{all-at, at-all}
-use Rattle.nccheck_laws.proofs.LayoutBlocks.{each-block, fixed-there, records-there, records_end-above, records_end-le, records_end-none, begin-le, begins}
+use Rattle.nccheck_laws.specs.LayoutLaws.{MissingValuesHaveSlab}
+use Rattle.nccheck_laws.proofs.FoundNone.{Quiet}
+use Rattle.nccheck_laws.proofs.IndexedSlots.{all-at, at-all, each-there}
+use Rattle.nccheck_laws.proofs.LayoutBlocks.{each-block, fixed-there, records-there, records_end-above, records_end-le, first_begin, begins}
 
 -- its slabs over n records, this size apart, are whole in a file of this length
 pub record IsWholeSlot (file_len size n : ℕ) (slot : Slot) : Type 0 where
@@ -36,7 +41,7 @@ values-whole layout inside are =
     each-block layout (λ b. has_values b ≡ true → b.end ≤ layout.file_len)
     (λ k x at is some. (all-at (IsWhole layout) layout.slots k x are at).fixed (grind arith))
     (λ begin found some. records_end-le layout.slots n begin layout.file_len (λ s. s.slab)
-    (λ none. let e = records_end-none layout.slots n begin (λ s. s.slab) none in absurd (grind (arith, nat_tests)))
+    (λ none. absurd (grind (arith, nat_tests)))
     (λ k x at is more. (all-at (IsWhole layout) layout.slots k x are at).records is (n - 1) (omega arith))) c h.0 h.1)
 
 -- ---- the values end in the file, so the slots are whole
@@ -55,9 +60,59 @@ whole-values layout sound within =
       records = λ is r lt.
           let n = record_count layout in
           let size = record_size layout.slots in
-          let begin = begins layout.slots k x at is in
-          let below = begin-le layout.slots begin.0 k x begin.1 at is in
-          let above = records_end-above layout.slots n begin.0 (λ s. s.slab) k x (omega arith) at is in
-          let le = value-reached layout (records_block layout.slots n begin.0) (records-there layout begin.0 begin.1) (omega arith) in
+          let begin = first_begin layout.slots in
+          let found = begins layout.slots k x at is in
+          let above = records_end-above layout.slots n begin (λ s. s.slab) k x (omega arith) at is in
+          let le = value-reached layout (records_block layout.slots n begin) (records-there layout begin found.0) (omega (arith, found.1)) in
           let up = mul-le-mul_right size (let e : r ≤ n - 1 = omega arith in e) in omega arith;
     })
+
+-- ---- the slabs of one slot
+
+-- the slab of a slot that isn't a record slot
+abbrev pub fixed_slab : ℕ → Slot → SlabPlace
+fixed_slab i x = record { slab = slabs.Var i; begin = x.begin; end = x.begin + x.slab }
+
+-- what holds of it, or of the slabs of a record slot, holds of each slab of the slot
+pub each-slab : (size n i : ℕ) (x : Slot) (P : SlabPlace → Type 0) → (is_fixed x ≡ true → P (fixed_slab i x))
+    → (x.is_record ≡ true → (r : ℕ) → r < n → P (record_slab size i x r)) → (b : SlabPlace) → Contains (slabs_of size n i x) b → P b
+each-slab size n i x P fixed records b (r, lt, at) =
+    let slab = record_slab size i x in
+    grind (arith, length-map-range_with_len slab 0 n, get_or-map-range_with_len slab 0 n r r b, fixed, records)
+
+-- ---- slabs that are whole
+
+none-cut : (file_len : ℕ) (xs : List SlabPlace) (c : SlabPlace) → first_slab (filter (is_cut file_len) xs) ≡ None → Contains xs c
+    → c.end ≤ file_len
+none-cut file_len [] c none has = absurd (contains-none c has)
+none-cut file_len (x ∷ xs) c none has = grind (arith, nat_tests, contains-cases x c xs has, none-cut file_len xs c)
+
+uncut-whole : (layout : Layout) → first_cut_slab layout ≡ None → AreWholeSlots layout
+unfolding first_cut_slab all_slabs
+uncut-whole layout none =
+    let size = record_size layout.slots in
+    let n = record_count layout in
+    let whole = λ (k : ℕ) (x : Slot) (at : slice_get layout.slots k ≡ Some x) (c : SlabPlace) (has : Contains (slabs_of size n k x) c).
+    none-cut layout.file_len (all_slabs layout) c none (each-there (slabs_of size n) layout.slots k x c at has) in
+    at-all (IsWhole layout) layout.slots (λ k x at. record {
+      fixed = λ is. whole k x at (fixed_slab k x) (rw is (contains-here (fixed_slab k x) []));
+      records = λ is r lt. whole k x at (record_slab size k x r)
+          (rw is (
+            r,
+            omega (arith, length-map-range_with_len (record_slab size k x) 0 n),
+            get_or-map-range_with_len (record_slab size k x) 0 n r r (record_slab size k x r) lt (omega arith),
+          ));
+    })
+
+uncut-values : (layout : Layout) → IsSoundLayout layout → first_cut_slab layout ≡ None → values_end layout ≤ layout.file_len
+uncut-values layout sound none = values-whole layout sound.header_inside (uncut-whole layout none)
+
+-- where the finding that values are missing is of the kind, and nothing of the kind is found, the values end in the file
+pub quiet-values : (kind : LayoutFact → Bool) (layout : Layout) → IsSoundLayout layout
+    → ((file_len end : ℕ) (slab : Slab) → kind (facts.Missing file_len end slab) ≡ true) → Quiet kind (end_findings layout)
+    → values_end layout ≤ layout.file_len
+unfolding end_findings
+quiet-values kind layout sound is h = grind (arith, nat_tests, uncut-values layout sound, is layout.file_len (values_end layout))
+
+pub missing-slab : MissingValuesHaveSlab
+missing-slab layout sound less = grind (arith, uncut-values layout sound)

@@ -1,5 +1,5 @@
 -- The slabs of a variable are whole in a file if none of its values is missing, and the other way around.
-use Rattle.std.proofs.Common.{◌≡◌, ℕ, zero, suc, ◌+◌, ◌*◌, ◌<◌, ◌≤◌, Bool, true, false, List, [], ◌∷◌, ◌++◌, length, map, refl, subst, arith, None, All, if◌then◌else◌}
+use Rattle.std.proofs.Common.{◌≡◌, ℕ, zero, suc, ◌+◌, ◌*◌, ◌<◌, ◌≤◌, Bool, true, false, List, [], ◌∷◌, ◌++◌, length, map, refl, arith, None, All, if◌then◌else◌}
 use Rattle.std.specs.Prelude.{flat_map}
 use Rattle.std.specs.List.{position, range_with_len}
 use Rattle.std.proofs.lemmas.List.{map-append}
@@ -16,13 +16,10 @@ use Rattle.nccheck_laws.proofs.WholeSlots.{IsWholeSlot}
 
 -- ---- lists
 
-all-left : {X : Type 0} (P : X → Type 0) (xs ys : List X) → All P (xs ++ ys) → All P xs
-all-left P [] ys all = All-nil P
-all-left P (x ∷ xs) ys all = All-cons P x xs (All-head P x (xs ++ ys) all) (all-left P xs ys (All-tail P x (xs ++ ys) all))
-
-all-right : {X : Type 0} (P : X → Type 0) (xs ys : List X) → All P (xs ++ ys) → All P ys
-all-right P [] ys all = all
-all-right P (x ∷ xs) ys all = all-right P xs ys (All-tail P x (xs ++ ys) all)
+all-parts : {X : Type 0} (P : X → Type 0) (xs ys : List X) → All P (xs ++ ys) → All P xs × All P ys
+all-parts P [] ys all = (All-nil P, all)
+all-parts P (x ∷ xs) ys all =
+    let others = all-parts P xs ys (All-tail P x (xs ++ ys) all) in (All-cons P x xs (All-head P x (xs ++ ys) all) others.0, others.1)
 
 -- ---- values at index vectors
 
@@ -49,22 +46,22 @@ row-same : (base i stride : ℕ) (strides : List ℕ) (vs : List (List ℕ))
 row-same base i stride strides [] = refl
 row-same base i stride strides (v ∷ vs) = grind (arith, at, row-same base i stride strides vs)
 
-row-first : (size len base : ℕ) (strides : List ℕ) (vs others : List (List ℕ)) → AllEnd size len base strides (vs ++ others)
-    → All (EndsIn size len) (map (at base strides) vs ++ map (at base strides) others)
-row-first size len base strides vs others all = subst (All (EndsIn size len)) (map-append (at base strides) vs others) all
-
 -- where the values of some rows end in the file, those of each of them do
 each-row-ends : (size len base stride : ℕ) (strides : List ℕ) (vs : List (List ℕ)) (k n : ℕ)
     → AllEnd size len base (stride ∷ strides) (flat_map (row vs) (range_with_len k n)) → (r m : ℕ) → r < n → m ≡ k + r
     → AllEnd size len (base + m * stride) strides vs
 each-row-ends size len base stride strides vs k zero all r m lt is = absurd (omega arith)
-each-row-ends size len base stride strides vs k (suc n) all zero m lt is =
-    subst (λ i. AllEnd size len (base + i * stride) strides vs) (let e : k ≡ m = omega arith in e)
-    (subst (All (EndsIn size len)) (row-same base k stride strides vs)
-    (all-left (EndsIn size len) _ _ (row-first size len base (stride ∷ strides) (row vs k) _ all)))
-each-row-ends size len base stride strides vs k (suc n) all (suc q) m lt is =
-    each-row-ends size len base stride strides vs (k + 1) n
-    (all-right (EndsIn size len) _ _ (row-first size len base (stride ∷ strides) (row vs k) _ all)) q m (omega arith) (omega arith)
+each-row-ends size len base stride strides vs k (suc n) all r m lt is =
+    by_row r lt is (rest.0) (λ q within at. each-row-ends size len base stride strides vs (k + 1) n rest.1 q m within at)
+  where
+    rest : AllEnd size len base (stride ∷ strides) (row vs k)
+        × AllEnd size len base (stride ∷ strides) (flat_map (row vs) (range_with_len (k + 1) n))
+    rest = all-parts (EndsIn size len) _ _ (simp map-append at all)
+
+    by_row : (r : ℕ) → r < suc n → m ≡ k + r → AllEnd size len base (stride ∷ strides) (row vs k)
+        → ((q : ℕ) → q < n → m ≡ k + 1 + q → AllEnd size len (base + m * stride) strides vs) → AllEnd size len (base + m * stride) strides vs
+    by_row zero within at first later = grind (arith, row-same base k stride strides vs)
+    by_row (suc q) within at first later = later q (omega arith) (omega arith)
 
 -- a factor of a product that isn't 0
 some-factor : (a b : ℕ) → 0 < a * b → 0 < b

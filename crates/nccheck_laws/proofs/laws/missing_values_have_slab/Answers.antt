@@ -1,4 +1,4 @@
-use Rattle.nccheck_laws.proofs.LayoutSlabs.{missing-slab}
+use Rattle.nccheck_laws.proofs.WholeSlots.{missing-slab}
 use Rattle.nccheck_laws.proofs.laws.missing_values_have_slab.Goals as goal
 
 pub returns : goal.returns

@@ -1,5 +1,5 @@
 use Rattle.nccheck_laws.proofs.CanonicalBegins.{quiet-begins}
-use Rattle.nccheck_laws.proofs.CanonicalLength.{quiet-length}
+use Rattle.nccheck_laws.proofs.CanonicalEnds.{quiet-length}
 use Rattle.nccheck_laws.proofs.laws.quiet_layouts_are_canonical.Goals as goal
 
 pub returns-clause-begins : goal.returns-clause-begins
