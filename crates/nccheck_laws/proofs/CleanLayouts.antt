@@ -1,7 +1,7 @@
 -- A report finds nothing at begins and at the end of a generated file.
 use Rattle.std.proofs.lemmas.Grind.{common_steps}
 use Rattle.std.proofs.Common.{arith}
-use Rattle.std.proofs.Common.{◌≡◌, ℕ, ◌+◌, Bool, false, List, [], ◌∷◌, ◌++◌, length, map, Ok, refl, sym, ap, ◌∙◌, subst}
+use Rattle.std.proofs.Common.{◌≡◌, ℕ, ◌+◌, Bool, false, List, [], ◌∷◌, ◌++◌, length, Ok, refl, sym, ap, ◌∙◌, subst}
 use Rattle.std.specs.List.{All}
 use Rattle.std.proofs.lemmas.List.Elements.{All-nil, All-cons, All-head, All-tail}
 use Rattle.std.proofs.lemmas.List.Folds.{list_any-append, list_any_none}
@@ -12,74 +12,61 @@ use Rattle.nc_base.specs.Bytes.{Bytes}
 use Rattle.nc_base.specs.Datasets.{Fits}
 use Rattle.nc_base.specs.GeneratedFile.{begin_after, data_of, vars_with_begins}
 unfoldable use Rattle.nc_base.specs.GeneratedFile.{file_of, with_begins}
-use Rattle.nc_base.specs.Grammar.{SpellsHeader, strict, header_by, header_spelling}
+use Rattle.nc_base.specs.Grammar.{SpellsHeader, strict, header_spelling}
 use Rattle.nc_base.specs.Names.{IsName}
 use Rattle.nc_base.specs.Headers.{AreArrays, IsGood, HasValidNames, bare}
 use Rattle.nc_base.proofs.FileHolds.{bare-after, sound-after}
-use Rattle.nc_base.proofs.PartOutcomes.{reads, printed}
+use Rattle.nc_base.proofs.PartOutcomes.{printed}
 use Rattle.nc_base.proofs.Printable.{header-printable}
 use Rattle.nc_fields.specs.declared.header.Listing.{Listing}
-use Rattle.nc_fields.specs.Lenient.{lenient}
 use Rattle.nccheck_laws.specs.Agreement.{without_values}
-use Rattle.nccheck_laws.proofs.StrictHeaders.{strict-headers}
 use Rattle.nc_layout.specs.declared.finding.LayoutFact.{LayoutFact}
 use Rattle.nc_layout.specs.Findings.{layout_findings}
 use Rattle.nc_layout.specs.HeaderLayout.{layout_of}
 use Rattle.nccheck_laws.specs.LayoutLaws.{is_of_begin, is_of_end, FindsNone}
 use Rattle.nccheck_laws.proofs.GeneratedLayouts.{generated-quiet as layouts-quiet}
 use Rattle.nc_layout.proofs.SpelledLayouts.{spelled-layout}
-use Rattle.nc_report.specs.declared.{finding.Fact.Fact, finding.Finding.Finding, report.Report.Report}
+use Rattle.nc_report.specs.declared.{finding.Finding.Finding, report.Report.Report}
 use Rattle.nc_report.specs.Indexed.{indexed}
 use Rattle.nc_report.specs.HeaderRules.{header_findings}
-use Rattle.nc_report.specs.WholeHeader.{vsize_findings, located, whole_findings}
+use Rattle.nc_report.specs.WholeHeader.{vsize_findings}
 unfoldable use Rattle.nc_report.specs.Reports.{all_findings}
 use Rattle.nc_report.specs.Reports.{IsReport}
 use Rattle.nccheck_laws.specs.ReportLaws.{is_of_layout, has_any, GeneratedFilesHaveQuietLayouts}
-use Rattle.nccheck_laws.proofs.LayoutFacts.{all-located, is-read, whole-header, same-layout, same-end}
+use Rattle.nccheck_laws.proofs.LayoutFacts.{all-located, whole-header, read-layout}
 use Rattle.nccheck_laws.proofs.MissingFindings.{Other, all-other, other-header}
-use Rattle.nccheck_laws.proofs.QuietRules.{is_layout, plain-vsizes}
+use Rattle.nccheck_laws.proofs.QuietRules.{plain-vsizes}
 
 -- ---- a layout in which nothing is found
 
-not-layout : (kind : LayoutFact → Bool) (x : Fact) → is_layout x ≡ false → is_of_layout kind x ≡ false
-not-layout kind v1 other = grind arith
+other-none : (kind : LayoutFact → Bool) (xs : List Finding) → All Other xs → has_any (is_of_layout kind) xs ≡ false
+other-none kind xs others = list_any_none (λ (f : Finding). is_of_layout kind f.fact) xs (λ k d lt. grind (arith, others k d lt))
 
--- after findings of other facts
-none-with : (kind : LayoutFact → Bool) (xs ys : List Finding) → All Other xs → has_any (is_of_layout kind) ys ≡ false
-    → has_any (is_of_layout kind) (xs ++ ys) ≡ false
-none-with kind xs ys others none = grind (arith, list_any-append, list_any_none, not-layout)
-
-listing-none : (kind : LayoutFact → Bool) (l : Listing) (h : Header) → l.header ≡ Ok (without_values h)
+listing-none : (kind : LayoutFact → Bool) (l : Listing) (h : Header) → l.header ≡ Ok h
     → FindsNone kind (layout_of h l.end l.file_len) → has_any (is_of_layout kind) (all_findings l) ≡ false
 unfolding all_findings
 listing-none kind l h same none =
     let fs = indexed l.entries in
-    let layout = layout_of (without_values h) l.end l.file_len in
-    none-with kind (header_findings l.entries) (whole_findings l) (other-header l.entries)
-    (ap (has_any (is_of_layout kind)) (whole-header l (without_values h) same)
-    ∙ none-with kind (vsize_findings layout fs) (map (located fs) (layout_findings layout)) (all-other _ (plain-vsizes layout fs))
-    (all-located (is_of_layout kind) kind (λ x. refl) fs (layout_findings layout)
-    ∙ subst (FindsNone kind) (sym (same-layout h l.end l.file_len)) none))
+    let layout = layout_of h l.end l.file_len in
+    let header = other-none kind (header_findings l.entries) (other-header l.entries) in
+    let vsizes = other-none kind (vsize_findings layout fs) (all-other _ (plain-vsizes layout fs)) in
+    let facts = all-located (is_of_layout kind) kind (λ x. refl) fs (layout_findings layout) in
+    grind (arith, list_any-append, whole-header l h same)
 
 -- if the layout of the header that is read has no finding of this kind, then a report has none about the layout
 report-none : (kind : LayoutFact → Bool) (bytes : Bytes) (r : Report) (h : Header) (rest : Bytes) (header_end : ℕ)
     → IsReport bytes r → SpellsHeader bytes h rest → header_end + length rest ≡ length bytes
     → FindsNone kind (layout_of h header_end (length bytes)) → has_any (is_of_layout kind) r.findings ≡ false
 report-none kind bytes r h rest header_end report spelled ends none =
-    let l = r.listing in
-    let read = is-read bytes report.listing.rest l.header (without_values h) rest report.listing.header
-    (reads (header_by lenient) bytes (without_values h) rest (strict-headers bytes h rest spelled).0) in
-    let at = subst (λ rest. l.end + length rest ≡ length bytes) read.1 report.listing.end in
-    let here = subst (λ end. FindsNone kind (layout_of h end (length bytes)))
-    (sym (same-end l.end header_end (length rest) (length bytes) at ends)) none in
-    grind (arith, list_any-IsPermutation, listing-none)
+    let read = read-layout bytes r h rest header_end report spelled ends in
+    sym (list_any-IsPermutation (λ (f : Finding). is_of_layout kind f.fact) (all_findings r.listing) r.findings report.all)
+    ∙ listing-none kind r.listing (without_values h) read.0 (subst (FindsNone kind) (sym read.1) none)
 
 -- ---- generated files
 
 arrays-begin : (h : Header) (n : ℕ) (before vars : List Var) (arrays : List Bytes) → AreArrays h.dims n vars arrays
     → AreArrays h.dims n (vars_with_begins h before vars) arrays
-arrays-begin h n before [] [] are = tt
-arrays-begin h n before [] (array ∷ arrays) are = are
+arrays-begin h n before [] arrays are = are
 arrays-begin h n before (var ∷ vars) [] are = are
 arrays-begin h n before (var ∷ vars) (array ∷ arrays) are = grind (arith, arrays-begin h n (before ++ var ∷ []) vars arrays are.1)
 

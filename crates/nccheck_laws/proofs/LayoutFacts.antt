@@ -1,7 +1,7 @@
 -- What a report finds about the layout of a whole header, and the header whose layout it is.
-use Rattle.std.proofs.lemmas.Grind.{common_steps}
-use Rattle.std.proofs.Common.{◌≡◌, ℕ, ◌+◌, Bool, false, List, [], ◌∷◌, ◌++◌, length, map, Result, Ok, Err, refl, sym, ap, ◌∙◌, subst, arith}
+use Rattle.std.proofs.Common.{◌≡◌, ℕ, ◌+◌, Bool, false, List, [], ◌∷◌, length, map, Result, Ok, Err, refl, ap, ◌∙◌, subst, arith}
 use Rattle.std.specs.List.{list_any}
+use Rattle.std.proofs.lemmas.List.Folds.{list_any-append}
 use Rattle.std.proofs.lemmas.List.Sorted.{list_any-IsPermutation}
 use Rattle.nc_base.specs.declared.{fault.FormatFault.FormatFault, header.Dim.Dim, header.Header.Header, header.Var.Var}
 use Rattle.nc_base.specs.Bytes.{Bytes}
@@ -20,8 +20,7 @@ use Rattle.nc_layout.specs.HeaderLayout.{layout_of, slot_of}
 use Rattle.nc_report.specs.declared.{finding.Fact.Fact, finding.Finding.Finding, report.Report.Report}
 use Rattle.nc_report.specs.declared.finding.Fact.TheVariants as fact
 use Rattle.nc_report.specs.Indexed.{Indexed, indexed}
-use Rattle.nc_report.specs.HeaderRules.{header_findings}
-use Rattle.nc_report.specs.WholeHeader.{vsize_findings, located, layout_facts}
+use Rattle.nc_report.specs.WholeHeader.{located, layout_facts}
 unfoldable use Rattle.nc_report.specs.WholeHeader.{whole_findings}
 unfoldable use Rattle.nc_report.specs.Reports.{all_findings}
 use Rattle.nc_report.specs.Reports.{IsReport}
@@ -67,35 +66,31 @@ same-layout h header_end file_len = grind (arith, same-slots)
 
 -- ---- reports without findings about the layout
 
--- the later findings have none of this kind
-none-after : (test : Fact → Bool) (xs ys : List Finding) → has_any test (xs ++ ys) ≡ false → has_any test ys ≡ false
-none-after test xs ys none = grind (arith, common_steps)
-
 pub listing-finds-none : (kind : LayoutFact → Bool) (l : Listing) (h : Header) → l.header ≡ Ok h
     → has_any (is_of_layout kind) (all_findings l) ≡ false → FindsNone kind (layout_of h l.end l.file_len)
 unfolding all_findings
 listing-finds-none kind l h same none =
-    let fs = indexed l.entries in
-    let layout = layout_of h l.end l.file_len in
-    let whole = none-after (is_of_layout kind) (header_findings l.entries) (whole_findings l) none in
-    let facts = subst (λ findings. has_any (is_of_layout kind) findings ≡ false) (whole-header l h same) whole in
-    let located = none-after (is_of_layout kind) (vsize_findings layout fs) (map (located fs) (layout_findings layout)) facts in
-    sym (all-located (is_of_layout kind) kind (λ x. refl) fs (layout_findings layout)) ∙ located
+    let facts = all-located (is_of_layout kind) kind (λ x. refl) (indexed l.entries) (layout_findings (layout_of h l.end l.file_len)) in
+    grind (arith, list_any-append, whole-header l h same)
 
--- where the bytes end
-pub same-end : (a b n len : ℕ) → a + n ≡ len → b + n ≡ len → a ≡ b
-same-end a b n len at same = omega (arith, at, same)
+-- the header that is listed, and its layout
+pub read-layout : (bytes : Bytes) (r : Report) (h : Header) (rest : Bytes) (header_end : ℕ)
+    → IsReport bytes r → SpellsHeader bytes h rest → header_end + length rest ≡ length bytes
+    → (r.listing.header ≡ Ok (without_values h))
+    × (layout_of (without_values h) r.listing.end r.listing.file_len ≡ layout_of h header_end (length bytes))
+read-layout bytes r h rest header_end report spelled ends =
+    let l = r.listing in
+    let read = is-read bytes report.listing.rest l.header (without_values h) rest report.listing.header
+    (reads (header_by lenient) bytes (without_values h) rest (strict-headers bytes h rest spelled).0) in
+    let at = subst (λ rest. l.end + length rest ≡ length bytes) read.1 report.listing.end in
+    let same : l.end ≡ header_end = omega arith in
+    (read.0, grind (arith, report.listing.file_len, same-layout h l.end l.file_len))
 
 -- if a report has no finding of this kind about the layout, then the layout of the header that is read has none
 pub report-finds-none : (kind : LayoutFact → Bool) (bytes : Bytes) (r : Report) (h : Header) (rest : Bytes) (header_end : ℕ)
     → IsReport bytes r → SpellsHeader bytes h rest → header_end + length rest ≡ length bytes
     → has_any (is_of_layout kind) r.findings ≡ false → FindsNone kind (layout_of h header_end (length bytes))
 report-finds-none kind bytes r h rest header_end report spelled ends none =
-    let l = r.listing in
-    let read = is-read bytes report.listing.rest l.header (without_values h) rest report.listing.header
-    (reads (header_by lenient) bytes (without_values h) rest (strict-headers bytes h rest spelled).0) in
-    let at = subst (λ rest. l.end + length rest ≡ length bytes) read.1 report.listing.end in
-    let found = list_any-IsPermutation (λ (f : Finding). is_of_layout kind f.fact) (all_findings l) r.findings report.all ∙ none in
-    subst (λ end. FindsNone kind (layout_of h end (length bytes))) (same-end l.end header_end (length rest) (length bytes) at ends)
-    (subst (λ n. FindsNone kind (layout_of h l.end n)) report.listing.file_len
-    (subst (FindsNone kind) (same-layout h l.end l.file_len) (listing-finds-none kind l (without_values h) read.0 found)))
+    let read = read-layout bytes r h rest header_end report spelled ends in
+    let found = list_any-IsPermutation (λ (f : Finding). is_of_layout kind f.fact) (all_findings r.listing) r.findings report.all ∙ none in
+    subst (FindsNone kind) read.1 (listing-finds-none kind r.listing (without_values h) read.0 found)
