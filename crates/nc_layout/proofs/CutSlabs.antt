@@ -35,30 +35,19 @@ first_stays : (file_len size i : ℕ) (slot : Slot) (n a : ℕ) (x : SlabPlace) 
 first_stays file_len size i slot zero a x le = refl
 first_stays file_len size i slot (suc n) a x le =
     let next : a * size ≤ (a + 1) * size = mul-le-mul_right size (omega arith) in
-    grind (
-      arith,
-      nat_tests,
-      first_stays file_len size i slot n (a + 1) x,
-      first_of-assoc (Some x) (Some (record_slab size i slot a)) (first_cut file_len size i slot (a + 1) n),
-    )
+    grind (arith, nat_tests, first_stays file_len size i slot n (a + 1) x, first_of-assoc)
 
 -- if this many slabs are whole, then the next one is the first that isn't, unless there is no such record
-pub first_cut-is : (file_len size i : ℕ) (slot : Slot) (whole n a : ℕ)
+pub first_cut_is : (file_len size i : ℕ) (slot : Slot) (whole n a : ℕ)
     → ((r : ℕ) → r < whole → slot.begin + r * size + slot.slab ≤ file_len)
     → ((r : ℕ) → whole ≤ r → file_len < slot.begin + r * size + slot.slab) → a ≤ whole
     → first_cut file_len size i slot a n ≡ (if nat_lt whole (a + n) then Some (record_slab size i slot whole) else None)
-first_cut-is file_len size i slot whole zero a is_whole is_cut_after le = grind (arith, nat_tests)
-first_cut-is file_len size i slot whole (suc n) a is_whole is_cut_after le =
+first_cut_is file_len size i slot whole zero a is_whole is_cut_after le = grind (arith, nat_tests)
+first_cut_is file_len size i slot whole (suc n) a is_whole is_cut_after le =
     let next : a * size ≤ (a + 1) * size = mul-le-mul_right size (omega arith) in
-    grind (
-      arith,
-      nat_tests,
-      cases_lt a whole,
-      is_whole a,
-      is_cut_after a,
-      first_cut-is file_len size i slot whole n (a + 1) is_whole is_cut_after,
-      first_stays file_len size i slot n (a + 1) (record_slab size i slot a),
-    )
+    let more = first_cut_is file_len size i slot whole n (a + 1) is_whole is_cut_after in
+    let last = first_stays file_len size i slot n (a + 1) (record_slab size i slot a) in
+    grind (arith, nat_tests, cases_lt a whole, is_whole a, is_cut_after a)
 
 -- after a slab, the first slab of two lists that isn't whole
 pub first_cut-append : (file_len : ℕ) (first : Option SlabPlace) (xs ys : List SlabPlace)
@@ -71,10 +60,10 @@ first_cut-append file_len first xs ys = grind (arith, filter-append (is_cut file
 slab_in_record-positive : (slots : List Slot) (slot : Slot) → 1 ≤ slot.slab → 0 < slab_in_record slots slot
 slab_in_record-positive slots slot h = grind arith
 
-pub record_size-positive : (slots : List Slot) (i : ℕ) (d : Slot) → All IsSoundSlot slots → i < length slots
+pub record_size_positive : (slots : List Slot) (i : ℕ) (d : Slot) → All IsSoundSlot slots → i < length slots
     → (get_or slots i d).is_record ≡ true → 0 < record_size slots
 unfolding record_size
-record_size-positive slots i d sound lt is =
+record_size_positive slots i d sound lt is =
     let f = slab_in_record slots in
     let split = ap record_slots (sym (take-append-drop i slots)) in
     let first = rest-taken slots i d lt is in

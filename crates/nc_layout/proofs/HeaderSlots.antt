@@ -23,9 +23,9 @@ pub record AreSlots (dims : List Dim) (vars : List Var) (slots : List Slot) : Ty
   pub small : All (HasSmallSlab dims) vars
 
 -- one more slot
-pub slots-more : (dims : List Dim) (vars : List Var) (i : ℕ) (slots : List Slot) (x : Var) → i < length vars → x ≡ get_or vars i x
+pub slots_more : (dims : List Dim) (vars : List Var) (i : ℕ) (slots : List Slot) (x : Var) → i < length vars → x ≡ get_or vars i x
     → HasSmallSlab dims x → AreSlots dims (take i vars) slots → AreSlots dims (take (i + 1) vars) (slots ++ slot_of dims x ∷ [])
-slots-more dims vars i slots x lt at small so_far =
+slots_more dims vars i slots x lt at small so_far =
     let more : take (i + 1) vars ≡ take i vars ++ x ∷ [] = cc (take_more vars i x lt) in
     rw more (record { are = grind (arith, common_steps); small = All-push (HasSmallSlab dims) (take i vars) x so_far.small small })
 

@@ -1,5 +1,5 @@
 -- The blocks of a file are listed in the order of the header, the records last.
-use Rattle.std.proofs.Common.{◌≡◌, ℕ, ◌+◌, ◌<◌, true, List, [], ◌∷◌, ◌++◌, get_or, arith, Option, Some, None}
+use Rattle.std.proofs.Common.{◌≡◌, ℕ, ◌+◌, ◌<◌, true, List, [], ◌∷◌, ◌++◌, length, get_or, arith, Option, Some, None}
 use Rattle.std.specs.List.{Contains, AllPairs}
 use Rattle.std.specs.Option.{option_map_or}
 use Rattle.std.proofs.lemmas.Bool.Decides.{nat_tests}
@@ -24,12 +24,8 @@ fixed-listed : (slots : List Slot) (i : ℕ) → AllPairs Listed (each_slot fixe
 fixed-listed [] i = λ j k d lt within. absurd (omega arith)
 fixed-listed (slot ∷ slots) i =
     let rest = each_slot fixed_block (i + 1) slots in
-    grind (
-      arith,
-      fixed-listed slots (i + 1),
-      AllPairs-cons Listed (slot_block i slot) rest
-          (λ k d lt. (fixed_from slots (i + 1) (get_or rest k d) (Contains-get_or rest k d lt)).0 i (omega arith)),
-    )
+    let after = λ (k : ℕ) (d : Extent) (lt : k < length rest). fixed_from slots (i + 1) (get_or rest k d) (Contains-get_or rest k d lt) in
+    grind (arith, fixed-listed slots (i + 1), AllPairs-cons Listed (slot_block i slot) rest (λ k d lt. (after k d lt).0 i (omega arith)))
 
 with_records : (slots : List Slot) (n : ℕ) (begin : Option ℕ)
     → AllPairs Listed (each_slot fixed_block 0 slots ++ option_map_or (λ b. records_block slots n b ∷ []) begin [])

@@ -33,26 +33,15 @@ records_begin-some (slot ∷ slots) = grind (arith, records_begin-some slots)
 follows : (p : Slot → Bool) (slots : List Slot) (i left : ℕ) (slot : Slot) → slice_get slots i ≡ Some slot → p slot ≡ true
     → left ≡ count_by p (drop i slots) → nat_lt 1 left ≡ list_any p (drop (i + 1) slots)
 follows p slots i left slot at is count =
-    grind (
-      arith,
-      common_steps,
-      some_passes p (drop (i + 1) slots),
-      at_drop_more (count_by p) slots i slot (slice_get_within slots i slot at),
-      get_or_from_slice_get slots i slot slot at,
-    )
+    let step = at_drop_more (count_by p) slots i slot (slice_get_within slots i slot at) in
+    grind (arith, common_steps, some_passes p (drop (i + 1) slots), get_or_from_slice_get slots i slot slot at)
 
 pub has_successor_is : (slots : List Slot) (i : ℕ) (passed : PassedSlots) (begin : Option ℕ) (slot : Slot) → HasPassed slots i passed
     → begin ≡ records_begin slots → slice_get slots i ≡ Some slot
     → next_has_successor passed (is_some begin) slot ≡ has_successor slots i slot
 has_successor_is slots i passed begin slot h at_begin at =
-    grind (
-      arith,
-      records_begin-some slots,
-      follows is_record_slot slots i passed.records_left slot at,
-      follows is_fixed slots i passed.fixed_left slot at,
-      h.records,
-      h.fixed,
-    )
+    let records = follows is_record_slot slots i passed.records_left slot at in
+    let fixed = follows is_fixed slots i passed.fixed_left slot at in grind (arith, records_begin-some slots)
 
 -- ---- bounds
 
@@ -119,21 +108,15 @@ passed-more slots i passed d h lt =
     let more = take_more slots i d lt in
     let len = length-take-le i slots (omega arith) in
     record {
-      begin = grind (arith, h.begin, greatest_begin-push front x);
-      latest = λ some. grind (
-        arith,
-        nat_tests,
-        h.begin,
-        h.latest,
-        attained front 0 passed.latest_begin h.begin,
-        fixed_slot_at-kept front x passed.latest_begin,
-        fixed_slot_at-new front x x.begin,
-        none_above front 0 x.begin,
-        greatest_begin-push front x,
-      );
-      bytes = grind (arith, h.bytes, bytes_before-push slots i x more);
-      fixed = grind (arith, common_steps, h.fixed, at_drop_more (count_by is_fixed) slots i d lt);
-      records = grind (arith, common_steps, h.records, at_drop_more (count_by is_record_slot) slots i d lt);
+      begin = grind (arith, greatest_begin-push front x);
+      latest = λ some.
+          let found = attained front 0 passed.latest_begin h.begin in
+          let kept = fixed_slot_at-kept front x passed.latest_begin in
+          let new = fixed_slot_at-new front x x.begin in
+          grind (arith, nat_tests, none_above front 0 x.begin, greatest_begin-push front x);
+      bytes = grind (arith, bytes_before-push slots i x more);
+      fixed = grind (arith, common_steps, at_drop_more (count_by is_fixed) slots i d lt);
+      records = grind (arith, common_steps, at_drop_more (count_by is_record_slot) slots i d lt);
     }
 
 -- ---- the rules on the next slot

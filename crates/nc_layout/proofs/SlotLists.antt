@@ -29,27 +29,27 @@ least_from-none : (slots : List Slot) → least_from None slots ≡ least (map (
 least_from-none [] = refl
 least_from-none (slot ∷ slots) = least_from-some slot.begin slots
 
-pub records_begin-is : (slots : List Slot) → least_from None (record_slots slots) ≡ records_begin slots
+pub records_begin_is : (slots : List Slot) → least_from None (record_slots slots) ≡ records_begin slots
 unfolding records_begin
-records_begin-is slots = least_from-none (record_slots slots)
+records_begin_is slots = least_from-none (record_slots slots)
 
 -- ---- the record size
 
-pub record_size-is : (slots : List Slot) (narrow : Bool) → narrow ≡ is_sole_narrow (record_slots slots)
+pub record_size_is : (slots : List Slot) (narrow : Bool) → narrow ≡ is_sole_narrow (record_slots slots)
     → sum_by (slab_if narrow) (record_slots slots) ≡ record_size slots
 unfolding record_size
-record_size-is slots narrow is = ap (λ b. sum_by (slab_if b) (record_slots slots)) is
+record_size_is slots narrow is = ap (λ b. sum_by (slab_if b) (record_slots slots)) is
 
 -- a record isn't larger than its padded slabs
-pub record_size-le : (slots : List Slot) → record_size slots ≤ sum_by padded_slab (record_slots slots)
+pub record_size_le : (slots : List Slot) → record_size slots ≤ sum_by padded_slab (record_slots slots)
 unfolding record_size
-record_size-le slots =
+record_size_le slots =
     sum_by-le-sum_by (slab_in_record slots) padded_slab (record_slots slots) (λ slot. grind arith)
 
 -- the next slab fits into the record
-pub record_size-fits : (slots : List Slot) (narrow : Bool) (i size : ℕ) (d : Slot) → i < length slots → (get_or slots i d).is_record ≡ true
+pub record_size_fits : (slots : List Slot) (narrow : Bool) (i size : ℕ) (d : Slot) → i < length slots → (get_or slots i d).is_record ≡ true
     → size + sum_by (slab_if narrow) (rest slots i) ≡ record_size slots → sum_by padded_slab (record_slots slots) ≤ 2 ^ 62
     → size + slab_if narrow (get_or slots i d) ≤ 2 ^ 62
-record_size-fits slots narrow i size d lt is inv small =
+record_size_fits slots narrow i size d lt is inv small =
     let step = sum_by-cons (slab_if narrow) (get_or slots i d) (rest slots (i + 1)) in
-    grind (arith, rest-taken slots i d lt is, record_size-le slots)
+    grind (arith, rest-taken slots i d lt is, record_size_le slots)

@@ -45,13 +45,8 @@ find-only : (p : Extent → Bool) (bs : List Extent) (c : Extent) → Contains b
     → ((d : Extent) → Contains bs d → p d ≡ true → d ≡ c) → find p bs ≡ Some c
 find-only p [] c has passes only = absurd (contains-none c has)
 find-only p (b ∷ bs) c has passes only =
-    grind (
-      arith,
-      find-only p bs c,
-      contains-cases b c bs has,
-      only b (contains-here b bs),
-      λ (d : Extent) (k : Contains bs d). only d (contains-there b d bs k),
-    )
+    let others = λ (d : Extent) (k : Contains bs d). only d (contains-there b d bs k) in
+    grind (arith, find-only p bs c, contains-cases b c bs has, only b (contains-here b bs))
 
 some_precedes : (bs : List Extent) (c d : Extent) → Contains bs c → precedes c d ≡ true → list_any (λ e. precedes e d) bs ≡ true
 some_precedes bs c d (k, lt, at) is = list_any_at (λ e. precedes e d) bs k c lt (ap (λ (x : Extent). precedes x d) at ∙ is)
@@ -163,14 +158,8 @@ before-same bs sorted done rest b same split below above = record { there = ther
     there c has =
         let k = filter-contains (λ d. precedes d b) bs c has in
         let inside = subst (λ (xs : List Extent). Contains xs c) split (Contains-permutation bs sorted c same k.0) in
-        grind (
-          arith,
-          Contains-append_cases done (b ∷ rest) c inside,
-          contains-cases b c rest,
-          precedes-irrefl b,
-          precedes-asym b c,
-          above c,
-        )
+        let place = Contains-append_cases done (b ∷ rest) c inside in
+        grind (arith, contains-cases b c rest, precedes-irrefl b, precedes-asym b c, above c)
 
     back : (c : Extent) → Contains done c → Contains (before bs b) c
     back c has =

@@ -27,6 +27,7 @@ pub struct Extent {
 }
 
 /// Returns the blocks of the file: those of slots in the order of the header, then that of the records, if there are record slots.
+#[tactic(auto, using(crate::proofs::SlotLists::record_size_le), unfolding(crate::specs::Blocks::blocks))]
 pub(crate) fn blocks(
     alloc: Global,
     layout: &Layout,

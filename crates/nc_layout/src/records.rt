@@ -24,6 +24,7 @@ pub(crate) struct FileRecords {
 }
 
 /// Returns what the file has as records.
+#[tactic(auto, unfolding(crate::specs::Slots::record_count, crate::specs::Slots::records_by_length))]
 pub(crate) fn file_records(layout: &Layout) -> FileRecords
     requires { IsSoundLayout layout.now }
     ensures { AreRecords layout.now result }
@@ -70,6 +71,7 @@ pub(crate) fn slab_in_record(slot: Slot, sole_narrow: bool) -> u64
 }
 
 /// Returns the offset at which the records begin: the least begin of the record slots, or `None` if there are none.
+#[tactic(auto, using(crate::proofs::SlotLists::records_begin_is))]
 fn records_begin(slots: &[Slot]) -> Option<u64>
     ensures { result ≡ records_begin slots.now }
 {
@@ -119,6 +121,7 @@ fn sole_record_slot(slots: &[Slot]) -> Option<Slot>
 }
 
 /// Returns the number of bytes from a record to the next: the sum of what the record slots take in a record.
+#[tactic(auto, using(crate::proofs::SlotLists::record_size_is))]
 fn record_size(slots: &[Slot], sole_narrow: bool) -> u64
     requires sound { All IsSoundSlot slots.now }
     requires small { sum_by padded_slab (record_slots slots.now) ≤ 2 ^ 62 }

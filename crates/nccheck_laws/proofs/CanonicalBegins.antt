@@ -70,13 +70,9 @@ fixed-next layout i x quiet at fixed done =
     )) in
     let le = before-le layout (slot_block i x) (fixed_place layout i)
     (each-block layout (λ c. precedes c (slot_block i x) ≡ true → c.padded_end ≤ fixed_place layout i)
-    (λ k y at_y is first. grind (
-      arith,
-      nat_tests,
-      cases_lt k i,
-      λ (lt : k < i). place-le layout i done k y at_y lt is,
-      λ (le : i ≤ k). in_order layout i k x y quiet le at at_y fixed is,
-    ))
+    (λ k y at_y is first.
+    let before = λ (lt : k < i). place-le layout i done k y at_y lt is in
+    let after = λ (le : i ≤ k). in_order layout i k x y quiet le at at_y fixed is in grind (arith, nat_tests, cases_lt k i))
     (λ begin found first. absurd (grind (arith, nat_tests, slot.before_records begin found fixed)))) in
     omega (arith, slot.after_header, block.not_before, block.not_after)
 
@@ -110,13 +106,8 @@ slot-canonical : (layout : Layout) (i : ℕ) (x : Slot) → FindsNone is_of_begi
 slot-canonical layout i x quiet at =
     let begin = first_begin layout.slots in
     let found = begins layout.slots i x at in
-    grind (
-      arith,
-      found,
-      (slot-of layout i x quiet at).in_place begin,
-      records-in-place layout begin quiet,
-      fixed-below layout (suc i) quiet i x at (omega arith),
-    )
+    let fixed = fixed-below layout (suc i) quiet i x at (omega arith) in
+    grind (arith, found, (slot-of layout i x quiet at).in_place begin, records-in-place layout begin quiet)
 
 pub quiet-begins : QuietBeginsAreCanonical
 quiet-begins layout quiet i = grind (arith, slot-canonical)

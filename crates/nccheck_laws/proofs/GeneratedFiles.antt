@@ -53,15 +53,9 @@ len-bare h n known = grind (arith, header-len-bare h h.vars)
 vars-bare : (h : Header) (n : ℕ) (before vars : List Var) → h.numrecs ≡ Known n
     → vars_with_begins (bare h n) (bare_vars before) (bare_vars vars) ≡ vars_with_begins h before vars
 vars-bare h n before [] known = refl
-vars-bare h n before (var ∷ vars) known = grind (
-  arith,
-  vars-bare h n (before ++ var ∷ []) vars known,
-  len-bare h n known,
-  map-append,
-  padded_total-append,
-  fixed-bare,
-  record-bare,
-)
+vars-bare h n before (var ∷ vars) known =
+    let more = vars-bare h n (before ++ var ∷ []) vars known in
+    grind (arith, len-bare h n known, map-append, padded_total-append, fixed-bare, record-bare)
 
 pub begins-bare : (h : Header) (n : ℕ) → h.numrecs ≡ Known n → with_begins (bare h n) ≡ with_begins h
 unfolding with_begins
@@ -77,30 +71,20 @@ slot-there (x ∷ before) slot slots = slot-there before slot slots
 pub begin-is : (h : Header) (header_end file_len : ℕ) (before : List Var) (var : Var) (vars : List Var) → h.vars ≡ before ++ var ∷ vars
     → canonical_begin (layout_of h header_end file_len) (length before) (slot_of h.dims var)
     ≡ header_end + padded_total h.dims (slabs_before h before var)
-begin-is h header_end file_len before var vars is = grind (
-  arith,
-  map-append,
-  length-map,
-  take-append-le (length before) (map (slot_of h.dims) before),
-  take-length (map (slot_of h.dims) before),
-  fixed_slots-total,
-  record_slots-total,
-  padded_total-append,
-)
+begin-is h header_end file_len before var vars is =
+    let slots = map (slot_of h.dims) before in
+    let front = take-append-le (length before) slots in
+    grind (arith, map-append, length-map, take-length slots, fixed_slots-total, record_slots-total, padded_total-append)
 
 -- begins that are canonical are those of the generated file
 begins-same : (h : Header) (file_len : ℕ) (before vars : List Var) → h.vars ≡ before ++ vars
     → HasCanonicalBegins (layout_of h (length (header_spelling h)) file_len) → vars_with_begins h before vars ≡ vars
 begins-same h file_len before [] is canonical = refl
-begins-same h file_len before (var ∷ vars) is canonical = grind (
-  arith,
-  map-append,
-  length-map,
-  canonical (length before),
-  slot-there (map (slot_of h.dims) before) (slot_of h.dims var) (map (slot_of h.dims) vars),
-  begin-is h (length (header_spelling h)) file_len before var vars is,
-  begins-same h file_len (before ++ var ∷ []) vars (is ∙ sym (append_assoc before (var ∷ []) vars)) canonical,
-)
+begins-same h file_len before (var ∷ vars) is canonical =
+    let there = slot-there (map (slot_of h.dims) before) (slot_of h.dims var) (map (slot_of h.dims) vars) in
+    let begin = begin-is h (length (header_spelling h)) file_len before var vars is in
+    let more = begins-same h file_len (before ++ var ∷ []) vars (is ∙ sym (append_assoc before (var ∷ []) vars)) canonical in
+    grind (arith, map-append, length-map, canonical (length before))
 
 pub canonical-generated : CanonicalBeginsAreGenerated
 unfolding with_begins
@@ -120,13 +104,9 @@ unfolding data_of
 data-length h arrays n known are =
     let is_sole = is_sole_narrow_var (record_vars h.dims h.vars) in
     let row : ℕ → List ℕ = λ r. flat_map (record_part is_sole h.dims r) (zip h.vars arrays) in
-    grind (
-      arith,
-      length-append,
-      length-blocks h.dims n h.vars arrays are,
-      record_size_of-slots h.dims h.vars,
-      rows-length row (record_bytes is_sole h.dims h.vars) 0 n (λ r low high. length-record is_sole h.dims n r h.vars arrays (omega arith) are),
-    )
+    let same = λ (r : ℕ) (low : 0 ≤ r) (high : r < 0 + n). length-record is_sole h.dims n r h.vars arrays (omega arith) are in
+    let rows = rows-length row (record_bytes is_sole h.dims h.vars) 0 n same in
+    grind (arith, length-append, length-blocks h.dims n h.vars arrays are, record_size_of-slots h.dims h.vars)
 
 file-length : (d : Dataset) (n : ℕ) → known_records d.header.numrecs ≡ n → AreArrays d.header.dims n d.header.vars d.arrays
     → length (file_of d) ≡ length (header_spelling d.header) + (padded_total d.header.dims (fixed_vars d.header.dims d.header.vars)
@@ -137,16 +117,10 @@ file-length d n known are = grind (arith, common_steps, len-after, data-length)
 pub canonical-is : (h : Header) (arrays : List Bytes) (n file_len : ℕ) → h.numrecs ≡ Known n → AreArrays h.dims n h.vars arrays
     → canonical_len (layout_of h (length (header_spelling h)) file_len) ≡ length (file_of (record { header = bare h n; arrays = arrays }))
 unfolding record_count
-canonical-is h arrays n file_len known are = grind (
-  arith,
-  size-is h.dims h.vars,
-  record_size_of-bare,
-  records-bare,
-  file-length (record { header = bare h n; arrays = arrays }) n refl (arrays-bare h.dims n h.vars arrays are),
-  len-bare h n known,
-  fixed_slots-total h.dims h.vars,
-  fixed-bare h.dims h.vars,
-)
+canonical-is h arrays n file_len known are =
+    let file = file-length (record { header = bare h n; arrays = arrays }) n refl (arrays-bare h.dims n h.vars arrays are) in
+    let size = size-is h.dims h.vars in
+    grind (arith, record_size_of-bare, records-bare, len-bare h n known, fixed_slots-total h.dims h.vars, fixed-bare h.dims h.vars)
 
 pub quiet-generated : QuietFilesAreGenerated
 quiet-generated h arrays n file_len known are sound begins ends =

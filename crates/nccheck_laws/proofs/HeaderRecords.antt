@@ -12,7 +12,7 @@ use Rattle.nc_layout.specs.Slots.{is_fixed, is_sole_narrow, least, record_count,
 use Rattle.nc_layout.specs.HeaderLayout.{slot_of, layout_of}
 use Rattle.nc_layout.specs.code.Records.{slab_if}
 use Rattle.nc_layout.proofs.HeaderSlots.{slots-total, record_slots-are}
-use Rattle.nc_layout.proofs.SlotLists.{record_size-is}
+use Rattle.nc_layout.proofs.SlotLists.{record_size_is}
 use Rattle.nccheck_laws.specs.LayoutLaws.{fixed_bytes}
 use Rattle.nccheck_laws.proofs.LayoutBlocks.{min-from}
 
@@ -34,12 +34,9 @@ slots-size : (dims : List Dim) (vars : List Var)
 slots-size dims v1 = grind (arith, common_steps)
 
 pub size-is : (dims : List Dim) (vars : List Var) → record_size (map (slot_of dims) vars) ≡ record_size_of dims (record_vars dims vars)
-size-is dims vars = grind (
-  arith,
-  record_size-is (map (slot_of dims) vars) (is_sole_narrow (map (slot_of dims) (record_vars dims vars))),
-  record_slots-are dims vars,
-  slots-size dims (record_vars dims vars),
-)
+size-is dims vars =
+    let narrow = is_sole_narrow (map (slot_of dims) (record_vars dims vars)) in
+    grind (arith, record_size_is (map (slot_of dims) vars) narrow, record_slots-are dims vars, slots-size dims (record_vars dims vars))
 
 -- ---- the begin of the records
 
@@ -60,12 +57,9 @@ records-between dims (var ∷ vars) size file_len = ap (λ (begin : ℕ). (file_
 by-length : (h : Header) (header_end file_len : ℕ)
     → records_by_length (layout_of h header_end file_len) ≡ records_between (header_record_size h) (record_vars h.dims h.vars) file_len
 unfolding records_by_length records_begin
-by-length h header_end file_len = grind (
-  arith,
-  size-is h.dims h.vars,
-  record_slots-are h.dims h.vars,
-  records-between h.dims (record_vars h.dims h.vars) (record_size (map (slot_of h.dims) h.vars)) file_len,
-)
+by-length h header_end file_len =
+    let between = records-between h.dims (record_vars h.dims h.vars) (record_size (map (slot_of h.dims) h.vars)) file_len in
+    grind (arith, size-is h.dims h.vars, record_slots-are h.dims h.vars)
 
 pub count-is : (h : Header) (header_end file_len : ℕ) → record_count (layout_of h header_end file_len) ≡ header_record_count h file_len
 unfolding record_count

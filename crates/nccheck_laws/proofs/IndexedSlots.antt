@@ -66,12 +66,9 @@ each-there {A} f slots k x a at has = there-from f 0 slots k k x a at (omega ari
 pub in-from : {A : Type 0} (f : ℕ → Slot → List A) (i : ℕ) (slots : List Slot) (P : A → Type 0)
     → ((k m : ℕ) (x : Slot) → At slots k x → m ≡ i + k → (a : A) → Contains (f m x) a → P a) → (a : A) → Contains (each_slot f i slots) a → P a
 in-from {A} f i [] P each a has = absurd (contains-none a has)
-in-from {A} f i (x ∷ xs) P each a has = grind (
-  arith,
-  Contains-append_cases (f i x) (each_slot f (i + 1) xs) a has,
-  each 0 i x refl (omega arith) a,
-  in-from f (i + 1) xs P (λ k m y at is b there. each (suc k) m y at (omega arith) b there) a,
-)
+in-from {A} f i (x ∷ xs) P each a has =
+    let later = in-from f (i + 1) xs P (λ k m y at is b there. each (suc k) m y at (omega arith) b there) a in
+    grind (arith, Contains-append_cases (f i x) (each_slot f (i + 1) xs) a has, each 0 i x refl (omega arith) a)
 
 -- what holds of what each slot gives
 pub in-each : {A : Type 0} (f : ℕ → Slot → List A) (slots : List Slot) (P : A → Type 0)
@@ -128,13 +125,9 @@ slab-fits slots k x at is = by_kind (is_sole_narrow (record_slots slots)) refl
     by_kind : (b : Bool) → is_sole_narrow (record_slots slots) ≡ b
         → bytes_before slots k + (if b then x.slab else padded_slab x)
         ≤ sum_by (λ (s : Slot). if b then s.slab else padded_slab s) (record_slots slots)
-    by_kind true sole = grind (
-      arith,
-      below (λ s. 1),
-      sole-length (record_slots slots) sole,
-      none-sum padded_slab (record_slots (take k slots)),
-      below (λ s. s.slab),
-    )
+    by_kind true sole =
+        let count = sole-length (record_slots slots) sole in
+        grind (arith, below (λ s. 1), none-sum padded_slab (record_slots (take k slots)), below (λ s. s.slab))
     by_kind false other = below padded_slab
 
 -- the sum of the slabs in a record over the slots before an index isn't greater than that of the padded slabs

@@ -29,12 +29,9 @@ pub each-block : (layout : Layout) (P : Extent → Type 0)
     → ((begin : ℕ) → records_begin layout.slots ≡ Some begin → P (records_block layout.slots (record_count layout) begin))
     → (b : Extent) → Contains (blocks layout) b → P b
 unfolding blocks
-each-block layout P fixed records b has = grind (
-  arith,
-  Contains-append_cases (each_slot fixed_block 0 layout.slots) _ b has,
-  in-each fixed_block layout.slots P (λ k x at c there. grind (arith, fixed k x at)) b,
-  records,
-)
+each-block layout P fixed records b has =
+    let of_slots = in-each fixed_block layout.slots P (λ k x at c there. grind (arith, fixed k x at)) b in
+    grind (arith, Contains-append_cases (each_slot fixed_block 0 layout.slots) _ b has, records)
 
 pub fixed-there : (layout : Layout) (k : ℕ) (x : Slot) → At layout.slots k x → is_fixed x ≡ true → Contains (blocks layout) (slot_block k x)
 unfolding blocks
@@ -140,10 +137,8 @@ pub begin-is : (slots : List Slot) (begin base : ℕ) → records_begin slots �
     → ((k : ℕ) (x : Slot) → At slots k x → x.is_record ≡ true → x.begin ≡ base + bytes_before slots k) → begin ≡ base
 unfolding records_begin
 begin-is [] begin base is each = cc
-begin-is (y ∷ ys) begin base is each = grind (
-  arith,
-  begin-more y ys,
-  each 0 y refl,
-  λ (b : ℕ) (e : records_begin ys ≡ Some b). begin-ge ys b base e (λ k x at rec. omega (arith, each (suc k) x at rec)),
-  λ (not : y.is_record ≡ false) (b : ℕ) (e : records_begin ys ≡ Some b). begin-is ys b base e (λ k x at rec. grind (arith, each (suc k) x at rec)),
-)
+begin-is (y ∷ ys) begin base is each =
+    let ge = λ (b : ℕ) (e : records_begin ys ≡ Some b). begin-ge ys b base e (λ k x at rec. omega (arith, each (suc k) x at rec)) in
+    let same = λ (fixed : y.is_record ≡ false) (b : ℕ) (e : records_begin ys ≡ Some b).
+    begin-is ys b base e (λ k x at rec. grind (arith, each (suc k) x at rec)) in
+    grind (arith, begin-more y ys, each 0 y refl)

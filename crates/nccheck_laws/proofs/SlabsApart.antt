@@ -9,7 +9,7 @@ use Rattle.std.proofs.lemmas.List.Kept.{AllPairs-cons}
 use Rattle.std.proofs.Math.Nat.{mul-le-mul_right}
 use Rattle.nc_layout.specs.declared.{slot.Slot.Slot, slot.Layout.Layout, blocks.Extent.Extent, file_end.SlabPlace.SlabPlace}
 use Rattle.nc_layout.specs.Slots.{padded_slab, is_fixed, record_size, records_begin, record_count}
-use Rattle.nc_layout.specs.Blocks.{each_slot, slot_block, records_block, blocks, before, precedes}
+use Rattle.nc_layout.specs.Blocks.{each_slot, blocks, before, precedes}
 use Rattle.nc_layout.specs.SlotRules.{slot_findings, bytes_before}
 use Rattle.nc_layout.specs.BlockRules.{block_findings}
 use Rattle.nc_layout.specs.FileEnd.{record_slab, slabs_of, all_slabs}
@@ -92,12 +92,7 @@ both-fixed : (layout : Layout) (k l : ℕ) (x y : Slot) → FindsNone is_of_shar
 both-fixed layout k l x y quiet at_x at_y lt is_x is_y =
     let b = fixed-there layout k x at_x is_x in
     let c = fixed-there layout l y at_y is_y in
-    grind (
-      arith,
-      nat_tests,
-      ends-first layout (slot_block k x) (slot_block l y) quiet b c,
-      ends-first layout (slot_block l y) (slot_block k x) quiet c b,
-    )
+    grind (arith, nat_tests, ends-first layout _ _ quiet b c, ends-first layout _ _ quiet c b)
 
 -- where a record slot begins
 in-place : (layout : Layout) (k : ℕ) (x : Slot) → FindsNone is_of_shared_bytes layout → At layout.slots k x → x.is_record ≡ true
@@ -124,12 +119,7 @@ fixed-record layout k l q x y quiet at_x at_y is_x is_y counted =
     let above = records_end-above layout.slots n begin (λ s. s.slab) l y (omega arith) at_y is_y in
     let last : q * size layout ≤ (n - 1) * size layout = mul-le-mul_right (size layout) (omega arith) in
     let place = in-place layout l y quiet at_y is_y in
-    grind (
-      arith,
-      nat_tests,
-      ends-first layout (slot_block k x) (records_block layout.slots n begin) quiet b c,
-      ends-first layout (records_block layout.slots n begin) (slot_block k x) quiet c b,
-    )
+    grind (arith, nat_tests, ends-first layout _ _ quiet b c, ends-first layout _ _ quiet c b)
 
 across-apart : (layout : Layout) → FindsNone is_of_shared_bytes layout → (k l m n : ℕ) (x y : Slot) → k < l → At layout.slots k x
     → At layout.slots l y → (a b : SlabPlace) → Contains (slabs_of (size layout) (record_count layout) m x) a

@@ -12,4 +12,4 @@ returns c =
     let sort = c.in_ok-sort_by_begin.ensures in
     let up = ascending-sorted bs sorted sort.sorted sort.stable (subst (AllPairs Listed) (sym c.requires) (blocks-listed c.args.layout.now)) in
     let swept = swept-blocks c.args.layout.now.header_end bs sorted c.sort_by_begin.ensures.permutation up in
-    (_, c.in_ok-push_findings_in_order.ensures, grind (arith, swept, c.requires, c.as_slice.ensures.value))
+    (_, c.in_ok-push_findings_in_order.ensures, grind (arith, swept))

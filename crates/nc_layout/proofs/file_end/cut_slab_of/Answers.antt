@@ -1,16 +1,12 @@
 use Rattle.std.proofs.Common.{arith}
 use Rattle.std.proofs.lemmas.Bool.Decides.{nat_tests}
-use Rattle.nc_layout.proofs.CutSlabs.{first_cut-is}
+use Rattle.nc_layout.proofs.CutSlabs.{first_cut_is}
 use Rattle.nc_layout.proofs.file_end.cut_slab_of.Goals as goal
 
 pub returns-then-whole-records : goal.returns-then-whole-records
 returns-then-whole-records c =
-    let first = first_cut-is c.args.file_len c.args.records.size c.args.i c.args.slot c.whole_slabs-whole.result c.args.records.count 0
-    c.whole_slabs-whole.ensures.whole c.whole_slabs-whole.ensures.cut (omega arith) in
-    grind (arith, nat_tests)
+    grind (arith, nat_tests, first_cut_is c.args.file_len c.args.records.size c.args.i c.args.slot c.whole_slabs-whole.result c.args.records.count 0)
 
 pub returns-else-whole-records : goal.returns-else-whole-records
 returns-else-whole-records c =
-    let first = first_cut-is c.args.file_len c.args.records.size c.args.i c.args.slot c.whole_slabs-whole.result c.args.records.count 0
-    c.whole_slabs-whole.ensures.whole c.whole_slabs-whole.ensures.cut (omega arith) in
-    grind (arith, nat_tests)
+    grind (arith, nat_tests, first_cut_is c.args.file_len c.args.records.size c.args.i c.args.slot c.whole_slabs-whole.result c.args.records.count 0)

@@ -5,14 +5,4 @@ use Rattle.nc_layout.proofs.findings.layout_findings.Goals as goal
 
 pub returns : goal.returns
 unfolding layout_findings
-returns c = grind (
-  arith,
-  append_assoc,
-  IsPermutation-append_right,
-  c.new-found.ensures,
-  c.in_ok-push_numrecs_findings.ensures,
-  c.in_ok-push_slot_findings.ensures,
-  c.in_ok-push_end_findings.ensures,
-  c.in_ok-push_block_findings.ensures.1,
-  c.in_ok-push_block_findings.ensures.2,
-)
+returns c = grind (arith, append_assoc, IsPermutation-append_right)

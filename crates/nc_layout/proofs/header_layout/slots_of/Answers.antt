@@ -1,5 +1,5 @@
-use Rattle.std.proofs.Common.{arith, ◌≡◌}
-use Rattle.nc_layout.proofs.HeaderSlots.{slots-more}
+use Rattle.std.proofs.Common.{arith, length, ◌<◌, ◌≡◌}
+use Rattle.nc_layout.proofs.HeaderSlots.{slots_more}
 use Rattle.nc_layout.proofs.header_layout.slots_of.Goals as goal
 
 pub loop-var-preserved : goal.loop-var-preserved
@@ -9,9 +9,5 @@ loop-var-preserved c =
     let x = c.var-item.result in
     let i = c.loop-var.var-index in
     let items : c.as_slice-var-items.result.now ≡ vars = c.as_slice-var-items.ensures in
-    grind (
-      arith,
-      c.in_ok-push-in-Some.ensures.ok,
-      c.in-Some.ensures.1,
-      slots-more dims vars i c.loop-var.slots x (rw items at c.loop-var-test.true) (rw items at c.var-item.is) c.in-Some.ensures.0 c.loop-var.invariant,
-    )
+    let lt : i < length vars = rw items at c.loop-var-test.true in
+    grind (arith, slots_more dims vars i c.loop-var.slots x lt (rw items at c.var-item.is) c.in-Some.ensures.0 c.loop-var.invariant)

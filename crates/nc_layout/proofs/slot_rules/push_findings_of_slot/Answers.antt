@@ -7,7 +7,4 @@ pub returns : goal.returns
 unfolding slot_findings
 returns c =
     let slots = c.args.layout.now.slots in
-    let followed = has_successor_is slots c.args.i c.args.passed c.args.records.begin c.args.slot c.requires.passed c.requires.records.begin
-    c.requires.at in
-    let ordered = order_is slots c.args.i c.args.passed c.args.slot c.requires.passed in
-    grind (arith, append_assoc, c.requires.records.begin, c.requires.passed.bytes)
+    grind (arith, append_assoc, has_successor_is slots c.args.i c.args.passed c.args.records.begin, order_is slots c.args.i c.args.passed)
