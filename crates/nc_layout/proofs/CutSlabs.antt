@@ -57,9 +57,6 @@ first_cut-append file_len first xs ys = grind (arith, filter-append (is_cut file
 
 -- ---- the record size isn't 0
 
-slab_in_record-positive : (slots : List Slot) (slot : Slot) → 1 ≤ slot.slab → 0 < slab_in_record slots slot
-slab_in_record-positive slots slot h = grind arith
-
 pub record_size_positive : (slots : List Slot) (i : ℕ) (d : Slot) → All IsSoundSlot slots → i < length slots
     → (get_or slots i d).is_record ≡ true → 0 < record_size slots
 unfolding record_size
@@ -67,4 +64,4 @@ record_size_positive slots i d sound lt is =
     let f = slab_in_record slots in
     let split = ap record_slots (sym (take-append-drop i slots)) in
     let first = rest-taken slots i d lt is in
-    grind (arith, common_steps, filter-append, sum_by-append, slab_in_record-positive slots (get_or slots i d) (sound i d lt).some_bytes)
+    grind (arith, common_steps, filter-append, sum_by-append, (sound i d lt).some_bytes)

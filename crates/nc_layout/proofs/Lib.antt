@@ -1,5 +1,4 @@
 pub mod SlotLists
-pub mod BlockLists
 pub mod PassedLists
 pub mod CutSlabs
 pub mod FlatPermutation

@@ -95,10 +95,6 @@ fixed_slot_at-new xs y m rec at none = grind (arith, common_steps, position_or_l
 
 -- ---- one slot on
 
-pub bytes_before-push : (slots : List Slot) (i : ℕ) (x : Slot) → take (i + 1) slots ≡ take i slots ++ x ∷ []
-    → bytes_before slots (i + 1) ≡ bytes_before slots i + (if x.is_record then padded_slab x else 0)
-bytes_before-push slots i x more = grind (arith, common_steps, filter-append, sum_by-append)
-
 -- the state after one more slot is the one that it should be
 pub passed-more : (slots : List Slot) (i : ℕ) (passed : PassedSlots) (d : Slot) → HasPassed slots i passed → i < length slots
     → HasPassed slots (i + 1) (passed_after passed i (get_or slots i d))
@@ -114,7 +110,7 @@ passed-more slots i passed d h lt =
           let kept = fixed_slot_at-kept front x passed.latest_begin in
           let new = fixed_slot_at-new front x x.begin in
           grind (arith, nat_tests, none_above front 0 x.begin, greatest_begin-push front x);
-      bytes = grind (arith, bytes_before-push slots i x more);
+      bytes = grind (arith, common_steps, filter-append, sum_by-append);
       fixed = grind (arith, common_steps, at_drop_more (count_by is_fixed) slots i d lt);
       records = grind (arith, common_steps, at_drop_more (count_by is_record_slot) slots i d lt);
     }

@@ -32,13 +32,6 @@ greatest_from-least {X} end a m (x ∷ xs) le h =
     let here = h x (contains-here x xs) in
     greatest_from-least end (max a (end x)) m xs (omega arith) (λ c has. h c (contains-there x c xs has))
 
-pub greatest-above : {X : Type 0} (end : X → ℕ) (xs : List X) (c : X) → Contains xs c → end c ≤ fold max 0 (map end xs)
-greatest-above {X} end xs c has = greatest_from-above end 0 xs c has
-
-pub greatest-least : {X : Type 0} (end : X → ℕ) (m : ℕ) (xs : List X) → ((c : X) → Contains xs c → end c ≤ m)
-    → fold max 0 (map end xs) ≤ m
-greatest-least {X} end m xs h = greatest_from-least end 0 m xs (omega arith) h
-
 -- ---- the first block
 
 find-only : (p : Extent → Bool) (bs : List Extent) (c : Extent) → Contains bs c → p c ≡ true
@@ -122,8 +115,8 @@ furthest-tells : (end : Extent → ℕ) (xs bs : List Extent) (o : Option Extent
 furthest-tells end xs bs None same none =
     let empty = no_elements xs (λ c has. contains-none c (subst (λ (ys : List Extent). Contains ys c) none (same.there c has))) in grind arith
 furthest-tells end xs bs (Some c) same h =
-    let least = greatest-least end (end c) xs (λ d has. h.most d (same.there d has)) in
-    let above = greatest-above end xs c (same.back c h.among) in
+    let least = greatest_from-least end 0 (end c) xs (omega arith) (λ d has. h.most d (same.there d has)) in
+    let above = greatest_from-above end 0 xs c (same.back c h.among) in
     let greatest : greatest_end end xs ≡ end c = omega arith in
     let at_end = λ (b : Extent). end b == greatest_end end xs in (
       first_block-is (filter at_end xs) c

@@ -10,7 +10,7 @@ use Rattle.nc_layout.specs.Blocks.{slot_block, records_block, blocks, before, pr
 use Rattle.nc_layout.specs.SlotRules.{greatest_begin, bytes_before, slot_findings}
 use Rattle.nc_layout.specs.BlockRules.{greatest_end, block_findings}
 use Rattle.nc_layout.specs.code.Sweep.{padding_end}
-use Rattle.nc_layout.proofs.SweptBlocks.{greatest-above}
+use Rattle.nc_layout.proofs.SweptBlocks.{greatest_from-above}
 use Rattle.nccheck_laws.specs.LayoutLaws.{is_of_begin, FindsNone, fixed_bytes, canonical_begin, QuietBeginsAreCanonical}
 use Rattle.nccheck_laws.proofs.FoundNone.{quiet-slot, quiet-block}
 use Rattle.nccheck_laws.proofs.IndexedSlots.{At, at-filtered, total-below}
@@ -46,7 +46,7 @@ in_order : (layout : Layout) (j k : ℕ) (y x : Slot) → FindsNone is_of_begin 
     → is_fixed y ≡ true → is_fixed x ≡ true → y.begin ≤ x.begin
 in_order layout j k y x quiet le at_y at_x fixed_y fixed_x =
     let ordered = (slot-of layout k x quiet at_x).in_order fixed_x in
-    let above = λ (lt : j < k). greatest-above (λ (s : Slot). s.begin) (filter is_fixed (take k layout.slots)) y
+    let above = λ (lt : j < k). greatest_from-above (λ (s : Slot). s.begin) 0 (filter is_fixed (take k layout.slots)) y
     (at-filtered is_fixed layout.slots k j y at_y lt fixed_y) in
     grind (arith, cases_lt j k, above)
 

@@ -14,7 +14,7 @@ use Rattle.nccheck_laws.specs.LayoutLaws.{is_of_begin, is_of_end, HasCanonicalBe
 use Rattle.nc_layout.specs.code.Sweep.{value_end}
 use Rattle.nc_layout.specs.code.Sweep as sweep
 use Rattle.nc_layout.proofs.BlockOrder.{filter-contains}
-use Rattle.nc_layout.proofs.SweptBlocks.{greatest_from-ge, greatest_from-above, greatest_from-least, greatest-above, greatest-least}
+use Rattle.nc_layout.proofs.SweptBlocks.{greatest_from-ge, greatest_from-above, greatest_from-least}
 use Rattle.nccheck_laws.proofs.FoundNone.{Quiet, all-quiet}
 use Rattle.nccheck_laws.proofs.IndexedSlots.{At, all-at, filtered-at, slab-le}
 use Rattle.nccheck_laws.proofs.LayoutBlocks.{each-block, all-place, before-le, place-reached, records_end-above, records_end-le}
@@ -27,7 +27,7 @@ slot-quiet : (layout : Layout) (i : ℕ) (x : Slot) → HasCanonicalBegins layou
 slot-quiet layout i x h at = record {
   after_header = grind (arith, fixed-place layout i x h at, slab-place layout i x h at);
   in_order = λ fixed.
-      greatest-least (λ (s : Slot). s.begin) x.begin (filter is_fixed (take i layout.slots)) (λ c has.
+      greatest_from-least (λ (s : Slot). s.begin) 0 x.begin (filter is_fixed (take i layout.slots)) (omega arith) (λ c has.
       let k = filtered-at is_fixed layout.slots i c has in
       omega (arith, fixed-place layout i x h at fixed, fixed-ends layout k.0 i c h k.2 k.3 k.1));
   before_records = λ most found fixed. omega (arith, fixed-ends-all layout i x h at fixed, records-place layout most h found);
@@ -121,8 +121,8 @@ block-none : (layout : Layout) (b : Extent) → IsQuietBlock layout b → Quiet 
 unfolding block_findings
 block-none layout b h =
     let xs = before (blocks layout) b in
-    let values : greatest_end value_end xs ≤ greatest_end sweep.padding_end xs = greatest-least value_end (greatest_end sweep.padding_end xs) xs
-    (λ c has. let above = greatest-above sweep.padding_end xs c has in
+    let values : greatest_end value_end xs ≤ greatest_end sweep.padding_end xs = greatest_from-least value_end 0 (greatest_end sweep.padding_end xs) xs (omega arith)
+    (λ c has. let above = greatest_from-above sweep.padding_end 0 xs c has in
     let le = end-padded layout c (filter-contains (λ x. precedes x b) (blocks layout) c has).0 in omega arith) in
     grind (arith, nat_tests, h.not_before, h.not_after)
 

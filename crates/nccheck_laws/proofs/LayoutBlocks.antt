@@ -13,7 +13,7 @@ use Rattle.nc_layout.specs.SlotRules.{bytes_before}
 use Rattle.nc_layout.specs.code.PassedSlots.{is_record_slot}
 use Rattle.nc_layout.specs.code.Sweep.{padding_end}
 use Rattle.nc_layout.proofs.BlockOrder.{contains-none, contains-here, contains-cases, contains-filter, filter-contains}
-use Rattle.nc_layout.proofs.SweptBlocks.{greatest-above, greatest-least}
+use Rattle.nc_layout.proofs.SweptBlocks.{greatest_from-above, greatest_from-least}
 use Rattle.nccheck_laws.specs.LayoutLaws.{fixed_bytes}
 use Rattle.nccheck_laws.proofs.IndexedSlots.{At, contains-at, at-contains, each-there, in-each, total-whole, total-reach}
 
@@ -59,7 +59,7 @@ all-place layout = ap (λ n. layout.header_end + n) (total-whole padded_slab is_
 pub before-le : (layout : Layout) (b : Extent) (m : ℕ) → ((c : Extent) → Contains (blocks layout) c → precedes c b ≡ true → c.padded_end ≤ m)
     → greatest_end padding_end (before (blocks layout) b) ≤ m
 before-le layout b m each =
-    greatest-least padding_end m (before (blocks layout) b)
+    greatest_from-least padding_end 0 m (before (blocks layout) b) (omega arith)
     (λ c has. let h = filter-contains (λ x. precedes x b) (blocks layout) c has in each c h.0 h.1)
 
 -- slots in their places that precede a block reach the place of the next one
@@ -73,7 +73,7 @@ place-reached layout b i each =
       arith,
       total-reach padded_slab is_fixed layout.slots layout.header_end m i (λ k x at lt is.
           let h = each k x at lt is in
-          let above = greatest-above padding_end (before (blocks layout) b) (slot_block k x)
+          let above = greatest_from-above padding_end 0 (before (blocks layout) b) (slot_block k x)
           (contains-filter (λ c. precedes c b) (blocks layout) (slot_block k x) (fixed-there layout k x at is) h.1) in omega (arith, h.0)),
     )
 
@@ -89,7 +89,7 @@ record-there slots k x at is = contains-filter is_record_slot slots x (at-contai
 pub records_end-above : (slots : List Slot) (n begin : ℕ) (bytes : Slot → ℕ) (k : ℕ) (x : Slot) → 0 < n → At slots k x → x.is_record ≡ true
     → last_end slots n bytes x ≤ records_end slots n begin bytes
 records_end-above slots n begin bytes k x some at is =
-    grind (arith, nat_tests, greatest-above (last_end slots n bytes) (record_slots slots) x (record-there slots k x at is))
+    grind (arith, nat_tests, greatest_from-above (last_end slots n bytes) 0 (record_slots slots) x (record-there slots k x at is))
 
 pub records_end-le : (slots : List Slot) (n begin m : ℕ) (bytes : Slot → ℕ) → (n ≡ 0 → begin ≤ m)
     → ((k : ℕ) (x : Slot) → At slots k x → x.is_record ≡ true → 0 < n → last_end slots n bytes x ≤ m)
@@ -98,7 +98,7 @@ records_end-le slots n begin m bytes none each = grind (
   arith,
   nat_tests,
   cases_lt 0 n,
-  λ (some : 0 < n). greatest-least (last_end slots n bytes) m (record_slots slots) (λ x has.
+  λ (some : 0 < n). greatest_from-least (last_end slots n bytes) 0 m (record_slots slots) (omega arith) (λ x has.
       let h = filter-contains is_record_slot slots x has in
       let at = contains-at slots x h.0 in each at.0 x at.1 h.1 some),
 )

@@ -1,5 +1,5 @@
 -- If none of the findings lets slabs share bytes, no two slabs have a byte in common.
-use Rattle.std.proofs.Common.{◌≡◌, ℕ, suc, ◌+◌, ◌-◌, ◌*◌, ◌<◌, ◌≤◌, true, List, [], ◌∷◌, ◌++◌, get_or, arith, Some, refl}
+use Rattle.std.proofs.Common.{◌≡◌, ℕ, suc, ◌+◌, ◌-◌, ◌*◌, ◌<◌, ◌≤◌, true, List, [], ◌∷◌, ◌++◌, get_or, arith, refl}
 use Rattle.std.specs.List.{Contains, AllPairs}
 use Rattle.std.proofs.lemmas.Bool.{cases_lt}
 use Rattle.std.proofs.lemmas.Bool.Decides.{nat_tests}
@@ -8,7 +8,7 @@ use Rattle.std.proofs.lemmas.List.FromFn.{get_or-map-range_with_len, length-map-
 use Rattle.std.proofs.lemmas.List.Kept.{AllPairs-cons}
 use Rattle.std.proofs.Math.Nat.{mul-le-mul_right}
 use Rattle.nc_layout.specs.declared.{slot.Slot.Slot, slot.Layout.Layout, blocks.Extent.Extent, file_end.SlabPlace.SlabPlace}
-use Rattle.nc_layout.specs.Slots.{padded_slab, is_fixed, record_size, records_begin, record_count}
+use Rattle.nc_layout.specs.Slots.{padded_slab, is_fixed, record_size, record_count}
 use Rattle.nc_layout.specs.Blocks.{each_slot, blocks, before, precedes}
 use Rattle.nc_layout.specs.SlotRules.{slot_findings, bytes_before}
 use Rattle.nc_layout.specs.BlockRules.{block_findings}
@@ -17,7 +17,7 @@ use Rattle.nccheck_laws.specs.LayoutLaws.{is_of_shared_bytes, FindsNone, AreApar
 use Rattle.nc_layout.specs.code.PassedSlots.{is_record_slot}
 use Rattle.nc_layout.specs.code.Sweep.{value_end}
 use Rattle.nc_layout.proofs.BlockOrder.{contains-here, contains-there, contains-filter}
-use Rattle.nc_layout.proofs.SweptBlocks.{greatest-above}
+use Rattle.nc_layout.proofs.SweptBlocks.{greatest_from-above}
 use Rattle.nccheck_laws.proofs.FoundNone.{quiet-slot, quiet-block}
 use Rattle.nccheck_laws.proofs.IndexedSlots.{At, in-from, in-each, total-below, slab-fits, slab-le}
 use Rattle.nccheck_laws.proofs.LayoutBlocks.{fixed-there, records-there, records_end-above, first_begin, begins}
@@ -25,23 +25,13 @@ use Rattle.nccheck_laws.proofs.WholeSlots.{fixed_slab, each-slab}
 
 -- ---- what holds of slots and blocks
 
-record IsApartSlot (layout : Layout) (i : ℕ) (slot : Slot) : Type 0 where
-  after_header : layout.header_end ≤ slot.begin
-  in_place : (begin : ℕ) → records_begin layout.slots ≡ Some begin → slot.is_record ≡ true → slot.begin ≡ begin + bytes_before layout.slots i
-
-slot-of : (layout : Layout) (i : ℕ) (x : Slot) → FindsNone is_of_shared_bytes layout → At layout.slots i x → IsApartSlot layout i x
-unfolding slot_findings
-slot-of layout i x quiet at =
-    let h = quiet-slot is_of_shared_bytes layout i x quiet at in
-    record { after_header = grind (arith, nat_tests); in_place = λ begin found rec. grind (arith, nat_tests) }
-
 -- a block begins after the end of each block that precedes it
 ends-first : (layout : Layout) (b c : Extent) → FindsNone is_of_shared_bytes layout → Contains (blocks layout) b → Contains (blocks layout) c
     → precedes b c ≡ true → b.end ≤ c.begin
 unfolding block_findings
 ends-first layout b c quiet has_b has_c first =
     let found = quiet-block is_of_shared_bytes layout c quiet has_c in
-    let above = greatest-above value_end (before (blocks layout) c) b (contains-filter (λ x. precedes x c) (blocks layout) b has_b first) in
+    let above = greatest_from-above value_end 0 (before (blocks layout) c) b (contains-filter (λ x. precedes x c) (blocks layout) b has_b first) in
     grind (arith, nat_tests)
 
 -- ---- pairs of a list that is made of parts
@@ -97,7 +87,9 @@ both-fixed layout k l x y quiet at_x at_y lt is_x is_y =
 -- where a record slot begins
 in-place : (layout : Layout) (k : ℕ) (x : Slot) → FindsNone is_of_shared_bytes layout → At layout.slots k x → x.is_record ≡ true
     → x.begin ≡ first_begin layout.slots + bytes_before layout.slots k
-in-place layout k x quiet at is = (slot-of layout k x quiet at).in_place (first_begin layout.slots) (begins layout.slots k x at is).0 is
+unfolding slot_findings
+in-place layout k x quiet at is =
+    let h = quiet-slot is_of_shared_bytes layout k x quiet at in grind (arith, nat_tests, begins layout.slots k x at is)
 
 both-record : (layout : Layout) (k l r q : ℕ) (x y : Slot) → FindsNone is_of_shared_bytes layout → At layout.slots k x
     → At layout.slots l y → k < l → x.is_record ≡ true → y.is_record ≡ true
@@ -137,13 +129,13 @@ across-apart layout quiet k l m n x y lt at_x at_y a b in_a in_b =
 
 after-header : (layout : Layout) (b : SlabPlace) → FindsNone is_of_shared_bytes layout → Contains (all_slabs layout) b
     → layout.header_end ≤ b.begin
-unfolding all_slabs
+unfolding all_slabs slot_findings
 after-header layout b quiet has =
-    let size = record_size layout.slots in
-    let n = record_count layout in
-    in-each (slabs_of size n) layout.slots (λ c. layout.header_end ≤ c.begin) (λ k x at.
-    let h = (slot-of layout k x quiet at).after_header in
-    each-slab size n k x (λ c. layout.header_end ≤ c.begin) (λ is. h) (λ is r lt. omega arith)) b has
+    let count = record_count layout in
+    in-each (slabs_of (size layout) count) layout.slots (λ c. layout.header_end ≤ c.begin) (λ k x at.
+    let h = quiet-slot is_of_shared_bytes layout k x quiet at in
+    let le : layout.header_end ≤ x.begin = grind (arith, nat_tests) in
+    each-slab (size layout) count k x (λ c. layout.header_end ≤ c.begin) (λ is. le) (λ is r lt. omega arith)) b has
 
 pub quiet-apart : QuietSlabsAreApart
 unfolding all_slabs
