@@ -199,6 +199,34 @@ pub const BEGINS: &[Changed<'_>] = &[
         f:112: error: overlap: var[1] \"y\" begin: found 124, expected at least 2147483764, the end of var[0] \"x\"\n\
         f:132: error: missing: var[0] \"x\": found 132 bytes, expected at least 2147483772\n",
     ),
+    // 2^32 - 4 bytes in CDF-2, and 2^32, before another variable
+    (
+        ONE_VARIABLE_CDF2,
+        &[
+            (24, b"\x3f\xff\xff\xff"),
+            (43, b"\x02"),
+            (71, b"\x04\xff\xff\xff\xfc"),
+            (83, b"\x7c"),
+            (84, b"\0\0\0\x01y\0\0\0\0\0\0\x01"),
+            (96, &[0; 12]),
+            (108, b"\0\0\0\x04\xff\xff\xff\xfc\0\0\0\x01\0\0\0\x78"),
+        ],
+        b"f:124: error: missing: var[0] \"s\": found 124 bytes, expected at least 8589934708\n",
+    ),
+    (
+        ONE_VARIABLE_CDF2,
+        &[
+            (24, b"\x40\0\0\0"),
+            (43, b"\x02"),
+            (71, b"\x04\xff\xff\xff\xff"),
+            (83, b"\x7c"),
+            (84, b"\0\0\0\x01y\0\0\0\0\0\0\x01"),
+            (96, &[0; 12]),
+            (108, b"\0\0\0\x04\xff\xff\xff\xff\0\0\0\x01\0\0\0\x7c"),
+        ],
+        b"f:72: error: large-variable: var[0] \"s\" vsize: found 4294967296, expected at most 4294967292\n\
+        f:124: error: missing: var[0] \"s\": found 124 bytes, expected at least 8589934716\n",
+    ),
 ];
 
 /// Files, how many of their bytes are left, or how many they have with zeros after them, and the lines of all that is wrong or odd then.
