@@ -9,7 +9,7 @@ use Rattle.nc_layout.specs.declared.{slot.Slot.Slot, slot.Layout.Layout, blocks.
 use Rattle.nc_layout.specs.Slots.{padded_slab, is_fixed, slab_in_record, record_size, records_begin, record_count}
 use Rattle.nc_layout.specs.Blocks.{slot_block, records_block, blocks, has_values}
 use Rattle.nc_layout.specs.SlotRules.{bytes_before}
-use Rattle.nc_layout.specs.FileEnd.{values_end, padding_end, used_end, end_findings}
+use Rattle.nc_layout.specs.FileEnd.{padding_end, used_end, end_findings}
 use Rattle.nc_layout.specs.Findings.{IsSoundSlot, IsSoundLayout}
 use Rattle.nc_layout.specs.code.PassedSlots.{is_record_slot}
 use Rattle.nc_layout.proofs.BlockOrder.{contains-filter}
@@ -17,7 +17,7 @@ use Rattle.nc_layout.proofs.SweptBlocks.{greatest_from-ge, greatest_from-above, 
 use Rattle.nccheck_laws.specs.LayoutLaws.{fixed_bytes, is_of_end, canonical_begin, HasCanonicalBegins, canonical_len, QuietLengthIsCanonical}
 use Rattle.nccheck_laws.proofs.IndexedSlots.{At, all-at, total-below, total-whole, total-reach, slab-fits, part-le}
 use Rattle.nccheck_laws.proofs.LayoutBlocks.{each-block, fixed-there, records-there, fixed_place, all-place, records_end-above, records_end-le, first_begin, begins, begin-is}
-use Rattle.nccheck_laws.proofs.FoundNone.{Quiet, quiet-end}
+use Rattle.nccheck_laws.proofs.FoundNone.{quiet-end}
 use Rattle.nccheck_laws.proofs.WholeSlots.{quiet-values}
 use Rattle.nccheck_laws.proofs.CanonicalBegins.{quiet-begins}
 
@@ -113,14 +113,13 @@ padding-ge layout sound h =
 
 -- ---- the law
 
-quiet-end-is : (layout : Layout) → values_end layout ≤ layout.file_len → Quiet is_of_end (end_findings layout)
-    → (layout.file_len ≤ used_end layout) × (padding_end layout ≤ layout.file_len)
-unfolding end_findings
-quiet-end-is layout within h = (grind (arith, nat_tests), grind (arith, nat_tests))
-
 pub quiet-length : QuietLengthIsCanonical
+unfolding end_findings
 quiet-length layout sound quiet_begin quiet_end =
     let found = quiet-end is_of_end layout quiet_end in
-    let end = quiet-end-is layout (quiet-values is_of_end layout sound (λ file_len end slab. refl) found) found in
+    let within = quiet-values is_of_end layout sound (λ file_len end slab. refl) found in
     let begins = quiet-begins layout quiet_begin in
-    omega (arith, used-le layout begins, padding-ge layout sound begins, end.0, end.1)
+    let le = used-le layout begins in
+    let ge = padding-ge layout sound begins in
+    let no_more : layout.file_len ≤ used_end layout = grind (arith, nat_tests) in
+    let no_less : padding_end layout ≤ layout.file_len = grind (arith, nat_tests) in omega arith

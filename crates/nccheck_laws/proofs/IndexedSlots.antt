@@ -53,15 +53,11 @@ filtered-at {X} p xs i x has =
 
 -- ---- what a function gives of each slot
 
-there-from : {A : Type 0} (f : ℕ → Slot → List A) (i : ℕ) (slots : List Slot) (k m : ℕ) (x : Slot) (a : A) → At slots k x → m ≡ i + k
+pub there-from : {A : Type 0} (f : ℕ → Slot → List A) (i : ℕ) (slots : List Slot) (k m : ℕ) (x : Slot) (a : A) → At slots k x → m ≡ i + k
     → Contains (f m x) a → Contains (each_slot f i slots) a
 there-from {A} f i [] k m x a at is has = cc
 there-from {A} f i (y ∷ ys) zero m x a at is has = grind (arith, Contains-append_left)
 there-from {A} f i (y ∷ ys) (suc k) m x a at is has = grind (arith, there-from f (i + 1) ys k m x a at (omega arith) has, Contains-append_right)
-
-pub each-there : {A : Type 0} (f : ℕ → Slot → List A) (slots : List Slot) (k : ℕ) (x : Slot) (a : A) → At slots k x → Contains (f k x) a
-    → Contains (each_slot f 0 slots) a
-each-there {A} f slots k x a at has = there-from f 0 slots k k x a at (omega arith) has
 
 pub in-from : {A : Type 0} (f : ℕ → Slot → List A) (i : ℕ) (slots : List Slot) (P : A → Type 0)
     → ((k m : ℕ) (x : Slot) → At slots k x → m ≡ i + k → (a : A) → Contains (f m x) a → P a) → (a : A) → Contains (each_slot f i slots) a → P a

@@ -15,7 +15,7 @@ use Rattle.nc_layout.specs.code.Sweep.{padding_end}
 use Rattle.nc_layout.proofs.BlockOrder.{contains-none, contains-here, contains-cases, contains-filter, filter-contains}
 use Rattle.nc_layout.proofs.SweptBlocks.{greatest_from-above, greatest_from-least}
 use Rattle.nccheck_laws.specs.LayoutLaws.{fixed_bytes}
-use Rattle.nccheck_laws.proofs.IndexedSlots.{At, contains-at, at-contains, each-there, in-each, total-whole, total-reach}
+use Rattle.nccheck_laws.proofs.IndexedSlots.{At, contains-at, at-contains, there-from, in-each, total-whole, total-reach}
 
 -- ---- each of them
 
@@ -37,7 +37,7 @@ pub fixed-there : (layout : Layout) (k : ℕ) (x : Slot) → At layout.slots k x
 unfolding blocks
 fixed-there layout k x at is =
     Contains-append_left (each_slot fixed_block 0 layout.slots) _ (slot_block k x)
-    (each-there fixed_block layout.slots k x (slot_block k x) at
+    (there-from fixed_block 0 layout.slots k k x (slot_block k x) at (omega arith)
     (rw is (contains-here (slot_block k x) [])))
 
 pub records-there : (layout : Layout) (begin : ℕ) → records_begin layout.slots ≡ Some begin
@@ -69,13 +69,10 @@ pub place-reached : (layout : Layout) (b : Extent) (i : ℕ)
     → fixed_place layout i ≤ max layout.header_end (greatest_end padding_end (before (blocks layout) b))
 place-reached layout b i each =
     let m = greatest_end padding_end (before (blocks layout) b) in
-    omega (
-      arith,
-      total-reach padded_slab is_fixed layout.slots layout.header_end m i (λ k x at lt is.
-          let h = each k x at lt is in
-          let above = greatest_from-above padding_end 0 (before (blocks layout) b) (slot_block k x)
-          (contains-filter (λ c. precedes c b) (blocks layout) (slot_block k x) (fixed-there layout k x at is) h.1) in omega (arith, h.0)),
-    )
+    let reach = total-reach padded_slab is_fixed layout.slots layout.header_end m i (λ k x at lt is.
+    let h = each k x at lt is in
+    let there = contains-filter (λ c. precedes c b) (blocks layout) (slot_block k x) (fixed-there layout k x at is) h.1 in
+    omega (arith, h.0, greatest_from-above padding_end 0 (before (blocks layout) b) (slot_block k x) there)) in omega arith
 
 -- ---- the end of the records
 
@@ -94,14 +91,10 @@ records_end-above slots n begin bytes k x some at is =
 pub records_end-le : (slots : List Slot) (n begin m : ℕ) (bytes : Slot → ℕ) → (n ≡ 0 → begin ≤ m)
     → ((k : ℕ) (x : Slot) → At slots k x → x.is_record ≡ true → 0 < n → last_end slots n bytes x ≤ m)
     → records_end slots n begin bytes ≤ m
-records_end-le slots n begin m bytes none each = grind (
-  arith,
-  nat_tests,
-  cases_lt 0 n,
-  λ (some : 0 < n). greatest_from-least (last_end slots n bytes) 0 m (record_slots slots) (omega arith) (λ x has.
-      let h = filter-contains is_record_slot slots x has in
-      let at = contains-at slots x h.0 in each at.0 x at.1 h.1 some),
-)
+records_end-le slots n begin m bytes none each =
+    let least = λ (some : 0 < n). greatest_from-least (last_end slots n bytes) 0 m (record_slots slots) (omega arith) (λ x has.
+    let h = filter-contains is_record_slot slots x has in
+    let at = contains-at slots x h.0 in each at.0 x at.1 h.1 some) in grind (arith, nat_tests, cases_lt 0 n)
 
 -- ---- the begin of the records
 

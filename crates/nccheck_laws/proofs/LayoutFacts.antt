@@ -32,14 +32,10 @@ use Rattle.nccheck_laws.specs.ReportLaws.{is_of_layout, has_any}
 abbrev pub Agree : (Fact → Bool) → (LayoutFact → Bool) → Type 0
 Agree test kind = (x : LayoutFact) → test (fact.Layout x) ≡ kind x
 
-located-tells : (test : Fact → Bool) (kind : LayoutFact → Bool) → Agree test kind → (fs : List Indexed) (l : LayoutFinding)
-    → test (located fs l).fact ≡ kind l.fact
-located-tells test kind agree fs l = grind arith
-
 pub all-located : (test : Fact → Bool) (kind : LayoutFact → Bool) → Agree test kind → (fs : List Indexed) (ls : List LayoutFinding)
     → list_any (λ (f : Finding). test f.fact) (map (located fs) ls) ≡ list_any (λ (l : LayoutFinding). kind l.fact) ls
 all-located test kind agree fs [] = refl
-all-located test kind agree fs (l ∷ ls) = grind (arith, all-located test kind agree fs ls, located-tells)
+all-located test kind agree fs (l ∷ ls) = grind (arith, all-located test kind agree fs ls, agree l.fact)
 
 -- ---- the header of the listing
 

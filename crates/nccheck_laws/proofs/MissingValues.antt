@@ -1,8 +1,7 @@
 -- Values are found to be missing exactly if some variable has a first missing value.
-use Rattle.std.proofs.Common.{◌≡◌, ℕ, ◌≤◌, Bool, false, List, [], ◌∷◌, length, map, refl, ap, arith, Option, None, All}
+use Rattle.std.proofs.Common.{◌≡◌, ℕ, ◌≤◌, false, List, [], ◌∷◌, length, map, refl, ap, arith, Option, None, All}
 use Rattle.std.specs.List.{list_any}
 use Rattle.std.specs.Prelude.{is_some}
-use Rattle.std.proofs.lemmas.Bool.{le-ltb, ltb-false}
 use Rattle.std.proofs.lemmas.List.Elements.{All-cons, All-map, All-nil}
 use Rattle.std.proofs.lemmas.List.Folds.{list_any_none}
 use Rattle.nc_base.specs.declared.{header.Header.Header, header.Var.Var}
@@ -19,9 +18,9 @@ use Rattle.nc_layout.specs.SlotRules.{slot_findings}
 pub use Rattle.nc_layout.proofs.HeaderSlots.{unmapped}
 use Rattle.nccheck_laws.proofs.WholeSlots.{quiet-values}
 use Rattle.nccheck_laws.proofs.HeaderRecords.{count-is, size-is}
-use Rattle.nccheck_laws.proofs.FoundNone.{Quiet, all-quiet, quiet-end}
+use Rattle.nccheck_laws.proofs.FoundNone.{all-quiet, quiet-end}
 use Rattle.std.proofs.lemmas.Bool.Decides.{nat_tests}
-use Rattle.nccheck_laws.proofs.WholeSlots.{AreWholeSlots, IsWholeSlot, values-whole, whole-values}
+use Rattle.nccheck_laws.proofs.WholeSlots.{IsWholeSlot, values-whole, whole-values}
 use Rattle.nccheck_laws.proofs.WholeVariables.{whole-slot, whole-variable}
 
 -- ---- slots and variables
@@ -30,12 +29,6 @@ use Rattle.nccheck_laws.proofs.WholeVariables.{whole-slot, whole-variable}
 abbrev AreWhole : Header → Bytes → Type 0
 AreWhole h bytes =
     All (IsWholeSlot (length bytes) (record_size h) (record_count h (length bytes))) (map (slot_of h.dims) h.vars)
-
-to-header : (h : Header) (bytes : Bytes) (header_end : ℕ) → AreWholeSlots (layout_of h header_end (length bytes)) → AreWhole h bytes
-to-header h bytes header_end are = grind (arith, size-is, count-is)
-
-of-header : (h : Header) (bytes : Bytes) (header_end : ℕ) → AreWhole h bytes → AreWholeSlots (layout_of h header_end (length bytes))
-of-header h bytes header_end are = grind (arith, count-is, size-is)
 
 -- no value of the variable is missing
 abbrev HasAll : Header → Bytes → Var → Type 0
@@ -46,17 +39,17 @@ values-present : (h : Header) (bytes : Bytes) (header_end : ℕ) → IsSoundLayo
 values-present h bytes header_end sound all =
     let n = record_count h (length bytes) in
     let slabs = unmapped IsSoundSlot h.dims h.vars sound.sound_slots in
-    values-whole (layout_of h header_end (length bytes)) sound.header_inside (of-header h bytes header_end
-    (All-map (IsWholeSlot (length bytes) (record_size h) n) (slot_of h.dims) h.vars
-    (λ k d lt. whole-slot h bytes _ n (slabs k d lt).some_bytes (all k d lt))))
+    let whole : AreWhole h bytes = All-map (IsWholeSlot (length bytes) (record_size h) n) (slot_of h.dims) h.vars
+    (λ k d lt. whole-slot h bytes _ n (slabs k d lt).some_bytes (all k d lt)) in
+    values-whole (layout_of h header_end (length bytes)) sound.header_inside (grind (arith, count-is, size-is))
 
 all-present : (h : Header) (bytes : Bytes) (header_end : ℕ) → IsSoundLayout (layout_of h header_end (length bytes))
     → values_end (layout_of h header_end (length bytes)) ≤ length bytes → All (HasAll h bytes) h.vars
 all-present h bytes header_end sound within =
     let n = record_count h (length bytes) in
-    let whole = unmapped (IsWholeSlot (length bytes) (record_size h) n) h.dims h.vars
-    (to-header h bytes header_end (whole-values (layout_of h header_end (length bytes)) sound within)) in
-    λ k d lt. whole-variable h bytes _ n (whole k d lt)
+    let slots = whole-values (layout_of h header_end (length bytes)) sound within in
+    let whole : AreWhole h bytes = grind (arith, count-is, size-is) in
+    λ k d lt. whole-variable h bytes _ n (unmapped (IsWholeSlot (length bytes) (record_size h) n) h.dims h.vars whole k d lt)
 
 -- ---- tests
 
@@ -70,28 +63,19 @@ none-lack h bytes (var ∷ vars) none = grind (arith, none-lack h bytes vars, Al
 all-have : (h : Header) (bytes : Bytes) (vars : List Var) → All (HasAll h bytes) vars → list_any (lacks_values h bytes) vars ≡ false
 all-have h bytes vars all = list_any_none (lacks_values h bytes) vars (λ k d lt. ap is_some (all k d lt))
 
-same-test : (a b : Bool) → (a ≡ false → b ≡ false) → (b ≡ false → a ≡ false) → a ≡ b
-same-test a b to from = grind arith
-
 pub short-lacks : ShortFilesLackValues
-short-lacks h bytes header_end sound = grind (arith, same-test, all-have, all-present, ltb-false, le-ltb, values-present, none-lack)
+short-lacks h bytes header_end sound = grind (arith, nat_tests, all-have, all-present, values-present, none-lack)
 
 -- ---- the finding
 
-end-none : (layout : Layout) → values_end layout ≤ layout.file_len → Quiet is_of_missing (end_findings layout)
-unfolding end_findings
-end-none layout within = grind (arith, nat_tests)
-
 values-quiet : (layout : Layout) → values_end layout ≤ layout.file_len → finds is_of_missing layout ≡ false
-unfolding slot_findings block_findings
+unfolding slot_findings block_findings end_findings
 values-quiet layout within =
-    all-quiet is_of_missing layout (λ n. refl) (λ n. refl) (λ i x at. grind arith) (end-none layout within) (λ b has. grind arith)
-
-quiet-within : (layout : Layout) → IsSoundLayout layout → finds is_of_missing layout ≡ false → values_end layout ≤ layout.file_len
-quiet-within layout sound none =
-    quiet-values is_of_missing layout sound (λ file_len end slab. refl) (quiet-end is_of_missing layout none)
+    all-quiet is_of_missing layout (λ n. refl) (λ n. refl) (λ i x at. grind arith) (grind (arith, nat_tests)) (λ b has. grind arith)
 
 pub missing-found : MissingValuesAreFound
 missing-found h bytes header_end sound =
     let layout = layout_of h header_end (length bytes) in
-    grind (arith, nat_tests, short-lacks h bytes header_end sound, values-quiet layout, quiet-within layout sound)
+    let found = λ (none : finds is_of_missing layout ≡ false).
+    quiet-values is_of_missing layout sound (λ file_len end slab. refl) (quiet-end is_of_missing layout none) in
+    grind (arith, nat_tests, short-lacks h bytes header_end sound, values-quiet layout)

@@ -16,7 +16,7 @@ use Rattle.nc_layout.proofs.BlockOrder.{contains-here, contains-none, contains-c
 use Rattle.nc_layout.proofs.SweptBlocks.{greatest_from-above, greatest_from-least}
 use Rattle.nccheck_laws.specs.LayoutLaws.{MissingValuesHaveSlab}
 use Rattle.nccheck_laws.proofs.FoundNone.{Quiet}
-use Rattle.nccheck_laws.proofs.IndexedSlots.{all-at, at-all, each-there}
+use Rattle.nccheck_laws.proofs.IndexedSlots.{all-at, at-all, there-from}
 use Rattle.nccheck_laws.proofs.LayoutBlocks.{each-block, fixed-there, records-there, records_end-above, records_end-le, first_begin, begins}
 
 -- its slabs over n records, this size apart, are whole in a file of this length
@@ -93,7 +93,7 @@ uncut-whole layout none =
     let size = record_size layout.slots in
     let n = record_count layout in
     let whole = λ (k : ℕ) (x : Slot) (at : slice_get layout.slots k ≡ Some x) (c : SlabPlace) (has : Contains (slabs_of size n k x) c).
-    none-cut layout.file_len (all_slabs layout) c none (each-there (slabs_of size n) layout.slots k x c at has) in
+    none-cut layout.file_len (all_slabs layout) c none (there-from (slabs_of size n) 0 layout.slots k k x c at (omega arith) has) in
     at-all (IsWhole layout) layout.slots (λ k x at. record {
       fixed = λ is. whole k x at (fixed_slab k x) (rw is (contains-here (fixed_slab k x) []));
       records = λ is r lt. whole k x at (record_slab size k x r)

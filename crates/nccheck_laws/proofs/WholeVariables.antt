@@ -51,17 +51,12 @@ each-row-ends : (size len base stride : ℕ) (strides : List ℕ) (vs : List (Li
     → AllEnd size len base (stride ∷ strides) (flat_map (row vs) (range_with_len k n)) → (r m : ℕ) → r < n → m ≡ k + r
     → AllEnd size len (base + m * stride) strides vs
 each-row-ends size len base stride strides vs k zero all r m lt is = absurd (omega arith)
-each-row-ends size len base stride strides vs k (suc n) all r m lt is =
-    by_row r lt is (rest.0) (λ q within at. each-row-ends size len base stride strides vs (k + 1) n rest.1 q m within at)
-  where
-    rest : AllEnd size len base (stride ∷ strides) (row vs k)
-        × AllEnd size len base (stride ∷ strides) (flat_map (row vs) (range_with_len (k + 1) n))
-    rest = all-parts (EndsIn size len) _ _ (simp map-append at all)
-
-    by_row : (r : ℕ) → r < suc n → m ≡ k + r → AllEnd size len base (stride ∷ strides) (row vs k)
-        → ((q : ℕ) → q < n → m ≡ k + 1 + q → AllEnd size len (base + m * stride) strides vs) → AllEnd size len (base + m * stride) strides vs
-    by_row zero within at first later = grind (arith, row-same base k stride strides vs)
-    by_row (suc q) within at first later = later q (omega arith) (omega arith)
+each-row-ends size len base stride strides vs k (suc n) all zero m lt is =
+    let first : AllEnd size len base (stride ∷ strides) (row vs k) = (all-parts (EndsIn size len) _ _ (simp map-append at all)).0 in
+    grind (arith, row-same base k stride strides vs)
+each-row-ends size len base stride strides vs k (suc n) all (suc q) m lt is =
+    let rest = all-parts (EndsIn size len) _ _ (simp map-append at all) in
+    each-row-ends size len base stride strides vs (k + 1) n rest.1 q m (omega arith) (omega arith)
 
 -- a factor of a product that isn't 0
 some-factor : (a b : ℕ) → 0 < a * b → 0 < b
