@@ -59,7 +59,8 @@ contains-filter {X} p (x ∷ xs) c has passes = by_test (p x) refl (λ h. contai
 
 pub filter-contains : {X : Type 0} (p : X → Bool) (xs : List X) (c : X) → Contains (filter p xs) c → Contains xs c × (p c ≡ true)
 filter-contains {X} p [] c has = absurd (contains-none c has)
-filter-contains {X} p (x ∷ xs) c has = grind (arith, filter-contains p xs c, contains-cases x c (filter p xs), contains-here, contains-there)
+filter-contains {X} p (x ∷ xs) c has =
+    grind (arith, filter-contains p xs c, contains-cases x c (filter p xs), contains-here, contains-there)
 
 -- ---- what a stable sort by begins leaves
 

@@ -28,7 +28,7 @@ swapped f (a ∷ l) (suc i) (suc j) d in_i in_j = IsPermutation-append_right (f 
 pub flat_map-IsPermutation : {X Y : Type 0} (f : X → List Y) (xs ys : List X) → IsPermutation xs ys
     → IsPermutation (flat_map f xs) (flat_map f ys)
 flat_map-IsPermutation {X} f xs ys same =
-    IsPermutation-keeps xs (λ (zs : List X). IsPermutation (flat_map f xs) (flat_map f zs)) (IsPermutation-refl (flat_map f xs)) step ys same
+    IsPermutation-keeps xs (λ (zs : List X). IsPermutation (flat_map f xs) (flat_map f zs)) (IsPermutation-refl _) step ys same
   where
     step : (l : List X) (i j : ℕ) → i < length l → j < length l → IsPermutation (flat_map f xs) (flat_map f l)
         → IsPermutation (flat_map f xs) (flat_map f (swap l i j))

@@ -31,7 +31,8 @@ each-keeps : {A : Type 0} (element : List A → Part A) (P : List A → Type 0)
     → P all
 unfolding Spells each
 each-keeps element P step zero before from all rest s kept = subst P (sym s.0) kept
-each-keeps element P step (suc n) before from all rest (x, middle, s, t) kept = grind (arith, each-keeps element P step n (before ++ x ∷ []) middle all rest t (step before from x middle s kept))
+each-keeps element P step (suc n) before from all rest (x, middle, s, t) kept =
+    each-keeps element P step n (before ++ x ∷ []) middle all rest t (step before from x middle s kept)
 
 -- ---- shapes
 
@@ -71,7 +72,8 @@ record AreWithinLimits (dims : List Dim) (vars : List Var) : Type 0 where
 var-sound : (dims : List Dim) (before : List Var) (var : Var) → AreDimids dims [] var.dimids → var.begin_at < 2 ^ 63
     → is_within_limits dims (padded_total dims (record_vars dims before)) var.dimids var.ty ≡ true
     → HasSoundSlot dims var × (padded_total dims (record_vars dims (before ++ var ∷ [])) ≤ record_limit)
-var-sound dims before var shape begin within = grind (arith, and_parts, leb-true, some_product, some_count, some_size, total-append, one-total)
+var-sound dims before var shape begin within =
+    grind (arith, and_parts, leb-true, some_product, some_count, some_size, total-append, one-total)
 
 var-spelled : (r : Rules) (v : Version) (dims : List Dim) (before : List Var) (from : Bytes) (x : Var) (rest : Bytes)
     → Spells (var_after r v dims before) from x rest → AreWithinLimits dims before → AreWithinLimits dims (before ++ x ∷ [])

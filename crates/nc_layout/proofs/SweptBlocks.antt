@@ -113,7 +113,8 @@ Tells end xs o = (first_at_end end xs ≡ o) × (greatest_end end xs ≡ end_of 
 
 furthest-tells : (end : Extent → ℕ) (xs bs : List Extent) (o : Option Extent) → HaveSame xs bs → Furthest end bs o → Tells end xs o
 furthest-tells end xs bs None same none =
-    let empty = no_elements xs (λ c has. contains-none c (subst (λ (ys : List Extent). Contains ys c) none (same.there c has))) in grind arith
+    let none_there = λ (c : Extent) (has : Contains xs c). contains-none c (subst (λ (ys : List Extent). Contains ys c) none (same.there c has)) in
+    let empty = no_elements xs none_there in grind arith
 furthest-tells end xs bs (Some c) same h =
     let least = greatest_from-least end 0 (end c) xs (omega arith) (λ d has. h.most d (same.there d has)) in
     let above = greatest_from-above end 0 xs c (same.back c h.among) in
@@ -167,13 +168,10 @@ swept-is header_end bs sorted done [] reached same split below up h = refl
 swept-is header_end bs sorted done (b ∷ rest) reached same split below up h =
     let before_b = λ (c : Extent) (has : Contains done c). below c b has (contains-here b rest) in
     let here = findings-same header_end (before bs b) done reached b (before-same bs sorted done rest b same split before_b up.0) h in
-    let after = swept-is header_end bs sorted (done ++ b ∷ []) rest (reached_with reached b) same (split ∙ sym (append_assoc done (b ∷ []) rest))
-    (λ c d in_done in_rest. grind (
-      arith,
-      Contains-push_cases done b c in_done,
-      λ (has : Contains done c). below c d has (contains-there b d rest in_rest),
-      up.0 d in_rest,
-    )) up.1
+    let moved = split ∙ sym (append_assoc done (b ∷ []) rest) in
+    let after = swept-is header_end bs sorted (done ++ b ∷ []) rest (reached_with reached b) same moved (λ c d in_done in_rest.
+    let earlier = λ (has : Contains done c). below c d has (contains-there b d rest in_rest) in
+    grind (arith, Contains-push_cases done b c in_done, up.0 d in_rest)) up.1
     (record {
       values = furthest-more value_end done reached.values b h.values before_b;
       padding = furthest-more padding_end done reached.padding b h.padding before_b;

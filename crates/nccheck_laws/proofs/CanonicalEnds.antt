@@ -100,7 +100,8 @@ records-reached layout sound h some =
     let bytes = (all-at IsSoundSlot slots k x sound.sound_slots at).some_bytes in
     let values = records_end-above slots n (first_begin slots) (λ s. s.slab) k x some at is in
     let padded = records_end-above slots n (first_begin slots) (slab_in_record slots) k x some at is in
-    let le = reached layout (records_block slots n (first_begin slots)) (records-there layout (first_begin slots) found.0) (omega (arith, found.1)) in
+    let there = records-there layout (first_begin slots) found.0 in
+    let le = reached layout (records_block slots n (first_begin slots)) there (omega (arith, found.1)) in
     omega (arith, part-le slots k)) in
     omega (arith, total-whole (slab_in_record slots) is_record_slot slots, times-pred n (record_size slots) some)
 

@@ -121,7 +121,8 @@ block-none : (layout : Layout) (b : Extent) → IsQuietBlock layout b → Quiet 
 unfolding block_findings
 block-none layout b h =
     let xs = before (blocks layout) b in
-    let values : greatest_end value_end xs ≤ greatest_end sweep.padding_end xs = greatest_from-least value_end 0 (greatest_end sweep.padding_end xs) xs (omega arith)
+    let end = greatest_end sweep.padding_end xs in
+    let values : greatest_end value_end xs ≤ end = greatest_from-least value_end 0 end xs (omega arith)
     (λ c has. let above = greatest_from-above sweep.padding_end 0 xs c has in
     let le = end-padded layout c (filter-contains (λ x. precedes x b) (blocks layout) c has).0 in omega arith) in
     grind (arith, nat_tests, h.not_before, h.not_after)

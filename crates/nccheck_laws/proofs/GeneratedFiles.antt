@@ -96,7 +96,8 @@ canonical-generated h file_len canonical = grind (arith, begins-same h file_len 
 rows-length : (f : ℕ → List ℕ) (size a n : ℕ) → ((r : ℕ) → a ≤ r → r < a + n → length (f r) ≡ size)
     → length (flat_map f (range_with_len a n)) ≡ n * size
 rows-length f size a zero same = omega arith
-rows-length f size a (suc n) same = grind (arith, common_steps, rows-length f size (a + 1) n (λ r low high. same r (omega arith) (omega arith)))
+rows-length f size a (suc n) same =
+    grind (arith, common_steps, rows-length f size (a + 1) n (λ r low high. same r (omega arith) (omega arith)))
 
 data-length : (h : Header) (arrays : List (List ℕ)) (n : ℕ) → known_records h.numrecs ≡ n → AreArrays h.dims n h.vars arrays
     → length (data_of h arrays) ≡ padded_total h.dims (fixed_vars h.dims h.vars) + n * record_size_of h.dims (record_vars h.dims h.vars)

@@ -35,4 +35,5 @@ generated-canonical h file_len same i =
     grind (arith, begins-canonical h file_len [] h.vars refl (ap (λ (x : Header). x.vars) same) i)
 
 pub generated-quiet : GeneratedFilesAreQuiet
-generated-quiet h arrays n file_len known are sound begins len = grind (arith, generated-canonical, begins-bare, begins-quiet, length-quiet, canonical-is)
+generated-quiet h arrays n file_len known are sound begins len =
+    grind (arith, generated-canonical, begins-bare, begins-quiet, length-quiet, canonical-is)

@@ -57,10 +57,12 @@ pub there-from : {A : Type 0} (f : ℕ → Slot → List A) (i : ℕ) (slots : L
     → Contains (f m x) a → Contains (each_slot f i slots) a
 there-from {A} f i [] k m x a at is has = cc
 there-from {A} f i (y ∷ ys) zero m x a at is has = grind (arith, Contains-append_left)
-there-from {A} f i (y ∷ ys) (suc k) m x a at is has = grind (arith, there-from f (i + 1) ys k m x a at (omega arith) has, Contains-append_right)
+there-from {A} f i (y ∷ ys) (suc k) m x a at is has =
+    grind (arith, there-from f (i + 1) ys k m x a at (omega arith) has, Contains-append_right)
 
 pub in-from : {A : Type 0} (f : ℕ → Slot → List A) (i : ℕ) (slots : List Slot) (P : A → Type 0)
-    → ((k m : ℕ) (x : Slot) → At slots k x → m ≡ i + k → (a : A) → Contains (f m x) a → P a) → (a : A) → Contains (each_slot f i slots) a → P a
+    → ((k m : ℕ) (x : Slot) → At slots k x → m ≡ i + k → (a : A) → Contains (f m x) a → P a) → (a : A)
+    → Contains (each_slot f i slots) a → P a
 in-from {A} f i [] P each a has = absurd (contains-none a has)
 in-from {A} f i (x ∷ xs) P each a has =
     let later = in-from f (i + 1) xs P (λ k m y at is b there. each (suc k) m y at (omega arith) b there) a in
@@ -116,7 +118,9 @@ unfolding record_size
 slab-fits slots k x at is = by_kind (is_sole_narrow (record_slots slots)) refl
   where
     below : (f : Slot → ℕ) → total f is_record_slot slots k + f x ≤ sum_by f (record_slots slots)
-    below f = grind (arith, total-below f is_record_slot slots k (length slots) x at is, slice_get_within slots k x at, total-whole f is_record_slot slots)
+    below f =
+        let le = total-below f is_record_slot slots k (length slots) x at is in
+        grind (arith, slice_get_within slots k x at, total-whole f is_record_slot slots)
 
     by_kind : (b : Bool) → is_sole_narrow (record_slots slots) ≡ b
         → bytes_before slots k + (if b then x.slab else padded_slab x)

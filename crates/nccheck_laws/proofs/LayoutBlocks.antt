@@ -56,7 +56,8 @@ fixed_place layout i = layout.header_end + fixed_bytes (take i layout.slots)
 pub all-place : (layout : Layout) → fixed_place layout (length layout.slots) ≡ layout.header_end + fixed_bytes layout.slots
 all-place layout = ap (λ n. layout.header_end + n) (total-whole padded_slab is_fixed layout.slots)
 
-pub before-le : (layout : Layout) (b : Extent) (m : ℕ) → ((c : Extent) → Contains (blocks layout) c → precedes c b ≡ true → c.padded_end ≤ m)
+pub before-le : (layout : Layout) (b : Extent) (m : ℕ)
+    → ((c : Extent) → Contains (blocks layout) c → precedes c b ≡ true → c.padded_end ≤ m)
     → greatest_end padding_end (before (blocks layout) b) ≤ m
 before-le layout b m each =
     greatest_from-least padding_end 0 m (before (blocks layout) b) (omega arith)
@@ -104,7 +105,8 @@ min-from a n (m ∷ ns) = grind (arith, min-from a (min n m) ns)
 
 -- where the records begin with one more slot
 begin-more : (x : Slot) (slots : List Slot)
-    → records_begin (x ∷ slots) ≡ (if x.is_record then Some (option_map_or (min x.begin) (records_begin slots) x.begin) else records_begin slots)
+    → records_begin (x ∷ slots)
+    ≡ (if x.is_record then Some (option_map_or (min x.begin) (records_begin slots) x.begin) else records_begin slots)
 unfolding records_begin
 begin-more x slots = grind (arith, min-from)
 
@@ -123,7 +125,8 @@ pub begin-ge : (slots : List Slot) (begin m : ℕ) → records_begin slots ≡ S
 unfolding records_begin
 begin-ge [] begin m is each = cc
 begin-ge (y ∷ ys) begin m is each =
-    grind (arith, begin-more y ys, each 0 y refl, λ (b : ℕ) (e : records_begin ys ≡ Some b). begin-ge ys b m e (λ k x at. each (suc k) x at))
+    let more = λ (b : ℕ) (e : records_begin ys ≡ Some b). begin-ge ys b m e (λ k x at. each (suc k) x at) in
+    grind (arith, begin-more y ys, each 0 y refl)
 
 -- slots in their places in the record begin where the records do
 pub begin-is : (slots : List Slot) (begin base : ℕ) → records_begin slots ≡ Some begin

@@ -26,12 +26,13 @@ use Rattle.nccheck_laws.proofs.WholeSlots.{fixed_slab, each-slab}
 -- ---- what holds of slots and blocks
 
 -- a block begins after the end of each block that precedes it
-ends-first : (layout : Layout) (b c : Extent) → FindsNone is_of_shared_bytes layout → Contains (blocks layout) b → Contains (blocks layout) c
-    → precedes b c ≡ true → b.end ≤ c.begin
+ends-first : (layout : Layout) (b c : Extent) → FindsNone is_of_shared_bytes layout → Contains (blocks layout) b
+    → Contains (blocks layout) c → precedes b c ≡ true → b.end ≤ c.begin
 unfolding block_findings
 ends-first layout b c quiet has_b has_c first =
     let found = quiet-block is_of_shared_bytes layout c quiet has_c in
-    let above = greatest_from-above value_end 0 (before (blocks layout) c) b (contains-filter (λ x. precedes x c) (blocks layout) b has_b first) in
+    let there = contains-filter (λ x. precedes x c) (blocks layout) b has_b first in
+    let above = greatest_from-above value_end 0 (before (blocks layout) c) b there in
     grind (arith, nat_tests)
 
 -- ---- pairs of a list that is made of parts
@@ -48,7 +49,8 @@ append-pairs R (x ∷ xs) ys in_xs in_ys across =
 
 each-pairs : (R : SlabPlace → SlabPlace → Type 0) (f : ℕ → Slot → List SlabPlace) (i : ℕ) (slots : List Slot)
     → ((k m : ℕ) (x : Slot) → At slots k x → AllPairs R (f m x))
-    → ((k l m n : ℕ) (x y : Slot) → k < l → At slots k x → At slots l y → (a b : SlabPlace) → Contains (f m x) a → Contains (f n y) b → R a b)
+    → ((k l m n : ℕ) (x y : Slot) → k < l → At slots k x → At slots l y → (a b : SlabPlace)
+    → Contains (f m x) a → Contains (f n y) b → R a b)
     → AllPairs R (each_slot f i slots)
 each-pairs R f i [] own across = λ j k e lt within. absurd (omega arith)
 each-pairs R f i (x ∷ xs) own across =

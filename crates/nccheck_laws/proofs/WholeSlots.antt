@@ -63,7 +63,8 @@ whole-values layout sound within =
           let begin = first_begin layout.slots in
           let found = begins layout.slots k x at is in
           let above = records_end-above layout.slots n begin (λ s. s.slab) k x (omega arith) at is in
-          let le = value-reached layout (records_block layout.slots n begin) (records-there layout begin found.0) (omega (arith, found.1)) in
+          let there = records-there layout begin found.0 in
+          let le = value-reached layout (records_block layout.slots n begin) there (omega (arith, found.1)) in
           let up = mul-le-mul_right size (let e : r ≤ n - 1 = omega arith in e) in omega arith;
     })
 

@@ -55,8 +55,9 @@ each-row-ends size len base stride strides vs k (suc n) all zero m lt is =
     let first : AllEnd size len base (stride ∷ strides) (row vs k) = (all-parts (EndsIn size len) _ _ (simp map-append at all)).0 in
     grind (arith, row-same base k stride strides vs)
 each-row-ends size len base stride strides vs k (suc n) all (suc q) m lt is =
-    let rest = all-parts (EndsIn size len) _ _ (simp map-append at all) in
-    each-row-ends size len base stride strides vs (k + 1) n rest.1 q m (omega arith) (omega arith)
+    let others : AllEnd size len base (stride ∷ strides) (flat_map (row vs) (range_with_len (k + 1) n)) =
+    (all-parts (EndsIn size len) _ _ (simp map-append at all)).1 in
+    each-row-ends size len base stride strides vs (k + 1) n others q m (omega arith) (omega arith)
 
 -- a factor of a product that isn't 0
 some-factor : (a b : ℕ) → 0 < a * b → 0 < b

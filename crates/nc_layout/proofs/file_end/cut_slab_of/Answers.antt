@@ -5,8 +5,10 @@ use Rattle.nc_layout.proofs.file_end.cut_slab_of.Goals as goal
 
 pub returns-then-whole-records : goal.returns-then-whole-records
 returns-then-whole-records c =
-    grind (arith, nat_tests, first_cut_is c.args.file_len c.args.records.size c.args.i c.args.slot c.whole_slabs-whole.result c.args.records.count 0)
+    let a = c.args in
+    grind (arith, nat_tests, first_cut_is a.file_len a.records.size a.i a.slot c.whole_slabs-whole.result a.records.count 0)
 
 pub returns-else-whole-records : goal.returns-else-whole-records
 returns-else-whole-records c =
-    grind (arith, nat_tests, first_cut_is c.args.file_len c.args.records.size c.args.i c.args.slot c.whole_slabs-whole.result c.args.records.count 0)
+    let a = c.args in
+    grind (arith, nat_tests, first_cut_is a.file_len a.records.size a.i a.slot c.whole_slabs-whole.result a.records.count 0)
