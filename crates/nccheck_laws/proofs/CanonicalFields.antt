@@ -21,7 +21,7 @@ use Rattle.nc_fields.specs.Entries.{number_in}
 use Rattle.nc_fields.proofs.Numbers.{number-in_count}
 use Rattle.nccheck_laws.specs.Agreement.{header_fields}
 use Rattle.nccheck_laws.specs.Written.{bytes_of, number_of, IsWrittenVsize, IsWritten, AreWritten, CanonicalFieldsAreWritten}
-use Rattle.nccheck_laws.proofs.AgreeingParts.{agree-header}
+use Rattle.nccheck_laws.proofs.StrictHeaders.{strict-fields}
 use Rattle.nccheck_laws.proofs.Written.{whole_field, at-start, bytes-fields, decoded-fields, chain-fields, tested-field}
 use Rattle.nccheck_laws.proofs.WrittenParts.{passed, count-field}
 
@@ -263,7 +263,7 @@ header-canonical from h rest s is =
     let kept = spelled-sound from h rest s in
     let printable = header-printable h kept.sound kept.names (header-begins from h rest s) in
     let are = shown-canonical h (λ fs. Unit {0}) [] header_part h rest [] printable (shown-header h _ kept.sound.vars) tt tt in
-    subst (AreCanonical h) (sym ((agree-header []).same from h rest s ∙ ap (fields [] header_part) is))
+    subst (AreCanonical h) (sym (strict-fields from h rest s ∙ ap (fields [] header_part) is))
     (subst (AreCanonical h) (append-nil (fields [] header_part (header_spelling h ++ rest))) are)
 
 pub canonical-fields : CanonicalFieldsAreWritten

@@ -12,6 +12,7 @@ pub mod MissingValues
 pub mod TruncatedDumps
 pub mod CanonicalLayouts
 pub mod GeneratedLayouts
+pub mod Leaves
 pub mod Agreement
 pub mod OddNames
 pub mod AgreeingParts

@@ -6,6 +6,7 @@ use Rattle.nc_base.specs.Bytes.{Bytes}
 use Rattle.nc_base.specs.Grammar.{header_by, header_part, SpellsHeader}
 use Rattle.nc_base.specs.code.PartRuns.{StopsWith, Outcome, run}
 use Rattle.nc_base.proofs.PartOutcomes.{Tells, tells, reads, stops}
+use Rattle.nc_fields.specs.Fields.{fields}
 use Rattle.nc_fields.specs.Lenient.{lenient}
 use Rattle.nccheck_laws.specs.Agreement.{first_refusal, header_fields, without_values, SpellsLeniently, StrictHeadersAreLenient, LenientHeadersAreStrict, UnrefusedHeadersAreSpelled, StrictFaultsAreFirstRefusals}
 use Rattle.nccheck_laws.proofs.Agreement.{Agrees}
@@ -16,10 +17,10 @@ HeaderOutcome = Outcome Header
 
 -- both outcomes, with what each says of the bytes
 abbrev Both : Bytes → HeaderOutcome → HeaderOutcome → Type 0
-Both from o r = Agrees without_values o r (first_refusal (header_fields from))
+Both from o r = Agrees without_values o r (fields [] header_part from) (header_fields from)
 
 agreed : (from : Bytes) → Both from (run header_part from) (run (header_by lenient) from)
-agreed from = (agree-header []).at from
+agreed = agree-header.at
 
 -- ---- a header by the strict rules
 
@@ -33,6 +34,16 @@ strict-headers from h rest spelled =
     strict-lenient from h rest (run (header_by lenient) from)
     (subst (λ o. Both from o (run (header_by lenient) from)) (reads header_part from h rest spelled) (agreed from))
     (tells (header_by lenient) from)
+
+-- it has the same fields by both rules
+strict-same : (from : Bytes) (h : Header) (rest : Bytes) (r : HeaderOutcome) → Both from (Ok (h, rest)) r
+    → header_fields from ≡ fields [] header_part from
+strict-same from h rest v3 v4 = grind arith
+
+pub strict-fields : (from : Bytes) (h : Header) (rest : Bytes) → SpellsHeader from h rest → header_fields from ≡ fields [] header_part from
+strict-fields from h rest spelled =
+    strict-same from h rest (run (header_by lenient) from)
+    (subst (λ o. Both from o (run (header_by lenient) from)) (reads header_part from h rest spelled) (agreed from))
 
 -- ---- no refused field
 

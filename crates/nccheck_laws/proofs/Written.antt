@@ -1,6 +1,6 @@
 -- Parts whose fields are as they are written: the bytes are what is written of the value.
 use Rattle.std.proofs.lemmas.Grind.{common_steps}
-use Rattle.std.proofs.Common.{◌≡◌, ℕ, suc, zero, Bool, List, [], ◌∷◌, ◌++◌, length, take, Option, Some, None, Result, Ok, Err, refl, sym, ap, ◌∙◌, subst, arith, append_assoc, replicate, if◌then◌else◌}
+use Rattle.std.proofs.Common.{◌≡◌, ℕ, suc, zero, Bool, List, [], ◌∷◌, ◌++◌, length, take, Option, Some, None, Result, Ok, Err, refl, sym, ap, ◌∙◌, subst, arith, append_assoc, if◌then◌else◌}
 use Rattle.std.proofs.Math.Seq.{take-append_seam}
 use Rattle.std.specs.Int.{Width, w32, w64, byte_len, to_be_bytes, from_be_bytes}
 use Rattle.nc_base.proofs.Prelude.{be_bytes_4, be_bytes_8}
@@ -47,85 +47,60 @@ still-written : (h : Header) (steps : List Step) (f : Field) (fs more : List Fie
     → IsWritten h steps f fs
 still-written h v1 f fs more w = grind arith
 
-pub first-written : (h : Header) (fs more : List Field) → AreWritten h (fs ++ more) → AreWritten h fs
+first-written : (h : Header) (fs more : List Field) → AreWritten h (fs ++ more) → AreWritten h fs
 first-written h [] more w = tt
 first-written h (f ∷ fs) more w = (still-written h f.steps f fs more w.0, first-written h fs more w.1)
 
-pub later-written : (h : Header) (fs more : List Field) → AreWritten h (fs ++ more) → AreWritten h more
+later-written : (h : Header) (fs more : List Field) → AreWritten h (fs ++ more) → AreWritten h more
 later-written h [] more w = w
 later-written h (f ∷ fs) more w = later-written h fs more w.1
 
 -- ---- bytes
 
-pub first-bytes : (xs ys : Bytes) → AreBytes (xs ++ ys) → AreBytes xs
+first-bytes : (xs ys : Bytes) → AreBytes (xs ++ ys) → AreBytes xs
 first-bytes [] ys are i = omega arith
 first-bytes (x ∷ xs) ys are zero = are 0
 first-bytes (x ∷ xs) ys are (suc i) = first-bytes xs ys (λ j. are (suc j)) i
 
-pub later-bytes : (xs ys : Bytes) → AreBytes (xs ++ ys) → AreBytes ys
+later-bytes : (xs ys : Bytes) → AreBytes (xs ++ ys) → AreBytes ys
 later-bytes [] ys are = are
 later-bytes (x ∷ xs) ys are = later-bytes xs ys (λ j. are (suc j))
 
 -- ---- parts
 
--- the bytes spell a value by q, too, seen through f; and if the fields that q has there are as they are written, they are what p writes of
--- the value, and the rest
-pub record Writes {A B : Type 0} (h : Header) (f : A → B) (steps : List Step) (p : Part A) (q : Part B) (from : Bytes) (x : A)
-    (rest : Bytes) : Type 0 where
-  pub spelled : Spells q from (f x) rest
-  pub same : AreBytes from → AreWritten h (fields steps q from) → from ≡ print p x ++ rest
+-- A part is written as it was spelled: each value that is read is the one that is written, if the fields there are as they are written.
+abbrev pub IsKept : {A : Type 0} → Header → List Step → Part A → Bytes → A → Bytes → Type 0
+IsKept h steps (done x) from y rest = Unit {0}
+IsKept h steps (bytes n cut) from content rest = Unit {0}
+IsKept h steps (decoded {A = A} decode encode p) from y rest =
+    (x : A) → Spells p from x rest → decode x ≡ Ok y
+    → IsKept h steps p from x rest × (AreBytes from → AreWritten h (fields steps p from) → encode y ≡ x)
+IsKept h steps (under step p) from x rest = IsKept h (step ∷ steps) p from x rest
+IsKept h steps (chain {A = A} get p next) from y rest =
+    (x : A) (middle : Bytes) → Spells p from x middle → Spells (next x) middle y rest
+    → IsKept h steps p from x middle × IsKept h steps (next x) middle y rest
+    × (AreWritten h (fields steps p from ++ fields steps (next x) middle) → get y ≡ Some x)
 
-pub writes-done : {A B : Type 0} {h : Header} {f : A → B} {steps : List Step} {x y : A} {z : B} {from rest : Bytes}
-    → f y ≡ z → rest ≡ from → Writes h f steps (done x) (done z) from y rest
-unfolding Spells print
-writes-done seen all = record { spelled = (seen, all); same = λ are written. sym all }
-
-pub writes-under : {A B : Type 0} {h : Header} {f : A → B} {steps : List Step} {step : Step} (other : Step) {p : Part A} {q : Part B}
-    {from : Bytes} {x : A} {rest : Bytes} → Writes h f (step ∷ steps) p q from x rest
-    → Writes h f steps (under other p) (under step q) from x rest
+pub kept : {A : Type 0} (h : Header) (steps : List Step) (p : Part A) (from : Bytes) (y : A) (rest : Bytes) → Spells p from y rest
+    → IsKept h steps p from y rest → AreBytes from → AreWritten h (fields steps p from) → from ≡ print p y ++ rest
 unfolding Spells print fields
-writes-under other w = record { spelled = w.spelled; same = w.same }
+kept h steps (done x) from y rest s k are w = sym s.1
+kept h steps (bytes n cut) from content rest s k are w = s.1
+kept h steps (decoded decode encode p) from y rest (x, s, e) k are w =
+    let here = subst (AreWritten h) (decoded-fields steps decode encode p from x y rest s e) w in
+    let one = k x s e in
+    kept h steps p from x rest s one.0 are here ∙ ap (λ x. print p x ++ rest) (sym (one.1 are here))
+kept h steps (under step p) from x rest s k are w = kept h (step ∷ steps) p from x rest s k are w
+kept h steps (chain {A = A} get p next) from y rest (x, middle, s, t) k are w =
+    let both = subst (AreWritten h) (chain-fields steps get p next from x middle s) w in
+    let one = k x middle s t in
+    let front : from ≡ print p x ++ middle = kept h steps p from x middle s one.0 are (first-written h _ _ both) in
+    let back : middle ≡ print (next x) y ++ rest =
+    kept h steps (next x) middle y rest t one.1 (later-bytes (print p x) middle (subst AreBytes front are)) (later-written h _ _ both) in
+    front ∙ ap (λ bs. print p x ++ bs) back ∙ sym (append_assoc (print p x) (print (next x) y) rest)
+    ∙ ap (λ (o : Option A). elim o as (λ o. Bytes) [ Some x ↦ print p x ++ print (next x) y | None ↦ [] ] ++ rest) (sym (one.2 both))
 
-pub writes-decoded : {A B C D : Type 0} {h : Header} {f : A → B} {g : C → D} {steps : List Step} (decode : A → Result C FormatFault)
-    (encode : C → A) (other : B → Result D FormatFault) (back : D → B) {p : Part A} {q : Part B} {from : Bytes} {x : A} {y : C}
-    {rest : Bytes} → Writes h f steps p q from x rest → other (f x) ≡ Ok (g y) → encode y ≡ x
-    → Writes h g steps (decoded decode encode p) (decoded other back q) from y rest
-unfolding Spells print
-writes-decoded {h = h} {f = f} {g = g} {steps = steps} decode encode other back {p = p} {q = q} {from = from} {x = x} {y = y}
-    {rest = rest} w e same =
-    record {
-      spelled = (f x, w.spelled, e);
-      same = λ are written.
-          w.same are (subst (AreWritten h) (decoded-fields steps other back q from (f x) (g y) rest w.spelled e) written)
-          ∙ ap (λ x. print p x ++ rest) (sym same);
-    }
-
--- a part and what follows it
-pub writes-chain : {A B C D : Type 0} {h : Header} {f : A → B} {g : C → D} {steps : List Step} {get : C → Option A} {also : D → Option B}
-    {p : Part A} {q : Part B} {next : A → Part C} {other : B → Part D} {from : Bytes} {x : A} {middle : Bytes} {y : C} {rest : Bytes}
-    → Writes h f steps p q from x middle → Writes h g steps (next x) (other (f x)) middle y rest
-    → (AreWritten h (fields steps q from ++ fields steps (other (f x)) middle) → get y ≡ Some x)
-    → Writes h g steps (chain get p next) (chain also q other) from y rest
-unfolding Spells print
-writes-chain {A = A} {h = h} {f = f} {steps = steps} {get = get} {also = also} {p = p} {q = q} {next = next} {other = other} {from = from}
-    {x = x} {middle = middle} {y = y} {rest = rest} w v got =
-    record {
-      spelled = (f x, middle, w.spelled, v.spelled);
-      same = λ are written.
-          let both = subst (AreWritten h) (chain-fields steps also q other from (f x) middle w.spelled) written in
-          let front : from ≡ print p x ++ middle = w.same are (first-written h _ _ both) in
-          let back : middle ≡ print (next x) y ++ rest =
-          v.same (later-bytes (print p x) middle (subst AreBytes front are)) (later-written h _ _ both) in
-          front ∙ ap (λ bs. print p x ++ bs) back ∙ sym (append_assoc (print p x) (print (next x) y) rest)
-          ∙ ap (λ (o : Option A). elim o as (λ o. Bytes) [ Some x ↦ print p x ++ print (next x) y | None ↦ [] ] ++ rest) (sym (got both));
-    }
-
--- ---- bytes and numbers
-
-pub writes-bytes : {h : Header} {steps : List Step} (n : ℕ) (cut : FormatFault) {from content rest : Bytes}
-    → length content ≡ n → from ≡ content ++ rest → Writes h (λ bs. bs) steps (bytes n cut) (bytes n cut) from content rest
-unfolding Spells print
-writes-bytes n cut count is = record { spelled = (count, is); same = λ are written. is }
+-- ---- numbers
 
 -- bytes are those of their number
 abbrev pub IsWidth : Width → Type 0
@@ -134,7 +109,7 @@ IsWidth w = (bs : Bytes) → AreBytes bs → length bs ≡ byte_len w → to_be_
 pub is-width-32 : IsWidth w32
 is-width-32 bs are len = be_bytes_4 bs _ len are refl
 
-pub is-width-64 : IsWidth w64
+is-width-64 : IsWidth w64
 is-width-64 bs are len = be_bytes_8 bs _ len are refl
 
 pub is-width-count : (v : Version) → IsWidth (count_width v)
@@ -146,29 +121,18 @@ is-width-offset v = grind (arith, is-width-64, is-width-32)
 ok-same : {A : Type 0} {x y : A} → ◌≡◌ {A = Result A FormatFault} (Ok x) (Ok y) → x ≡ y
 ok-same e = cc
 
-pub writes-number : {h : Header} {steps : List Step} (w : Width) {from : Bytes} {n : ℕ} {rest : Bytes} → IsWidth w
-    → Spells (number w) from n rest → Writes h (λ n. n) steps (number w) (number w) from n rest
-unfolding Spells print number
-writes-number w {from = from} {n = n} {rest = rest} wide (digits, (count, is), e) = record {
-  spelled = (digits, (count, is), e);
-  same = λ are written.
-      let back : to_be_bytes w n ≡ digits =
-      ap (to_be_bytes w) (sym (ok-same e)) ∙ wide digits (first-bytes digits rest (subst AreBytes is are)) count in
-      is ∙ ap (λ bs. bs ++ rest) (sym back);
-}
+pub kept-number : (h : Header) (steps : List Step) (w : Width) (from : Bytes) (n : ℕ) (rest : Bytes) → IsWidth w
+    → IsKept h steps (number w) from n rest
+unfolding Spells number
+kept-number h steps w from n rest wide digits (count, is) e =
+    (tt, λ are written. ap (to_be_bytes w) (sym (ok-same e)) ∙ wide digits (first-bytes digits rest (subst AreBytes is are)) count)
 
 -- what is ignored, and is written as zeros
-pub writes-ignored : {h : Header} {steps : List Step} (n : ℕ) {from : Bytes} {u : Unit {0}} {rest : Bytes}
-    → Spells (ignored n) from u rest → Writes h (λ u. u) (Padding ∷ steps) (ignored n) (ignored n) from u rest
-unfolding Spells print ignored
-writes-ignored {h = h} {steps = steps} n {from = from} {u = u} {rest = rest} (content, (count, is), e) = record {
-  spelled = (content, (count, is), e);
-  same = λ are written.
-      let listed = decoded-fields (Padding ∷ steps) (λ any. Ok tt) (λ nothing. replicate n 0) (bytes n HeaderTruncated) from content tt rest
-      (count, is) refl ∙ bytes-fields (Padding ∷ steps) n HeaderTruncated from content rest count is in
-      let zeros : take n from ≡ replicate n 0 = (subst (AreWritten h) listed written).0 in
-      is ∙ ap (λ bs. bs ++ rest) (sym (at-start content rest n count) ∙ ap (λ bs. take n bs) (sym is) ∙ zeros);
-}
+pub kept-ignored : (h : Header) (steps : List Step) (n : ℕ) (from : Bytes) (u : Unit {0}) (rest : Bytes)
+    → IsKept h (Padding ∷ steps) (ignored n) from u rest
+unfolding Spells fields ignored
+kept-ignored h steps n from u rest content (count, is) e =
+    (tt, λ are written. sym (sym (at-start content rest n count) ∙ ap (take n) (sym is) ∙ written.0))
 
 -- a part that is one field of this number
 pub record IsNumberField {A : Type 0} (steps : List Step) (p : Part A) (w : Width) (from : Bytes) (n : ℕ) : Type 0 where
