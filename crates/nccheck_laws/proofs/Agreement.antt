@@ -73,8 +73,7 @@ agree-leaf {f = f} {steps = steps} {p = p} {q = q} leaf other size cut judges = 
 }
 
 same-judges : {A : Type 0} (y : Result A FormatFault) (refused : Option FormatFault) → refused ≡ fault_of y → Judges (λ x. x) y y refused
-same-judges (Ok x) refused is = (refl, is)
-same-judges (Err e) refused is = is
+same-judges y refused is = grind arith
 
 -- a field of these steps is refused only if it is wrong
 abbrev pub IsPlain : List Step → Type 0
@@ -101,19 +100,11 @@ first_of f o others = elim o [ Some fault ↦ Some (fault, drop f.size f.start) 
 
 refused-later : (fs more : List Field) → first_refusal fs ≡ None → first_refusal (fs ++ more) ≡ first_refusal more
 refused-later [] more none = refl
-refused-later (f ∷ fs) more none = by-refusal (refusal f) none (refused-later fs more)
-  where
-    by-refusal : (o : Option FormatFault) → first_of f o (first_refusal fs) ≡ None → (first_refusal fs ≡ None → first_refusal (fs ++ more) ≡ first_refusal more)
-        → first_of f o (first_refusal (fs ++ more)) ≡ first_refusal more
-    by-refusal o none go = grind arith
+refused-later (f ∷ fs) more none = grind (arith, refused-later fs more)
 
 refused-already : (fs more : List Field) (e : FormatFault × Bytes) → first_refusal fs ≡ Some e → first_refusal (fs ++ more) ≡ Some e
 refused-already [] more e is = absurd cc
-refused-already (f ∷ fs) more e is = by-refusal (refusal f) is (refused-already fs more e)
-  where
-    by-refusal : (o : Option FormatFault) → first_of f o (first_refusal fs) ≡ Some e → (first_refusal fs ≡ Some e → first_refusal (fs ++ more) ≡ Some e)
-        → first_of f o (first_refusal (fs ++ more)) ≡ Some e
-    by-refusal o is go = grind arith
+refused-already (f ∷ fs) more e is = grind (arith, refused-already fs more e)
 
 -- after fields that aren't refused
 after-agrees : {A B : Type 0} (f : A → B) (before fs gs : List Field) (o : Outcome A) (r : Outcome B) → first_refusal before ≡ None

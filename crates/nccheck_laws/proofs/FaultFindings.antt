@@ -37,19 +37,11 @@ if-none P false fact is = All-nil P
 -- a dimension's length may be refused for its size, whatever it belongs to
 length-refusal : (size n : ℕ) (o : Owner)
     → refusal_in size (content.Number n) (Length ∷ owner_steps o) None ≡ cond (is_large_count size n) (Some BadCount) None
-length-refusal size n owner.Header = refl
-length-refusal size n (owner.Dim i) = refl
-length-refusal size n (owner.GlobalAtt i) = refl
-length-refusal size n (owner.Var i) = refl
-length-refusal size n (owner.VarAtt i k) = refl
+length-refusal size n o = grind arith
 
 length-fault : (size n : ℕ) (o : Owner) (fault : FormatFault)
     → refusal_in size (content.Number n) (Length ∷ owner_steps o) (Some fault) ≡ Some fault
-length-fault size n owner.Header fault = refl
-length-fault size n (owner.Dim i) fault = refl
-length-fault size n (owner.GlobalAtt i) fault = refl
-length-fault size n (owner.Var i) fault = refl
-length-fault size n (owner.VarAtt i k) fault = refl
+length-fault size n o fault = grind arith
 
 -- a field that isn't refused is no fault
 pub quiet-facts : (e : Entry) → refusal_of e ≡ None → All NoFault (facts_of e)

@@ -87,29 +87,13 @@ place-shows : (first : Bool) (place : FieldName) (o : Owner) (f : Indexed) (k : 
     → AreOther (map (finding f) (content_facts place f.entry.size f.entry.content))
     → AreOther (option_to_list (finding_by_name first place f (ahead_of (indexed_from k after))))
     → Shows (name_steps place ++ owner_steps o) f.entry.content (map seen_by after)
-place-shows first name.Magic o f k after e d = tt
-place-shows first name.Version o f k after e d = tt
-place-shows first name.NumRecs o f k after e d = tt
 place-shows first name.DimsTag o f k after e d = tag-shows (Dims ∷ owner_steps o) f f.entry.content k after d
-place-shows first name.DimsCount o f k after e d = tt
 place-shows first name.GlobalAttsTag o f k after e d = tag-shows (Gatts ∷ owner_steps o) f f.entry.content k after d
-place-shows first name.GlobalAttsCount o f k after e d = tt
 place-shows first name.VarsTag o f k after e d = tag-shows (Vars ∷ owner_steps o) f f.entry.content k after d
-place-shows first name.VarsCount o f k after e d = tt
-place-shows first name.NameLength o f k after e d = tt
-place-shows first name.Name o f k after e d = tt
 place-shows first name.NamePadding o f k after e d = grind (arith, filling-shows, padding-shows)
-place-shows first name.Length o f k after e d = tt
-place-shows first name.Type o f k after e d = tt
-place-shows first name.Count o f k after e d = tt
-place-shows first name.Values o f k after e d = tt
 place-shows first name.Padding o f k after e d = grind (arith, filling-shows, padding-shows)
-place-shows first name.Rank o f k after e d = tt
-place-shows first (name.DimId i) o f k after e d = tt
 place-shows first name.AttsTag o f k after e d = tag-shows (Atts ∷ owner_steps o) f f.entry.content k after d
-place-shows first name.AttsCount o f k after e d = tt
-place-shows first name.Vsize o f k after e d = tt
-place-shows first name.Begin o f k after e d = tt
+place-shows first place o f k after e d = tt
 
 quiet-from : (all : List Indexed) (k : ℕ) (entries : List Entry) → AreOther (field_findings (indexed_from k entries))
     → AreOther (each_before (attribute_finding all) (indexed_from k entries)) → AreQuiet (map seen_by entries)
