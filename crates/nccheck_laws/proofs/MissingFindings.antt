@@ -1,9 +1,9 @@
 -- A report finds that values are missing exactly if some variable of the header has a first missing value.
-use Rattle.std.proofs.Common.{◌≡◌, ℕ, ◌+◌, ◌||◌, Bool, false, List, [], ◌∷◌, ◌++◌, length, map, flat_map, find, Option, Some, None, Ok, refl, sym, ap, ◌∙◌, subst}
+use Rattle.std.proofs.Common.{arith, ◌≡◌, ℕ, ◌+◌, ◌||◌, Bool, false, List, [], ◌∷◌, ◌++◌, length, map, flat_map, find, Option, Some, None, Ok, refl, sym, ap, ◌∙◌, subst}
 use Rattle.std.specs.List.{All, list_any}
 use Rattle.std.specs.Option.{option_to_list, option_map}
 use Rattle.std.proofs.lemmas.Bool.{false≢true}
-use Rattle.std.proofs.lemmas.List.Elements.{All-nil, All-append, All-map}
+use Rattle.std.proofs.lemmas.List.Elements.{All-nil, All-cons, All-append}
 use Rattle.std.proofs.lemmas.List.Folds.{list_any-append, list_any_none}
 use Rattle.std.proofs.lemmas.List.Sorted.{list_any-IsPermutation}
 use Rattle.nc_base.specs.declared.{fault.FormatFault.FormatFault, header.Header.Header}
@@ -31,6 +31,7 @@ unfoldable use Rattle.nc_report.specs.FieldRules.{field_findings, floating_findi
 unfoldable use Rattle.nc_report.specs.HeaderRules.{header_findings}
 use Rattle.nc_report.specs.WholeHeader.{vsize_findings, located, layout_facts, whole_findings}
 unfoldable use Rattle.nc_report.specs.Reports.{all_findings}
+use Rattle.nccheck_laws.specs.ReportLaws.{has_any}
 use Rattle.nccheck_laws.specs.FaultLaws.{is_missing, ReportsTellMissingValues}
 use Rattle.nccheck_laws.proofs.FaultFindings.{fault-fact, only, if-none}
 use Rattle.nccheck_laws.proofs.LayoutFacts.{all-located, is-read, whole-header, same-layout}
@@ -53,41 +54,24 @@ all-other fs plain k x lt = (plain k x lt).1
 
 -- ---- at fields alone
 
-other-number : (place : FieldName) (size n : ℕ) → All OtherFact (option_to_list (number_fact place size n))
-other-number name.NumRecs size n = if-none OtherFact _ _ refl
-other-number name.Length size n = if-none OtherFact _ _ refl
-other-number name.NameLength size n = if-none OtherFact _ _ refl
-other-number name.Rank size n = if-none OtherFact _ _ refl
-other-number place size n = All-nil OtherFact
+others : (fs : List Finding) → has_any is_layout fs ≡ false → All Other fs
+others [] none = All-nil Other
+others (f ∷ fs) none = All-cons Other f fs (grind arith) (others fs (grind arith))
 
-other-bytes : (place : FieldName) (bs : Bytes) → All OtherFact (option_to_list (bytes_fact place bs))
-other-bytes name.Name bs = if-none OtherFact _ _ refl
-other-bytes name.NamePadding bs = if-none OtherFact _ _ refl
-other-bytes name.Padding bs = if-none OtherFact _ _ refl
-other-bytes place bs = All-nil OtherFact
-
-other-form : (place : FieldName) (bs : Bytes) → All OtherFact (option_to_list (form_fact place bs))
-other-form name.Name bs = if-none OtherFact _ _ refl
-other-form place bs = All-nil OtherFact
-
-other-content : (place : FieldName) (size : ℕ) (c : Content) → All OtherFact (content_facts place size c)
-other-content place size (content.Number n) = other-number place size n
-other-content place size (content.Bytes bs) = All-append OtherFact _ _ (other-bytes place bs) (other-form place bs)
-other-content place size c = All-nil OtherFact
-
-other-facts : (o : Option FormatFault) (place : FieldName) (size : ℕ) (c : Content) → All OtherFact (facts_with o place size c)
-other-facts (Some fault) place size c = only OtherFact (fault_fact fault c) (fault-fact OtherFact fault c refl refl refl refl)
-other-facts None place size c = other-content place size c
+other-facts : (f : Indexed) (o : Option FormatFault) (place : FieldName) (size : ℕ) (c : Content)
+    → has_any is_layout (map (finding f) (facts_with o place size c)) ≡ false
+other-facts f (Some fault) place size c = fault-fact (λ x. has_any is_layout (finding f x ∷ []) ≡ false) fault c refl refl refl refl
+other-facts f None place size (content.Number n) = grind arith
+other-facts f None place size (content.Bytes bs) = grind arith
+other-facts f None place size c = refl
 
 other-fields : (i : ℕ) (es : List Entry) → All Other (flat_map findings_at (indexed_from i es))
 other-fields i [] = All-nil Other
 other-fields i (e ∷ es) =
-    All-append Other _ _
-    (All-map Other (finding (field_at i e)) (facts_of e) (other-facts e.fault e.place.name e.size e.content))
-    (other-fields (i + 1) es)
+    All-append Other _ _ (others _ (other-facts (field_at i e) e.fault e.place.name e.size e.content)) (other-fields (i + 1) es)
 
 other-floating : (o : Option Indexed) → All Other (option_to_list (option_map (λ f. finding f (fact.Fault FloatingType)) o))
-other-floating (Some f) = only Other (finding f (fact.Fault FloatingType)) refl
+other-floating (Some f) = others (finding f (fact.Fault FloatingType) ∷ []) refl
 other-floating None = All-nil Other
 
 pub other-header : (es : List Entry) → All Other (header_findings es)
@@ -103,8 +87,7 @@ other-header es =
 -- ---- about the layout
 
 not-missing : (x : Fact) → OtherFact x → is_missing x ≡ false
-not-missing (fact.Layout x) other = absurd (false≢true (sym other))
-not-missing x other = refl
+not-missing x other = grind arith
 
 -- what comes after findings of other facts
 after-others : (xs ys : List Finding) → All Other xs → list_any tells_missing (xs ++ ys) ≡ list_any tells_missing ys

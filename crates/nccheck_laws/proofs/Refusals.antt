@@ -53,19 +53,13 @@ others-same : (len : ℕ) (f : Field) (fs : List Field) (e : Entry) (es : List E
 others-same len f fs e es is = cc
 
 -- none is refused
-none-of : (f : Field) (o : Option FormatFault) (others : Option (FormatFault × Bytes)) → first_of f o others ≡ None
-    → (o ≡ None) × (others ≡ None)
-none-of f (Some fault) others is = absurd cc
-none-of f None others is = (refl, is)
-
 pub none-refused : (len : ℕ) (fs : List Field) (es : List Entry) → AreEntriesOf len fs es → first_refusal fs ≡ None
     → All (λ (e : Entry). refusal_of e ≡ None) es
 none-refused len fs [] is none = All-nil (λ (e : Entry). refusal_of e ≡ None)
 none-refused len [] (e ∷ es) is none = absurd cc
 none-refused len (f ∷ fs) (e ∷ es) is none =
-    let both = none-of f (refusal f) (first_refusal fs) none in
-    All-cons (λ (e : Entry). refusal_of e ≡ None) e es (same-refusal len f e (first-same len f fs e es is) ∙ both.0)
-    (none-refused len fs es (others-same len f fs e es is) both.1)
+    All-cons (λ (e : Entry). refusal_of e ≡ None) e es (let same = same-refusal len f e (first-same len f fs e es is) in grind arith)
+    (none-refused len fs es (others-same len f fs e es is) (grind arith))
 
 -- entries after a field begin after it
 later : (len top bottom : ℕ) (fs : List Field) (es : List Entry) → AreEntriesOf len fs es → Descend top bottom fs
@@ -96,40 +90,11 @@ pub record FirstRefused (len : ℕ) (es : List Entry) (fault : FormatFault) (res
   pub after : All (λ (e : Entry). entry.offset ≤ e.offset) back
   pub ends : Ends len entry rest
 
-one-more : {len : ℕ} {es : List Entry} {fault : FormatFault} {rest : Bytes} (e : Entry) → refusal_of e ≡ None
-    → FirstRefused len es fault rest → FirstRefused len (e ∷ es) fault rest
-one-more e none r = record {
-  front = e ∷ r.front;
-  entry = r.entry;
-  back = r.back;
-  is = ap (λ es. e ∷ es) r.is;
-  before = All-cons (λ (e : Entry). refusal_of e ≡ None) e r.front none r.before;
-  refused = r.refused;
-  after = r.after;
-  ends = r.ends;
-}
-
-here : {len : ℕ} {fault : FormatFault} {rest : Bytes} (e : Entry) (es : List Entry) → refusal_of e ≡ Some fault
-    → All (λ (x : Entry). e.offset ≤ x.offset) es → Ends len e rest → FirstRefused len (e ∷ es) fault rest
-here e es refused after ends = record {
-  front = [];
-  entry = e;
-  back = es;
-  is = refl;
-  before = All-nil (λ (e : Entry). refusal_of e ≡ None);
-  refused = refused;
-  after = after;
-  ends = ends;
-}
-
-same-size : (len : ℕ) (f : Field) (e : Entry) → seen_by e ≡ seen len f → e.size ≡ f.size
-unfolding seen
-same-size len f e is = ap (λ (s : Seen). s.size) is
-
 ends-at : (len : ℕ) (f : Field) (e : Entry) → seen_by e ≡ seen len f → length f.start ≤ len → Ends len e (drop f.size f.start)
+unfolding seen
 ends-at len f e is within =
     let offset = same-offset len f e is in
-    let size = same-size len f e is in
+    let size = ap (λ (s : Seen). s.size) is in
     record { within = omega (arith, offset); left = omega (arith, offset, size, within, length-drop f.size f.start) }
 
 by-refusal : (len : ℕ) (f : Field) (e : Entry) (es : List Entry) (fault : FormatFault) (rest : Bytes) (o : Option FormatFault)
@@ -138,9 +103,28 @@ by-refusal : (len : ℕ) (f : Field) (e : Entry) (es : List Entry) (fault : Form
     → (others ≡ Some (fault, rest) → FirstRefused len es fault rest) → FirstRefused len (e ∷ es) fault rest
 by-refusal len f e es fault rest (Some found) others is refused after ends go =
     let pair : (found, drop f.size f.start) ≡ (fault, rest) = cc in
-    here e es (is ∙ ap (λ (p : FormatFault × Bytes). Some (p.0)) pair) after
-    (subst (Ends len e) (ap (λ (p : FormatFault × Bytes). p.1) pair) ends)
-by-refusal len f e es fault rest None others is refused after ends go = one-more e is (go refused)
+    record {
+      front = [];
+      entry = e;
+      back = es;
+      is = refl;
+      before = All-nil (λ (e : Entry). refusal_of e ≡ None);
+      refused = is ∙ ap (λ (p : FormatFault × Bytes). Some p.0) pair;
+      after = after;
+      ends = subst (Ends len e) (ap (λ (p : FormatFault × Bytes). p.1) pair) ends;
+    }
+by-refusal len f e es fault rest None others is refused after ends go =
+    let r = go refused in
+    record {
+      front = e ∷ r.front;
+      entry = r.entry;
+      back = r.back;
+      is = ap (λ es. e ∷ es) r.is;
+      before = All-cons (λ (e : Entry). refusal_of e ≡ None) e r.front is r.before;
+      refused = r.refused;
+      after = r.after;
+      ends = r.ends;
+    }
 
 pub first-refused : (len top bottom : ℕ) (fs : List Field) (es : List Entry) (fault : FormatFault) (rest : Bytes) → AreEntriesOf len fs es
     → top ≤ len → Descend top bottom fs → first_refusal fs ≡ Some (fault, rest) → FirstRefused len es fault rest
