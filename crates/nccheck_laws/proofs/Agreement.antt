@@ -9,7 +9,7 @@ unfoldable use Rattle.nc_base.specs.code.PartRuns.{run}
 use Rattle.nc_fields.specs.Fields.{Field}
 unfoldable use Rattle.nc_fields.specs.Fields.{fields}
 unfoldable use Rattle.nc_base.specs.Grammar.{each}
-use Rattle.nccheck_laws.specs.Agreement.{refusal_in, refusal, first_refusal}
+use Rattle.nccheck_laws.specs.Agreement.{refusal_in, first_refusal}
 use Rattle.nc_fields.specs.Entries.{whole_content}
 use Rattle.nc_fields.proofs.Checks.{fault_in}
 use Rattle.nccheck_laws.proofs.Leaves.{is_leaf, leaf_size, leaf_cut, judge, read_bytes, leaf-run, leaf-field}

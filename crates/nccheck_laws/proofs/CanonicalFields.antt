@@ -22,8 +22,8 @@ use Rattle.nc_fields.proofs.Numbers.{number-in_count}
 use Rattle.nccheck_laws.specs.Agreement.{header_fields}
 use Rattle.nccheck_laws.specs.Written.{bytes_of, number_of, IsWrittenVsize, IsWritten, AreWritten, CanonicalFieldsAreWritten}
 use Rattle.nccheck_laws.proofs.StrictHeaders.{strict-fields}
-use Rattle.nccheck_laws.proofs.Written.{whole_field, at-start, bytes-fields, decoded-fields, chain-fields, tested-field}
-use Rattle.nccheck_laws.proofs.WrittenParts.{passed, count-field}
+use Rattle.nccheck_laws.proofs.Written.{whole_field, at-start, bytes-fields, decoded-fields, chain-fields}
+use Rattle.nccheck_laws.proofs.WrittenParts.{elements-leaf}
 
 -- ---- fields that are as they are written
 
@@ -127,16 +127,14 @@ count_after v found = under Count (checked (λ n. not (found == 0) || (n == 0)) 
 -- the tag of a list
 tag-shown : (h : Header) (v : Version) (tag n : ℕ) (steps : List Step) → tag < 256 ^ 4
     → Shows h (BeginWith steps (count_after v (tag_of tag n)) n) (Tag ∷ steps) 4 (to_be_bytes w32 (tag_of tag n))
-unfolding Spells fields
+unfolding Spells fields limited_part number
 tag-shown h v tag n steps fits f after next size is =
     let found = tag_of tag n in
-    let (k, c, e) = next.spelled in
-    let count = tested-field (Count ∷ steps) (count_width v) (λ n. not (found == 0) || (n == 0)) BadCount (count_part v) next.from k n
-    next.rest c e (passed (not (found == 0) || (k == 0)) BadCount e).1 (count-field (Count ∷ steps) v next.from k next.rest c) in
+    let count = elements-leaf (Count ∷ steps) v found next.from n next.rest next.spelled in
     let own : number_of f ≡ found =
     ap (λ size. number_in size (bytes_of f)) size ∙ ap (from_be_bytes w32) is ∙ wide-32.again found (tag-fits tag n fits) in
     let counted : number_of (whole_field (Count ∷ steps) next.from (byte_len (count_width v))) ≡ n =
-    number-in_count v (take (byte_len (count_width v)) next.from) ∙ count.is in
+    number-in_count v (take (byte_len (count_width v)) next.from) ∙ (let same = count.is in grind arith) in
     grind (arith, tag-kept)
 
 -- the vsize of the variable at this index

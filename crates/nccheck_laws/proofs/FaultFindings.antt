@@ -10,7 +10,6 @@ use Rattle.nc_base.specs.Names.{is_name}
 use Rattle.nc_fields.specs.declared.{entry.Entry.Entry, entry.Content.Content, place.FieldName.FieldName, place.Owner.Owner}
 use Rattle.nc_fields.specs.declared.entry.Content.TheVariants as content
 use Rattle.nc_fields.specs.declared.place.FieldName.TheVariants as name
-use Rattle.nc_fields.specs.declared.place.Owner.TheVariants as owner
 use Rattle.nc_base.specs.Parts.{Length}
 use Rattle.std.specs.Str.{bytes_eq}
 use Rattle.nc_fields.specs.Entries.{hdf5_signature, name_steps, owner_steps}

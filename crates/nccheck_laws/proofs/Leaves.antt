@@ -1,12 +1,14 @@
 -- Parts that are one field: a number of bytes, whose value is decoded.
-use Rattle.std.proofs.Common.{◌≡◌, ℕ, Bool, true, false, cond, leb, [], length, take, drop, Result, Ok, Err, refl, ap, ◌∙◌, arith}
+use Rattle.std.proofs.Common.{◌≡◌, ℕ, Bool, true, false, cond, leb, List, [], ◌∷◌, length, take, drop, None, Result, Ok, Err, refl, sym, ap, ◌∙◌, arith}
 use Rattle.nc_base.specs.declared.fault.FormatFault.{FormatFault}
 use Rattle.nc_base.specs.declared.fault.FormatFault.TheVariants.{HeaderTruncated}
 use Rattle.nc_base.specs.Bytes.{Bytes}
-use Rattle.nc_base.specs.Parts.{Part, done, bytes, decoded, under, chain}
+use Rattle.nc_base.specs.Parts.{Step, Part, done, bytes, decoded, under, chain, Spells}
 use Rattle.nc_base.specs.code.PartRuns.{Outcome, and_then, with_rest}
 unfoldable use Rattle.nc_base.specs.code.PartRuns.{run}
-use Rattle.nc_fields.proofs.Checks.{IsField, bytes-field, decoded-field}
+use Rattle.nc_base.proofs.PartOutcomes.{reads}
+use Rattle.nc_fields.specs.Fields.{fields}
+use Rattle.nc_fields.proofs.Checks.{IsField, fault_in, bytes-field, decoded-field}
 
 abbrev pub is_leaf : {A : Type 0} → Part A → Bool
 is_leaf (bytes n cut) = true
@@ -56,3 +58,20 @@ leaf-field (decoded decode encode p) leaf = decoded-field decode encode p (leaf_
 leaf-field (done x) leaf = absurd cc
 leaf-field (under step p) leaf = absurd cc
 leaf-field (chain get p next) leaf = absurd cc
+
+-- such a part that spells a value is one field without a fault, of whose bytes the value is made
+pub record IsLeafOf {A : Type 0} (steps : List Step) (p : Part A) (from : Bytes) (y : A) : Type 0 where
+  pub listed : fields steps p from ≡ record { steps = steps; start = from; size = leaf_size p; fault = None } ∷ []
+  pub is : judge p (take (leaf_size p) from) ≡ Ok y
+
+pub leaf-spelled : {A : Type 0} (steps : List Step) (p : Part A) (from : Bytes) (y : A) (rest : Bytes) → is_leaf p ≡ true → Spells p from y rest
+    → IsLeafOf steps p from y
+leaf-spelled {A = A} steps p from y rest leaf s =
+    let read = reads p from y rest s in
+    record {
+      listed = leaf-field p leaf steps from ∙ ap (λ o. record { steps = steps; start = from; size = leaf_size p; fault = fault_in o } ∷ []) read;
+      is = by-test (leb (leaf_size p) (length from)) (judge p (take (leaf_size p) from)) (sym (leaf-run p from leaf) ∙ read);
+    }
+  where
+    by-test : (b : Bool) (x : Result A FormatFault) → read_bytes b (drop (leaf_size p) from) (leaf_cut p) x ≡ Ok (y, rest) → x ≡ Ok y
+    by-test b x e = grind arith

@@ -2,18 +2,15 @@
 use Rattle.std.proofs.Common.{arith, ◌≡◌, ℕ, ◌+◌, ◌||◌, Bool, false, List, [], ◌∷◌, ◌++◌, length, map, flat_map, find, Option, Some, None, Ok, refl, sym, ap, ◌∙◌, subst}
 use Rattle.std.specs.List.{All, list_any}
 use Rattle.std.specs.Option.{option_to_list, option_map}
-use Rattle.std.proofs.lemmas.Bool.{false≢true}
 use Rattle.std.proofs.lemmas.List.Elements.{All-nil, All-cons, All-append}
 use Rattle.std.proofs.lemmas.List.Folds.{list_any-append, list_any_none}
 use Rattle.std.proofs.lemmas.List.Sorted.{list_any-IsPermutation}
 use Rattle.nc_base.specs.declared.{fault.FormatFault.FormatFault, header.Header.Header}
 use Rattle.nc_base.specs.declared.fault.FormatFault.TheVariants.{FloatingType}
-use Rattle.nc_base.specs.Bytes.{Bytes}
 use Rattle.nc_base.specs.Grammar.{strict, header_by}
 use Rattle.nc_base.proofs.PartOutcomes.{reads}
 use Rattle.nc_fields.specs.declared.{entry.Entry.Entry, entry.Content.Content, place.FieldName.FieldName, header.Listing.Listing}
 use Rattle.nc_fields.specs.declared.entry.Content.TheVariants as content
-use Rattle.nc_fields.specs.declared.place.FieldName.TheVariants as name
 use Rattle.nc_fields.specs.Lenient.{lenient}
 use Rattle.nccheck_laws.specs.Agreement.{without_values}
 use Rattle.nccheck_laws.proofs.StrictHeaders.{strict-headers}
@@ -26,14 +23,14 @@ use Rattle.nc_layout.proofs.SpelledLayouts.{spelled-layout}
 use Rattle.nc_report.specs.declared.{finding.Fact.Fact, finding.Finding.Finding}
 use Rattle.nc_report.specs.declared.finding.Fact.TheVariants as fact
 use Rattle.nc_report.specs.Indexed.{Indexed, field_at, indexed_from, indexed, finding}
-use Rattle.nc_report.specs.FieldRules.{fault_fact, number_fact, bytes_fact, form_fact, content_facts, facts_with, facts_of, findings_at, is_floating}
+use Rattle.nc_report.specs.FieldRules.{facts_with, findings_at, is_floating}
 unfoldable use Rattle.nc_report.specs.FieldRules.{field_findings, floating_findings}
 unfoldable use Rattle.nc_report.specs.HeaderRules.{header_findings}
 use Rattle.nc_report.specs.WholeHeader.{vsize_findings, located, layout_facts, whole_findings}
 unfoldable use Rattle.nc_report.specs.Reports.{all_findings}
 use Rattle.nccheck_laws.specs.ReportLaws.{has_any}
 use Rattle.nccheck_laws.specs.FaultLaws.{is_missing, ReportsTellMissingValues}
-use Rattle.nccheck_laws.proofs.FaultFindings.{fault-fact, only, if-none}
+use Rattle.nccheck_laws.proofs.FaultFindings.{fault-fact}
 use Rattle.nccheck_laws.proofs.LayoutFacts.{all-located, is-read, whole-header, same-layout}
 use Rattle.nccheck_laws.proofs.QuietRules.{is_layout, Plain, plain-names, plain-attributes, plain-vsizes}
 

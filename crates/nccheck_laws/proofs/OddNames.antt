@@ -1,11 +1,10 @@
 -- A valid name may be a name by the lenient rules.
-use Rattle.std.proofs.Common.{◌≡◌, ℕ, ◌==◌, ◌&&◌, not, Bool, true, [], ◌∷◌, length, take, drop, take_while, nat_lt, refl, arith}
+use Rattle.std.proofs.Common.{◌≡◌, ℕ, ◌==◌, ◌&&◌, not, Bool, true, [], ◌∷◌, length, take_while, nat_lt, refl, arith}
 use Rattle.std.specs.List.{list_all}
 use Rattle.std.proofs.lemmas.List.Sums.{take_while-cons}
 use Rattle.std.proofs.lemmas.Grind.{common_steps}
 use Rattle.nc_base.specs.Bytes.{Bytes}
-use Rattle.nc_base.specs.Names.{is_name, has_name_bytes, may_begin_name, may_follow_in_name, ends_with_space}
-use Rattle.std.specs.Str.{is_utf8}
+use Rattle.nc_base.specs.Names.{is_name, may_begin_name, may_follow_in_name}
 use Rattle.nc_fields.specs.Lenient.{may_be_name, is_no_control}
 
 abbrev is_printing : Bytes → Bool

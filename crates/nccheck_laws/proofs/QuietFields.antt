@@ -73,10 +73,7 @@ after-shows tag f k (g ∷ after) e = count-shows tag (steps_of g.place) f k g.o
 
 tag-shows : (steps : List Step) (f : Indexed) (c : Content) (k : ℕ) (after : List Entry)
     → AreOther (option_to_list (empty_list f c (next_number is_field (indexed_from k after)))) → Shows (Tag ∷ steps) c (map seen_by after)
-tag-shows steps f (content.Number tag) k after e = after-shows tag f k after e
-tag-shows steps f (content.Bytes bs) k after e = tt
-tag-shows steps f (content.Values b) k after e = tt
-tag-shows steps f content.Cut k after e = tt
+tag-shows steps f v2 k after e = grind (arith, after-shows)
 
 filling-shows : (steps : List Step) (place : FieldName) (size : ℕ) (f : Indexed) (c : Content) (after : List Seen)
     → ((bs : Bytes) → AreOther (map (finding f) (content_facts place size (content.Bytes bs))) → has_nonzero bs ≡ false)

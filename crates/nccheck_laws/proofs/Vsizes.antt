@@ -12,7 +12,8 @@ use Rattle.nc_base.specs.Grammar.{Rules, dimension_tag, dim_after, dimid_after, 
 unfoldable use Rattle.nc_base.specs.Grammar.{number, limited_part, offset_part, ignored, name_part, type_part, each, counted, list_head, list_part, dim_part, dim_list, att_part, att_list, dimid_part, shape_part, var_part, var_list, version_part, magic_part, numrecs_part, header_by}
 use Rattle.nc_fields.specs.Fields.{Field, fields}
 use Rattle.nccheck_laws.specs.Written.{number_of, IsWrittenVsize}
-use Rattle.nccheck_laws.proofs.Written.{whole_field, bytes-fields, decoded-fields, chain-fields, number-field}
+use Rattle.nccheck_laws.proofs.Written.{whole_field, bytes-fields, decoded-fields, chain-fields}
+use Rattle.nccheck_laws.proofs.Leaves.{leaf-spelled}
 
 -- ---- whole fields
 
@@ -144,7 +145,8 @@ AreNumbered i (f ∷ fs) = IsVsizeOf i f × AreNumbered (i + 1) fs
 
 vsize-field : (v : Version) (steps : List Step) (from : Bytes) (n : ℕ) (rest : Bytes) → Spells (number (count_width v)) from n rest
     → Vsizes (Vsize ∷ steps) (number (count_width v)) from (whole_field (Vsize ∷ steps) from (byte_len (count_width v)) ∷ [])
-vsize-field v steps from n rest s = grind (arith, number-field)
+unfolding number
+vsize-field v steps from n rest s = let f = leaf-spelled (Vsize ∷ steps) (number (count_width v)) from n rest refl s in grind arith
 
 -- a part with one size of a variable
 record OneVsize {A : Type 0} (i : ℕ) (p : Part A) (from : Bytes) : Type 0 where

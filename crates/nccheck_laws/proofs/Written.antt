@@ -1,15 +1,13 @@
 -- Parts whose fields are as they are written: the bytes are what is written of the value.
 use Rattle.std.proofs.lemmas.Grind.{common_steps}
-use Rattle.std.proofs.Common.{◌≡◌, ℕ, suc, zero, Bool, List, [], ◌∷◌, ◌++◌, length, take, Option, Some, None, Result, Ok, Err, refl, sym, ap, ◌∙◌, subst, arith, append_assoc, if◌then◌else◌}
+use Rattle.std.proofs.Common.{◌≡◌, ℕ, suc, zero, List, [], ◌∷◌, ◌++◌, length, take, Option, Some, None, Result, Ok, refl, sym, ap, ◌∙◌, subst, arith, append_assoc}
 use Rattle.std.proofs.Math.Seq.{take-append_seam}
 use Rattle.std.specs.Int.{Width, w32, w64, byte_len, to_be_bytes, from_be_bytes}
 use Rattle.nc_base.proofs.Prelude.{be_bytes_4, be_bytes_8}
 use Rattle.nc_base.specs.declared.{header.Header.Header, version.Version.Version, fault.FormatFault.FormatFault}
-use Rattle.nc_base.specs.declared.fault.FormatFault.TheVariants.{HeaderTruncated}
 use Rattle.nc_base.specs.Bytes.{Bytes, AreBytes}
 use Rattle.nc_base.specs.Parts.{Step, Part, done, bytes, decoded, under, chain, Spells, print, Padding}
 use Rattle.nc_base.specs.Versions.{count_width, offset_width}
-use Rattle.nc_base.specs.Grammar.{checked}
 unfoldable use Rattle.nc_base.specs.Grammar.{number, ignored}
 use Rattle.nc_base.proofs.PartOutcomes.{reads}
 use Rattle.nc_fields.specs.Fields.{Field, fields}
@@ -133,24 +131,3 @@ pub kept-ignored : (h : Header) (steps : List Step) (n : ℕ) (from : Bytes) (u 
 unfolding Spells fields ignored
 kept-ignored h steps n from u rest content (count, is) e =
     (tt, λ are written. sym (sym (at-start content rest n count) ∙ ap (take n) (sym is) ∙ written.0))
-
--- a part that is one field of this number
-pub record IsNumberField {A : Type 0} (steps : List Step) (p : Part A) (w : Width) (from : Bytes) (n : ℕ) : Type 0 where
-  pub listed : fields steps p from ≡ whole_field steps from (byte_len w) ∷ []
-  pub is : from_be_bytes w (take (byte_len w) from) ≡ n
-
-pub number-field : (steps : List Step) (w : Width) (from : Bytes) (n : ℕ) (rest : Bytes) → Spells (number w) from n rest
-    → IsNumberField steps (number w) w from n
-unfolding Spells number
-number-field steps w from n rest (digits, (count, is), e) = record {
-  listed =
-      decoded-fields steps (λ digits. Ok (from_be_bytes w digits)) (to_be_bytes w) (bytes (byte_len w) HeaderTruncated) from digits n rest
-      (count, is) e
-      ∙ bytes-fields steps (byte_len w) HeaderTruncated from digits rest count is;
-  is = ap (λ bs. from_be_bytes w (take (byte_len w) bs)) is ∙ ap (from_be_bytes w) (at-start digits rest (byte_len w) count) ∙ ok-same e;
-}
-
-pub tested-field : (steps : List Step) (w : Width) (test : ℕ → Bool) (fault : FormatFault) (p : Part ℕ) (from : Bytes) (x y : ℕ)
-    (rest : Bytes) → Spells p from x rest → (if test x then Ok x else Err fault) ≡ Ok y → x ≡ y → IsNumberField steps p w from x
-    → IsNumberField steps (checked test fault p) w from y
-tested-field steps w test fault p from x y rest s e same f = grind (arith, decoded-fields)

@@ -1,7 +1,7 @@
 -- The parts of a header whose fields are as they are written: their bytes are what is written of their values.
 use Rattle.std.proofs.lemmas.Bool.Decides.{nat_tests}
 use Rattle.std.proofs.lemmas.Grind.{common_steps}
-use Rattle.std.proofs.Common.{◌≡◌, ℕ, suc, zero, ◌==◌, ◌||◌, ◌&&◌, not, Bool, true, false, List, [], ◌∷◌, ◌++◌, length, drop, Some, Result, Ok, Err, refl, sym, ap, ◌∙◌, subst, arith, append_assoc, append-nil, nat_lt, codes, if◌then◌else◌, slice_get, eqb-true}
+use Rattle.std.proofs.Common.{◌≡◌, ℕ, suc, zero, ◌==◌, ◌||◌, ◌&&◌, not, Bool, true, false, List, [], ◌∷◌, ◌++◌, length, drop, Some, Result, Ok, Err, refl, sym, ap, ◌∙◌, subst, arith, append_assoc, append-nil, codes, if◌then◌else◌, slice_get, eqb-true}
 use Rattle.std.proofs.lemmas.Slice.Eq.{bytes_eq-Decides}
 use Rattle.std.proofs.Math.Seq.{drop-append_seam}
 use Rattle.std.specs.Int.{w32}
@@ -20,7 +20,8 @@ unfoldable use Rattle.nc_base.specs.Grammar.{number, limited_part, offset_part, 
 use Rattle.nc_fields.specs.Fields.{Field, fields}
 use Rattle.nccheck_laws.specs.Written.{AreWritten, WrittenFieldsAreCanonical}
 use Rattle.nccheck_laws.proofs.StrictHeaders.{strict-fields}
-use Rattle.nccheck_laws.proofs.Written.{IsKept, kept, is-width-32, is-width-count, is-width-offset, kept-number, kept-ignored, IsNumberField, number-field, tested-field}
+use Rattle.nccheck_laws.proofs.Written.{IsKept, kept, is-width-32, is-width-count, is-width-offset, kept-number, kept-ignored}
+use Rattle.nccheck_laws.proofs.Leaves.{IsLeafOf, leaf-spelled}
 
 -- ---- values that pass a test
 
@@ -87,42 +88,45 @@ kept-each h steps element (suc n) before from all rest go = λ x middle s t.
       λ w. ap (λ ys. first (drop (length before) ys)) whole ∙ ap first (drop-append_seam before (x ∷ j.xs)),
     )
 
+abbrev tag_part : ℕ → Part ℕ
+tag_part tag = checked (λ t. (t == 0) || (t == tag)) BadTag (number w32)
+
+tag-leaf : (steps : List Step) (tag : ℕ) (from : Bytes) (n : ℕ) (rest : Bytes) → Spells (tag_part tag) from n rest
+    → IsLeafOf steps (tag_part tag) from n
+unfolding number
+tag-leaf steps tag from n rest s = leaf-spelled steps (tag_part tag) from n rest refl s
+
+-- the number of elements after this tag
+abbrev pub elements_part : Version → ℕ → Part ℕ
+elements_part v found = checked (λ n. not (found == 0) || (n == 0)) BadCount (count_part v)
+
+pub elements-leaf : (steps : List Step) (v : Version) (found : ℕ) (from : Bytes) (n : ℕ) (rest : Bytes)
+    → Spells (elements_part v found) from n rest → IsLeafOf steps (elements_part v found) from n
+unfolding limited_part number
+elements-leaf steps v found from n rest s = leaf-spelled steps (elements_part v found) from n rest refl s
+
 -- a list's tag, if it isn't the list's own before a number of 0
 written-tag : (tag found n : ℕ) → ((found == 0) || (found == tag)) ≡ true → (not (found == 0) || (n == 0)) ≡ true
     → (not (found == 0) && (n == 0)) ≡ false → (if n == 0 then 0 else tag) ≡ found
 written-tag tag found n known none own = grind (arith, eqb-true)
 
--- the field of a count
-pub count-field : (steps : List Step) (v : Version) (from : Bytes) (n : ℕ) (rest : Bytes) → Spells (count_part v) from n rest
-    → IsNumberField steps (count_part v) (count_width v) from n
-unfolding Spells limited_part
-count-field steps v from n rest (k, s, e) =
-    tested-field steps (count_width v) (λ n. nat_lt n (count_limit v)) BadCount (number (count_width v)) from k n rest s e
-    (passed (nat_lt k (count_limit v)) BadCount e).1
-    (number-field steps (count_width v) from k rest s)
-
--- the numbers of a list's tag and its count
-tag-numbers : (h : Header) (steps : List Step) (v : Version) {p q : Part ℕ} {from middle : Bytes} {found n : ℕ}
-    → IsNumberField (Tag ∷ steps) p w32 from found → IsNumberField (Count ∷ steps) q (count_width v) middle n
-    → AreWritten h (fields (Tag ∷ steps) p from ++ fields (Count ∷ steps) q middle) → (not (found == 0) && (n == 0)) ≡ false
-tag-numbers h steps v {p = p} {q = q} {from = from} {middle = middle} {n = n} a b w = grind arith
+-- what is written of a list's tag is the tag that is there
+tag-written : (h : Header) (steps : List Step) (v : Version) (tag : ℕ) (from middle : Bytes) (found n : ℕ)
+    → IsLeafOf (Tag ∷ steps) (tag_part tag) from found → IsLeafOf (Count ∷ steps) (elements_part v found) middle n
+    → AreWritten h (fields (Tag ∷ steps) (tag_part tag) from ++ fields (Count ∷ steps) (elements_part v found) middle)
+    → (if n == 0 then 0 else tag) ≡ found
+unfolding limited_part number
+tag-written h steps v tag from middle found n a b w = grind (arith, written-tag)
 
 kept-head : (h : Header) (steps : List Step) (v : Version) (tag : ℕ) (from : Bytes) (n : ℕ) (rest : Bytes)
     → IsKept h steps (list_head v tag) from n rest
 unfolding Spells list_head fields
-kept-head h steps v tag from n rest found m (k, s, e) (j, c, d) =
-    let p = passed ((k == 0) || (k == tag)) BadTag e in
-    let q = passed (not (found == 0) || (j == 0)) BadCount d in
-    let known = subst (λ k. ((k == 0) || (k == tag)) ≡ true) p.1 p.0 in
-    let none = subst (λ j. (not (found == 0) || (j == 0)) ≡ true) q.1 q.0 in
-    let a = tested-field (Tag ∷ steps) w32 (λ t. (t == 0) || (t == tag)) BadTag (number w32) from k found m s e p.1
-    (number-field (Tag ∷ steps) w32 from k m s) in
-    let b = tested-field (Count ∷ steps) (count_width v) (λ n. not (found == 0) || (n == 0)) BadCount (count_part v) m j n rest c d q.1
-    (count-field (Count ∷ steps) v m j rest c) in (
-      grind (arith, kept-checked, kept-number, is-width-32),
-      grind (arith, kept-checked, kept-limited),
-      λ w. ap Some (written-tag tag found n known none (tag-numbers h steps v a b w)),
-    )
+kept-head h steps v tag from n rest found m s t = (
+  grind (arith, kept-checked, kept-number, is-width-32),
+  grind (arith, kept-checked, kept-limited),
+  λ w. ap Some (tag-written h steps v tag from m found n (tag-leaf (Tag ∷ steps) tag from found m s)
+      (elements-leaf (Count ∷ steps) v found m n rest t) w),
+)
 
 kept-list : {A : Type 0} (h : Header) (steps : List Step) (v : Version) (tag : ℕ) (element : List A → Part A) (from : Bytes) (all : List A)
     (rest : Bytes) → KeepsEach h steps element all → IsKept h steps (list_part v tag element) from all rest
@@ -158,9 +162,9 @@ vsize-written : (h : Header) (i : ℕ) (steps : List Step) (from : Bytes) (vsize
     → slice_get h.vars i ≡ Some var → Spells (number (count_width h.version)) from vsize rest
     → AreWritten h (fields (Item i ∷ steps) (under Vsize (number (count_width h.version))) from ++ more)
     → vsize_of h.version (padded_size h.dims var) ≡ vsize
-unfolding fields
+unfolding fields number
 vsize-written h i steps from vsize rest more var there s w =
-    let f = number-field (Vsize ∷ Item i ∷ steps) (count_width h.version) from vsize rest s in grind arith
+    let f = leaf-spelled (Vsize ∷ Item i ∷ steps) (number (count_width h.version)) from vsize rest refl s in grind arith
 
 -- the variable after those before
 var-there : (before : List Var) (var : Var) (back : List Var) → slice_get (before ++ var ∷ back) (length before) ≡ Some var
