@@ -20,17 +20,19 @@ use Rattle.nccheck_laws.specs.Agreement.{header_fields, without_values, var_with
 use Rattle.nccheck_laws.specs.Written.{number_of, IsWrittenVsize}
 use Rattle.nccheck_laws.proofs.StrictHeaders.{strict-headers}
 use Rattle.nccheck_laws.proofs.WrittenParts.{written-fields}
-use Rattle.nccheck_laws.proofs.Vsizes.{AreWhole, spelled-whole, is_vsize_at, vsizes, AreNumbered, header-numbered, numbered-written}
+use Rattle.nccheck_laws.proofs.Vsizes.{AreWhole, AreSizes, spelled-whole, is_vsize_at, vsizes, AreNumbered, header-numbered, numbered-written}
 use Rattle.nc_layout.specs.declared.slot.{Slot.Slot}
 use Rattle.nc_layout.specs.Slots.{padded_slab}
 use Rattle.nc_layout.specs.Blocks.{each_slot}
 use Rattle.nc_layout.specs.HeaderLayout.{slot_of, layout_of}
 use Rattle.nccheck_laws.proofs.FirstFaults.{faultless}
+use Rattle.nccheck_laws.proofs.LayoutFacts.{is-read, whole-header, same-layout}
 use Rattle.nc_report.specs.declared.{finding.Finding.Finding}
 use Rattle.nc_report.specs.Indexed.{Indexed, indexed_from, indexed}
 unfoldable use Rattle.nc_report.specs.HeaderRules.{header_findings}
-use Rattle.nc_report.specs.WholeHeader.{is_vsize, named, vsize_finding}
-unfoldable use Rattle.nc_report.specs.WholeHeader.{vsize_findings, whole_findings}
+use Rattle.nc_report.specs.WholeHeader.{is_vsize, named, vsize_finding, located, whole_findings}
+use Rattle.nc_layout.specs.Findings.{layout_findings}
+unfoldable use Rattle.nc_report.specs.WholeHeader.{vsize_findings}
 unfoldable use Rattle.nc_report.specs.Reports.{all_findings}
 use Rattle.nccheck_laws.specs.ReportLaws.{is_of_spelling, QuietSpellingsAreCanonical, QuietHeadersAreCanonical}
 use Rattle.nccheck_laws.proofs.QuietFields.{AreOther, both-other, AreQuiet, quiet-entries, quiet-written, seen-content}
@@ -54,17 +56,6 @@ named-seen len k (e ∷ es) (f ∷ fs) same =
     same-kind e.place.name e.place.owner ∙ ap (λ (s : Seen). is_vsize_at s.steps) first in
     grind (arith, named-seen len (k + 1) es fs rest)
 
--- ---- what is found at them
-
-slots-other : (find : ℕ → Slot → List Finding) (dims : List Dim) (vars : List Var) (k i : ℕ)
-    → AreOther (each_slot find k (map (slot_of dims) vars))
-    → IfSome (slice_get vars i) (λ (var : Var). AreOther (find (k + i) (slot_of dims var)))
-slots-other find dims [] k i e = tt
-slots-other find dims (var ∷ vars) k zero e = grind (arith, both-other)
-slots-other find dims (var ∷ vars) k (suc i) e = grind (arith, slots-other find dims vars (k + 1) i (both-other (find k (slot_of dims var)) (each_slot find (k + 1) (map (slot_of dims) vars)) e).1, AreOther, both-other)
-
--- ---- the sizes of variables
-
 -- one of these fields, among the entries
 pick : (len i : ℕ) (entries : List Indexed) (fs : List Field) (f : Field)
     → map (λ (x : Indexed). seen_by x.entry) entries ≡ map (seen len) fs → slice_get fs i ≡ Some f
@@ -87,57 +78,47 @@ size-number len k i [] f w at there = absurd cc
 size-number len k zero (g ∷ fs) f w at there = grind (arith, seen-content)
 size-number len k (suc i) (g ∷ fs) f w at there = size-number len (k + 1) i fs f w.1 at.1 there
 
-if-some : {A : Type 0} {P Q : A → Type 0} (o : Option A) → ((x : A) → P x → Q x) → IfSome o P → IfSome o Q
-if-some v0 go h = grind arith
-
-some-mapped : {A B : Type 0} (P : B → Type 0) (g : A → B) (o : Option A) → IfSome (option_map g o) P → IfSome o (λ x. P (g x))
-some-mapped v0 g v2 h = grind arith
-
 pub from-zero : (i : ℕ) → 0 + i ≡ i
 from-zero i = omega arith
 
--- what is found at the sizes of these variables
-sizes-other : (h : Header) (end len : ℕ) (entries : List Indexed)
-    → AreOther (vsize_findings (layout_of (without_values h) end len) entries) → (i : ℕ)
-    → IfSome (slice_get h.vars i) (λ (var : Var). AreOther
-    (option_to_list (vsize_finding h.version (padded_size h.dims var) (slice_get (named is_vsize entries) i))))
-unfolding vsize_findings
-sizes-other h end len entries other i =
-    let find : ℕ → Slot → List Finding = λ (i : ℕ) (slot : Slot).
-    option_to_list (vsize_finding h.version (padded_slab slot) (slice_get (named is_vsize entries) i)) in
-    some-mapped (λ (var : Var). AreOther (find i (slot_of h.dims var))) var_without_values (slice_get h.vars i)
-    (subst (λ (o : Option Var). IfSome o (λ (var : Var). AreOther (find i (slot_of h.dims var))))
-    (slice_get-map var_without_values h.vars i)
-    (subst (λ j. IfSome (slice_get (map var_without_values h.vars) i) (λ (var : Var). AreOther (find j (slot_of h.dims var)))) (from-zero i)
-    (slots-other find h.dims (map var_without_values h.vars) 0 i other)))
+slots-other : (find : ℕ → Slot → List Finding) (dims : List Dim) (vars : List Var) (k m i : ℕ) (var : Var)
+    → AreOther (each_slot find k (map (slot_of dims) vars)) → slice_get vars i ≡ Some var → m ≡ k + i → AreOther (find m (slot_of dims var))
+slots-other find dims [] k m i var e there at = absurd cc
+slots-other find dims (x ∷ vars) k m zero var e there at = grind (arith, both-other)
+slots-other find dims (x ∷ vars) k m (suc i) var e there at =
+    let more = slots-other find dims vars (k + 1) m i var in grind (arith, both-other)
 
 found-size : (v : Version) (padded : ℕ) (o : Option Indexed) (f : Indexed) (n : ℕ) → o ≡ Some f → f.entry.content ≡ content.Number n
     → AreOther (option_to_list (vsize_finding v padded o)) → n ≡ vsize_of v padded
 found-size v padded o f n is number other = grind arith
 
-size-at : (h : Header) (len i : ℕ) (entries : List Indexed) (fs : List Field)
+-- this size of a variable is as it is written, if nothing is found at it
+size-written : (h : Header) (end file_len len i : ℕ) (entries : List Indexed) (fs : List Field) (f : Field)
     → map (λ (x : Indexed). seen_by x.entry) (named is_vsize entries) ≡ map (seen len) fs → AreWhole fs → AreNumbered 0 fs
-    → IfSome (slice_get h.vars i) (λ (var : Var). AreOther
-    (option_to_list (vsize_finding h.version (padded_size h.dims var) (slice_get (named is_vsize entries) i))))
-    → (o : Option Field) → slice_get fs i ≡ o → IfSome o (λ (f : Field). IsWrittenVsize h i (number_of f))
-unfolding seen
-size-at h len i entries fs same w at other None there = tt
-size-at h len i entries fs same w at other (Some f) there =
-    let picked = pick len i (named is_vsize entries) fs f same there in
-    let number = ap (λ (s : Seen). s.content) picked.2 ∙ size-number len 0 i fs f w at there in
-    grind (arith, if-some, found-size)
+    → AreOther (vsize_findings (layout_of h end file_len) entries) → slice_get fs i ≡ Some f → IsWrittenVsize h i (number_of f)
+unfolding vsize_findings seen
+size-written h end file_len len i entries fs f same whole at other there = by-var (slice_get h.vars i) refl
+  where
+    by-var : (o : Option Var) → slice_get h.vars i ≡ o → IfSome o (λ (var : Var). number_of f ≡ vsize_of h.version (padded_size h.dims var))
+    by-var None is = tt
+    by-var (Some var) is =
+        let picked = pick len i (named is_vsize entries) fs f same there in
+        found-size h.version (padded_size h.dims var) (slice_get (named is_vsize entries) i) picked.0 (number_of f) picked.1
+        (ap (λ (s : Seen). s.content) picked.2 ∙ size-number len 0 i fs f whole at there)
+        (slots-other (λ i slot. option_to_list (vsize_finding h.version (padded_slab slot) (slice_get (named is_vsize entries) i))) h.dims h.vars
+        0 i i var other is (sym (from-zero i)))
+
+sizes-written : (h : Header) (end file_len len : ℕ) (entries : List Indexed) (fs : List Field)
+    → map (λ (x : Indexed). seen_by x.entry) (named is_vsize entries) ≡ map (seen len) fs → AreWhole fs → AreNumbered 0 fs
+    → AreOther (vsize_findings (layout_of h end file_len) entries) → AreSizes h 0 fs
+sizes-written h end file_len len entries fs same whole at other i = by-field (slice_get fs i) refl
+  where
+    by-field : (o : Option Field) → slice_get fs i ≡ o → IfSome o (λ (f : Field). IsWrittenVsize h (0 + i) (number_of f))
+    by-field None is = tt
+    by-field (Some f) is =
+        subst (λ j. IsWrittenVsize h j (number_of f)) (sym (from-zero i)) (size-written h end file_len len i entries fs f same whole at other is)
 
 -- ---- the whole
-
-whole-other : (l : Listing) (h : Header) → l.header ≡ Ok h → AreOther (whole_findings l)
-    → AreOther (vsize_findings (layout_of h l.end l.file_len) (indexed l.entries))
-unfolding whole_findings
-whole-other l h is other = grind (arith, common_steps)
-
-read-header : (from : Bytes) (h : Header) (rest end : Bytes) (o : Result Header FormatFault) → run (header_by lenient) from ≡ Ok (h, rest)
-    → IsOutcome from end o → o ≡ Ok h
-read-header from h rest end (Ok k) is told = grind (arith, reads)
-read-header from h rest end (Err fault) is told = grind (arith, stops)
 
 entries-quiet : (l : Listing) → AreOther (header_findings l.entries) → AreQuiet (map seen_by l.entries)
 unfolding header_findings
@@ -154,16 +135,16 @@ quiet-spellings from r h rest are report s quiet =
     let at = header-numbered lenient from k rest spelled in
     let other = both-other (header_findings l.entries) (whole_findings l)
     (list_any-IsPermutation (λ (f : Finding). is_of_spelling f.fact) (all_findings l) r.findings report.all ∙ quiet) in
-    let header =
-    read-header from k rest report.listing.rest l.header (reads (header_by lenient) from k rest spelled) report.listing.header in
-    let sizes = sizes-other h l.end l.file_len (indexed l.entries) (whole-other l k header other.1) in
+    let read = is-read from report.listing.rest l.header k rest report.listing.header (reads (header_by lenient) from k rest spelled) in
+    let facts = subst AreOther (whole-header l k read.0) other.1 in
+    let gs = indexed l.entries in
+    let layout = layout_of k l.end l.file_len in
+    let sizes = (both-other (vsize_findings layout gs) (map (located gs) (layout_findings layout)) facts).0 in
     let same = named-seen (length from) 0 l.entries fs report.listing.entries in
     written-fields from h rest are s
     (quiet-written h (length from) fs (subst AreQuiet report.listing.entries (entries-quiet l other.0)) whole
     (numbered-written h 0 fs at
-    (λ i.
-    subst (λ j. IfSome (slice_get (vsizes fs) i) (λ (f : Field). IsWrittenVsize h j (number_of f))) (sym (from-zero i))
-    (size-at h (length from) i (indexed l.entries) (vsizes fs) same (whole-sizes fs whole) at (sizes i) (slice_get (vsizes fs) i) refl))))
+    (sizes-written h l.end l.file_len (length from) gs (vsizes fs) same (whole-sizes fs whole) at (subst (λ layout. AreOther (vsize_findings layout gs)) (same-layout h l.end l.file_len) sizes))))
 
 -- and a header without a fault is read
 pub quiet-headers : QuietHeadersAreCanonical
