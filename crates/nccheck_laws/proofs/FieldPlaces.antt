@@ -114,18 +114,19 @@ shown steps (chain get p next) from placed =
 
 -- ---- the parts of a header
 
+-- a part, and what follows it
+chained : {P Q : Type 0} → P → Q → P × Q
+chained one more = (one, more)
+
 abbrev at : FieldName → Owner → Place
 at n o = record { owner = o; name = n }
 
 placed-name : (v : Version) (o : Owner) → Placed (Name ∷ owner_steps o) (name_part lenient v)
 unfolding name_part limited_part number ignored
-placed-name v o = (
-  ((at name.NameLength o, refl), refl, grind arith),
-  λ n. (
-    ((at name.Name o, refl), refl, grind arith),
-    λ text. (((at name.NamePadding o, refl), refl, grind arith), λ padding. tt),
-  ),
-)
+placed-name v o =
+    chained ((at name.NameLength o, refl), refl, grind arith)
+    (λ n. chained ((at name.Name o, refl), refl, grind arith)
+    (λ text. chained ((at name.NamePadding o, refl), refl, grind arith) (λ padding. tt)))
 
 placed-each : {A : Type 0} (steps : List Step) (element : List A → Part A) → ((before : List A) (k : ℕ) → Placed (Item k ∷ steps) (element before))
     → (n : ℕ) (before : List A) → Placed steps (each element n before)
@@ -148,62 +149,42 @@ placed-dims v =
 
 placed-att : (v : Version) (o : Owner) → Placed (owner_steps o) (att_part lenient v)
 unfolding att_part type_part limited_part number ignored
-placed-att v o = (
-  placed-name v o,
-  λ text. (
-    ((at name.Type o, refl), refl, grind arith),
-    λ ty. (
-      ((at name.Count o, refl), refl, grind arith),
-      λ n. (((at name.Values o, refl), refl, grind arith), λ vals. (((at name.Padding o, refl), refl, grind arith), λ padding. tt)),
-    ),
-  ),
-)
+placed-att v o =
+    chained (placed-name v o)
+    (λ text. chained ((at name.Type o, refl), refl, grind arith)
+    (λ ty. chained ((at name.Count o, refl), refl, grind arith)
+    (λ n. chained ((at name.Values o, refl), refl, grind arith)
+    (λ vals. chained ((at name.Padding o, refl), refl, grind arith) (λ padding. tt)))))
 
 placed-var : (v : Version) (dims : List Dim) (total i : ℕ) → Placed (Item i ∷ Vars ∷ []) (var_part lenient v dims total)
 unfolding var_part shape_part counted dimid_part att_list type_part offset_part limited_part number
 placed-var v dims total i =
-    let o = owner.Var i in (
-      placed-name v o,
-      λ text. (
-        (
-          ((at name.Rank o, refl), refl, grind arith),
-          λ n. placed-each (Shape ∷ Item i ∷ Vars ∷ []) (dimid_after v dims) (λ before k. ((at (name.DimId k) o, refl), refl, grind arith)) n [],
-        ),
-        λ ids. (
-          placed-list v attribute_tag (Atts ∷ Item i ∷ Vars ∷ []) (att_after lenient v) (at name.AttsTag o) (at name.AttsCount o) refl refl
-              (λ before k. placed-att v (owner.VarAtt i k)),
-          λ atts. (
-            ((at name.Type o, refl), refl, grind arith),
-            λ ty. (
-              ((at name.Vsize o, refl), refl, grind arith),
-              λ vsize. (((at name.Begin o, refl), refl, grind arith), λ begin. tt),
-            ),
-          ),
-        ),
-      ),
-    )
+    let o = owner.Var i in
+    chained (placed-name v o)
+    (λ text. chained
+    (chained ((at name.Rank o, refl), refl, grind arith)
+    (λ n. placed-each (Shape ∷ Item i ∷ Vars ∷ []) (dimid_after v dims) (λ before k. ((at (name.DimId k) o, refl), refl, grind arith)) n []))
+    (λ ids. chained
+    (placed-list v attribute_tag (Atts ∷ Item i ∷ Vars ∷ []) (att_after lenient v) (at name.AttsTag o) (at name.AttsCount o) refl refl
+    (λ before k. placed-att v (owner.VarAtt i k)))
+    (λ atts. chained ((at name.Type o, refl), refl, grind arith)
+    (λ ty. chained ((at name.Vsize o, refl), refl, grind arith)
+    (λ vsize. chained ((at name.Begin o, refl), refl, grind arith) (λ begin. tt))))))
 
 whole-header : Placed [] (header_by lenient)
 unfolding header_by magic_part version_part numrecs_part att_list var_list number
 whole-header =
-    let o = owner.Header in (
-      (((at name.Magic o, refl), refl, grind arith), λ letters. ((at name.Version o, refl), refl, grind arith)),
-      λ v. (
-        ((at name.NumRecs o, refl), refl, grind arith),
-        λ numrecs. (
-          placed-dims v,
-          λ dims. (
-            placed-list v attribute_tag (Gatts ∷ []) (att_after lenient v) (at name.GlobalAttsTag o) (at name.GlobalAttsCount o) refl refl
-                (λ before k. placed-att v (owner.GlobalAtt k)),
-            λ gatts. (
-              placed-list v variable_tag (Vars ∷ []) (var_after lenient v dims) (at name.VarsTag o) (at name.VarsCount o) refl refl
-                  (λ before k. placed-var v dims (padded_total dims (record_vars dims before)) k),
-              λ vars. tt,
-            ),
-          ),
-        ),
-      ),
-    )
+    let o = owner.Header in
+    chained (chained ((at name.Magic o, refl), refl, grind arith) (λ letters. ((at name.Version o, refl), refl, grind arith)))
+    (λ v. chained ((at name.NumRecs o, refl), refl, grind arith)
+    (λ numrecs. chained (placed-dims v)
+    (λ dims. chained
+    (placed-list v attribute_tag (Gatts ∷ []) (att_after lenient v) (at name.GlobalAttsTag o) (at name.GlobalAttsCount o) refl refl
+    (λ before k. placed-att v (owner.GlobalAtt k)))
+    (λ gatts. chained
+    (placed-list v variable_tag (Vars ∷ []) (var_after lenient v dims) (at name.VarsTag o) (at name.VarsCount o) refl refl
+    (λ before k. placed-var v dims (padded_total dims (record_vars dims before)) k))
+    (λ vars. tt)))))
 
 pub placed-header : (from : Bytes) → ArePlaced (fields [] (header_by lenient) from)
 placed-header from = (shown [] (header_by lenient) from whole-header).0

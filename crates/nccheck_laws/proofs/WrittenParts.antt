@@ -9,13 +9,13 @@ use Rattle.std.specs.Str.{bytes_eq}
 use Rattle.nc_base.proofs.Prelude.{mul-div_cancel}
 use Rattle.nc_base.proofs.SoundLaws.{some_size}
 use Rattle.nc_base.specs.declared.{fault.FormatFault.FormatFault, header.Att.Att, header.Dim.Dim, header.Var.Var, header.Header.Header, header.NumRecs.NumRecs, nc_type.NcType.NcType, version.Version.Version}
-use Rattle.nc_base.specs.declared.fault.FormatFault.TheVariants.{BadTag, BadCount}
+use Rattle.nc_base.specs.declared.fault.FormatFault.TheVariants.{TooLarge, BadTag, BadCount}
 use Rattle.nc_base.specs.Bytes.{Bytes}
 use Rattle.nc_base.specs.Types.{code_of}
 use Rattle.nc_base.specs.Versions.{count_width, count_limit, version_byte}
 use Rattle.nc_base.specs.Sizes.{padded_size}
-use Rattle.nc_base.specs.Parts.{Step, Part, under, Spells, Tag, Count, Item, Name, Shape, Atts, Vsize}
-use Rattle.nc_base.specs.Grammar.{strict, checked, count_part, type_in, version_in, variable_tag, dimid_after, var_after, vsize_of, first, header_part}
+use Rattle.nc_base.specs.Parts.{Step, TypeCode, Part, under, Spells, Tag, Count, Item, Name, Shape, Atts, Vsize}
+use Rattle.nc_base.specs.Grammar.{strict, is_within_limits, checked, count_part, type_in, version_in, variable_tag, dimid_after, var_after, vsize_of, first, header_part}
 unfoldable use Rattle.nc_base.specs.Grammar.{number, limited_part, offset_part, ignored, name_part, type_part, each, counted, list_head, list_part, dim_part, dim_list, att_part, att_list, dimid_part, shape_part, var_part, var_list, version_part, magic_part, numrecs_part, header_by}
 use Rattle.nc_fields.specs.Fields.{Field, fields}
 use Rattle.nccheck_laws.specs.Written.{AreWritten, WrittenFieldsAreCanonical}
@@ -171,30 +171,23 @@ var-there : (before : List Var) (var : Var) (back : List Var) → slice_get (bef
 var-there [] var back = refl
 var-there (x ∷ before) var back = var-there before var back
 
+-- a part, what follows it, and its value in the whole
+chained : {P Q R : Type 0} → P → Q → R → P × Q × R
+chained one more got = (one, more, got)
+
 kept-var : (h : Header) (i : ℕ) (steps : List Step) (total : ℕ) (from : Bytes) (var : Var) (rest : Bytes) → slice_get h.vars i ≡ Some var
     → IsKept h (Item i ∷ steps) (var_part strict h.version h.dims total) from var rest
 unfolding Spells var_part
-kept-var h i steps total from var rest there text m s t = (
-  kept-name h (Name ∷ Item i ∷ steps) h.version from text m,
-  λ ids m2 s2 t2. (
-    kept-shape h (Shape ∷ Item i ∷ steps) h.version h.dims m ids m2,
-    λ atts m3 s3 t3. (
-      kept-atts h (Atts ∷ Item i ∷ steps) h.version m2 atts m3,
-      λ ty m4 s4 t4. (
-        grind (arith, kept-checked, kept-type),
-        λ vsize m5 s5 t5. (
-          kept-number h _ (count_width h.version) m4 vsize m5 (is-width-count h.version),
-          λ begin m6 s6 t6. (kept-offset h _ h.version m5 begin m6, tt, λ w. cc),
-          λ w. ap Some (vsize-written h i steps m4 vsize m5 _ var there s5 w),
-        ),
-        λ w. cc,
-      ),
-      λ w. cc,
-    ),
-    λ w. cc,
-  ),
-  λ w. cc,
-)
+kept-var h i steps total from var rest there text m s t =
+    chained (kept-name h (Name ∷ Item i ∷ steps) h.version from text m)
+    (λ ids m2 s2 t2. chained (kept-shape h (Shape ∷ Item i ∷ steps) h.version h.dims m ids m2)
+    (λ atts m3 s3 t3. chained (kept-atts h (Atts ∷ Item i ∷ steps) h.version m2 atts m3)
+    (λ ty m4 s4 t4. chained
+    (kept-checked h (TypeCode ∷ Item i ∷ steps) (is_within_limits h.dims total ids) TooLarge (type_part strict h.version) m3 ty m4
+    (λ x. kept-type h (TypeCode ∷ Item i ∷ steps) h.version m3 x m4))
+    (λ vsize m5 s5 t5. chained (kept-number h _ (count_width h.version) m4 vsize m5 (is-width-count h.version))
+    (λ begin m6 s6 t6. chained (kept-offset h _ h.version m5 begin m6) tt (λ w. cc))
+    (λ w. ap Some (vsize-written h i steps m4 vsize m5 _ var there s5 w))) (λ w. cc)) (λ w. cc)) (λ w. cc)) (λ w. cc)
 
 kept-vars : (h : Header) (steps : List Step) (v : Version) (dims : List Dim) (from : Bytes) (vars : List Var) (rest : Bytes)
     → v ≡ h.version → dims ≡ h.dims → vars ≡ h.vars → IsKept h steps (var_list strict v dims) from vars rest
