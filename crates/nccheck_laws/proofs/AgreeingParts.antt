@@ -23,9 +23,7 @@ use Rattle.nccheck_laws.proofs.Agreement.{Agree, Judges, fault_of, Extends, agre
 
 agree-numrecs : (v : Version) (steps : List Step) → Agree (λ n. n) (Records ∷ steps) (numrecs_part strict v) (numrecs_part lenient v)
 unfolding numrecs_part number
-agree-numrecs Cdf1 steps = agree-leaf refl refl refl refl (λ from. grind (arith, nat_tests))
-agree-numrecs Cdf2 steps = agree-leaf refl refl refl refl (λ from. grind (arith, nat_tests))
-agree-numrecs Cdf5 steps = agree-leaf refl refl refl refl (λ from. grind (arith, nat_tests))
+agree-numrecs v steps = agree-leaf refl refl refl refl (λ from. grind (arith, nat_tests))
 
 abbrev length_part : ℕ → Version → Bool → Part ℕ
 length_part limit v has_record = checked (λ len. not (has_record && (len == 0))) TwoRecordDims (limited_part limit v)
@@ -33,9 +31,7 @@ length_part limit v has_record = checked (λ len. not (has_record && (len == 0))
 agree-length : (v : Version) (has_record : Bool) (k : ℕ) (steps : List Step)
     → Agree (λ n. n) (Length ∷ Item k ∷ steps) (length_part (count_limit v) v has_record) (length_part (any_length_limit v) v has_record)
 unfolding limited_part number
-agree-length Cdf1 has_record k steps = agree-leaf refl refl refl refl (λ from. grind (arith, nat_tests))
-agree-length Cdf2 has_record k steps = agree-leaf refl refl refl refl (λ from. grind (arith, nat_tests))
-agree-length Cdf5 has_record k steps = agree-leaf refl refl refl refl (λ from. grind (arith, nat_tests))
+agree-length v has_record k steps = agree-leaf refl refl refl refl (λ from. grind (arith, nat_tests))
 
 agree-text : (n : ℕ) (steps : List Step)
     → Agree (λ text. text) (Text ∷ steps) (checked is_name BadName (bytes n HeaderTruncated))

@@ -2,7 +2,7 @@
 use Rattle.std.proofs.Common.{◌≡◌, ℕ, ◌==◌, ◌||◌, ◌⊎◌, inl, inr, not, Bool, true, false, cond, List, [], ◌∷◌, ◌++◌, length, take, Option, Some, None, refl, sym, ◌∙◌, subst, arith}
 use Rattle.std.specs.List.{All, Contains}
 use Rattle.std.specs.Option.{option_to_list}
-use Rattle.std.proofs.lemmas.List.Elements.{All-nil, All-cons}
+use Rattle.std.proofs.lemmas.List.Elements.{Contains-append_right}
 use Rattle.nc_base.specs.declared.{fault.FormatFault.FormatFault}
 use Rattle.nc_base.specs.declared.fault.FormatFault.TheVariants.{NotNetcdf, BadCount, BadName, FloatingType}
 use Rattle.nc_base.specs.Bytes.{Bytes}
@@ -23,30 +23,12 @@ use Rattle.nccheck_laws.proofs.Refusals.{refusal_of}
 
 -- ---- the facts of one entry
 
-abbrev NoFault : Fact → Type 0
-NoFault fact = is_fault fact ≡ false
-
-pub only : {X : Type 0} (P : X → Type 0) (x : X) → P x → All P (x ∷ [])
-only P x is = All-cons P x [] is (All-nil P)
-
-pub if-none : (P : Fact → Type 0) (b : Bool) (fact : Fact) → P fact → All P (option_to_list (fact_if b fact))
-if-none P true fact is = only P fact is
-if-none P false fact is = All-nil P
-
 -- a dimension's length may be refused for its size, whatever it belongs to
 length-refusal : (size n : ℕ) (o : Owner)
     → refusal_in size (content.Number n) (Length ∷ owner_steps o) None ≡ cond (is_large_count size n) (Some BadCount) None
 length-refusal size n o = grind arith
 
-length-fault : (size n : ℕ) (o : Owner) (fault : FormatFault)
-    → refusal_in size (content.Number n) (Length ∷ owner_steps o) (Some fault) ≡ Some fault
-length-fault size n o fault = grind arith
-
--- a field that isn't refused is no fault
-pub quiet-facts : (e : Entry) → refusal_of e ≡ None → All NoFault (facts_of e)
-quiet-facts e none = grind arith
-
--- nor is its type floating
+-- a field that isn't refused has no floating type
 pub quiet-type : (e : Entry) → refusal_of e ≡ None → is_floating_in e.place.name e.content ≡ false
 quiet-type e none = grind arith
 
@@ -89,44 +71,46 @@ pub own-fact : (P : Fact → Type 0) (place : FieldName) (size : ℕ) (c : Conte
     → P (fault_fact fault c) → HasFact P (facts_with o place size c)
 own-fact P place size c o fault same is = subst (λ o. HasFact P (facts_with o place size c)) (sym same) (has-first P (fault_fact fault c) [] is)
 
-strict-fault : (fault : FormatFault) (c : Content) → IsFault fault (fault_fact fault c)
-strict-fault NotNetcdf c = fault-fact (IsFault NotNetcdf) NotNetcdf c refl refl refl refl
-strict-fault fault c = refl
+-- the fault of the first of these facts that is one
+abbrev fault_among : List Fact → Option FormatFault
+fault_among [] = None
+fault_among (x ∷ xs) = elim (strict_fault x) [ Some fault ↦ Some fault | None ↦ fault_among xs ]
 
-own-fault : (place : FieldName) (size : ℕ) (c : Content) (o : Option FormatFault) (fault : FormatFault) → o ≡ Some fault
-    → ShowsFault place size c o fault
-own-fault place size c o fault same = inl (own-fact (IsFault fault) place size c o fault same (strict-fault fault c))
+has-among : (fault : FormatFault) (facts : List Fact) → fault_among facts ≡ Some fault → HasFact (IsFault fault) facts
+has-among fault [] is = absurd cc
+has-among fault (x ∷ xs) is = by-fault (strict_fault x) refl is (has-among fault xs)
+  where
+    by-fault : (o : Option FormatFault) → strict_fault x ≡ o
+        → (elim o as (λ o. Option FormatFault) [ Some fault ↦ Some fault | None ↦ fault_among xs ]) ≡ Some fault
+        → (fault_among xs ≡ Some fault → HasFact (IsFault fault) xs) → HasFact (IsFault fault) (x ∷ xs)
+    by-fault (Some own) e is more = has-first (IsFault fault) x xs (e ∙ is)
+    by-fault None e is more =
+        let h = more is in record { fact = h.fact; has = Contains-append_right (x ∷ []) xs h.fact h.has; is = h.is }
 
-bad-name : (bs : Bytes) (fault : FormatFault) (b : Bool) → cond b None (Some BadName) ≡ Some fault
-    → HasFact (IsFault fault) (option_to_list (fact_if (not b) NameCharacters) ++ option_to_list (form_fact name.Name bs))
-bad-name bs fault true is = absurd cc
-bad-name bs fault false is = has-first (IsFault fault) NameCharacters (option_to_list (form_fact name.Name bs)) is
+own-fault : (fault : FormatFault) (c : Content) → fault_among (fault_fact fault c ∷ []) ≡ Some fault
+own-fault NotNetcdf c = fault-fact (λ x. fault_among (x ∷ []) ≡ Some NotNetcdf) NotNetcdf c refl refl refl refl
+own-fault fault c = refl
 
-large-count : (fault : FormatFault) (b : Bool) → cond b (Some BadCount) None ≡ Some fault
-    → HasFact (IsFault fault) (option_to_list (fact_if b LargeCount))
-large-count fault true is = has-first (IsFault fault) LargeCount [] is
-large-count fault false is = absurd cc
+still-refused : (size : ℕ) (c : Content) (place : FieldName) (owner : Owner) (fault : FormatFault) → is_floating_in place c ≡ false
+    → refusal_in size c (name_steps place ++ owner_steps owner) (Some fault) ≡ Some fault
+still-refused size c place owner fault plain = grind arith
 
-floating : (size code : ℕ) (o : Option FormatFault) (fault : FormatFault) (b : Bool) → ((code == 5) || (code == 6)) ≡ b
-    → cond b (Some FloatingType) o ≡ Some fault
-    → ShowsFault name.Type size (content.Number code) o fault
-floating size code o fault true is refused = inr (is, cc)
-floating size code o fault false is refused = own-fault name.Type size (content.Number code) o fault refused
-
-shown : (size : ℕ) (c : Content) (place : FieldName) (owner : Owner) (o : Option FormatFault) (fault : FormatFault)
-    → refusal_in size c (name_steps place ++ owner_steps owner) o ≡ Some fault → ShowsFault place size c o fault
-shown size (content.Bytes bs) name.Name owner None fault refused = inl (bad-name bs fault (is_name bs) refused)
-shown size (content.Bytes bs) name.Name owner (Some own) fault refused = own-fault name.Name size (content.Bytes bs) (Some own) fault refused
-shown size (content.Bytes bs) place owner o fault refused = own-fault place size (content.Bytes bs) o fault refused
-shown size (content.Number code) name.Type owner o fault refused = floating size code o fault ((code == 5) || (code == 6)) refl refused
-shown size (content.Number n) name.NumRecs owner None fault refused = inl (large-count fault (is_large_numrecs size n) refused)
-shown size (content.Number n) name.NumRecs owner (Some own) fault refused = own-fault name.NumRecs size (content.Number n) (Some own) fault refused
-shown size (content.Number n) name.Length owner None fault refused =
-    inl (large-count fault (is_large_count size n) (sym (length-refusal size n owner) ∙ refused))
-shown size (content.Number n) name.Length owner (Some own) fault refused =
-    own-fault name.Length size (content.Number n) (Some own) fault (sym (length-fault size n owner own) ∙ refused)
-shown size (content.Number code) place owner o fault refused = own-fault place size (content.Number code) o fault refused
-shown size c place owner o fault refused = own-fault place size c o fault refused
+facts-fault : (size : ℕ) (c : Content) (place : FieldName) (owner : Owner) (o : Option FormatFault) → is_floating_in place c ≡ false
+    → fault_among (facts_with o place size c) ≡ refusal_in size c (name_steps place ++ owner_steps owner) o
+facts-fault size c place owner (Some fault) plain = own-fault fault c ∙ sym (still-refused size c place owner fault plain)
+facts-fault size (content.Number n) name.NumRecs owner None plain = grind arith
+facts-fault size (content.Number n) name.Length owner None plain = rw (length-refusal size n owner) (grind arith)
+facts-fault size (content.Number n) name.NameLength owner None plain = grind arith
+facts-fault size (content.Number n) name.Rank owner None plain = grind arith
+facts-fault size (content.Number n) name.Type owner None plain = grind arith
+facts-fault size (content.Bytes bs) name.Name owner None plain = grind arith
+facts-fault size (content.Bytes bs) name.NamePadding owner None plain = grind arith
+facts-fault size (content.Bytes bs) name.Padding owner None plain = grind arith
+facts-fault size c place owner None plain = refl
 
 pub refused-shown : (e : Entry) (fault : FormatFault) → refusal_of e ≡ Some fault → ShowsFault e.place.name e.size e.content e.fault fault
-refused-shown e fault refused = shown e.size e.content e.place.name e.place.owner e.fault fault refused
+refused-shown e fault refused = by-test (is_floating_in e.place.name e.content) refl
+  where
+    by-test : (b : Bool) → is_floating_in e.place.name e.content ≡ b → ShowsFault e.place.name e.size e.content e.fault fault
+    by-test true is = inr (is, grind arith)
+    by-test false is = inl (has-among fault _ (facts-fault e.size e.content e.place.name e.place.owner e.fault is ∙ refused))
