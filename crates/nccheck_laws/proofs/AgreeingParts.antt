@@ -1,20 +1,15 @@
 -- The parts of a header agree by the strict and the lenient rules, up to the first field that the strict rules refuse.
-use Rattle.std.proofs.lemmas.Grind.{common_steps}
-use Rattle.std.proofs.lemmas.Bool.Decides.{nat_tests}
 use Rattle.std.proofs.Common.{◌≡◌, ℕ, ◌==◌, ◌&&◌, not, Bool, List, [], ◌∷◌, map, take, Ok, Err, refl, sym, arith, if◌then◌else◌}
-use Rattle.nc_base.specs.declared.{header.Dim.Dim, header.Var.Var, nc_type.NcType.NcType, version.Version.Version}
-use Rattle.nc_base.specs.declared.version.Version.TheVariants.{Cdf1, Cdf2, Cdf5}
+use Rattle.nccheck_laws.proofs.Prelude.{common_steps, nat_tests, Dim, Var, Version, Bytes, is_name, padded_total, record_vars, Step, Part, bytes, Dims, Gatts, Vars, Tag, Count, Item, Name, Padding, Shape, Atts, Vsize, strict, checked, dimension_tag, variable_tag, dim_after, dimid_after, var_after, number, limited_part, offset_part, ignored, name_part, type_part, counted, list_head, list_part, dim_part, dim_list, att_part, att_list, dimid_part, shape_part, var_part, var_list, version_part, magic_part, numrecs_part, header_by, lenient, refusal_in, without_values}
+use Rattle.nc_base.specs.declared.{nc_type.NcType.NcType}
 use Rattle.nc_base.specs.declared.fault.FormatFault.TheVariants.{HeaderTruncated, BadName, TwoRecordDims, TooLarge}
-use Rattle.nc_base.specs.Bytes.{Bytes}
 use Rattle.nc_base.specs.Versions.{count_limit}
-use Rattle.nc_base.specs.Names.{is_name}
-use Rattle.nc_base.specs.Sizes.{has_record_dim, padded_total, record_vars}
-use Rattle.nc_base.specs.Parts.{Step, Part, bytes, Magic, VersionByte, Records, Dims, Gatts, Vars, Tag, Count, Item, Name, Length, Text, Padding, TypeCode, Values, Shape, Atts, Vsize, Begin}
-use Rattle.nc_base.specs.Grammar.{strict, checked, is_within_limits, dimension_tag, attribute_tag, variable_tag, dim_after, att_after, dimid_after, var_after}
-unfoldable use Rattle.nc_base.specs.Grammar.{number, limited_part, offset_part, ignored, name_part, type_part, counted, list_head, list_part, dim_part, dim_list, att_part, att_list, dimid_part, shape_part, var_part, var_list, version_part, magic_part, numrecs_part, header_by}
+use Rattle.nc_base.specs.Sizes.{has_record_dim}
+use Rattle.nc_base.specs.Parts.{Magic, VersionByte, Records, Length, Text, TypeCode, Values, Begin}
+use Rattle.nc_base.specs.Grammar.{is_within_limits, attribute_tag, att_after}
 use Rattle.nc_fields.specs.declared.entry.Content.TheVariants as content
-use Rattle.nc_fields.specs.Lenient.{any_length_limit, lenient, may_be_name}
-use Rattle.nccheck_laws.specs.Agreement.{refusal_in, att_without_values, var_without_values, without_values}
+use Rattle.nc_fields.specs.Lenient.{any_length_limit, may_be_name}
+use Rattle.nccheck_laws.specs.Agreement.{att_without_values, var_without_values}
 use Rattle.nc_base.proofs.Printable.{total-append, one-total}
 use Rattle.nccheck_laws.proofs.OddNames.{name-may-be}
 use Rattle.nccheck_laws.proofs.Agreement.{Agree, Judges, fault_of, Extends, agree-leaf, agree-plain, agree-done, agree-under, agree-chain, agree-each, extends-same, extends-map}
@@ -36,7 +31,9 @@ agree-length v has_record k steps = agree-leaf refl refl refl refl (λ from. gri
 agree-text : (n : ℕ) (steps : List Step)
     → Agree (λ text. text) (Text ∷ steps) (checked is_name BadName (bytes n HeaderTruncated))
     (checked may_be_name BadName (bytes n HeaderTruncated))
-agree-text n steps = agree-leaf refl refl refl refl (λ from. text-judges n steps (take n from) (is_name (take n from)) (may_be_name (take n from)) refl refl)
+agree-text n steps =
+    agree-leaf refl refl refl refl
+    (λ from. text-judges n steps (take n from) (is_name (take n from)) (may_be_name (take n from)) refl refl)
   where
     text-judges : (n : ℕ) (steps : List Step) (bs : Bytes) (is may : Bool) → is_name bs ≡ is → may_be_name bs ≡ may
         → Judges (λ x. x) (if is then Ok bs else Err BadName) (if may then Ok bs else Err BadName)
@@ -68,7 +65,8 @@ agree-list : {A B : Type 0} {f : A → B} {g : List A → List B} (v : Version) 
 unfolding list_part list_head limited_part number
 agree-list v tag steps element other extends go =
     agree-chain
-    (agree-chain (agree-under Tag (agree-plain refl (λ n bs fault. refl))) (λ found. agree-under Count (agree-plain refl (λ n bs fault. refl))))
+    (agree-chain (agree-under Tag (agree-plain refl (λ n bs fault. refl)))
+    (λ found. agree-under Count (agree-plain refl (λ n bs fault. refl))))
     (λ n. agree-each element other extends go n [] [] (sym extends.none))
 
 agree-dims : (v : Version) (steps : List Step) → Agree (λ dims. dims) steps (dim_list strict v) (dim_list lenient v)
@@ -94,7 +92,8 @@ agree-shape : (v : Version) (dims : List Dim) (steps : List Step) → Agree (λ 
 unfolding shape_part counted dimid_part limited_part number
 agree-shape v dims steps =
     agree-chain (agree-under Count (agree-plain refl (λ n bs fault. refl)))
-    (λ n. agree-each (dimid_after v dims) (dimid_after v dims) extends-same (λ before k. agree-plain refl (λ n bs fault. refl)) n [] [] refl)
+    (λ n. agree-each (dimid_after v dims) (dimid_after v dims) extends-same (λ before k. agree-plain refl (λ n bs fault. refl))
+    n [] [] refl)
 
 agree-var : (v : Version) (dims : List Dim) (total : ℕ) (steps : List Step)
     → Agree var_without_values steps (var_part strict v dims total) (var_part lenient v dims total)

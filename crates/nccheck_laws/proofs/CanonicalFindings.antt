@@ -1,30 +1,16 @@
 -- Nothing is found about the spelling at the fields of a header that are as they are written.
-use Rattle.std.proofs.Common.{arith}
-use Rattle.std.proofs.lemmas.Grind.{common_steps}
-use Rattle.std.proofs.Common.{◌≡◌, ℕ, zero, suc, ◌+◌, ◌==◌, ◌&&◌, not, Bool, false, List, [], ◌∷◌, ◌++◌, map, replicate, Option, None, refl, sym, ap, ◌∙◌, subst, option_to_list, if◌then◌else◌}
-use Rattle.std.specs.Option.{option_map}
-use Rattle.nc_base.specs.declared.{header.Header.Header}
-use Rattle.nc_base.specs.declared.fault.FormatFault.TheVariants.{FloatingType}
-use Rattle.nc_base.specs.Parts.{Step}
-use Rattle.nc_fields.specs.declared.{entry.Content.Content, entry.Entry.Entry, place.FieldName.FieldName, place.Owner.Owner}
+use Rattle.std.proofs.Common.{arith, ◌≡◌, ℕ, zero, suc, ◌+◌, ◌==◌, ◌&&◌, not, Bool, false, List, [], ◌∷◌, ◌++◌, map, replicate, Option, None, refl, sym, ap, ◌∙◌, subst, option_to_list, if◌then◌else◌}
+use Rattle.nccheck_laws.proofs.Prelude.{common_steps, option_map, Header, FloatingType, Step, Content, Entry, FieldName, Owner, Field, seen_by, steps_of, name_steps, owner_steps, whole_content, seen, Fact, Finding, Indexed, field_at, indexed_from, finding, each_before, ahead_of, finding_by_name, attribute_finding, attribute_findings, facts_with, findings_at, field_findings, floating_findings, is_first, header_findings, is_of_spelling, bytes_of, number_of}
 use Rattle.nc_fields.specs.declared.entry.Content.TheVariants as content
 use Rattle.nc_fields.specs.declared.place.FieldName.TheVariants as name
-use Rattle.nc_fields.specs.Fields.{Field}
-use Rattle.nc_fields.specs.Entries.{seen_by, steps_of, name_steps, owner_steps, whole_content}
-unfoldable use Rattle.nc_fields.specs.Entries.{seen}
-use Rattle.nc_report.specs.declared.{finding.Fact.Fact, finding.Finding.Finding, ahead.Ahead.Ahead}
+use Rattle.nc_report.specs.declared.{ahead.Ahead.Ahead}
 use Rattle.nc_report.specs.declared.finding.Fact.TheVariants as fact
-use Rattle.nc_report.specs.Indexed.{Indexed, field_at, indexed_from, finding, each_before, each_after}
-use Rattle.nc_report.specs.Ahead.{ahead_of, is_field, next_number, number_in}
-use Rattle.nc_report.specs.AttributeRules.{empty_list, type_finding, name_finding, finding_by_name, attribute_finding}
-unfoldable use Rattle.nc_report.specs.AttributeRules.{attribute_findings}
-use Rattle.nc_report.specs.FieldRules.{has_nonzero, fact_if, content_facts, facts_with, findings_at}
-unfoldable use Rattle.nc_report.specs.FieldRules.{field_findings, floating_findings}
-use Rattle.nc_report.specs.NameRules.{duplicate_name, is_first}
+use Rattle.nc_report.specs.Indexed.{each_after}
+use Rattle.nc_report.specs.Ahead.{is_field, next_number, number_in}
+use Rattle.nc_report.specs.AttributeRules.{empty_list, type_finding, name_finding}
+use Rattle.nc_report.specs.FieldRules.{has_nonzero, fact_if, content_facts}
+use Rattle.nc_report.specs.NameRules.{duplicate_name}
 unfoldable use Rattle.nc_report.specs.NameRules.{name_findings}
-unfoldable use Rattle.nc_report.specs.HeaderRules.{header_findings}
-use Rattle.nccheck_laws.specs.ReportLaws.{is_of_spelling}
-use Rattle.nccheck_laws.specs.Written.{bytes_of, number_of}
 use Rattle.nccheck_laws.proofs.Vsizes.{IsWhole, AreWhole}
 use Rattle.nccheck_laws.proofs.QuietFields.{AreOther}
 use Rattle.nccheck_laws.proofs.CanonicalFields.{FollowsTag, IsCanonical, AreCanonical}

@@ -1,34 +1,12 @@
 -- A report finds nothing about the spelling of a header that is spelled as it is written.
-use Rattle.std.proofs.lemmas.Bool.Decides.{nat_tests}
 use Rattle.std.proofs.Common.{◌≡◌, ℕ, zero, suc, ◌+◌, Bool, true, false, cond, List, [], ◌∷◌, length, map, Option, Some, None, Ok, refl, sym, ap, ◌∙◌, subst, arith, slice_get, IfSome, option_map, option_to_list}
-use Rattle.std.specs.List.{list_any}
+use Rattle.nccheck_laws.proofs.Prelude.{nat_tests, list_any, list_any-IsPermutation, Dim, Var, Header, Version, padded_size, header_by, vsize_of, reads, Listing, Field, lenient, Seen, seen_by, seen, Slot, Layout, LayoutFinding, each_slot, layout_findings, layout_of, Finding, Indexed, indexed, header_findings, is_vsize, named, vsize_finding, located, layout_facts, whole_findings, vsize_findings, all_findings, header_fields, without_values, number_of, IsWrittenVsize, is_of_spelling, has_any}
 use Rattle.std.proofs.lemmas.Option.{slice_get-map}
-use Rattle.std.proofs.lemmas.List.Sorted.{list_any-IsPermutation}
-use Rattle.nc_base.specs.declared.{header.Dim.Dim, header.Var.Var, header.Header.Header, version.Version.Version}
 use Rattle.nc_base.specs.GeneratedFile.{file_of, with_begins, data_of}
-use Rattle.nc_base.specs.Sizes.{padded_size}
-use Rattle.nc_base.specs.Grammar.{header_by, vsize_of}
-use Rattle.nc_base.proofs.PartOutcomes.{reads}
-use Rattle.nc_fields.specs.declared.header.Listing.{Listing}
 use Rattle.nc_fields.specs.declared.entry.Content.TheVariants as content
-use Rattle.nc_fields.specs.Fields.{Field}
-use Rattle.nc_fields.specs.Lenient.{lenient}
-use Rattle.nc_fields.specs.Entries.{Seen, seen_by}
-unfoldable use Rattle.nc_fields.specs.Entries.{seen}
-use Rattle.nc_layout.specs.declared.{slot.Slot.Slot, slot.Layout.Layout, finding.LayoutFinding.LayoutFinding}
-use Rattle.nc_layout.specs.Blocks.{each_slot}
-use Rattle.nc_layout.specs.Findings.{layout_findings}
-use Rattle.nc_layout.specs.HeaderLayout.{slot_of, layout_of}
-use Rattle.nc_report.specs.declared.{finding.Finding.Finding}
-use Rattle.nc_report.specs.Indexed.{Indexed, indexed}
-use Rattle.nc_report.specs.HeaderRules.{header_findings}
+use Rattle.nc_layout.specs.HeaderLayout.{slot_of}
 use Rattle.nc_fields.specs.Entries.{number_of as content_number}
-use Rattle.nc_report.specs.WholeHeader.{is_vsize, named, vsize_finding, located, layout_facts, whole_findings}
-unfoldable use Rattle.nc_report.specs.WholeHeader.{vsize_findings}
-unfoldable use Rattle.nc_report.specs.Reports.{all_findings}
-use Rattle.nccheck_laws.specs.Agreement.{header_fields, without_values}
-use Rattle.nccheck_laws.specs.Written.{number_of, IsWrittenVsize}
-use Rattle.nccheck_laws.specs.ReportLaws.{is_of_spelling, has_any, CanonicalSpellingsAreQuiet, GeneratedFilesHaveQuietSpellings}
+use Rattle.nccheck_laws.specs.ReportLaws.{CanonicalSpellingsAreQuiet, GeneratedFilesHaveQuietSpellings}
 use Rattle.nccheck_laws.proofs.StrictHeaders.{strict-headers}
 use Rattle.nccheck_laws.proofs.Vsizes.{AreWhole, spelled-whole, is_vsize_at, vsizes, AreNumbered, AreSizes, header-numbered}
 use Rattle.nccheck_laws.proofs.QuietFields.{AreOther}

@@ -1,7 +1,6 @@
 -- The steps to a field tell its place, so what the rules look at in a field tells its entry.
 use Rattle.std.proofs.Common.{◌≡◌, List, [], ◌∷◌, map, refl, ap₂, arith}
-use Rattle.nc_fields.specs.declared.entry.Entry.{Entry}
-use Rattle.nc_fields.specs.Entries.{seen_by}
+use Rattle.nccheck_laws.proofs.Prelude.{Entry, seen_by}
 
 seen-told : (d e : Entry) → seen_by d ≡ seen_by e → d ≡ e
 seen-told d e is = grind arith

@@ -1,24 +1,15 @@
 -- Findings that are faults lie at entries that the strict rules refuse, and there is one at the first of these.
-use Rattle.std.proofs.Common.{◌≡◌, ℕ, ◌==◌, ◌||◌, ◌⊎◌, inl, inr, not, Bool, true, false, cond, List, [], ◌∷◌, ◌++◌, length, take, Option, Some, None, refl, sym, ◌∙◌, subst, arith}
-use Rattle.std.specs.List.{All, Contains}
-use Rattle.std.specs.Option.{option_to_list}
-use Rattle.std.proofs.lemmas.List.Elements.{Contains-append_right}
-use Rattle.nc_base.specs.declared.{fault.FormatFault.FormatFault}
-use Rattle.nc_base.specs.declared.fault.FormatFault.TheVariants.{NotNetcdf, BadCount, BadName, FloatingType}
-use Rattle.nc_base.specs.Bytes.{Bytes}
-use Rattle.nc_base.specs.Names.{is_name}
-use Rattle.nc_fields.specs.declared.{entry.Entry.Entry, entry.Content.Content, place.FieldName.FieldName, place.Owner.Owner}
+use Rattle.std.proofs.Common.{◌≡◌, ℕ, ◌==◌, ◌⊎◌, inl, inr, Bool, true, false, cond, List, [], ◌∷◌, ◌++◌, length, take, Option, Some, None, refl, sym, ◌∙◌, subst, arith}
+use Rattle.nccheck_laws.proofs.Prelude.{Contains, Contains-append_right, FormatFault, BadCount, FloatingType, Entry, Content, FieldName, Owner, name_steps, owner_steps, refusal_in, Fact, facts_with}
+use Rattle.nc_base.specs.declared.fault.FormatFault.TheVariants.{NotNetcdf}
 use Rattle.nc_fields.specs.declared.entry.Content.TheVariants as content
 use Rattle.nc_fields.specs.declared.place.FieldName.TheVariants as name
 use Rattle.nc_base.specs.Parts.{Length}
 use Rattle.std.specs.Str.{bytes_eq}
-use Rattle.nc_fields.specs.Entries.{hdf5_signature, name_steps, owner_steps}
-use Rattle.nccheck_laws.specs.Agreement.{refusal_in}
-use Rattle.nc_report.specs.declared.{finding.Fact.Fact}
-use Rattle.nc_report.specs.declared.finding.Fact.TheVariants.{Fault, Hdf5, Gzip, EmptyFile, NameCharacters, LargeCount}
-use Rattle.nc_report.specs.FieldRules.{gzip_signature, fault_fact, is_large_count, is_large_numrecs, fact_if, form_fact, facts_with, facts_of, is_floating_in}
-unfoldable use Rattle.nc_report.specs.FieldRules.{field_findings, floating_findings}
-use Rattle.nccheck_laws.specs.FaultLaws.{strict_fault, is_fault}
+use Rattle.nc_fields.specs.Entries.{hdf5_signature}
+use Rattle.nc_report.specs.declared.finding.Fact.TheVariants.{Fault, Hdf5, Gzip, EmptyFile}
+use Rattle.nc_report.specs.FieldRules.{gzip_signature, fault_fact, is_large_count, is_floating_in}
+use Rattle.nccheck_laws.specs.FaultLaws.{strict_fault}
 use Rattle.nccheck_laws.proofs.Refusals.{refusal_of}
 
 -- ---- the facts of one entry

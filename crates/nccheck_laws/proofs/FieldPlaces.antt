@@ -1,23 +1,10 @@
 -- Each field of a header has a place, to which the steps to the field lead. If reading stops, a field has the fault that it stops with.
-use Rattle.std.proofs.Common.{arith}
-use Rattle.std.proofs.Common.{◌≡◌, ◌⊎◌, inl, inr, ℕ, zero, suc, Bool, true, false, List, [], ◌∷◌, ◌++◌, length, Some, Ok, Err, refl}
-use Rattle.nc_base.specs.declared.{fault.FormatFault.FormatFault, header.Dim.Dim, version.Version.Version}
-use Rattle.nc_base.specs.declared.fault.FormatFault.TheVariants.{FloatingType}
-use Rattle.nc_base.specs.Bytes.{Bytes}
-use Rattle.nc_base.specs.Sizes.{padded_total, record_vars}
-use Rattle.nc_base.specs.Parts.{Step, Part, done, bytes, decoded, under, chain, Dims, Gatts, Vars, Tag, Count, Item, Name, Shape, Atts}
-use Rattle.nc_base.specs.Grammar.{dimension_tag, attribute_tag, variable_tag, dim_after, att_after, dimid_after, var_after}
-unfoldable use Rattle.nc_base.specs.Grammar.{number, limited_part, offset_part, ignored, name_part, type_part, counted, list_head, list_part, each, dim_part, dim_list, att_part, att_list, dimid_part, shape_part, var_part, var_list, version_part, magic_part, numrecs_part, header_by}
-use Rattle.nc_base.specs.code.PartRuns.{Outcome, and_then}
-unfoldable use Rattle.nc_base.specs.code.PartRuns.{run}
-use Rattle.nc_fields.specs.declared.{place.Owner.Owner, place.FieldName.FieldName, place.Place.Place}
+use Rattle.std.proofs.Common.{arith, ◌≡◌, ◌⊎◌, inl, inr, ℕ, zero, suc, Bool, true, false, List, [], ◌∷◌, ◌++◌, length, Some, Ok, Err, refl}
+use Rattle.nccheck_laws.proofs.Prelude.{FormatFault, Dim, Version, FloatingType, Bytes, padded_total, record_vars, Step, Part, done, bytes, decoded, under, chain, Dims, Gatts, Vars, Tag, Count, Item, Name, Shape, Atts, dimension_tag, variable_tag, dim_after, dimid_after, var_after, number, limited_part, offset_part, ignored, name_part, type_part, counted, list_head, list_part, each, dim_part, dim_list, att_part, att_list, dimid_part, shape_part, var_part, var_list, version_part, magic_part, numrecs_part, header_by, Outcome, and_then, run, Owner, FieldName, steps_of, owner_steps, Field, fields, lenient, fault_in}
+use Rattle.nc_base.specs.Grammar.{attribute_tag, att_after}
+use Rattle.nc_fields.specs.declared.{place.Place.Place}
 use Rattle.nc_fields.specs.declared.place.Owner.TheVariants as owner
 use Rattle.nc_fields.specs.declared.place.FieldName.TheVariants as name
-use Rattle.nc_fields.specs.Entries.{steps_of, owner_steps}
-use Rattle.nc_fields.specs.Fields.{Field}
-unfoldable use Rattle.nc_fields.specs.Fields.{fields}
-use Rattle.nc_fields.specs.Lenient.{lenient}
-use Rattle.nc_fields.proofs.Checks.{fault_in}
 use Rattle.nccheck_laws.proofs.Leaves.{is_leaf, leaf_size, leaf-field}
 
 -- ---- lists of fields
@@ -96,8 +83,8 @@ leaf-shown {A = A} steps p from (place, leaf, never) =
     by-outcome (Ok x) plain = tt
     by-outcome (Err e) plain = (inl refl, plain)
 
-chain-shown : {A B : Type 0} (o : Outcome A) (fs : List Field) (next : A → Bytes → Outcome B) (more : A → Bytes → List Field) → AreShown o fs
-    → ((x : A) (rest : Bytes) → AreShown (next x rest) (more x rest))
+chain-shown : {A B : Type 0} (o : Outcome A) (fs : List Field) (next : A → Bytes → Outcome B) (more : A → Bytes → List Field)
+    → AreShown o fs → ((x : A) (rest : Bytes) → AreShown (next x rest) (more x rest))
     → AreShown (and_then o next) (elim o as (λ o. List Field) [ Ok x ↦ fs ++ more x.0 x.1 | Err e ↦ fs ])
 chain-shown (Ok x) fs next more shown go = grind (arith, placed-both, fault-right)
 chain-shown (Err e) fs next more shown go = shown
@@ -128,8 +115,8 @@ placed-name v o =
     (λ n. chained ((at name.Name o, refl), refl, grind arith)
     (λ text. chained ((at name.NamePadding o, refl), refl, grind arith) (λ padding. tt)))
 
-placed-each : {A : Type 0} (steps : List Step) (element : List A → Part A) → ((before : List A) (k : ℕ) → Placed (Item k ∷ steps) (element before))
-    → (n : ℕ) (before : List A) → Placed steps (each element n before)
+placed-each : {A : Type 0} (steps : List Step) (element : List A → Part A)
+    → ((before : List A) (k : ℕ) → Placed (Item k ∷ steps) (element before)) → (n : ℕ) (before : List A) → Placed steps (each element n before)
 unfolding each
 placed-each steps element one zero before = tt
 placed-each steps element one (suc n) before = (one before (length before), λ x. placed-each steps element one n (before ++ x ∷ []))
@@ -163,7 +150,8 @@ placed-var v dims total i =
     chained (placed-name v o)
     (λ text. chained
     (chained ((at name.Rank o, refl), refl, grind arith)
-    (λ n. placed-each (Shape ∷ Item i ∷ Vars ∷ []) (dimid_after v dims) (λ before k. ((at (name.DimId k) o, refl), refl, grind arith)) n []))
+    (λ n. placed-each (Shape ∷ Item i ∷ Vars ∷ []) (dimid_after v dims)
+    (λ before k. ((at (name.DimId k) o, refl), refl, grind arith)) n []))
     (λ ids. chained
     (placed-list v attribute_tag (Atts ∷ Item i ∷ Vars ∷ []) (att_after lenient v) (at name.AttsTag o) (at name.AttsCount o) refl refl
     (λ before k. placed-att v (owner.VarAtt i k)))

@@ -1,30 +1,15 @@
 -- The first fault of a report is that of the first entry that the strict rules refuse.
-use Rattle.std.proofs.lemmas.Grind.{common_steps}
 use Rattle.std.proofs.Common.{◌-◌, min, ◌≡◌, ℕ, zero, suc, ◌+◌, ◌≤◌, ◌⊎◌, inl, inr, Bool, true, false, cond, List, [], ◌∷◌, ◌++◌, length, map, flat_map, find, Option, Some, None, is_some, refl, sym, ap, ◌∙◌, subst, arith, le_refl}
-use Rattle.std.specs.List.{All, Contains}
-use Rattle.std.specs.Option.{option_to_list, option_map}
-use Rattle.std.proofs.lemmas.List.Elements.{All-cons, All-contains, Contains-append_left, Contains-append_right, Contains-append_cases}
+use Rattle.nccheck_laws.proofs.Prelude.{common_steps, All, Contains, option_to_list, option_map, All-cons, Contains-append_right, FormatFault, FloatingType, Bytes, header_part, header_by, run, Entry, Listing, lenient, first_refusal, header_fields, Fact, Finding, Report, Indexed, field_at, indexed_from, indexed, finding, facts_of, findings_at, field_findings, floating_findings, header_findings, all_findings, IsReport, is_fault}
+use Rattle.std.proofs.lemmas.List.Elements.{All-contains, Contains-append_left, Contains-append_cases}
 use Rattle.std.proofs.lemmas.List.Sorted.{Contains-permutation, All-permutation}
-use Rattle.nc_base.specs.declared.{fault.FormatFault.FormatFault}
-use Rattle.nc_base.specs.declared.fault.FormatFault.TheVariants.{FloatingType}
-use Rattle.nc_base.specs.Bytes.{Bytes}
-use Rattle.nc_base.specs.Grammar.{header_part, header_by}
-use Rattle.nc_base.specs.code.PartRuns.{left_after, run}
-use Rattle.nc_fields.specs.declared.{entry.Entry.Entry, header.Listing.Listing}
-use Rattle.nc_fields.specs.Lenient.{lenient}
-use Rattle.nccheck_laws.specs.Agreement.{first_refusal, header_fields}
+use Rattle.nc_base.specs.code.PartRuns.{left_after}
 use Rattle.nc_base.proofs.PartPlaces.{stops-in}
 use Rattle.nccheck_laws.proofs.FieldOrder.{fields-descend}
 use Rattle.nccheck_laws.proofs.StrictHeaders.{strict-headers, unrefused-headers, strict-faults}
-use Rattle.nc_report.specs.declared.{finding.Fact.Fact, finding.Finding.Finding, report.Report.Report}
 use Rattle.nc_report.specs.declared.finding.Fact.TheVariants.{Fault}
-use Rattle.nc_report.specs.Indexed.{Indexed, field_at, indexed_from, indexed, finding}
-use Rattle.nc_report.specs.FieldRules.{facts_of, findings_at, is_floating_in, is_floating, floating_finding}
-unfoldable use Rattle.nc_report.specs.FieldRules.{field_findings, floating_findings}
-unfoldable use Rattle.nc_report.specs.HeaderRules.{header_findings}
-unfoldable use Rattle.nc_report.specs.Reports.{all_findings}
-use Rattle.nc_report.specs.Reports.{IsReport}
-use Rattle.nccheck_laws.specs.FaultLaws.{is_fault, HasNoFault, IsReadable, FindsFirst, FaultlessHeadersAreReadable, FirstFaultIsReaders}
+use Rattle.nc_report.specs.FieldRules.{is_floating_in, is_floating, floating_finding}
+use Rattle.nccheck_laws.specs.FaultLaws.{HasNoFault, IsReadable, FindsFirst, FaultlessHeadersAreReadable, FirstFaultIsReaders}
 use Rattle.nccheck_laws.proofs.Refusals.{refusal_of, FirstRefused, none-refused, first-refused}
 use Rattle.nccheck_laws.proofs.FaultFindings.{HasFact, IsFault, ShowsFault, quiet-type, refused-shown, contains-first}
 use Rattle.nccheck_laws.proofs.QuietRules.{FaultsLieAt, RefusedLiesAt, all-lie}

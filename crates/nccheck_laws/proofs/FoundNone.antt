@@ -1,16 +1,14 @@
 -- What holds of each slot, of each block and at the end of the file if no finding is of a kind, and the converse.
 use Rattle.std.proofs.Common.{◌≡◌, ℕ, zero, suc, ◌+◌, Bool, false, List, [], ◌∷◌, ◌++◌, refl, subst, arith, inl, inr}
+use Rattle.nccheck_laws.proofs.Prelude.{list_any, Contains, list_any-append, Slot, Layout, LayoutFinding, each_slot, layout_findings}
 use Rattle.std.specs.Prelude.{flat_map}
-use Rattle.std.specs.List.{list_any, Contains}
-use Rattle.std.proofs.lemmas.List.Folds.{list_any-append}
-use Rattle.nc_layout.specs.declared.{slot.Slot.Slot, slot.Layout.Layout, finding.LayoutFact.LayoutFact, finding.LayoutFinding.LayoutFinding, blocks.Extent.Extent}
+use Rattle.nc_layout.specs.declared.{finding.LayoutFact.LayoutFact, blocks.Extent.Extent}
 use Rattle.nc_layout.specs.declared.finding.LayoutFact.TheVariants as facts
-use Rattle.nc_layout.specs.Blocks.{each_slot, blocks}
+use Rattle.nc_layout.specs.Blocks.{blocks}
 use Rattle.nc_layout.specs.NumRecsRules.{numrecs_findings}
 use Rattle.nc_layout.specs.SlotRules.{slot_findings}
 use Rattle.nc_layout.specs.BlockRules.{block_findings}
 use Rattle.nc_layout.specs.FileEnd.{end_findings}
-use Rattle.nc_layout.specs.Findings.{layout_findings}
 use Rattle.nc_layout.proofs.BlockOrder.{contains-none, contains-here, contains-there, contains-cases}
 use Rattle.nccheck_laws.specs.LayoutLaws.{FindsNone}
 use Rattle.nccheck_laws.proofs.IndexedSlots.{At}

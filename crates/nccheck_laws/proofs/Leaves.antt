@@ -1,14 +1,9 @@
 -- Parts that are one field: a number of bytes, whose value is decoded.
 use Rattle.std.proofs.Common.{◌≡◌, ℕ, Bool, true, false, cond, leb, List, [], ◌∷◌, length, take, drop, None, Result, Ok, Err, refl, sym, ap, ◌∙◌, arith}
-use Rattle.nc_base.specs.declared.fault.FormatFault.{FormatFault}
+use Rattle.nccheck_laws.proofs.Prelude.{FormatFault, Bytes, Step, Part, done, bytes, decoded, under, chain, Spells, Outcome, and_then, run, reads, fields, fault_in}
 use Rattle.nc_base.specs.declared.fault.FormatFault.TheVariants.{HeaderTruncated}
-use Rattle.nc_base.specs.Bytes.{Bytes}
-use Rattle.nc_base.specs.Parts.{Step, Part, done, bytes, decoded, under, chain, Spells}
-use Rattle.nc_base.specs.code.PartRuns.{Outcome, and_then, with_rest}
-unfoldable use Rattle.nc_base.specs.code.PartRuns.{run}
-use Rattle.nc_base.proofs.PartOutcomes.{reads}
-use Rattle.nc_fields.specs.Fields.{fields}
-use Rattle.nc_fields.proofs.Checks.{IsField, fault_in, bytes-field, decoded-field}
+use Rattle.nc_base.specs.code.PartRuns.{with_rest}
+use Rattle.nc_fields.proofs.Checks.{IsField, bytes-field, decoded-field}
 
 abbrev pub is_leaf : {A : Type 0} → Part A → Bool
 is_leaf (bytes n cut) = true
@@ -45,7 +40,8 @@ leaf-run {A = B} (decoded {A = A} decode encode p) from leaf =
     ap (λ o. and_then o (λ x rest. with_rest (decode x) rest)) (leaf-run p from leaf)
     ∙ by-cases (leb (leaf_size p) (length from)) (judge p (take (leaf_size p) from))
   where
-    by-cases : (b : Bool) (y : Result A FormatFault) → and_then (read_bytes b (drop (leaf_size p) from) (leaf_cut p) y) (λ x rest. with_rest (decode x) rest)
+    by-cases : (b : Bool) (y : Result A FormatFault)
+        → and_then (read_bytes b (drop (leaf_size p) from) (leaf_cut p) y) (λ x rest. with_rest (decode x) rest)
         ≡ read_bytes b (drop (leaf_size p) from) (leaf_cut p) (elim y as (λ y. Result B FormatFault) [ Ok x ↦ decode x | Err e ↦ Err e ])
     by-cases b y = grind arith
 leaf-run (done x) from leaf = absurd cc
@@ -64,12 +60,13 @@ pub record IsLeafOf {A : Type 0} (steps : List Step) (p : Part A) (from : Bytes)
   pub listed : fields steps p from ≡ record { steps = steps; start = from; size = leaf_size p; fault = None } ∷ []
   pub is : judge p (take (leaf_size p) from) ≡ Ok y
 
-pub leaf-spelled : {A : Type 0} (steps : List Step) (p : Part A) (from : Bytes) (y : A) (rest : Bytes) → is_leaf p ≡ true → Spells p from y rest
-    → IsLeafOf steps p from y
+pub leaf-spelled : {A : Type 0} (steps : List Step) (p : Part A) (from : Bytes) (y : A) (rest : Bytes) → is_leaf p ≡ true
+    → Spells p from y rest → IsLeafOf steps p from y
 leaf-spelled {A = A} steps p from y rest leaf s =
     let read = reads p from y rest s in
     record {
-      listed = leaf-field p leaf steps from ∙ ap (λ o. record { steps = steps; start = from; size = leaf_size p; fault = fault_in o } ∷ []) read;
+      listed = leaf-field p leaf steps from
+          ∙ ap (λ o. record { steps = steps; start = from; size = leaf_size p; fault = fault_in o } ∷ []) read;
       is = by-test (leb (leaf_size p) (length from)) (judge p (take (leaf_size p) from)) (sym (leaf-run p from leaf) ∙ read);
     }
   where

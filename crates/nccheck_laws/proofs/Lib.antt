@@ -1,3 +1,4 @@
+pub mod Prelude
 pub mod IndexedSlots
 pub mod FoundNone
 pub mod LayoutBlocks

@@ -1,32 +1,14 @@
 -- What a report says of the values of a file, whatever their types.
-use Rattle.std.proofs.Common.{arith}
-use Rattle.std.proofs.Common.{◌≡◌, ◌≢◌, ℕ, ◌+◌, inl, inr, false, List, [], ◌∷◌, length, map, flat_map, Result, Ok, Err, refl, sym, ap, ◌∙◌, subst}
+use Rattle.std.proofs.Common.{arith, ◌≡◌, ◌≢◌, ℕ, ◌+◌, inl, inr, false, List, [], ◌∷◌, length, map, flat_map, Result, Ok, Err, refl, sym, ap, ◌∙◌, subst}
+use Rattle.nccheck_laws.proofs.Prelude.{list_any_none, list_any-IsPermutation, FormatFault, Header, Bytes, header_by, stops, Entry, Field, fields, Seen, seen_by, seen, lenient, IsOutcome, layout_of, spelled-layout, Fact, Finding, Report, field_at, indexed, indexed_from, field_findings, floating_findings, facts_of, findings_at, all_findings, IsReport}
 use Rattle.std.proofs.lemmas.List.Elements.{All-contains}
-use Rattle.std.proofs.lemmas.List.Folds.{list_any_none}
-use Rattle.std.proofs.lemmas.List.Sorted.{Contains-permutation, list_any-IsPermutation}
-use Rattle.nc_base.specs.declared.{fault.FormatFault.FormatFault, header.Header.Header}
-use Rattle.nc_base.specs.Bytes.{Bytes}
-use Rattle.nc_base.specs.Grammar.{header_by}
-use Rattle.nc_base.proofs.PartOutcomes.{stops}
-use Rattle.nc_fields.specs.declared.{entry.Entry.Entry}
-use Rattle.nc_fields.specs.Fields.{Field, fields}
-use Rattle.nc_fields.specs.Entries.{Seen, seen_by}
-unfoldable use Rattle.nc_fields.specs.Entries.{seen}
-use Rattle.nc_fields.specs.Lenient.{lenient}
-use Rattle.nc_fields.specs.Listings.{IsOutcome}
-use Rattle.nc_layout.specs.HeaderLayout.{layout_of}
-use Rattle.nc_layout.proofs.SpelledLayouts.{spelled-layout}
+use Rattle.std.proofs.lemmas.List.Sorted.{Contains-permutation}
 use Rattle.nccheck_laws.specs.HeaderLaws.{finds, is_of_missing}
 use Rattle.nccheck_laws.specs.LayoutLaws.{FindsNone, is_of_shared_bytes}
 use Rattle.nccheck_laws.proofs.MissingValues.{missing-found}
 use Rattle.nccheck_laws.proofs.SlabsApart.{quiet-apart}
-use Rattle.nc_report.specs.declared.{finding.Fact.Fact, finding.Finding.Finding, report.Report.Report}
 use Rattle.nc_report.specs.declared.kind.Severity.TheVariants.{Error}
-use Rattle.nc_report.specs.Indexed.{field_at, indexed, indexed_from}
-unfoldable use Rattle.nc_report.specs.FieldRules.{field_findings, floating_findings}
-use Rattle.nc_report.specs.FieldRules.{facts_of, findings_at}
 use Rattle.nc_report.specs.Kinds.{kind_of, kind_of_fault, severity_of}
-use Rattle.nc_report.specs.Reports.{all_findings, IsReport}
 use Rattle.nccheck_laws.specs.ErrorLaws.{HasNoError, ListedHeadersTellMissingValues, ListedHeadersHaveSlabsApart, ReportsWithoutErrorsHaveValues}
 use Rattle.nccheck_laws.specs.FaultLaws.{is_missing}
 use Rattle.nccheck_laws.specs.ReportLaws.{is_of_layout}

@@ -1,34 +1,12 @@
 -- A report finds that values are missing exactly if some variable of the header has a first missing value.
 use Rattle.std.proofs.Common.{arith, ◌≡◌, ℕ, ◌+◌, ◌||◌, Bool, false, List, [], ◌∷◌, ◌++◌, length, map, flat_map, find, Option, Some, None, Ok, refl, sym, ap, ◌∙◌, subst}
-use Rattle.std.specs.List.{All, list_any}
-use Rattle.std.specs.Option.{option_to_list, option_map}
-use Rattle.std.proofs.lemmas.List.Elements.{All-nil, All-cons, All-append}
-use Rattle.std.proofs.lemmas.List.Folds.{list_any-append, list_any_none}
-use Rattle.std.proofs.lemmas.List.Sorted.{list_any-IsPermutation}
-use Rattle.nc_base.specs.declared.{fault.FormatFault.FormatFault, header.Header.Header}
-use Rattle.nc_base.specs.declared.fault.FormatFault.TheVariants.{FloatingType}
-use Rattle.nc_base.specs.Grammar.{strict, header_by}
-use Rattle.nc_base.proofs.PartOutcomes.{reads}
-use Rattle.nc_fields.specs.declared.{entry.Entry.Entry, entry.Content.Content, place.FieldName.FieldName, header.Listing.Listing}
+use Rattle.nccheck_laws.proofs.Prelude.{All, list_any, option_to_list, option_map, All-nil, All-cons, All-append, list_any-append, list_any_none, list_any-IsPermutation, FormatFault, Header, FloatingType, strict, header_by, reads, Entry, Content, FieldName, Listing, lenient, without_values, Layout, layout_findings, layout_of, spelled-layout, Fact, Finding, Indexed, field_at, indexed_from, indexed, finding, facts_with, findings_at, field_findings, floating_findings, header_findings, vsize_findings, located, layout_facts, whole_findings, all_findings, has_any}
 use Rattle.nc_fields.specs.declared.entry.Content.TheVariants as content
-use Rattle.nc_fields.specs.Lenient.{lenient}
-use Rattle.nccheck_laws.specs.Agreement.{without_values}
 use Rattle.nccheck_laws.proofs.StrictHeaders.{strict-headers}
-use Rattle.nc_layout.specs.declared.{slot.Layout.Layout}
-use Rattle.nc_layout.specs.Findings.{layout_findings}
 use Rattle.nccheck_laws.specs.HeaderLaws.{finds, is_of_missing}
-use Rattle.nc_layout.specs.HeaderLayout.{layout_of}
 use Rattle.nccheck_laws.proofs.MissingValues.{missing-found}
-use Rattle.nc_layout.proofs.SpelledLayouts.{spelled-layout}
-use Rattle.nc_report.specs.declared.{finding.Fact.Fact, finding.Finding.Finding}
 use Rattle.nc_report.specs.declared.finding.Fact.TheVariants as fact
-use Rattle.nc_report.specs.Indexed.{Indexed, field_at, indexed_from, indexed, finding}
-use Rattle.nc_report.specs.FieldRules.{facts_with, findings_at, is_floating}
-unfoldable use Rattle.nc_report.specs.FieldRules.{field_findings, floating_findings}
-unfoldable use Rattle.nc_report.specs.HeaderRules.{header_findings}
-use Rattle.nc_report.specs.WholeHeader.{vsize_findings, located, layout_facts, whole_findings}
-unfoldable use Rattle.nc_report.specs.Reports.{all_findings}
-use Rattle.nccheck_laws.specs.ReportLaws.{has_any}
+use Rattle.nc_report.specs.FieldRules.{is_floating}
 use Rattle.nccheck_laws.specs.FaultLaws.{is_missing, ReportsTellMissingValues}
 use Rattle.nccheck_laws.proofs.FaultFindings.{fault-fact}
 use Rattle.nccheck_laws.proofs.LayoutFacts.{all-located, is-read, whole-header, same-layout}

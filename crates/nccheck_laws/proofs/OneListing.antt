@@ -1,19 +1,11 @@
 -- Each list of bytes has one listing.
 use Rattle.std.proofs.Common.{◌≡◌, ℕ, ◌-◌, List, [], ◌∷◌, length, map, Option, Result, Ok, Err, refl, sym, ap, ap₂, ◌∙◌, arith}
-use Rattle.nc_base.specs.declared.{header.Header.Header, fault.FormatFault.FormatFault}
-use Rattle.nc_base.specs.Bytes.{Bytes}
-use Rattle.nc_base.specs.Parts.{Step}
-use Rattle.nc_base.specs.Grammar.{header_by}
-use Rattle.nc_base.specs.code.PartRuns.{Outcome, with_rest, run}
+use Rattle.nccheck_laws.proofs.Prelude.{Header, FormatFault, Bytes, Step, header_by, Outcome, run, reads, stops, Content, Entry, Listing, Field, fields, Seen, seen_by, steps_of, seen, lenient, IsOutcome}
+use Rattle.nc_base.specs.code.PartRuns.{with_rest}
 unfoldable use Rattle.nc_base.specs.code.PartRuns.{left_after}
-use Rattle.nc_base.proofs.PartOutcomes.{Tells, tells, reads, stops}
+use Rattle.nc_base.proofs.PartOutcomes.{Tells, tells}
 use Rattle.nc_file.proofs.PartRuns.{shorter}
-use Rattle.nc_fields.specs.declared.{entry.Content.Content, entry.Entry.Entry, header.Listing.Listing}
-use Rattle.nc_fields.specs.Fields.{Field, fields}
-use Rattle.nc_fields.specs.Entries.{Seen, seen_by, steps_of}
-unfoldable use Rattle.nc_fields.specs.Entries.{seen}
-use Rattle.nc_fields.specs.Lenient.{lenient}
-use Rattle.nc_fields.specs.Listings.{IsListing, IsOutcome}
+use Rattle.nc_fields.specs.Listings.{IsListing}
 use Rattle.nccheck_laws.proofs.EntryPlaces.{entries-told}
 use Rattle.nccheck_laws.proofs.FieldPlaces.{ArePlaced, placed-header}
 

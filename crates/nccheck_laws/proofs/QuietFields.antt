@@ -1,28 +1,16 @@
 -- What a field shows at which nothing is found about its spelling.
-use Rattle.std.proofs.lemmas.Grind.{common_steps}
 use Rattle.std.proofs.Common.{◌≡◌, ℕ, ◌+◌, ◌==◌, ◌&&◌, ◌||◌, not, Bool, false, cond, List, [], ◌∷◌, ◌++◌, length, map, replicate, Some, None, refl, ap, ◌∙◌, subst, arith, length-take-le, option_to_list, if◌then◌else◌}
+use Rattle.nccheck_laws.proofs.Prelude.{common_steps, Header, Bytes, Step, Padding, Tag, Count, Vsize, Item, Dims, Gatts, Vars, Atts, Content, Entry, FieldName, Owner, Field, Seen, seen_by, steps_of, name_steps, owner_steps, whole_content, seen, bytes_of, number_of, IsWritten, AreWritten, Fact, Finding, Indexed, field_at, indexed, indexed_from, finding, each_before, ahead_of, finding_by_name, attribute_finding, is_first, facts_with, findings_at, field_findings, attribute_findings, is_of_spelling, has_any}
 use Rattle.std.proofs.lemmas.Bool.{ltb-false}
-use Rattle.nc_base.specs.declared.{header.Header.Header}
-use Rattle.nc_base.specs.Bytes.{Bytes}
-use Rattle.nc_base.specs.Parts.{Step, Padding, Tag, Count, Vsize, Item, Dims, Gatts, Vars, Atts}
-use Rattle.nc_fields.specs.declared.{entry.Content.Content, entry.Entry.Entry, place.FieldName.FieldName, place.Owner.Owner}
 use Rattle.nc_fields.specs.declared.entry.Content.TheVariants as content
 use Rattle.nc_fields.specs.declared.place.FieldName.TheVariants as name
-use Rattle.nc_fields.specs.Fields.{Field}
-use Rattle.nc_fields.specs.Entries.{Seen, seen_by, steps_of, name_steps, owner_steps, whole_content, cut_content}
-unfoldable use Rattle.nc_fields.specs.Entries.{seen}
-use Rattle.nccheck_laws.specs.Written.{bytes_of, number_of, IsWrittenTag, IsWritten, AreWritten}
+use Rattle.nc_fields.specs.Entries.{cut_content}
+use Rattle.nccheck_laws.specs.Written.{IsWrittenTag}
 use Rattle.nccheck_laws.proofs.Vsizes.{IsWhole, AreWhole, IsVsizeWritten, AreVsizesWritten}
-use Rattle.nc_report.specs.declared.{finding.Fact.Fact, finding.Finding.Finding}
 use Rattle.nc_report.specs.declared.finding.Fact.TheVariants as fact
-use Rattle.nc_report.specs.Indexed.{Indexed, field_at, indexed, indexed_from, finding, each_before}
-use Rattle.nc_report.specs.Ahead.{ahead_of, is_field, next_number, number_in}
-use Rattle.nc_report.specs.AttributeRules.{empty_list, finding_by_name, attribute_finding}
-use Rattle.nc_report.specs.NameRules.{is_first}
-use Rattle.nc_report.specs.FieldRules.{has_nonzero, content_facts, facts_with, findings_at}
-unfoldable use Rattle.nc_report.specs.FieldRules.{field_findings}
-unfoldable use Rattle.nc_report.specs.AttributeRules.{attribute_findings}
-use Rattle.nccheck_laws.specs.ReportLaws.{is_of_spelling, has_any}
+use Rattle.nc_report.specs.Ahead.{is_field, next_number, number_in}
+use Rattle.nc_report.specs.AttributeRules.{empty_list}
+use Rattle.nc_report.specs.FieldRules.{has_nonzero, content_facts}
 
 -- nothing of these findings is about the spelling
 abbrev pub AreOther : List Finding → Type 0

@@ -1,40 +1,15 @@
 -- A header about whose spelling a report finds nothing is spelled as it is written.
-use Rattle.std.proofs.lemmas.Grind.{common_steps}
-use Rattle.std.proofs.Common.{◌≡◌, ℕ, zero, suc, ◌+◌, List, [], ◌∷◌, ◌++◌, length, map, Option, Some, None, Result, Ok, Err, refl, sym, ap, ◌∙◌, subst, arith, slice_get, IfSome, option_to_list, option_map}
-use Rattle.std.proofs.lemmas.Option.{slice_get-map}
-use Rattle.std.proofs.lemmas.List.Sorted.{list_any-IsPermutation}
-use Rattle.nc_base.specs.declared.{fault.FormatFault.FormatFault, header.Dim.Dim, header.Var.Var, header.Header.Header, version.Version.Version}
-use Rattle.nc_base.specs.Bytes.{Bytes}
-use Rattle.nc_base.specs.Sizes.{padded_size}
-use Rattle.nc_base.specs.Grammar.{header_by, vsize_of}
-use Rattle.nc_base.specs.code.PartRuns.{run}
-use Rattle.nc_base.proofs.PartOutcomes.{reads, stops}
-use Rattle.nc_fields.specs.declared.{entry.Entry.Entry, place.FieldName.FieldName, place.Owner.Owner, header.Listing.Listing}
+use Rattle.std.proofs.Common.{◌≡◌, ℕ, zero, suc, ◌+◌, List, [], ◌∷◌, ◌++◌, length, map, Option, Some, None, refl, sym, ap, ◌∙◌, subst, arith, slice_get, IfSome, option_to_list}
+use Rattle.nccheck_laws.proofs.Prelude.{list_any-IsPermutation, Dim, Var, Header, Version, padded_size, header_by, vsize_of, reads, Entry, FieldName, Owner, Listing, Field, lenient, Seen, seen_by, name_steps, owner_steps, seen, header_fields, without_values, number_of, IsWrittenVsize, Slot, each_slot, layout_of, Finding, Indexed, indexed_from, indexed, header_findings, is_vsize, named, vsize_finding, located, whole_findings, layout_findings, vsize_findings, all_findings, is_of_spelling}
 use Rattle.nc_fields.specs.declared.entry.Content.TheVariants as content
-use Rattle.nc_fields.specs.Fields.{Field}
-use Rattle.nc_fields.specs.Lenient.{lenient}
-use Rattle.nc_fields.specs.Listings.{IsOutcome}
-use Rattle.nc_fields.specs.Entries.{Seen, seen_by, name_steps, owner_steps}
-unfoldable use Rattle.nc_fields.specs.Entries.{seen}
-use Rattle.nccheck_laws.specs.Agreement.{header_fields, without_values, var_without_values}
-use Rattle.nccheck_laws.specs.Written.{number_of, IsWrittenVsize}
 use Rattle.nccheck_laws.proofs.StrictHeaders.{strict-headers}
 use Rattle.nccheck_laws.proofs.WrittenParts.{written-fields}
 use Rattle.nccheck_laws.proofs.Vsizes.{AreWhole, AreSizes, spelled-whole, is_vsize_at, vsizes, AreNumbered, header-numbered, numbered-written}
-use Rattle.nc_layout.specs.declared.slot.{Slot.Slot}
 use Rattle.nc_layout.specs.Slots.{padded_slab}
-use Rattle.nc_layout.specs.Blocks.{each_slot}
-use Rattle.nc_layout.specs.HeaderLayout.{slot_of, layout_of}
+use Rattle.nc_layout.specs.HeaderLayout.{slot_of}
 use Rattle.nccheck_laws.proofs.FirstFaults.{faultless}
 use Rattle.nccheck_laws.proofs.LayoutFacts.{is-read, whole-header, same-layout}
-use Rattle.nc_report.specs.declared.{finding.Finding.Finding}
-use Rattle.nc_report.specs.Indexed.{Indexed, indexed_from, indexed}
-unfoldable use Rattle.nc_report.specs.HeaderRules.{header_findings}
-use Rattle.nc_report.specs.WholeHeader.{is_vsize, named, vsize_finding, located, whole_findings}
-use Rattle.nc_layout.specs.Findings.{layout_findings}
-unfoldable use Rattle.nc_report.specs.WholeHeader.{vsize_findings}
-unfoldable use Rattle.nc_report.specs.Reports.{all_findings}
-use Rattle.nccheck_laws.specs.ReportLaws.{is_of_spelling, QuietSpellingsAreCanonical, QuietHeadersAreCanonical}
+use Rattle.nccheck_laws.specs.ReportLaws.{QuietSpellingsAreCanonical, QuietHeadersAreCanonical}
 use Rattle.nccheck_laws.proofs.QuietFields.{AreOther, both-other, AreQuiet, quiet-entries, quiet-written, seen-content}
 
 -- ---- the sizes of variables among entries and fields
@@ -105,8 +80,8 @@ size-written h end file_len len i entries fs f same whole at other there = by-va
         let picked = pick len i (named is_vsize entries) fs f same there in
         found-size h.version (padded_size h.dims var) (slice_get (named is_vsize entries) i) picked.0 (number_of f) picked.1
         (ap (λ (s : Seen). s.content) picked.2 ∙ size-number len 0 i fs f whole at there)
-        (slots-other (λ i slot. option_to_list (vsize_finding h.version (padded_slab slot) (slice_get (named is_vsize entries) i))) h.dims h.vars
-        0 i i var other is (sym (from-zero i)))
+        (slots-other (λ i slot. option_to_list (vsize_finding h.version (padded_slab slot) (slice_get (named is_vsize entries) i)))
+        h.dims h.vars 0 i i var other is (sym (from-zero i)))
 
 sizes-written : (h : Header) (end file_len len : ℕ) (entries : List Indexed) (fs : List Field)
     → map (λ (x : Indexed). seen_by x.entry) (named is_vsize entries) ≡ map (seen len) fs → AreWhole fs → AreNumbered 0 fs
@@ -116,7 +91,8 @@ sizes-written h end file_len len entries fs same whole at other i = by-field (sl
     by-field : (o : Option Field) → slice_get fs i ≡ o → IfSome o (λ (f : Field). IsWrittenVsize h (0 + i) (number_of f))
     by-field None is = tt
     by-field (Some f) is =
-        subst (λ j. IsWrittenVsize h j (number_of f)) (sym (from-zero i)) (size-written h end file_len len i entries fs f same whole at other is)
+        subst (λ j. IsWrittenVsize h j (number_of f)) (sym (from-zero i))
+        (size-written h end file_len len i entries fs f same whole at other is)
 
 -- ---- the whole
 

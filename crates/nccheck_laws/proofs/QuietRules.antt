@@ -1,31 +1,14 @@
 -- Which findings are faults: of those at fields alone, the ones at entries that the strict rules refuse; of all others, none.
 use Rattle.std.proofs.Common.{◌≡◌, ℕ, ◌+◌, ◌||◌, ◌⊎◌, Bool, true, false, List, [], ◌∷◌, ◌++◌, flat_map, slice_get, Option, None, refl, sym, ◌∙◌, arith}
-use Rattle.std.specs.List.{All, Contains}
-use Rattle.std.specs.Option.{option_to_list}
-use Rattle.std.proofs.lemmas.List.Folds.{list_any-append}
-use Rattle.std.proofs.lemmas.List.Elements.{All-nil, All-cons, All-append, All-map, Contains-append_right}
-use Rattle.nc_base.specs.declared.{version.Version.Version}
-use Rattle.nc_fields.specs.declared.{entry.Entry.Entry, place.FieldName.FieldName, header.Listing.Listing}
-use Rattle.nc_layout.specs.declared.{slot.Slot.Slot, slot.Layout.Layout, finding.LayoutFinding.LayoutFinding}
+use Rattle.nccheck_laws.proofs.Prelude.{All, Contains, option_to_list, list_any-append, All-nil, All-cons, All-append, Contains-append_right, Version, Entry, FieldName, Listing, Slot, Layout, LayoutFinding, each_slot, layout_findings, Fact, Finding, Indexed, field_at, indexed_from, indexed, each_before, findings_at, field_findings, floating_findings, is_first, attribute_findings, finding_by_name, attribute_finding, ahead_of, vsize_findings, whole_findings, is_vsize, named, vsize_finding, located, layout_facts, header_findings, all_findings, is_fault, has_any}
+use Rattle.std.proofs.lemmas.List.Elements.{All-map}
 use Rattle.nc_layout.specs.Slots.{padded_slab}
-use Rattle.nc_layout.specs.Blocks.{each_slot}
-use Rattle.nc_layout.specs.Findings.{layout_findings}
-use Rattle.nc_report.specs.declared.{finding.Fact.Fact, finding.Finding.Finding, ahead.Ahead.Ahead}
+use Rattle.nc_report.specs.declared.{ahead.Ahead.Ahead}
 use Rattle.nc_report.specs.declared.finding.Fact.TheVariants as fact
-use Rattle.nc_report.specs.Indexed.{Indexed, field_at, indexed_from, indexed, each_before, each_after}
-use Rattle.nc_report.specs.FieldRules.{findings_at, floating_finding}
-unfoldable use Rattle.nc_report.specs.FieldRules.{field_findings, floating_findings}
+use Rattle.nc_report.specs.Indexed.{each_after}
+use Rattle.nc_report.specs.FieldRules.{floating_finding}
 unfoldable use Rattle.nc_report.specs.NameRules.{name_findings}
-use Rattle.nc_report.specs.NameRules.{duplicate_name, is_first}
-unfoldable use Rattle.nc_report.specs.AttributeRules.{attribute_findings}
-use Rattle.nc_report.specs.AttributeRules.{finding_by_name, attribute_finding}
-use Rattle.nc_report.specs.Ahead.{ahead_of}
-unfoldable use Rattle.nc_report.specs.WholeHeader.{vsize_findings, whole_findings}
-use Rattle.nc_report.specs.WholeHeader.{is_vsize, named, vsize_finding, located, layout_facts}
-unfoldable use Rattle.nc_report.specs.HeaderRules.{header_findings}
-unfoldable use Rattle.nc_report.specs.Reports.{all_findings}
-use Rattle.nccheck_laws.specs.FaultLaws.{is_fault}
-use Rattle.nccheck_laws.specs.ReportLaws.{has_any}
+use Rattle.nc_report.specs.NameRules.{duplicate_name}
 use Rattle.nccheck_laws.proofs.Refusals.{refusal_of}
 use Rattle.nccheck_laws.proofs.FaultFindings.{quiet-type, contains-first}
 

@@ -1,16 +1,10 @@
 -- The first entry of a listing that the strict rules refuse.
 use Rattle.std.proofs.Common.{le_trans, ◌≡◌, ℕ, ◌-◌, ◌≤◌, Bool, true, false, cond, nat_lt, List, [], ◌∷◌, ◌++◌, length, map, drop, Option, Some, None, refl, sym, ap, ◌∙◌, subst, arith}
-use Rattle.std.specs.List.{All}
+use Rattle.nccheck_laws.proofs.Prelude.{All, All-nil, All-cons, FormatFault, Bytes, Step, Entry, Field, seen, Seen, seen_by, steps_of, whole_content, refusal_in, first_refusal}
 use Rattle.std.proofs.lemmas.List.{length-drop}
-use Rattle.std.proofs.lemmas.List.Elements.{All-nil, All-cons}
-use Rattle.nc_base.specs.declared.fault.FormatFault.{FormatFault}
-use Rattle.nc_base.specs.Bytes.{Bytes}
-use Rattle.nc_base.specs.Parts.{Step, Magic}
-use Rattle.nc_fields.specs.declared.{entry.Entry.Entry}
-use Rattle.nc_fields.specs.Fields.{Field}
-unfoldable use Rattle.nc_fields.specs.Entries.{seen}
-use Rattle.nc_fields.specs.Entries.{Seen, seen_by, steps_of, whole_content, cut_content}
-use Rattle.nccheck_laws.specs.Agreement.{refusal_in, refusal, first_refusal}
+use Rattle.nc_base.specs.Parts.{Magic}
+use Rattle.nc_fields.specs.Entries.{cut_content}
+use Rattle.nccheck_laws.specs.Agreement.{refusal}
 use Rattle.nccheck_laws.proofs.Agreement.{first_of}
 use Rattle.nccheck_laws.proofs.FieldOrder.{Descend}
 

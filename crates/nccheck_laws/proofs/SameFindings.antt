@@ -1,11 +1,11 @@
 -- The order of findings tells all of them apart.
 use Rattle.std.proofs.Common.{◌≡◌, ℕ, false, refl, sym, ap, Option, Some, None}
+use Rattle.nccheck_laws.proofs.Prelude.{FormatFault, Fact, Finding}
 use Rattle.std.specs.declared.cmp.Ordering.{Ordering}
 use Rattle.std.specs.declared.cmp.Ordering.TheVariants.{Less, Equal, Greater}
 use Rattle.std.specs.Option.{option_cmp}
 use Rattle.std.specs.Ordering.{is_eq, nat_cmp, ordering_then}
 use Rattle.std.proofs.lemmas.Cmp.{ranked}
-use Rattle.nc_base.specs.declared.fault.FormatFault.{FormatFault}
 use Rattle.nc_base.specs.declared.fault.FormatFault.TheVariants as fault
 use Rattle.nc_layout.specs.declared.finding.Block.{Block}
 use Rattle.nc_layout.specs.declared.finding.Block.TheVariants as block
@@ -13,9 +13,7 @@ use Rattle.nc_layout.specs.declared.finding.Slab.{Slab}
 use Rattle.nc_layout.specs.declared.finding.Slab.TheVariants as slab
 use Rattle.nc_layout.specs.declared.finding.LayoutFact.{LayoutFact}
 use Rattle.nc_layout.specs.declared.finding.LayoutFact.TheVariants as layout
-use Rattle.nc_report.specs.declared.finding.Fact.{Fact}
 use Rattle.nc_report.specs.declared.finding.Fact.TheVariants as fact
-use Rattle.nc_report.specs.declared.finding.Finding.{Finding}
 use Rattle.nc_base.specs.contracts.fault.FormatFaultOrd.TheImpl as faults
 use Rattle.nc_layout.specs.contracts.finding.BlockOrd.TheImpl as blocks
 use Rattle.nc_layout.specs.contracts.finding.SlabOrd.TheImpl as slabs

@@ -1,14 +1,9 @@
 -- What the strict rules read of a header, told from the fields that the lenient rules list.
-use Rattle.std.proofs.Common.{arith}
-use Rattle.std.proofs.Common.{◌≡◌, [], Some, None, Ok, subst}
-use Rattle.nc_base.specs.declared.{fault.FormatFault.FormatFault, header.Header.Header}
-use Rattle.nc_base.specs.Bytes.{Bytes}
-use Rattle.nc_base.specs.Grammar.{header_by, header_part, SpellsHeader}
-use Rattle.nc_base.specs.code.PartRuns.{StopsWith, Outcome, run}
-use Rattle.nc_base.proofs.PartOutcomes.{Tells, tells, reads, stops}
-use Rattle.nc_fields.specs.Fields.{fields}
-use Rattle.nc_fields.specs.Lenient.{lenient}
-use Rattle.nccheck_laws.specs.Agreement.{first_refusal, header_fields, without_values, SpellsLeniently, StrictHeadersAreLenient, LenientHeadersAreStrict, UnrefusedHeadersAreSpelled, StrictFaultsAreFirstRefusals}
+use Rattle.std.proofs.Common.{arith, ◌≡◌, [], Some, None, Ok, subst}
+use Rattle.nccheck_laws.proofs.Prelude.{FormatFault, Header, Bytes, header_by, header_part, SpellsHeader, Outcome, run, reads, stops, fields, lenient, first_refusal, header_fields, without_values}
+use Rattle.nc_base.specs.code.PartRuns.{StopsWith}
+use Rattle.nc_base.proofs.PartOutcomes.{Tells, tells}
+use Rattle.nccheck_laws.specs.Agreement.{SpellsLeniently, StrictHeadersAreLenient, LenientHeadersAreStrict, UnrefusedHeadersAreSpelled, StrictFaultsAreFirstRefusals}
 use Rattle.nccheck_laws.proofs.Agreement.{Agrees}
 use Rattle.nccheck_laws.proofs.AgreeingParts.{agree-header}
 

@@ -1,17 +1,8 @@
 -- The fields of a header that is spelled are whole, and those that are the sizes of variables stand there in the order of the variables.
-use Rattle.std.proofs.lemmas.Grind.{common_steps}
 use Rattle.std.proofs.Common.{◌≡◌, ℕ, suc, zero, ◌+◌, Bool, true, false, cond, nat_lt, List, [], ◌∷◌, ◌++◌, length, Option, None, refl, sym, ap, ◌∙◌, subst, arith, filter, length-append, append-nil, slice_get, IfSome}
+use Rattle.nccheck_laws.proofs.Prelude.{common_steps, Dim, Var, Header, Version, Bytes, count_width, Step, Part, done, bytes, decoded, under, chain, Spells, Dims, Gatts, Vars, Item, Name, Shape, Atts, Vsize, byte_len, padded_total, record_vars, dimension_tag, dim_after, dimid_after, var_after, number, limited_part, offset_part, ignored, name_part, type_part, each, counted, list_head, list_part, dim_part, dim_list, att_part, att_list, dimid_part, shape_part, var_part, var_list, version_part, magic_part, numrecs_part, header_by, Field, fields, number_of, IsWrittenVsize}
 use Rattle.nc_base.proofs.Prelude.{filter-append}
-use Rattle.nc_base.specs.declared.{header.Dim.Dim, header.Var.Var, header.Header.Header, version.Version.Version}
-use Rattle.nc_base.specs.Bytes.{Bytes}
-use Rattle.nc_base.specs.Versions.{count_width}
-use Rattle.nc_base.specs.Parts.{Step, Part, done, bytes, decoded, under, chain, Spells, Dims, Gatts, Vars, Item, Name, Shape, Atts, Vsize}
-use Rattle.std.specs.Int.{byte_len}
-use Rattle.nc_base.specs.Sizes.{padded_total, record_vars}
-use Rattle.nc_base.specs.Grammar.{Rules, dimension_tag, dim_after, dimid_after, var_after}
-unfoldable use Rattle.nc_base.specs.Grammar.{number, limited_part, offset_part, ignored, name_part, type_part, each, counted, list_head, list_part, dim_part, dim_list, att_part, att_list, dimid_part, shape_part, var_part, var_list, version_part, magic_part, numrecs_part, header_by}
-use Rattle.nc_fields.specs.Fields.{Field, fields}
-use Rattle.nccheck_laws.specs.Written.{number_of, IsWrittenVsize}
+use Rattle.nc_base.specs.Grammar.{Rules}
 use Rattle.nccheck_laws.proofs.Written.{whole_field, bytes-fields, decoded-fields, chain-fields}
 use Rattle.nccheck_laws.proofs.Leaves.{leaf-spelled}
 

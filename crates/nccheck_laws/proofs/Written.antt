@@ -1,17 +1,12 @@
 -- Parts whose fields are as they are written: the bytes are what is written of the value.
-use Rattle.std.proofs.lemmas.Grind.{common_steps}
 use Rattle.std.proofs.Common.{◌≡◌, ℕ, suc, zero, List, [], ◌∷◌, ◌++◌, length, take, Option, Some, None, Result, Ok, refl, sym, ap, ◌∙◌, subst, arith, append_assoc}
+use Rattle.nccheck_laws.proofs.Prelude.{common_steps, w32, byte_len, Header, Version, FormatFault, Bytes, Step, Part, done, bytes, decoded, under, chain, Spells, Padding, count_width, number, ignored, reads, Field, fields, IsWritten, AreWritten}
 use Rattle.std.proofs.Math.Seq.{take-append_seam}
-use Rattle.std.specs.Int.{Width, w32, w64, byte_len, to_be_bytes, from_be_bytes}
+use Rattle.std.specs.Int.{Width, w64, to_be_bytes, from_be_bytes}
 use Rattle.nc_base.proofs.Prelude.{be_bytes_4, be_bytes_8}
-use Rattle.nc_base.specs.declared.{header.Header.Header, version.Version.Version, fault.FormatFault.FormatFault}
-use Rattle.nc_base.specs.Bytes.{Bytes, AreBytes}
-use Rattle.nc_base.specs.Parts.{Step, Part, done, bytes, decoded, under, chain, Spells, print, Padding}
-use Rattle.nc_base.specs.Versions.{count_width, offset_width}
-unfoldable use Rattle.nc_base.specs.Grammar.{number, ignored}
-use Rattle.nc_base.proofs.PartOutcomes.{reads}
-use Rattle.nc_fields.specs.Fields.{Field, fields}
-use Rattle.nccheck_laws.specs.Written.{IsWritten, AreWritten}
+use Rattle.nc_base.specs.Bytes.{AreBytes}
+use Rattle.nc_base.specs.Parts.{print}
+use Rattle.nc_base.specs.Versions.{offset_width}
 
 -- ---- the fields of what is spelled
 
