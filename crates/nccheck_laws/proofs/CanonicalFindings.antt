@@ -1,16 +1,11 @@
 -- Nothing is found about the spelling at the fields of a header that are as they are written.
 use Rattle.std.proofs.Common.{arith, ◌≡◌, ℕ, zero, suc, ◌+◌, ◌==◌, ◌&&◌, not, Bool, false, List, [], ◌∷◌, ◌++◌, map, replicate, Option, None, refl, sym, ap, ◌∙◌, subst, option_to_list, if◌then◌else◌}
-use Rattle.nccheck_laws.proofs.Prelude.{common_steps, option_map, Header, FloatingType, Step, Content, Entry, FieldName, Owner, Field, seen_by, steps_of, name_steps, owner_steps, whole_content, seen, Fact, Finding, Indexed, field_at, indexed_from, finding, each_before, ahead_of, finding_by_name, attribute_finding, attribute_findings, facts_with, findings_at, field_findings, floating_findings, is_first, header_findings, is_of_spelling, bytes_of, number_of}
+use Rattle.nccheck_laws.proofs.Prelude.{common_steps, option_map, Header, FloatingType, Step, Content, Entry, FieldName, Owner, Field, seen_by, steps_of, name_steps, owner_steps, whole_content, seen, Fact, Finding, Indexed, field_at, indexed_from, finding, each_before, ahead_of, finding_by_name, attribute_finding, attribute_findings, facts_with, findings_at, field_findings, floating_findings, is_first, header_findings, is_of_spelling, bytes_of, number_of, Ahead, each_after, is_field, next_number, number_in, empty_list, has_nonzero, content_facts, duplicate_name, name_findings}
 use Rattle.nc_fields.specs.declared.entry.Content.TheVariants as content
 use Rattle.nc_fields.specs.declared.place.FieldName.TheVariants as name
-use Rattle.nc_report.specs.declared.{ahead.Ahead.Ahead}
 use Rattle.nc_report.specs.declared.finding.Fact.TheVariants as fact
-use Rattle.nc_report.specs.Indexed.{each_after}
-use Rattle.nc_report.specs.Ahead.{is_field, next_number, number_in}
-use Rattle.nc_report.specs.AttributeRules.{empty_list, type_finding, name_finding}
-use Rattle.nc_report.specs.FieldRules.{has_nonzero, fact_if, content_facts}
-use Rattle.nc_report.specs.NameRules.{duplicate_name}
-unfoldable use Rattle.nc_report.specs.NameRules.{name_findings}
+use Rattle.nc_report.specs.AttributeRules.{type_finding, name_finding}
+use Rattle.nc_report.specs.FieldRules.{fact_if}
 use Rattle.nccheck_laws.proofs.Vsizes.{IsWhole, AreWhole}
 use Rattle.nccheck_laws.proofs.QuietFields.{AreOther}
 use Rattle.nccheck_laws.proofs.CanonicalFields.{FollowsTag, IsCanonical, AreCanonical}

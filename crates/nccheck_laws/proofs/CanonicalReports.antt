@@ -1,10 +1,9 @@
 -- A report finds nothing about the spelling of a header that is spelled as it is written.
 use Rattle.std.proofs.Common.{◌≡◌, ℕ, zero, suc, ◌+◌, Bool, true, false, cond, List, [], ◌∷◌, length, map, Option, Some, None, Ok, refl, sym, ap, ◌∙◌, subst, arith, slice_get, IfSome, option_map, option_to_list}
-use Rattle.nccheck_laws.proofs.Prelude.{nat_tests, list_any, list_any-IsPermutation, Dim, Var, Header, Version, padded_size, header_by, vsize_of, reads, Listing, Field, lenient, Seen, seen_by, seen, Slot, Layout, LayoutFinding, each_slot, layout_findings, layout_of, Finding, Indexed, indexed, header_findings, is_vsize, named, vsize_finding, located, layout_facts, whole_findings, vsize_findings, all_findings, header_fields, without_values, number_of, IsWrittenVsize, is_of_spelling, has_any}
+use Rattle.nccheck_laws.proofs.Prelude.{nat_tests, list_any, list_any-IsPermutation, Dim, Var, Header, Version, padded_size, header_by, vsize_of, reads, Listing, Field, lenient, Seen, seen_by, seen, Slot, Layout, LayoutFinding, each_slot, layout_findings, layout_of, Finding, Indexed, indexed, header_findings, is_vsize, named, vsize_finding, located, layout_facts, whole_findings, vsize_findings, all_findings, header_fields, without_values, number_of, IsWrittenVsize, is_of_spelling, has_any, file_of, slot_of}
 use Rattle.std.proofs.lemmas.Option.{slice_get-map}
-use Rattle.nc_base.specs.GeneratedFile.{file_of, with_begins, data_of}
+use Rattle.nc_base.specs.GeneratedFile.{with_begins, data_of}
 use Rattle.nc_fields.specs.declared.entry.Content.TheVariants as content
-use Rattle.nc_layout.specs.HeaderLayout.{slot_of}
 use Rattle.nc_fields.specs.Entries.{number_of as content_number}
 use Rattle.nccheck_laws.specs.ReportLaws.{CanonicalSpellingsAreQuiet, GeneratedFilesHaveQuietSpellings}
 use Rattle.nccheck_laws.proofs.StrictHeaders.{strict-headers}

@@ -1,14 +1,12 @@
 -- Findings that are faults lie at entries that the strict rules refuse, and there is one at the first of these.
 use Rattle.std.proofs.Common.{◌≡◌, ℕ, ◌==◌, ◌⊎◌, inl, inr, Bool, true, false, cond, List, [], ◌∷◌, ◌++◌, length, take, Option, Some, None, refl, sym, ◌∙◌, subst, arith}
-use Rattle.nccheck_laws.proofs.Prelude.{Contains, Contains-append_right, FormatFault, BadCount, FloatingType, Entry, Content, FieldName, Owner, name_steps, owner_steps, refusal_in, Fact, facts_with}
+use Rattle.nccheck_laws.proofs.Prelude.{Contains, Contains-append_right, FormatFault, BadCount, FloatingType, Entry, Content, FieldName, Owner, name_steps, owner_steps, refusal_in, Fact, facts_with, Length, bytes_eq, Fault, is_floating_in}
 use Rattle.nc_base.specs.declared.fault.FormatFault.TheVariants.{NotNetcdf}
 use Rattle.nc_fields.specs.declared.entry.Content.TheVariants as content
 use Rattle.nc_fields.specs.declared.place.FieldName.TheVariants as name
-use Rattle.nc_base.specs.Parts.{Length}
-use Rattle.std.specs.Str.{bytes_eq}
 use Rattle.nc_fields.specs.Entries.{hdf5_signature}
-use Rattle.nc_report.specs.declared.finding.Fact.TheVariants.{Fault, Hdf5, Gzip, EmptyFile}
-use Rattle.nc_report.specs.FieldRules.{gzip_signature, fault_fact, is_large_count, is_floating_in}
+use Rattle.nc_report.specs.declared.finding.Fact.TheVariants.{Hdf5, Gzip, EmptyFile}
+use Rattle.nc_report.specs.FieldRules.{gzip_signature, fault_fact, is_large_count}
 use Rattle.nccheck_laws.specs.FaultLaws.{strict_fault}
 use Rattle.nccheck_laws.proofs.Refusals.{refusal_of}
 

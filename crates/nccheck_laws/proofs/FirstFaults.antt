@@ -1,14 +1,10 @@
 -- The first fault of a report is that of the first entry that the strict rules refuse.
 use Rattle.std.proofs.Common.{◌-◌, min, ◌≡◌, ℕ, zero, suc, ◌+◌, ◌≤◌, ◌⊎◌, inl, inr, Bool, true, false, cond, List, [], ◌∷◌, ◌++◌, length, map, flat_map, find, Option, Some, None, is_some, refl, sym, ap, ◌∙◌, subst, arith, le_refl}
-use Rattle.nccheck_laws.proofs.Prelude.{common_steps, All, Contains, option_to_list, option_map, All-cons, Contains-append_right, FormatFault, FloatingType, Bytes, header_part, header_by, run, Entry, Listing, lenient, first_refusal, header_fields, Fact, Finding, Report, Indexed, field_at, indexed_from, indexed, finding, facts_of, findings_at, field_findings, floating_findings, header_findings, all_findings, IsReport, is_fault}
-use Rattle.std.proofs.lemmas.List.Elements.{All-contains, Contains-append_left, Contains-append_cases}
-use Rattle.std.proofs.lemmas.List.Sorted.{Contains-permutation, All-permutation}
-use Rattle.nc_base.specs.code.PartRuns.{left_after}
+use Rattle.nccheck_laws.proofs.Prelude.{common_steps, All, Contains, option_to_list, option_map, All-cons, Contains-append_right, FormatFault, FloatingType, Bytes, header_part, header_by, run, Entry, Listing, lenient, first_refusal, header_fields, Fact, Finding, Report, Indexed, field_at, indexed_from, indexed, finding, facts_of, findings_at, field_findings, floating_findings, header_findings, all_findings, IsReport, is_fault, All-contains, Contains-permutation, All-permutation, left_after, Fault, is_floating_in, is_floating, floating_finding}
+use Rattle.std.proofs.lemmas.List.Elements.{Contains-append_left, Contains-append_cases}
 use Rattle.nc_base.proofs.PartPlaces.{stops-in}
 use Rattle.nccheck_laws.proofs.FieldOrder.{fields-descend}
 use Rattle.nccheck_laws.proofs.StrictHeaders.{strict-headers, unrefused-headers, strict-faults}
-use Rattle.nc_report.specs.declared.finding.Fact.TheVariants.{Fault}
-use Rattle.nc_report.specs.FieldRules.{is_floating_in, is_floating, floating_finding}
 use Rattle.nccheck_laws.specs.FaultLaws.{HasNoFault, IsReadable, FindsFirst, FaultlessHeadersAreReadable, FirstFaultIsReaders}
 use Rattle.nccheck_laws.proofs.Refusals.{refusal_of, FirstRefused, none-refused, first-refused}
 use Rattle.nccheck_laws.proofs.FaultFindings.{HasFact, IsFault, ShowsFault, quiet-type, refused-shown, contains-first}

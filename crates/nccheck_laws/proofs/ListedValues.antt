@@ -1,16 +1,12 @@
 -- What a report says of the values of a file, whatever their types.
 use Rattle.std.proofs.Common.{arith, ◌≡◌, ◌≢◌, ℕ, ◌+◌, inl, inr, false, List, [], ◌∷◌, length, map, flat_map, Result, Ok, Err, refl, sym, ap, ◌∙◌, subst}
-use Rattle.nccheck_laws.proofs.Prelude.{list_any_none, list_any-IsPermutation, FormatFault, Header, Bytes, header_by, stops, Entry, Field, fields, Seen, seen_by, seen, lenient, IsOutcome, layout_of, spelled-layout, Fact, Finding, Report, field_at, indexed, indexed_from, field_findings, floating_findings, facts_of, findings_at, all_findings, IsReport}
-use Rattle.std.proofs.lemmas.List.Elements.{All-contains}
-use Rattle.std.proofs.lemmas.List.Sorted.{Contains-permutation}
-use Rattle.nccheck_laws.specs.HeaderLaws.{finds, is_of_missing}
-use Rattle.nccheck_laws.specs.LayoutLaws.{FindsNone, is_of_shared_bytes}
+use Rattle.nccheck_laws.proofs.Prelude.{list_any_none, list_any-IsPermutation, FormatFault, Header, Bytes, header_by, stops, Entry, Field, fields, Seen, seen_by, seen, lenient, IsOutcome, layout_of, spelled-layout, Fact, Finding, Report, field_at, indexed, indexed_from, field_findings, floating_findings, facts_of, findings_at, all_findings, IsReport, All-contains, Contains-permutation, finds, is_of_missing, FindsNone, is_missing}
+use Rattle.nccheck_laws.specs.LayoutLaws.{is_of_shared_bytes}
 use Rattle.nccheck_laws.proofs.MissingValues.{missing-found}
 use Rattle.nccheck_laws.proofs.SlabsApart.{quiet-apart}
 use Rattle.nc_report.specs.declared.kind.Severity.TheVariants.{Error}
 use Rattle.nc_report.specs.Kinds.{kind_of, kind_of_fault, severity_of}
 use Rattle.nccheck_laws.specs.ErrorLaws.{HasNoError, ListedHeadersTellMissingValues, ListedHeadersHaveSlabsApart, ReportsWithoutErrorsHaveValues}
-use Rattle.nccheck_laws.specs.FaultLaws.{is_missing}
 use Rattle.nccheck_laws.specs.ReportLaws.{is_of_layout}
 use Rattle.nccheck_laws.proofs.FaultFindings.{fault-fact, own-fact}
 use Rattle.nccheck_laws.proofs.FieldPlaces.{HasFault, Shows, is_floating_fault, shown-faults}

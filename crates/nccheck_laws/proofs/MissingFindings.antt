@@ -1,13 +1,11 @@
 -- A report finds that values are missing exactly if some variable of the header has a first missing value.
 use Rattle.std.proofs.Common.{arith, ◌≡◌, ℕ, ◌+◌, ◌||◌, Bool, false, List, [], ◌∷◌, ◌++◌, length, map, flat_map, find, Option, Some, None, Ok, refl, sym, ap, ◌∙◌, subst}
-use Rattle.nccheck_laws.proofs.Prelude.{All, list_any, option_to_list, option_map, All-nil, All-cons, All-append, list_any-append, list_any_none, list_any-IsPermutation, FormatFault, Header, FloatingType, strict, header_by, reads, Entry, Content, FieldName, Listing, lenient, without_values, Layout, layout_findings, layout_of, spelled-layout, Fact, Finding, Indexed, field_at, indexed_from, indexed, finding, facts_with, findings_at, field_findings, floating_findings, header_findings, vsize_findings, located, layout_facts, whole_findings, all_findings, has_any}
+use Rattle.nccheck_laws.proofs.Prelude.{All, list_any, option_to_list, option_map, All-nil, All-cons, All-append, list_any-append, list_any_none, list_any-IsPermutation, FormatFault, Header, FloatingType, strict, header_by, reads, Entry, Content, FieldName, Listing, lenient, without_values, Layout, layout_findings, layout_of, spelled-layout, Fact, Finding, Indexed, field_at, indexed_from, indexed, finding, facts_with, findings_at, field_findings, floating_findings, header_findings, vsize_findings, located, layout_facts, whole_findings, all_findings, has_any, finds, is_of_missing, is_floating, is_missing}
 use Rattle.nc_fields.specs.declared.entry.Content.TheVariants as content
 use Rattle.nccheck_laws.proofs.StrictHeaders.{strict-headers}
-use Rattle.nccheck_laws.specs.HeaderLaws.{finds, is_of_missing}
 use Rattle.nccheck_laws.proofs.MissingValues.{missing-found}
 use Rattle.nc_report.specs.declared.finding.Fact.TheVariants as fact
-use Rattle.nc_report.specs.FieldRules.{is_floating}
-use Rattle.nccheck_laws.specs.FaultLaws.{is_missing, ReportsTellMissingValues}
+use Rattle.nccheck_laws.specs.FaultLaws.{ReportsTellMissingValues}
 use Rattle.nccheck_laws.proofs.FaultFindings.{fault-fact}
 use Rattle.nccheck_laws.proofs.LayoutFacts.{all-located, is-read, whole-header, same-layout}
 use Rattle.nccheck_laws.proofs.QuietRules.{is_layout, Plain, plain-names, plain-attributes, plain-vsizes}

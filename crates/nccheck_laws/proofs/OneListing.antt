@@ -1,10 +1,6 @@
 -- Each list of bytes has one listing.
 use Rattle.std.proofs.Common.{◌≡◌, ℕ, ◌-◌, List, [], ◌∷◌, length, map, Option, Result, Ok, Err, refl, sym, ap, ap₂, ◌∙◌, arith}
-use Rattle.nccheck_laws.proofs.Prelude.{Header, FormatFault, Bytes, Step, header_by, Outcome, run, reads, stops, Content, Entry, Listing, Field, fields, Seen, seen_by, steps_of, seen, lenient, IsOutcome}
-use Rattle.nc_base.specs.code.PartRuns.{with_rest}
-unfoldable use Rattle.nc_base.specs.code.PartRuns.{left_after}
-use Rattle.nc_base.proofs.PartOutcomes.{Tells, tells}
-use Rattle.nc_file.proofs.PartRuns.{shorter}
+use Rattle.nccheck_laws.proofs.Prelude.{Header, FormatFault, Bytes, Step, header_by, Outcome, run, reads, stops, Content, Entry, Listing, Field, fields, Seen, seen_by, steps_of, seen, lenient, IsOutcome, with_rest, left_after, Tells, tells, shorter}
 use Rattle.nc_fields.specs.Listings.{IsListing}
 use Rattle.nccheck_laws.proofs.EntryPlaces.{entries-told}
 use Rattle.nccheck_laws.proofs.FieldPlaces.{ArePlaced, placed-header}
@@ -50,11 +46,8 @@ outcome-told : (bytes rest : Bytes) (r : Result Header FormatFault) → IsOutcom
 outcome-told bytes rest (Ok h) is = reads (header_by lenient) bytes h rest is
 outcome-told bytes rest (Err fault) is = stops (header_by lenient) bytes fault rest is
 
-result-told : (r : Result Header FormatFault) (rest : Bytes) → result_of (with_rest r rest) ≡ r
-result-told v0 rest = grind arith
-
-rest-told : (r : Result Header FormatFault) (rest : Bytes) → rest_of (with_rest r rest) ≡ rest
-rest-told v0 rest = grind arith
+told-back : (r : Result Header FormatFault) (rest : Bytes) → (result_of (with_rest r rest) ≡ r) × (rest_of (with_rest r rest) ≡ rest)
+told-back v0 rest = grind arith
 
 -- ---- listings
 
@@ -83,8 +76,10 @@ same-listing es ds h g end other file_len more entries headers ends lens = cc
 pub one-listing : (bytes : Bytes) (k l : Listing) → IsListing bytes k → IsListing bytes l → k ≡ l
 one-listing bytes k l one two =
     let told = sym (outcome-told bytes one.rest k.header one.header) ∙ outcome-told bytes two.rest l.header two.header in
-    let headers = sym (result-told k.header one.rest) ∙ ap result_of told ∙ result-told l.header two.rest in
-    let rests = sym (rest-told k.header one.rest) ∙ ap rest_of told ∙ rest-told l.header two.rest in
+    let first = told-back k.header one.rest in
+    let second = told-back l.header two.rest in
+    let headers = sym first.0 ∙ ap result_of told ∙ second.0 in
+    let rests = sym first.1 ∙ ap rest_of told ∙ second.1 in
     same-listing k.entries l.entries k.header l.header k.end l.end k.file_len l.file_len
     (entries-told k.entries l.entries (one.entries ∙ sym two.entries)) headers
     (omega (arith, one.end, two.end, ap length rests)) (one.file_len ∙ sym two.file_len)

@@ -1,16 +1,11 @@
 -- What a field shows at which nothing is found about its spelling.
 use Rattle.std.proofs.Common.{◌≡◌, ℕ, ◌+◌, ◌==◌, ◌&&◌, ◌||◌, not, Bool, false, cond, List, [], ◌∷◌, ◌++◌, length, map, replicate, Some, None, refl, ap, ◌∙◌, subst, arith, length-take-le, option_to_list, if◌then◌else◌}
-use Rattle.nccheck_laws.proofs.Prelude.{common_steps, Header, Bytes, Step, Padding, Tag, Count, Vsize, Item, Dims, Gatts, Vars, Atts, Content, Entry, FieldName, Owner, Field, Seen, seen_by, steps_of, name_steps, owner_steps, whole_content, seen, bytes_of, number_of, IsWritten, AreWritten, Fact, Finding, Indexed, field_at, indexed, indexed_from, finding, each_before, ahead_of, finding_by_name, attribute_finding, is_first, facts_with, findings_at, field_findings, attribute_findings, is_of_spelling, has_any}
-use Rattle.std.proofs.lemmas.Bool.{ltb-false}
+use Rattle.nccheck_laws.proofs.Prelude.{common_steps, Header, Bytes, Step, Padding, Tag, Count, Vsize, Item, Dims, Gatts, Vars, Atts, Content, Entry, FieldName, Owner, Field, Seen, seen_by, steps_of, name_steps, owner_steps, whole_content, seen, bytes_of, number_of, IsWritten, AreWritten, Fact, Finding, Indexed, field_at, indexed, indexed_from, finding, each_before, ahead_of, finding_by_name, attribute_finding, is_first, facts_with, findings_at, field_findings, attribute_findings, is_of_spelling, has_any, ltb-false, cut_content, is_field, next_number, number_in, empty_list, has_nonzero, content_facts}
 use Rattle.nc_fields.specs.declared.entry.Content.TheVariants as content
 use Rattle.nc_fields.specs.declared.place.FieldName.TheVariants as name
-use Rattle.nc_fields.specs.Entries.{cut_content}
 use Rattle.nccheck_laws.specs.Written.{IsWrittenTag}
 use Rattle.nccheck_laws.proofs.Vsizes.{IsWhole, AreWhole, IsVsizeWritten, AreVsizesWritten}
 use Rattle.nc_report.specs.declared.finding.Fact.TheVariants as fact
-use Rattle.nc_report.specs.Ahead.{is_field, next_number, number_in}
-use Rattle.nc_report.specs.AttributeRules.{empty_list}
-use Rattle.nc_report.specs.FieldRules.{has_nonzero, content_facts}
 
 -- nothing of these findings is about the spelling
 abbrev pub AreOther : List Finding → Type 0

@@ -1,12 +1,10 @@
 -- A header about whose spelling a report finds nothing is spelled as it is written.
 use Rattle.std.proofs.Common.{◌≡◌, ℕ, zero, suc, ◌+◌, List, [], ◌∷◌, ◌++◌, length, map, Option, Some, None, refl, sym, ap, ◌∙◌, subst, arith, slice_get, IfSome, option_to_list}
-use Rattle.nccheck_laws.proofs.Prelude.{list_any-IsPermutation, Dim, Var, Header, Version, padded_size, header_by, vsize_of, reads, Entry, FieldName, Owner, Listing, Field, lenient, Seen, seen_by, name_steps, owner_steps, seen, header_fields, without_values, number_of, IsWrittenVsize, Slot, each_slot, layout_of, Finding, Indexed, indexed_from, indexed, header_findings, is_vsize, named, vsize_finding, located, whole_findings, layout_findings, vsize_findings, all_findings, is_of_spelling}
+use Rattle.nccheck_laws.proofs.Prelude.{list_any-IsPermutation, Dim, Var, Header, Version, padded_size, header_by, vsize_of, reads, Entry, FieldName, Owner, Listing, Field, lenient, Seen, seen_by, name_steps, owner_steps, seen, header_fields, without_values, number_of, IsWrittenVsize, Slot, each_slot, layout_of, Finding, Indexed, indexed_from, indexed, header_findings, is_vsize, named, vsize_finding, located, whole_findings, layout_findings, vsize_findings, all_findings, is_of_spelling, padded_slab, slot_of}
 use Rattle.nc_fields.specs.declared.entry.Content.TheVariants as content
 use Rattle.nccheck_laws.proofs.StrictHeaders.{strict-headers}
 use Rattle.nccheck_laws.proofs.WrittenParts.{written-fields}
 use Rattle.nccheck_laws.proofs.Vsizes.{AreWhole, AreSizes, spelled-whole, is_vsize_at, vsizes, AreNumbered, header-numbered, numbered-written}
-use Rattle.nc_layout.specs.Slots.{padded_slab}
-use Rattle.nc_layout.specs.HeaderLayout.{slot_of}
 use Rattle.nccheck_laws.proofs.FirstFaults.{faultless}
 use Rattle.nccheck_laws.proofs.LayoutFacts.{is-read, whole-header, same-layout}
 use Rattle.nccheck_laws.specs.ReportLaws.{QuietSpellingsAreCanonical, QuietHeadersAreCanonical}

@@ -1,8 +1,6 @@
 -- The order of findings tells all of them apart.
 use Rattle.std.proofs.Common.{◌≡◌, ℕ, false, refl, sym, ap, Option, Some, None}
-use Rattle.nccheck_laws.proofs.Prelude.{FormatFault, Fact, Finding}
-use Rattle.std.specs.declared.cmp.Ordering.{Ordering}
-use Rattle.std.specs.declared.cmp.Ordering.TheVariants.{Less, Equal, Greater}
+use Rattle.nccheck_laws.proofs.Prelude.{FormatFault, Fact, Finding, Ordering, Less, Equal, Greater, LayoutFact, finding_cmp}
 use Rattle.std.specs.Option.{option_cmp}
 use Rattle.std.specs.Ordering.{is_eq, nat_cmp, ordering_then}
 use Rattle.std.proofs.lemmas.Cmp.{ranked}
@@ -11,7 +9,6 @@ use Rattle.nc_layout.specs.declared.finding.Block.{Block}
 use Rattle.nc_layout.specs.declared.finding.Block.TheVariants as block
 use Rattle.nc_layout.specs.declared.finding.Slab.{Slab}
 use Rattle.nc_layout.specs.declared.finding.Slab.TheVariants as slab
-use Rattle.nc_layout.specs.declared.finding.LayoutFact.{LayoutFact}
 use Rattle.nc_layout.specs.declared.finding.LayoutFact.TheVariants as layout
 use Rattle.nc_report.specs.declared.finding.Fact.TheVariants as fact
 use Rattle.nc_base.specs.contracts.fault.FormatFaultOrd.TheImpl as faults
@@ -19,7 +16,6 @@ use Rattle.nc_layout.specs.contracts.finding.BlockOrd.TheImpl as blocks
 use Rattle.nc_layout.specs.contracts.finding.SlabOrd.TheImpl as slabs
 use Rattle.nc_layout.specs.contracts.finding.LayoutFactOrd.TheImpl as layouts
 use Rattle.nc_report.specs.contracts.finding.FactOrd.TheImpl as facts
-use Rattle.nc_report.specs.Reports.{finding_cmp}
 
 -- ---- parts
 

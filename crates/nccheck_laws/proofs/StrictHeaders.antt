@@ -1,8 +1,7 @@
 -- What the strict rules read of a header, told from the fields that the lenient rules list.
 use Rattle.std.proofs.Common.{arith, ◌≡◌, [], Some, None, Ok, subst}
-use Rattle.nccheck_laws.proofs.Prelude.{FormatFault, Header, Bytes, header_by, header_part, SpellsHeader, Outcome, run, reads, stops, fields, lenient, first_refusal, header_fields, without_values}
+use Rattle.nccheck_laws.proofs.Prelude.{FormatFault, Header, Bytes, header_by, header_part, SpellsHeader, Outcome, run, reads, stops, fields, lenient, first_refusal, header_fields, without_values, Tells, tells}
 use Rattle.nc_base.specs.code.PartRuns.{StopsWith}
-use Rattle.nc_base.proofs.PartOutcomes.{Tells, tells}
 use Rattle.nccheck_laws.specs.Agreement.{SpellsLeniently, StrictHeadersAreLenient, LenientHeadersAreStrict, UnrefusedHeadersAreSpelled, StrictFaultsAreFirstRefusals}
 use Rattle.nccheck_laws.proofs.Agreement.{Agrees}
 use Rattle.nccheck_laws.proofs.AgreeingParts.{agree-header}
@@ -19,26 +18,26 @@ agreed = agree-header.at
 
 -- ---- a header by the strict rules
 
+-- it spells one by the lenient rules, too, but for the values, no field is refused, and both have the same fields
 strict-lenient : (from : Bytes) (h : Header) (rest : Bytes) (r : HeaderOutcome) → Both from (Ok (h, rest)) r
     → Tells (header_by lenient) from r
     → SpellsLeniently from (without_values h) rest × (first_refusal (header_fields from) ≡ None)
+    × (header_fields from ≡ fields [] header_part from)
 strict-lenient from h rest v3 v4 told = grind arith
 
-pub strict-headers : StrictHeadersAreLenient
-strict-headers from h rest spelled =
+strict-both : (from : Bytes) (h : Header) (rest : Bytes) → SpellsHeader from h rest
+    → SpellsLeniently from (without_values h) rest × (first_refusal (header_fields from) ≡ None)
+    × (header_fields from ≡ fields [] header_part from)
+strict-both from h rest spelled =
     strict-lenient from h rest (run (header_by lenient) from)
     (subst (λ o. Both from o (run (header_by lenient) from)) (reads header_part from h rest spelled) (agreed from))
     (tells (header_by lenient) from)
 
--- it has the same fields by both rules
-strict-same : (from : Bytes) (h : Header) (rest : Bytes) (r : HeaderOutcome) → Both from (Ok (h, rest)) r
-    → header_fields from ≡ fields [] header_part from
-strict-same from h rest v3 v4 = grind arith
+pub strict-headers : StrictHeadersAreLenient
+strict-headers from h rest spelled = let both = strict-both from h rest spelled in (both.0, both.1)
 
 pub strict-fields : (from : Bytes) (h : Header) (rest : Bytes) → SpellsHeader from h rest → header_fields from ≡ fields [] header_part from
-strict-fields from h rest spelled =
-    strict-same from h rest (run (header_by lenient) from)
-    (subst (λ o. Both from o (run (header_by lenient) from)) (reads header_part from h rest spelled) (agreed from))
+strict-fields from h rest spelled = (strict-both from h rest spelled).2
 
 -- ---- no refused field
 

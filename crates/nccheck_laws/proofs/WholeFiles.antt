@@ -1,15 +1,13 @@
 -- A report has no fault and finds no missing values exactly if the file holds a dataset.
 use Rattle.std.proofs.Common.{arith, ◌≡◌, ℕ, Bool, false, List, [], ◌∷◌, length, map, None, refl, sym, ◌∙◌}
-use Rattle.nccheck_laws.proofs.Prelude.{All, list_any, All-nil, All-cons, list_any_none, Header, Var, Bytes, SpellsHeader, Report, IsReport}
+use Rattle.nccheck_laws.proofs.Prelude.{All, list_any, All-nil, All-cons, list_any_none, Header, Var, Bytes, SpellsHeader, Report, IsReport, file_of, first_missing, lacks_values}
 use Rattle.std.specs.List.{concat}
 use Rattle.nc_base.specs.declared.{dataset.Dataset.Dataset}
 use Rattle.nc_base.specs.Datasets.{HoldsDataset}
-use Rattle.nc_base.specs.GeneratedFile.{file_of}
 use Rattle.nc_base.specs.Headers.{bare}
-use Rattle.nc_base.specs.Places.{first_missing, stored_bytes}
+use Rattle.nc_base.specs.Places.{stored_bytes}
 use Rattle.nc_base.specs.Sizes.{record_count}
 use Rattle.nc_base.proofs.FileHolds.{file-holds}
-use Rattle.nccheck_laws.specs.HeaderLaws.{lacks_values}
 use Rattle.nccheck_laws.specs.ReportLaws.{FindsWholeFile, WholeFilesHoldDatasets, GeneratedFilesAreFoundWhole}
 use Rattle.nccheck_laws.proofs.FirstFaults.{faultless}
 use Rattle.nccheck_laws.proofs.MissingFindings.{missing-told}
