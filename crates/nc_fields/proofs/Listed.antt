@@ -1,6 +1,6 @@
 -- What a listing says of the bytes of a source.
-use Rattle.std.proofs.Common.{◌≡◌, ℕ, ◌+◌, [], ◌++◌, length, map, Result, Ok, Err, IfOk, sym, ap, subst, arith, ◌∙◌}
-use Rattle.nc_fields.proofs.Prelude.{Ghosts, Reader, Header, Bytes, HeadFault, Format, OutOfMemory, ReadFailed, Checked, source_of, left, OnTrue, OnTrue_at, OnTrue_from, lenient, seen_by, listed, run, Kept, next_of, length-drop}
+use Rattle.std.proofs.Common.{◌≡◌, ℕ, ◌+◌, List, [], length, map, Result, Ok, Err, IfOk, sym, ap, subst, arith, ◌∙◌}
+use Rattle.nc_fields.proofs.Prelude.{Ghosts, Reader, Header, HeadFault, Format, OutOfMemory, ReadFailed, Checked, source_of, left, OnTrue, OnTrue_at, OnTrue_from, lenient, Seen, seen, seen_by, listed, fields, Outcome, run, Kept, next_of, length-drop}
 use Rattle.nc_base.specs.Grammar.{header_by}
 use Rattle.nc_base.proofs.PartOutcomes.{Tells, tells}
 use Rattle.nc_fields.specs.declared.{header.Listing.Listing, list_fault.ListFault.ListFault}
@@ -12,52 +12,52 @@ module _ {S : Type 0} {g : Ghosts S} where
   -- the source was blamed where it has failed
   pub blamed : (old new : Reader S g) (end file_len : ℕ) (answer : Result Header HeadFault) (result : Result Listing ListFault) → Checked old new [] (header_by lenient) answer
       → Answers new.entries end file_len answer result → Blames (source_of old.window).failures (source_of new.window) result
-  blamed old new end file_len (Ok h) result c a = subst (Blames (source_of old.window).failures (source_of new.window)) (sym a) c.cause
-  blamed old new end file_len (Err (Format f)) result c a = subst (Blames (source_of old.window).failures (source_of new.window)) (sym a) c.cause
-  blamed old new end file_len (Err OutOfMemory) result c a = subst (Blames (source_of old.window).failures (source_of new.window)) (sym a) c.cause
-  blamed old new end file_len (Err ReadFailed) result c a = subst (Blames (source_of old.window).failures (source_of new.window)) (sym a) c.cause
+  blamed old new end file_len (Ok h) result c a = rw a c.cause
+  blamed old new end file_len (Err (Format f)) (Ok l) c a = c.cause
+  blamed old new end file_len (Err (Format f)) (Err e) c a = rw a c.cause
+  blamed old new end file_len (Err OutOfMemory) result c a = rw a c.cause
+  blamed old new end file_len (Err ReadFailed) result c a = rw a c.cause
 
   ends-at : (old new : Reader S g) → Kept old.window new.window → next_of new.window + length (left new.window) ≡ length (source_of old.window).bytes
   ends-at old new kept = omega (arith, length-drop (next_of new.window) (source_of new.window).bytes, ap length kept.bytes, new.window.within, new.window.used)
 
   -- what was read from the start of the source
-  all-fields : (old new : Reader S g) (answer : Result Header HeadFault) → old.entries ≡ [] → left old.window ≡ (source_of old.window).bytes
-      → map seen_by new.entries ≡ map seen_by old.entries ++ listed (length (source_of old.window).bytes) [] (header_by lenient) (left old.window)
-      → map seen_by new.entries ≡ listed (length (source_of old.window).bytes) [] (header_by lenient) (source_of old.window).bytes
-  all-fields old new answer none whole lists =
-      lists ∙ ap (λ es. map seen_by es ++ listed (length (source_of old.window).bytes) [] (header_by lenient) (left old.window)) none
-      ∙ ap (λ (bs : Bytes). listed (length (source_of old.window).bytes) [] (header_by lenient) bs) whole
+  all-fields : (old : Reader S g) (all : List Seen) → old.entries ≡ [] → left old.window ≡ (source_of old.window).bytes
+      → all ≡ listed (length (source_of old.window).bytes) (map seen_by old.entries) [] (header_by lenient) (left old.window)
+      → all ≡ map (seen (length (source_of old.window).bytes)) (fields [] (header_by lenient) (source_of old.window).bytes)
+  unfolding listed
+  all-fields old all none whole lists = rw (none, whole) at lists
+
+  outcome : (old new : Reader S g) (o : Outcome Header) → left old.window ≡ (source_of old.window).bytes → run (header_by lenient) (left old.window) ≡ o → Tells (header_by lenient) (source_of old.window).bytes o
+  outcome old new o whole is = subst (Tells (header_by lenient) (source_of old.window).bytes) (sym (ap (run (header_by lenient)) whole) ∙ is) (tells (header_by lenient) (source_of old.window).bytes)
 
   -- it is the listing of the source's bytes
   pub is-listing : (old new : Reader S g) (end file_len : ℕ) (answer : Result Header HeadFault) (result : Result Listing ListFault) → old.entries ≡ []
       → left old.window ≡ (source_of old.window).bytes → end ≡ next_of new.window → file_len ≡ length (source_of old.window).bytes
       → Checked old new [] (header_by lenient) answer → Answers new.entries end file_len answer result
       → OnTrue g.is_transparent (IfOk result (IsListing (source_of old.window).bytes))
-  unfolding listed
   is-listing old new end file_len (Ok h) result none whole at len c a =
-      OnTrue_from g.is_transparent _
-      (λ known.
-      subst (λ r. IfOk r (IsListing (source_of old.window).bytes)) (sym a)
-      (record {
-        entries = all-fields old new (Ok h) none whole (OnTrue_at known c.lists);
+      rw a
+      (OnTrue_from g.is_transparent _
+      (λ known. record {
+        entries = all-fields old _ none whole (OnTrue_at known c.lists);
         rest = left new.window;
-        header = subst (Tells (header_by lenient) (source_of old.window).bytes) (sym (ap (run (header_by lenient)) whole) ∙ OnTrue_at known c.reads) (tells (header_by lenient) (source_of old.window).bytes);
-        end = ap (λ k. k + length (left new.window)) at ∙ ends-at old new c.kept;
+        header = outcome old new _ whole (OnTrue_at known c.reads);
+        end = rw at (ends-at old new c.kept);
         file_len = len;
       }))
-  is-listing old new end file_len (Err (Format f)) result none whole at len c a =
+  is-listing old new end file_len (Err (Format f)) (Ok l) none whole at len c a =
       OnTrue_from g.is_transparent _
-      (λ known.
-      subst (λ r. IfOk r (IsListing (source_of old.window).bytes)) (sym a)
-      (record {
-        entries = all-fields old new (Err (Format f)) none whole (OnTrue_at known c.lists);
+      (λ known. record {
+        entries = a.entries_are ∙ all-fields old _ none whole (OnTrue_at known c.lists);
         rest = left new.window;
-        header = subst (Tells (header_by lenient) (source_of old.window).bytes) (sym (ap (run (header_by lenient)) whole) ∙ OnTrue_at known c.reads) (tells (header_by lenient) (source_of old.window).bytes);
-        end = ap (λ k. k + length (left new.window)) at ∙ ends-at old new c.kept;
-        file_len = len;
-      }))
-  is-listing old new end file_len (Err OutOfMemory) result none whole at len c a = OnTrue_from g.is_transparent _ (λ known. subst (λ r. IfOk r (IsListing (source_of old.window).bytes)) (sym a) tt)
-  is-listing old new end file_len (Err ReadFailed) result none whole at len c a = OnTrue_from g.is_transparent _ (λ known. subst (λ r. IfOk r (IsListing (source_of old.window).bytes)) (sym a) tt)
+        header = rw a.header (outcome old new _ whole (OnTrue_at known c.reads));
+        end = rw (a.end_is, at) (ends-at old new c.kept);
+        file_len = a.file_len_is ∙ len;
+      })
+  is-listing old new end file_len (Err (Format f)) (Err e) none whole at len c a = OnTrue_from g.is_transparent _ (λ known. tt)
+  is-listing old new end file_len (Err OutOfMemory) result none whole at len c a = rw a (OnTrue_from g.is_transparent _ (λ known. tt))
+  is-listing old new end file_len (Err ReadFailed) result none whole at len c a = rw a (OnTrue_from g.is_transparent _ (λ known. tt))
 
   -- how far was read
   read-up-to : (old new : Reader S g) (end : ℕ) → old.window.base ≡ 0 → old.window.filled ≡ 0 → end ≡ next_of new.window → Kept old.window new.window
@@ -67,11 +67,8 @@ module _ {S : Type 0} {g : Ghosts S} where
   pub reads-forward : (old new : Reader S g) (end file_len : ℕ) (answer : Result Header HeadFault) (result : Result Listing ListFault) → old.window.base ≡ 0 → old.window.filled ≡ 0
       → end ≡ next_of new.window → Checked old new [] (header_by lenient) answer → Answers new.entries end file_len answer result
       → IfOk result (λ l. ReadUpTo (source_of old.window).handed (source_of new.window).handed l.end (length old.window.buf.now))
-  reads-forward old new end file_len (Ok h) result base filled at c a =
-      subst (λ r. IfOk r (λ (l : Listing). ReadUpTo (source_of old.window).handed (source_of new.window).handed l.end (length old.window.buf.now))) (sym a) (read-up-to old new end base filled at c.kept)
-  reads-forward old new end file_len (Err (Format f)) result base filled at c a =
-      subst (λ r. IfOk r (λ (l : Listing). ReadUpTo (source_of old.window).handed (source_of new.window).handed l.end (length old.window.buf.now))) (sym a) (read-up-to old new end base filled at c.kept)
-  reads-forward old new end file_len (Err OutOfMemory) result base filled at c a =
-      subst (λ r. IfOk r (λ (l : Listing). ReadUpTo (source_of old.window).handed (source_of new.window).handed l.end (length old.window.buf.now))) (sym a) tt
-  reads-forward old new end file_len (Err ReadFailed) result base filled at c a =
-      subst (λ r. IfOk r (λ (l : Listing). ReadUpTo (source_of old.window).handed (source_of new.window).handed l.end (length old.window.buf.now))) (sym a) tt
+  reads-forward old new end file_len (Ok h) result base filled at c a = rw a (read-up-to old new end base filled at c.kept)
+  reads-forward old new end file_len (Err (Format f)) (Ok l) base filled at c a = read-up-to old new l.end base filled (a.end_is ∙ at) c.kept
+  reads-forward old new end file_len (Err (Format f)) (Err e) base filled at c a = tt
+  reads-forward old new end file_len (Err OutOfMemory) result base filled at c a = rw a tt
+  reads-forward old new end file_len (Err ReadFailed) result base filled at c a = rw a tt

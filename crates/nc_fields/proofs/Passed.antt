@@ -1,6 +1,6 @@
 -- Values that are passed over, piece by piece.
-use Rattle.std.proofs.Common.{◌≡◌, ℕ, ◌+◌, ◌≤◌, ◌<◌, Bool, false, List, [], ◌++◌, length, take, drop, Result, Ok, Err, IfOk, OnOk, refl, sym, ap, subst, ◌∙◌, arith, rules, inl, inr, length-append}
-use Rattle.nc_fields.proofs.Prelude.{Ghosts, Window, HeadFault, Format, OutOfMemory, ReadFailed, Bytes, left, next_of, OnTrue, OnTrue_at, OnTrue_from, drop-drop, source_of, ends_with_nul, Entry, Content, Start, Finished, ListsCut}
+use Rattle.std.proofs.Common.{◌≡◌, ℕ, ◌+◌, ◌≤◌, ◌<◌, Bool, false, List, [], ◌++◌, length, take, drop, Result, Ok, Err, IfOk, refl, sym, ap, subst, ◌∙◌, arith, rules, inl, inr, length-append}
+use Rattle.nc_fields.proofs.Prelude.{Ghosts, Window, HeadFault, Format, OutOfMemory, ReadFailed, Bytes, left, next_of, OnTrue, OnTrue_at, OnTrue_from, drop-drop, source_of, ends_with_nul, Entry, Start, ListsCut}
 use Rattle.std.proofs.lemmas.List.{get_or-append_right}
 use Rattle.nc_file.proofs.Bytes.{Progress, IsAdvanced, Stopped, on-by, chunk-next, read-content, stop-bytes}
 use Rattle.nc_file.specs.code.Window.{Ready}
@@ -76,18 +76,6 @@ cut-in-place vals old new start answer OutOfMemory (inl is) = inl (ap (in_place 
 cut-in-place vals old new start answer OutOfMemory (inr (f, is)) = inr (f, ap (in_place vals) is)
 cut-in-place vals old new start answer ReadFailed is = ap (in_place vals) is
 
-pub finished-in-place : (vals : Bytes) (old new : List Entry) (start : Start) (content : Content) (result : Result (Unit {0}) HeadFault) → Finished old new start content (Ok tt) result
-    → Finished old new start content (Ok vals) (in_place vals result)
-finished-in-place vals old new start content (Ok x) (is, lists) = (refl, lists)
-finished-in-place vals old new start content (Err (Format f)) (is, lists) = cc
-finished-in-place vals old new start content (Err OutOfMemory) fin = tt
-finished-in-place vals old new start content (Err ReadFailed) fin = fin
-
 -- what was answered of the last byte
 pub last-of : (vals : Bytes) (answer : Result Bool HeadFault) (is_nul : Bool) → answer ≡ Ok is_nul → IfOk answer (λ b. b ≡ ends_with_nul vals) → is_nul ≡ ends_with_nul vals
 last-of vals answer is_nul is last = subst (λ r. IfOk r (λ b. b ≡ ends_with_nul vals)) is last
-
--- what holds anyway holds of an answer
-pub counted : {A B : Type 0} (P : Type 0) (answer : Result A HeadFault) (x : A) (result : Result B HeadFault) → answer ≡ Ok x → OnOk answer P → OnOk result P
-counted P answer x (Ok y) is whole = subst (λ r. OnOk r P) is whole
-counted P answer x (Err e) is whole = tt

@@ -7,7 +7,7 @@ unfoldable pub use Rattle.nc_base.specs.code.PartRuns.{run, left_after}
 unfoldable pub use Rattle.nc_base.specs.Grammar.{number}
 pub use Rattle.nc_base.specs.declared.fault.FormatFault.{FormatFault}
 pub use Rattle.nc_base.specs.declared.fault.FormatFault.TheVariants.{HeaderTruncated, BadCount, BadOffset, BadShape, BadName, NotNetcdf}
-pub use Rattle.nc_file.specs.code.Window.{Kept, Read, Reads, left, next_of, source_of}
+pub use Rattle.nc_file.specs.code.Window.{Kept, FailsOnly, Read, Reads, left, next_of, source_of}
 pub use Rattle.nc_file.specs.declared.{head_fault.HeadFault.HeadFault, window.Window.Window}
 pub use Rattle.nc_file.specs.declared.head_fault.HeadFault.TheVariants.{Format, OutOfMemory, ReadFailed}
 pub use Rattle.nc_fields.specs.declared.{entry.Entry.Entry, entry.Content.Content, place.Place.Place, fields.Fields.Fields, fields.Start.Start}
@@ -16,8 +16,8 @@ pub use Rattle.nc_fields.specs.Fields.{Field, judged}
 unfoldable pub use Rattle.nc_fields.specs.Fields.{fields}
 pub use Rattle.nc_fields.specs.Entries.{Seen, ends_with_nul, owner_steps, seen_by, steps_of, whole_content, cut_content, number_in}
 unfoldable pub use Rattle.nc_fields.specs.Entries.{seen}
-pub use Rattle.nc_fields.specs.code.Checks.{Lists, Reader, at, Checked, IsStart, Finished, ListsCut, Began, entry_of, judged_then, IsHeld, IsNumeric, IsFilling}
-unfoldable pub use Rattle.nc_fields.specs.code.Checks.{listed}
+pub use Rattle.nc_fields.specs.code.Checks.{Lists, Reader, at, Checked, IsStart, ListsCut, entry_of, IsHeld, IsNumeric, IsFilling}
+unfoldable pub use Rattle.nc_fields.specs.code.Checks.{listed, with_fault}
 pub use Rattle.std.proofs.lemmas.Bool.{OnTrue_at, OnTrue_from, le-ltb, lt-ltb, leb-true, leb-false}
 pub use Rattle.std.proofs.lemmas.List.{append-nil, drop-drop, length-drop, map-append}
 pub use Rattle.std.proofs.lemmas.Result.{err_from_is_err_and}

@@ -1,26 +1,12 @@
 -- The fields that are bytes.
-use Rattle.std.proofs.Common.{◌≡◌, ℕ, Bool, if◌then◌else◌, List, [], ◌∷◌, slice_index, replicate, Result, Ok, Err, subst, sym, ap, arith}
-use Rattle.nc_fields.proofs.Prelude.{Ghosts, Reader, HeadFault, Window, Step, Checked, Read, Outcome, left_after, OnTrue_at, OnTrue_from, IsHeld, Number, version_part, version_in, version_byte, Bytes, Part, bytes, decoded, FormatFault, HeaderTruncated, Place, Content, IsFilling, checked, ignored}
+use Rattle.std.proofs.Common.{ℕ, List, Result, Ok, Err, subst, sym, ap, arith, refl, slice_index}
+use Rattle.nc_fields.proofs.Prelude.{Ghosts, Window, HeadFault, Read, Outcome, left_after, OnTrue_at, OnTrue_from, IsHeld, Bytes, bytes, HeaderTruncated, Place, Number, IsFilling, ignored, Reader, Step, Checked, ends_with_nul}
 use Rattle.nc_fields.specs.declared.entry.Content.TheVariants as content
-use Rattle.nc_fields.proofs.Checks.{IsFieldOf, IsContent, IsJudged, raw-bytes, itself, decoded-judged}
-
--- a part that is n bytes in this place, which are judged
-bytes-field : {A : Type 0} (place : Place) (n : ℕ) (cut : FormatFault) (p : Part A) (judge : Bytes → Result A FormatFault) (matter : Bytes → Content) → IsContent place n (λ bs. bs) matter
-    → IsJudged n (bytes n cut) p judge → IsFieldOf place n (bytes n cut) p judge matter
-bytes-field place n cut p judge matter matters judged = record { value = λ bs. bs; raw = raw-bytes n cut; judged = judged; matters = matters }
-
-pub bytes-decoded : {A : Type 0} (n : ℕ) (cut : FormatFault) (decode : Bytes → Result A FormatFault) (encode : A → Bytes) → IsJudged n (bytes n cut) (decoded decode encode (bytes n cut)) decode
-bytes-decoded n cut decode encode =
-    let is = decoded-judged n (bytes n cut) (bytes n cut) (λ bs. Ok bs) decode encode (itself n (bytes n cut) (λ bs. bs) (raw-bytes n cut)) in record { field = is.field; judged = λ from. is.judged from }
-
-pub filling-field : (n : ℕ) (place : Place) → IsFilling place → IsFieldOf place n (bytes n HeaderTruncated) (ignored n) (λ bs. Ok tt) content.Bytes
-unfolding ignored
-filling-field n place filling = bytes-field place n HeaderTruncated _ _ content.Bytes (λ bs. (filling n bs).0) (bytes-decoded n HeaderTruncated (λ any. Ok tt) (λ nothing. replicate n 0))
-
--- bytes that are tested
-pub tested-field : (n : ℕ) (cut : FormatFault) (place : Place) (test : Bytes → Bool) (fault : FormatFault) (matter : Bytes → Content) → IsContent place n (λ bs. bs) matter
-    → IsFieldOf place n (bytes n cut) (checked test fault (bytes n cut)) (λ bs. if test bs then Ok bs else Err fault) matter
-tested-field n cut place test fault matter matters = bytes-field place n cut _ _ matter matters (bytes-decoded n cut (λ bs. if test bs then Ok bs else Err fault) (λ bs. bs))
+use Rattle.nc_fields.specs.declared.place.Owner.{Owner}
+use Rattle.nc_fields.specs.declared.place.Owner.TheVariants as owner
+use Rattle.nc_fields.specs.declared.place.FieldName.TheVariants as name
+use Rattle.nc_fields.specs.code.PassedValues.{in_place}
+use Rattle.nc_fields.proofs.Checks.{IsFieldOf, Matters, bytes-listed, part_lists}
 
 -- bytes that were read are held, unless memory runs out
 pub held-read : {S : Type 0} {g : Ghosts S} {old new : Window S g} {n : ℕ} {bs : Bytes} {result : Result Bytes HeadFault} → Read old new (bytes n HeaderTruncated) (Ok bs) → IsHeld bs result
@@ -36,17 +22,20 @@ held-read {g = g} {result = Err e} r is =
       used = tt;
     })
 
--- bytes that may be any
-pub bytes-itself : (n : ℕ) (cut : FormatFault) (place : Place) (matter : Bytes → Content) → IsContent place n (λ bs. bs) matter → IsFieldOf place n (bytes n cut) (bytes n cut) (λ bs. Ok bs) matter
-bytes-itself n cut place matter matters = bytes-field place n cut _ _ matter matters (itself n (bytes n cut) (λ bs. bs) (raw-bytes n cut))
+filling-matters : {place : Place} (n : ℕ) → IsFilling place → Matters place n content.Bytes
+filling-matters n filling = record { whole = λ bs. (filling n bs).0; cut = λ bs. (filling 0 bs).1 }
 
--- the same number of bytes, said in another way
-pub filling-along : {S : Type 0} {g : Ghosts S} {old new : Reader S g} {steps : List Step} {k n : ℕ} {result : Result (Unit {0}) HeadFault} → k ≡ n → Checked old new steps (ignored k) result → Checked old new steps (ignored n) result
-filling-along {old = old} {new = new} {steps = steps} {result = result} same c = subst (λ k. Checked old new steps (ignored k) result) same c
+pub filling-listed : {place : Place} (n : ℕ) → IsFilling place → IsFieldOf place n (bytes n HeaderTruncated) content.Bytes
+filling-listed n filling = bytes-listed HeaderTruncated (filling-matters n filling)
 
-pub bytes-along : {S : Type 0} {g : Ghosts S} {old new : Reader S g} {steps : List Step} {k n : ℕ} {cut : FormatFault} {result : Result Bytes HeadFault} → k ≡ n → Checked old new steps (bytes k cut) result → Checked old new steps (bytes n cut) result
-bytes-along {old = old} {new = new} {steps = steps} {cut = cut} {result = result} same c = subst (λ k. Checked old new steps (bytes k cut) result) same c
+pub values-listed : {o : Owner} {n : ℕ} → let place : Place = record { owner = o; name = name.Values } in IsFieldOf place n (bytes n HeaderTruncated) (λ bs. content.Values (ends_with_nul bs))
+values-listed = bytes-listed HeaderTruncated (record { whole = λ start. refl; cut = λ start. refl })
 
-pub version-field : (place : Place) → IsContent place 1 (λ bs. bs) (λ bs. Number (slice_index bs 0)) → IsFieldOf place 1 (bytes 1 HeaderTruncated) version_part version_in (λ bs. Number (slice_index bs 0))
-unfolding version_part
-version-field place matters = bytes-field place 1 HeaderTruncated _ _ _ matters (bytes-decoded 1 HeaderTruncated version_in (λ v. version_byte v ∷ []))
+pub version-listed : let place : Place = record { owner = owner.Header; name = name.Version } in IsFieldOf place 1 (bytes 1 HeaderTruncated) (λ bs. Number (slice_index bs 0))
+version-listed = bytes-listed HeaderTruncated (record { whole = λ start. refl; cut = λ start. refl })
+
+-- bytes that are read and not returned
+pub ignored-checked : {S : Type 0} {g : Ghosts S} {old new : Reader S g} {steps : List Step} {n : ℕ} (bs : Bytes) (result : Result (Unit {0}) HeadFault)
+    → Checked old new steps (bytes n HeaderTruncated) (in_place bs result) → Checked old new steps (ignored n) result
+unfolding ignored
+ignored-checked bs result c = grind (arith, part_lists)

@@ -2,3 +2,4 @@ pub mod Checks
 pub mod Lists
 pub mod Answers
 pub mod PassedValues
+pub mod Numbers

@@ -18,7 +18,7 @@ use nc_file::{HeadFault, Window};
 use std::alloc::Global;
 
 /// The tag of a list of attributes (`NC_ATTRIBUTE`).
-const NC_ATTRIBUTE: u32 = 12;
+const NC_ATTRIBUTE: u64 = 12;
 
 impl Fields {
     ghost use Rattle.nc_fields.specs.Entries.{owner_steps};
@@ -42,10 +42,12 @@ impl Fields {
         let passed = pass_values(window, len);
         let ends_with_nul = start.unless_cut(&mut self.entries, passed)?;
         let content = Content::Values { ends_with_nul };
-        start.list(&mut self.entries, content, Ok(()))
+        start.list(&mut self.entries, content)?;
+        Ok(())
     }
 
     /// Reads an attribute, and returns it without its values.
+    #[tactic(auto, using(crate::proofs::Checks::chain_lists), unfolding(nc_base::specs::Grammar::att_part))]
     fn att<S: Source>(
         &mut self,
         window: &mut Window<'_, S>,
@@ -65,7 +67,7 @@ impl Fields {
             name: FieldName::Padding,
         };
         let name = self.name(window, alloc, version, owner)?;
-        let ty = self.att_type(window, version, owner)?;
+        let ty = self.nc_type(window, version, owner)?;
         let n = self.count(window, version, count)?;
         let len = n as u128 * ty.size() as u128;
         self.values(window, owner, len)?;
@@ -98,6 +100,7 @@ impl Fields {
     }
 
     /// Reads a list of attributes, and returns them without their values.
+    #[tactic(auto, using(crate::proofs::Checks::chain_lists), unfolding(nc_base::specs::Grammar::att_list, nc_base::specs::Grammar::list_part))]
     pub(crate) fn att_list<S: Source>(
         &mut self,
         window: &mut Window<'_, S>,

@@ -14,13 +14,14 @@ use nc_file::{HeadFault, Window};
 use std::alloc::Global;
 
 /// The tag of a list of dimensions (`NC_DIMENSION`).
-const NC_DIMENSION: u32 = 10;
+const NC_DIMENSION: u64 = 10;
 
 impl Fields {
     ghost use Rattle.nc_fields.specs.Entries.{owner_steps};
     ghost use Rattle.nc_fields.specs.code.Checks.{at, Checked};
 
     /// Reads a dimension. `has_record` is true if a dimension before it has length 0. Errs with `TwoRecordDims` if this one has it, too.
+    #[tactic(auto, using(crate::proofs::Checks::chain_lists), unfolding(nc_base::specs::Grammar::dim_part))]
     fn dim<S: Source>(
         &mut self,
         window: &mut Window<'_, S>,
@@ -59,6 +60,7 @@ impl Fields {
     }
 
     /// Reads the list of dimensions, and returns them.
+    #[tactic(auto, using(crate::proofs::Checks::chain_lists), unfolding(nc_base::specs::Grammar::dim_list, nc_base::specs::Grammar::list_part))]
     pub(crate) fn dim_list<S: Source>(
         &mut self,
         window: &mut Window<'_, S>,

@@ -1,18 +1,20 @@
 //! The fields of a header, as they are listed while it is read.
 
-ghost use Rattle.std.specs.Prelude.{◌≡◌};
+ghost use Rattle.std.specs.Prelude.{◌≡◌, ◌++◌, ◌∷◌, [], OnOk};
 ghost use Rattle.nc_fields.specs.code.Checks.{IsStart};
 
 use crate::entry::{Content, Entry};
 use crate::place::Place;
 use devices::Source;
-use nc_base::{FormatFault, Sequence};
+use nc_base::Sequence;
 use nc_file::{HeadFault, Window};
+use std::alloc::AllocError;
 
 /// The fields that were read.
 ///
 /// Each function that reads a field through a window lists it, also if it is wrong or if the source ends inside of it, and then errs with
-/// its fault. It errs with `ReadFailed` if the source fails, and with `OutOfMemory` if an allocation fails; then the list means nothing.
+/// its fault. Since reading stops there, the fault is that of the last field, and is put there at the end. It errs with `ReadFailed` if the
+/// source fails, and with `OutOfMemory` if an allocation fails; then the list means nothing.
 #[derive(Drop)]
 pub(crate) struct Fields {
     pub(crate) entries: Sequence<Entry>,
@@ -27,44 +29,23 @@ pub(crate) struct Start {
 }
 
 impl Start {
-    ghost use Rattle.nc_fields.specs.code.Checks.{Finished, ListsCut};
+    ghost use Rattle.nc_fields.specs.code.Checks.{entry_of, ListsCut};
 
-    /// Lists this field with its content, and with the fault of the answer if that errs. Returns the answer.
-    pub(crate) fn list<T: Drop>(
+    /// Lists this field with its content, and without a fault.
+    pub(crate) fn list(
         self,
         entries: &mut Sequence<Entry>,
         content: Content,
-        answer: Result<T, FormatFault>,
-    ) -> Result<T, HeadFault>
-        ensures { Finished entries.old entries.new self content answer result }
+    ) -> Result<(), AllocError>
+        ensures { OnOk result (entries.new ≡ entries.old ++ entry_of self content ∷ []) }
     {
-        let Start {
-            place,
-            offset,
-            size,
-        } = self;
-        match answer {
-            Ok(value) => {
-                entries.push(Entry {
-                    place,
-                    offset,
-                    size,
-                    content,
-                    fault: None,
-                })?;
-                Ok(value)
-            }
-            Err(fault) => {
-                entries.push(Entry {
-                    place,
-                    offset,
-                    size,
-                    content,
-                    fault: Some(fault),
-                })?;
-                Err(HeadFault::Format(fault))
-            }
-        }
+        entries.push(Entry {
+            place: self.place,
+            offset: self.offset,
+            size: self.size,
+            content,
+            fault: None,
+        })
     }
 
     /// Lists this field as cut if the answer of the call that read it errs with a fault of the bytes, which is that the source has ended.
@@ -76,10 +57,10 @@ impl Start {
     ) -> Result<T, HeadFault>
         ensures { ListsCut entries.old entries.new self answer result }
     {
-        match answer {
-            Err(HeadFault::Format(fault)) => self.list(entries, Content::Cut, Err(fault)),
-            answer => answer,
+        if let Err(HeadFault::Format(_)) = &answer {
+            self.list(entries, Content::Cut)?;
         }
+        answer
     }
 }
 

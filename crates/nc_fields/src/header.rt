@@ -1,17 +1,19 @@
 //! The whole header.
 
-ghost use Rattle.std.specs.Prelude.{◌≡◌, ◌≤◌, ◌+◌, ◌∷◌, [], codes, if◌then◌else◌, length, min, take, IfOk, IsOk, Ok, Err};
+ghost use Rattle.std.specs.Prelude.{◌≡◌, ◌≤◌, ◌+◌, ◌∷◌, [], codes, if◌then◌else◌, length, map, min, take, IfOk, IsOk, Ok, Err};
 ghost use Rattle.std.specs.Bool.{OnTrue};
 ghost use Rattle.std.specs.Str.{bytes_eq};
-ghost use Rattle.nc_base.specs.Grammar.{checked, header_by, magic_part, version_in, version_part};
+ghost use Rattle.nc_base.specs.Grammar.{checked, header_by, magic_part, version_part};
 ghost use Rattle.nc_base.specs.Parts.{Magic, VersionByte, bytes};
-ghost use Rattle.nc_base.specs.declared.fault.FormatFault.TheVariants.{NotNetcdf};
+ghost use Rattle.nc_base.specs.declared.fault.FormatFault.TheVariants.{HeaderTruncated, NotNetcdf};
 ghost use Rattle.nc_fields.specs.Lenient.{lenient};
+ghost use Rattle.nc_file.specs.declared.head_fault.HeadFault.TheVariants.{Format};
 ghost use Rattle.nc_file.specs.code.Answers.{ReadUpTo};
 ghost use Rattle.nc_file.specs.code.Window.{left};
-ghost use Rattle.nc_fields.specs.Entries.{hdf5_signature};
+ghost use Rattle.nc_fields.specs.Entries.{hdf5_signature, seen_by};
 ghost use Rattle.nc_fields.specs.Listings.{Blames, IsListing};
 ghost use Rattle.nc_fields.specs.code.Answers.{Answers};
+ghost use Rattle.nc_fields.specs.code.Checks.{with_fault};
 
 use crate::entry::{Content, Entry};
 use crate::field_bytes::FieldBytes;
@@ -100,7 +102,7 @@ fn answered(
             file_len,
         }),
         Err(HeadFault::Format(fault)) => Ok(Listing {
-            entries,
+            entries: with_fault(entries, fault)?,
             header: Err(fault),
             end,
             file_len,
@@ -108,6 +110,20 @@ fn answered(
         Err(HeadFault::OutOfMemory) => Err(ListFault::OutOfMemory),
         Err(HeadFault::ReadFailed) => Err(ListFault::ReadFailed),
     }
+}
+
+/// Returns the entries with this fault at the last one, where reading has stopped.
+#[tactic(auto, using(crate::proofs::Checks::faulted))]
+fn with_fault(entries: Sequence<Entry>, fault: FormatFault) -> Result<Sequence<Entry>, AllocError>
+    ensures { IfOk result (λ listed. map seen_by listed ≡ with_fault fault (map seen_by entries)) }
+{
+    let mut entries = entries.into_vec();
+    let Some(mut last) = entries.pop() else {
+        return Ok(Sequence::from_vec(entries));
+    };
+    last.fault = Some(fault);
+    entries.push(last)?;
+    Ok(Sequence::from_vec(entries))
 }
 
 impl Fields {
@@ -136,7 +152,8 @@ impl Fields {
         let letters = start.unless_cut(&mut self.entries, filling_bytes(window, alloc, there))?;
         let answer = letters_in(letters.as_slice());
         let kept = kept_letters(alloc, is_hdf5, letters)?;
-        start.list(&mut self.entries, Content::Bytes(kept), answer)
+        start.list(&mut self.entries, Content::Bytes(kept))?;
+        answer
     }
 
     /// Reads the three bytes that should be `CDF`, as [`listed_letters`](Fields::listed_letters) does.
@@ -154,10 +171,10 @@ impl Fields {
         self.listed_letters(window, alloc, is_hdf5)
     }
 
-    /// Reads the version byte. Errs with `UnknownVersion` if it is none of 1, 2 and 5.
-    fn version<S: Source>(&mut self, window: &mut Window<'_, S>) -> Result<Version, HeadFault>
+    /// Reads the byte that should be a version.
+    fn version_byte<S: Source>(&mut self, window: &mut Window<'_, S>) -> Result<[u8; 1], HeadFault>
         ensures { Checked (at window.old self.old) (at window.new self.new)
-            (VersionByte ∷ []) version_part result }
+            (VersionByte ∷ []) (bytes 1 HeaderTruncated) result }
     {
         let place = Place {
             owner: Owner::Header,
@@ -165,14 +182,22 @@ impl Fields {
         };
         let start = start_at(window, place, 1);
         let byte: [u8; 1] = start.unless_cut(&mut self.entries, window.array())?;
-        start.list(
-            &mut self.entries,
-            Content::Number(byte[0] as u64),
-            version_in(byte),
-        )
+        start.list(&mut self.entries, Content::Number(byte[0] as u64))?;
+        Ok(byte)
+    }
+
+    /// Reads the version byte. Errs with `UnknownVersion` if it is none of 1, 2 and 5.
+    #[tactic(auto, using(crate::proofs::Checks::part_lists), unfolding(nc_base::specs::Grammar::version_part))]
+    fn version<S: Source>(&mut self, window: &mut Window<'_, S>) -> Result<Version, HeadFault>
+        ensures { Checked (at window.old self.old) (at window.new self.new)
+            (VersionByte ∷ []) version_part result }
+    {
+        let [byte] = self.version_byte(window)?;
+        Ok(Version::of_byte(byte).ok_or(FormatFault::UnknownVersion(byte))?)
     }
 
     /// Reads `CDF` and the version byte, and returns the version.
+    #[tactic(auto, using(crate::proofs::Checks::chain_lists), unfolding(nc_base::specs::Grammar::magic_part))]
     fn magic<S: Source>(
         &mut self,
         window: &mut Window<'_, S>,
@@ -186,6 +211,7 @@ impl Fields {
     }
 
     /// Reads the whole header.
+    #[tactic(auto, using(crate::proofs::Checks::chain_lists), unfolding(nc_base::specs::Grammar::header_by))]
     fn header<S: Source>(
         &mut self,
         window: &mut Window<'_, S>,
@@ -231,19 +257,12 @@ fn kept_letters(alloc: Global, is_hdf5: bool, letters: FieldBytes) -> Result<Fie
 }
 
 /// Returns the letters, or errs with `NotNetcdf` if they aren't `CDF`.
-fn letters_in(letters: &[u8]) -> Result<[u8; 3], FormatFault>
-    ensures { result ≡ (if bytes_eq letters.now (codes "CDF") then Ok letters.now else Err NotNetcdf) }
+fn letters_in(letters: &[u8]) -> Result<[u8; 3], HeadFault>
+    ensures { result ≡ (if bytes_eq letters.now (codes "CDF") then Ok letters.now else Err (Format NotNetcdf)) }
 {
     if letters == b"CDF".as_slice() {
         Ok(*b"CDF")
     } else {
-        Err(FormatFault::NotNetcdf)
+        Err(HeadFault::Format(FormatFault::NotNetcdf))
     }
-}
-
-/// Returns the version with this byte, or errs with `UnknownVersion` if there is none.
-fn version_in(byte: [u8; 1]) -> Result<Version, FormatFault>
-    ensures { result ≡ version_in byte }
-{
-    Version::of_byte(byte[0]).ok_or(FormatFault::UnknownVersion(byte[0]))
 }

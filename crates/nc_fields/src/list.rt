@@ -21,7 +21,7 @@ impl Fields {
         window: &mut Window<'_, S>,
         version: Version,
         list: ListName,
-        tag: u32,
+        tag: u64,
     ) -> Result<u64, HeadFault>
         ensures { Checked (at window.old self.old) (at window.new self.new)
             (list_steps list) (list_head version tag) result }

@@ -1,6 +1,6 @@
 //! Names, and the bytes that fill a field up.
 
-ghost use Rattle.std.specs.Prelude.{◌≡◌, ◌≤◌, ◌∷◌, ◌==◌, if◌then◌else◌, length, Ok, Err};
+ghost use Rattle.std.specs.Prelude.{◌≡◌, ◌≤◌, ◌∷◌, ◌==◌, length};
 ghost use Rattle.std.specs.List.{list_all};
 ghost use Rattle.nc_base.specs.Grammar.{checked, ignored, name_part};
 ghost use Rattle.nc_base.specs.Parts.{Name, Text, bytes};
@@ -22,8 +22,28 @@ impl Fields {
     ghost use Rattle.nc_fields.specs.Entries.{owner_steps, steps_of};
     ghost use Rattle.nc_fields.specs.code.Checks.{at, Checked, IsFilling};
 
-    /// Reads the `n` bytes of a name. Errs with `BadName` if they show that the fields are out of step ([`may_be_name`]).
+    /// Reads `n` bytes, which may be any.
     fn text<S: Source>(
+        &mut self,
+        window: &mut Window<'_, S>,
+        alloc: Global,
+        place: Place,
+        n: u64,
+    ) -> Result<Sequence<u8>, HeadFault>
+        requires { IsFilling place }
+        ensures { Checked (at window.old self.old) (at window.new self.new)
+            (steps_of place) (bytes n HeaderTruncated) result }
+    {
+        let start = start_at(window, place, n as u128);
+        let text = start.unless_cut(&mut self.entries, window.bytes(alloc, n as u128))?;
+        let copy = FieldBytes::from_slice(alloc, text.as_slice())?;
+        start.list(&mut self.entries, Content::Bytes(copy))?;
+        Ok(text)
+    }
+
+    /// Reads the `n` bytes of a name. Errs with `BadName` if they show that the fields are out of step ([`may_be_name`]).
+    #[tactic(auto, using(crate::proofs::Checks::part_lists), unfolding(nc_base::specs::Grammar::number))]
+    fn name_text<S: Source>(
         &mut self,
         window: &mut Window<'_, S>,
         alloc: Global,
@@ -38,10 +58,11 @@ impl Fields {
             owner,
             name: FieldName::Name,
         };
-        let start = start_at(window, place, n as u128);
-        let text = start.unless_cut(&mut self.entries, window.bytes(alloc, n as u128))?;
-        let content = Content::Bytes(FieldBytes::from_slice(alloc, text.as_slice())?);
-        start.list(&mut self.entries, content, name_in(text))
+        let text = self.text(window, alloc, place, n)?;
+        if !may_be_name(text.as_slice()) {
+            return Err(HeadFault::Format(FormatFault::BadName));
+        }
+        Ok(text)
     }
 
     /// Reads the `n` bytes that fill up what comes before. They may be any bytes.
@@ -58,10 +79,12 @@ impl Fields {
     {
         let start = start_at(window, place, n as u128);
         let filling = start.unless_cut(&mut self.entries, filling_bytes(window, alloc, n))?;
-        start.list(&mut self.entries, Content::Bytes(filling), Ok(()))
+        start.list(&mut self.entries, Content::Bytes(filling))?;
+        Ok(())
     }
 
     /// Reads a name: its length, its bytes and what fills them up. Returns the bytes.
+    #[tactic(auto, using(crate::proofs::Checks::chain_lists), unfolding(nc_base::specs::Grammar::name_part))]
     pub(crate) fn name<S: Source>(
         &mut self,
         window: &mut Window<'_, S>,
@@ -81,7 +104,7 @@ impl Fields {
             name: FieldName::NamePadding,
         };
         let n = self.count(window, version, length)?;
-        let text = self.text(window, alloc, owner, n)?;
+        let text = self.name_text(window, alloc, owner, n)?;
         self.filling(window, alloc, padding, padding_len(n as u128))?;
         Ok(text)
     }
@@ -108,17 +131,6 @@ fn held(alloc: Global, bytes: &[u8]) -> Result<FieldBytes, HeadFault>
     ensures { IsHeld bytes.now result }
 {
     Ok(FieldBytes::from_slice(alloc, bytes)?)
-}
-
-/// Returns the bytes, or errs with `BadName` if they show that the fields are out of step.
-fn name_in(text: Sequence<u8>) -> Result<Sequence<u8>, FormatFault>
-    ensures { result ≡ (if may_be_name text then Ok text else Err BadName) }
-{
-    if may_be_name(text.as_slice()) {
-        Ok(text)
-    } else {
-        Err(FormatFault::BadName)
-    }
 }
 
 /// Returns true if the bytes may be a name in a header whose fields are in step: at least one byte that is no control character, and after

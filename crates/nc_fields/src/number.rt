@@ -1,13 +1,14 @@
 //! The fields that are one number.
 
-ghost use Rattle.std.specs.Prelude.{◌≡◌, [], ◌∷◌, ◌==◌, ◌&&◌, ◌||◌, not, if◌then◌else◌, nat_lt, IfOk, IsTrue, Ok, Err};
+ghost use Rattle.std.specs.Prelude.{◌≡◌, ◌+◌, [], ◌∷◌, ◌==◌, ◌&&◌, ◌||◌, not, IfOk};
 ghost use Rattle.std.specs.Int.{byte_len, w32};
-ghost use Rattle.nc_base.specs.Grammar.{checked, count_part, dimid_part, is_dimid, is_within_limits, number, limited_part, numrecs_in, numrecs_part, offset_part, type_part};
+ghost use Rattle.nc_base.specs.Grammar.{checked, count_part, dimid_part, is_within_limits, number, limited_part, numrecs_part, offset_part, record_bytes, type_part};
 ghost use Rattle.nc_base.specs.Parts.{Begin, Item, Length, Records, Shape, TypeCode, Vsize};
-ghost use Rattle.nc_base.specs.Versions.{count_limit, count_width, offset_limit, offset_width};
-ghost use Rattle.nc_base.specs.declared.fault.FormatFault.TheVariants.{BadCount, BadOffset, BadShape, BadTag, TooLarge, TwoRecordDims};
+ghost use Rattle.nc_base.specs.Versions.{count_limit, count_width, offset_width};
+ghost use Rattle.nc_base.specs.declared.fault.FormatFault.TheVariants.{BadCount, BadTag, TooLarge, TwoRecordDims};
+ghost use Rattle.nc_file.specs.code.Window.{Read};
 ghost use Rattle.nc_fields.specs.Lenient.{any_length_limit, lenient, sized_type_in};
-ghost use Rattle.nc_fields.specs.code.Checks.{judged_then};
+ghost use Rattle.nc_fields.specs.code.Numbers.{width_of};
 
 use crate::entry::Content;
 use crate::fields::{Fields, start_at};
@@ -16,9 +17,87 @@ use devices::Source;
 use nc_base::{Dim, FormatFault, NcType, NumRecs, Version};
 use nc_file::{HeadFault, Window, is_dimid, total_with, type_in};
 
+/// How many bytes a number has.
+#[derive(Clone, Copy)]
+pub(crate) enum NumberWidth {
+    /// Four bytes.
+    Four,
+    /// Eight bytes.
+    Eight,
+}
+
+impl NumberWidth {
+    /// Returns the width of a count or a length in the version.
+    pub(crate) fn of_counts(version: Version) -> NumberWidth
+        ensures { width_of result ≡ count_width version }
+    {
+        match version {
+            Version::Cdf1 | Version::Cdf2 => NumberWidth::Four,
+            Version::Cdf5 => NumberWidth::Eight,
+        }
+    }
+
+    /// Returns the width of an offset in the version.
+    fn of_offsets(version: Version) -> NumberWidth
+        ensures { width_of result ≡ offset_width version }
+    {
+        match version {
+            Version::Cdf1 => NumberWidth::Four,
+            Version::Cdf2 | Version::Cdf5 => NumberWidth::Eight,
+        }
+    }
+
+    /// Returns how many bytes that is.
+    fn len(self) -> u128
+        ensures { result ≡ byte_len (width_of self) }
+    {
+        match self {
+            NumberWidth::Four => 4,
+            NumberWidth::Eight => 8,
+        }
+    }
+}
+
 impl Fields {
     ghost use Rattle.nc_fields.specs.Entries.{owner_steps, steps_of};
     ghost use Rattle.nc_fields.specs.code.Checks.{at, Checked, IsNumeric};
+
+    /// Reads a number of this width. Any number is good.
+    pub(crate) fn number<S: Source>(
+        &mut self,
+        window: &mut Window<'_, S>,
+        place: Place,
+        width: NumberWidth,
+    ) -> Result<u64, HeadFault>
+        requires { IsNumeric place }
+        ensures { Checked (at window.old self.old) (at window.new self.new)
+            (steps_of place) (number (width_of width)) result }
+    {
+        let start = start_at(window, place, width.len());
+        let n = start.unless_cut(&mut self.entries, read_number(window, width))?;
+        start.list(&mut self.entries, Content::Number(n))?;
+        Ok(n)
+    }
+
+    /// Reads a number of as many bytes as counts have. Errs with `BadCount` if it isn't below the limit.
+    #[tactic(auto, using(crate::proofs::Checks::part_lists), unfolding(nc_base::specs::Grammar::number, nc_base::specs::Grammar::limited_part))]
+    fn limited<S: Source>(
+        &mut self,
+        window: &mut Window<'_, S>,
+        version: Version,
+        place: Place,
+        limit: u64,
+    ) -> Result<u64, HeadFault>
+        requires { IsNumeric place }
+        ensures { Checked (at window.old self.old) (at window.new self.new)
+            (steps_of place) (limited_part limit version) result }
+    {
+        let n = self.number(window, place, NumberWidth::of_counts(version))?;
+        if limit <= n {
+            return Err(HeadFault::Format(FormatFault::BadCount));
+        }
+        Ok(n)
+    }
 
     /// Reads a count or a length (`NON_NEG`). Errs with `BadCount` if its top bit is 1.
     pub(crate) fn count<S: Source>(
@@ -31,13 +110,12 @@ impl Fields {
         ensures { Checked (at window.old self.old) (at window.new self.new)
             (steps_of place) (count_part version) result }
     {
-        let start = start_at(window, place, count_len(version));
-        let n = start.unless_cut(&mut self.entries, window.number(version))?;
-        start.list(&mut self.entries, Content::Number(n), count_in(version, n))
+        self.limited(window, version, place, version.count_limit())
     }
 
     /// Reads the length of a dimension. Errs with `BadCount` if it is 2^63 or more, and with `TwoRecordDims` if it is 0 and `has_record` is
     /// true, which says that a dimension before has the length 0.
+    #[tactic(auto, using(crate::proofs::Checks::part_lists), unfolding(nc_base::specs::Grammar::number, nc_base::specs::Grammar::limited_part))]
     pub(crate) fn dim_len<S: Source>(
         &mut self,
         window: &mut Window<'_, S>,
@@ -54,58 +132,55 @@ impl Fields {
             owner,
             name: FieldName::Length,
         };
-        let start = start_at(window, place, count_len(version));
-        let n = start.unless_cut(&mut self.entries, window.number(version))?;
-        start.list(
-            &mut self.entries,
-            Content::Number(n),
-            dim_len_in(version, has_record, n),
-        )
+        let len = self.limited(window, version, place, any_length_limit(version))?;
+        if has_record && len == 0 {
+            return Err(HeadFault::Format(FormatFault::TwoRecordDims));
+        }
+        Ok(len)
     }
 
     /// Reads the tag of a list. Errs with `BadTag` if it is neither 0 nor `tag`.
+    #[tactic(auto, using(crate::proofs::Checks::part_lists), unfolding(nc_base::specs::Grammar::number))]
     pub(crate) fn tag<S: Source>(
         &mut self,
         window: &mut Window<'_, S>,
         place: Place,
-        tag: u32,
-    ) -> Result<u32, HeadFault>
+        tag: u64,
+    ) -> Result<u64, HeadFault>
         requires { IsNumeric place }
         ensures { Checked (at window.old self.old) (at window.new self.new) (steps_of place)
             (checked (λ t. (t == 0) || (t == tag)) BadTag (number w32)) result }
     {
-        let start = start_at(window, place, 4);
-        let found = start.unless_cut(&mut self.entries, window.read_u32())?;
-        start.list(
-            &mut self.entries,
-            Content::Number(found as u64),
-            tag_in(tag, found),
-        )
+        let found = self.number(window, place, NumberWidth::Four)?;
+        if found != 0 && found != tag {
+            return Err(HeadFault::Format(FormatFault::BadTag));
+        }
+        Ok(found)
     }
 
     /// Reads the number of a list's elements, after the tag `tag`. Errs with `BadCount` if its top bit is 1, or if the tag is 0 and it isn't.
+    #[tactic(auto, using(crate::proofs::Checks::part_lists), unfolding(nc_base::specs::Grammar::number, nc_base::specs::Grammar::limited_part))]
     pub(crate) fn list_count<S: Source>(
         &mut self,
         window: &mut Window<'_, S>,
         version: Version,
         place: Place,
-        tag: u32,
+        tag: u64,
     ) -> Result<u64, HeadFault>
         requires { IsNumeric place }
         ensures { Checked (at window.old self.old) (at window.new self.new) (steps_of place)
             (checked (λ n. not (tag == 0) || (n == 0)) BadCount (count_part version)) result }
     {
-        let start = start_at(window, place, count_len(version));
-        let n = start.unless_cut(&mut self.entries, window.number(version))?;
-        start.list(
-            &mut self.entries,
-            Content::Number(n),
-            list_count_in(version, tag, n),
-        )
+        let n = self.count(window, version, place)?;
+        if tag == 0 && n != 0 {
+            return Err(HeadFault::Format(FormatFault::BadCount));
+        }
+        Ok(n)
     }
 
-    /// Reads the type code of an attribute. Errs with `BadType` if the version has no type with this code.
-    pub(crate) fn att_type<S: Source>(
+    /// Reads the type code of an attribute or a variable. Errs with `BadType` if the version has no type with this code.
+    #[tactic(auto, using(crate::proofs::Checks::part_lists), unfolding(nc_base::specs::Grammar::number, nc_base::specs::Grammar::type_part))]
+    pub(crate) fn nc_type<S: Source>(
         &mut self,
         window: &mut Window<'_, S>,
         version: Version,
@@ -118,47 +193,13 @@ impl Fields {
             owner,
             name: FieldName::Type,
         };
-        let start = start_at(window, place, 4);
-        let code = start.unless_cut(&mut self.entries, window.read_u32())?;
-        start.list(
-            &mut self.entries,
-            Content::Number(code as u64),
-            sized_type_in(version, code),
-        )
-    }
-
-    /// Reads the type code of a variable of this shape. Errs with `BadType` if the version has no type with this code, and with `TooLarge` if
-    /// its slab passes 2^48 bytes, or if the padded slabs of the record variables pass 2^62 bytes; those before it have `total` bytes.
-    pub(crate) fn var_type<S: Source>(
-        &mut self,
-        window: &mut Window<'_, S>,
-        version: Version,
-        owner: Owner,
-        dims: &[Dim],
-        dimids: &[u64],
-        total: u64,
-    ) -> Result<NcType, HeadFault>
-        ensures var_type { Checked (at window.old self.old) (at window.new self.new)
-            (TypeCode ∷ owner_steps owner)
-            (checked (is_within_limits dims.now total dimids.now) TooLarge (type_part lenient version))
-            result }
-        ensures fits { IfOk result (λ ty. IsTrue (is_within_limits dims.now total dimids.now ty)) }
-    {
-        let place = Place {
-            owner,
-            name: FieldName::Type,
-        };
-        let start = start_at(window, place, 4);
-        let code = start.unless_cut(&mut self.entries, window.read_u32())?;
-        start.list(
-            &mut self.entries,
-            Content::Number(code as u64),
-            var_type_in(version, code, dims, dimids, total),
-        )
+        let code = self.number(window, place, NumberWidth::Four)?;
+        Ok(sized_type_in(version, code)?)
     }
 
     /// Reads the dimension id in place `k` of a shape. Errs with `BadShape` if no dimension has this id, or if it is that of the record
     /// dimension and `k` isn't 0.
+    #[tactic(auto, using(crate::proofs::Checks::part_lists), unfolding(nc_base::specs::Grammar::number, nc_base::specs::Grammar::dimid_part))]
     pub(crate) fn dimid<S: Source>(
         &mut self,
         window: &mut Window<'_, S>,
@@ -175,35 +216,15 @@ impl Fields {
             owner,
             name: FieldName::DimId(k),
         };
-        let start = start_at(window, place, count_len(version));
-        let id = start.unless_cut(&mut self.entries, window.number(version))?;
-        start.list(
-            &mut self.entries,
-            Content::Number(id),
-            dimid_in(dims, k == 0, id),
-        )
-    }
-
-    /// Reads the size of a variable. Any number is good.
-    pub(crate) fn vsize<S: Source>(
-        &mut self,
-        window: &mut Window<'_, S>,
-        version: Version,
-        owner: Owner,
-    ) -> Result<u64, HeadFault>
-        ensures { Checked (at window.old self.old) (at window.new self.new)
-            (Vsize ∷ owner_steps owner) (number (count_width version)) result }
-    {
-        let place = Place {
-            owner,
-            name: FieldName::Vsize,
-        };
-        let start = start_at(window, place, count_len(version));
-        let n = start.unless_cut(&mut self.entries, window.number(version))?;
-        start.list(&mut self.entries, Content::Number(n), Ok(n))
+        let id = self.number(window, place, NumberWidth::of_counts(version))?;
+        if !is_dimid(dims, k == 0, id) {
+            return Err(HeadFault::Format(FormatFault::BadShape));
+        }
+        Ok(id)
     }
 
     /// Reads the begin of a variable. Errs with `BadOffset` if its top bit is 1.
+    #[tactic(auto, using(crate::proofs::Checks::part_lists), unfolding(nc_base::specs::Grammar::number, nc_base::specs::Grammar::offset_part))]
     pub(crate) fn begin<S: Source>(
         &mut self,
         window: &mut Window<'_, S>,
@@ -217,12 +238,15 @@ impl Fields {
             owner,
             name: FieldName::Begin,
         };
-        let start = start_at(window, place, offset_len(version));
-        let n = start.unless_cut(&mut self.entries, window.unchecked_offset(version))?;
-        start.list(&mut self.entries, Content::Number(n), offset_in(version, n))
+        let n = self.number(window, place, NumberWidth::of_offsets(version))?;
+        if version.offset_limit() <= n {
+            return Err(HeadFault::Format(FormatFault::BadOffset));
+        }
+        Ok(n)
     }
 
     /// Reads the number of records. Errs with `BadCount` if it is 2^63 or more, but not all of its bits are 1.
+    #[tactic(auto, using(crate::proofs::Checks::part_lists), unfolding(nc_base::specs::Grammar::number, nc_base::specs::Grammar::numrecs_part))]
     pub(crate) fn numrecs<S: Source>(
         &mut self,
         window: &mut Window<'_, S>,
@@ -235,51 +259,24 @@ impl Fields {
             owner: Owner::Header,
             name: FieldName::NumRecs,
         };
-        let start = start_at(window, place, count_len(version));
-        let n = start.unless_cut(&mut self.entries, window.number(version))?;
-        start.list(
-            &mut self.entries,
-            Content::Number(n),
-            numrecs_in(version, n),
-        )
+        let n = self.number(window, place, NumberWidth::of_counts(version))?;
+        if n == version.streaming_mark() {
+            return Ok(NumRecs::Streaming);
+        }
+        if any_length_limit(version) <= n {
+            return Err(HeadFault::Format(FormatFault::BadCount));
+        }
+        Ok(NumRecs::Known(n))
     }
 }
 
-/// Returns how many bytes a count or a length has in the version.
-fn count_len(version: Version) -> u128
-    ensures { result ≡ byte_len (count_width version) }
+/// Reads a number of this width through the window, and lists nothing.
+fn read_number<S: Source>(window: &mut Window<'_, S>, width: NumberWidth) -> Result<u64, HeadFault>
+    ensures { Read window.old window.new (number (width_of width)) result }
 {
-    match version {
-        Version::Cdf1 | Version::Cdf2 => 4,
-        Version::Cdf5 => 8,
-    }
-}
-
-/// Returns how many bytes an offset has in the version.
-fn offset_len(version: Version) -> u128
-    ensures { result ≡ byte_len (offset_width version) }
-{
-    match version {
-        Version::Cdf1 => 4,
-        Version::Cdf2 | Version::Cdf5 => 8,
-    }
-}
-
-/// Returns the count `n`, or errs with `BadCount` if its top bit is 1.
-fn count_in(version: Version, n: u64) -> Result<u64, FormatFault>
-    ensures { result ≡ (if nat_lt n (count_limit version) then Ok n else Err BadCount) }
-{
-    number_below(version.count_limit(), n)
-}
-
-/// Returns the number `n`, or errs with `BadCount` if it isn't below the limit.
-fn number_below(limit: u64, n: u64) -> Result<u64, FormatFault>
-    ensures { result ≡ (if nat_lt n limit then Ok n else Err BadCount) }
-{
-    if limit <= n {
-        Err(FormatFault::BadCount)
-    } else {
-        Ok(n)
+    match width {
+        NumberWidth::Four => window.read_u32_as_u64(),
+        NumberWidth::Eight => window.read_u64(),
     }
 }
 
@@ -293,100 +290,15 @@ fn any_length_limit(version: Version) -> u64
     }
 }
 
-/// Returns the length `n` of a dimension. Errs with `BadCount` if it is 2^63 or more, and with `TwoRecordDims` if it is 0 and `has_record` is
-/// true.
-fn dim_len_in(version: Version, has_record: bool, n: u64) -> Result<u64, FormatFault>
-    ensures { result ≡ judged_then
-        (λ n. if nat_lt n (any_length_limit version) then Ok n else Err BadCount)
-        (λ len. if not (has_record && (len == 0)) then Ok len else Err TwoRecordDims) n }
-{
-    let len = number_below(any_length_limit(version), n)?;
-    if has_record && len == 0 {
-        return Err(FormatFault::TwoRecordDims);
-    }
-    Ok(len)
-}
-
-/// Returns the tag `found`, or errs with `BadTag` if it is neither 0 nor `tag`.
-fn tag_in(tag: u32, found: u32) -> Result<u32, FormatFault>
-    ensures { result ≡ (if (found == 0) || (found == tag) then Ok found else Err BadTag) }
-{
-    if found != 0 && found != tag {
-        return Err(FormatFault::BadTag);
-    }
-    Ok(found)
-}
-
-/// Returns the number `n` of elements. Errs with `BadCount` if its top bit is 1, or if it isn't 0 and the tag is.
-fn list_count_in(version: Version, tag: u32, n: u64) -> Result<u64, FormatFault>
-    ensures { result ≡ judged_then
-        (λ n. if nat_lt n (count_limit version) then Ok n else Err BadCount)
-        (λ n. if not (tag == 0) || (n == 0) then Ok n else Err BadCount) n }
-{
-    let count = count_in(version, n)?;
-    if tag == 0 && count != 0 {
-        return Err(FormatFault::BadCount);
-    }
-    Ok(count)
-}
-
 /// Returns the type with this code; for a floating type, the integer type of the same size. Errs with `BadType` if the version has no type
 /// with this code.
-fn sized_type_in(version: Version, code: u32) -> Result<NcType, FormatFault>
+fn sized_type_in(version: Version, code: u64) -> Result<NcType, FormatFault>
     ensures { result ≡ sized_type_in version code }
 {
     match code {
         5 => Ok(NcType::Int),
         6 => Ok(NcType::Int64),
-        _ => type_in(version, code),
+        0..=0xffff_ffff => type_in(version, code as u32),
+        _ => Err(FormatFault::BadType),
     }
-}
-
-/// Returns the type with this code, as [`sized_type_in`] does. Errs with `TooLarge` if a variable of this shape and type passes a limit.
-#[tactic(auto, unfolding(nc_file::specs::code::SizedVars::total_with))]
-fn var_type_in(
-    version: Version,
-    code: u32,
-    dims: &[Dim],
-    dimids: &[u64],
-    total: u64,
-) -> Result<NcType, FormatFault>
-    ensures { result ≡ judged_then (sized_type_in version)
-        (λ ty. if is_within_limits dims.now total dimids.now ty then Ok ty else Err TooLarge) code }
-{
-    let ty = sized_type_in(version, code)?;
-    match total_with(dims, dimids, ty, total) {
-        Some(_) => Ok(ty),
-        None => Err(FormatFault::TooLarge),
-    }
-}
-
-/// Returns the dimension id, or errs with `BadShape` if it can't stand there.
-fn dimid_in(dims: &[Dim], first: bool, id: u64) -> Result<u64, FormatFault>
-    ensures { result ≡ (if is_dimid dims.now first id then Ok id else Err BadShape) }
-{
-    if !is_dimid(dims, first, id) {
-        return Err(FormatFault::BadShape);
-    }
-    Ok(id)
-}
-
-/// Returns the offset `n`, or errs with `BadOffset` if its top bit is 1.
-fn offset_in(version: Version, n: u64) -> Result<u64, FormatFault>
-    ensures { result ≡ (if nat_lt n (offset_limit version) then Ok n else Err BadOffset) }
-{
-    if version.offset_limit() <= n {
-        return Err(FormatFault::BadOffset);
-    }
-    Ok(n)
-}
-
-/// Returns the number of records, or errs with `BadCount` if it is 2^63 or more, but not all of its bits are 1.
-fn numrecs_in(version: Version, n: u64) -> Result<NumRecs, FormatFault>
-    ensures { result ≡ numrecs_in lenient version n }
-{
-    if n == version.streaming_mark() {
-        return Ok(NumRecs::Streaming);
-    }
-    number_below(any_length_limit(version), n).map(NumRecs::Known)
 }

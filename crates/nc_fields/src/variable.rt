@@ -1,20 +1,22 @@
 //! Variables.
 
-ghost use Rattle.std.specs.Prelude.{◌≡◌, ◌+◌, ◌∷◌, [], IfOk};
-ghost use Rattle.nc_base.specs.Grammar.{dimid_after, each, record_bytes, shape_part, var_after, var_list, var_part};
-ghost use Rattle.nc_base.specs.Parts.{Shape, Vars};
+ghost use Rattle.std.specs.Prelude.{◌≡◌, ◌+◌, ◌∷◌, [], IfOk, IsTrue};
+ghost use Rattle.nc_base.specs.Grammar.{checked, dimid_after, each, is_within_limits, record_bytes, shape_part, type_part, var_after, var_list, var_part};
+ghost use Rattle.nc_base.specs.Parts.{Shape, TypeCode, Vars};
+ghost use Rattle.nc_base.specs.declared.fault.FormatFault.TheVariants.{TooLarge};
 ghost use Rattle.nc_fields.specs.Lenient.{lenient};
 
 use crate::fields::Fields;
 use crate::list_name::ListName;
+use crate::number::NumberWidth;
 use crate::place::{FieldName, Owner, Place};
 use devices::Source;
-use nc_base::{Dim, Sequence, Var, Version};
+use nc_base::{Dim, FormatFault, NcType, Sequence, Var, Version};
 use nc_file::{HeadFault, Window, total_with};
 use std::alloc::Global;
 
 /// The tag of a list of variables (`NC_VARIABLE`).
-const NC_VARIABLE: u32 = 11;
+const NC_VARIABLE: u64 = 11;
 
 /// A variable that was read, with the bytes that a record has up to and including it.
 #[derive(Drop)]
@@ -51,6 +53,7 @@ impl Fields {
     }
 
     /// Reads the shape of a variable, and returns its dimension ids.
+    #[tactic(auto, using(crate::proofs::Checks::chain_lists), unfolding(nc_base::specs::Grammar::shape_part, nc_base::specs::Grammar::counted))]
     fn shape<S: Source>(
         &mut self,
         window: &mut Window<'_, S>,
@@ -70,8 +73,34 @@ impl Fields {
         self.dimids(window, alloc, version, owner, dims, n)
     }
 
+    /// Reads the type code of a variable of this shape. Errs with `BadType` if the version has no type with this code, and with `TooLarge` if
+    /// its slab passes 2^48 bytes, or if the padded slabs of the record variables pass 2^62 bytes; those before it have `total` bytes.
+    #[tactic(auto, using(crate::proofs::Checks::part_lists), unfolding(nc_base::specs::Grammar::number, nc_base::specs::Grammar::type_part))]
+    fn var_type<S: Source>(
+        &mut self,
+        window: &mut Window<'_, S>,
+        version: Version,
+        owner: Owner,
+        dims: &[Dim],
+        dimids: &[u64],
+        total: u64,
+    ) -> Result<NcType, HeadFault>
+        ensures var_type { Checked (at window.old self.old) (at window.new self.new)
+            (TypeCode ∷ owner_steps owner)
+            (checked (is_within_limits dims.now total dimids.now) TooLarge (type_part lenient version))
+            result }
+        ensures fits { IfOk result (λ ty. IsTrue (is_within_limits dims.now total dimids.now ty)) }
+    {
+        let ty = self.nc_type(window, version, owner)?;
+        if !is_within_limits(dims, dimids, ty, total) {
+            return Err(HeadFault::Format(FormatFault::TooLarge));
+        }
+        Ok(ty)
+    }
+
     /// Reads the variable of this number, and returns it with the number of bytes that a record has up to and including it. `total` is the
     /// bytes of the padded slabs of the record variables before it.
+    #[tactic(auto, using(crate::proofs::Checks::chain_lists), unfolding(nc_file::specs::code::SizedVars::total_with, nc_base::specs::Grammar::var_part))]
     fn var<S: Source>(
         &mut self,
         window: &mut Window<'_, S>,
@@ -88,13 +117,17 @@ impl Fields {
             v.total ≡ total + record_bytes dims.now v.var.dimids v.var.ty) }
     {
         let owner = Owner::Var(number);
+        let vsize = Place {
+            owner,
+            name: FieldName::Vsize,
+        };
         let name = self.name(window, alloc, version, owner)?;
         let dimids = self.shape(window, alloc, version, owner, dims)?;
         let atts = self.att_list(window, alloc, version, ListName::Atts(number))?;
         let ids = dimids.as_slice();
         let ty = self.var_type(window, version, owner, dims, ids, total)?;
         let total = total_with(dims, ids, ty, total).unwrap();
-        self.vsize(window, version, owner)?;
+        self.number(window, vsize, NumberWidth::of_counts(version))?;
         let begin_at = self.begin(window, version, owner)?;
         let var = Var {
             name,
@@ -129,6 +162,7 @@ impl Fields {
     }
 
     /// Reads the list of variables, and returns them.
+    #[tactic(auto, using(crate::proofs::Checks::chain_lists), unfolding(nc_base::specs::Grammar::var_list, nc_base::specs::Grammar::list_part))]
     pub(crate) fn var_list<S: Source>(
         &mut self,
         window: &mut Window<'_, S>,
@@ -142,4 +176,13 @@ impl Fields {
         let n = self.list_len(window, version, ListName::Vars, NC_VARIABLE)?;
         self.vars(window, alloc, version, dims, n)
     }
+}
+
+/// Returns true if the slab of a variable of this shape and type is within 2^48 bytes, and the padded slabs of the record variables within
+/// 2^62; those before it have `total` bytes.
+#[tactic(auto, unfolding(nc_file::specs::code::SizedVars::total_with))]
+fn is_within_limits(dims: &[Dim], dimids: &[u64], ty: NcType, total: u64) -> bool
+    ensures { result ≡ is_within_limits dims.now total dimids.now ty }
+{
+    total_with(dims, dimids, ty, total).is_some()
 }

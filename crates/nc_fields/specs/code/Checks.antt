@@ -1,5 +1,5 @@
 -- For contracts. What a reader of a part of a header does, which lists its fields.
-use Rattle.std.specs.Prelude.{◌≡◌, ◌⊎◌, ℕ, ◌++◌, List, [], ◌∷◌, length, map, take, Option, Some, None, Result, Ok, Err}
+use Rattle.std.specs.Prelude.{◌≡◌, ◌⊎◌, ℕ, ◌++◌, List, [], ◌∷◌, length, map, take, Some, None, Result, Ok, Err}
 use Rattle.std.specs.Bool.{OnTrue}
 use Rattle.nc_base.specs.Bytes.{Bytes}
 use Rattle.nc_base.specs.Parts.{Step, Part}
@@ -22,17 +22,23 @@ pub record Reader (S : Type 0) (g : Ghosts S) : Type 0 where
 abbrev pub at : {S : Type 0} {g : Ghosts S} → Window S g → Fields → Reader S g
 at window fields = record { window = window; entries = fields.entries }
 
--- what the rules look at in the fields of a part under these steps, in a file of this length
-unfoldable pub listed : {A : Type 0} → ℕ → List Step → Part A → Bytes → List Seen
-listed file_len steps part from = map (seen file_len) (fields steps part from)
+-- the fields before, and then what the rules look at in those of a part under these steps, in a file of this length
+unfoldable pub listed : {A : Type 0} → ℕ → List Seen → List Step → Part A → Bytes → List Seen
+listed file_len before steps part from = before ++ map (seen file_len) (fields steps part from)
 
--- the fields of the part were listed after those before, if neither the device nor memory has failed
+-- the last field has this fault
+unfoldable pub with_fault : FormatFault → List Seen → List Seen
+with_fault fault [] = []
+with_fault fault (f ∷ fs) = elim fs [ [] ↦ record f { fault = Some fault } ∷ [] | next ∷ later ↦ f ∷ with_fault fault fs ]
+
+-- The fields of the part were listed after those before, if neither the device nor memory has failed; the fault isn't listed yet.
 abbrev pub Lists : {S A : Type 0} {g : Ghosts S} → Reader S g → Reader S g → List Step → Part A → Result A HeadFault → Type 0
-Lists old new steps part (Err OutOfMemory) = Unit {0}
-Lists old new steps part (Err ReadFailed) = Unit {0}
-Lists {g = g} old new steps part result =
+Lists {g = g} old new steps part (Ok x) =
+    OnTrue g.is_transparent (map seen_by new.entries ≡ listed (length (source_of old.window).bytes) (map seen_by old.entries) steps part (left old.window))
+Lists {g = g} old new steps part (Err (Format fault)) =
     OnTrue g.is_transparent
-    (map seen_by new.entries ≡ map seen_by old.entries ++ listed (length (source_of old.window).bytes) steps part (left old.window))
+    (with_fault fault (map seen_by new.entries) ≡ listed (length (source_of old.window).bytes) (map seen_by old.entries) steps part (left old.window))
+Lists old new steps part (Err e) = Unit {0}
 
 -- A reader's whole contract: what it keeps, why it fails, that it reads this part, and that it lists its fields under these steps.
 pub record Checked {S A : Type 0} {g : Ghosts S} (old new : Reader S g) (steps : List Step) (part : Part A) (result : Result A HeadFault) : Type 0 where
@@ -67,32 +73,13 @@ pub record IsStart {S : Type 0} {g : Ghosts S} (w : Window S g) (place : Place) 
   pub offset : start.offset ≡ next_of w
   pub same_size : start.size ≡ size
 
-abbrev pub entry_of : Start → Content → Option FormatFault → Entry
-entry_of start content fault = record { place = start.place; offset = start.offset; size = start.size; content = content; fault = fault }
-
--- The field was listed with this content, and with the fault of the answer, which is returned; unless memory ran out.
-abbrev pub Finished : {A : Type 0} → List Entry → List Entry → Start → Content → Result A FormatFault → Result A HeadFault → Type 0
-Finished old new start content answer (Ok x) = (answer ≡ Ok x) × (new ≡ old ++ entry_of start content None ∷ [])
-Finished old new start content answer (Err (Format fault)) = (answer ≡ Err fault) × (new ≡ old ++ entry_of start content (Some fault) ∷ [])
-Finished old new start content answer (Err OutOfMemory) = Unit {0}
-Finished old new start content answer (Err ReadFailed) = ⊥
+abbrev pub entry_of : Start → Content → Entry
+entry_of start content = record { place = start.place; offset = start.offset; size = start.size; content = content; fault = None }
 
 -- The answer of the call that read the field is returned. If it is that the source has ended, the field was listed as cut, unless memory ran
 -- out.
 abbrev pub ListsCut : {A : Type 0} → List Entry → List Entry → Start → Result A HeadFault → Result A HeadFault → Type 0
 ListsCut old new start answer (Ok x) = (answer ≡ Ok x) × (new ≡ old)
-ListsCut old new start answer (Err (Format fault)) = (answer ≡ Err (Format fault)) × (new ≡ old ++ entry_of start Cut (Some fault) ∷ [])
+ListsCut old new start answer (Err (Format fault)) = (answer ≡ Err (Format fault)) × (new ≡ old ++ entry_of start Cut ∷ [])
 ListsCut old new start answer (Err OutOfMemory) = (answer ≡ Err OutOfMemory) ⊎ ((fault : FormatFault) × (answer ≡ Err (Format fault)))
 ListsCut old new start answer (Err ReadFailed) = answer ≡ Err ReadFailed
-
--- the field was read and isn't listed yet, or the source has ended inside of it, and it is listed as cut
-abbrev pub IsBegun : {A : Type 0} → List Entry → List Entry → Start → Result A HeadFault → Type 0
-IsBegun old new start (Ok x) = new ≡ old
-IsBegun old new start (Err (Format fault)) = new ≡ old ++ entry_of start Cut (Some fault) ∷ []
-IsBegun old new start (Err e) = Unit {0}
-
-pub record Began {S A : Type 0} {g : Ghosts S} (old new : Reader S g) (start : Start) (part : Part A) (result : Result A HeadFault) : Type 0 where
-  pub kept : Kept old.window new.window
-  pub cause : FailsOnly old.window new.window result
-  pub reads : Reads g.is_transparent (left old.window) (left new.window) part result
-  pub lists : IsBegun old.entries new.entries start result

@@ -1,32 +1,30 @@
-use Rattle.nc_fields.specs.code.Checks.{at}
-use Rattle.std.proofs.Common.{◌∷◌, [], Ok, Err, ap, rules, subst, sym}
-use Rattle.nc_base.specs.Parts.{Item, Dims}
-use Rattle.nc_base.specs.Grammar.{dim_part, dim_after}
+use Rattle.std.proofs.Common.{ap, rules, sym}
+use Rattle.nc_base.specs.Grammar.{dim_part}
 use Rattle.nc_base.specs.Sizes.{has_record_dim}
 use Rattle.nc_file.proofs.PartRuns.{has_record-next}
-use Rattle.nc_fields.proofs.Prelude.{err_from_is_err_and, lenient, Checked}
+use Rattle.nc_fields.proofs.Prelude.{err_from_is_err_and, lenient}
 use Rattle.nc_fields.proofs.Elements.{elements-start, elements-err, elements-next, elements-memory, elements-done}
 use Rattle.nc_fields.proofs.fields.Fields.dims.Goals as goal
 
 pub loop-i-init : goal.loop-i-init
-loop-i-init g c = record { elements = elements-start (at c.args.window.now c.args.self.now) (Dims ∷ []) (dim_after lenient c.args.version) c.args.n _ c.new-dims.ensures; has_record = ap has_record_dim (sym c.new-dims.ensures) }
+loop-i-init g c = record { elements = elements-start c.new-dims.ensures; has_record = ap has_record_dim (sym c.new-dims.ensures) }
 
 pub returns-in_err-dim : goal.returns-in_err-dim
 returns-in_err-dim g c =
     let p = err_from_is_err_and c.from_residual.result c.from_residual.ensures.1 in
-    let read = subst (λ b. Checked (at c.loop-i.window c.loop-i.self) (at c.dim.new.window c.dim.new.self) (Item c.loop-i.i ∷ Dims ∷ []) (dim_part lenient c.args.version b) (Err c.in_err-dim.field-0.0)) c.loop-i.invariant.has_record c.in_err-dim.ensures in
-    rw (p.1, p.2) (elements-err c.loop-i-test.true c.loop-i.invariant.elements read)
+    let same = ap (dim_part lenient c.args.version) c.loop-i.invariant.has_record in
+    rw (p.1, p.2) (elements-err c.loop-i-test.true c.loop-i.invariant.elements same c.in_err-dim.ensures)
 
 pub returns-in_err-push : goal.returns-in_err-push
 returns-in_err-push g c =
     let p = err_from_is_err_and c.from_residual-in_err-push.result c.from_residual-in_err-push.ensures.1 in
-    let read = subst (λ b. Checked (at c.loop-i.window c.loop-i.self) (at c.dim.new.window c.dim.new.self) (Item c.loop-i.i ∷ Dims ∷ []) (dim_part lenient c.args.version b) (Ok c.in_ok-dim.dim)) c.loop-i.invariant.has_record c.in_ok-dim.ensures in
-    rw (p.1, p.2) (elements-memory c.loop-i-test.true c.loop-i.invariant.elements read)
+    let same = ap (dim_part lenient c.args.version) c.loop-i.invariant.has_record in
+    rw (p.1, p.2) (elements-memory c.loop-i-test.true c.loop-i.invariant.elements same c.in_ok-dim.ensures)
 
 pub loop-i-preserved : goal.loop-i-preserved
 loop-i-preserved g c =
-    let read = subst (λ b. Checked (at c.loop-i.window c.loop-i.self) (at c.dim.new.window c.dim.new.self) (Item c.loop-i.i ∷ Dims ∷ []) (dim_part lenient c.args.version b) (Ok c.in_ok-dim.dim)) c.loop-i.invariant.has_record c.in_ok-dim.ensures in
-    record { elements = elements-next c.loop-i-test.true c.in_ok-push.ensures.ok c.loop-i.invariant.elements read; has_record = search (rules, has_record-next) }
+    let same = ap (dim_part lenient c.args.version) c.loop-i.invariant.has_record in
+    record { elements = elements-next c.loop-i-test.true c.in_ok-push.ensures.ok c.loop-i.invariant.elements same c.in_ok-dim.ensures; has_record = search (rules, has_record-next) }
 
 pub returns : goal.returns
 returns g c = elements-done c.loop-i-test.false c.loop-i.invariant.elements

@@ -1,4 +1,3 @@
-use Rattle.std.proofs.Common.{refl}
 use Rattle.nc_fields.proofs.Prelude.{err_from_is_err_and}
 use Rattle.nc_fields.proofs.Letters.{unused-then, unread-letters}
 use Rattle.nc_fields.proofs.fields.Fields.letters.Goals as goal
@@ -7,9 +6,7 @@ pub returns-in_err-is_hdf5 : goal.returns-in_err-is_hdf5
 returns-in_err-is_hdf5 g c =
     let p = err_from_is_err_and c.from_residual.result c.from_residual.ensures.1 in
     let e = c.in_err-is_hdf5.ensures in
-    unread-letters e.kept e.unused e.cause e.failed p.1 p.2
+    rw (p.1, p.2) (unread-letters e.kept e.unused e.cause e.failed)
 
 pub returns : goal.returns
-returns g c =
-    let e = c.in_ok-is_hdf5.ensures in
-    unused-then e.kept e.cause e.unused refl c.listed_letters.ensures
+returns g c = let e = c.in_ok-is_hdf5.ensures in unused-then e.kept e.cause e.unused c.listed_letters.ensures

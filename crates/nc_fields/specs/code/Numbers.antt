@@ -1,0 +1,8 @@
+-- For contracts. The widths of numbers.
+use Rattle.std.specs.Int.{Width, w32, w64}
+use Rattle.nc_fields.specs.declared.number.NumberWidth.{NumberWidth}
+use Rattle.nc_fields.specs.declared.number.NumberWidth.TheVariants.{Four, Eight}
+
+abbrev pub width_of : NumberWidth → Width
+width_of Four = w32
+width_of Eight = w64
