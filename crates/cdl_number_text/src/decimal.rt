@@ -19,6 +19,7 @@ pub fn decimal_len(number: i128) -> usize
 }
 
 /// Returns how many digits `n` has in decimal, from 1 to 20.
+#[tactic(auto, using(itoa::proofs::Decimal::length_four, crate::proofs::Digits::length_eight, crate::proofs::Digits::length_twelve, crate::proofs::Digits::length_sixteen))]
 #[inline(always)]
 fn digit_count(n: u64) -> usize
     ensures len { result ≡ length (decimal n) }
@@ -39,6 +40,7 @@ fn digit_count(n: u64) -> usize
 
 /// Returns how many digits `n` has in decimal, as [`digit_count`] does for any number, without a branch: numbers of a list often differ in
 /// their number of digits. Needs a number below 10,000.
+#[tactic(auto, using(crate::proofs::Digits::few_count))]
 #[inline(always)]
 fn few_digit_count(n: u64) -> usize
     requires { n < 10000 }
@@ -50,6 +52,7 @@ fn few_digit_count(n: u64) -> usize
 
 /// Writes `number` in decimal, with a minus if it is negative, at the offset `at` of `text`. Needs an absolute value below 2^64, the number
 /// of bytes to write as `len` ([`decimal_len`]), and room for them. The bytes after them may change.
+#[tactic(auto, using(crate::proofs::Digits::some_byte))]
 #[inline(always)]
 pub fn put_decimal(text: &mut [u8], at: usize, len: usize, number: i128)
     requires short { unsigned_abs number < 2 ^ 64 }
@@ -117,6 +120,7 @@ fn put_many_digits(text: &mut [u8], at: usize, len: usize, n: u64)
 
 /// Writes the digits of a number from 10^8 on and below 10^16 at the offset `at` of `text`, and returns the offset of their end. Needs room
 /// for them.
+#[tactic(auto, using(crate::proofs::Digits::length_eight, crate::proofs::Digits::decimal_eight, std::proofs::Common::append_assoc))]
 fn put_long_digits(text: &mut [u8], at: usize, n: u64) -> usize
     requires least { 100000000 ≤ n }
     requires most { n < 10000000000000000 }
@@ -131,6 +135,7 @@ fn put_long_digits(text: &mut [u8], at: usize, n: u64) -> usize
 }
 
 /// Writes the digits of a number below 10^8 at the offset `at` of `text`, and returns the offset of their end. Needs room for them.
+#[tactic(auto, using(itoa::proofs::Decimal::length_four, itoa::proofs::Decimal::decimal_four, std::proofs::Common::append_assoc))]
 #[inline(always)]
 fn put_short_digits(text: &mut [u8], at: usize, n: u64) -> usize
     requires most { n < 100000000 }
@@ -148,6 +153,7 @@ fn put_short_digits(text: &mut [u8], at: usize, n: u64) -> usize
 
 /// Writes the digits of a number below 10,000 at the offset `at` of `text`, and returns the offset of their end. Needs room for them.
 /// No branch depends on the number: a zero before the first digit is written too, and the next digit is written over it.
+#[tactic(auto, using(crate::proofs::Digits::few_count, crate::proofs::Digits::few_text, std::proofs::Common::append_assoc))]
 #[inline(always)]
 fn put_few_digits(text: &mut [u8], at: usize, n: u64) -> usize
     requires few { n < 10000 }
@@ -184,6 +190,7 @@ static PAIRS: [u8; 200] = *b"\
     676869707172737475767778798081828384858687888990919293949596979899";
 
 /// Returns the first of the two digits of a number below 100.
+#[tactic(auto, using(crate::proofs::Digits::pairs))]
 #[inline(always)]
 fn tens(n: u32) -> u8
     requires { n < 100 }
@@ -193,6 +200,7 @@ fn tens(n: u32) -> u8
 }
 
 /// Returns the second of the two digits of a number below 100.
+#[tactic(auto, using(crate::proofs::Digits::pairs))]
 #[inline(always)]
 fn ones(n: u32) -> u8
     requires { n < 100 }
