@@ -1,9 +1,9 @@
 -- The strings of a variable of characters are read back, and what a row shows, filled up, is the row.
 use Rattle.std.proofs.Common.{◌≡◌, ℕ, suc, ◌+◌, ◌*◌, ◌<◌, ◌≤◌, true, false, List, [], ◌∷◌, ◌++◌, length, map, sym, ◌∙◌, ap, refl, subst, arith, append_assoc, append-nil, length-append, ℤ, ◌==◌, codes, zero, ◌-◌, Bool, pos, unsigned_abs, replicate, Some, Ok, rules}
-use Rattle.cdl_laws.proofs.Prelude.{flat_map, escaped_name, escaped_text, IsName, Look, is_char, char_lead, variable_opening, variable_closing, variable_text, Lexeme, Each, prefix_is, pieces_are, a_row, char_pieces, printed, map-append, length-replicate, replicate_more, Version, escaped_in_string, is_nul, string_value, stands_for, Characters, constant, constants, Listable, Joined, Rows, add_row, filled, in_turn, listing_of, values_in, le-leb, length-map, ◌>>=◌, any_each, lt-ltb}
-use Rattle.cdl_laws.proofs.Texts.{Closed, closed_both, mark, marks_closed, word}
-use Rattle.cdl_laws.proofs.Strings.{string, string_then, unescape_all, between_quotes}
-use Rattle.cdl_laws.proofs.ValueTexts.{commas, comma, opening_closed, semicolon, turn, constants_say}
+use Rattle.cdl_laws.proofs.Prelude.{flat_map, escaped_name, escaped_text, IsName, Look, is_char, char_lead, variable_opening, variable_closing, variable_text, Lexeme, Each, prefix_is, pieces_are, a_row, char_pieces, printed, map-append, length-replicate, replicate_more, Version, escaped_in_string, is_nul, string_value, stands_for, Characters, constant, constants, Listable, Joined, Rows, add_row, filled, in_turn, listing_of, values_in, le-leb, length-map, ◌>>=◌, any_each, lt-ltb, lexemes_at, concat_parts}
+use Rattle.cdl_laws.proofs.Texts.{Closed, mark, marks_closed, word, reading}
+use Rattle.cdl_laws.proofs.Strings.{string, string_read, unescape_all, between_quotes}
+use Rattle.cdl_laws.proofs.ValueTexts.{commas, comma, semicolon, turn, constants_say}
 
 -- ---- strings in a list
 
@@ -11,19 +11,11 @@ use Rattle.cdl_laws.proofs.ValueTexts.{commas, comma, opening_closed, semicolon,
 abbrev pub later_string : List ℕ → List ℕ → List ℕ
 later_string gap bytes = 34 ∷ (gap ++ 34 ∷ escaped_text bytes)
 
-pub strings_closed : (gap ending : List ℕ) (ls : List Lexeme) → Closed gap (comma ∷ []) → Closed ending ls →
-    (s : List ℕ) (others : List (List ℕ)) →
-    Closed (34 ∷ (escaped_text s ++ (flat_map (later_string gap) others ++ 34 ∷ ending))) (string s ∷ (commas (map string others) ++ ls))
-strings_closed gap ending ls between end s [] = string_then s ending ls end
-strings_closed gap ending ls between end s (o ∷ os) =
-    let rest = flat_map (later_string gap) os in
-    let after = escaped_text o ++ (rest ++ 34 ∷ ending) in
-    let same : (gap ++ 34 ∷ escaped_text o) ++ (rest ++ 34 ∷ ending) ≡ gap ++ 34 ∷ after = grind (arith, append_assoc) in
-    subst (λ bs. Closed (34 ∷ (escaped_text s ++ bs)) (string s ∷ (commas (map string (o ∷ os)) ++ ls)))
-    (sym (append_assoc (later_string gap o) rest (34 ∷ ending) ∙ ap (λ bs. 34 ∷ bs) same))
-    (string_then s (gap ++ 34 ∷ after) (comma ∷ string o ∷ (commas (map string os) ++ ls))
-    (closed_both gap (34 ∷ after) (comma ∷ []) (string o ∷ (commas (map string os) ++ ls)) between
-    (strings_closed gap ending ls between end o os)))
+pub strings_read : (gap : List ℕ) → Closed gap (comma ∷ []) → (s : List ℕ) (others : List (List ℕ)) (rest : List ℕ) →
+    lexemes_at false 0 (34 ∷ (escaped_text s ++ (flat_map (later_string gap) others ++ 34 ∷ rest))) ≡
+    string s ∷ (commas (map string others) ++ lexemes_at false 0 rest)
+strings_read gap between s [] rest = string_read s rest
+strings_read gap between s (o ∷ os) rest = simp (append_assoc, string_read, between, strings_read gap between o os)
 
 -- ---- the rows of a variable
 
@@ -69,22 +61,12 @@ all_closed : (look : Look) (x : ℤ) (xs : List ℤ) (rows : List (List ℤ)) (b
     length (x ∷ xs) ≤ look.row → Closed blank [] → char_lead look 0 ≡ blank ++ 34 ∷ [] →
     char_pieces look (x ∷ xs) (flat rows) ≡ flat_map (later_string (codes ",\n  ")) (map (printed look.trimmed 0) rows) → Closed
     (variable_text look (flat ((x ∷ xs) ∷ rows))) (strings look (x ∷ xs) rows)
-all_closed look x xs rows blank name ty small closed lead more =
-    let f = escaped_text (printed look.trimmed 0 (x ∷ xs)) in
-    let others = flat_map (later_string (codes ",\n  ")) (map (printed look.trimmed 0) rows) in
-    let tail = f ++ (others ++ closing_bytes) in
-    let regroup : ((blank ++ 34 ∷ []) ++ (f ++ others)) ++ closing_bytes ≡ blank ++ 34 ∷ tail = simp append_assoc in
-    let ls = string (printed look.trimmed 0 (x ∷ xs)) ∷ (commas (map string (map (printed look.trimmed 0) rows)) ++ mark 59 ∷ []) in
-    let row = a_row look [] x xs (flat rows) 0 (let z : 0 ≡ 0 * look.row = omega arith in z) small in
-    subst (λ bs. Closed bs (strings look (x ∷ xs) rows))
-    (sym (char_variable look (flat ((x ∷ xs) ∷ rows)) ty (λ some. let long : suc (length xs) ≤ look.row = small in omega (arith, long)) ∙
-    ap (λ bs. variable_opening look ++ (bs ++ closing_bytes))
-    (row ∙ ap (λ l. l ++ (f ++ char_pieces look (x ∷ xs) (flat rows))) lead ∙ ap (λ bs. (blank ++ 34 ∷ []) ++ (f ++ bs)) more) ∙
-    ap (λ bs. variable_opening look ++ bs) regroup))
-    (closed_both (variable_opening look) (blank ++ 34 ∷ tail) (word (escaped_name look.name) ∷ mark 61 ∷ []) ls (opening_closed look name)
-    (closed_both blank (34 ∷ tail) [] ls closed
-    (strings_closed (codes ",\n  ") (codes " ;\n") (mark 59 ∷ []) (marks_closed (codes ",\n  ") refl) (marks_closed (codes " ;\n") refl)
-    (printed look.trimmed 0 (x ∷ xs)) (map (printed look.trimmed 0) rows))))
+unfolding variable_opening concat_parts
+all_closed look x xs rows blank name ty small closed lead more rest =
+    let wide : 0 < length (flat ((x ∷ xs) ∷ rows)) → 0 < look.row = λ some. let long : suc (length xs) ≤ look.row = small in omega (arith, long) in
+    let text = char_variable look (flat ((x ∷ xs) ∷ rows)) ty wide in
+    let row = a_row look [] x xs (flat rows) 0 (omega arith) small in
+    simp (text, row, lead, more, closed, reading, strings_read (codes ",\n  ") (marks_closed (codes ",\n  ") refl))
 
 -- at rank 2 and up
 pub table_closed : (look : Look) (r : List ℤ) (rows : List (List ℤ)) → IsName look.name → is_char look.ty ≡ true → look.in_rows ≡ true → 0 < look.row → Each (λ (s : List ℤ). length s ≡ look.row) (r ∷ rows) →

@@ -1,11 +1,11 @@
 -- The statements of a head, and what they say.
-use Rattle.std.proofs.Common.{◌≡◌, ℕ, ◌^◌, ◌<◌, true, false, List, [], ◌∷◌, ◌++◌, map, sym, ◌∙◌, ap, refl, subst, arith, append_assoc, append-nil, ℤ, pos, decimal, ◌==◌, not, if◌then◌else◌, None, Some, codes, rules}
-use Rattle.cdl_laws.proofs.Prelude.{signed_decimal, flat_map, list_all, option_map, list_all-append, concat_parts, Att, Dim, NcType, Version, escaped_name, escaped_in_string, joined, dim_len_text, dim_line, unlimited_word, currently_word, att_line, att_text, chars_text, broken_text, string_break, without_trailing_nuls, IsName, number_suffix, is_char, has_type, Section, Dimensions, Variables, is_digit, Lexeme, said_dim, IsBeforeData, globals, dimensions, variables, Value, Number, Characters, DeclareDimensions, Attribute, both, constants, assigned, shape, and_left, and_right, and_both, Each, escaped_text, type_word, DeclareVariables, Variable, in_parentheses, any_each}
-use Rattle.cdl_laws.proofs.Texts.{Closed, Reads, closed_both, closed_by, mark, word, number, name_word, marks_closed, number_reads, stops}
+use Rattle.std.proofs.Common.{◌≡◌, ℕ, zero, suc, ◌^◌, ◌<◌, true, false, List, [], ◌∷◌, ◌++◌, map, sym, ◌∙◌, ap, refl, arith, append_assoc, append-nil, ℤ, pos, decimal, ◌==◌, not, if◌then◌else◌, None, Some, codes, rules}
+use Rattle.cdl_laws.proofs.Prelude.{signed_decimal, flat_map, list_all, option_map, list_all-append, concat_parts, Att, Dim, NcType, Version, escaped_name, escaped_in_string, joined, dim_len_text, dim_line, unlimited_word, currently_word, att_line, att_text, chars_text, broken_text, string_break, without_trailing_nuls, IsName, number_suffix, is_char, has_type, Section, Dimensions, Variables, is_digit, Lexeme, said_dim, IsBeforeData, globals, dimensions, variables, Value, Number, Characters, DeclareDimensions, Attribute, both, constants, assigned, shape, and_left, and_right, and_both, Each, escaped_text, type_word, DeclareVariables, Variable, in_parentheses, any_each, not_none}
+use Rattle.cdl_laws.proofs.Texts.{Closed, Reads, mark, word, number, name_word, name_stands, marks_closed, number_reads, mark_read, stops, reading}
 use Rattle.cdl_laws.proofs.Numerals.{numeral_again, value_again, decimal_digits, on_suffix, number_is, value_is}
 use Rattle.cdl_laws.proofs.Strings.{string}
 use Rattle.cdl_laws.proofs.ValueTexts.{commas, constants_say, AreSmall}
-use Rattle.cdl_laws.proofs.Characters.{strings_said, later_string, strings_closed}
+use Rattle.cdl_laws.proofs.Characters.{strings_said, later_string, strings_read}
 use Rattle.cdl_laws.proofs.Takes.{Says, statement_says, semicolon, is_fine, word_fine, all_fine}
 use Rattle.cdl_statements.specs.Shapes as shapes
 use Rattle.cdl_laws.proofs.Heads.{name_starts, bare_word, comment_closed, joined_reads, fine_commas, strings_fine, type_reads, type_starts, opens_none}
@@ -19,37 +19,18 @@ digits_no_feed (d ∷ ds) h = grind (arith, and_both, and_left, and_right, digit
 records_comment : (n : ℕ) → list_all (λ b. not (b == 10)) (codes " (" ++ (decimal n ++ codes " currently)")) ≡ true
 records_comment n = list_all-append (λ b. not (b == 10)) (decimal n) (codes " currently)") ∙ and_both (list_all (λ b. not (b == 10)) (decimal n)) true (digits_no_feed (decimal n) (decimal_digits n)) refl
 
-unlimited_rest : (n : ℕ) → Closed (codes " ; // (" ++ (decimal n ++ (codes " currently)\n" ++ []))) (semicolon ∷ [])
-unlimited_rest n =
-    subst (λ bs. Closed bs (semicolon ∷ [])) (ap (λ bs. codes " ; // (" ++ bs) (append_assoc (decimal n) (codes " currently)") (10 ∷ [])))
-    (closed_both (codes " ; ") (47 ∷ 47 ∷ ((codes " (" ++ (decimal n ++ codes " currently)")) ++ 10 ∷ [])) (semicolon ∷ []) []
-    (marks_closed (codes " ; ") refl)
-    (comment_closed (codes " (" ++ (decimal n ++ codes " currently)")) (records_comment n)))
+-- the comment after the record dimension
+records_read : (n : ℕ) → Closed (codes "// (" ++ (decimal n ++ codes " currently)\n")) []
+records_read n rest = simp append_assoc (simp append_assoc at (comment_closed (codes " (" ++ (decimal n ++ codes " currently)")) (records_comment n) rest))
 
 -- the length as a lexeme
 abbrev pub extent_lexeme : ℕ → Lexeme
 extent_lexeme len = if len == 0 then word (codes "UNLIMITED") else number (decimal len)
 
-extent_closed : (n len : ℕ) → len < 2 ^ 64 → Closed (dim_len_text n len ++ []) (extent_lexeme len ∷ semicolon ∷ [])
+extent_closed : (n len : ℕ) → len < 2 ^ 64 → Closed (dim_len_text n len) (extent_lexeme len ∷ semicolon ∷ [])
 unfolding dim_len_text concat_parts unlimited_word currently_word
-extent_closed n len h =
-    elim (len == 0) as (λ w. Closed ((if w then codes "UNLIMITED ; // (" ++ (decimal n ++ (codes " currently)\n" ++ [])) else decimal len ++ (codes " ;\n" ++ [])) ++ []) ((if w then word (codes "UNLIMITED") else number (decimal len)) ∷ semicolon ∷ [])) [
-      | true ↦ subst (λ bs. Closed bs (word (codes "UNLIMITED") ∷ semicolon ∷ [])) (sym (append-nil (codes "UNLIMITED ; // (" ++ (decimal n ++ (codes " currently)\n" ++ [])))))
-          (closed_by (codes "UNLIMITED") (codes " ; // (" ++ (decimal n ++ (codes " currently)\n" ++ []))) (word (codes "UNLIMITED") ∷ []) (semicolon ∷ [])
-          (bare_word 85 (codes "NLIMITED") refl refl) (λ rest. refl) (unlimited_rest n))
-      | false ↦ subst (λ bs. Closed bs (number (decimal len) ∷ semicolon ∷ [])) (sym (append-nil (decimal len ++ codes " ;\n")))
-          (closed_by (decimal len) (codes " ;\n") (number (decimal len) ∷ []) (semicolon ∷ [])
-          (number_reads (decimal len) (value_is (pos len) h)) (λ rest. refl) (marks_closed (codes " ;\n") refl))
-    ]
-
-dim_closed : (n : ℕ) (dim : Dim) → IsName dim.name → dim.len < 2 ^ 64 → Closed (dim_line n dim) (word (escaped_name dim.name) ∷ mark 61 ∷ extent_lexeme dim.len ∷ semicolon ∷ [])
-unfolding dim_line concat_parts
-dim_closed n dim name h =
-    closed_both (codes "\t") (escaped_name dim.name ++ (codes " = " ++ (dim_len_text n dim.len ++ []))) []
-    (word (escaped_name dim.name) ∷ mark 61 ∷ extent_lexeme dim.len ∷ semicolon ∷ []) (marks_closed (codes "\t") refl)
-    (closed_by (escaped_name dim.name) (codes " = " ++ (dim_len_text n dim.len ++ [])) (word (escaped_name dim.name) ∷ []) (mark 61 ∷ extent_lexeme dim.len ∷ semicolon ∷ []) (name_word dim.name name).reads (λ rest. refl)
-    (closed_both (codes " = ") (dim_len_text n dim.len ++ []) (mark 61 ∷ []) (extent_lexeme dim.len ∷ semicolon ∷ [])
-    (marks_closed (codes " = ") refl) (extent_closed n dim.len h)))
+extent_closed n zero h rest = simp (reading, bare_word 85 (codes "NLIMITED") refl refl, simp append_assoc at (records_read n rest))
+extent_closed n (suc k) h rest = simp (not_none k, reading, number_reads (decimal (suc k)) (value_is (pos (suc k)) h))
 
 extent_fine : (v : Version) (len : ℕ) → len < 2 ^ 64 → is_fine v (extent_lexeme len) ≡ true
 extent_fine v len h = grind (arith, codes "UNLIMITED", decimal len, word_fine v (codes "UNLIMITED"), value_again v (pos len) h, pos len, word, number)
@@ -59,10 +40,10 @@ dim_listed v dim name h =
     grind (arith, word (escaped_name dim.name), codes "UNLIMITED", decimal dim.len, pos dim.len, name_word dim.name name, value_again v (pos dim.len) h, number)
 
 pub dim_says : (v : Version) (n : ℕ) (dim : Dim) → IsName dim.name → dim.len < 2 ^ 64 → Says v Dimensions (dim_line n dim) (DeclareDimensions (said_dim dim ∷ []))
-unfolding shape
+unfolding shape dim_line concat_parts
 dim_says v n dim name h =
     statement_says v Dimensions (dim_line n dim) (word (escaped_name dim.name)) (mark 61 ∷ extent_lexeme dim.len ∷ []) (DeclareDimensions (said_dim dim ∷ []))
-    (dim_closed n dim name h) (name_starts dim.name name) (grind (arith, and_both, word, word_fine, extent_fine v dim.len h))
+    (λ rest. simp (reading, extent_closed)) (name_starts dim.name name) (grind (arith, and_both, word, word_fine, extent_fine v dim.len h))
     (rw (opens_none (escaped_name dim.name) (name_word dim.name name).free) (ap (option_map DeclareDimensions) (dim_listed v dim name h)))
 
 -- ---- constants
@@ -110,15 +91,8 @@ broken_is [] = refl
 broken_is (b ∷ []) = sym (append-nil (escaped_in_string b ++ []) ∙ append-nil (escaped_in_string b))
 broken_is (b ∷ c ∷ bytes) = grind (arith, first, others, append_assoc, append-nil, broken_is (c ∷ bytes))
 
-broken_closed : (bytes : List ℕ) → Closed (34 ∷ (broken_text bytes ++ 34 ∷ [])) (string (first bytes) ∷ commas (map string (others bytes)))
-broken_closed bytes =
-    let gap = codes ",\n\t\t\t" in
-    let f = escaped_text (first bytes) in
-    let more = flat_map (later_string gap) (others bytes) in
-    subst (λ ls. Closed (34 ∷ (broken_text bytes ++ 34 ∷ [])) (string (first bytes) ∷ ls)) (append-nil (commas (map string (others bytes))))
-    (subst (λ bs. Closed (34 ∷ bs) (string (first bytes) ∷ (commas (map string (others bytes)) ++ [])))
-    (sym (append_assoc f more (34 ∷ [])) ∙ ap (λ bs. bs ++ 34 ∷ []) (sym (broken_is bytes)))
-    (strings_closed gap [] [] (marks_closed gap refl) (λ rest. refl) (first bytes) (others bytes)))
+broken_read : (bytes : List ℕ) → Closed (34 ∷ (broken_text bytes ++ 34 ∷ [])) (string (first bytes) ∷ commas (map string (others bytes)))
+broken_read bytes rest = simp (broken_is, append_assoc, strings_read (codes ",\n\t\t\t") (marks_closed (codes ",\n\t\t\t") refl) (first bytes) (others bytes))
 
 -- ---- attributes
 
@@ -137,7 +111,7 @@ chars_list v vals =
     record {
       l = string (first bytes);
       ls = map string (others bytes);
-      reads = λ rest h. broken_closed bytes rest;
+      reads = λ rest h. broken_read bytes rest;
       fine = strings_fine v (first bytes ∷ others bytes);
       are = strings_said v false (first bytes) (others bytes);
     }
@@ -150,21 +124,6 @@ numbers_list v ty x xs fit h k = record {
   fine = grind (arith, all_fine, numeral_again);
   are = numbers_are v ty x xs fit h k;
 }
-
--- after the owner
-abbrev rest_of_att : Att → List ℕ
-rest_of_att att = codes ":" ++ (escaped_name att.name ++ (codes " = " ++ (att_text att.ty att.vals ++ (codes " ;\n" ++ []))))
-
-att_closed : (v : Version) (att : Att) (said : List Value) (list : IsListOf v (att_text att.ty att.vals) said) → IsName att.name →
-    Closed (rest_of_att att) (mark 58 ∷ word (escaped_name att.name) ∷ mark 61 ∷ (list.l ∷ commas list.ls ++ semicolon ∷ []))
-att_closed v att said list name =
-    let tail = list.l ∷ commas list.ls ++ semicolon ∷ [] in
-    closed_both (codes ":") (escaped_name att.name ++ (codes " = " ++ (att_text att.ty att.vals ++ (codes " ;\n" ++ [])))) (mark 58 ∷ [])
-    (word (escaped_name att.name) ∷ mark 61 ∷ tail) (marks_closed (codes ":") refl)
-    (closed_by (escaped_name att.name) (codes " = " ++ (att_text att.ty att.vals ++ (codes " ;\n" ++ []))) (word (escaped_name att.name) ∷ []) (mark 61 ∷ tail) (name_word att.name name).reads (λ rest. refl)
-    (closed_both (codes " = ") (att_text att.ty att.vals ++ (codes " ;\n" ++ [])) (mark 61 ∷ []) tail (marks_closed (codes " = ") refl)
-    (closed_by (att_text att.ty att.vals) (codes " ;\n" ++ []) (list.l ∷ commas list.ls) (semicolon ∷ []) list.reads (λ rest. refl)
-    (marks_closed (codes " ;\n") refl))))
 
 att_fine : (v : Version) (att : Att) (said : List Value) (list : IsListOf v (att_text att.ty att.vals) said) → list_all (is_fine v) (mark 58 ∷ word (escaped_name att.name) ∷ mark 61 ∷ list.l ∷ commas list.ls) ≡ true
 att_fine v att said list = grind (arith, and_both, word, word_fine, and_left, fine_commas, and_right)
@@ -183,24 +142,17 @@ global_in v section ls variables = refl
 pub global_says : (v : Version) (section : Section) (att : Att) (said : List Value) → IsBeforeData section → IsListOf v (att_text att.ty att.vals) said → IsName att.name → Says v section (att_line [] att) (Attribute None att.name said)
 unfolding att_line concat_parts
 global_says v section att said before list name =
-    statement_says v section (codes "\t\t" ++ rest_of_att att) (mark 58) (word (escaped_name att.name) ∷ mark 61 ∷ list.l ∷ commas list.ls) (Attribute None att.name said)
-    (closed_both (codes "\t\t") (rest_of_att att) []
-    (mark 58 ∷ word (escaped_name att.name) ∷ mark 61 ∷ (list.l ∷ commas list.ls ++ semicolon ∷ [])) (marks_closed (codes "\t\t") refl)
-    (att_closed v att said list name))
-    refl (att_fine v att said list)
+    statement_says v section (att_line [] att) (mark 58) (word (escaped_name att.name) ∷ mark 61 ∷ list.l ∷ commas list.ls) (Attribute None att.name said)
+    (λ rest. simp (reading, list.reads)) refl (att_fine v att said list)
     (global_in v section (word (escaped_name att.name) ∷ mark 61 ∷ list.l ∷ commas list.ls ++ semicolon ∷ []) before ∙ assigned_is v (Attribute None) att said list name)
 
 -- of a variable
 pub owned_says : (v : Version) (owner : List ℕ) (att : Att) (said : List Value) → IsListOf v (att_text att.ty att.vals) said → IsName owner → IsName att.name → Says v Variables (att_line (escaped_name owner) att) (Attribute (Some owner) att.name said)
 unfolding att_line concat_parts shape
 owned_says v owner att said list own name =
-    statement_says v Variables (codes "\t\t" ++ (escaped_name owner ++ rest_of_att att)) (word (escaped_name owner)) (mark 58 ∷ word (escaped_name att.name) ∷ mark 61 ∷ list.l ∷ commas list.ls) (Attribute (Some owner) att.name said)
-    (closed_both (codes "\t\t") (escaped_name owner ++ rest_of_att att) []
-    (word (escaped_name owner) ∷ mark 58 ∷ word (escaped_name att.name) ∷ mark 61 ∷ (list.l ∷ commas list.ls ++ semicolon ∷ []))
-    (marks_closed (codes "\t\t") refl)
-    (closed_by (escaped_name owner) (rest_of_att att) (word (escaped_name owner) ∷ []) (mark 58 ∷ word (escaped_name att.name) ∷ mark 61 ∷ (list.l ∷ commas list.ls ++ semicolon ∷ [])) (name_word owner own).reads (λ rest. refl) (att_closed v att said list name)))
-    (name_starts owner own)
-    (and_both (is_fine v (word (escaped_name owner))) (list_all (is_fine v) (mark 58 ∷ word (escaped_name att.name) ∷ mark 61 ∷ list.l ∷ commas list.ls)) (word_fine v (escaped_name owner)) (att_fine v att said list))
+    statement_says v Variables (att_line (escaped_name owner) att) (word (escaped_name owner)) (mark 58 ∷ word (escaped_name att.name) ∷ mark 61 ∷ list.l ∷ commas list.ls) (Attribute (Some owner) att.name said)
+    (λ rest. simp (reading, list.reads)) (name_starts owner own)
+    (and_both _ _ (word_fine v (escaped_name owner)) (att_fine v att said list))
     ((rw ((name_word owner own).stands) refl) ∙ assigned_is v (Attribute (Some owner)) att said list name)
 
 -- ---- the declaration of a variable
@@ -226,58 +178,40 @@ names_read (name ∷ names) h = ((name_word name h.0).reads, names_read names h.
 
 -- ---- the shape
 
-abbrev inner_lexemes : List ℕ → List (List ℕ) → List Lexeme
-inner_lexemes n ns = word (escaped_name n) ∷ commas (name_lexemes ns)
-
 abbrev shape_lexemes : List (List ℕ) → List Lexeme
 shape_lexemes [] = []
-shape_lexemes (n ∷ ns) = mark 40 ∷ (inner_lexemes n ns ++ mark 41 ∷ [])
+shape_lexemes (n ∷ ns) = mark 40 ∷ word (escaped_name n) ∷ commas (name_lexemes ns) ++ mark 41 ∷ []
 
-shape_closed : (names : List (List ℕ)) → AreNames names → Closed (shape_of names) (shape_lexemes names)
-unfolding shape_of concat_parts
-shape_closed [] all = λ rest. refl
-shape_closed (n ∷ ns) all =
-    let inner = joined (map escaped_name (n ∷ ns)) in
-    closed_both (codes "(") (inner ++ (codes ")" ++ [])) (mark 40 ∷ []) (inner_lexemes n ns ++ mark 41 ∷ []) (marks_closed (codes "(") refl)
-    (closed_by inner (codes ")" ++ []) (inner_lexemes n ns) (mark 41 ∷ [])
-    (joined_reads escaped_name (λ m. word (escaped_name m)) n ns (names_read (n ∷ ns) all))
-    (λ rest. refl) (marks_closed (codes ")") refl))
-
-shape_stops : (names : List (List ℕ)) (rest : List ℕ) → stops ((shape_of names ++ (codes " ;\n" ++ [])) ++ rest) ≡ true
-unfolding shape_of concat_parts
-shape_stops [] rest = refl
-shape_stops (n ∷ ns) rest = refl
-
-shape_fine : (v : Version) (names : List (List ℕ)) → list_all (is_fine v) (shape_lexemes names) ≡ true
-shape_fine v [] = refl
-shape_fine v (n ∷ ns) =
+names_fine : (v : Version) (names : List (List ℕ)) → list_all (is_fine v) (shape_lexemes names) ≡ true
+names_fine v [] = refl
+names_fine v (n ∷ ns) =
     let others = all_fine v (λ m. word (escaped_name m)) (λ m. Unit {0}) (λ m u. word_fine v (escaped_name m)) ns (any_each ns) in
     search (rules, list_all-append, and_both, word_fine, fine_commas, others)
 
 -- ---- a declaration
 
-line_closed : (ty : NcType) (name : List ℕ) (names : List (List ℕ)) → IsName name → AreNames names →
-    Closed (typed_line (type_word ty) name (shape_of names))
-    (word (type_word ty) ∷ word (escaped_name name) ∷ (shape_lexemes names ++ semicolon ∷ []))
-unfolding typed_line concat_parts
-line_closed ty name names h all =
-    let end = codes " ;\n" ++ [] in
-    let shape = shape_of names in
-    let ls = shape_lexemes names ++ semicolon ∷ [] in
-    let named = word (escaped_name name) ∷ ls in
-    closed_both (codes "\t") (type_word ty ++ (codes " " ++ (escaped_name name ++ (shape ++ end)))) [] (word (type_word ty) ∷ named)
-    (marks_closed (codes "\t") refl)
-    (closed_by (type_word ty) (codes " " ++ (escaped_name name ++ (shape ++ end))) (word (type_word ty) ∷ []) named (type_reads ty)
-    (λ rest. refl)
-    (closed_both (codes " ") (escaped_name name ++ (shape ++ end)) [] named (marks_closed (codes " ") refl)
-    (closed_by (escaped_name name) (shape ++ end) (word (escaped_name name) ∷ []) ls (name_word name h).reads (shape_stops names)
-    (closed_both shape end (shape_lexemes names) (semicolon ∷ []) (shape_closed names all) (marks_closed (codes " ;\n") refl)))))
+parens_read : (inner : List ℕ) (ls : List Lexeme) → Reads inner ls → Closed (40 ∷ (inner ++ 41 ∷ [])) (mark 40 ∷ (ls ++ mark 41 ∷ []))
+parens_read inner ls read rest = simp (append_assoc, mark_read, read)
 
-two_fine : (v : Version) (a b : List ℕ) (ls : List Lexeme) → list_all (is_fine v) ls ≡ true → list_all (is_fine v) (word a ∷ word b ∷ ls) ≡ true
-two_fine v a b ls h = and_both (is_fine v (word a)) (list_all (is_fine v) (word b ∷ ls)) (word_fine v a) (and_both (is_fine v (word b)) (list_all (is_fine v) ls) (word_fine v b) h)
+shape_closed : (names : List (List ℕ)) → AreNames names → Closed (shape_of names) (shape_lexemes names)
+unfolding shape_of concat_parts
+shape_closed [] all rest = refl
+shape_closed (n ∷ ns) all rest =
+    parens_read (joined (map escaped_name (n ∷ ns))) (word (escaped_name n) ∷ commas (name_lexemes ns))
+    (joined_reads escaped_name (λ m. word (escaped_name m)) n ns (names_read (n ∷ ns) all)) rest
+
+shape_stops : (names : List (List ℕ)) (rest : List ℕ) → stops (shape_of names ++ 32 ∷ rest) ≡ true
+unfolding shape_of concat_parts
+shape_stops [] rest = refl
+shape_stops (n ∷ ns) rest = refl
+
+line_read : (ty : NcType) (name : List ℕ) (names : List (List ℕ)) → IsName name → AreNames names →
+    Closed (typed_line (type_word ty) name (shape_of names)) (word (type_word ty) ∷ word (escaped_name name) ∷ (shape_lexemes names ++ semicolon ∷ []))
+unfolding typed_line concat_parts
+line_read ty name names h all rest = simp (reading, type_reads ty, shape_closed names all, shape_stops)
 
 names_in : (f : List (List ℕ) → Variable) (n : List ℕ) (ns : List (List ℕ)) → AreNames (n ∷ ns) →
-    in_parentheses f ((inner_lexemes n ns ++ mark 41 ∷ []) ++ semicolon ∷ []) ≡ Some (f (n ∷ ns) ∷ [])
+    in_parentheses f (word (escaped_name n) ∷ (commas (name_lexemes ns) ++ mark 41 ∷ []) ++ semicolon ∷ []) ≡ Some (f (n ∷ ns) ∷ [])
 names_in f n [] h = rw ((name_word n h.0).stands) refl
 names_in f n (m ∷ ns) h = rw ((name_word n h.0).stands) (names_in (λ ds. f (n ∷ ds)) m ns h.1)
 
@@ -285,15 +219,12 @@ line_is : (v : Version) (ty : NcType) (name : List ℕ) (names : List (List ℕ)
     shape v Variables (word (type_word ty) ∷ word (escaped_name name) ∷ (shape_lexemes names ++ semicolon ∷ [])) ≡ Some
     (DeclareVariables (word (type_word ty)) (record { name = name; dimensions = names } ∷ []))
 unfolding shape
-line_is v ty name [] h all = rw ((name_word name h).stands) refl
-line_is v ty name (n ∷ ns) h all = rw ((name_word name h).stands)
-    (ap (option_map (DeclareVariables (word (type_word ty)))) (names_in (λ ds. record { name = name; dimensions = ds }) n ns all))
+line_is v ty name [] h all = simp name_stands
+line_is v ty name (n ∷ ns) h all = simp (name_stands, names_in (λ ds. record { name = name; dimensions = ds }) n ns all)
 
 pub typed_says : (v : Version) (ty : NcType) (name : List ℕ) (names : List (List ℕ)) → IsName name → AreNames names →
     Says v Variables (typed_line (type_word ty) name (shape_of names)) (DeclareVariables (word (type_word ty)) (record { name = name; dimensions = names } ∷ []))
 typed_says v ty name names h all =
-    statement_says v Variables (typed_line (type_word ty) name (shape_of names)) (word (type_word ty))
-    (word (escaped_name name) ∷ shape_lexemes names)
+    statement_says v Variables (typed_line (type_word ty) name (shape_of names)) (word (type_word ty)) (word (escaped_name name) ∷ shape_lexemes names)
     (DeclareVariables (word (type_word ty)) (record { name = name; dimensions = names } ∷ []))
-    (line_closed ty name names h all) (type_starts ty)
-    (two_fine v (type_word ty) (escaped_name name) (shape_lexemes names) (shape_fine v names)) (line_is v ty name names h all)
+    (line_read ty name names h all) (type_starts ty) (simp (word_fine, names_fine)) (line_is v ty name names h all)

@@ -2,10 +2,10 @@
 use Rattle.std.proofs.Common.{◌≡◌, ℕ, ◌^◌, ◌<◌, ◌≤◌, true, false, List, [], ◌∷◌, ◌++◌, length, map, ◌∙◌, ap, refl, arith, append_assoc, ℤ, unsigned_abs, ◌==◌, not, None, Some, codes, rules}
 use Rattle.cdl_laws.proofs.Prelude.{printed, list_all, prefix_len, NcType, Byte, Char, Short, Int, Ubyte, Ushort, Uint, Int64, Uint64, Version, escaped_name, is_plain, is_reserved, joined, IsName, type_word, Look, is_char, variable_text, Values, may_begin_word, scan, word_len, Lexeme, role, is_section, section_of, Value, Characters, Listed, both, constants, shape, and_left, and_right, and_both, word_at_start, Each}
 use Rattle.cdl_laws.proofs.NameTexts.{no_escape}
-use Rattle.cdl_laws.proofs.Texts.{Closed, Reads, stops, then_reads, reads_both, mark, word, number, name_word, word_reads, stop_word, prefix_again, marks_closed}
+use Rattle.cdl_laws.proofs.Texts.{Closed, Reads, stops, mark, mark_read, word, number, name_word, word_reads, stop_word, prefix_again, marks_closed}
 use Rattle.cdl_laws.proofs.Numerals.{value_again}
 use Rattle.cdl_laws.proofs.Strings.{string}
-use Rattle.cdl_laws.proofs.ValueTexts.{comma, commas, AreSmall, value_lexeme, value_said, numbers_closed, values_said}
+use Rattle.cdl_laws.proofs.ValueTexts.{commas, AreSmall, value_lexeme, value_said, numbers_closed, values_said}
 use Rattle.cdl_laws.proofs.Characters.{flat, table_closed, line_closed, strings_said}
 use Rattle.cdl_laws.proofs.Takes.{Says, statement_says, semicolon, is_fine, word_fine, is_starter, all_fine}
 
@@ -51,11 +51,8 @@ type_starts ty = grind arith
 -- pieces that are one lexeme each, joined
 pub joined_reads : {A : Type 0} (bytes : A → List ℕ) (lex : A → Lexeme) (x : A) (xs : List A) → Each (λ y. Reads (bytes y) (lex y ∷ [])) (x ∷ xs) →
     Reads (joined (map bytes (x ∷ xs))) (lex x ∷ commas (map lex xs))
-joined_reads bytes lex x [] all = all.0
-joined_reads bytes lex x (y ∷ ys) all =
-    reads_both (bytes x) (codes ", " ++ joined (map bytes (y ∷ ys))) (lex x ∷ []) (commas (map lex (y ∷ ys))) all.0 (λ rest h. refl)
-    (then_reads (codes ", ") (joined (map bytes (y ∷ ys))) (comma ∷ []) (lex y ∷ commas (map lex ys)) (marks_closed (codes ", ") refl)
-    (joined_reads bytes lex y ys all.1))
+joined_reads bytes lex x [] all rest stop = all.0 rest stop
+joined_reads bytes lex x (y ∷ ys) all rest stop = simp (append_assoc, mark_read, all.0, joined_reads bytes lex y ys all.1)
 
 pub fine_commas : (v : Version) (ls : List Lexeme) → list_all (is_fine v) ls ≡ true → list_all (is_fine v) (commas ls) ≡ true
 fine_commas v [] h = refl

@@ -4,7 +4,7 @@ pub use Rattle.cdl_laws.specs.PieceLaws.{AttributeReadsBack, AttributesReadBack,
 pub use Rattle.cdl_laws.specs.Reading.{cut_lexemes, lexemes, with_lexeme}
 unfoldable pub use Rattle.cdl_laws.specs.Reading.{lexemes_at, pieces_of}
 pub use Rattle.cdl_laws.specs.RoundTrip.{IsFull, TextReadsBack}
-pub use Rattle.cdl_laws.specs.TokenLaws.{AreToken, BlanksAndMarksStop, ConstantsReadBack, NamesReadBack, StandsForBytes, StopsNumber, StopsWord, StringsReadBack, StringsStandForBytes, ValuesReadBack}
+pub use Rattle.cdl_laws.specs.TokenLaws.{AreToken, BlanksAndMarksStop, ConstantsReadBack, NamesReadBack, StandsForBytes, StopsNumber, StringsReadBack, StringsStandForBytes, ValuesReadBack}
 pub use Rattle.cdl_laws.specs.Trims.{FillValueSurvivesTrim, MeaningsAreSayable, MeaningsComeBack, SecondTripIsSame, TrimmedIsSayable, TrimsOnce, has_cut_fill}
 pub use Rattle.cdl_statements.specs.Meaning.{array_of, closing_line, dataset_of, empty, has_small_array, header_of, meaning, records_in, listed_values}
 unfoldable pub use Rattle.cdl_statements.specs.SoundHeaders.{is_sound}
@@ -16,7 +16,7 @@ pub use Rattle.cdl_statements.specs.Lexemes.{Lexeme, is_end_kind, is_mark, is_op
 unfoldable pub use Rattle.cdl_statements.specs.Lexemes.{name_of}
 pub use Rattle.cdl_statements.specs.Pieces.{section_of}
 unfoldable pub use Rattle.cdl_statements.specs.Pieces.{pieces_at}
-pub use Rattle.cdl_statements.specs.Shapes.{Attribute, Close, Characters, DeclareDimensions, Dimension, End, Listed, Enter, Number, Open, Statement, DeclareVariables, Underscore, Value, Variable, after_member, assigned, at_end, attribute_or_mark, both, constant, constants, dimension, first_bad, if_so, in_parentheses, other_statement, section_mark, token_fault}
+pub use Rattle.cdl_statements.specs.Shapes.{Attribute, Close, Characters, DeclareDimensions, Dimension, End, Listed, Enter, Number, Open, Statement, DeclareVariables, Underscore, Value, Variable, after_member, assigned, at_end, attribute_or_mark, both, constant, constants, first_bad, if_so, in_parentheses, other_statement, section_mark, token_fault}
 unfoldable pub use Rattle.cdl_statements.specs.Shapes.{shape}
 pub use Rattle.cdl_statements.specs.Statements.{statements}
 pub use Rattle.cdl_statements.specs.code.CutSteps.{going_on, step, unless_end, with_first}
@@ -45,7 +45,7 @@ pub use Rattle.nc_base.specs.Datasets.{values_in_dataset}
 unfoldable pub use Rattle.nc_base.specs.Dump.{closing_word, data_word}
 pub use Rattle.nc_base.specs.Escapes.{escaped_in_name, escaped_in_string, is_plain, octal_escape, reserved_words}
 unfoldable pub use Rattle.nc_base.specs.Escapes.{escaped_name, escaped_text, is_reserved}
-pub use Rattle.nc_base.specs.Fill.{fill_of_att, is_fill_att}
+pub use Rattle.nc_base.specs.Fill.{is_fill_att}
 unfoldable pub use Rattle.nc_base.specs.Fill.{fill_value}
 unfoldable pub use Rattle.nc_base.specs.GeneratedFile.{file_of, with_begins}
 pub use Rattle.nc_base.specs.HeadText.{att_text, broken_text, dim_name, joined, without_trailing_nuls}
@@ -58,7 +58,7 @@ pub use Rattle.nc_base.specs.Numbers.{bytes_of_number, number_of, numbers_from}
 unfoldable pub use Rattle.nc_base.specs.Numbers.{numbers}
 pub use Rattle.nc_base.specs.Sayable.{AreDistinct, AreSayableAtts, HasSomeNumber, IsSayable, IsSayableVar, trimmed, trimmed_att, trimmed_header, trimmed_var}
 pub use Rattle.nc_base.specs.Types.{default_fill_of, code_of, number_suffix, size_of, type_word}
-pub use Rattle.nc_base.specs.ValueText.{Look, begins_row, char_lead, column, is_char, line_break, number_lead, number_text, row_len}
+pub use Rattle.nc_base.specs.ValueText.{Look, char_lead, is_char, number_lead, number_text, row_len}
 unfoldable pub use Rattle.nc_base.specs.ValueText.{variable_closing, look_of, number_piece, variable_opening, variable_text}
 pub use Rattle.nc_base.specs.code.LaterPieces.{is_nul}
 unfoldable pub use Rattle.nc_base.specs.code.LaterPieces.{piece, pieces}
@@ -67,7 +67,7 @@ pub use Rattle.nc_base.specs.declared.{dataset.Dataset.Dataset, header.Att.Att, 
 pub use Rattle.nc_base.specs.declared.header.NumRecs.TheVariants.{Known, Streaming}
 pub use Rattle.nc_base.specs.declared.nc_type.NcType.TheVariants.{Byte, Char, Int, Int64, Short, Ubyte, Uint, Uint64, Ushort}
 pub use Rattle.nc_base.specs.declared.version.Version.TheVariants.{Cdf1, Cdf2, Cdf5}
-pub use Rattle.std.proofs.Math.Nat.{div-eq_of_lt, lt_of_mul-lt-mul_right, mod-eq_of_lt, mul-add-div, mul-div_cancel, zero-mod}
+pub use Rattle.std.proofs.Math.Nat.{div-eq_of_lt, lt_of_mul-lt-mul_right, mod-eq_of_lt, mul-add-div, mul-div_cancel}
 pub use Rattle.std.proofs.Math.Seq.{drop-append_seam, take-append_seam, take-length}
 pub use Rattle.std.proofs.lemmas.Bool.{eqb-true, false≢true, le-leb, lt-ltb}
 pub use Rattle.std.proofs.lemmas.Bool.Decides.{Decides-int_eq}
@@ -88,7 +88,6 @@ unfoldable pub use Rattle.std.specs.Str.{chars, is_utf8}
 pub use Rattle.nc_base.proofs.Tests.{and_left, and_right, and_both, is_off, not_none, or_second, is_on}
 pub use Rattle.cdl_tokens.proofs.Words.{word_at_start, until_at_start, and_false, value_at_start}
 pub use Rattle.nc_base.proofs.SoundLaws.{some_size, some_count}
-pub use Rattle.nc_base.proofs.Printable.{some-limit}
 pub use Rattle.nc_base.proofs.Found.{all-at}
 pub use Rattle.cdl_tokens.proofs.PlainStrings.{inner_of}
 pub use Rattle.nc_base.proofs.ValueLaws.{look-type, length-numbers_from}

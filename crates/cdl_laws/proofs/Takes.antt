@@ -4,7 +4,7 @@ use Rattle.cdl_laws.proofs.Prelude.{list_all, Version, Section, Globals, Dimensi
 use Rattle.cdl_statements.specs.declared.piece.Role.TheVariants as roles
 use Rattle.cdl_statements.specs.declared.piece.CutState.TheVariants.{Begins, Inside}
 use Rattle.cdl_laws.proofs.Texts as texts
-use Rattle.cdl_laws.proofs.Texts.{mark, word, number}
+use Rattle.cdl_laws.proofs.Texts.{word}
 pub use Rattle.cdl_laws.proofs.ValueTexts.{semicolon, turn}
 
 -- ---- a statement is one piece, whatever follows

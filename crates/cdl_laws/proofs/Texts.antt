@@ -1,5 +1,5 @@
 -- Texts that are put together are read apart again, token by token.
-use Rattle.std.proofs.Common.{◌≡◌, ℕ, suc, Bool, true, false, List, [], ◌∷◌, ◌++◌, length, drop, ap, refl, arith, append_assoc, ◌&&◌, ◌||◌, ◌==◌, not, Option, Some, is_none, rules, ◌+◌, None, if◌then◌else◌}
+use Rattle.std.proofs.Common.{◌≡◌, ℕ, suc, Bool, true, false, List, [], ◌∷◌, ◌++◌, length, drop, ap, refl, arith, append_assoc, append-nil, ◌&&◌, ◌||◌, ◌==◌, not, Option, Some, is_none, ◌+◌, None, if◌then◌else◌}
 use Rattle.cdl_laws.proofs.Prelude.{prefix_len, list_all, false≢true, drop-append_seam, take-append_seam, escaped_name, is_reserved, IsName, has_name_bytes, ends_with_space, is_utf8, goes_on_word, goes_on_number, word_len, scan, begins_a_word, token, Lexeme, name_of, lexemes_at, with_lexeme, TokenKind, and_left, and_right, is_off, word_at_start, is_mark_byte, is_blank, flat_map, or_second, begins_number, AreToken}
 use Rattle.cdl_tokens.specs.declared.token.TokenKind.TheVariants as kinds
 use Rattle.cdl_laws.proofs.NameTexts.{rest_of, Begins, marked, bare, begins, name_len, name_value, name_free}
@@ -40,32 +40,20 @@ Reads bytes ls = (rest : List ℕ) → stops rest ≡ true → lexemes_at false 
 abbrev pub Stops : List ℕ → Type 0
 Stops bytes = (rest : List ℕ) → stops rest ≡ true → stops (bytes ++ rest) ≡ true
 
-pub closed_both : (a b : List ℕ) (la lb : List Lexeme) → Closed a la → Closed b lb → Closed (a ++ b) (la ++ lb)
-closed_both a b la lb p q rest = search (rules, append_assoc)
-
-pub then_reads : (a b : List ℕ) (la lb : List Lexeme) → Closed a la → Reads b lb → Reads (a ++ b) (la ++ lb)
-then_reads a b la lb p q rest h = search (rules, append_assoc)
-
-pub closed_by : (a b : List ℕ) (la lb : List Lexeme) → Reads a la → ((rest : List ℕ) → stops (b ++ rest) ≡ true) → Closed b lb → Closed (a ++ b) (la ++ lb)
-closed_by a b la lb p s q rest = search (rules, append_assoc)
-
-pub reads_both : (a b : List ℕ) (la lb : List Lexeme) → Reads a la → Stops b → Reads b lb → Reads (a ++ b) (la ++ lb)
-reads_both a b la lb p s q rest h = search (rules, append_assoc)
-
 -- ---- marks
 
 abbrev pub mark : ℕ → Lexeme
 mark b = record { kind = kinds.Mark; bytes = b ∷ [] }
 
-abbrev mark_of : ℕ → List Lexeme
+abbrev pub mark_of : ℕ → List Lexeme
 mark_of b = if is_mark_byte b then mark b ∷ [] else []
 
 abbrev pub marks_in : List ℕ → List Lexeme
 marks_in bytes = flat_map mark_of bytes
 
-one_closed : (b : ℕ) (rest : List ℕ) → (is_mark_byte b || is_blank b) ≡ true →
+pub mark_read : (b : ℕ) (rest : List ℕ) → (is_mark_byte b || is_blank b) ≡ true →
     lexemes_at false 0 (b ∷ rest) ≡ mark_of b ++ lexemes_at false 0 rest
-one_closed b rest h =
+mark_read b rest h =
     let marks = prefix_again false (Some kinds.Mark) b [] rest in
     let blanks = prefix_again false None b [] rest in
     grind (arith, or_second, scan_mark false (b ∷ rest), scan_blank false (b ∷ rest), marks, blanks)
@@ -74,7 +62,7 @@ one_closed b rest h =
 pub marks_closed : (bytes : List ℕ) → list_all (λ b. is_mark_byte b || is_blank b) bytes ≡ true → Closed bytes (marks_in bytes)
 marks_closed [] h = λ rest. refl
 marks_closed (b ∷ bytes) h =
-    grind (arith, one_closed, and_right, marks_closed bytes)
+    grind (arith, mark_read, and_right, marks_closed bytes)
 
 -- ---- what stops a word or a number
 
@@ -112,6 +100,16 @@ begun_word b bs (bare one free is) some len = rw (is) (word_reads b (rest_of bs)
 pub name_word : (name : List ℕ) → IsName name → IsWordOf name
 unfolding name_of
 name_word name h = grind (arith, false≢true, some_name, and_left, and_right, begins, begun_word, name_len, stop_word, name_free, name_value)
+
+pub name_read : (name rest : List ℕ) → IsName name → stops rest ≡ true →
+    lexemes_at false 0 (escaped_name name ++ rest) ≡ word (escaped_name name) ∷ lexemes_at false 0 rest
+name_read name rest h = (name_word name h).reads rest
+
+pub name_stands : (name : List ℕ) → IsName name → name_of (word (escaped_name name)) ≡ Some name
+name_stands name h = (name_word name h).stands
+
+-- what reads a text byte by byte and name by name
+pub ruleset reading = (append_assoc, append-nil, mark_read, name_read)
 
 -- ---- numbers
 

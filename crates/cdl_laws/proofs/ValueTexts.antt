@@ -1,7 +1,7 @@
 -- The listed numbers of a variable are read back, wherever the breaks are.
-use Rattle.std.proofs.Common.{◌≡◌, ℕ, ◌+◌, ◌^◌, ◌<◌, ◌≤◌, Bool, true, false, List, [], ◌∷◌, ◌++◌, length, map, sym, ◌∙◌, ap, refl, subst, arith, append_assoc, append-nil, length-append, ℤ, unsigned_abs, ◌&&◌, not, if◌then◌else◌, nat_lt, Some, Result, Ok, codes, ◌⊎◌}
-use Rattle.cdl_laws.proofs.Prelude.{signed_decimal, flat_map, int_eq, mod-eq_of_lt, false≢true, concat_parts, escaped_name, Int, Version, IsName, Look, is_char, number_text, number_lead, line_break, begins_row, column, number_piece, piece, pieces, variable_opening, variable_closing, variable_text, prefix_is, CdlKind, Lexeme, Value, Number, Underscore, both, constant, constants, constants, Listable, Numbers, add_number, has_number, in_turn, listing_of, word_at_start, Each, ◌>>=◌}
-use Rattle.cdl_laws.proofs.Texts.{Closed, Reads, Stops, closed_both, then_reads, closed_by, reads_both, mark, word, number, name_word, word_reads, stop_word, marks_closed, number_reads}
+use Rattle.std.proofs.Common.{◌≡◌, ℕ, ◌+◌, ◌^◌, ◌<◌, ◌≤◌, Bool, true, false, List, [], ◌∷◌, ◌++◌, length, map, sym, ◌∙◌, ap, refl, arith, append_assoc, append-nil, length-append, ℤ, unsigned_abs, ◌&&◌, if◌then◌else◌, Some, Result, Ok, codes, ◌⊎◌}
+use Rattle.cdl_laws.proofs.Prelude.{signed_decimal, flat_map, int_eq, mod-eq_of_lt, false≢true, concat_parts, escaped_name, Int, Version, IsName, Look, is_char, number_text, number_lead, number_piece, piece, pieces, variable_opening, variable_closing, variable_text, prefix_is, CdlKind, Lexeme, Value, Number, Underscore, both, constant, constants, constants, Listable, Numbers, add_number, has_number, in_turn, listing_of, word_at_start, Each, ◌>>=◌}
+use Rattle.cdl_laws.proofs.Texts.{Closed, Reads, Stops, mark, word, number, word_reads, stop_word, marks_closed, number_reads, reading}
 use Rattle.cdl_laws.proofs.Numerals.{value_again, value_is}
 
 -- one turn
@@ -50,30 +50,18 @@ text_reads look x h = grind (arith, codes "_", number_reads (signed_decimal x) (
 
 -- ---- what stands before a number
 
-either_closed : (b : Bool) → Closed (if b then codes "\n    " else []) []
-either_closed b = grind (arith, marks_closed)
-
-break_closed : (look : Look) (i end : ℕ) → Closed (line_break look i end) []
-break_closed look i end = either_closed (not (begins_row look i) && nat_lt look.width (end + 2))
+break_read : (b : Bool) → Closed (if b then codes "\n    " else []) []
+break_read b = grind (arith, marks_closed)
 
 -- what comes before a number that isn't the first: a comma and a space, or a comma and the beginning of a row
 gap : (look : Look) (i : ℕ) → 0 < i → (look.in_rows ≡ false → i < look.row) →
     (number_lead look i ≡ codes ", ") ⊎ (number_lead look i ≡ codes ",\n  ")
 gap look i some small = grind (arith, codes, false≢true, mod-eq_of_lt)
 
-gap_closed : (lead : List ℕ) → (lead ≡ codes ", ") ⊎ (lead ≡ codes ",\n  ") → Closed lead (comma ∷ [])
-gap_closed lead either = grind (arith, marks_closed)
+lead_read : (look : Look) (i : ℕ) → 0 < i → (look.in_rows ≡ false → i < look.row) → Closed (number_lead look i) (comma ∷ [])
+lead_read look i some small = grind (arith, gap look i some small, marks_closed)
 
 -- ---- the numbers after the first
-
-piece_reads : (look : Look) (before : List ℕ) (i : ℕ) (x : ℤ) → 0 < i → (look.in_rows ≡ false → i < look.row) → unsigned_abs x < 2 ^ 64 →
-    Reads (number_piece look before i x) (comma ∷ value_lexeme look x ∷ [])
-unfolding number_piece
-piece_reads look before i x some small fits =
-    let end = column (before ++ number_lead look i) + length (number_text look x) in
-    then_reads (number_lead look i ++ line_break look i end) (number_text look x) (comma ∷ []) (value_lexeme look x ∷ [])
-    (closed_both (number_lead look i) (line_break look i end) (comma ∷ []) [] (gap_closed (number_lead look i) (gap look i some small)) (break_closed look i end))
-    (text_reads look x fits)
 
 -- the values fit
 abbrev pub AreSmall : List ℤ → Type 0
@@ -93,50 +81,34 @@ unfolding number_piece
 more_stop look before values [] h some small = grind (arith, pieces_none, pieces_first, pieces, piece)
 more_stop look before values _ h some small = grind (arith, pieces_first, pieces, piece, append_assoc, gap)
 
-pub more_read : (look : Look) (before : List ℕ) (values xs : List ℤ) → is_char look.ty ≡ false → 0 < length values → (look.in_rows ≡ false → length values + length xs ≤ look.row) → AreSmall xs →
+more_read : (look : Look) (before : List ℕ) (values xs : List ℤ) → is_char look.ty ≡ false → 0 < length values → (look.in_rows ≡ false → length values + length xs ≤ look.row) → AreSmall xs →
     Reads (pieces look before values xs) (commas (map (value_lexeme look) xs))
-more_read look before values [] h some small fit = rw (pieces_none look before values) (λ rest e. refl)
-more_read look before values (x ∷ xs) h some small fit =
+unfolding number_piece
+more_read look before values [] h some small fit rest stop = rw (pieces_none look before values)
+more_read look before values (x ∷ xs) h some small fit rest stop =
     let after = before ++ piece look before values x in
     let len = length-append values (x ∷ []) in
     let some2 : 0 < length (values ++ x ∷ []) = omega (arith, len) in
     let small2 : look.in_rows ≡ false → length (values ++ x ∷ []) + length xs ≤ look.row = λ e. let f = small e in omega (arith, f, len) in
-    rw (pieces_first look before values x xs h)
-    (reads_both (number_piece look before (length values) x) (pieces look after (values ++ x ∷ []) xs) (comma ∷ value_lexeme look x ∷ []) (commas (map (value_lexeme look) xs))
-    (piece_reads look before (length values) x some (λ e. let f = small e in omega (arith, f)) (fit.0))
-    (more_stop look after (values ++ x ∷ []) xs h some2 small2)
-    (more_read look after (values ++ x ∷ []) xs h some2 small2 (fit.1)))
+    let lead = lead_read look (length values) some (λ e. let f = small e in omega (arith, f)) in
+    let stop_after = more_stop look after (values ++ x ∷ []) xs h some2 small2 rest stop in
+    let more = more_read look after (values ++ x ∷ []) xs h some2 small2 fit.1 in
+    simp (pieces_first look before values x xs h, append_assoc, lead, break_read, text_reads look x fit.0, stop_after, more)
 
 -- ---- a variable's numbers
 
 first_lead : (look : Look) → Closed (number_lead look 0) []
 first_lead look = grind (arith, marks_closed)
 
-first_reads : (look : Look) (before : List ℕ) (x : ℤ) → unsigned_abs x < 2 ^ 64 → Reads (number_piece look before 0 x) (value_lexeme look x ∷ [])
-unfolding number_piece
-first_reads look before x fits =
-    grind (arith, first_lead look, break_closed look 0 (column (before ++ number_lead look 0) + length (number_text look x)), text_reads look x fits, then_reads, closed_both, fits)
-
-pub all_read : (look : Look) (before : List ℕ) (x : ℤ) (xs : List ℤ) → is_char look.ty ≡ false → (look.in_rows ≡ false → length (x ∷ xs) ≤ look.row) → AreSmall (x ∷ xs) →
+all_read : (look : Look) (before : List ℕ) (x : ℤ) (xs : List ℤ) → is_char look.ty ≡ false → (look.in_rows ≡ false → length (x ∷ xs) ≤ look.row) → AreSmall (x ∷ xs) →
     Reads (pieces look before [] (x ∷ xs)) (value_lexeme look x ∷ commas (map (value_lexeme look) xs))
-all_read look before x xs h small fit =
+unfolding number_piece
+all_read look before x xs h small fit rest stop =
     let after = before ++ piece look before [] x in
     let small2 : look.in_rows ≡ false → 1 + length xs ≤ look.row = λ e. let f = small e in omega (arith, f) in
-    rw (pieces_first look before [] x xs h)
-    (reads_both (number_piece look before 0 x) (pieces look after (x ∷ []) xs) (value_lexeme look x ∷ []) (commas (map (value_lexeme look) xs))
-    (first_reads look before x fit.0) (more_stop look after (x ∷ []) xs h (omega arith) small2) (more_read look after (x ∷ []) xs h (omega arith) small2 fit.1))
-
-pub opening_closed : (look : Look) → IsName look.name → Closed (variable_opening look) (word (escaped_name look.name) ∷ mark 61 ∷ [])
-unfolding variable_opening concat_parts
-opening_closed look h =
-    closed_both (codes "\n ") (escaped_name look.name ++ (codes " =" ++ [])) [] (word (escaped_name look.name) ∷ mark 61 ∷ [])
-    (marks_closed (codes "\n ") refl)
-    (closed_by (escaped_name look.name) (codes " =" ++ []) (word (escaped_name look.name) ∷ []) (mark 61 ∷ [])
-    (name_word look.name h).reads (λ rest. refl) (marks_closed (codes " =") refl))
-
-number_closing : (look : Look) → is_char look.ty ≡ false → variable_closing look ≡ codes " ;\n"
-unfolding variable_closing
-number_closing look h = rw (h) refl
+    let stop_after = more_stop look after (x ∷ []) xs h (omega arith) small2 rest stop in
+    let more = more_read look after (x ∷ []) xs h (omega arith) small2 fit.1 in
+    simp (pieces_first look before [] x xs h, append_assoc, first_lead look, break_read, text_reads look x fit.0, stop_after, more)
 
 -- the lexemes of a variable's numbers
 abbrev pub listed : Look → ℤ → List ℤ → List Lexeme
@@ -144,14 +116,9 @@ listed look x xs = word (escaped_name look.name) ∷ mark 61 ∷ value_lexeme lo
 
 pub numbers_closed : (look : Look) (x : ℤ) (xs : List ℤ) → IsName look.name → is_char look.ty ≡ false → (look.in_rows ≡ false → length (x ∷ xs) ≤ look.row) → AreSmall (x ∷ xs) →
     Closed (variable_text look (x ∷ xs)) (listed look x xs ++ mark 59 ∷ [])
-unfolding variable_text
-numbers_closed look x xs name h small fit =
-    subst (λ (t : List ℕ). Closed (t ++ variable_closing look) (listed look x xs ++ mark 59 ∷ [])) (sym (prefix_is look (x ∷ xs) (λ char some. absurd (false≢true (sym h ∙ char))))) (
-    closed_by (variable_opening look ++ pieces look (variable_opening look) [] (x ∷ xs)) (variable_closing look) (listed look x xs) (mark 59 ∷ [])
-    (then_reads (variable_opening look) (pieces look (variable_opening look) [] (x ∷ xs)) (word (escaped_name look.name) ∷ mark 61 ∷ []) (value_lexeme look x ∷ commas (map (value_lexeme look) xs))
-    (opening_closed look name) (all_read look (variable_opening look) x xs h small fit))
-    (rw (number_closing look h) (λ rest. refl))
-    (rw (number_closing look h) (marks_closed (codes " ;\n") refl)))
+unfolding variable_text variable_opening variable_closing concat_parts
+numbers_closed look x xs name h small fit rest =
+    simp (prefix_is look (x ∷ xs) (λ char some. absurd (false≢true (sym h ∙ char))), reading, h, all_read look (variable_opening look) x xs h small fit)
 
 -- ---- what they say
 
