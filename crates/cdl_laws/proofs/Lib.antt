@@ -24,7 +24,6 @@ pub mod Fine
 pub mod MeaningsAreGood
 pub mod Trimmed
 pub mod TextReadsBack
-pub mod SecondTrips
 pub mod TokensRead
 pub mod TextTokens
 pub mod PiecesRead

@@ -31,6 +31,7 @@ pub fn token_reads_back()
 
 /// If a token of a text is a string, each character between its quotes (a byte that stands for itself, or an escape) stands for a byte. So
 /// no caller of the scanner has to check that: a string with an escape that stands for no byte, such as `\400`, is a bad token instead.
+#[tactic(auto, using(crate::proofs::TextTokens::strings_stand_for_bytes))]
 pub fn strings_stand_for_bytes()
     ensures { StringsStandForBytes }
 {}
@@ -56,6 +57,7 @@ pub fn piece_reads_back()
 /// lists values. These values, given to the variable one after the other and filled up with the fill value, are the variable's array.
 ///
 /// The clause `rows` is about a variable that has values. A variable without values has no such text, and its array is empty (`empty`).
+#[tactic(auto, using(crate::proofs::RowsRead::rows_read_back, crate::proofs::RowsRead::empty_rows_read_back))]
 pub fn array_reads_back()
     ensures rows { RowsReadBack }
     ensures empty { EmptyRowsReadBack }
@@ -63,12 +65,14 @@ pub fn array_reads_back()
 
 /// If a text can declare a dataset, then its full dump (of all values, under a valid name), at any width, means this dataset without the
 /// NULs at the end of its attributes of characters.
+#[tactic(auto, using(crate::proofs::TextReadsBack::text_reads_back))]
 pub fn text_reads_back()
     ensures { TextReadsBack }
 {}
 
 /// If a text can declare each of two datasets of one version, and their full dumps (of all values, under a valid name) are the same text,
 /// then the two are the same without the NULs at the end of their attributes of characters. The two dumps may have different widths.
+#[tactic(auto, using(crate::proofs::TextReadsBack::text_reads_back))]
 pub fn dumps_tell_datasets_apart()
     ensures { DumpsTellDatasetsApart }
 {}
@@ -98,17 +102,20 @@ pub fn nearly_is_sayable()
 /// The fill value of a variable of characters stays the same without the NULs at the end of its attributes, except in one case: its first
 /// attribute named `_FillValue` is one character other than NUL, and then one or more NULs. Only without these NULs is it a single value,
 /// and so the fill value.
+#[tactic(auto, using(crate::proofs::Trimmed::fill_value_survives_trim))]
 pub fn fill_value_survives_trim()
     ensures { FillValueSurvivesTrim }
 {}
 
 /// If a text means a dataset, then a text can declare this dataset (in the sense of `IsSayable`) if and only
 /// if none of its variables of characters is in the one case that [`fill_value_survives_trim`] excepts.
+#[tactic(auto, using(crate::proofs::MeaningsAreGood::meanings_are_nearly_sayable, crate::proofs::Trimmed::fill_value_survives_trim))]
 pub fn meanings_are_sayable()
     ensures { MeaningsAreSayable }
 {}
 
 /// If the NULs at the end of attributes of characters are taken away, then taking them away once more changes nothing.
+#[tactic(auto, using(crate::proofs::Trimmed::trims_once))]
 pub fn trims_once()
     ensures { TrimsOnce }
 {}
@@ -121,6 +128,7 @@ pub fn trimmed_is_sayable()
 /// If a text can declare a dataset, then its full dump (of all values, under a valid name) means a second dataset, which is the first
 /// without the NULs at the end of its attributes of characters. The full dump of the second dataset means the second dataset again: a
 /// second trip, from dataset to text and back, changes nothing. The two dumps may have different names and widths.
+#[tactic(auto, using(crate::proofs::TextReadsBack::text_reads_back, crate::proofs::Trimmed::trimmed_is_sayable, crate::proofs::Trimmed::trims_once))]
 pub fn second_trip_is_same()
     ensures { SecondTripIsSame }
 {}

@@ -1,5 +1,7 @@
-use Rattle.cdl_laws.proofs.SecondTrips.{meanings_are_sayable}
+use Rattle.std.proofs.Common.{arith}
+use Rattle.cdl_laws.proofs.MeaningsAreGood.{meanings_are_nearly_sayable}
+use Rattle.cdl_laws.proofs.Trimmed.{fill_value_survives_trim}
 use Rattle.cdl_laws.proofs.laws.meanings_are_sayable.Goals as goal
 
 pub returns : goal.returns
-returns c = meanings_are_sayable
+returns c = λ text v d bytes e. grind (arith, meanings_are_nearly_sayable text v d bytes e, fill_value_survives_trim)
