@@ -102,7 +102,7 @@ ids_added dims before (k ∷ ids) distinct names are =
 abbrev pub bare_draft : List ℕ → List ℕ → List Att → NcType → Draft
 bare_draft name ids atts ty = record { var = record { name = name; dimids = ids; atts = atts; ty = ty; begin_at = 0 }; listed = None }
 
-pub var_added : (dims : List Dim) (ty : NcType) (drafts : List Draft) (name ids : List ℕ) → IsName name → no_draft name drafts → AreDistinctDims dims → HaveNames dims → AreDimids dims [] ids →
-    add_var dims ty drafts (record { name = name; dimensions = map (name_at dims) ids }) ≡ Ok (drafts ++ bare_draft name ids [] ty ∷ [])
+pub var_added : (dims : List Dim) (ty : NcType) (drafts : List Draft) (name : List ℕ) (names : List (List ℕ)) (ids : List ℕ) → IsName name → no_draft name drafts → in_turn (add_dimid dims) [] names ≡ Ok ids →
+    add_var dims ty drafts (record { name = name; dimensions = names }) ≡ Ok (drafts ++ bare_draft name ids [] ty ∷ [])
 unfolding add_var
-var_added dims ty drafts name ids valid new distinct names are = grind (arith, ids_added)
+var_added dims ty drafts name names ids valid new are = grind arith

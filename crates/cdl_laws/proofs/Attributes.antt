@@ -1,10 +1,16 @@
 -- The values of an attribute are read back.
-use Rattle.std.proofs.Common.{◌≡◌, ℕ, zero, suc, ◌+◌, ◌*◌, ◌/◌, ◌^◌, ◌<◌, true, false, List, [], ◌∷◌, ◌++◌, length, drop, take, map, sym, ◌∙◌, ap, refl, subst, arith, length-take, length-drop, ℤ, pos, unsigned_abs, if◌then◌else◌, Ok}
-use Rattle.cdl_laws.proofs.Prelude.{flat_map, mul-div_cancel, ints, take-append-drop, get_or-drop, AreBytes, Att, NcType, Char, Version, numbers, numbers_from, bytes_of_number, IsInRange, size_of, IsSoundAtt, att_text, numbers_text, joined, without_trailing_nuls, IsName, is_char, has_type, trimmed_att, HasSomeNumber, Characters, has_number, in_turn, add_constant, some_size, is_had, Each, each_map}
+use Rattle.std.proofs.Common.{◌≡◌, ℕ, zero, suc, ◌+◌, ◌*◌, ◌/◌, ◌^◌, ◌<◌, true, false, List, [], ◌∷◌, ◌++◌, length, drop, take, map, sym, ◌∙◌, ap, refl, subst, arith, length-take, length-drop, ℤ, rules, pos, unsigned_abs, Ok}
+use Rattle.cdl_laws.proofs.Prelude.{flat_map, mul-div_cancel, ints, take-append-drop, get_or-drop, AreBytes, Att, NcType, Char, Version, numbers, numbers_from, bytes_of_number, IsInRange, size_of, IsSoundAtt, att_text, numbers_text, joined, without_trailing_nuls, IsName, is_char, has_type, trimmed_att, HasSomeNumber, Characters, has_number, some_size, is_had, Each, each_map, Lexeme, chars_text, concat_parts}
 use Rattle.nc_base.proofs.NumberBytes.{bytes_read_back, numbers_in_range}
 use Rattle.cdl_laws.proofs.Acts.{numbers_added, chars_added}
-use Rattle.cdl_laws.proofs.Declarations.{IsListOf, chars_list, numbers_list, numbers_said, suffixed, first, others, all_bytes}
-use Rattle.cdl_laws.proofs.Wholes.{Speaks}
+use Rattle.cdl_laws.proofs.Declarations.{Speaks, broken_read, numbers_said, suffixed, suffixed_read, first, others, all_bytes}
+use Rattle.cdl_laws.proofs.Characters.{strings_said}
+use Rattle.cdl_laws.proofs.Heads.{joined_reads, strings_fine}
+use Rattle.cdl_laws.proofs.Numerals.{numeral_again}
+use Rattle.cdl_laws.proofs.Strings.{string}
+use Rattle.cdl_laws.proofs.Takes.{all_fine}
+use Rattle.cdl_laws.proofs.Texts.{Reads, number}
+use Rattle.cdl_laws.proofs.ValueTexts.{commas, constants_say}
 
 pub small_is : (ty : NcType) (z : ℤ) → IsInRange ty z → unsigned_abs z < 2 ^ 64
 small_is ty z h = grind (arith, pos, ints)
@@ -52,29 +58,43 @@ count_is ty n bytes h = ap (λ k. numbers_from ty k bytes) (ap (λ m. m / size_o
 
 -- ---- attributes
 
-pub char_speaks : (v : Version) (att : Att) → att.ty ≡ Char → IsName att.name → Speaks v att
-char_speaks v att e name = record {
-  name = name;
-  said = map Characters (first (without_trailing_nuls att.vals) ∷ others (without_trailing_nuls att.vals));
-  list = subst (λ ty. IsListOf v (att_text ty att.vals) (map Characters (first (without_trailing_nuls att.vals) ∷ others (without_trailing_nuls att.vals)))) (sym e) (chars_list v att.vals);
-  type = sym e;
-  are = subst (λ ty. in_turn (add_constant ty) [] (map Characters (first (without_trailing_nuls att.vals) ∷ others (without_trailing_nuls att.vals))) ≡ Ok (if is_char ty then without_trailing_nuls att.vals else att.vals)) (sym e)
-      (chars_added [] (first (without_trailing_nuls att.vals) ∷ others (without_trailing_nuls att.vals)) ∙ ap (λ bs. Ok bs) (all_bytes (without_trailing_nuls att.vals)));
-}
+char_speaks : (v : Version) (name vals : List ℕ) → IsName name → Speaks v (record { name = name; ty = Char; vals = vals })
+unfolding chars_text concat_parts
+char_speaks v name vals valid =
+    let bytes = without_trailing_nuls vals in
+    record {
+      name = valid;
+      l = string (first bytes);
+      ls = map string (others bytes);
+      reads = λ rest h. broken_read bytes rest;
+      fine = strings_fine v (first bytes ∷ others bytes);
+      said = map Characters (first bytes ∷ others bytes);
+      says = strings_said v false (first bytes) (others bytes);
+      type = refl;
+      are = chars_added [] (first bytes ∷ others bytes) ∙ ap Ok (all_bytes bytes);
+    }
 
 values_text : (ty : NcType) (vals : List ℕ) → is_char ty ≡ false → att_text ty vals ≡ joined (map (suffixed ty) (numbers ty vals))
 unfolding numbers_text
 values_text ty vals h = grind arith
 
 some_speak : (v : Version) (att : Att) (x : ℤ) (xs : List ℤ) → numbers att.ty att.vals ≡ x ∷ xs → is_char att.ty ≡ false → has_type v att.ty ≡ true → Each (IsInRange att.ty) (x ∷ xs) → flat_map (bytes_of_number att.ty) (x ∷ xs) ≡ att.vals → IsName att.name → Speaks v att
-some_speak v att x xs are other known range back name = record {
-  name = name;
-  said = numbers_said att.ty (x ∷ xs);
-  list = subst (λ bs. IsListOf v bs (numbers_said att.ty (x ∷ xs))) (sym (values_text att.ty att.vals other ∙ ap (λ ys. joined (map (suffixed att.ty) ys)) are))
-      (numbers_list v att.ty x xs (all_small att.ty (x ∷ xs) range) known other);
-  type = refl;
-  are = numbers_added att.ty [] (x ∷ xs) (all_fit att.ty (x ∷ xs) range) ∙ ap (λ bs. Ok bs) (back ∙ (let e : att.vals ≡ (trimmed_att att).vals = rw (other) refl in e));
-}
+some_speak v att x xs are other known range back name =
+    let small = all_small att.ty (x ∷ xs) range in
+    let text = values_text att.ty att.vals other ∙ ap (λ ys. joined (map (suffixed att.ty) ys)) are in
+    let lexeme : ℤ → Lexeme = λ y. number (suffixed att.ty y) in
+    let whole : att.vals ≡ (trimmed_att att).vals = rw (other) refl in
+    record {
+      name = name;
+      l = lexeme x;
+      ls = map lexeme xs;
+      reads = subst (λ bs. Reads bs (lexeme x ∷ commas (map lexeme xs))) (sym text) (joined_reads (suffixed att.ty) lexeme x xs (suffixed_read att.ty (x ∷ xs) small));
+      fine = grind (arith, all_fine, numeral_again);
+      said = numbers_said att.ty (x ∷ xs);
+      says = search (rules, constants_say, numeral_again);
+      type = refl;
+      are = numbers_added att.ty [] (x ∷ xs) (all_fit att.ty (x ∷ xs) range) ∙ ap Ok (back ∙ whole);
+    }
 
 number_speaks : (v : Version) (att : Att) (n : ℕ) → AreBytes att.vals → length att.vals ≡ suc n * size_of att.ty → is_char att.ty ≡ false → has_type v att.ty ≡ true → IsName att.name → Speaks v att
 number_speaks v att n small len other known name =
@@ -83,7 +103,7 @@ number_speaks v att n small len other known name =
 pub speaks : (v : Version) (att : Att) → IsSoundAtt v att → AreBytes att.vals → HasSomeNumber att → IsName att.name → Speaks v att
 speaks v att sound small some name =
     elim (is_char att.ty) as (λ b. is_char att.ty ≡ b → Speaks v att) [
-      | true ↦ (λ e. char_speaks v att (grind arith) name)
+      | true ↦ (λ e. let char : Char ≡ att.ty = grind arith in subst (λ ty. Speaks v (record att { ty = ty })) char (char_speaks v att.name att.vals name))
       | false ↦ (λ e. counted e sound.values.count sound.values.whole)
     ] refl
   where

@@ -1,9 +1,9 @@
 -- The data section of a dump, variable after variable.
 use Rattle.std.proofs.Common.{◌≡◌, ℕ, ◌+◌, ◌<◌, ◌≤◌, Bool, true, false, List, [], ◌∷◌, ◌++◌, length, map, sym, ◌∙◌, ap, refl, subst, append_assoc, ℤ, pos, if◌then◌else◌, Option, None, Some, Ok, arith, rules}
-use Rattle.cdl_laws.proofs.Prelude.{DataText, variables_text, printed, Att, Dim, Header, Var, Version, VariableValues, whole, shown_data, with_variable, has_values, fill_value, IsName, is_record_var, Look, look_of, is_char, variable_text, Values, trimmed_var, Value, Characters, Listed, State, Draft, Listing, Numbers, Joined, Rows, Listable, listable_of, act, listing_of, values_in, filled, has_number, Each, each_map}
+use Rattle.cdl_laws.proofs.Prelude.{DataText, variables_text, printed, Att, Dim, Header, Var, Version, VariableValues, whole, shown_data, with_variable, has_values, fill_value, IsName, is_record_var, Look, look_of, is_char, variable_text, Values, trimmed_var, Value, Characters, Listed, State, Draft, Listing, Numbers, Joined, Rows, Listable, listable_of, act, listing_of, values_in, filled, has_number, Each, each_map, IsStatement}
 use Rattle.cdl_laws.proofs.ValueTexts.{AreSmall, value_said, numbers_listed}
 use Rattle.cdl_laws.proofs.Characters.{flat, IsCharacter, row_back, rows_listed, rows_full, line_listed, back_whole, filled_whole}
-use Rattle.cdl_laws.proofs.Takes.{Takes, Says, says_takes, takes_both}
+use Rattle.cdl_laws.proofs.Takes.{Takes, says_takes, takes_both}
 use Rattle.cdl_laws.proofs.Heads.{numbers_say, table_says, line_says}
 use Rattle.cdl_laws.proofs.Acts.{no_draft, variable_is}
 use Rattle.cdl_laws.proofs.Wholes.{state, draft_of}
@@ -14,7 +14,7 @@ use Rattle.cdl_laws.proofs.Wholes.{state, draft_of}
 -- lists every value.
 pub record Gives (v : Version) (dims : List Dim) (look : Look) (var : Var) (values : List ℤ) : Type 0 where
   pub said : List Value
-  pub says : Says v Values (variable_text look values) (Listed var.name said)
+  pub says : IsStatement v Values (variable_text look values) (Listed var.name said)
   pub listing : Listing
   pub added : listing_of (listable_of dims (trimmed_var var)) said ≡ Ok listing
   pub full : filled (length values) (fill_value (trimmed_var var)) (values_in (listable_of dims (trimmed_var var)) listing) ≡ values
@@ -33,7 +33,7 @@ pub gives_numbers : (v : Version) (dims : List Dim) (look : Look) (var : Var) (x
     (look.in_rows ≡ false → length (x ∷ xs) ≤ look.row) → AreSmall (x ∷ xs) → Each (λ y. has_number (listable_of dims (trimmed_var var)).ty y ≡ true) (x ∷ xs) → Gives v dims look var (x ∷ xs)
 gives_numbers v dims look var x xs listable ty small fit range = record {
   said = map (value_said look) (x ∷ xs);
-  says = subst (λ n. Says v Values (variable_text look (x ∷ xs)) (Listed n (map (value_said look) (x ∷ xs)))) listable.name (numbers_say v look x xs listable.valid ty small fit);
+  says = subst (λ n. IsStatement v Values (variable_text look (x ∷ xs)) (Listed n (map (value_said look) (x ∷ xs)))) listable.name (numbers_say v look x xs listable.valid ty small fit);
   listing = Numbers (x ∷ xs);
   added = numbers_listed look (listable_of dims (trimmed_var var)) (x ∷ xs) (ap is_char listable.ty ∙ ty) listable.fill listable.wide range;
   full = filled_whole (length (x ∷ xs)) (fill_value (trimmed_var var)) (x ∷ xs) refl;
@@ -61,7 +61,7 @@ pub gives_line : (v : Version) (dims : List Dim) (look : Look) (var : Var) (x : 
     (look.trimmed ≡ true → fill_value (trimmed_var var) ≡ pos 0) → (is_record_var dims var ≡ true → look.trimmed ≡ false) → Each IsCharacter (x ∷ xs) → Gives v dims look var (x ∷ xs)
 gives_line v dims look var x xs listable ty h small fill record_whole all = record {
   said = Characters (printed look.trimmed 0 (x ∷ xs)) ∷ [];
-  says = subst (λ n. Says v Values (variable_text look (x ∷ xs)) (Listed n (Characters (printed look.trimmed 0 (x ∷ xs)) ∷ []))) listable.name (line_says v look x xs listable.valid ty h small);
+  says = subst (λ n. IsStatement v Values (variable_text look (x ∷ xs)) (Listed n (Characters (printed look.trimmed 0 (x ∷ xs)) ∷ []))) listable.name (line_says v look x xs listable.valid ty h small);
   listing = Joined (printed look.trimmed 0 (x ∷ xs));
   added = line_listed (listable_of dims (trimmed_var var)) look.trimmed (x ∷ xs) (ap is_char listable.ty ∙ ty) (listable.rows ∙ h) listable.wide;
   full = row_back look.trimmed (length (x ∷ xs)) (fill_value (trimmed_var var)) (x ∷ xs) fill refl all;

@@ -1,14 +1,14 @@
 -- The statements of a head, and what they say.
-use Rattle.std.proofs.Common.{◌≡◌, ℕ, zero, suc, ◌^◌, ◌<◌, true, false, List, [], ◌∷◌, ◌++◌, map, sym, ◌∙◌, ap, refl, arith, append_assoc, append-nil, ℤ, pos, decimal, ◌==◌, not, if◌then◌else◌, None, Some, codes, rules}
-use Rattle.cdl_laws.proofs.Prelude.{signed_decimal, flat_map, list_all, option_map, list_all-append, concat_parts, Att, Dim, NcType, Version, escaped_name, escaped_in_string, joined, dim_len_text, dim_line, unlimited_word, currently_word, att_line, att_text, chars_text, broken_text, string_break, without_trailing_nuls, IsName, number_suffix, is_char, has_type, Section, Dimensions, Variables, is_digit, Lexeme, said_dim, IsBeforeData, globals, dimensions, variables, Value, Number, Characters, DeclareDimensions, Attribute, both, constants, assigned, shape, and_left, and_right, and_both, Each, escaped_text, type_word, DeclareVariables, Variable, in_parentheses, any_each, not_none}
+use Rattle.std.proofs.Common.{◌≡◌, ℕ, zero, suc, ◌^◌, ◌<◌, true, false, List, [], ◌∷◌, ◌++◌, map, sym, ◌∙◌, ap, refl, arith, append_assoc, append-nil, ℤ, pos, decimal, ◌==◌, not, if◌then◌else◌, None, Some, Ok, codes, rules, length, subst}
+use Rattle.cdl_laws.proofs.Prelude.{signed_decimal, flat_map, list_all, option_map, list_all-append, concat_parts, Att, Dim, NcType, Version, escaped_name, escaped_in_string, joined, dim_len_text, dim_line, unlimited_word, currently_word, att_line, att_text, broken_text, string_break, IsName, number_suffix, Section, Dimensions, Variables, is_digit, Lexeme, said_dim, IsBeforeData, globals, dimensions, variables, Value, Number, DeclareDimensions, Attribute, both, constants, assigned, shape, and_left, and_right, and_both, Each, escaped_text, type_word, DeclareVariables, Variable, in_parentheses, any_each, not_none, IsStatement, AttributeReadsBack, first_type, in_turn, add_constant, trimmed_att, Var, declaration, dim_name, shape_text, lexemes_at}
 use Rattle.cdl_laws.proofs.Texts.{Closed, Reads, mark, word, number, name_word, name_stands, marks_closed, number_reads, mark_read, stops, reading}
-use Rattle.cdl_laws.proofs.Numerals.{numeral_again, value_again, decimal_digits, on_suffix, number_is, value_is}
+use Rattle.cdl_laws.proofs.Numerals.{value_again, decimal_digits, on_suffix, number_is, value_is}
 use Rattle.cdl_laws.proofs.Strings.{string}
-use Rattle.cdl_laws.proofs.ValueTexts.{commas, constants_say, AreSmall}
-use Rattle.cdl_laws.proofs.Characters.{strings_said, later_string, strings_read}
-use Rattle.cdl_laws.proofs.Takes.{Says, statement_says, semicolon, is_fine, word_fine, all_fine}
+use Rattle.cdl_laws.proofs.ValueTexts.{commas, AreSmall}
+use Rattle.cdl_laws.proofs.Characters.{later_string, strings_read}
+use Rattle.cdl_laws.proofs.Takes.{statement_says, semicolon, is_fine, word_fine, all_fine}
 use Rattle.cdl_statements.specs.Shapes as shapes
-use Rattle.cdl_laws.proofs.Heads.{name_starts, bare_word, comment_closed, joined_reads, fine_commas, strings_fine, type_reads, type_starts, opens_none}
+use Rattle.cdl_laws.proofs.Heads.{name_starts, bare_word, comment_closed, joined_reads, fine_commas, type_reads, type_starts, opens_none}
 
 -- ---- dimensions
 
@@ -39,7 +39,7 @@ dim_listed : (v : Version) (dim : Dim) → IsName dim.name → dim.len < 2 ^ 64 
 dim_listed v dim name h =
     grind (arith, word (escaped_name dim.name), codes "UNLIMITED", decimal dim.len, pos dim.len, name_word dim.name name, value_again v (pos dim.len) h, number)
 
-pub dim_says : (v : Version) (n : ℕ) (dim : Dim) → IsName dim.name → dim.len < 2 ^ 64 → Says v Dimensions (dim_line n dim) (DeclareDimensions (said_dim dim ∷ []))
+pub dim_says : (v : Version) (n : ℕ) (dim : Dim) → IsName dim.name → dim.len < 2 ^ 64 → IsStatement v Dimensions (dim_line n dim) (DeclareDimensions (said_dim dim ∷ []))
 unfolding shape dim_line concat_parts
 dim_says v n dim name h =
     statement_says v Dimensions (dim_line n dim) (word (escaped_name dim.name)) (mark 61 ∷ extent_lexeme dim.len ∷ []) (DeclareDimensions (said_dim dim ∷ []))
@@ -52,19 +52,12 @@ dim_says v n dim name h =
 abbrev pub suffixed : NcType → ℤ → List ℕ
 suffixed ty n = signed_decimal n ++ number_suffix ty
 
-suffixed_read : (ty : NcType) (xs : List ℤ) → AreSmall xs → Each (λ x. Reads (suffixed ty x) (number (suffixed ty x) ∷ [])) xs
+pub suffixed_read : (ty : NcType) (xs : List ℤ) → AreSmall xs → Each (λ x. Reads (suffixed ty x) (number (suffixed ty x) ∷ [])) xs
 suffixed_read ty [] h = tt
 suffixed_read ty (x ∷ xs) h = (number_reads (suffixed ty x) (number_is x (number_suffix ty) h.0 (on_suffix ty)), suffixed_read ty xs h.1)
 
-abbrev pub number_lexemes : NcType → List ℤ → List Lexeme
-number_lexemes ty xs = map (λ x. number (suffixed ty x)) xs
-
 abbrev pub numbers_said : NcType → List ℤ → List Value
 numbers_said ty xs = map (λ x. Number (record { value = x; ty = ty })) xs
-
-numbers_are : (v : Version) (ty : NcType) (x : ℤ) (xs : List ℤ) → AreSmall (x ∷ xs) → has_type v ty ≡ true → is_char ty ≡ false →
-    constants v false (number (suffixed ty x) ∷ commas (number_lexemes ty xs) ++ semicolon ∷ []) ≡ Some (numbers_said ty (x ∷ xs))
-numbers_are v ty x xs fit h k = search (rules, constants_say, numeral_again)
 
 -- ---- strings that are broken after line feeds
 
@@ -91,46 +84,29 @@ broken_is [] = refl
 broken_is (b ∷ []) = sym (append-nil (escaped_in_string b ++ []) ∙ append-nil (escaped_in_string b))
 broken_is (b ∷ c ∷ bytes) = grind (arith, first, others, append_assoc, append-nil, broken_is (c ∷ bytes))
 
-broken_read : (bytes : List ℕ) → Closed (34 ∷ (broken_text bytes ++ 34 ∷ [])) (string (first bytes) ∷ commas (map string (others bytes)))
+pub broken_read : (bytes : List ℕ) → Closed (34 ∷ (broken_text bytes ++ 34 ∷ [])) (string (first bytes) ∷ commas (map string (others bytes)))
 broken_read bytes rest = simp (broken_is, append_assoc, strings_read (codes ",\n\t\t\t") (marks_closed (codes ",\n\t\t\t") refl) (first bytes) (others bytes))
 
 -- ---- attributes
 
--- a list of constants
-pub record IsListOf (v : Version) (bytes : List ℕ) (said : List Value) : Type 0 where
+-- the values of an attribute are read back from a list of constants
+pub record Speaks (v : Version) (att : Att) : Type 0 where
+  pub name : IsName att.name
   pub l : Lexeme
   pub ls : List Lexeme
-  pub reads : Reads bytes (l ∷ commas ls)
+  pub reads : Reads (att_text att.ty att.vals) (l ∷ commas ls)
   pub fine : list_all (is_fine v) (l ∷ ls) ≡ true
-  pub are : constants v false (l ∷ commas ls ++ semicolon ∷ []) ≡ Some said
+  pub said : List Value
+  pub says : constants v false (l ∷ commas ls ++ semicolon ∷ []) ≡ Some said
+  pub type : first_type said ≡ att.ty
+  pub are : in_turn (add_constant att.ty) [] said ≡ Ok (trimmed_att att).vals
 
-pub chars_list : (v : Version) (vals : List ℕ) → IsListOf v (chars_text vals) (map Characters (first (without_trailing_nuls vals) ∷ others (without_trailing_nuls vals)))
-unfolding chars_text concat_parts
-chars_list v vals =
-    let bytes = without_trailing_nuls vals in
-    record {
-      l = string (first bytes);
-      ls = map string (others bytes);
-      reads = λ rest h. broken_read bytes rest;
-      fine = strings_fine v (first bytes ∷ others bytes);
-      are = strings_said v false (first bytes) (others bytes);
-    }
+att_fine : (v : Version) (att : Att) (s : Speaks v att) → list_all (is_fine v) (mark 58 ∷ word (escaped_name att.name) ∷ mark 61 ∷ s.l ∷ commas s.ls) ≡ true
+att_fine v att s = grind (arith, and_both, word, word_fine, and_left, fine_commas, and_right)
 
-pub numbers_list : (v : Version) (ty : NcType) (x : ℤ) (xs : List ℤ) → AreSmall (x ∷ xs) → has_type v ty ≡ true → is_char ty ≡ false → IsListOf v (joined (map (suffixed ty) (x ∷ xs))) (numbers_said ty (x ∷ xs))
-numbers_list v ty x xs fit h k = record {
-  l = number (suffixed ty x);
-  ls = number_lexemes ty xs;
-  reads = joined_reads (suffixed ty) (λ y. number (suffixed ty y)) x xs (suffixed_read ty (x ∷ xs) fit);
-  fine = grind (arith, all_fine, numeral_again);
-  are = numbers_are v ty x xs fit h k;
-}
-
-att_fine : (v : Version) (att : Att) (said : List Value) (list : IsListOf v (att_text att.ty att.vals) said) → list_all (is_fine v) (mark 58 ∷ word (escaped_name att.name) ∷ mark 61 ∷ list.l ∷ commas list.ls) ≡ true
-att_fine v att said list = grind (arith, and_both, word, word_fine, and_left, fine_commas, and_right)
-
-assigned_is : {A : Type 0} (v : Version) (f : List ℕ → List Value → A) (att : Att) (said : List Value) (list : IsListOf v (att_text att.ty att.vals) said) → IsName att.name →
-    assigned v false f (word (escaped_name att.name) ∷ mark 61 ∷ list.l ∷ commas list.ls ++ semicolon ∷ []) ≡ Some (f att.name said)
-assigned_is v f att said list name = ap (λ o. both f o (constants v false (list.l ∷ commas list.ls ++ semicolon ∷ []))) (name_word att.name name).stands ∙ ap (both f (Some att.name)) list.are
+assigned_is : {A : Type 0} (v : Version) (f : List ℕ → List Value → A) (att : Att) (s : Speaks v att) →
+    assigned v false f (word (escaped_name att.name) ∷ mark 61 ∷ s.l ∷ commas s.ls ++ semicolon ∷ []) ≡ Some (f att.name s.said)
+assigned_is v f att s = rw ((name_word att.name s.name).stands) (ap (both f (Some att.name)) s.says)
 
 -- of the whole dataset, in a section before the data
 global_in : (v : Version) (section : Section) (ls : List Lexeme) → IsBeforeData section → shape v section (mark 58 ∷ ls) ≡ assigned v false (Attribute None) ls
@@ -139,35 +115,37 @@ global_in v section ls globals = refl
 global_in v section ls dimensions = refl
 global_in v section ls variables = refl
 
-pub global_says : (v : Version) (section : Section) (att : Att) (said : List Value) → IsBeforeData section → IsListOf v (att_text att.ty att.vals) said → IsName att.name → Says v section (att_line [] att) (Attribute None att.name said)
+pub global_says : (v : Version) (section : Section) → IsBeforeData section → (att : Att) → Speaks v att → AttributeReadsBack v section None att
 unfolding att_line concat_parts
-global_says v section att said before list name =
-    statement_says v section (att_line [] att) (mark 58) (word (escaped_name att.name) ∷ mark 61 ∷ list.l ∷ commas list.ls) (Attribute None att.name said)
-    (λ rest. simp (reading, list.reads)) refl (att_fine v att said list)
-    (global_in v section (word (escaped_name att.name) ∷ mark 61 ∷ list.l ∷ commas list.ls ++ semicolon ∷ []) before ∙ assigned_is v (Attribute None) att said list name)
+global_says v section before att s =
+    let ls = word (escaped_name att.name) ∷ mark 61 ∷ s.l ∷ commas s.ls in
+    let is = global_in v section (ls ++ semicolon ∷ []) before ∙ assigned_is v (Attribute None) att s in
+    record {
+      constants = s.said;
+      statement = statement_says v section (att_line [] att) (mark 58) ls (Attribute None att.name s.said) (λ rest. simp (reading, s.name, s.reads)) refl (att_fine v att s) is;
+      ty = s.type;
+      vals = s.are;
+    }
 
 -- of a variable
-pub owned_says : (v : Version) (owner : List ℕ) (att : Att) (said : List Value) → IsListOf v (att_text att.ty att.vals) said → IsName owner → IsName att.name → Says v Variables (att_line (escaped_name owner) att) (Attribute (Some owner) att.name said)
+pub owned_says : (v : Version) (owner : List ℕ) → IsName owner → (att : Att) → Speaks v att → AttributeReadsBack v Variables (Some owner) att
 unfolding att_line concat_parts shape
-owned_says v owner att said list own name =
-    statement_says v Variables (att_line (escaped_name owner) att) (word (escaped_name owner)) (mark 58 ∷ word (escaped_name att.name) ∷ mark 61 ∷ list.l ∷ commas list.ls) (Attribute (Some owner) att.name said)
-    (λ rest. simp (reading, list.reads)) (name_starts owner own)
-    (and_both _ _ (word_fine v (escaped_name owner)) (att_fine v att said list))
-    ((rw ((name_word owner own).stands) refl) ∙ assigned_is v (Attribute (Some owner)) att said list name)
+owned_says v owner own att s =
+    let l = word (escaped_name owner) in
+    let ls = mark 58 ∷ word (escaped_name att.name) ∷ mark 61 ∷ s.l ∷ commas s.ls in
+    let fine : list_all (is_fine v) (l ∷ ls) ≡ true = and_both _ _ (word_fine v (escaped_name owner)) (att_fine v att s) in
+    let is : shape v Variables (l ∷ ls ++ semicolon ∷ []) ≡ Some (Attribute (Some owner) att.name s.said) = rw ((name_word owner own).stands) (assigned_is v (Attribute (Some owner)) att s) in
+    record {
+      constants = s.said;
+      statement = statement_says v Variables (att_line (escaped_name owner) att) l ls (Attribute (Some owner) att.name s.said) (λ rest. simp (reading, s.name, s.reads)) (name_starts owner own) fine is;
+      ty = s.type;
+      vals = s.are;
+    }
 
 -- ---- the declaration of a variable
 
 abbrev pub AreNames : List (List ℕ) → Type 0
 AreNames names = Each IsName names
-
--- the text of a shape of dimensions with these names
-unfoldable pub shape_of : List (List ℕ) → List ℕ
-shape_of [] = []
-shape_of (n ∷ ns) = concat_parts (codes "(" ∷ joined (map escaped_name (n ∷ ns)) ∷ codes ")" ∷ [])
-
--- the line of a declaration
-unfoldable pub typed_line : List ℕ → List ℕ → List ℕ → List ℕ
-typed_line ty name shape = concat_parts (codes "\t" ∷ ty ∷ codes " " ∷ escaped_name name ∷ shape ∷ codes " ;\n" ∷ [])
 
 abbrev pub name_lexemes : List (List ℕ) → List Lexeme
 name_lexemes names = map (λ name. word (escaped_name name)) names
@@ -175,8 +153,6 @@ name_lexemes names = map (λ name. word (escaped_name name)) names
 names_read : (names : List (List ℕ)) → AreNames names → Each (λ name. Reads (escaped_name name) (word (escaped_name name) ∷ [])) names
 names_read [] h = tt
 names_read (name ∷ names) h = ((name_word name h.0).reads, names_read names h.1)
-
--- ---- the shape
 
 abbrev shape_lexemes : List (List ℕ) → List Lexeme
 shape_lexemes [] = []
@@ -193,22 +169,20 @@ names_fine v (n ∷ ns) =
 parens_read : (inner : List ℕ) (ls : List Lexeme) → Reads inner ls → Closed (40 ∷ (inner ++ 41 ∷ [])) (mark 40 ∷ (ls ++ mark 41 ∷ []))
 parens_read inner ls read rest = simp (append_assoc, mark_read, read)
 
-shape_closed : (names : List (List ℕ)) → AreNames names → Closed (shape_of names) (shape_lexemes names)
-unfolding shape_of concat_parts
-shape_closed [] all rest = refl
-shape_closed (n ∷ ns) all rest =
-    parens_read (joined (map escaped_name (n ∷ ns))) (word (escaped_name n) ∷ commas (name_lexemes ns))
-    (joined_reads escaped_name (λ m. word (escaped_name m)) n ns (names_read (n ∷ ns) all)) rest
+shape_closed : (dims : List Dim) (ids : List ℕ) (names : List (List ℕ)) → map (dim_name dims) ids ≡ map escaped_name names → AreNames names →
+    Closed (shape_text dims ids) (shape_lexemes names)
+unfolding shape_text concat_parts
+shape_closed dims [] [] same all rest = refl
+shape_closed dims (k ∷ ids) (n ∷ ns) same all rest =
+    rw (not_none (length ids)) (subst (λ ms. lexemes_at false 0 ((40 ∷ (joined ms ++ 41 ∷ [])) ++ rest) ≡ (shape_lexemes (n ∷ ns)) ++ lexemes_at false 0 rest) (sym same)
+    (parens_read (joined (map escaped_name (n ∷ ns))) (word (escaped_name n) ∷ commas (name_lexemes ns))
+    (joined_reads escaped_name (λ m. word (escaped_name m)) n ns (names_read (n ∷ ns) all)) rest))
+shape_closed dims _ _ same all rest = absurd (cc)
 
-shape_stops : (names : List (List ℕ)) (rest : List ℕ) → stops (shape_of names ++ 32 ∷ rest) ≡ true
-unfolding shape_of concat_parts
-shape_stops [] rest = refl
-shape_stops (n ∷ ns) rest = refl
-
-line_read : (ty : NcType) (name : List ℕ) (names : List (List ℕ)) → IsName name → AreNames names →
-    Closed (typed_line (type_word ty) name (shape_of names)) (word (type_word ty) ∷ word (escaped_name name) ∷ (shape_lexemes names ++ semicolon ∷ []))
-unfolding typed_line concat_parts
-line_read ty name names h all rest = simp (reading, type_reads ty, shape_closed names all, shape_stops)
+shape_stops : (dims : List Dim) (ids rest : List ℕ) → stops (shape_text dims ids ++ 32 ∷ rest) ≡ true
+unfolding shape_text concat_parts
+shape_stops dims [] rest = refl
+shape_stops dims (k ∷ ids) rest = rw (not_none (length ids))
 
 names_in : (f : List (List ℕ) → Variable) (n : List ℕ) (ns : List (List ℕ)) → AreNames (n ∷ ns) →
     in_parentheses f (word (escaped_name n) ∷ (commas (name_lexemes ns) ++ mark 41 ∷ []) ++ semicolon ∷ []) ≡ Some (f (n ∷ ns) ∷ [])
@@ -222,9 +196,11 @@ unfolding shape
 line_is v ty name [] h all = simp name_stands
 line_is v ty name (n ∷ ns) h all = simp (name_stands, names_in (λ ds. record { name = name; dimensions = ds }) n ns all)
 
-pub typed_says : (v : Version) (ty : NcType) (name : List ℕ) (names : List (List ℕ)) → IsName name → AreNames names →
-    Says v Variables (typed_line (type_word ty) name (shape_of names)) (DeclareVariables (word (type_word ty)) (record { name = name; dimensions = names } ∷ []))
-typed_says v ty name names h all =
-    statement_says v Variables (typed_line (type_word ty) name (shape_of names)) (word (type_word ty)) (word (escaped_name name) ∷ shape_lexemes names)
-    (DeclareVariables (word (type_word ty)) (record { name = name; dimensions = names } ∷ []))
-    (line_read ty name names h all) (type_starts ty) (simp (word_fine, names_fine)) (line_is v ty name names h all)
+pub declaration_says : (v : Version) (dims : List Dim) (var : Var) (names : List (List ℕ)) → map (dim_name dims) var.dimids ≡ map escaped_name names → IsName var.name → AreNames names →
+    IsStatement v Variables (declaration dims var) (DeclareVariables (word (type_word var.ty)) (record { name = var.name; dimensions = names } ∷ []))
+unfolding concat_parts
+declaration_says v dims var names same h all =
+    statement_says v Variables (declaration dims var) (word (type_word var.ty)) (word (escaped_name var.name) ∷ shape_lexemes names)
+    (DeclareVariables (word (type_word var.ty)) (record { name = var.name; dimensions = names } ∷ []))
+    (λ rest. simp (reading, type_reads var.ty, shape_closed dims var.dimids names same all, shape_stops))
+    (type_starts var.ty) (simp (word_fine, names_fine)) (line_is v var.ty var.name names h all)

@@ -2,7 +2,8 @@
 use Rattle.std.proofs.Common.{◌≡◌, ℕ, true, false, List, [], ◌∷◌, ◌++◌, length, map, ◌∙◌, ap, refl, append_assoc, append-nil, ◌||◌, ◌==◌, if◌then◌else◌, Option, None, Ok, codes, arith, rules}
 use Rattle.cdl_laws.proofs.Prelude.{DataText, variables_text, concat_parts, Dataset, Att, Header, Var, Version, Options, VariableValues, dump_text, shown_data_text, values_in_dataset, shown_data, selection_of, is_selected, data_word, closing_word, head_text, netcdf_word, dims_text, vars_text, gatts_text, Variables, Values, Ended, meaning, piece_read, empty, finished, are_within_limits, dataset_of, cut_lexemes, lexemes, pieces_of, IsFull, trimmed, trimmed_att, Listing, in_turn, not_none, Each}
 use Rattle.cdl_laws.proofs.Acts.{AreDistinctDims, HaveNames}
-use Rattle.cdl_laws.proofs.Wholes.{state, AreNewDims, Speaks, AreNewAtts, AreFit, draft_of}
+use Rattle.cdl_laws.proofs.Declarations.{Speaks}
+use Rattle.cdl_laws.proofs.Wholes.{state, AreNewDims, AreNewAtts, AreFit, draft_of}
 use Rattle.cdl_laws.proofs.DataTexts.{AreGiven, given_drafts, all_marked, data_taken, data_whole}
 use Rattle.cdl_laws.proofs.Ends.{opening_bytes, opened, dims_part, vars_part, gatts_part, data_mark, end_taken, after_dims, after_vars}
 use Rattle.cdl_laws.proofs.Lines.{pieces_are, run_is}

@@ -1,24 +1,25 @@
 -- The opening, the section marks and the closing brace of a dump.
 use Rattle.std.proofs.Common.{◌≡◌, ℕ, ◌+◌, true, false, List, [], ◌∷◌, ◌++◌, length, map, ◌∙◌, ap, refl, arith, append_assoc, length-append, ◌==◌, Some, Ok, codes, rules, if◌then◌else◌, suc}
-use Rattle.cdl_laws.proofs.Prelude.{false≢true, eqb-true, concat_parts, Att, Dim, Var, Version, escaped_name, is_reserved, name_of, is_plain, dim_line, dim_lines, dims_text, att_line, att_lines, var_lines, vars_text, gatts_text, dimensions_word, variables_word, global_word, IsName, Section, Globals, Dimensions, Variables, Values, Ended, scan, word_len, len_until, Lexeme, piece_read, empty, pieces_at, is_section, cut_lexemes, lexemes_at, lexemes, pieces_of, trimmed_att, Enter, shape, State, Draft, act, in_turn, IsBeforeData, globals, dimensions, variables, and_left, until_at_start, lt-ltb, not_none, Each}
+use Rattle.cdl_laws.proofs.Prelude.{false≢true, eqb-true, concat_parts, Att, Dim, Var, Version, escaped_name, is_reserved, name_of, is_plain, dim_line, dim_lines, dims_text, att_line, att_lines, var_lines, vars_text, gatts_text, dimensions_word, variables_word, global_word, IsName, Section, Globals, Dimensions, Variables, Values, Ended, scan, word_len, len_until, Lexeme, piece_read, empty, pieces_at, is_section, cut_lexemes, lexemes_at, lexemes, pieces_of, trimmed_att, Enter, shape, State, Draft, act, in_turn, IsBeforeData, globals, dimensions, variables, and_left, until_at_start, lt-ltb, not_none, IsStatement, Each}
 use Rattle.cdl_tokens.specs.declared.token.TokenKind.TheVariants as kinds
 use Rattle.cdl_laws.proofs.NameTexts.{rest_of, marked, bare, begins}
 use Rattle.cdl_laws.proofs.Texts.{mark, word, prefix_again, some_name, marks_closed}
 use Rattle.cdl_laws.proofs.ValueTexts.{turn}
 use Rattle.cdl_laws.proofs.Strings.{until_plain}
-use Rattle.cdl_laws.proofs.Takes.{Takes, Says, says_takes, takes_both, takes_nothing, is_open}
+use Rattle.cdl_laws.proofs.Takes.{Takes, says_takes, takes_both, takes_nothing, is_open}
 use Rattle.cdl_laws.proofs.Acts as acts
-use Rattle.cdl_laws.proofs.Wholes.{state, dims_taken, AreNewDims, Speaks, AreNewAtts, globals_taken, AreFit, vars_taken, draft_of}
+use Rattle.cdl_laws.proofs.Declarations.{Speaks}
+use Rattle.cdl_laws.proofs.Wholes.{state, dims_taken, AreNewDims, AreNewAtts, globals_taken, AreFit, vars_taken, draft_of}
 
 -- ---- section marks
 
-pub dimensions_says : (v : Version) → Says v Globals dimensions_word (Enter Dimensions)
-unfolding dimensions_word lexemes_at scan word_len pieces_at is_section shape
-dimensions_says v = record { piece = word (codes "dimensions") ∷ mark 58 ∷ []; reads = λ rest. refl; cut = λ rest. refl; sound = refl; shaped = refl }
+pub dimensions_says : (v : Version) → IsStatement v Globals dimensions_word (Enter Dimensions)
+unfolding dimensions_word pieces_of lexemes_at scan word_len pieces_at is_section shape
+dimensions_says v = record { piece = word (codes "dimensions") ∷ mark 58 ∷ []; cut = λ rest. refl; says = record { sound = refl; shaped = refl } }
 
-pub data_says : (v : Version) → Says v Variables (codes "data:\n") (Enter Values)
-unfolding name_of is_reserved lexemes_at scan word_len pieces_at is_section shape
-data_says v = record { piece = word (codes "data") ∷ mark 58 ∷ []; reads = λ rest. refl; cut = λ rest. refl; sound = refl; shaped = refl }
+pub data_says : (v : Version) → IsStatement v Variables (codes "data:\n") (Enter Values)
+unfolding name_of is_reserved pieces_of lexemes_at scan word_len pieces_at is_section shape
+data_says v = record { piece = word (codes "data") ∷ mark 58 ∷ []; cut = λ rest. refl; says = record { sound = refl; shaped = refl } }
 
 -- ---- the head's parts
 
@@ -50,10 +51,10 @@ dims_part v n (d ∷ dims) gatts drafts h =
 before_of : (dims : List Dim) → IsBeforeData (after_dims dims)
 before_of dims = grind (arith, globals, dimensions)
 
-pub variables_says : (v : Version) (dims : List Dim) → Says v (after_dims dims) variables_word (Enter Variables)
-unfolding variables_word lexemes_at scan word_len pieces_at is_section shape
+pub variables_says : (v : Version) (dims : List Dim) → IsStatement v (after_dims dims) variables_word (Enter Variables)
+unfolding variables_word pieces_of lexemes_at scan word_len pieces_at is_section shape
 variables_says v dims =
-    record { piece = word (codes "variables") ∷ mark 58 ∷ []; reads = λ rest. refl; cut = λ rest. refl; sound = refl; shaped = grind arith }
+    record { piece = word (codes "variables") ∷ mark 58 ∷ []; cut = λ rest. refl; says = record { sound = refl; shaped = grind arith } }
 
 pub vars_part : (v : Version) (dims : List Dim) (vars : List Var) (gatts : List Att) → acts.AreDistinctDims dims → acts.HaveNames dims → AreFit v dims [] vars →
     Takes v (vars_text dims vars) (state (after_dims dims) dims gatts []) (state (after_vars (after_dims dims) vars) dims gatts (map draft_of vars))

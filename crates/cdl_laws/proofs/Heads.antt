@@ -1,13 +1,13 @@
 -- The statements of a dump, and what they say.
 use Rattle.std.proofs.Common.{◌≡◌, ℕ, ◌^◌, ◌<◌, ◌≤◌, true, false, List, [], ◌∷◌, ◌++◌, length, map, ◌∙◌, ap, refl, arith, append_assoc, ℤ, unsigned_abs, ◌==◌, not, None, Some, codes, rules}
-use Rattle.cdl_laws.proofs.Prelude.{printed, list_all, prefix_len, NcType, Byte, Char, Short, Int, Ubyte, Ushort, Uint, Int64, Uint64, Version, escaped_name, is_plain, is_reserved, joined, IsName, type_word, Look, is_char, variable_text, Values, may_begin_word, scan, word_len, Lexeme, role, is_section, section_of, Value, Characters, Listed, both, constants, shape, and_left, and_right, and_both, word_at_start, Each}
+use Rattle.cdl_laws.proofs.Prelude.{printed, list_all, prefix_len, NcType, Byte, Char, Short, Int, Ubyte, Ushort, Uint, Int64, Uint64, Version, escaped_name, is_plain, is_reserved, joined, IsName, type_word, Look, is_char, variable_text, Values, may_begin_word, scan, word_len, Lexeme, role, is_section, section_of, Value, Characters, Listed, both, constants, shape, and_left, and_right, and_both, word_at_start, Each, IsStatement}
 use Rattle.cdl_laws.proofs.NameTexts.{no_escape}
 use Rattle.cdl_laws.proofs.Texts.{Closed, Reads, stops, mark, mark_read, word, number, name_word, word_reads, stop_word, prefix_again, marks_closed}
 use Rattle.cdl_laws.proofs.Numerals.{value_again}
 use Rattle.cdl_laws.proofs.Strings.{string}
 use Rattle.cdl_laws.proofs.ValueTexts.{commas, AreSmall, value_lexeme, value_said, numbers_closed, values_said}
 use Rattle.cdl_laws.proofs.Characters.{flat, table_closed, line_closed, strings_said}
-use Rattle.cdl_laws.proofs.Takes.{Says, statement_says, semicolon, is_fine, word_fine, is_starter, all_fine}
+use Rattle.cdl_laws.proofs.Takes.{statement_says, semicolon, is_fine, word_fine, is_starter, all_fine}
 
 -- ---- words
 
@@ -70,7 +70,7 @@ unfolding shape
 listed_is v name ls values h e = ap (λ o. both Listed o (constants v true ls)) (name_word name h).stands ∙ ap (both Listed (Some name)) e
 
 pub numbers_say : (v : Version) (look : Look) (x : ℤ) (xs : List ℤ) → IsName look.name → is_char look.ty ≡ false → (look.in_rows ≡ false → length (x ∷ xs) ≤ look.row) → AreSmall (x ∷ xs) →
-    Says v Values (variable_text look (x ∷ xs)) (Listed look.name (map (value_said look) (x ∷ xs)))
+    IsStatement v Values (variable_text look (x ∷ xs)) (Listed look.name (map (value_said look) (x ∷ xs)))
 numbers_say v look x xs name ty small fit =
     let ls = value_lexeme look x ∷ commas (map (value_lexeme look) xs) in
     statement_says v Values (variable_text look (x ∷ xs)) (word (escaped_name look.name)) (mark 61 ∷ ls) (Listed look.name (map (value_said look) (x ∷ xs)))
@@ -85,7 +85,7 @@ strings_fine v [] = refl
 strings_fine v (bytes ∷ all) = strings_fine v all
 
 pub table_says : (v : Version) (look : Look) (r : List ℤ) (rows : List (List ℤ)) → IsName look.name → is_char look.ty ≡ true → look.in_rows ≡ true → 0 < look.row → Each (λ (s : List ℤ). length s ≡ look.row) (r ∷ rows) →
-    Says v Values (variable_text look (flat (r ∷ rows))) (Listed look.name (map Characters (map (printed look.trimmed 0) (r ∷ rows))))
+    IsStatement v Values (variable_text look (flat (r ∷ rows))) (Listed look.name (map Characters (map (printed look.trimmed 0) (r ∷ rows))))
 table_says v look r rows name ty h wide all =
     let shows = map (printed look.trimmed 0) rows in
     let ls = string (printed look.trimmed 0 r) ∷ commas (map string shows) in
@@ -96,7 +96,7 @@ table_says v look r rows name ty h wide all =
     (listed_is v look.name (ls ++ semicolon ∷ []) (map Characters (printed look.trimmed 0 r ∷ shows)) name (strings_said v true (printed look.trimmed 0 r) shows))
 
 pub line_says : (v : Version) (look : Look) (x : ℤ) (xs : List ℤ) → IsName look.name → is_char look.ty ≡ true → look.in_rows ≡ false → length (x ∷ xs) ≤ look.row →
-    Says v Values (variable_text look (x ∷ xs)) (Listed look.name (Characters (printed look.trimmed 0 (x ∷ xs)) ∷ []))
+    IsStatement v Values (variable_text look (x ∷ xs)) (Listed look.name (Characters (printed look.trimmed 0 (x ∷ xs)) ∷ []))
 line_says v look x xs name ty h small =
     let r = printed look.trimmed 0 (x ∷ xs) in
     statement_says v Values (variable_text look (x ∷ xs)) (word (escaped_name look.name)) (mark 61 ∷ string r ∷ []) (Listed look.name (Characters r ∷ []))

@@ -1,19 +1,11 @@
 -- A dump is cut into the statements that it was put together from.
-use Rattle.std.proofs.Common.{◌≡◌, ℕ, List, [], ◌∷◌, ◌++◌, refl, arith, slice_index_or, None, Some, rules}
-use Rattle.cdl_laws.proofs.Prelude.{concat_parts, Att, Version, netcdf_word, IsName, Section, Globals, Dimensions, Variables, Values, scan, pieces_at, Statement, Close, shape, SaysStatement, IsStatement, PiecesAreStatements, MarksReadBack, opening_line, opening_piece, brace_piece, DimensionsReadBack, DeclarationsReadBack, IsBeforeData, dimensions, AttributeReadsBack, AttributesReadBack, GlobalAttributesReadBack, cut_lexemes, lexemes, lexemes_at, pieces_of, Each, all_of, each_map, each_of, type_of}
-use Rattle.cdl_laws.proofs.Acts.{ids_added, name_at}
-use Rattle.cdl_laws.proofs.Declarations.{dim_says, global_says, owned_says, typed_says}
+use Rattle.std.proofs.Common.{◌≡◌, ℕ, List, [], ◌∷◌, ◌++◌, refl, arith, slice_index_or, Some}
+use Rattle.cdl_laws.proofs.Prelude.{concat_parts, Dim, Version, netcdf_word, IsName, Section, Globals, Dimensions, Variables, Values, scan, pieces_at, Close, shape, SaysStatement, PiecesAreStatements, MarksReadBack, opening_line, opening_piece, brace_piece, DimensionsReadBack, DeclarationsReadBack, dimensions, AttributeReadsBack, AttributesReadBack, GlobalAttributesReadBack, cut_lexemes, lexemes, lexemes_at, pieces_of, Each, all_of, each_map, each_of}
+use Rattle.cdl_laws.proofs.Declarations.{dim_says, Speaks, global_says, owned_says}
 use Rattle.cdl_laws.proofs.Ends.{dimensions_says, variables_says, data_says, opening_lexemes, opening_piece as opening_cut, comment_back}
 use Rattle.cdl_laws.proofs.Lines.{pieces_are}
 use Rattle.cdl_laws.proofs.Sayables.{atts_speak}
-use Rattle.cdl_laws.proofs.Takes.{Says}
-use Rattle.cdl_laws.proofs.Texts.{word}
-use Rattle.cdl_laws.proofs.Wholes.{Speaks, valid_names, declaration_is, lines_are}
-
--- what says a statement is one
-pub is_statement : (v : Version) (section : Section) (bytes : List ℕ) (statement : Statement) → Says v section bytes statement → IsStatement v section bytes statement
-unfolding pieces_of
-is_statement v section bytes statement says = grind arith
+use Rattle.cdl_laws.proofs.Wholes.{declared}
 
 pub pieces_are_statements : PiecesAreStatements
 pieces_are_statements text = pieces_are text
@@ -35,10 +27,10 @@ unfolding pieces_of lexemes_at scan pieces_at shape
 marks_read_back v = record {
   opening = opening_back;
   opens = λ name. record { sound = refl; shaped = refl };
-  dimensions = is_statement v Globals _ _ (dimensions_says v);
-  variables = is_statement v Dimensions _ _ (variables_says v (record { name = []; len = 0 } ∷ []));
-  variables_alone = is_statement v Globals _ _ (variables_says v []);
-  values = is_statement v Variables _ _ (data_says v);
+  dimensions = dimensions_says v;
+  variables = variables_says v (record { name = []; len = 0 } ∷ []);
+  variables_alone = variables_says v [];
+  values = data_says v;
   comment = comment_back;
   closing = refl;
   closes = all_of (λ (section : Section). SaysStatement v section brace_piece Close) (Globals ∷ Dimensions ∷ Variables ∷ Values ∷ []) (closes v);
@@ -48,22 +40,18 @@ marks_read_back v = record {
 -- ---- dimensions
 
 pub dimensions_read_back : DimensionsReadBack
-dimensions_read_back d records s k dim h = grind (arith, is_statement, dim_says)
+dimensions_read_back d records s k dim h = grind (arith, dim_says)
 
 -- ---- declarations
 
 pub declarations_read_back : DeclarationsReadBack
-unfolding type_of
 declarations_read_back d s k var h =
-    grind (arith, each_of, shape, name_at, word, dimensions, lines_are, declaration_is, is_statement, typed_says, valid_names, ids_added)
+    let g = s.good in
+    let sound = g.is_sound.vars k var h in
+    let names = each_of (λ (dim : Dim). IsName dim.name) d.header.dims g.names.dims in
+    declared d.header.version d.header.dims (slice_index_or d.header.vars k var) (g.names.vars k var h).0 sound.shape names s.dims sound.ty
 
 -- ---- attributes
-
-own_back : (v : Version) (owner : List ℕ) → IsName owner → (att : Att) → Speaks v att → AttributeReadsBack v Variables (Some owner) att
-own_back v owner own att speaks = search (rules, is_statement, owned_says)
-
-global_back : (v : Version) (section : Section) → IsBeforeData section → (att : Att) → Speaks v att → AttributeReadsBack v section None att
-global_back v section before att speaks = search (rules, is_statement, global_says)
 
 pub attributes_read_back : AttributesReadBack
 attributes_read_back d s k var h =
@@ -72,11 +60,11 @@ attributes_read_back d s k var h =
     let x = slice_index_or d.header.vars k var in
     let name = (g.names.vars k var h).0 in
     let speak = atts_speak v x.atts (g.is_sound.vars k var h).atts (g.values.vars k var h) (s.vars k var h).atts.some (g.names.vars k var h).1 in
-    all_of (AttributeReadsBack v Variables (Some x.name)) x.atts (each_map (Speaks v) (AttributeReadsBack v Variables (Some x.name)) x.atts (own_back v x.name name) speak)
+    all_of (AttributeReadsBack v Variables (Some x.name)) x.atts (each_map (Speaks v) (AttributeReadsBack v Variables (Some x.name)) x.atts (owned_says v x.name name) speak)
 
 pub global_attributes_read_back : GlobalAttributesReadBack
 global_attributes_read_back d section s before =
     let g = s.good in
     let v = d.header.version in
     let atts = d.header.gatts in
-    grind (arith, global_back v section before, atts_speak v atts g.is_sound.gatts g.values.gatts s.gatts.some g.names.gatts, all_of, each_map)
+    grind (arith, global_says v section before, atts_speak v atts g.is_sound.gatts g.values.gatts s.gatts.some g.names.gatts, all_of, each_map)

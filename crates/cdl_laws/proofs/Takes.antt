@@ -1,6 +1,6 @@
 -- What a text makes of a state, statement by statement.
 use Rattle.std.proofs.Common.{◌≡◌, ℕ, Bool, true, false, List, [], ◌∷◌, ◌++◌, ◌∙◌, ap, refl, append_assoc, ◌&&◌, if◌then◌else◌, None, Some, is_none, Ok, arith, rules, map}
-use Rattle.cdl_laws.proofs.Prelude.{list_all, Version, Section, Globals, Dimensions, Variables, Values, Role, Lexeme, first_role, role, piece_read, pieces_after, going_on, unless_end, with_first, is_section, pieces_by_steps, cut_lexemes, pieces_of, Statement, first_bad, token_fault, shape, State, act, in_turn, and_left, and_right, and_both, Each}
+use Rattle.cdl_laws.proofs.Prelude.{list_all, Version, Section, Globals, Dimensions, Variables, Values, Role, Lexeme, first_role, role, piece_read, pieces_after, going_on, unless_end, with_first, is_section, pieces_by_steps, cut_lexemes, pieces_of, Statement, first_bad, token_fault, shape, State, act, in_turn, and_left, and_right, and_both, Each, IsStatement, lexemes_at}
 use Rattle.cdl_statements.specs.declared.piece.Role.TheVariants as roles
 use Rattle.cdl_statements.specs.declared.piece.CutState.TheVariants.{Begins, Inside}
 use Rattle.cdl_laws.proofs.Texts as texts
@@ -50,17 +50,9 @@ takes_nothing v s rest = refl
 pub takes_both : (v : Version) (a b : List ℕ) (s t u : State) → Takes v a s t → Takes v b t u → Takes v (a ++ b) s u
 takes_both v a b s t u p q rest = ap (λ bs. in_turn (piece_read v) s (pieces_of bs)) (append_assoc a b rest) ∙ p (b ++ rest) ∙ q rest
 
--- a statement's bytes
-pub record Says (v : Version) (section : Section) (bytes : List ℕ) (statement : Statement) : Type 0 where
-  pub piece : List Lexeme
-  pub reads : texts.Closed bytes piece
-  pub cut : (rest : List Lexeme) → cut_lexemes (piece ++ rest) ≡ piece ∷ cut_lexemes rest
-  pub sound : first_bad v piece ≡ None
-  pub shaped : shape v section piece ≡ Some statement
-
-pub says_takes : (v : Version) (bytes : List ℕ) (statement : Statement) (s t : State) → Says v s.section bytes statement → act v s statement ≡ Ok t → Takes v bytes s t
-unfolding pieces_of piece_read
-says_takes v bytes statement s t says a rest = grind (arith, turn)
+pub says_takes : (v : Version) (bytes : List ℕ) (statement : Statement) (s t : State) → IsStatement v s.section bytes statement → act v s statement ≡ Ok t → Takes v bytes s t
+unfolding piece_read
+says_takes v bytes statement s t is a rest = grind (arith, turn)
 
 -- ---- lexemes that are no fault and end no statement
 
@@ -95,6 +87,9 @@ is_open _ = false
 
 -- a statement to its semicolon
 pub statement_says : (v : Version) (section : Section) (bytes : List ℕ) (a : Lexeme) (p : List Lexeme) (statement : Statement) → texts.Closed bytes (a ∷ p ++ semicolon ∷ []) → is_starter (role a) ≡ true →
-    list_all (is_fine v) (a ∷ p) ≡ true → shape v section (a ∷ p ++ semicolon ∷ []) ≡ Some statement → Says v section bytes statement
+    list_all (is_fine v) (a ∷ p) ≡ true → shape v section (a ∷ p ++ semicolon ∷ []) ≡ Some statement → IsStatement v section bytes statement
+unfolding pieces_of
 statement_says v section bytes a p statement reads start fine is =
-    search (rules, semicolon, and_right, is_plain, fine_plain, fine_sound, pieces_by_steps, one_by_steps)
+    let piece = a ∷ p ++ semicolon ∷ [] in
+    let cut : (rest : List Lexeme) → cut_lexemes (piece ++ rest) ≡ piece ∷ cut_lexemes rest = search (rules, and_right, fine_plain, pieces_by_steps, one_by_steps) in
+    record { piece = piece; cut = λ rest. ap cut_lexemes (reads rest) ∙ cut (lexemes_at false 0 rest); says = record { sound = fine_sound v (a ∷ p) fine; shaped = is } }

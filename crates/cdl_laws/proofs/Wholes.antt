@@ -1,11 +1,11 @@
 -- The head of a dump, statement after statement.
-use Rattle.std.proofs.Common.{◌≡◌, ℕ, zero, suc, ◌^◌, ◌<◌, true, false, List, [], ◌∷◌, ◌++◌, length, map, sym, ◌∙◌, ap, refl, subst, arith, append_assoc, append-nil, None, Some, Ok, codes}
-use Rattle.cdl_laws.proofs.Prelude.{list_any, bytes_eq, concat_parts, Att, Dim, Var, NcType, Version, escaped_name, AreDimids, joined, dim_line, att_line, att_lines, att_text, var_lines, shape_text, dim_name, IsName, type_word, count_limit, has_type, Section, Dimensions, Variables, trimmed_att, trimmed_var, Value, DeclareDimensions, DeclareVariables, Attribute, State, Draft, act, add_dim, add_att, add_constant, first_type, in_turn, said_dim, IsBeforeData, not_none, Each, ◌>>=◌, declaration, EachAfter, each_after, type_of}
+use Rattle.std.proofs.Common.{◌≡◌, ℕ, zero, suc, ◌^◌, ◌<◌, true, false, List, [], ◌∷◌, ◌++◌, length, map, sym, ◌∙◌, ap, refl, subst, arith, append_assoc, append-nil, None, Some, Ok, Option}
+use Rattle.cdl_laws.proofs.Prelude.{list_any, bytes_eq, concat_parts, Att, Dim, Var, NcType, Version, escaped_name, AreDimids, dim_line, att_line, att_lines, var_lines, dim_name, IsName, type_word, count_limit, has_type, Section, Dimensions, Variables, trimmed_att, trimmed_var, DeclareDimensions, DeclareVariables, Attribute, State, Draft, act, add_dim, add_att, said_dim, IsBeforeData, Each, ◌>>=◌, declaration, EachAfter, each_after, type_of, AttributeReadsBack, DeclarationReadsBack}
 use Rattle.cdl_laws.proofs.Texts.{word}
 use Rattle.cdl_laws.proofs.ValueTexts.{turn}
 use Rattle.cdl_laws.proofs.Takes.{Takes, says_takes, takes_both}
-use Rattle.cdl_laws.proofs.Declarations.{dim_says, IsListOf, global_says, owned_says, AreNames, shape_of, typed_line, typed_says}
-use Rattle.cdl_laws.proofs.Acts.{record_once, dim_added, is_new_att, att_added, no_draft, variable_is, name_at, AreDistinctDims, HaveNames, name_valid, bare_draft, var_added}
+use Rattle.cdl_laws.proofs.Declarations.{dim_says, Speaks, global_says, owned_says, AreNames, declaration_says}
+use Rattle.cdl_laws.proofs.Acts.{record_once, dim_added, is_new_att, att_added, no_draft, variable_is, name_at, AreDistinctDims, HaveNames, name_valid, bare_draft, ids_added, var_added}
 use Rattle.std.proofs.lemmas.List.{map-id}
 
 abbrev pub state : Section → List Dim → List Att → List Draft → State
@@ -45,19 +45,12 @@ dims_taken v n ds gatts drafts h =
 
 -- ---- attributes
 
--- the values of an attribute are read back
-pub record Speaks (v : Version) (att : Att) : Type 0 where
-  pub name : IsName att.name
-  pub said : List Value
-  pub list : IsListOf v (att_text att.ty att.vals) said
-  pub type : first_type said ≡ att.ty
-  pub are : in_turn (add_constant att.ty) [] said ≡ Ok (trimmed_att att).vals
-
 abbrev pub AreNewAtts : List Att → List Att → Type 0
 AreNewAtts done more = EachAfter trimmed_att (λ before a. is_new_att before (trimmed_att a)) done more
 
-att_is : (v : Version) (done : List Att) (a : Att) (s : Speaks v a) → is_new_att done (trimmed_att a) → add_att a.name s.said done ≡ Ok (done ++ trimmed_att a ∷ [])
-att_is v done a s new = att_added done (trimmed_att a) s.said s.name new s.type s.are
+att_is : (v : Version) (section : Section) (owner : Option (List ℕ)) (done : List Att) (a : Att) → IsName a.name → (r : AttributeReadsBack v section owner a) → is_new_att done (trimmed_att a) →
+    add_att a.name r.constants done ≡ Ok (done ++ trimmed_att a ∷ [])
+att_is v section owner done a name r new = att_added done (trimmed_att a) r.constants name new r.ty r.vals
 
 pub globals_taken : (v : Version) (section : Section) (dims : List Dim) (atts : List Att) (drafts : List Draft) → IsBeforeData section →
     Each (Speaks v) atts → AreNewAtts [] atts →
@@ -66,9 +59,9 @@ unfolding act
 globals_taken v section dims atts drafts before speak new =
     let now : List Att → State = λ done. state section dims done drafts in
     all_taken v (att_line []) trimmed_att (λ done a. Speaks v a × is_new_att done (trimmed_att a)) now
-    (λ done a h. says_takes v (att_line [] a) (Attribute None a.name h.0.said) (now done) (now (done ++ trimmed_att a ∷ []))
-    (global_says v section a h.0.said before h.0.list h.0.name)
-    (ap (λ r. r >>= (λ atts. Ok (state section dims atts drafts))) (att_is v done a h.0 h.1)))
+    (λ done a h. let r = global_says v section before a h.0 in
+    says_takes v (att_line [] a) (Attribute None a.name r.constants) (now done) (now (done ++ trimmed_att a ∷ [])) r.statement
+    (ap (λ r. r >>= (λ atts. Ok (now atts))) (att_is v section None done a h.0.name r h.1)))
     [] atts (each_after trimmed_att (Speaks v) (λ done a. is_new_att done (trimmed_att a)) [] atts speak new)
 
 pub owned_taken : (v : Version) (dims : List Dim) (gatts : List Att) (before : List Draft) (name ids : List ℕ)
@@ -81,9 +74,9 @@ owned_taken v dims gatts before name ids atts ty valid new speak fresh =
     let line = att_line (escaped_name name) in
     let now : List Att → State = λ done. state Variables dims gatts (before ++ bare_draft name ids done ty ∷ []) in
     all_taken v line trimmed_att (λ done a. Speaks v a × is_new_att done (trimmed_att a)) now
-    (λ done a h. says_takes v (line a) (Attribute (Some name) a.name h.0.said) (now done) (now (done ++ trimmed_att a ∷ []))
-    (owned_says v name a h.0.said h.0.list valid h.0.name)
-    (grind (arith, variable_is, att_is v done a h.0 h.1)))
+    (λ done a h. let r = owned_says v name valid a h.0 in
+    says_takes v (line a) (Attribute (Some name) a.name r.constants) (now done) (now (done ++ trimmed_att a ∷ [])) r.statement
+    (grind (arith, variable_is, att_is v Variables (Some name) done a h.0.name r h.1)))
     [] atts (each_after trimmed_att (Speaks v) (λ done a. is_new_att done (trimmed_att a)) [] atts speak fresh)
 
 -- ---- variables
@@ -114,44 +107,32 @@ known_names : (dims : List Dim) (before ids : List ℕ) → AreDimids dims befor
 known_names dims before [] are = refl
 known_names dims before (k ∷ ids) are = ap (λ n. n ∷ map (dim_name dims) ids) (known_name dims k are.0.known) ∙ ap (λ ns. escaped_name (name_at dims k) ∷ ns) (known_names dims (before ++ k ∷ []) ids are.1)
 
-shape_is : (dims : List Dim) (ids : List ℕ) → AreDimids dims [] ids → shape_text dims ids ≡ shape_of (map (name_at dims) ids)
-unfolding shape_text shape_of
-shape_is dims [] are = refl
-shape_is dims (k ∷ ids) are = rw (not_none (length ids)) (ap (λ ns. concat_parts (codes "(" ∷ joined ns ∷ codes ")" ∷ [])) (known_names dims [] (k ∷ ids) are))
-
 pub valid_names : (dims : List Dim) (before ids : List ℕ) → HaveNames dims → AreDimids dims before ids → AreNames (map (name_at dims) ids)
 valid_names dims before [] names are = tt
 valid_names dims before (k ∷ ids) names are = (name_valid dims k names are.0.known, valid_names dims (before ++ k ∷ []) ids names are.1)
 
-pub declaration_is : (dims : List Dim) (var : Var) → AreDimids dims [] var.dimids →
-    declaration dims var ≡ typed_line (type_word var.ty) var.name (shape_of (map (name_at dims) var.dimids))
-unfolding typed_line
-declaration_is dims var are = ap (λ shape. concat_parts (codes "\t" ∷ type_word var.ty ∷ codes " " ∷ escaped_name var.name ∷ shape ∷ codes " ;\n" ∷ [])) (shape_is dims var.dimids are)
-
-pub lines_are : (dims : List Dim) (var : Var) → var_lines dims var ≡ declaration dims var ++ att_lines (escaped_name var.name) var.atts
-unfolding var_lines concat_parts
-lines_are dims var = simp (append_assoc, append-nil)
-
-var_text : (dims : List Dim) (var : Var) → AreDimids dims [] var.dimids →
-    var_lines dims var ≡ typed_line (type_word var.ty) var.name (shape_of (map (name_at dims) var.dimids)) ++ concat_parts
-    (map (att_line (escaped_name var.name)) var.atts)
-unfolding att_lines
-var_text dims var are = lines_are dims var ∙ ap (λ line. line ++ att_lines (escaped_name var.name) var.atts) (declaration_is dims var are)
+pub declared : (v : Version) (dims : List Dim) (var : Var) → IsName var.name → AreDimids dims [] var.dimids → HaveNames dims → AreDistinctDims dims → has_type v var.ty ≡ true → DeclarationReadsBack v dims var
+unfolding type_of var_lines concat_parts
+declared v dims var name are names distinct known = record {
+  lines = simp (append_assoc, append-nil);
+  names = map (name_at dims) var.dimids;
+  statement = declaration_says v dims var (map (name_at dims) var.dimids) (known_names dims [] var.dimids are) name (valid_names dims [] var.dimids names are);
+  ty = grind arith;
+  dimids = ids_added dims [] var.dimids distinct names are;
+}
 
 var_taken : (v : Version) (dims : List Dim) (gatts : List Att) (before : List Draft) (var : Var) → IsFit v dims before var → AreDistinctDims dims → HaveNames dims →
     Takes v (var_lines dims var) (state Variables dims gatts before) (state Variables dims gatts (before ++ draft_of var ∷ []))
-unfolding act type_of
+unfolding act att_lines
 var_taken v dims gatts before var fit distinct names =
-    let line = typed_line (type_word var.ty) var.name (shape_of (map (name_at dims) var.dimids)) in
     let shown = map (att_line (escaped_name var.name)) var.atts in
     let s = state Variables dims gatts before in
     let t = state Variables dims gatts (before ++ bare_draft var.name var.dimids [] var.ty ∷ []) in
-    subst (λ bs. Takes v bs s (state Variables dims gatts (before ++ draft_of var ∷ []))) (sym (var_text dims var fit.shape))
-    (takes_both v line (concat_parts shown) s t (state Variables dims gatts (before ++ draft_of var ∷ []))
-    (says_takes v line (DeclareVariables (word (type_word var.ty))
-    (record { name = var.name; dimensions = map (name_at dims) var.dimids } ∷ [])) s t
-    (typed_says v var.ty var.name (map (name_at dims) var.dimids) fit.name (valid_names dims [] var.dimids names fit.shape))
-    (grind (arith, name_at, turn, var_added)))
+    let u = state Variables dims gatts (before ++ draft_of var ∷ []) in
+    let r = declared v dims var fit.name fit.shape names distinct fit.ty in
+    rw (r.lines) (takes_both v (declaration dims var) (concat_parts shown) s t u
+    (says_takes v (declaration dims var) (DeclareVariables (word (type_word var.ty)) (record { name = var.name; dimensions = r.names } ∷ [])) s t r.statement
+    (grind (arith, turn, r.ty, var_added dims var.ty before var.name r.names var.dimids fit.name fit.new r.dimids)))
     (subst (λ b. Takes v (concat_parts shown) t (state Variables dims gatts (before ++ record { var = record { name = var.name; dimids = var.dimids; atts = map trimmed_att var.atts; ty = var.ty; begin_at = b }; listed = None } ∷ []))) (sym fit.bare)
     (owned_taken v dims gatts before var.name var.dimids var.atts var.ty fit.name fit.new fit.atts fit.fresh)))
 
