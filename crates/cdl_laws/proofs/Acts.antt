@@ -1,6 +1,6 @@
 -- What the statements of a dump make of a state.
-use Rattle.std.proofs.Common.{◌≡◌, ℕ, zero, suc, ◌<◌, ◌≤◌, true, false, List, [], ◌∷◌, ◌++◌, length, map, sym, ap, refl, arith, append_assoc, append-nil, ℤ, pos, ◌==◌, nat_lt, nat_le, None, Some, Result, Ok, rules}
-use Rattle.cdl_laws.proofs.Prelude.{flat_map, list_any, position, position_or_len, int_eq, bytes_eq, false≢true, eqb-true, bytes_eq-Decides, Att, Dim, NcType, Char, Version, has_name, has_record_dim, IsDimid, AreDimids, IsName, count_limit, CdlKind, Value, Characters, Draft, add_dim, add_dimid, add_var, add_att, add_constant, first_type, change_named, change_variable, in_turn, ok_or, int_within, has_number, said_dim, AreDistinct, bytes_of_number, and_both, Each, or_right}
+use Rattle.std.proofs.Common.{◌≡◌, ℕ, zero, suc, ◌<◌, ◌≤◌, true, false, List, [], ◌∷◌, ◌++◌, length, map, sym, ap, arith, append_assoc, append-nil, ℤ, pos, ◌==◌, nat_le, None, Result, Ok, rules}
+use Rattle.cdl_laws.proofs.Prelude.{flat_map, list_any, position_or_len, int_eq, bytes_eq, false≢true, eqb-true, bytes_eq-Decides, Att, Dim, NcType, Char, Version, has_name, has_record_dim, IsDimid, AreDimids, IsName, count_limit, CdlKind, Value, Characters, Draft, add_dim, add_dimid, add_var, add_att, add_constant, first_type, change_named, change_variable, in_turn, ok_or, int_within, has_number, said_dim, AreDistinct, bytes_of_number, and_both, Each, or_right}
 use Rattle.cdl_laws.proofs.ValueTexts.{turn}
 use Rattle.cdl_laws.proofs.Declarations.{numbers_said}
 
@@ -78,9 +78,6 @@ place_is : (dims : List Dim) (k : ℕ) → AreDistinctDims dims → k < length d
 place_is (d ∷ dims) (suc k) distinct h = search (rules, other_name, place_is dims k distinct.1)
 place_is _ _ distinct h = grind (arith, bytes_eq-Decides)
 
-position_is : (dims : List Dim) (k : ℕ) → AreDistinctDims dims → k < length dims → position (λ (d : Dim). bytes_eq d.name (name_at dims k)) dims ≡ Some k
-position_is dims k distinct h = rw (place_is dims k distinct h) (let e : nat_lt k (length dims) ≡ true = grind (arith, h) in rw (e) refl)
-
 -- the names of the dimensions are valid
 abbrev pub HaveNames : List Dim → Type 0
 HaveNames dims = Each (λ (d : Dim). IsName d.name) dims
@@ -92,7 +89,7 @@ name_valid _ _ names h = grind arith
 id_added : (dims : List Dim) (before : List ℕ) (k : ℕ) → AreDistinctDims dims → HaveNames dims → IsDimid dims before k → add_dimid dims before (name_at dims k) ≡ Ok (before ++ k ∷ [])
 unfolding add_dimid
 id_added dims before k distinct names is =
-    grind (arith, name_at dims k, name_valid dims k names is.known, position_is dims k distinct is.known, ok_or)
+    grind (arith, name_at dims k, name_valid dims k names is.known, place_is dims k distinct is.known, is.known, ok_or)
 
 pub ids_added : (dims : List Dim) (before ids : List ℕ) → AreDistinctDims dims → HaveNames dims → AreDimids dims before ids → in_turn (add_dimid dims) before (map (name_at dims) ids) ≡ Ok (before ++ ids)
 ids_added dims before [] distinct names are = ap (λ bs. Ok bs) (sym (append-nil before))

@@ -1,6 +1,6 @@
 -- The data section of a dump, variable after variable.
-use Rattle.std.proofs.Common.{◌≡◌, ℕ, ◌+◌, ◌<◌, ◌≤◌, Bool, true, false, List, [], ◌∷◌, ◌++◌, length, map, sym, ◌∙◌, ap, refl, subst, append_assoc, ℤ, pos, if◌then◌else◌, Option, None, Some, Ok, arith, rules}
-use Rattle.cdl_laws.proofs.Prelude.{DataText, variables_text, printed, Att, Dim, Header, Var, Version, VariableValues, whole, shown_data, with_variable, has_values, fill_value, IsName, is_record_var, Look, look_of, is_char, variable_text, Values, trimmed_var, Value, Characters, Listed, State, Draft, Listing, Numbers, Joined, Rows, Listable, listable_of, act, listing_of, values_in, filled, has_number, Each, each_map, IsStatement}
+use Rattle.std.proofs.Common.{◌≡◌, ℕ, ◌+◌, ◌<◌, ◌≤◌, Bool, true, false, List, [], ◌∷◌, ◌++◌, length, map, sym, ◌∙◌, ap, refl, subst, ℤ, pos, if◌then◌else◌, Option, None, Some, Ok, arith, rules}
+use Rattle.cdl_laws.proofs.Prelude.{DataText, printed, Att, Dim, Header, Var, Version, VariableValues, with_variable, fill_value, IsName, is_record_var, Look, is_char, variable_text, Values, trimmed_var, Value, Characters, Listed, State, Draft, Listing, Numbers, Joined, Rows, Listable, listable_of, act, listing_of, values_in, filled, has_number, Each, each_map, IsStatement}
 use Rattle.cdl_laws.proofs.ValueTexts.{AreSmall, value_said, numbers_listed}
 use Rattle.cdl_laws.proofs.Characters.{flat, IsCharacter, row_back, rows_listed, rows_full, line_listed, back_whole, filled_whole}
 use Rattle.cdl_laws.proofs.Takes.{Takes, says_takes, takes_both}
@@ -73,33 +73,16 @@ gives_line v dims look var x xs listable ty h small fill record_whole all = reco
 abbrev pub given_draft : Var → Option Listing → Draft
 given_draft var o = record { var = trimmed_var var; listed = o }
 
-abbrev pub given_drafts : List Var → List (Option Listing) → List Draft
-given_drafts [] os = []
-given_drafts (var ∷ vars) [] = []
-given_drafts (var ∷ vars) (o ∷ os) = given_draft var o ∷ given_drafts vars os
-
 -- a variable that has values has them listed
 abbrev pub IsGivenBy : Bool → Version → List Dim → Look → Var → List ℤ → Option Listing → Type 0
 IsGivenBy true v dims look var values o = (g : Gives v dims look var values) × (o ≡ Some g.listing)
 IsGivenBy false v dims look var values o = o ≡ None
 
-pub record IsGiven (v : Version) (h : Header) (content : ℕ → Var → VariableValues) (n width place : ℕ) (before : List Draft) (var : Var) (o : Option Listing) : Type 0 where
-  pub name : IsName var.name
-  pub new : no_draft var.name before
-  pub all : (content place var).missing ≡ None
-  pub given : IsGivenBy (has_values h.dims n var) v h.dims (look_of h var n width) var (content place var).values o
-
-abbrev pub AreGiven : Version → Header → (ℕ → Var → VariableValues) → ℕ → ℕ → ℕ → List Draft → List Var → List (Option Listing) → Type 0
-AreGiven v h content n width place before [] [] = Unit {0}
-AreGiven v h content n width place before [] (o ∷ os) = ⊥
-AreGiven v h content n width place before (var ∷ vars) [] = ⊥
-AreGiven v h content n width place before (var ∷ vars) (o ∷ os) = IsGiven v h content n width place before var o × AreGiven v h content n width (place + 1) (before ++ given_draft var o ∷ []) vars os
-
 abbrev pub all_marked : List Var → List Bool
 all_marked vars = map (λ (w : Var). true) vars
 
 -- one variable before others
-one_taken : (v : Version) (h : Header) (gatts : List Att) (before after : List Draft) (look : Look) (var : Var) (c : VariableValues) (o : Option Listing) (place : ℕ) (others : DataText) (t : State) (b : Bool) →
+pub one_taken : (v : Version) (h : Header) (gatts : List Att) (before after : List Draft) (look : Look) (var : Var) (c : VariableValues) (o : Option Listing) (place : ℕ) (others : DataText) (t : State) (b : Bool) →
     IsName var.name → no_draft var.name before → c.missing ≡ None → IsGivenBy b v h.dims look var c.values o →
     Takes v others.text (state Values h.dims gatts (before ++ given_draft var o ∷ after)) t →
     Takes v (if b then with_variable look c.values c.missing place others else others).text (state Values h.dims gatts (before ++ draft_of var ∷ after)) t
@@ -110,16 +93,3 @@ one_taken v h gatts before after look var c o place others t true valid new all 
     ((grind (arith, variable_is)) ∙ ap (λ p. Ok (state Values h.dims gatts (before ++ given_draft var p ∷ after))) (sym given.1)))
     more)
 one_taken v h gatts before after look var c o place others t false valid new all given more = search rules
-
-pub data_taken : (v : Version) (h : Header) (content : ℕ → Var → VariableValues) (n width place : ℕ) (gatts : List Att) (before : List Draft) (vars : List Var) (os : List (Option Listing)) → AreGiven v h content n width place before vars os →
-    Takes v (variables_text (shown_data h content n width) place vars (all_marked vars)).text (state Values h.dims gatts (before ++ map draft_of vars)) (state Values h.dims gatts (before ++ given_drafts vars os))
-data_taken v h content n width place gatts before (var ∷ vars) (o ∷ os) given =
-    grind (arith, one_taken, append_assoc, data_taken v h content n width (place + 1) gatts (before ++ given_draft var o ∷ []) vars os given.1)
-data_taken v h content n width place gatts before _ _ given = grind arith
-
--- and the section is whole
-pub data_whole : (v : Version) (h : Header) (content : ℕ → Var → VariableValues) (n width place : ℕ) (before : List Draft) (vars : List Var) (os : List (Option Listing)) → AreGiven v h content n width place before vars os →
-    (variables_text (shown_data h content n width) place vars (all_marked vars)).ending ≡ whole
-data_whole v h content n width place before (var ∷ vars) (o ∷ os) given =
-    grind (arith, whole, data_whole v h content n width (place + 1) (before ++ given_draft var o ∷ []) vars os given.1)
-data_whole v h content n width place before _ _ given = grind arith

@@ -1,64 +1,75 @@
 -- A dataset that a text can declare is read back from its full dump.
-use Rattle.std.proofs.Common.{◌≡◌, ℕ, ◌+◌, ◌*◌, ◌-◌, ◌/◌, ◌<◌, true, List, [], ◌∷◌, ◌++◌, length, map, ◌∙◌, ap, refl, arith, append_assoc, length-append, Option, slice_index_or, ◌⊎◌}
-use Rattle.cdl_laws.proofs.Prelude.{mul-add-div, div-eq_of_lt, Dataset, Dim, Header, Var, Version, values_in_dataset, fill_value, AreArrays, IsName, numbers, slab_count, record_vars, is_char, trimmed_var, array_of, records_in, Draft, Listing, Each, list_all, record_size_of, padded_size, has_small_array, and_both, le-leb}
+use Rattle.std.proofs.Common.{◌≡◌, ℕ, ◌+◌, ◌*◌, ◌-◌, ◌/◌, ◌<◌, true, List, [], ◌∷◌, ◌++◌, map, ◌∙◌, ap, refl, arith, append_assoc, slice_index_or, ◌⊎◌, drop, sym, subst}
+use Rattle.cdl_laws.proofs.Prelude.{mul-add-div, div-eq_of_lt, Dataset, Dim, Header, Var, Version, values_in_dataset, fill_value, AreArrays, IsName, numbers, slab_count, record_vars, is_char, trimmed_var, array_of, records_in, Draft, Each, list_all, record_size_of, padded_size, has_small_array, and_both, le-leb, EachAfter, IsArray, Att, get_or-drop, drop-drop, variables_text, shown_data, Values, whole, has_values, look_of}
 use Rattle.cdl_laws.proofs.Given.{IsBack, is_back}
 use Rattle.cdl_laws.proofs.Acts.{no_draft}
-use Rattle.cdl_laws.proofs.DataTexts.{AreGiven, given_draft, given_drafts}
-use Rattle.std.proofs.Math.Seq.{get_or-append_seam}
+use Rattle.cdl_laws.proofs.DataTexts.{given_draft, IsGivenBy, all_marked, one_taken}
+use Rattle.cdl_laws.proofs.Takes.{Takes, takes_nothing}
+use Rattle.cdl_laws.proofs.Wholes.{state, draft_of}
+use Rattle.nc_base.proofs.WholeValues.{map-map}
 
--- ---- one array for each variable
-
-abbrev pub AreBack : Version → Header → ℕ → ℕ → List Var → List (List ℕ) → Type 0
-AreBack v h n width [] [] = Unit {0}
-AreBack v h n width [] (a ∷ arrays) = ⊥
-AreBack v h n width (var ∷ vars) [] = ⊥
-AreBack v h n width (var ∷ vars) (a ∷ arrays) = IsBack v h n width var a × AreBack v h n width vars arrays
+-- ---- rows
 
 -- a variable's fill value stays where characters are trimmed
 abbrev pub keeps_fill : Var → Type 0
 keeps_fill var = is_char var.ty ≡ true → fill_value (trimmed_var var) ≡ fill_value var
 
-pub are_back : (v : Version) (h : Header) (n width : ℕ) (vars : List Var) (arrays : List (List ℕ)) → AreArrays h.dims n vars arrays → Each (λ (var : Var). IsName var.name × keeps_fill var) vars → AreBack v h n width vars arrays
-are_back v h n width (var ∷ vars) (a ∷ arrays) are all = (is_back v h n width var a are.0 all.0.0 all.0.1, are_back v h n width vars arrays are.1 all.1)
-are_back v h n width _ _ are all = grind arith
+-- a variable and its array, which the text of its values gives back
+pub record Row (v : Version) (h : Header) (n width : ℕ) : Type 0 where
+  pub var : Var
+  pub array : List ℕ
+  pub name : IsName var.name
+  pub slab : 0 < slab_count h.dims var
+  pub is : IsArray h.dims n var array
+  pub back : IsBack v h n width var array
 
-abbrev pub listings : (v : Version) (h : Header) (n width : ℕ) (vars : List Var) (arrays : List (List ℕ)) → AreBack v h n width vars arrays → List (Option Listing)
-listings v h n width [] [] backs = []
-listings v h n width [] (a ∷ arrays) backs = []
-listings v h n width (var ∷ vars) [] backs = []
-listings v h n width (var ∷ vars) (a ∷ arrays) backs = backs.0.o ∷ listings v h n width vars arrays backs.1
+abbrev pub row_name : {v : Version} {h : Header} {n width : ℕ} → Row v h n width → List ℕ
+row_name r = r.var.name
 
--- the arrays from a place on
-abbrev pub StandAt : List (List ℕ) → ℕ → List (List ℕ) → Type 0
-StandAt all place [] = Unit {0}
-StandAt all place (a ∷ arrays) = (slice_index_or all place [] ≡ a) × StandAt all (place + 1) arrays
+-- what the state has of it after the text
+abbrev pub given : {v : Version} {h : Header} {n width : ℕ} → Row v h n width → Draft
+given r = given_draft r.var r.back.o
 
-pub stand_after : (before arrays : List (List ℕ)) → StandAt (before ++ arrays) (length before) arrays
-stand_after before [] = tt
-stand_after before (a ∷ arrays) = grind (arith, get_or-append_seam, append_assoc, length-append, stand_after (before ++ a ∷ []) arrays)
+pub record Rows (v : Version) (h : Header) (n width : ℕ) (vars : List Var) (arrays : List (List ℕ)) : Type 0 where
+  pub rows : List (Row v h n width)
+  pub vars_are : map (λ (r : Row v h n width). r.var) rows ≡ vars
+  pub arrays_are : map (λ (r : Row v h n width). r.array) rows ≡ arrays
 
--- no variable before or in the list has another's name
-abbrev pub AreNewVars : List Draft → List Var → List (Option Listing) → Type 0
-AreNewVars before [] os = Unit {0}
-AreNewVars before (var ∷ vars) [] = Unit {0}
-AreNewVars before (var ∷ vars) (o ∷ os) = IsName var.name × no_draft var.name before × AreNewVars (before ++ given_draft var o ∷ []) vars os
+pub rows_of : (v : Version) (h : Header) (n width : ℕ) (vars : List Var) (arrays : List (List ℕ)) → AreArrays h.dims n vars arrays →
+    Each (λ (var : Var). IsName var.name × keeps_fill var × (0 < slab_count h.dims var)) vars → Rows v h n width vars arrays
+rows_of v h n width [] [] are all = record { rows = []; vars_are = refl; arrays_are = refl }
+rows_of v h n width (var ∷ vars) (a ∷ arrays) are all =
+    let others = rows_of v h n width vars arrays are.1 all.1 in
+    let back = is_back v h n width var a are.0 all.0.0 all.0.1 in
+    let row : Row v h n width = record { var = var; array = a; name = all.0.0; slab = all.0.2; is = are.0; back = back } in
+    record { rows = row ∷ others.rows; vars_are = ap (λ vs. var ∷ vs) others.vars_are; arrays_are = ap (λ xs. a ∷ xs) others.arrays_are }
+rows_of v h n width _ _ are all = absurd are
 
-pub all_given : (v : Version) (d : Dataset) (n width place : ℕ) (before : List Draft) (vars : List Var) (arrays : List (List ℕ)) (backs : AreBack v d.header n width vars arrays) → StandAt d.arrays place arrays →
-    AreNewVars before vars (listings v d.header n width vars arrays backs) → AreGiven v d.header (values_in_dataset d) n width place before vars (listings v d.header n width vars arrays backs)
-all_given v d n width place before (var ∷ vars) (a ∷ arrays) backs stand new =
-    grind (arith, numbers, all_given v d n width (place + 1) (before ++ given_draft var backs.0.o ∷ []) vars arrays backs.1 stand.1 new.2)
-all_given v d n width place before _ _ backs stand new = grind arith
+-- ---- the data section
+
+-- rows after these drafts, none of which has the name of another
+abbrev pub AreNew : {v : Version} {h : Header} {n width : ℕ} → List Draft → List (Row v h n width) → Type 0
+AreNew before rows = EachAfter given (λ done r. no_draft r.var.name done) before rows
+
+pub data_taken : (v : Version) (d : Dataset) (n width place : ℕ) (gatts : List Att) (before : List Draft) (rows : List (Row v d.header n width)) → AreNew before rows → drop place d.arrays ≡ map (λ (r : Row v d.header n width). r.array) rows →
+    let vars = map (λ (r : Row v d.header n width). r.var) rows in
+    Takes v (variables_text (shown_data d.header (values_in_dataset d) n width) place vars (all_marked vars)).text (state Values d.header.dims gatts (before ++ map draft_of vars)) (state Values d.header.dims gatts (before ++ map given rows))
+data_taken v d n width place gatts before [] new at = takes_nothing v _
+data_taken v d n width place gatts before (r ∷ rows) new at =
+    let here : slice_index_or d.arrays place [] ≡ r.array = grind (arith, get_or-drop place d.arrays 0 [], ap (λ xs. slice_index_or xs 0 []) at) in
+    let later = data_taken v d n width (place + 1) gatts (before ++ given r ∷ []) rows new.1 (sym (drop-drop 1 place d.arrays) ∙ ap (drop 1) at) in
+    let read = subst (λ a. IsGivenBy (has_values d.header.dims n r.var) v d.header.dims (look_of d.header r.var n width) r.var (numbers r.var.ty a) r.back.o) (sym here) r.back.given in
+    one_taken v d.header gatts before _ (look_of d.header r.var n width) r.var (values_in_dataset d place r.var) r.back.o place _ _ (has_values d.header.dims n r.var) r.name new.0 refl read (simp append_assoc at later)
+
+-- and the section is whole
+pub data_whole : (d : Dataset) (n width place : ℕ) (vars : List Var) → (variables_text (shown_data d.header (values_in_dataset d) n width) place vars (all_marked vars)).ending ≡ whole
+data_whole d n width place [] = refl
+data_whole d n width place (var ∷ vars) = grind (arith, data_whole d n width (place + 1) vars)
 
 -- the arrays and the variables that come back
-pub arrays_back : (v : Version) (h : Header) (n width : ℕ) (vars : List Var) (arrays : List (List ℕ)) (backs : AreBack v h n width vars arrays) →
-    map (array_of h.dims n) (given_drafts vars (listings v h n width vars arrays backs)) ≡ arrays
-arrays_back v h n width (var ∷ vars) (a ∷ arrays) backs = ap (λ x. x ∷ map (array_of h.dims n) (given_drafts vars (listings v h n width vars arrays backs.1))) backs.0.back ∙ ap (λ xs. a ∷ xs) (arrays_back v h n width vars arrays backs.1)
-arrays_back v h n width _ _ backs = grind arith
-
-pub vars_back : (v : Version) (h : Header) (n width : ℕ) (vars : List Var) (arrays : List (List ℕ)) (backs : AreBack v h n width vars arrays) →
-    map (λ (d : Draft). d.var) (given_drafts vars (listings v h n width vars arrays backs)) ≡ map trimmed_var vars
-vars_back v h n width (var ∷ vars) (a ∷ arrays) backs = ap (λ xs. trimmed_var var ∷ xs) (vars_back v h n width vars arrays backs.1)
-vars_back v h n width _ _ backs = grind arith
+pub arrays_back : (v : Version) (h : Header) (n width : ℕ) (rows : List (Row v h n width)) → map (array_of h.dims n) (map given rows) ≡ map (λ (r : Row v h n width). r.array) rows
+arrays_back v h n width [] = refl
+arrays_back v h n width (r ∷ rows) = ap (λ x. x ∷ map (array_of h.dims n) (map given rows)) r.back.back ∙ ap (λ xs. r.array ∷ xs) (arrays_back v h n width rows)
 
 -- ---- the number of records
 
@@ -66,34 +77,20 @@ counted : (slab n : ℕ) → 0 < slab → (slab * n + slab - 1) / slab ≡ n
 counted slab n some = grind (arith, mul-add-div, div-eq_of_lt)
 
 -- it is the dataset's, where some variable is a record variable, and 0 where none is
-count_all : (v : Version) (h : Header) (n width : ℕ) (vars : List Var) (arrays : List (List ℕ)) (backs : AreBack v h n width vars arrays) → Each (λ (var : Var). 0 < slab_count h.dims var) vars →
-    ((record_vars h.dims vars ≡ []) × (records_in h.dims (given_drafts vars (listings v h n width vars arrays backs)) ≡ 0)) ⊎
-    (records_in h.dims (given_drafts vars (listings v h n width vars arrays backs)) ≡ n)
-count_all v h n width (var ∷ vars) (a ∷ arrays) backs slabs = grind (arith, counted, count_all v h n width vars arrays backs.1 slabs.1)
-count_all v h n width _ _ backs slabs = grind arith
-
-pub records_back : (v : Version) (h : Header) (n width : ℕ) (vars : List Var) (arrays : List (List ℕ)) (backs : AreBack v h n width vars arrays) → Each (λ (var : Var). 0 < slab_count h.dims var) vars → (record_vars h.dims vars ≡ [] → n ≡ 0) →
-    records_in h.dims (given_drafts vars (listings v h n width vars arrays backs)) ≡ n
-records_back v h n width vars arrays backs slabs none_none = grind (arith, count_all v h n width vars arrays backs slabs)
+pub records_back : (v : Version) (h : Header) (n width : ℕ) (rows : List (Row v h n width)) →
+    ((record_vars h.dims (map (λ (r : Row v h n width). r.var) rows) ≡ []) × (records_in h.dims (map given rows) ≡ 0)) ⊎ (records_in h.dims (map given rows) ≡ n)
+records_back v h n width [] = grind arith
+records_back v h n width (r ∷ rows) = grind (arith, counted, records_back v h n width rows)
 
 -- ---- limits
 
-pub all_small : (v : Version) (h : Header) (n width : ℕ) (vars : List Var) (arrays : List (List ℕ)) (backs : AreBack v h n width vars arrays) → AreArrays h.dims n vars arrays →
-    list_all (has_small_array h.dims n) (given_drafts vars (listings v h n width vars arrays backs)) ≡ true
-all_small v h n width (var ∷ vars) (a ∷ arrays) backs are =
-    grind (arith, and_both, le-leb, all_small v h n width vars arrays backs.1 are.1)
-all_small v h n width _ _ backs are = grind arith
+pub all_small : (v : Version) (h : Header) (n width : ℕ) (rows : List (Row v h n width)) → list_all (has_small_array h.dims n) (map given rows) ≡ true
+all_small v h n width [] = refl
+all_small v h n width (r ∷ rows) = grind (arith, and_both, le-leb, all_small v h n width rows)
 
 pub record_trimmed : (dims : List Dim) (vars : List Var) → record_vars dims (map trimmed_var vars) ≡ map trimmed_var (record_vars dims vars)
 record_trimmed dims [] = refl
 record_trimmed dims (var ∷ vars) = grind (arith, record_trimmed dims vars)
 
-sizes_trimmed : (dims : List Dim) (vars : List Var) → map (padded_size dims) (map trimmed_var vars) ≡ map (padded_size dims) vars
-sizes_trimmed dims [] = refl
-sizes_trimmed dims (var ∷ vars) = ap (λ ss. padded_size dims var ∷ ss) (sizes_trimmed dims vars)
-
-record_size_of_trimmed : (dims : List Dim) (vars : List Var) → record_size_of dims (map trimmed_var vars) ≡ record_size_of dims vars
-record_size_of_trimmed dims vars = grind (arith, sizes_trimmed)
-
 pub same_record : (dims : List Dim) (vars : List Var) → record_size_of dims (record_vars dims (map trimmed_var vars)) ≡ record_size_of dims (record_vars dims vars)
-same_record dims vars = ap (record_size_of dims) (record_trimmed dims vars) ∙ record_size_of_trimmed dims (record_vars dims vars)
+same_record dims vars = ap (record_size_of dims) (record_trimmed dims vars) ∙ grind (arith, map-map (padded_size dims) trimmed_var (record_vars dims vars))

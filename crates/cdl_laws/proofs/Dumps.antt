@@ -1,11 +1,13 @@
 -- A full dump is read back.
-use Rattle.std.proofs.Common.{◌≡◌, ℕ, true, false, List, [], ◌∷◌, ◌++◌, length, map, ◌∙◌, ap, refl, append_assoc, append-nil, ◌||◌, ◌==◌, if◌then◌else◌, Option, None, Ok, codes, arith, rules}
-use Rattle.cdl_laws.proofs.Prelude.{DataText, variables_text, concat_parts, Dataset, Att, Header, Var, Version, Options, VariableValues, dump_text, shown_data_text, values_in_dataset, shown_data, selection_of, is_selected, data_word, closing_word, head_text, netcdf_word, dims_text, vars_text, gatts_text, Variables, Values, Ended, meaning, piece_read, empty, finished, are_within_limits, dataset_of, cut_lexemes, lexemes, pieces_of, IsFull, trimmed, trimmed_att, Listing, in_turn, not_none, Each}
+use Rattle.std.proofs.Common.{◌≡◌, ℕ, true, false, List, [], ◌∷◌, ◌++◌, map, ◌∙◌, ap, refl, append_assoc, append-nil, None, Ok, subst, codes, arith, rules}
+use Rattle.cdl_laws.proofs.Prelude.{DataText, variables_text, concat_parts, Dataset, Att, Header, Var, Version, Options, dump_text, shown_data_text, values_in_dataset, shown_data, selection_of, is_selected, data_word, closing_word, head_text, netcdf_word, dims_text, vars_text, gatts_text, Variables, Values, Ended, meaning, piece_read, empty, finished, are_within_limits, dataset_of, cut_lexemes, lexemes, pieces_of, IsFull, trimmed, trimmed_att, in_turn, Each}
 use Rattle.cdl_laws.proofs.Acts.{AreDistinctDims, HaveNames}
 use Rattle.cdl_laws.proofs.Declarations.{Speaks}
 use Rattle.cdl_laws.proofs.Wholes.{state, AreNewDims, AreNewAtts, AreFit, draft_of}
-use Rattle.cdl_laws.proofs.DataTexts.{AreGiven, given_drafts, all_marked, data_taken, data_whole}
+use Rattle.cdl_laws.proofs.DataTexts.{all_marked}
+use Rattle.cdl_laws.proofs.Datasets.{Row, AreNew, given, data_taken, data_whole}
 use Rattle.cdl_laws.proofs.Ends.{opening_bytes, opened, dims_part, vars_part, gatts_part, data_mark, end_taken, after_dims, after_vars}
+use Rattle.cdl_laws.proofs.Takes.{Takes}
 use Rattle.cdl_laws.proofs.Lines.{pieces_are, run_is}
 
 dump_is : (h : Header) (o : Options) (n : ℕ) (section : DataText) →
@@ -19,44 +21,50 @@ selected h o [] c d = refl
 selected h o (var ∷ vars) c d = search (rules, selected h o vars c d)
 
 -- after the head
-data_read : (v : Version) (h : Header) (o : Options) (content : ℕ → Var → VariableValues) (n : ℕ) (gatts : List Att) (os : List (Option Listing)) → IsFull o → (vars : List Var) → h.vars ≡ vars → AreGiven v h content n o.width 0 [] vars os →
-    in_turn (piece_read v) (state (after_vars (after_dims h.dims) vars) h.dims gatts (map draft_of vars)) (pieces_of (data_word h o ++ ((variables_text (shown_data h content n o.width) 0 vars (all_marked vars)).text ++ codes "}\n"))) ≡ Ok (state Ended h.dims gatts (given_drafts vars os))
+data_read : (v : Version) (d : Dataset) (o : Options) (n : ℕ) (gatts : List Att) → IsFull o → (rows : List (Row v d.header n o.width)) → AreNew [] rows → d.arrays ≡ map (λ (r : Row v d.header n o.width). r.array) rows →
+    (vars : List Var) → d.header.vars ≡ vars → map (λ (r : Row v d.header n o.width). r.var) rows ≡ vars →
+    in_turn (piece_read v) (state (after_vars (after_dims d.header.dims) vars) d.header.dims gatts (map draft_of vars)) (pieces_of (data_word d.header o ++ ((variables_text (shown_data d.header (values_in_dataset d) n o.width) 0 vars (all_marked vars)).text ++ codes "}\n"))) ≡ Ok (state Ended d.header.dims gatts (map given rows))
 unfolding data_word
-data_read v h o content n gatts os full [] none given = grind (arith, end_taken)
-data_read v h o content n gatts os full (var ∷ vars) some given =
-    let values = (variables_text (shown_data h content n o.width) 0 (var ∷ vars) (all_marked (var ∷ vars))).text in
-    let word : data_word h o ≡ codes "data:\n" = ap (λ b. if b || (length h.vars == 0) then [] else codes "data:\n") full.values ∙ ap (λ (ws : List Var). if length ws == 0 then [] else codes "data:\n") some ∙ ap (λ b. if b then [] else codes "data:\n") (not_none (length vars)) in
-    ap (λ w. in_turn (piece_read v) (state Variables h.dims gatts (map draft_of (var ∷ vars))) (pieces_of (w ++ (values ++ codes "}\n")))) word ∙
-    data_mark v h.dims gatts (map draft_of (var ∷ vars)) (values ++ codes "}\n") ∙
-    data_taken v h content n o.width 0 gatts [] (var ∷ vars) os given (codes "}\n") ∙
-    end_taken v Values h.dims gatts (given_drafts (var ∷ vars) os) refl
+data_read v d o n gatts full [] new at [] none same = grind (arith, end_taken)
+data_read v d o n gatts full rows new at (var ∷ vars) some same =
+    let h = d.header in
+    let text : List Var → List ℕ = λ all. (variables_text (shown_data h (values_in_dataset d) n o.width) 0 all (all_marked all)).text in
+    let word : data_word h o ≡ codes "data:\n" = grind (arith, full.values, some) in
+    let taken : Takes v (text (var ∷ vars)) (state Values h.dims gatts (map draft_of (var ∷ vars))) (state Values h.dims gatts (map given rows)) =
+    subst (λ all. Takes v (text all) (state Values h.dims gatts (map draft_of all)) (state Values h.dims gatts (map given rows))) same (data_taken v d n o.width 0 gatts [] rows new at) in
+    ap (λ w. in_turn (piece_read v) (state Variables h.dims gatts (map draft_of (var ∷ vars))) (pieces_of (w ++ (text (var ∷ vars) ++ codes "}\n")))) word ∙
+    data_mark v h.dims gatts (map draft_of (var ∷ vars)) (text (var ∷ vars) ++ codes "}\n") ∙ taken (codes "}\n") ∙ end_taken v Values h.dims gatts (map given rows) refl
+data_read v d o n gatts full _ new at _ some same = absurd (cc)
 
 -- ---- the whole text
 
 -- what the parts of a dataset are read back by
-pub record IsReadable (d : Dataset) (n width : ℕ) (os : List (Option Listing)) : Type 0 where
+pub record IsReadable (d : Dataset) (n width : ℕ) (rows : List (Row d.header.version d.header n width)) : Type 0 where
   pub dims : AreNewDims d.header.version [] d.header.dims
   pub distinct : AreDistinctDims d.header.dims
   pub names : HaveNames d.header.dims
   pub vars : AreFit d.header.version d.header.dims [] d.header.vars
   pub gatts : Each (Speaks d.header.version) d.header.gatts
   pub fresh : AreNewAtts [] d.header.gatts
-  pub given : AreGiven d.header.version d.header (values_in_dataset d) n width 0 [] d.header.vars os
-  pub small : are_within_limits d.header.version (state Ended d.header.dims (map trimmed_att d.header.gatts) (given_drafts d.header.vars os)) ≡ true
-  pub back : dataset_of d.header.version (state Ended d.header.dims (map trimmed_att d.header.gatts) (given_drafts d.header.vars os)) ≡ trimmed d
+  pub vars_are : map (λ (r : Row d.header.version d.header n width). r.var) rows ≡ d.header.vars
+  pub arrays_are : d.arrays ≡ map (λ (r : Row d.header.version d.header n width). r.array) rows
+  pub new : AreNew [] rows
+  pub small : are_within_limits d.header.version (state Ended d.header.dims (map trimmed_att d.header.gatts) (map given rows)) ≡ true
+  pub back : dataset_of d.header.version (state Ended d.header.dims (map trimmed_att d.header.gatts) (map given rows)) ≡ trimmed d
 
 -- the state at the end
-pub state_read : (d : Dataset) (o : Options) (n : ℕ) (os : List (Option Listing)) → IsFull o → IsReadable d n o.width os → (section : DataText) → section ≡ shown_data_text d.header o (values_in_dataset d) n (selection_of d.header o) →
-    in_turn (piece_read d.header.version) empty (cut_lexemes (lexemes (dump_text d.header o n section))) ≡ Ok (state Ended d.header.dims (map trimmed_att d.header.gatts) (given_drafts d.header.vars os))
+state_read : (d : Dataset) (o : Options) (n : ℕ) (rows : List (Row d.header.version d.header n o.width)) → IsFull o → IsReadable d n o.width rows → (section : DataText) → section ≡ shown_data_text d.header o (values_in_dataset d) n (selection_of d.header o) →
+    in_turn (piece_read d.header.version) empty (cut_lexemes (lexemes (dump_text d.header o n section))) ≡ Ok (state Ended d.header.dims (map trimmed_att d.header.gatts) (map given rows))
 unfolding closing_word
-state_read d o n os full ready section is =
-    grind (arith, selected, data_whole, dump_is, opened, dims_part, vars_part, gatts_part, data_read)
+state_read d o n rows full ready section is =
+    let read = data_read d.header.version d o n (map trimmed_att d.header.gatts) full rows ready.new ready.arrays_are d.header.vars refl ready.vars_are in
+    grind (arith, selected, data_whole d n o.width 0 d.header.vars, dump_is, opened, dims_part, vars_part, gatts_part, read)
 
 -- and what it means
-pub text_back : (d : Dataset) (o : Options) (n : ℕ) (os : List (Option Listing)) → IsFull o → IsReadable d n o.width os → (section : DataText) → section ≡ shown_data_text d.header o (values_in_dataset d) n (selection_of d.header o) →
+pub text_back : (d : Dataset) (o : Options) (n : ℕ) (rows : List (Row d.header.version d.header n o.width)) → IsFull o → IsReadable d n o.width rows → (section : DataText) → section ≡ shown_data_text d.header o (values_in_dataset d) n (selection_of d.header o) →
     meaning (dump_text d.header o n section) d.header.version ≡ Ok (trimmed d)
 unfolding finished
-text_back d o n os full ready section is =
+text_back d o n rows full ready section is =
     let v = d.header.version in
     let bytes = dump_text d.header o n section in
-    grind (arith, run_is bytes v empty, pieces_are bytes, state_read d o n os full ready section is)
+    grind (arith, run_is bytes v empty, pieces_are bytes, state_read d o n rows full ready section is)

@@ -1,6 +1,6 @@
 -- The opening, the section marks and the closing brace of a dump.
 use Rattle.std.proofs.Common.{◌≡◌, ℕ, ◌+◌, true, false, List, [], ◌∷◌, ◌++◌, length, map, ◌∙◌, ap, refl, arith, append_assoc, length-append, ◌==◌, Some, Ok, codes, rules, if◌then◌else◌, suc}
-use Rattle.cdl_laws.proofs.Prelude.{false≢true, eqb-true, concat_parts, Att, Dim, Var, Version, escaped_name, is_reserved, name_of, is_plain, dim_line, dim_lines, dims_text, att_line, att_lines, var_lines, vars_text, gatts_text, dimensions_word, variables_word, global_word, IsName, Section, Globals, Dimensions, Variables, Values, Ended, scan, word_len, len_until, Lexeme, piece_read, empty, pieces_at, is_section, cut_lexemes, lexemes_at, lexemes, pieces_of, trimmed_att, Enter, shape, State, Draft, act, in_turn, IsBeforeData, globals, dimensions, variables, and_left, until_at_start, lt-ltb, not_none, IsStatement, Each}
+use Rattle.cdl_laws.proofs.Prelude.{false≢true, eqb-true, concat_parts, Att, Dim, Var, Version, escaped_name, is_reserved, name_of, is_plain, dim_line, dim_lines, dims_text, att_line, att_lines, var_lines, vars_text, gatts_text, dimensions_word, variables_word, global_word, IsName, Section, Globals, Dimensions, Variables, Values, Ended, scan, word_len, len_until, Lexeme, piece_read, empty, pieces_at, is_section, cut_lexemes, lexemes_at, lexemes, pieces_of, trimmed_att, Enter, shape, State, Draft, act, in_turn, globals, dimensions, variables, and_left, until_at_start, lt-ltb, not_none, IsStatement, Each}
 use Rattle.cdl_tokens.specs.declared.token.TokenKind.TheVariants as kinds
 use Rattle.cdl_laws.proofs.NameTexts.{rest_of, marked, bare, begins}
 use Rattle.cdl_laws.proofs.Texts.{mark, word, prefix_again, some_name, marks_closed}
@@ -48,9 +48,6 @@ dims_part v n (d ∷ dims) gatts drafts h =
     (says_takes v dimensions_word (Enter Dimensions) (state Globals [] gatts drafts) (in_dims []) (dimensions_says v) refl)
     (dims_taken v n (d ∷ dims) gatts drafts h)
 
-before_of : (dims : List Dim) → IsBeforeData (after_dims dims)
-before_of dims = grind (arith, globals, dimensions)
-
 pub variables_says : (v : Version) (dims : List Dim) → IsStatement v (after_dims dims) variables_word (Enter Variables)
 unfolding variables_word pieces_of lexemes_at scan word_len pieces_at is_section shape
 variables_says v dims =
@@ -81,7 +78,7 @@ gatts_part v dims vars (a ∷ gatts) drafts speak new =
     headed v global_word (map (att_line []) (a ∷ gatts)) (length gatts) s s
     (state (after_vars (after_dims dims) vars) dims (map trimmed_att (a ∷ gatts)) drafts)
     (λ rest. ap (in_turn (piece_read v) s) (comment_back rest))
-    (globals_taken v (after_vars (after_dims dims) vars) dims (a ∷ gatts) drafts (grind (arith, before_of, variables)) speak new)
+    (globals_taken v (after_vars (after_dims dims) vars) dims (a ∷ gatts) drafts (grind (arith, globals, dimensions, variables)) speak new)
 
 pub data_mark : (v : Version) (dims : List Dim) (gatts : List Att) (drafts : List Draft) → Takes v (codes "data:\n") (state Variables dims gatts drafts) (state Values dims gatts drafts)
 unfolding act

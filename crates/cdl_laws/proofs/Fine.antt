@@ -62,12 +62,10 @@ pub record AreFineDims (dims : List Dim) : Type 0 where
   pub fine : Each (λ (d : Dim). IsName d.name) dims
   pub names : AreDistinct (map dim_name dims)
 
-dim_step : (v : Version) (dims : List Dim) (d : Dimension) → AreFineDims dims → Unit {0} → OkIs AreFineDims (add_dim v dims d)
-unfolding add_dim
-dim_step v dims d fine u = grind (arith, named_more dim_name dims, ok_unless, ok_when, ok_next, each_more)
-
 pub dims_keep : (v : Version) (dims : List Dim) (ds : List Dimension) → AreFineDims dims → OkIs AreFineDims (in_turn (add_dim v) dims ds)
-dims_keep v dims ds fine = turns (add_dim v) AreFineDims (λ d. Unit {0}) (dim_step v) dims ds fine (any_each ds)
+unfolding add_dim
+dims_keep v dims ds fine =
+    turns (add_dim v) AreFineDims (λ d. Unit {0}) (λ all d f u. grind (arith, named_more dim_name all, ok_unless, ok_when, ok_next, each_more)) dims ds fine (any_each ds)
 
 -- ---- variables
 
@@ -80,12 +78,10 @@ pub record AreFineDrafts (drafts : List Draft) : Type 0 where
   pub fine : Each IsFineDraft drafts
   pub names : AreDistinct (map draft_name drafts)
 
-var_step : (dims : List Dim) (ty : NcType) (drafts : List Draft) (x : Variable) → AreFineDrafts drafts → Unit {0} → OkIs AreFineDrafts (add_var dims ty drafts x)
-unfolding add_var
-var_step dims ty drafts x fine u = grind (arith, named_more draft_name drafts, ok_unless, ok_when, ok_next, each_more)
-
 pub vars_keep : (dims : List Dim) (ty : NcType) (drafts : List Draft) (xs : List Variable) → AreFineDrafts drafts → OkIs AreFineDrafts (in_turn (add_var dims ty) drafts xs)
-vars_keep dims ty drafts xs fine = turns (add_var dims ty) AreFineDrafts (λ x. Unit {0}) (var_step dims ty) drafts xs fine (any_each xs)
+unfolding add_var
+vars_keep dims ty drafts xs fine =
+    turns (add_var dims ty) AreFineDrafts (λ x. Unit {0}) (λ all x f u. grind (arith, named_more draft_name all, ok_unless, ok_when, ok_next, each_more)) drafts xs fine (any_each xs)
 
 -- ---- the variable of a name
 

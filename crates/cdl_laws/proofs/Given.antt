@@ -1,5 +1,5 @@
 -- The array of a variable is given back by the text of its values.
-use Rattle.std.proofs.Common.{◌≡◌, ℕ, zero, suc, ◌*◌, ◌<◌, ◌≤◌, true, false, List, [], ◌∷◌, length, drop, take, map, sym, ◌∙◌, ap, refl, subst, arith, length-take, length-drop, ℤ, pos, ◌&&◌, ◌==◌, not, nat_lt, find, None, Some, rules, if◌then◌else◌, Option}
+use Rattle.std.proofs.Common.{◌≡◌, ℕ, zero, suc, ◌*◌, ◌<◌, ◌≤◌, true, false, List, [], ◌∷◌, length, drop, take, map, sym, ◌∙◌, ap, refl, subst, arith, length-take, length-drop, ℤ, pos, ◌&&◌, ◌==◌, not, nat_lt, find, Some, rules, if◌then◌else◌, Option}
 use Rattle.cdl_laws.proofs.Prelude.{flat_map, int_eq, lt_of_mul-lt-mul_right, false≢true, Decides-int_eq, take-append-drop, Att, Dim, Header, Var, NcType, Version, fill_value, is_fill_att, value_count, IsArray, IsName, numbers, bytes_of_number, IsInRange, is_record_var, product, slab_lens, look_of, is_char, row_len, trimmed_att, trimmed_var, listable_of, filled, array_of, and_left, is_off, is_on, look-type, length-numbers_from, Each, each_drop, each_map, each_take, slab_rows, has_values, listed_values, Listing, and_false, option_map}
 use Rattle.cdl_laws.proofs.Attributes.{numbers_back, numbers_range, all_fit, all_small, count_is}
 use Rattle.cdl_laws.proofs.Characters.{flat, IsCharacter}
@@ -101,10 +101,6 @@ listed_table v h var n width k xs split some len range char name fill rank =
 
 -- ---- arrays
 
--- a variable without values has no byte
-pub array_none : (dims : List Dim) (var : Var) (n : ℕ) → value_count dims var n ≡ 0 → array_of dims n (given_draft var None) ≡ []
-array_none dims var n none = ap (λ m. flat_map (bytes_of_number var.ty) (filled m (fill_value (trimmed_var var)) [])) none
-
 -- an array's numbers
 pub array_numbers : (dims : List Dim) (n : ℕ) (var : Var) (array : List ℕ) → IsArray dims n var array →
     flat_map (bytes_of_number var.ty) (numbers var.ty array) ≡ array
@@ -185,7 +181,7 @@ row_back v h n width var array is count name fill =
 
 pub no_bytes : (array : List ℕ) (m size : ℕ) → length array ≡ m * size → m ≡ 0 → array ≡ []
 no_bytes [] m size h z = refl
-no_bytes (b ∷ array) m size h z = absurd (let e : m * size ≡ 0 = rw (z) (omega arith) in omega (arith, h, e))
+no_bytes (b ∷ array) m size h z = grind arith
 
 pub is_back : (v : Version) (h : Header) (n width : ℕ) (var : Var) (array : List ℕ) → IsArray h.dims n var array → IsName var.name → (is_char var.ty ≡ true → fill_value (trimmed_var var) ≡ fill_value var) → IsBack v h n width var array
 is_back v h n width var array is name fill =

@@ -56,7 +56,7 @@ joined_reads bytes lex x (y ∷ ys) all rest stop = simp (append_assoc, mark_rea
 
 pub fine_commas : (v : Version) (ls : List Lexeme) → list_all (is_fine v) ls ≡ true → list_all (is_fine v) (commas ls) ≡ true
 fine_commas v [] h = refl
-fine_commas v (l ∷ ls) h = and_both (is_fine v l) (list_all (is_fine v) (commas ls)) (and_left (is_fine v l) (list_all (is_fine v) ls) h) (fine_commas v ls (and_right (is_fine v l) (list_all (is_fine v) ls) h))
+fine_commas v (l ∷ ls) h = grind (arith, and_left, and_right, and_both, fine_commas v ls (and_right (is_fine v l) (list_all (is_fine v) ls) h))
 
 -- ---- data
 

@@ -1,5 +1,5 @@
 -- Tokens have places and lines, and lexemes have none: what all pieces make of a state is the same.
-use Rattle.std.proofs.Common.{◌≡◌, ℕ, zero, suc, ◌+◌, ◌-◌, Bool, true, false, List, [], ◌∷◌, drop, take, map, sym, ◌∙◌, ap, refl, ◌&&◌, Option, None, Some, is_none, Result, Ok, Err, rules, arith}
+use Rattle.std.proofs.Common.{◌≡◌, ℕ, zero, suc, ◌+◌, ◌-◌, Bool, true, List, [], ◌∷◌, drop, take, map, sym, ◌∙◌, ap, refl, ◌&&◌, Option, is_none, Result, Ok, Err, rules, arith}
 use Rattle.cdl_laws.proofs.Prelude.{drop-drop, Version, CdlKind, TokenKind, Role, CutState, Token, scan, Lexeme, lexeme, first_role, role, run, piece_read, statements, pieces_after, with_first, step, pieces_by_steps, cut_lexemes, lexemes_at, lexemes, with_lexeme, State, in_turn, tokens_at, tokens, with_token, token_at}
 use Rattle.cdl_tokens.specs.declared.token.TokenKind.TheVariants as kinds
 use Rattle.cdl_statements.specs.declared.piece.CutState.TheVariants as places
@@ -11,8 +11,7 @@ one_lexeme text at kind n bytes e = search rules
 
 with_same : (text : List ℕ) (at : ℕ) (k : Option TokenKind) (n : ℕ) (bytes : List ℕ) (ts : List Token) (ls : List Lexeme) → drop at text ≡ bytes → map (lexeme text) ts ≡ ls →
     map (lexeme text) (with_token text at k n ts) ≡ with_lexeme k (take n bytes) ls
-with_same text at None n bytes ts ls e h = h
-with_same text at (Some kind) n bytes ts ls e h = ap (λ l. l ∷ map (lexeme text) ts) (one_lexeme text at kind n bytes e) ∙ ap (λ xs. record { kind = kind; bytes = take n bytes } ∷ xs) h
+with_same text at k n bytes ts ls e h = grind (arith, one_lexeme)
 
 pub tail_at : (text : List ℕ) (at b : ℕ) (bytes : List ℕ) → drop at text ≡ b ∷ bytes → drop (at + 1) text ≡ bytes
 tail_at text at b bytes e = sym (drop-drop 1 at text) ∙ ap (drop 1) e
@@ -28,9 +27,7 @@ lexemes_are text fresh at zero (b ∷ bytes) e =
 -- ---- pieces
 
 with_first_map : {X Y : Type 0} (f : X → Y) (b : Bool) (t : X) (ps : List (List X)) → map (map f) (with_first b t ps) ≡ with_first b (f t) (map (map f) ps)
-with_first_map f true t ps = refl
-with_first_map f false t [] = refl
-with_first_map f false t (p ∷ ps) = refl
+with_first_map f b t ps = grind arith
 
 pieces_map : {X Y : Type 0} (f : X → Y) (role : Y → Role) (place : CutState) (ts : List X) → map (map f) (pieces_after (λ t. role (f t)) place ts) ≡ pieces_after role place (map f ts)
 unfolding pieces_after

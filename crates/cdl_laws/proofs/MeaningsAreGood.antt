@@ -1,7 +1,7 @@
 -- What a text means is good.
-use Rattle.std.proofs.Common.{◌≡◌, ℕ, List, [], ◌∷◌, map, ap, refl, subst, arith, suc, None, Some, Result, All, rules}
-use Rattle.cdl_laws.proofs.Prelude.{AreBytes, Dataset, Att, Dim, Known, Var, Version, IsGood, bare_var, IsName, record_vars, MeaningsAreGood, MeaningsAreNearlySayable, IsNearlySayable, NearlyIsSayable, Lexeme, lexeme, statements, piece_read, run, empty, records_in, dataset_of, header_of, closing_line, finished, AreDistinct, AreSayableAtts, HasSomeNumber, Statement, DeclareDimensions, DeclareVariables, Attribute, Listed, State, Draft, act, with_att, with_values, CdlFault, Token, IsByte, IsWhole, OkIs, all_of, are_bytes, Each, each_map, meanings_are_whole, ok_next, ok_then}
-use Rattle.cdl_laws.proofs.Sayables.{draft_name}
+use Rattle.std.proofs.Common.{◌≡◌, ℕ, List, [], ◌∷◌, map, ap, sym, refl, subst, arith, suc, None, Some, Result, All, rules}
+use Rattle.cdl_laws.proofs.Prelude.{AreBytes, Dataset, Att, Dim, Known, Var, Version, IsGood, bare_var, IsName, record_vars, MeaningsAreGood, MeaningsAreNearlySayable, IsNearlySayable, Lexeme, lexeme, statements, piece_read, run, empty, records_in, dataset_of, header_of, closing_line, finished, AreDistinct, AreSayableAtts, HasSomeNumber, Statement, DeclareDimensions, DeclareVariables, Attribute, Listed, State, Draft, act, with_att, with_values, CdlFault, Token, IsByte, IsWhole, OkIs, all_of, are_bytes, Each, each_map, meanings_are_whole, ok_next, ok_then}
+use Rattle.nc_base.proofs.WholeValues.{map-map}
 use Rattle.cdl_laws.proofs.Said.{HasBytes, IsSaid, shape_says, piece_bytes}
 use Rattle.cdl_laws.proofs.Fine.{IsFineAtt, AreFineAtts, AreFineDims, IsFineDraft, AreFineDrafts, att_keeps, dims_keep, vars_keep, at_keeps, with_att_keeps, with_values_keeps}
 
@@ -76,16 +76,12 @@ no_records : (dims : List Dim) (ds : List Draft) → record_vars dims (map (λ (
 no_records dims [] h = refl
 no_records dims (d ∷ ds) h = grind (arith, no_records dims ds)
 
-draft_names : (ds : List Draft) → map draft_name ds ≡ map (λ (var : Var). var.name) (map (λ (d : Draft). d.var) ds)
-draft_names [] = refl
-draft_names (d ∷ ds) = ap (λ ns. d.var.name ∷ ns) (draft_names ds)
-
 nearly : (v : Version) (s : State) → IsFineState s → IsWhole v (dataset_of v s) → IsNearlySayable (dataset_of v s)
 nearly v s f whole = record {
   good = good v s f whole;
   dims = f.dims.names;
   gatts = sayable_atts s.gatts f.gatts;
-  names = subst AreDistinct (draft_names s.drafts) f.drafts.names;
+  names = subst AreDistinct (sym (map-map (λ (var : Var). var.name) (λ (d : Draft). d.var) s.drafts)) f.drafts.names;
   atts = over_drafts s (λ (var : Var). AreSayableAtts var.atts) f (λ d g. sayable_atts d.var.atts g.atts);
   records = λ h. ap Known (no_records s.dims s.drafts h);
 }
@@ -109,6 +105,3 @@ meanings_are_nearly_sayable text v d bytes e =
 
 pub meanings_are_good : MeaningsAreGood
 meanings_are_good text v d bytes e = ((meanings_are_nearly_sayable text v d bytes e).good, (meanings_are_whole text v d e).version)
-
-pub nearly_is_sayable : NearlyIsSayable
-nearly_is_sayable d near fill = grind (arith, good)

@@ -1,14 +1,11 @@
 -- A valid name, escaped, is one word that stands for it.
-use Rattle.std.proofs.Common.{◌≡◌, ℕ, Bool, true, false, List, [], ◌∷◌, ◌++◌, length, get_or, ◌∙◌, refl, arith, if◌then◌else◌, ap, subst, ◌==◌}
-use Rattle.cdl_laws.proofs.Prelude.{flat_map, list_all, bytes_eq, false≢true, eqb-true, bytes_eq-Decides, is_plain, escaped_in_name, escaped_name, is_reserved, reserved_words, may_begin_name, may_follow_in_name, is_escape, is_escapable, goes_on_word, may_begin_word, word_len, word_value, and_left, and_right, word_at_start, value_at_start, list_any, or_left, or_right}
+use Rattle.std.proofs.Common.{◌≡◌, ℕ, Bool, true, false, List, [], ◌∷◌, ◌++◌, length, get_or, ◌∙◌, refl, arith, if◌then◌else◌, ap}
+use Rattle.cdl_laws.proofs.Prelude.{flat_map, list_all, bytes_eq, bytes_eq-Decides, is_plain, escaped_in_name, escaped_name, is_reserved, reserved_words, may_begin_name, may_follow_in_name, is_escape, is_escapable, goes_on_word, may_begin_word, word_len, word_value, and_left, and_right, word_at_start, value_at_start, list_any, or_left, or_right}
 
 -- ---- bytes
 
 pub no_escape : (b c : ℕ) → goes_on_word b ≡ true → is_escape b c ≡ false
-no_escape b c h = elim (b == 0x5c) as (λ w. (b == 0x5c) ≡ w → is_escape b c ≡ false) [
-  | true ↦ (λ e. absurd (false≢true (subst (λ n. goes_on_word n ≡ true) (eqb-true b 0x5c e) h)))
-  | false ↦ (λ e. rw (e) refl)
-] refl
+no_escape b c h = grind arith
 
 pub escapable : (b : ℕ) → may_follow_in_name b ≡ true → is_escapable b ≡ true
 escapable b h = grind arith

@@ -1,16 +1,13 @@
 -- A decimal number is read again.
-use Rattle.std.proofs.Common.{◌≡◌, ℕ, zero, suc, ◌+◌, ◌/◌, ◌%◌, ◌^◌, ◌<◌, ◌≤◌, Bool, true, false, List, [], ◌∷◌, ◌++◌, length, get_or, sym, ◌∙◌, ap, refl, arith, append-nil, ℤ, pos, unsigned_abs, decimal, not, Some, nat_lt, Option, rules, negsuc, subst}
+use Rattle.std.proofs.Common.{◌≡◌, ℕ, zero, suc, ◌+◌, ◌/◌, ◌%◌, ◌^◌, ◌<◌, ◌≤◌, Bool, true, false, List, [], ◌∷◌, ◌++◌, length, get_or, sym, ◌∙◌, ap, refl, arith, append-nil, ℤ, pos, unsigned_abs, decimal, not, Some, Option, rules, negsuc, subst}
 use Rattle.cdl_laws.proofs.Prelude.{signed_decimal, digits_onto, digits, digit_glyph, prefix_len, list_all, eqb-true, first_decimal, decimal_nonempty, drop-append_seam, take-append_seam, NcType, Int, Version, number_suffix, is_char, has_type, digit_value, is_digit, is_sign, goes_on_number, number_in, type_of_suffix, in_base, with_sign, numeral, parts, Parts, option_map, list_all-append, and_left, and_right, and_both, not_none, number}
 use native.Mathlib.Numerals.{unary_clauses}
 use Rattle.cdl_laws.proofs.Texts.{IsNumber, begun_number}
 
 -- ---- the digits of a number
 
-glyph : (n : ℕ) → digit_glyph false (n % 10) ≡ 48 + n % 10
-glyph n = let e : nat_lt (n % 10) 10 ≡ true = grind arith in rw (e) refl
-
 glyph_value : (n : ℕ) → digit_value (digit_glyph false (n % 10)) ≡ n % 10
-glyph_value n = rw (glyph n) (let e : is_digit (48 + n % 10) ≡ true = grind arith in rw (e) (omega arith))
+glyph_value n = grind arith
 
 onto_digits : (k n : ℕ) (acc : List ℕ) → list_all is_digit acc ≡ true → list_all is_digit (digits_onto k 10 false n acc) ≡ true
 onto_digits zero n acc h = h
@@ -69,8 +66,8 @@ unfolding type_of_suffix
 unsigned_again v minus ty n h k l = grind (arith, unsigned_some)
 
 first_sign : (ds suf : List ℕ) → list_all is_digit ds ≡ true → 0 < length ds → is_sign (get_or (ds ++ suf) 0 0) ≡ false
-first_sign [] suf h k = absurd (omega (arith, k))
-first_sign (d ∷ ds) suf h k = grind (arith, (and_left (is_digit d) (list_all is_digit ds) h))
+first_sign [] suf h k = grind arith
+first_sign (d ∷ ds) suf h k = grind (arith, and_left (is_digit d) (list_all is_digit ds) h)
 
 -- a number of a type with the type's suffix
 pub numeral_again : (v : Version) (ty : NcType) (n : ℤ) → unsigned_abs n < 2 ^ 64 → has_type v ty ≡ true → is_char ty ≡ false →

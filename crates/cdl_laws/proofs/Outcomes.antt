@@ -1,6 +1,6 @@
 -- What holds of what an option has.
 use Rattle.std.proofs.Common.{◌≡◌, Bool, true, arith, if◌then◌else◌, Option, None, Some}
-use Rattle.cdl_laws.proofs.Prelude.{option_map, option_and_then, both, if_so}
+use Rattle.cdl_laws.proofs.Prelude.{option_map, both, if_so}
 
 abbrev pub SomeIs : {A : Type 0} → (A → Type 0) → Option A → Type 0
 SomeIs P None = Unit {0}
@@ -11,9 +11,6 @@ some_any o = grind arith
 
 pub some_map : {A B : Type 0} (P : B → Type 0) (f : A → B) (o : Option A) → SomeIs (λ a. P (f a)) o → SomeIs P (option_map f o)
 some_map P f o h = grind arith
-
-pub some_then : {A B : Type 0} (P : A → Type 0) (Q : B → Type 0) (f : A → Option B) (o : Option A) → SomeIs P o → ((a : A) → P a → SomeIs Q (f a)) → SomeIs Q (option_and_then f o)
-some_then P Q f o h h2 = grind arith
 
 pub some_both : {A B C : Type 0} (P : A → Type 0) (Q : B → Type 0) (R : C → Type 0) (f : A → B → C) (a : Option A) (b : Option B) → SomeIs P a → SomeIs Q b → ((x : A) (y : B) → P x → Q y → R (f x y)) → SomeIs R (both f a b)
 some_both P Q R f a b h h2 h3 = grind arith

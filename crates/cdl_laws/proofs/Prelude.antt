@@ -1,10 +1,10 @@
 -- The names that proofs of this crate cite from elsewhere, passed on from one place.
-pub use Rattle.cdl_laws.specs.Goods.{IsNearlySayable, MeaningsAreGood, MeaningsAreNearlySayable, NearlyIsSayable}
+pub use Rattle.cdl_laws.specs.Goods.{IsNearlySayable, MeaningsAreGood, MeaningsAreNearlySayable}
 pub use Rattle.cdl_laws.specs.PieceLaws.{AttributeReadsBack, AttributesReadBack, DataReadsBack, DeclarationReadsBack, DeclarationsReadBack, DimensionsReadBack, GlobalAttributesReadBack, IsBeforeData, IsStatement, MarksReadBack, PiecesAreStatements, SaysStatement, brace_piece, declaration, dimensions, globals, opening_line, opening_piece, said_dim, variables}
 pub use Rattle.cdl_laws.specs.Reading.{cut_lexemes, lexemes, with_lexeme}
 unfoldable pub use Rattle.cdl_laws.specs.Reading.{lexemes_at, pieces_of}
 pub use Rattle.cdl_laws.specs.RoundTrip.{IsFull, TextReadsBack}
-pub use Rattle.cdl_laws.specs.TokenLaws.{AreToken, BlanksAndMarksStop, ConstantsReadBack, NamesReadBack, StandsForBytes, StopsNumber, StringsReadBack, StringsStandForBytes, ValuesReadBack}
+pub use Rattle.cdl_laws.specs.TokenLaws.{AreToken, ConstantsReadBack, NamesReadBack, StandsForBytes, StopsNumber, StringsReadBack, StringsStandForBytes, ValuesReadBack}
 pub use Rattle.cdl_laws.specs.Trims.{FillValueSurvivesTrim, TrimmedIsSayable, TrimsOnce, has_cut_fill}
 pub use Rattle.cdl_statements.specs.Meaning.{array_of, closing_line, dataset_of, empty, has_small_array, header_of, meaning, records_in, listed_values}
 unfoldable pub use Rattle.cdl_statements.specs.SoundHeaders.{is_sound}
@@ -80,8 +80,8 @@ pub use Rattle.std.proofs.lemmas.Slice.Eq.{bytes_eq-Decides}
 pub use Rattle.std.specs.Char.{is_ascii_control, to_ascii_lowercase}
 pub use Rattle.std.specs.Fmt.{digit_glyph, digits_onto, signed_decimal}
 unfoldable pub use Rattle.std.specs.Fmt.{digits}
-pub use Rattle.std.specs.List.{flat_map, list_all, list_any, position, position_or_len, prefix_len, range_with_len, suffix_len}
-pub use Rattle.std.specs.Option.{ok_or, option_and_then, option_map}
+pub use Rattle.std.specs.List.{flat_map, list_all, list_any, position_or_len, prefix_len, range_with_len, suffix_len}
+pub use Rattle.std.specs.Option.{ok_or, option_map}
 pub use Rattle.std.specs.Ordering.{int_eq}
 pub use Rattle.std.specs.Str.{bytes_eq}
 unfoldable pub use Rattle.std.specs.Str.{chars, is_utf8}

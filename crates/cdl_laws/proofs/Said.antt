@@ -1,6 +1,6 @@
 -- What the statements of a text of bytes say: the characters of their constants are bytes.
-use Rattle.std.proofs.Common.{ℕ, ◌-◌, Bool, true, false, List, [], ◌∷◌, arith, zero, suc, Option, drop, map, is_some, if◌then◌else◌, None}
-use Rattle.cdl_laws.proofs.Prelude.{Version, character, unescape_at, or_zero, Lexeme, is_word_kind, is_mark, name_of, Value, Number, Characters, Underscore, both, at_end, after_member, constant, constants, option_map, Each, each_drop, each_take, IsByte, lexeme, is_opening_kind, is_end_kind, Statement, Open, Enter, DeclareDimensions, DeclareVariables, Attribute, Listed, Close, End, attribute_or_mark, assigned, other_statement, section_mark, section_of, shape, Section, Unopened, Globals, Dimensions, Variables, Values, Closed, Ended, Token}
+use Rattle.std.proofs.Common.{ℕ, ◌-◌, Bool, true, false, List, [], ◌∷◌, arith, zero, suc, Option, drop, map, if◌then◌else◌, None}
+use Rattle.cdl_laws.proofs.Prelude.{Version, character, unescape_at, or_zero, Lexeme, is_word_kind, is_mark, name_of, Value, Number, Characters, Underscore, both, at_end, after_member, constant, constants, option_map, Each, each_drop, each_take, IsByte, lexeme, is_opening_kind, is_end_kind, Statement, Open, Enter, DeclareDimensions, DeclareVariables, Attribute, Listed, Close, End, attribute_or_mark, assigned, other_statement, section_mark, shape, Section, Unopened, Globals, Dimensions, Variables, Values, Closed, Ended, Token}
 use Rattle.cdl_laws.proofs.Outcomes.{SomeIs, some_any, some_map, some_both, some_given, in_if}
 use Rattle.cdl_statements.specs.Shapes as shapes
 
@@ -70,9 +70,7 @@ owned_says v l o c ls h = grind (arith, attribute_says v o ls h, marks_say Varia
 
 other_says : (v : Version) (section : Section) (l : Lexeme) (ls : List Lexeme) → Each HasBytes ls → SomeIs IsSaid (other_statement v section l ls)
 other_says v Globals l ls h = marks_say Globals l ls
-other_says v Dimensions l ls h =
-    in_if (SomeIs IsSaid) (is_some (section_of l)) (section_mark Dimensions l ls) (option_map DeclareDimensions (shapes.dimensions v (l ∷ ls))) (marks_say Dimensions l ls)
-    (some_map IsSaid DeclareDimensions (shapes.dimensions v (l ∷ ls)) (some_any (shapes.dimensions v (l ∷ ls))))
+other_says v Dimensions l ls h = grind (arith, marks_say)
 other_says v Variables l (c ∷ ls) h =
     some_given IsSaid (is_word_kind l.kind) _ (λ e.
     in_if (SomeIs IsSaid) (is_mark 0x3a c) (attribute_or_mark v l (name_of l) (c ∷ ls)) (option_map (DeclareVariables l) (shapes.variables (c ∷ ls))) (owned_says v l (name_of l) c ls h.1)

@@ -28,7 +28,7 @@ none_before [] = tt
 none_before (n ∷ names) = (refl, none_before names)
 
 -- what is good, and has no name of another, is new after what is made of the others
-new_after : {X Y : Type 0} (name : X → List ℕ) (made : Y → List ℕ) (f : X → Y) (P : List Y → X → Type 0) (Q : X → Type 0) →
+pub new_after : {X Y : Type 0} (name : X → List ℕ) (made : Y → List ℕ) (f : X → Y) (P : List Y → X → Type 0) (Q : X → Type 0) →
     ((x : X) → made (f x) ≡ name x) →
     ((done : List Y) (x : X) → Q x → list_any (λ y. bytes_eq (made y) (name x)) done ≡ false → P done x) →
     (done : List Y) (xs : List X) → AreFresh (map made done) (map name xs) → AreDistinct (map name xs) → Each Q xs → EachAfter f P done xs

@@ -1,6 +1,6 @@
 -- What a text makes of a state, statement by statement.
-use Rattle.std.proofs.Common.{◌≡◌, ℕ, Bool, true, false, List, [], ◌∷◌, ◌++◌, ◌∙◌, ap, refl, append_assoc, ◌&&◌, if◌then◌else◌, None, Some, is_none, Ok, arith, rules, map}
-use Rattle.cdl_laws.proofs.Prelude.{list_all, Version, Section, Globals, Dimensions, Variables, Values, Role, Lexeme, first_role, role, piece_read, pieces_after, going_on, unless_end, with_first, is_section, pieces_by_steps, cut_lexemes, pieces_of, Statement, first_bad, token_fault, shape, State, act, in_turn, and_left, and_right, and_both, Each, IsStatement, lexemes_at}
+use Rattle.std.proofs.Common.{◌≡◌, ℕ, Bool, true, false, List, [], ◌∷◌, ◌++◌, ◌∙◌, ap, refl, append_assoc, ◌&&◌, None, Some, is_none, Ok, arith, rules, map}
+use Rattle.cdl_laws.proofs.Prelude.{list_all, Version, Section, Globals, Dimensions, Variables, Values, Role, Lexeme, first_role, role, piece_read, pieces_after, going_on, unless_end, with_first, pieces_by_steps, cut_lexemes, pieces_of, Statement, first_bad, token_fault, shape, State, act, in_turn, and_left, and_right, and_both, Each, IsStatement, lexemes_at}
 use Rattle.cdl_statements.specs.declared.piece.Role.TheVariants as roles
 use Rattle.cdl_statements.specs.declared.piece.CutState.TheVariants.{Begins, Inside}
 use Rattle.cdl_laws.proofs.Texts as texts
@@ -60,7 +60,7 @@ abbrev pub is_fine : Version → Lexeme → Bool
 is_fine v l = is_plain (role l) && is_none (token_fault v l.kind l.bytes)
 
 pub word_fine : (v : Version) (bytes : List ℕ) → is_fine v (word bytes) ≡ true
-word_fine v bytes = elim (is_section bytes) as (λ b. is_plain (if b then roles.Section else roles.Other) && true ≡ true) [ true ↦ refl | false ↦ refl ]
+word_fine v bytes = grind arith
 
 pub all_fine : {A : Type 0} (v : Version) (lex : A → Lexeme) (P : A → Type 0) → ((x : A) → P x → is_fine v (lex x) ≡ true) →
     (xs : List A) → Each P xs → list_all (is_fine v) (map lex xs) ≡ true

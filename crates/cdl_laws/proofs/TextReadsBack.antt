@@ -1,23 +1,14 @@
 -- The full dump of a dataset that a text can declare means that dataset, trimmed.
-use Rattle.std.proofs.Common.{◌≡◌, ℕ, ◌<◌, true, List, [], ◌∷◌, ◌++◌, map, sym, ◌∙◌, ap, refl, subst, arith, All, Option, Ok, rules}
-use Rattle.cdl_laws.proofs.Prelude.{DataText, list_all, map-append, AreBytes, Dataset, Att, Dim, Header, Known, Streaming, Var, Version, Options, unknown, dump_text, shown_data_text, values_in_dataset, selection_of, IsGood, IsSoundVar, bare, bare_var, IsName, slab_count, dataset_of, Ended, has_small_array, is_sound, meaning, are_within_limits, records_in, sound_is_tested, State, IsFull, TextReadsBack, trimmed, trimmed_att, AreDistinct, IsSayable, IsSayableVar, Draft, Listing, and_both, some_count, Each, each_map, each_of}
+use Rattle.std.proofs.Common.{◌≡◌, ℕ, ◌<◌, true, List, [], ◌∷◌, map, sym, ◌∙◌, ap, refl, subst, arith, All, Ok, rules}
+use Rattle.cdl_laws.proofs.Prelude.{DataText, list_all, AreBytes, Dataset, Att, Dim, Header, Known, Streaming, Var, Version, Options, unknown, dump_text, shown_data_text, values_in_dataset, selection_of, IsGood, IsSoundVar, bare, bare_var, IsName, slab_count, dataset_of, Ended, has_small_array, is_sound, meaning, are_within_limits, records_in, sound_is_tested, State, IsFull, TextReadsBack, trimmed, trimmed_att, AreDistinct, IsSayable, IsSayableVar, Draft, and_both, some_count, Each, each_map, each_of, any_each, record_vars, array_of, trimmed_var}
 use Rattle.nc_base.specs.declared.header.NumRecs.{NumRecs}
-use Rattle.cdl_laws.proofs.DataTexts.{given_draft, given_drafts}
-use Rattle.cdl_laws.proofs.Datasets.{keeps_fill, are_back, listings, stand_after, AreNewVars, all_given, arrays_back, vars_back, records_back, all_small}
+use Rattle.cdl_laws.proofs.Acts.{no_draft}
+use Rattle.cdl_laws.proofs.Datasets.{Row, row_name, given, keeps_fill, rows_of, arrays_back, records_back, all_small}
+use Rattle.nc_base.proofs.WholeValues.{map-map}
 use Rattle.cdl_laws.proofs.Dumps.{text_back}
-use Rattle.cdl_laws.proofs.Sayables.{AreFresh, fresh_more, any_map, none_before, draft_name, var_name, atts_new, atts_speak, dims_new, IsSayableHead, vars_fit}
+use Rattle.cdl_laws.proofs.Sayables.{new_after, none_before, draft_name, var_name, atts_new, atts_speak, dims_new, IsSayableHead, vars_fit}
 use Rattle.cdl_laws.proofs.Trimmed.{good_still}
 use Rattle.cdl_laws.proofs.Wholes.{state}
-
-new_vars : (before : List Draft) (vars : List Var) (os : List (Option Listing)) → AreFresh (map draft_name before) (map var_name vars) → AreDistinct (map var_name vars) → Each (λ (var : Var). IsName var.name) vars → AreNewVars before vars os
-new_vars before (var ∷ vars) (o ∷ os) fresh distinct names = (
-  names.0,
-  any_map draft_name var.name before ∙ fresh.0,
-  new_vars (before ++ given_draft var o ∷ []) vars os
-      (subst (λ ns. AreFresh ns (map var_name vars)) (sym (map-append draft_name before (given_draft var o ∷ []))) (fresh_more (map draft_name before) var.name (map var_name vars) fresh.1 distinct.0))
-      distinct.1 names.1,
-)
-new_vars before _ _ fresh distinct names = tt
 
 all_bare : (vars : List Var) → Each (λ (var : Var). var.begin_at ≡ 0) (map bare_var vars)
 all_bare [] = tt
@@ -51,25 +42,32 @@ ready d o s full section g is =
     let say = each_of IsSayableVar h.vars s.vars in
     let bares = subst (λ vars. Each (λ (var : Var). var.begin_at ≡ 0) vars) (sym (ap (λ (k : Header). k.vars) g.is_bare)) (all_bare h.vars) in
     let head = heads v h.dims h.vars sound names (each_of (λ (var : Var). All (λ (att : Att). AreBytes att.vals) var.atts) h.vars g.values.vars) say bares in
-    let valid = each_map (IsSayableHead v h.dims) (λ (var : Var). IsName var.name × keeps_fill var) h.vars (λ var x. (x.name, x.sayable.fill)) head in
-    let backs = are_back v h n o.width h.vars d.arrays g.arrays valid in
-    let os = listings v h n o.width h.vars d.arrays backs in
-    let drafts = given_drafts h.vars os in
+    let valid = each_map (IsSayableHead v h.dims) (λ (var : Var). IsName var.name × keeps_fill var × (0 < slab_count h.dims var)) h.vars
+    (λ var x. (x.name, x.sayable.fill, some_count h.dims var.dimids x.sound.shape)) head in
+    let all = rows_of v h n o.width h.vars d.arrays g.arrays valid in
+    let rows = all.rows in
+    let drafts = map given rows in
     let gatts = map trimmed_att h.gatts in
     let known : h.numrecs ≡ Known n = ap (λ (k : Header). k.numrecs) g.is_bare in
-    let slabs = each_map (IsSoundVar v h.dims) (λ (var : Var). 0 < slab_count h.dims var) h.vars (λ var x. some_count h.dims var.dimids x.shape) sound in
-    let count : records_in h.dims drafts ≡ n = records_back v h n o.width h.vars d.arrays backs slabs (λ none. ap number (sym known ∙ s.records none)) in
-    let vars = vars_back v h n o.width h.vars d.arrays backs in
-    let back : dataset_of v (state Ended h.dims gatts drafts) ≡ trimmed d = search (rules, arrays_back) in
-    text_back d o n os full (record {
+    let none : record_vars h.dims (map (λ (r : Row v h n o.width). r.var) rows) ≡ [] → n ≡ 0 = λ e. ap number (sym known ∙ s.records (ap (record_vars h.dims) (sym all.vars_are) ∙ e)) in
+    let count : records_in h.dims drafts ≡ n = grind (arith, records_back v h n o.width rows, none) in
+    let vars : map (λ (w : Draft). w.var) drafts ≡ map trimmed_var h.vars =
+    map-map (λ (w : Draft). w.var) given rows ∙ sym (map-map trimmed_var (λ (r : Row v h n o.width). r.var) rows) ∙ ap (map trimmed_var) all.vars_are in
+    let arrays : map (array_of h.dims n) drafts ≡ d.arrays = arrays_back v h n o.width rows ∙ all.arrays_are in
+    let names : map row_name rows ≡ map var_name h.vars = sym (map-map var_name (λ (r : Row v h n o.width). r.var) rows) ∙ ap (map var_name) all.vars_are in
+    let distinct : AreDistinct (map row_name rows) = subst AreDistinct (sym names) s.names in
+    let back : dataset_of v (state Ended h.dims gatts drafts) ≡ trimmed d = search (rules, arrays) in
+    text_back d o n rows full (record {
       dims = dims_new v h.dims s.dims g.is_sound.dims g.names.dims g.is_sound.one_record_dim;
       distinct = s.dims;
       names = each_of (λ (dim : Dim). IsName dim.name) h.dims g.names.dims;
       vars = vars_fit v h.dims h.vars s.names head;
       gatts = atts_speak v h.gatts g.is_sound.gatts g.values.gatts s.gatts.some g.names.gatts;
       fresh = atts_new h.gatts s.gatts.names;
-      given = all_given v d n o.width 0 [] h.vars d.arrays backs (stand_after [] d.arrays) (new_vars [] h.vars os (none_before (map var_name h.vars)) s.names (each_map (IsSayableHead v h.dims) (λ (var : Var). IsName var.name) h.vars (λ var x. x.name) head));
-      small = small_all d (state Ended h.dims gatts drafts) n g back count (all_small v h n o.width h.vars d.arrays backs g.arrays);
+      vars_are = all.vars_are;
+      arrays_are = sym all.arrays_are;
+      new = new_after row_name draft_name given (λ done r. no_draft r.var.name done) (λ r. Unit {0}) (λ r. refl) (λ done r u new. new) [] rows (none_before (map row_name rows)) distinct (any_each rows);
+      small = small_all d (state Ended h.dims gatts drafts) n g back count (all_small v h n o.width rows);
       back = back;
     }) section is
 

@@ -1,6 +1,6 @@
 -- Names, strings and numbers are read back, each as one token.
 use Rattle.std.proofs.Common.{◌≡◌, ℕ, ◌+◌, Bool, true, false, List, [], ◌∷◌, ◌++◌, length, get_or, sym, ◌∙◌, ap, refl, subst, arith, ◌||◌, ◌==◌, codes, ◌≤◌}
-use Rattle.cdl_laws.proofs.Prelude.{is_mark_byte, prefix_len, false≢true, eqb-true, take-append-drop, get_or-drop, take-append_seam, escaped_name, escaped_text, is_reserved, is_blank, goes_on_word, goes_on_number, word_len, scan, begins_opening, stands_for, BlanksAndMarksStop, NamesReadBack, StringsReadBack, StopsNumber, ConstantsReadBack, ValuesReadBack, and_left, and_right, word_at_start, number_suffix}
+use Rattle.cdl_laws.proofs.Prelude.{prefix_len, false≢true, eqb-true, take-append-drop, get_or-drop, take-append_seam, escaped_name, escaped_text, is_reserved, is_blank, goes_on_word, goes_on_number, word_len, scan, begins_opening, stands_for, NamesReadBack, StringsReadBack, StopsNumber, ConstantsReadBack, ValuesReadBack, and_left, and_right, word_at_start, number_suffix}
 use Rattle.cdl_laws.proofs.Attributes.{small_is}
 use Rattle.cdl_laws.proofs.Heads.{opens_none}
 use Rattle.cdl_laws.proofs.NameTexts.{begins, name_len, name_value}
@@ -25,12 +25,6 @@ literal b n stop h = subst IsStop (sym (eqb-true b n h)) stop
 blank_stop : (b : ℕ) → is_blank b ≡ true → IsStop b
 blank_stop b h = let low : b ≤ 0x20 = grind (arith, h) in
     record { word = grind (arith, low); slash = grind (arith, low); number = grind (arith, low) }
-
-mark_stop : (b : ℕ) → is_mark_byte b ≡ true → IsStop b
-mark_stop b h = grind (arith, one_of, literal)
-
-pub blanks_and_marks_stop : BlanksAndMarksStop
-blanks_and_marks_stop b rest h = grind (arith, one_of (is_blank b) (is_mark_byte b) (blank_stop b) (mark_stop b) h)
 
 -- what stands after the word of an opening
 opens_stop : (b : ℕ) → (is_blank b || b == 0x7b) ≡ true → IsStop b

@@ -4,6 +4,7 @@ use Rattle.cdl_laws.proofs.Prelude.{take-length, length-take, length-map, suffix
 use Rattle.cdl_laws.proofs.Attributes.{take_bytes}
 use Rattle.cdl_laws.proofs.Datasets.{same_record, record_trimmed}
 use Rattle.cdl_laws.proofs.MeaningsAreGood.{each_of_map}
+use Rattle.nc_base.proofs.WholeValues.{map-map}
 use Rattle.std.specs.Prelude.{unwrap_or}
 use Rattle.cdl_laws.proofs.Given.{found_trimmed}
 
@@ -72,12 +73,8 @@ att_bytes att h = grind (arith, take_bytes (length att.vals - suffix_len nul att
 var_sound : (v : Version) (dims : List Dim) (var : Var) → IsSoundVar v dims var → IsSoundVar v dims (trimmed_var var)
 var_sound v dims var s = search (rules, length-map, over_map, att_sound)
 
-bare_trimmed : (vars : List Var) → map trimmed_var (map bare_var vars) ≡ map bare_var (map trimmed_var vars)
-bare_trimmed [] = refl
-bare_trimmed (var ∷ vars) = ap (λ vs. bare_var (trimmed_var var) ∷ vs) (bare_trimmed vars)
-
 bare_still : (h : Header) (n : ℕ) → h ≡ bare h n → trimmed_header h ≡ bare (trimmed_header h) n
-bare_still h n e = ap trimmed_header e ∙ ap (λ (vs : List Var). record h { numrecs = Known n; gatts = map trimmed_att h.gatts; vars = vs }) (bare_trimmed h.vars)
+bare_still h n e = ap trimmed_header e ∙ ap (λ (vs : List Var). record h { numrecs = Known n; gatts = map trimmed_att h.gatts; vars = vs }) (map-map trimmed_var bare_var h.vars ∙ sym (map-map bare_var trimmed_var h.vars))
 
 arrays_still : (dims : List Dim) (n : ℕ) (vars : List Var) (arrays : List (List ℕ)) → AreArrays dims n vars arrays → AreArrays dims n (map trimmed_var vars) arrays
 arrays_still dims n (var ∷ vars) (x ∷ arrays) a = (record { bytes = a.0.bytes; whole = a.0.whole; small = a.0.small }, arrays_still dims n vars arrays a.1)
@@ -100,15 +97,11 @@ good_still d g = record {
   arrays = arrays_still d.header.dims g.records d.header.vars d.arrays g.arrays;
 }
 
-names_same : {X : Type 0} (name : X → List ℕ) (f : X → X) → ((x : X) → name x ≡ name (f x)) → (xs : List X) → map name xs ≡ map name (map f xs)
-names_same name f e [] = refl
-names_same name f e (x ∷ xs) = ap (λ n. n ∷ map name xs) (e x) ∙ ap (λ ns. name (f x) ∷ ns) (names_same name f e xs)
-
 some_still : (att : Att) → HasSomeNumber att → HasSomeNumber (trimmed_att att)
 some_still att h e = subst (λ b. 0 < length (if b then without_trailing_nuls att.vals else att.vals)) (sym e) (h e)
 
 atts_still : (atts : List Att) → AreSayableAtts atts → AreSayableAtts (map trimmed_att atts)
-atts_still atts s = grind (arith, names_same (λ (a : Att). a.name) trimmed_att, over_map HasSomeNumber trimmed_att atts some_still s.some)
+atts_still atts s = grind (arith, map-map (λ (a : Att). a.name) trimmed_att atts, over_map HasSomeNumber trimmed_att atts some_still s.some)
 
 var_still : (var : Var) → IsSayableVar var → IsSayableVar (trimmed_var var)
 var_still var s = record { atts = atts_still var.atts s.atts; fill = λ e. ap fill_value (var_once var) }
@@ -122,7 +115,7 @@ trimmed_is_sayable d s = record {
   good = good_still d s.good;
   dims = s.dims;
   gatts = atts_still d.header.gatts s.gatts;
-  names = subst AreDistinct (names_same (λ (var : Var). var.name) trimmed_var (λ var. refl) d.header.vars) s.names;
+  names = subst AreDistinct (sym (map-map (λ (var : Var). var.name) trimmed_var d.header.vars)) s.names;
   vars = over_map IsSayableVar trimmed_var d.header.vars var_still s.vars;
   records = λ e. s.records (no_vars (record_vars d.header.dims d.header.vars) (sym (record_trimmed d.header.dims d.header.vars) ∙ e));
 }

@@ -1,5 +1,5 @@
 -- The head of a dump, statement after statement.
-use Rattle.std.proofs.Common.{◌≡◌, ℕ, zero, suc, ◌^◌, ◌<◌, true, false, List, [], ◌∷◌, ◌++◌, length, map, sym, ◌∙◌, ap, refl, subst, arith, append_assoc, append-nil, None, Some, Ok, Option}
+use Rattle.std.proofs.Common.{◌≡◌, ℕ, suc, ◌^◌, ◌<◌, true, false, List, [], ◌∷◌, ◌++◌, length, map, sym, ◌∙◌, ap, refl, subst, arith, append_assoc, append-nil, None, Some, Ok, Option}
 use Rattle.cdl_laws.proofs.Prelude.{list_any, bytes_eq, concat_parts, Att, Dim, Var, NcType, Version, escaped_name, AreDimids, dim_line, att_line, att_lines, var_lines, dim_name, IsName, type_word, count_limit, has_type, Section, Dimensions, Variables, trimmed_att, trimmed_var, DeclareDimensions, DeclareVariables, Attribute, State, Draft, act, add_dim, add_att, said_dim, IsBeforeData, Each, ◌>>=◌, declaration, EachAfter, each_after, type_of, AttributeReadsBack, DeclarationReadsBack}
 use Rattle.cdl_laws.proofs.Texts.{word}
 use Rattle.cdl_laws.proofs.ValueTexts.{turn}
@@ -98,14 +98,13 @@ abbrev pub AreFit : Version → List Dim → List Draft → List Var → Type 0
 AreFit v dims before vars = EachAfter draft_of (IsFit v dims) before vars
 
 -- the shape's names
-known_name : (dims : List Dim) (k : ℕ) → k < length dims → dim_name dims k ≡ escaped_name (name_at dims k)
-known_name [] k h = absurd (omega (arith, h))
-known_name (d ∷ dims) zero h = refl
-known_name (d ∷ dims) (suc k) h = known_name dims k (omega (arith, h))
-
 known_names : (dims : List Dim) (before ids : List ℕ) → AreDimids dims before ids → map (dim_name dims) ids ≡ map escaped_name (map (name_at dims) ids)
 known_names dims before [] are = refl
-known_names dims before (k ∷ ids) are = ap (λ n. n ∷ map (dim_name dims) ids) (known_name dims k are.0.known) ∙ ap (λ ns. escaped_name (name_at dims k) ∷ ns) (known_names dims (before ++ k ∷ []) ids are.1)
+known_names dims before (k ∷ ids) are = ap (λ n. n ∷ map (dim_name dims) ids) (name dims k are.0.known) ∙ ap (λ ns. escaped_name (name_at dims k) ∷ ns) (known_names dims (before ++ k ∷ []) ids are.1)
+  where
+    name : (dims : List Dim) (k : ℕ) → k < length dims → dim_name dims k ≡ escaped_name (name_at dims k)
+    name (d ∷ dims) (suc k) h = name dims k (omega (arith, h))
+    name _ _ h = grind arith
 
 pub valid_names : (dims : List Dim) (before ids : List ℕ) → HaveNames dims → AreDimids dims before ids → AreNames (map (name_at dims) ids)
 valid_names dims before [] names are = tt
