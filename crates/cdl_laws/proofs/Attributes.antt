@@ -1,5 +1,5 @@
 -- The values of an attribute are read back.
-use Rattle.std.proofs.Common.{◌≡◌, ℕ, zero, suc, ◌+◌, ◌*◌, ◌/◌, ◌^◌, ◌<◌, true, false, List, [], ◌∷◌, ◌++◌, length, drop, take, map, sym, ◌∙◌, ap, refl, subst, arith, length-take, length-drop, ℤ, rules, pos, unsigned_abs, Ok}
+use Rattle.std.proofs.Common.{◌≡◌, ℕ, zero, suc, ◌+◌, ◌*◌, ◌/◌, ◌^◌, ◌<◌, true, false, List, [], ◌∷◌, length, drop, take, map, sym, ◌∙◌, ap, refl, subst, arith, length-take, length-drop, ℤ, rules, pos, unsigned_abs, Ok}
 use Rattle.cdl_laws.proofs.Prelude.{flat_map, mul-div_cancel, ints, take-append-drop, get_or-drop, AreBytes, Att, NcType, Char, Version, numbers, numbers_from, bytes_of_number, IsInRange, size_of, IsSoundAtt, att_text, numbers_text, joined, without_trailing_nuls, IsName, is_char, has_type, trimmed_att, HasSomeNumber, Characters, has_number, some_size, is_had, Each, each_map, Lexeme, chars_text, concat_parts}
 use Rattle.nc_base.proofs.NumberBytes.{bytes_read_back, numbers_in_range}
 use Rattle.cdl_laws.proofs.Acts.{numbers_added, chars_added}
@@ -26,19 +26,18 @@ take_bytes (suc n) (b ∷ bytes) h (suc i) = take_bytes n bytes (λ j. h (suc j)
 take_bytes _ _ h i = omega arith
 
 len_take : (ty : NcType) (n : ℕ) (bytes : List ℕ) → length bytes ≡ suc n * size_of ty → length (take (size_of ty) bytes) ≡ size_of ty
-len_take ty n bytes h = let e = length-take (size_of ty) bytes in let g : suc n * size_of ty ≡ size_of ty + n * size_of ty = grind arith in omega (arith, e, h, g)
+len_take ty n bytes h = grind (arith, length-take (size_of ty) bytes)
 
 len_drop : (ty : NcType) (n : ℕ) (bytes : List ℕ) → length bytes ≡ suc n * size_of ty → length (drop (size_of ty) bytes) ≡ n * size_of ty
-len_drop ty n bytes h = let e = length-drop (size_of ty) bytes in let g : suc n * size_of ty ≡ size_of ty + n * size_of ty = grind arith in omega (arith, e, h, g)
+len_drop ty n bytes h = grind (arith, length-drop (size_of ty) bytes)
 
 pub numbers_back : (ty : NcType) (n : ℕ) (bytes : List ℕ) → AreBytes bytes → length bytes ≡ n * size_of ty → flat_map (bytes_of_number ty) (numbers_from ty n bytes) ≡ bytes
 numbers_back ty zero [] small h = refl
-numbers_back ty zero (b ∷ bytes) small h = absurd (let e : suc (length bytes) ≡ 0 * size_of ty = h in omega (arith, e))
+numbers_back ty zero (b ∷ bytes) small h = grind arith
 numbers_back ty (suc n) bytes small h =
-    let rest = flat_map (bytes_of_number ty) (numbers_from ty n (drop (size_of ty) bytes)) in
-    ap (λ first. first ++ rest) (bytes_read_back ty (take (size_of ty) bytes) (take_bytes (size_of ty) bytes small) (len_take ty n bytes h)) ∙
-    ap (λ later. take (size_of ty) bytes ++ later) (numbers_back ty n (drop (size_of ty) bytes) (drop_bytes (size_of ty) bytes small) (len_drop ty n bytes h)) ∙
-    take-append-drop (size_of ty) bytes
+    let first = bytes_read_back ty (take (size_of ty) bytes) (take_bytes (size_of ty) bytes small) (len_take ty n bytes h) in
+    let later = numbers_back ty n (drop (size_of ty) bytes) (drop_bytes (size_of ty) bytes small) (len_drop ty n bytes h) in
+    cc (first, later, take-append-drop (size_of ty) bytes)
 
 pub numbers_range : (ty : NcType) (n : ℕ) (bytes : List ℕ) → AreBytes bytes → length bytes ≡ n * size_of ty → Each (IsInRange ty) (numbers_from ty n bytes)
 numbers_range ty zero bytes small h = tt

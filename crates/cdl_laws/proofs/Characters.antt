@@ -38,11 +38,9 @@ rows_text look done k ((x ∷ xs) ∷ rows) h len some wide all =
     let row_len : length s ≡ look.row = all.0 in
     let more = length-append done s in
     let grown : length (done ++ s) ≡ (k + 1) * look.row = more ∙ ap (λ n. n + length s) len ∙ ap (λ n. k * look.row + n) row_len ∙ (let g : k * look.row + look.row ≡ (k + 1) * look.row = grind arith in g) in
-    a_row look done x xs (flat rows) k len (omega (arith, row_len)) ∙
-    ap (λ lead. lead ++ (escaped_text (printed look.trimmed 0 s) ++ char_pieces look (done ++ s) (flat rows)))
-    (later_lead look (length done) h some) ∙
-    ap (λ bs. codes "\",\n  \"" ++ (escaped_text (printed look.trimmed 0 s) ++ bs))
-    (rows_text look (done ++ s) (k + 1) rows h grown (omega (arith, more, some)) wide all.1)
+    let row = a_row look done x xs (flat rows) k len (omega (arith, row_len)) in
+    let others = rows_text look (done ++ s) (k + 1) rows h grown (omega (arith, more, some)) wide all.1 in
+    simp (row, later_lead look (length done) h some, others)
 rows_text look done k _ h len some wide all = grind arith
 
 -- ---- a variable's characters

@@ -2,9 +2,9 @@
 use Rattle.std.proofs.Common.{◌≡◌, ℕ, ◌+◌, ◌<◌, ◌≤◌, Bool, true, false, List, [], ◌∷◌, ◌++◌, length, map, sym, ◌∙◌, ap, refl, subst, ℤ, pos, if◌then◌else◌, Option, None, Some, Ok, arith, rules}
 use Rattle.cdl_laws.proofs.Prelude.{DataText, printed, Att, Dim, Header, Var, Version, VariableValues, with_variable, fill_value, IsName, is_record_var, Look, is_char, variable_text, Values, trimmed_var, Value, Characters, Listed, State, Draft, Listing, Numbers, Joined, Rows, Listable, listable_of, act, listing_of, values_in, filled, has_number, Each, each_map, IsStatement}
 use Rattle.cdl_laws.proofs.ValueTexts.{AreSmall, value_said, numbers_listed}
-use Rattle.cdl_laws.proofs.Characters.{flat, IsCharacter, row_back, rows_listed, rows_full, line_listed, back_whole, filled_whole}
+use Rattle.cdl_laws.proofs.Characters.{flat, table_closed, line_closed, IsCharacter, row_back, rows_listed, rows_full, line_listed, back_whole, filled_whole}
 use Rattle.cdl_laws.proofs.Takes.{Takes, says_takes, takes_both}
-use Rattle.cdl_laws.proofs.Heads.{numbers_say, table_says, line_says}
+use Rattle.cdl_laws.proofs.Heads.{numbers_say, strings_say}
 use Rattle.cdl_laws.proofs.Acts.{no_draft, variable_is}
 use Rattle.cdl_laws.proofs.Wholes.{state, draft_of}
 
@@ -44,7 +44,7 @@ pub gives_table : (v : Version) (dims : List Dim) (look : Look) (var : Var) (r :
     (look.trimmed ≡ true → look.fill ≡ pos 0) → look.row ≡ (listable_of dims (trimmed_var var)).row → 0 < look.row → ((listable_of dims (trimmed_var var)).is_open ≡ false → length (r ∷ rows) ≤ (listable_of dims (trimmed_var var)).rows) → Each (λ (s : List ℤ). (length s ≡ look.row) × Each IsCharacter s) (r ∷ rows) → Gives v dims look var (flat (r ∷ rows))
 gives_table v dims look var r rows listable ty h fill row some few all = record {
   said = map Characters (map (printed look.trimmed 0) (r ∷ rows));
-  says = grind (arith, table_says, each_map);
+  says = subst (λ n. IsStatement v Values (variable_text look (flat (r ∷ rows))) (Listed n (map Characters (map (printed look.trimmed 0) (r ∷ rows))))) listable.name (strings_say v look (variable_text look (flat (r ∷ rows))) r rows listable.valid (table_closed look r rows listable.valid ty h some (each_map (λ (s : List ℤ). (length s ≡ look.row) × Each IsCharacter s) (λ (s : List ℤ). length s ≡ look.row) (r ∷ rows) (λ s p. p.0) all)));
   listing = Rows (map (printed look.trimmed 0) (r ∷ rows));
   added = rows_listed (listable_of dims (trimmed_var var)) look.trimmed (r ∷ rows) (ap is_char listable.ty ∙ ty) (listable.rows ∙ h) few are;
   full = ap (filled (length (flat (r ∷ rows))) (fill_value (trimmed_var var))) back ∙ filled_whole (length (flat (r ∷ rows))) (fill_value (trimmed_var var)) (flat (r ∷ rows)) refl;
@@ -61,7 +61,7 @@ pub gives_line : (v : Version) (dims : List Dim) (look : Look) (var : Var) (x : 
     (look.trimmed ≡ true → fill_value (trimmed_var var) ≡ pos 0) → (is_record_var dims var ≡ true → look.trimmed ≡ false) → Each IsCharacter (x ∷ xs) → Gives v dims look var (x ∷ xs)
 gives_line v dims look var x xs listable ty h small fill record_whole all = record {
   said = Characters (printed look.trimmed 0 (x ∷ xs)) ∷ [];
-  says = subst (λ n. IsStatement v Values (variable_text look (x ∷ xs)) (Listed n (Characters (printed look.trimmed 0 (x ∷ xs)) ∷ []))) listable.name (line_says v look x xs listable.valid ty h small);
+  says = subst (λ n. IsStatement v Values (variable_text look (x ∷ xs)) (Listed n (Characters (printed look.trimmed 0 (x ∷ xs)) ∷ []))) listable.name (strings_say v look (variable_text look (x ∷ xs)) (x ∷ xs) [] listable.valid (line_closed look x xs listable.valid ty h small));
   listing = Joined (printed look.trimmed 0 (x ∷ xs));
   added = line_listed (listable_of dims (trimmed_var var)) look.trimmed (x ∷ xs) (ap is_char listable.ty ∙ ty) (listable.rows ∙ h) listable.wide;
   full = row_back look.trimmed (length (x ∷ xs)) (fill_value (trimmed_var var)) (x ∷ xs) fill refl all;

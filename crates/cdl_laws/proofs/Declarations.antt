@@ -1,6 +1,6 @@
 -- The statements of a head, and what they say.
 use Rattle.std.proofs.Common.{◌≡◌, ℕ, zero, suc, ◌^◌, ◌<◌, true, false, List, [], ◌∷◌, ◌++◌, map, sym, ◌∙◌, ap, refl, arith, append_assoc, append-nil, ℤ, pos, decimal, ◌==◌, not, if◌then◌else◌, None, Some, Ok, codes, rules, length, subst}
-use Rattle.cdl_laws.proofs.Prelude.{signed_decimal, flat_map, list_all, option_map, list_all-append, concat_parts, Att, Dim, NcType, Version, escaped_name, escaped_in_string, joined, dim_len_text, dim_line, unlimited_word, currently_word, att_line, att_text, broken_text, string_break, IsName, number_suffix, Section, Dimensions, Variables, is_digit, Lexeme, said_dim, IsBeforeData, globals, dimensions, variables, Value, Number, DeclareDimensions, Attribute, both, constants, assigned, shape, and_left, and_right, and_both, Each, escaped_text, type_word, DeclareVariables, Variable, in_parentheses, any_each, not_none, IsStatement, AttributeReadsBack, first_type, in_turn, add_constant, trimmed_att, Var, declaration, dim_name, shape_text, lexemes_at}
+use Rattle.cdl_laws.proofs.Prelude.{signed_decimal, flat_map, list_all, list_all-append, concat_parts, Att, Dim, NcType, Version, escaped_name, escaped_in_string, joined, dim_len_text, dim_line, unlimited_word, currently_word, att_line, att_text, broken_text, string_break, IsName, number_suffix, Section, Dimensions, Variables, is_digit, Lexeme, said_dim, IsBeforeData, globals, dimensions, variables, Value, Number, DeclareDimensions, Attribute, both, constants, assigned, shape, and_left, and_right, and_both, Each, escaped_text, type_word, DeclareVariables, Variable, in_parentheses, any_each, not_none, IsStatement, AttributeReadsBack, first_type, in_turn, add_constant, trimmed_att, Var, declaration, dim_name, shape_text, lexemes_at}
 use Rattle.cdl_laws.proofs.Texts.{Closed, Reads, mark, word, number, name_word, name_stands, marks_closed, number_reads, mark_read, stops, reading}
 use Rattle.cdl_laws.proofs.Numerals.{value_again, decimal_digits, on_suffix, number_is, value_is}
 use Rattle.cdl_laws.proofs.Strings.{string}
@@ -32,19 +32,14 @@ unfolding dim_len_text concat_parts unlimited_word currently_word
 extent_closed n zero h rest = simp (reading, bare_word 85 (codes "NLIMITED") refl refl, simp append_assoc at (records_read n rest))
 extent_closed n (suc k) h rest = simp (not_none k, reading, number_reads (decimal (suc k)) (value_is (pos (suc k)) h))
 
-extent_fine : (v : Version) (len : ℕ) → len < 2 ^ 64 → is_fine v (extent_lexeme len) ≡ true
-extent_fine v len h = grind (arith, codes "UNLIMITED", decimal len, word_fine v (codes "UNLIMITED"), value_again v (pos len) h, pos len, word, number)
-
-dim_listed : (v : Version) (dim : Dim) → IsName dim.name → dim.len < 2 ^ 64 → shapes.dimensions v (word (escaped_name dim.name) ∷ mark 61 ∷ extent_lexeme dim.len ∷ semicolon ∷ []) ≡ Some (said_dim dim ∷ [])
-dim_listed v dim name h =
-    grind (arith, word (escaped_name dim.name), codes "UNLIMITED", decimal dim.len, pos dim.len, name_word dim.name name, value_again v (pos dim.len) h, number)
-
 pub dim_says : (v : Version) (n : ℕ) (dim : Dim) → IsName dim.name → dim.len < 2 ^ 64 → IsStatement v Dimensions (dim_line n dim) (DeclareDimensions (said_dim dim ∷ []))
 unfolding shape dim_line concat_parts
 dim_says v n dim name h =
+    let again = value_again v (pos dim.len) h in
     statement_says v Dimensions (dim_line n dim) (word (escaped_name dim.name)) (mark 61 ∷ extent_lexeme dim.len ∷ []) (DeclareDimensions (said_dim dim ∷ []))
-    (λ rest. simp (reading, extent_closed)) (name_starts dim.name name) (grind (arith, and_both, word, word_fine, extent_fine v dim.len h))
-    (rw (opens_none (escaped_name dim.name) (name_word dim.name name).free) (ap (option_map DeclareDimensions) (dim_listed v dim name h)))
+    (λ rest. simp (reading, extent_closed)) (name_starts dim.name name) (grind (arith, and_both, word, word_fine, codes "UNLIMITED", decimal dim.len, again, pos dim.len, number))
+    (rw (opens_none (escaped_name dim.name) (name_word dim.name name).free)
+    (grind (arith, word (escaped_name dim.name), codes "UNLIMITED", decimal dim.len, pos dim.len, name_word dim.name name, again, number)))
 
 -- ---- constants
 

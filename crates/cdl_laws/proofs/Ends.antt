@@ -1,6 +1,6 @@
 -- The opening, the section marks and the closing brace of a dump.
 use Rattle.std.proofs.Common.{◌≡◌, ℕ, ◌+◌, true, false, List, [], ◌∷◌, ◌++◌, length, map, ◌∙◌, ap, refl, arith, append_assoc, length-append, ◌==◌, Some, Ok, codes, rules, if◌then◌else◌, suc}
-use Rattle.cdl_laws.proofs.Prelude.{false≢true, eqb-true, concat_parts, Att, Dim, Var, Version, escaped_name, is_reserved, name_of, is_plain, dim_line, dim_lines, dims_text, att_line, att_lines, var_lines, vars_text, gatts_text, dimensions_word, variables_word, global_word, IsName, Section, Globals, Dimensions, Variables, Values, Ended, scan, word_len, len_until, Lexeme, piece_read, empty, pieces_at, is_section, cut_lexemes, lexemes_at, lexemes, pieces_of, trimmed_att, Enter, shape, State, Draft, act, in_turn, globals, dimensions, variables, and_left, until_at_start, lt-ltb, not_none, IsStatement, Each}
+use Rattle.cdl_laws.proofs.Prelude.{false≢true, eqb-true, concat_parts, Att, Dim, Var, Version, escaped_name, is_reserved, name_of, is_plain, dim_line, dim_lines, dims_text, att_line, att_lines, var_lines, vars_text, gatts_text, dimensions_word, variables_word, global_word, IsName, Section, Globals, Dimensions, Variables, Values, Ended, scan, word_len, len_until, piece_read, empty, pieces_at, is_section, cut_lexemes, lexemes_at, lexemes, pieces_of, trimmed_att, Enter, shape, State, Draft, act, in_turn, globals, dimensions, variables, and_left, until_at_start, lt-ltb, not_none, IsStatement, Each}
 use Rattle.cdl_tokens.specs.declared.token.TokenKind.TheVariants as kinds
 use Rattle.cdl_laws.proofs.NameTexts.{rest_of, marked, bare, begins}
 use Rattle.cdl_laws.proofs.Texts.{mark, word, prefix_again, some_name, marks_closed}
@@ -115,12 +115,8 @@ opening_lexemes name rest h =
     prefix_again true (Some kinds.Opening) 110 (codes "etcdf " ++ (escaped_name name ++ codes " {")) (10 ∷ rest) (opening_prefix_is name rest h) ∙
     ap (λ ls. record { kind = kinds.Opening; bytes = opening_bytes name } ∷ ls) (marks_closed (codes "\n") refl rest)
 
-pub opening_piece : (l : List ℕ) (ls : List Lexeme) → cut_lexemes (record { kind = kinds.Opening; bytes = l } ∷ ls) ≡ (record { kind = kinds.Opening; bytes = l } ∷ []) ∷ cut_lexemes ls
-unfolding pieces_at
-opening_piece l ls = refl
-
 -- all that stands after the opening decides
 pub opened : (v : Version) (name rest : List ℕ) → IsName name →
     in_turn (piece_read v) empty (cut_lexemes (lexemes (opening_bytes name ++ 10 ∷ rest))) ≡ in_turn (piece_read v) (state Globals [] [] []) (pieces_of rest)
-unfolding pieces_of piece_read shape act
-opened v name rest h = grind (arith, opening_lexemes, opening_piece, turn)
+unfolding pieces_of pieces_at piece_read shape act
+opened v name rest h = grind (arith, opening_lexemes, turn)

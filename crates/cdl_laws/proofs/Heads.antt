@@ -1,12 +1,12 @@
 -- The statements of a dump, and what they say.
-use Rattle.std.proofs.Common.{◌≡◌, ℕ, ◌^◌, ◌<◌, ◌≤◌, true, false, List, [], ◌∷◌, ◌++◌, length, map, ◌∙◌, ap, refl, arith, append_assoc, ℤ, unsigned_abs, ◌==◌, not, None, Some, codes, rules}
+use Rattle.std.proofs.Common.{◌≡◌, ℕ, ◌^◌, ◌<◌, ◌≤◌, true, false, List, [], ◌∷◌, ◌++◌, length, map, ap, refl, arith, append_assoc, ℤ, unsigned_abs, ◌==◌, not, None, Some, codes, rules}
 use Rattle.cdl_laws.proofs.Prelude.{printed, list_all, prefix_len, NcType, Byte, Char, Short, Int, Ubyte, Ushort, Uint, Int64, Uint64, Version, escaped_name, is_plain, is_reserved, joined, IsName, type_word, Look, is_char, variable_text, Values, may_begin_word, scan, word_len, Lexeme, role, is_section, section_of, Value, Characters, Listed, both, constants, shape, and_left, and_right, and_both, word_at_start, Each, IsStatement}
 use Rattle.cdl_laws.proofs.NameTexts.{no_escape}
 use Rattle.cdl_laws.proofs.Texts.{Closed, Reads, stops, mark, mark_read, word, number, name_word, word_reads, stop_word, prefix_again, marks_closed}
 use Rattle.cdl_laws.proofs.Numerals.{value_again}
 use Rattle.cdl_laws.proofs.Strings.{string}
 use Rattle.cdl_laws.proofs.ValueTexts.{commas, AreSmall, value_lexeme, value_said, numbers_closed, values_said}
-use Rattle.cdl_laws.proofs.Characters.{flat, table_closed, line_closed, strings_said}
+use Rattle.cdl_laws.proofs.Characters.{strings, strings_said}
 use Rattle.cdl_laws.proofs.Takes.{statement_says, semicolon, is_fine, word_fine, is_starter, all_fine}
 
 -- ---- words
@@ -60,49 +60,33 @@ fine_commas v (l ∷ ls) h = grind (arith, and_left, and_right, and_both, fine_c
 
 -- ---- data
 
--- NAME = VALUE, ..
-listed_fine : (v : Version) (name : List ℕ) (l : Lexeme) (ls : List Lexeme) → list_all (is_fine v) (l ∷ ls) ≡ true → list_all (is_fine v) (word name ∷ mark 61 ∷ l ∷ commas ls) ≡ true
-listed_fine v name l ls h = grind (arith, and_both, word, word_fine, and_left, fine_commas, and_right)
-
-listed_is : (v : Version) (name : List ℕ) (ls : List Lexeme) (values : List Value) → IsName name → constants v true ls ≡ Some values →
-    shape v Values (word (escaped_name name) ∷ mark 61 ∷ ls) ≡ Some (Listed name values)
+-- NAME = VALUE, .. ;
+listed_says : (v : Version) (name bytes : List ℕ) (l : Lexeme) (ls : List Lexeme) (values : List Value) → IsName name →
+    Closed bytes (word (escaped_name name) ∷ (mark 61 ∷ l ∷ commas ls) ++ semicolon ∷ []) → list_all (is_fine v) (l ∷ ls) ≡ true →
+    constants v true (l ∷ commas ls ++ semicolon ∷ []) ≡ Some values → IsStatement v Values bytes (Listed name values)
 unfolding shape
-listed_is v name ls values h e = ap (λ o. both Listed o (constants v true ls)) (name_word name h).stands ∙ ap (both Listed (Some name)) e
+listed_says v name bytes l ls values h closed fine are =
+    statement_says v Values bytes (word (escaped_name name)) (mark 61 ∷ l ∷ commas ls) (Listed name values) closed (name_starts name h)
+    (grind (arith, and_both, word, word_fine, and_left, fine_commas, and_right)) (rw ((name_word name h).stands) (ap (both Listed (Some name)) are))
 
 pub numbers_say : (v : Version) (look : Look) (x : ℤ) (xs : List ℤ) → IsName look.name → is_char look.ty ≡ false → (look.in_rows ≡ false → length (x ∷ xs) ≤ look.row) → AreSmall (x ∷ xs) →
     IsStatement v Values (variable_text look (x ∷ xs)) (Listed look.name (map (value_said look) (x ∷ xs)))
 numbers_say v look x xs name ty small fit =
-    let ls = value_lexeme look x ∷ commas (map (value_lexeme look) xs) in
-    statement_says v Values (variable_text look (x ∷ xs)) (word (escaped_name look.name)) (mark 61 ∷ ls) (Listed look.name (map (value_said look) (x ∷ xs)))
-    (numbers_closed look x xs name ty small fit) (name_starts look.name name)
-    (listed_fine v (escaped_name look.name) (value_lexeme look x) (map (value_lexeme look) xs)
-    (all_fine v (value_lexeme look) (λ y. unsigned_abs y < 2 ^ 64) (λ y h. grind (arith, word, codes, number, word_fine, value_again))
-    (x ∷ xs) fit))
-    (listed_is v look.name (ls ++ semicolon ∷ []) (map (value_said look) (x ∷ xs)) name (values_said v look x xs fit))
+    listed_says v look.name (variable_text look (x ∷ xs)) (value_lexeme look x) (map (value_lexeme look) xs) (map (value_said look) (x ∷ xs)) name (numbers_closed look x xs name ty small fit)
+    (all_fine v (value_lexeme look) (λ y. unsigned_abs y < 2 ^ 64) (λ y h. grind (arith, word, codes, number, word_fine, value_again)) (x ∷ xs) fit)
+    (values_said v look x xs fit)
 
 pub strings_fine : (v : Version) (all : List (List ℕ)) → list_all (is_fine v) (map string all) ≡ true
 strings_fine v [] = refl
 strings_fine v (bytes ∷ all) = strings_fine v all
 
-pub table_says : (v : Version) (look : Look) (r : List ℤ) (rows : List (List ℤ)) → IsName look.name → is_char look.ty ≡ true → look.in_rows ≡ true → 0 < look.row → Each (λ (s : List ℤ). length s ≡ look.row) (r ∷ rows) →
-    IsStatement v Values (variable_text look (flat (r ∷ rows))) (Listed look.name (map Characters (map (printed look.trimmed 0) (r ∷ rows))))
-table_says v look r rows name ty h wide all =
-    let shows = map (printed look.trimmed 0) rows in
-    let ls = string (printed look.trimmed 0 r) ∷ commas (map string shows) in
-    statement_says v Values (variable_text look (flat (r ∷ rows))) (word (escaped_name look.name)) (mark 61 ∷ ls) (Listed look.name (map Characters (printed look.trimmed 0 r ∷ shows)))
-    (table_closed look r rows name ty h wide all)
-    (name_starts look.name name)
-    (listed_fine v (escaped_name look.name) (string (printed look.trimmed 0 r)) (map string shows) (strings_fine v shows))
-    (listed_is v look.name (ls ++ semicolon ∷ []) (map Characters (printed look.trimmed 0 r ∷ shows)) name (strings_said v true (printed look.trimmed 0 r) shows))
-
-pub line_says : (v : Version) (look : Look) (x : ℤ) (xs : List ℤ) → IsName look.name → is_char look.ty ≡ true → look.in_rows ≡ false → length (x ∷ xs) ≤ look.row →
-    IsStatement v Values (variable_text look (x ∷ xs)) (Listed look.name (Characters (printed look.trimmed 0 (x ∷ xs)) ∷ []))
-line_says v look x xs name ty h small =
-    let r = printed look.trimmed 0 (x ∷ xs) in
-    statement_says v Values (variable_text look (x ∷ xs)) (word (escaped_name look.name)) (mark 61 ∷ string r ∷ []) (Listed look.name (Characters r ∷ []))
-    (line_closed look x xs name ty h small) (name_starts look.name name)
-    (listed_fine v (escaped_name look.name) (string r) [] refl)
-    (listed_is v look.name (string r ∷ semicolon ∷ []) (Characters r ∷ []) name (strings_said v true r []))
+-- a text that is read as the strings of these rows
+pub strings_say : (v : Version) (look : Look) (bytes : List ℕ) (r : List ℤ) (rows : List (List ℤ)) → IsName look.name → Closed bytes (strings look r rows) →
+    IsStatement v Values bytes (Listed look.name (map Characters (map (printed look.trimmed 0) (r ∷ rows))))
+strings_say v look bytes r rows name closed =
+    let row = printed look.trimmed 0 r in
+    let others = map (printed look.trimmed 0) rows in
+    listed_says v look.name bytes (string row) (map string others) (map Characters (row ∷ others)) name closed (strings_fine v others) (strings_said v true row others)
 
 -- ---- dimensions
 

@@ -2,7 +2,7 @@
 use Rattle.std.proofs.Common.{◌≡◌, ℕ, List, [], ◌∷◌, ◌++◌, refl, arith, slice_index_or, Some}
 use Rattle.cdl_laws.proofs.Prelude.{concat_parts, Dim, Version, netcdf_word, IsName, Section, Globals, Dimensions, Variables, Values, scan, pieces_at, Close, shape, SaysStatement, PiecesAreStatements, MarksReadBack, opening_line, opening_piece, brace_piece, DimensionsReadBack, DeclarationsReadBack, dimensions, AttributeReadsBack, AttributesReadBack, GlobalAttributesReadBack, cut_lexemes, lexemes, lexemes_at, pieces_of, Each, all_of, each_map, each_of}
 use Rattle.cdl_laws.proofs.Declarations.{dim_says, Speaks, global_says, owned_says}
-use Rattle.cdl_laws.proofs.Ends.{dimensions_says, variables_says, data_says, opening_lexemes, opening_piece as opening_cut, comment_back}
+use Rattle.cdl_laws.proofs.Ends.{dimensions_says, variables_says, data_says, opening_lexemes, comment_back}
 use Rattle.cdl_laws.proofs.Lines.{pieces_are}
 use Rattle.cdl_laws.proofs.Sayables.{atts_speak}
 use Rattle.cdl_laws.proofs.Wholes.{declared}
@@ -14,9 +14,9 @@ pieces_are_statements text = pieces_are text
 
 opening_back : (name rest : List ℕ) → IsName name →
     cut_lexemes (lexemes (opening_line name ++ 10 ∷ rest)) ≡ opening_piece name ∷ pieces_of rest
-unfolding pieces_of concat_parts netcdf_word
+unfolding pieces_of pieces_at concat_parts netcdf_word
 opening_back name rest h =
-    grind (arith, opening_lexemes, opening_cut)
+    rw (opening_lexemes name rest h)
 
 closes : (v : Version) → Each (λ (section : Section). SaysStatement v section brace_piece Close) (Globals ∷ Dimensions ∷ Variables ∷ Values ∷ [])
 unfolding shape

@@ -140,11 +140,7 @@ all_added : (look : Look) (listable : Listable) (before xs : List ℤ) → lista
     in_turn (add_number listable) before (map (value_said look) xs) ≡ Ok (before ++ xs)
 all_added look listable before [] same wide fit = ap Ok (sym (append-nil before))
 all_added look listable before (x ∷ xs) same wide fit =
-    let wider : length (before ++ x ∷ []) ≡ length before + 1 = length-append before (x ∷ []) in
-    turn (add_number listable) before (before ++ x ∷ []) (value_said look x) (map (value_said look) xs)
-    (one_added look listable before x same (λ e. let w = wide e in omega (arith, w)) fit.0) ∙
-    all_added look listable (before ++ x ∷ []) xs same (λ e. let w = wide e in omega (arith, w, wider)) fit.1 ∙
-    ap Ok (append_assoc before (x ∷ []) xs)
+    grind (arith, turn, one_added, length-append, append_assoc, all_added look listable (before ++ x ∷ []) xs same)
 
 pub numbers_listed : (look : Look) (listable : Listable) (xs : List ℤ) → is_char listable.ty ≡ false → listable.fill ≡ look.fill → (listable.is_open ≡ false → length xs ≤ listable.count) → Each (λ x. has_number listable.ty x ≡ true) xs →
     listing_of listable (map (value_said look) xs) ≡ Ok (Numbers xs)
