@@ -95,10 +95,6 @@ some_speak v att x xs are other known range back name =
       are = numbers_added att.ty [] (x ∷ xs) (all_fit att.ty (x ∷ xs) range) ∙ ap Ok (back ∙ whole);
     }
 
-number_speaks : (v : Version) (att : Att) (n : ℕ) → AreBytes att.vals → length att.vals ≡ suc n * size_of att.ty → is_char att.ty ≡ false → has_type v att.ty ≡ true → IsName att.name → Speaks v att
-number_speaks v att n small len other known name =
-    grind (arith, count_is att.ty (suc n) att.vals len, numbers_range att.ty (suc n) att.vals small len, numbers_back att.ty (suc n) att.vals small len, some_speak)
-
 pub speaks : (v : Version) (att : Att) → IsSoundAtt v att → AreBytes att.vals → HasSomeNumber att → IsName att.name → Speaks v att
 speaks v att sound small some name =
     elim (is_char att.ty) as (λ b. is_char att.ty ≡ b → Speaks v att) [
@@ -108,4 +104,5 @@ speaks v att sound small some name =
   where
     counted : is_char att.ty ≡ false → (n : ℕ) → length att.vals ≡ n * size_of att.ty → Speaks v att
     counted e zero len = absurd (let s = some e in omega (arith, s, len))
-    counted e (suc n) len = number_speaks v att n small len e sound.ty name
+    counted e (suc n) len =
+        grind (arith, count_is att.ty (suc n) att.vals len, numbers_range att.ty (suc n) att.vals small len, numbers_back att.ty (suc n) att.vals small len, some_speak v att, sound.ty)

@@ -1,6 +1,6 @@
 -- The statements of a head, and what they say.
 use Rattle.std.proofs.Common.{◌≡◌, ℕ, zero, suc, ◌^◌, ◌<◌, true, false, List, [], ◌∷◌, ◌++◌, map, sym, ◌∙◌, ap, refl, arith, append_assoc, append-nil, ℤ, pos, decimal, ◌==◌, not, if◌then◌else◌, None, Some, Ok, codes, rules, length, subst}
-use Rattle.cdl_laws.proofs.Prelude.{signed_decimal, flat_map, list_all, list_all-append, concat_parts, Att, Dim, NcType, Version, escaped_name, escaped_in_string, joined, dim_len_text, dim_line, unlimited_word, currently_word, att_line, att_text, broken_text, string_break, IsName, number_suffix, Section, Dimensions, Variables, is_digit, Lexeme, said_dim, IsBeforeData, globals, dimensions, variables, Value, Number, DeclareDimensions, Attribute, both, constants, assigned, shape, and_left, and_right, and_both, Each, escaped_text, type_word, DeclareVariables, Variable, in_parentheses, any_each, not_none, IsStatement, AttributeReadsBack, first_type, in_turn, add_constant, trimmed_att, Var, declaration, dim_name, shape_text, lexemes_at}
+use Rattle.cdl_laws.proofs.Prelude.{signed_decimal, flat_map, list_all, list_all-append, all_mono, concat_parts, Att, Dim, NcType, Version, escaped_name, escaped_in_string, joined, dim_len_text, dim_line, unlimited_word, currently_word, att_line, att_text, broken_text, string_break, IsName, number_suffix, Section, Dimensions, Variables, is_digit, Lexeme, said_dim, IsBeforeData, globals, dimensions, variables, Value, Number, DeclareDimensions, Attribute, both, constants, assigned, shape, and_left, and_right, and_both, Each, escaped_text, type_word, DeclareVariables, Variable, in_parentheses, any_each, not_none, IsStatement, AttributeReadsBack, first_type, in_turn, add_constant, trimmed_att, Var, declaration, dim_name, shape_text, lexemes_at}
 use Rattle.cdl_laws.proofs.Texts.{Closed, Reads, mark, word, number, name_word, name_stands, marks_closed, number_reads, mark_read, stops, reading}
 use Rattle.cdl_laws.proofs.Numerals.{value_again, decimal_digits, on_suffix, number_is, value_is}
 use Rattle.cdl_laws.proofs.Strings.{string}
@@ -12,12 +12,8 @@ use Rattle.cdl_laws.proofs.Heads.{name_starts, bare_word, comment_closed, joined
 
 -- ---- dimensions
 
-digits_no_feed : (ds : List ℕ) → list_all is_digit ds ≡ true → list_all (λ b. not (b == 10)) ds ≡ true
-digits_no_feed [] h = refl
-digits_no_feed (d ∷ ds) h = grind (arith, and_both, and_left, and_right, digits_no_feed ds (and_right (is_digit d) (list_all is_digit ds) h))
-
 records_comment : (n : ℕ) → list_all (λ b. not (b == 10)) (codes " (" ++ (decimal n ++ codes " currently)")) ≡ true
-records_comment n = list_all-append (λ b. not (b == 10)) (decimal n) (codes " currently)") ∙ and_both (list_all (λ b. not (b == 10)) (decimal n)) true (digits_no_feed (decimal n) (decimal_digits n)) refl
+records_comment n = list_all-append (λ b. not (b == 10)) (decimal n) (codes " currently)") ∙ and_both (list_all (λ b. not (b == 10)) (decimal n)) true (all_mono is_digit (λ b. not (b == 10)) (λ b is. grind arith) (decimal n) (decimal_digits n)) refl
 
 -- the comment after the record dimension
 records_read : (n : ℕ) → Closed (codes "// (" ++ (decimal n ++ codes " currently)\n")) []
@@ -157,7 +153,7 @@ names_fine : (v : Version) (names : List (List ℕ)) → list_all (is_fine v) (s
 names_fine v [] = refl
 names_fine v (n ∷ ns) =
     let others = all_fine v (λ m. word (escaped_name m)) (λ m. Unit {0}) (λ m u. word_fine v (escaped_name m)) ns (any_each ns) in
-    search (rules, list_all-append, and_both, word_fine, fine_commas, others)
+    search (rules, list_all-append, all_mono, and_both, word_fine, fine_commas, others)
 
 -- ---- a declaration
 

@@ -1,6 +1,6 @@
 -- The statements of a dump, and what they say.
 use Rattle.std.proofs.Common.{◌≡◌, ℕ, ◌^◌, ◌<◌, ◌≤◌, true, false, List, [], ◌∷◌, ◌++◌, length, map, ap, refl, arith, append_assoc, ℤ, unsigned_abs, ◌==◌, not, None, Some, codes, rules}
-use Rattle.cdl_laws.proofs.Prelude.{printed, list_all, prefix_len, NcType, Byte, Char, Short, Int, Ubyte, Ushort, Uint, Int64, Uint64, Version, escaped_name, is_plain, is_reserved, joined, IsName, type_word, Look, is_char, variable_text, Values, may_begin_word, scan, word_len, Lexeme, role, is_section, section_of, Value, Characters, Listed, both, constants, shape, and_left, and_right, and_both, word_at_start, Each, IsStatement}
+use Rattle.cdl_laws.proofs.Prelude.{printed, list_all, prefix_all, NcType, Byte, Char, Short, Int, Ubyte, Ushort, Uint, Int64, Uint64, Version, escaped_name, is_plain, is_reserved, joined, IsName, type_word, Look, is_char, variable_text, Values, may_begin_word, scan, word_len, Lexeme, role, is_section, section_of, Value, Characters, Listed, both, constants, shape, and_left, and_right, and_both, word_at_start, Each, IsStatement}
 use Rattle.cdl_laws.proofs.NameTexts.{no_escape}
 use Rattle.cdl_laws.proofs.Texts.{Closed, Reads, stops, mark, mark_read, word, number, name_word, word_reads, stop_word, prefix_again, marks_closed}
 use Rattle.cdl_laws.proofs.Numerals.{value_again}
@@ -90,13 +90,9 @@ strings_say v look bytes r rows name closed =
 
 -- ---- dimensions
 
-no_feed : (w rest : List ℕ) → list_all (λ b. not (b == 10)) w ≡ true → prefix_len (λ b. not (b == 10)) (w ++ 10 ∷ rest) ≡ length w
-no_feed [] rest h = refl
-no_feed (b ∷ w) rest h = rw (and_left (not (b == 10)) (list_all (λ c. not (c == 10)) w) h) (let ih = no_feed w rest (and_right (not (b == 10)) (list_all (λ c. not (c == 10)) w) h) in omega (arith, ih))
-
 -- a comment to the end of its line
 pub comment_closed : (w : List ℕ) → list_all (λ b. not (b == 10)) w ≡ true → Closed (47 ∷ 47 ∷ (w ++ 10 ∷ [])) []
 unfolding scan
 comment_closed w h rest =
     let comment = prefix_again false None 47 (47 ∷ w) (10 ∷ rest) in
-    grind (arith, append_assoc w (10 ∷ []) rest, comment, no_feed w rest h, marks_closed (codes "\n") refl rest)
+    grind (arith, append_assoc w (10 ∷ []) rest, comment, prefix_all (λ b. not (b == 10)) w (10 ∷ rest) h refl, marks_closed (codes "\n") refl rest)

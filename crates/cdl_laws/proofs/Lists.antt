@@ -1,5 +1,7 @@
 -- Two tests in one, and lists, one element at a time.
-use Rattle.std.proofs.Common.{List, [], ◌∷◌, arith, ◌++◌, ◌≡◌, Bool, false, ◌||◌}
+use Rattle.std.proofs.Common.{ℕ, List, [], ◌∷◌, arith, ◌++◌, ◌≡◌, Bool, true, false, ◌||◌, length, refl}
+use Rattle.std.specs.List.{list_all, prefix_len}
+use Rattle.nc_base.proofs.Tests.{and_left, and_right}
 use Rattle.cdl_statements.proofs.Each.{Each}
 
 pub or_left : (a b : Bool) → (a || b) ≡ false → a ≡ false
@@ -7,6 +9,15 @@ or_left a b h = grind arith
 
 pub or_right : (a b : Bool) → (a || b) ≡ false → b ≡ false
 or_right a b h = grind arith
+
+pub all_mono : (p q : ℕ → Bool) → ((b : ℕ) → p b ≡ true → q b ≡ true) → (bs : List ℕ) → list_all p bs ≡ true → list_all q bs ≡ true
+all_mono p q more [] h = refl
+all_mono p q more (b ∷ bs) h = grind (arith, more b, and_left, all_mono p q more bs (and_right (p b) (list_all p bs) h))
+
+-- what all bytes pass, and none of what follows
+pub prefix_all : (p : ℕ → Bool) (w rest : List ℕ) → list_all p w ≡ true → prefix_len p rest ≡ 0 → prefix_len p (w ++ rest) ≡ length w
+prefix_all p [] rest all h = h
+prefix_all p (b ∷ w) rest all h = grind (arith, and_left (p b) (list_all p w) all, prefix_all p w rest (and_right (p b) (list_all p w) all) h)
 
 -- P holds of each element after what f makes of those before it
 abbrev pub EachAfter : {X Y : Type 0} → (X → Y) → (List Y → X → Type 0) → List Y → List X → Type 0

@@ -1,6 +1,6 @@
 -- A decimal number is read again.
-use Rattle.std.proofs.Common.{◌≡◌, ℕ, zero, suc, ◌+◌, ◌/◌, ◌%◌, ◌^◌, ◌<◌, ◌≤◌, Bool, true, false, List, [], ◌∷◌, ◌++◌, length, get_or, sym, ◌∙◌, ap, refl, arith, append-nil, ℤ, pos, unsigned_abs, decimal, not, Some, Option, rules, negsuc, subst}
-use Rattle.cdl_laws.proofs.Prelude.{signed_decimal, digits_onto, digits, digit_glyph, prefix_len, list_all, eqb-true, first_decimal, decimal_nonempty, drop-append_seam, take-append_seam, NcType, Int, Version, number_suffix, is_char, has_type, digit_value, is_digit, is_sign, goes_on_number, number_in, type_of_suffix, in_base, with_sign, numeral, parts, Parts, option_map, list_all-append, and_left, and_right, and_both, not_none, number}
+use Rattle.std.proofs.Common.{◌≡◌, ℕ, zero, suc, ◌+◌, ◌/◌, ◌%◌, ◌^◌, ◌<◌, ◌≤◌, Bool, true, false, List, [], ◌∷◌, ◌++◌, length, get_or, sym, ◌∙◌, ap, refl, arith, append-nil, ℤ, pos, unsigned_abs, decimal, Some, Option, rules, negsuc, subst}
+use Rattle.cdl_laws.proofs.Prelude.{signed_decimal, digits_onto, digits, digit_glyph, prefix_all, all_mono, prefix_len, list_all, eqb-true, first_decimal, decimal_nonempty, drop-append_seam, take-append_seam, NcType, Int, Version, number_suffix, is_char, has_type, digit_value, is_digit, is_sign, goes_on_number, number_in, type_of_suffix, in_base, with_sign, numeral, parts, Parts, option_map, list_all-append, and_left, and_right, not_none, number}
 use native.Mathlib.Numerals.{unary_clauses}
 use Rattle.cdl_laws.proofs.Texts.{IsNumber, begun_number}
 
@@ -23,15 +23,6 @@ decimal_digits n = onto_digits 64 n [] refl
 
 -- ---- a decimal with a suffix
 
--- no digit stands at the start
-abbrev pub no_digit : List ℕ → Bool
-no_digit [] = true
-no_digit (b ∷ bs) = not (is_digit b)
-
-digits_then : (ds suf : List ℕ) → list_all is_digit ds ≡ true → no_digit suf ≡ true → prefix_len is_digit (ds ++ suf) ≡ length ds
-digits_then (d ∷ ds) suf h k = rw (and_left (is_digit d) (list_all is_digit ds) h) (let ih = digits_then ds suf (and_right (is_digit d) (list_all is_digit ds) h) k in omega (arith, ih))
-digits_then _ _ h k = grind arith
-
 -- the number with the type of its suffix
 abbrev with_suffix : Bool → ℕ → Option NcType → Option Parts
 with_suffix minus n suf = option_map (λ ty. record { minus = minus; magnitude = n; ty = ty }) suf
@@ -40,10 +31,11 @@ based : (v : Version) (minus : Bool) (d : ℕ) (ds suf : List ℕ) (n : ℕ) →
     in_base v minus 10 n ((d ∷ ds) ++ suf) ≡ with_suffix minus (number_in 10 0 (d ∷ ds)) (type_of_suffix v suf)
 based v minus d ds suf n e = grind (arith, not_none, take-append_seam, drop-append_seam)
 
-big_back : (v : Version) (minus : Bool) (ds suf : List ℕ) → list_all is_digit ds ≡ true → 48 < get_or ds 0 0 → no_digit suf ≡ true →
+big_back : (v : Version) (minus : Bool) (ds suf : List ℕ) → list_all is_digit ds ≡ true → 48 < get_or ds 0 0 → prefix_len is_digit suf ≡ 0 →
     with_sign v minus (ds ++ suf) ≡ with_suffix minus (number_in 10 0 ds) (type_of_suffix v suf)
 big_back v minus [] suf h big k = absurd (omega (arith, big))
-big_back v minus (d ∷ ds) suf h big k = grind (arith, based, digits_then)
+big_back v minus (d ∷ ds) suf h big k =
+    grind (arith, based, prefix_all is_digit (d ∷ ds) suf h k)
 
 zero_back : (v : Version) (minus : Bool) (ty : NcType) → with_sign v minus (48 ∷ number_suffix ty) ≡ with_suffix minus 0 (type_of_suffix v (number_suffix ty))
 zero_back v minus ty = search rules
@@ -83,17 +75,13 @@ value_again v n h = ap (numeral v) (sym (append-nil (signed_decimal n))) ∙ num
 
 -- ---- its token
 
-pub goes_on : (ds : List ℕ) → list_all is_digit ds ≡ true → list_all goes_on_number ds ≡ true
-goes_on [] h = refl
-goes_on (d ∷ ds) h = grind (arith, and_both, and_left, and_right, goes_on ds (and_right (is_digit d) (list_all is_digit ds) h))
-
 digits_number : (ds suf : List ℕ) → list_all is_digit ds ≡ true → 0 < length ds → list_all goes_on_number suf ≡ true →
     IsNumber (ds ++ suf) × IsNumber (45 ∷ (ds ++ suf))
 digits_number [] suf h some k = absurd (omega (arith, some))
 digits_number (d ∷ ds) suf h some k =
     let digit = and_left (is_digit d) (list_all is_digit ds) h in
     let on : list_all goes_on_number (d ∷ (ds ++ suf)) ≡ true =
-    grind (arith, list_all-append, goes_on) in (
+    grind (arith, list_all-append, all_mono is_digit goes_on_number (λ b is. grind arith) ds (and_right (is_digit d) (list_all is_digit ds) h)) in (
       begun_number d (ds ++ suf) (λ rest. rw (digit) refl) (and_right (goes_on_number d) (list_all goes_on_number (ds ++ suf)) on),
       begun_number 45 (d ∷ (ds ++ suf)) (λ rest. rw (digit) refl) on,
     )

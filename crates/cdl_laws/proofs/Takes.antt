@@ -67,15 +67,9 @@ pub all_fine : {A : Type 0} (v : Version) (lex : A → Lexeme) (P : A → Type 0
 all_fine v lex P fine [] all = refl
 all_fine v lex P fine (x ∷ xs) all = grind (arith, all_fine v lex P fine xs all.1)
 
-fine_plain : (v : Version) (ls : List Lexeme) → list_all (is_fine v) ls ≡ true → all_plain ls ≡ true
-fine_plain v [] h = refl
-fine_plain v (l ∷ ls) h =
-    grind (arith, and_left, and_both, is_plain, is_none, and_right, fine_plain v ls (and_right (is_fine v l) (list_all (is_fine v) ls) h))
-
-fine_sound : (v : Version) (ls : List Lexeme) → list_all (is_fine v) ls ≡ true → first_bad v (ls ++ semicolon ∷ []) ≡ None
-fine_sound v [] h = refl
-fine_sound v (l ∷ ls) h =
-    grind (arith, and_left, and_right, is_plain, is_none, fine_sound v ls (and_right (is_fine v l) (list_all (is_fine v) ls) h))
+fine_says : (v : Version) (ls : List Lexeme) → list_all (is_fine v) ls ≡ true → (all_plain ls ≡ true) × (first_bad v (ls ++ semicolon ∷ []) ≡ None)
+fine_says v [] h = (refl, refl)
+fine_says v (l ∷ ls) h = grind (arith, and_left, and_both, is_plain, is_none, fine_says v ls (and_right (is_fine v l) (list_all (is_fine v) ls) h))
 
 -- the sections that have statements to a semicolon
 abbrev pub is_open : Section → Bool
@@ -91,5 +85,6 @@ pub statement_says : (v : Version) (section : Section) (bytes : List ℕ) (a : L
 unfolding pieces_of
 statement_says v section bytes a p statement reads start fine is =
     let piece = a ∷ p ++ semicolon ∷ [] in
-    let cut : (rest : List Lexeme) → cut_lexemes (piece ++ rest) ≡ piece ∷ cut_lexemes rest = search (rules, and_right, fine_plain, pieces_by_steps, one_by_steps) in
-    record { piece = piece; cut = λ rest. ap cut_lexemes (reads rest) ∙ cut (lexemes_at false 0 rest); says = record { sound = fine_sound v (a ∷ p) fine; shaped = is } }
+    let plain = (fine_says v p (and_right (is_fine v a) (list_all (is_fine v) p) fine)).0 in
+    let cut : (rest : List Lexeme) → cut_lexemes (piece ++ rest) ≡ piece ∷ cut_lexemes rest = search (rules, pieces_by_steps, one_by_steps, plain) in
+    record { piece = piece; cut = λ rest. ap cut_lexemes (reads rest) ∙ cut (lexemes_at false 0 rest); says = record { sound = (fine_says v (a ∷ p) fine).1; shaped = is } }

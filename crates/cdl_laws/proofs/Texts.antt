@@ -1,6 +1,6 @@
 -- Texts that are put together are read apart again, token by token.
 use Rattle.std.proofs.Common.{◌≡◌, ℕ, suc, Bool, true, false, List, [], ◌∷◌, ◌++◌, length, drop, ap, refl, arith, append_assoc, append-nil, ◌&&◌, ◌||◌, ◌==◌, not, Option, Some, is_none, ◌+◌, None, if◌then◌else◌}
-use Rattle.cdl_laws.proofs.Prelude.{prefix_len, list_all, false≢true, drop-append_seam, take-append_seam, escaped_name, is_reserved, IsName, has_name_bytes, ends_with_space, is_utf8, goes_on_word, goes_on_number, word_len, scan, begins_a_word, token, Lexeme, name_of, lexemes_at, with_lexeme, TokenKind, and_left, and_right, is_off, word_at_start, is_mark_byte, is_blank, flat_map, or_second, begins_number, AreToken}
+use Rattle.cdl_laws.proofs.Prelude.{prefix_len, list_all, false≢true, drop-append_seam, take-append_seam, escaped_name, is_reserved, IsName, has_name_bytes, ends_with_space, is_utf8, goes_on_word, goes_on_number, word_len, scan, begins_a_word, token, Lexeme, name_of, lexemes_at, with_lexeme, TokenKind, and_left, and_right, is_off, word_at_start, is_mark_byte, is_blank, flat_map, or_second, prefix_all, begins_number, AreToken}
 use Rattle.cdl_tokens.specs.declared.token.TokenKind.TheVariants as kinds
 use Rattle.cdl_laws.proofs.NameTexts.{rest_of, Begins, marked, bare, begins, name_len, name_value, name_free}
 use Rattle.cdl_tokens.proofs.PlainTokens.{scan_blank, scan_mark, scan_number}
@@ -116,11 +116,6 @@ pub ruleset reading = (append_assoc, append-nil, mark_read, name_read)
 abbrev pub number : List ℕ → Lexeme
 number bytes = record { kind = kinds.Number; bytes = bytes }
 
--- they are on a number, and what follows isn't
-pub all_on : (w rest : List ℕ) → list_all goes_on_number w ≡ true → prefix_len goes_on_number rest ≡ 0 → prefix_len goes_on_number (w ++ rest) ≡ length w
-all_on [] rest all h = h
-all_on (b ∷ w) rest all h = rw (and_left (goes_on_number b) (list_all goes_on_number w) all) (let ih = all_on w rest (and_right (goes_on_number b) (list_all goes_on_number w) all) h in omega (arith, ih))
-
 -- these bytes are one number, where what follows goes on no number
 abbrev pub IsNumber : List ℕ → Type 0
 IsNumber bytes = (rest : List ℕ) → prefix_len goes_on_number rest ≡ 0 →
@@ -133,6 +128,6 @@ number_reads bytes is rest stop = (is rest (stop_number rest stop)).1
 pub begun_number : (b : ℕ) (w : List ℕ) → ((rest : List ℕ) → begins_number (b ∷ (w ++ rest)) ≡ true) → list_all goes_on_number w ≡ true →
     IsNumber (b ∷ w)
 begun_number b w at_start all rest stop =
-    let len : 1 + prefix_len goes_on_number (w ++ rest) ≡ length (b ∷ w) = (let e = all_on w rest all stop in omega (arith, e)) in
+    let len : 1 + prefix_len goes_on_number (w ++ rest) ≡ length (b ∷ w) = (let e = prefix_all goes_on_number w rest all stop in omega (arith, e)) in
     let one : AreToken kinds.Number (b ∷ w) rest = λ fresh. grind (arith, scan_number) in
     (one, prefix_again false (Some kinds.Number) b w rest (one false))

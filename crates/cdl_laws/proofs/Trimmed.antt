@@ -53,11 +53,9 @@ whole_still : (limit size : ℕ) (char : Bool) (vals : List ℕ) (n : ℕ) → (
     (m : ℕ) × (m < limit) × (length (if char then without_trailing_nuls vals else vals) ≡ m * size)
 whole_still limit size false vals n one few whole = (n, few, whole)
 whole_still limit size true vals n one few whole =
-    let m = length (without_trailing_nuls vals) in
-    let a = length-take (length vals - suffix_len nul vals) vals in
-    let b : n * size ≡ n * 1 = ap (λ k. n * k) (one refl) in
-    let c : m * size ≡ m * 1 = ap (λ k. m * k) (one refl) in
-    (m, omega (arith, a, b, few, whole), omega (arith, c))
+    let fewer = length-take (length vals - suffix_len nul vals) vals in
+    let single = one refl in
+    (length (without_trailing_nuls vals), grind (arith, fewer, single), grind (arith, single))
 
 att_sound : (v : Version) (att : Att) → IsSoundAtt v att → IsSoundAtt v (trimmed_att att)
 att_sound v att s =
