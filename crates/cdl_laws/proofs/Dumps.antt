@@ -1,13 +1,13 @@
 -- A full dump is read back.
 use Rattle.std.proofs.Common.{◌≡◌, ℕ, true, false, List, [], ◌∷◌, ◌++◌, map, ◌∙◌, ap, refl, append_assoc, append-nil, None, Ok, subst, codes, arith, rules}
-use Rattle.cdl_laws.proofs.Prelude.{DataText, variables_text, concat_parts, Dataset, Att, Header, Var, Version, Options, dump_text, shown_data_text, values_in_dataset, shown_data, selection_of, is_selected, data_word, closing_word, head_text, netcdf_word, dims_text, vars_text, gatts_text, Variables, Values, Ended, meaning, piece_read, empty, finished, are_within_limits, dataset_of, cut_lexemes, lexemes, pieces_of, IsFull, trimmed, trimmed_att, in_turn, Each}
+use Rattle.cdl_laws.proofs.Prelude.{Enter, act, DataText, variables_text, concat_parts, Dataset, Att, Header, Var, Version, Options, dump_text, shown_data_text, values_in_dataset, shown_data, selection_of, is_selected, data_word, closing_word, head_text, netcdf_word, dims_text, vars_text, gatts_text, Variables, Values, Ended, meaning, piece_read, empty, finished, are_within_limits, dataset_of, cut_lexemes, lexemes, pieces_of, IsFull, trimmed, trimmed_att, in_turn, Each}
 use Rattle.cdl_laws.proofs.Acts.{AreDistinctDims, HaveNames}
 use Rattle.cdl_laws.proofs.Declarations.{Speaks}
 use Rattle.cdl_laws.proofs.Wholes.{state, AreNewDims, AreNewAtts, AreFit, draft_of}
 use Rattle.cdl_laws.proofs.DataTexts.{all_marked}
 use Rattle.cdl_laws.proofs.Datasets.{Row, AreNew, given, data_taken, data_whole}
-use Rattle.cdl_laws.proofs.Ends.{opening_bytes, opened, dims_part, vars_part, gatts_part, data_mark, end_taken, after_dims, after_vars}
-use Rattle.cdl_laws.proofs.Takes.{Takes}
+use Rattle.cdl_laws.proofs.Ends.{opening_bytes, opened, dims_part, vars_part, gatts_part, data_says, end_taken, after_dims, after_vars}
+use Rattle.cdl_laws.proofs.Takes.{Takes, says_takes}
 use Rattle.cdl_laws.proofs.Lines.{pieces_are, run_is}
 
 dump_is : (h : Header) (o : Options) (n : ℕ) (section : DataText) →
@@ -24,7 +24,7 @@ selected h o (var ∷ vars) c d = search (rules, selected h o vars c d)
 data_read : (v : Version) (d : Dataset) (o : Options) (n : ℕ) (gatts : List Att) → IsFull o → (rows : List (Row v d.header n o.width)) → AreNew [] rows → d.arrays ≡ map (λ (r : Row v d.header n o.width). r.array) rows →
     (vars : List Var) → d.header.vars ≡ vars → map (λ (r : Row v d.header n o.width). r.var) rows ≡ vars →
     in_turn (piece_read v) (state (after_vars (after_dims d.header.dims) vars) d.header.dims gatts (map draft_of vars)) (pieces_of (data_word d.header o ++ ((variables_text (shown_data d.header (values_in_dataset d) n o.width) 0 vars (all_marked vars)).text ++ codes "}\n"))) ≡ Ok (state Ended d.header.dims gatts (map given rows))
-unfolding data_word
+unfolding data_word act
 data_read v d o n gatts full [] new at [] none same = grind (arith, end_taken)
 data_read v d o n gatts full rows new at (var ∷ vars) some same =
     let h = d.header in
@@ -33,7 +33,7 @@ data_read v d o n gatts full rows new at (var ∷ vars) some same =
     let taken : Takes v (text (var ∷ vars)) (state Values h.dims gatts (map draft_of (var ∷ vars))) (state Values h.dims gatts (map given rows)) =
     subst (λ all. Takes v (text all) (state Values h.dims gatts (map draft_of all)) (state Values h.dims gatts (map given rows))) same (data_taken v d n o.width 0 gatts [] rows new at) in
     ap (λ w. in_turn (piece_read v) (state Variables h.dims gatts (map draft_of (var ∷ vars))) (pieces_of (w ++ (text (var ∷ vars) ++ codes "}\n")))) word ∙
-    data_mark v h.dims gatts (map draft_of (var ∷ vars)) (text (var ∷ vars) ++ codes "}\n") ∙ taken (codes "}\n") ∙ end_taken v Values h.dims gatts (map given rows) refl
+    says_takes v (codes "data:\n") (Enter Values) (state Variables h.dims gatts (map draft_of (var ∷ vars))) (state Values h.dims gatts (map draft_of (var ∷ vars))) (data_says v) refl (text (var ∷ vars) ++ codes "}\n") ∙ taken (codes "}\n") ∙ end_taken v Values h.dims gatts (map given rows) refl
 data_read v d o n gatts full _ new at _ some same = absurd (cc)
 
 -- ---- the whole text

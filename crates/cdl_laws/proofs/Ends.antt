@@ -80,11 +80,6 @@ gatts_part v dims vars (a ∷ gatts) drafts speak new =
     (λ rest. ap (in_turn (piece_read v) s) (comment_back rest))
     (globals_taken v (after_vars (after_dims dims) vars) dims (a ∷ gatts) drafts (grind (arith, globals, dimensions, variables)) speak new)
 
-pub data_mark : (v : Version) (dims : List Dim) (gatts : List Att) (drafts : List Draft) → Takes v (codes "data:\n") (state Variables dims gatts drafts) (state Values dims gatts drafts)
-unfolding act
-data_mark v dims gatts drafts =
-    says_takes v (codes "data:\n") (Enter Values) (state Variables dims gatts drafts) (state Values dims gatts drafts) (data_says v) refl
-
 -- ---- the end
 
 pub end_taken : (v : Version) (section : Section) (dims : List Dim) (gatts : List Att) (drafts : List Draft) → is_open section ≡ true → in_turn (piece_read v) (state section dims gatts drafts) (pieces_of (codes "}\n")) ≡ Ok (state Ended dims gatts drafts)

@@ -26,7 +26,6 @@ pub mod Trimmed
 pub mod TextReadsBack
 pub mod TokensRead
 pub mod TextTokens
-pub mod PiecesRead
 pub mod RowsRead
 mod examples
 pub mod Prelude

@@ -1,10 +1,10 @@
 -- The names that proofs of this crate cite from elsewhere, passed on from one place.
 pub use Rattle.cdl_laws.specs.Goods.{IsNearlySayable, MeaningsAreGood, MeaningsAreNearlySayable}
-pub use Rattle.cdl_laws.specs.PieceLaws.{AttributeReadsBack, AttributesReadBack, DataReadsBack, DeclarationReadsBack, DeclarationsReadBack, DimensionsReadBack, GlobalAttributesReadBack, IsBeforeData, IsStatement, MarksReadBack, PiecesAreStatements, SaysStatement, brace_piece, declaration, dimensions, globals, opening_line, opening_piece, said_dim, variables}
+pub use Rattle.cdl_laws.specs.PieceLaws.{AttributeReadsBack, DeclarationReadsBack, IsBeforeData, IsStatement, SaysStatement, brace_piece, declaration, dimensions, globals, opening_line, opening_piece, said_dim, variables}
 pub use Rattle.cdl_laws.specs.Reading.{cut_lexemes, lexemes, with_lexeme}
 unfoldable pub use Rattle.cdl_laws.specs.Reading.{lexemes_at, pieces_of}
 pub use Rattle.cdl_laws.specs.RoundTrip.{IsFull, TextReadsBack}
-pub use Rattle.cdl_laws.specs.TokenLaws.{AreToken, ConstantsReadBack, NamesReadBack, StandsForBytes, StopsNumber, StringsReadBack, StringsStandForBytes, ValuesReadBack}
+pub use Rattle.cdl_laws.specs.TokenLaws.{AreToken, NamesReadBack, StandsForBytes, StopsNumber, StringsStandForBytes}
 pub use Rattle.cdl_laws.specs.Trims.{FillValueSurvivesTrim, TrimmedIsSayable, TrimsOnce, has_cut_fill}
 pub use Rattle.cdl_statements.specs.Meaning.{array_of, closing_line, dataset_of, empty, has_small_array, header_of, meaning, records_in, listed_values}
 unfoldable pub use Rattle.cdl_statements.specs.SoundHeaders.{is_sound}

@@ -1,6 +1,6 @@
 -- The values that the text of a variable lists give its array.
 use Rattle.std.proofs.Common.{◌≡◌, ℕ, suc, List, [], ◌∷◌, sym, ◌∙◌, ap, subst, arith, All, Some, slice_get, slice_index_or, rules}
-use Rattle.cdl_laws.proofs.Prelude.{Dataset, Att, Dim, Header, Known, Var, fill_value, IsArray, AreArrays, value_count, IsName, IsSayable, IsSayableVar, trimmed_var, listable_of, filled, DataReadsBack, all-at}
+use Rattle.cdl_laws.proofs.Prelude.{Dataset, Att, Dim, Header, Known, Var, fill_value, IsArray, AreArrays, value_count, IsName, IsSayable, IsSayableVar, trimmed_var, listable_of, filled, all-at}
 use Rattle.cdl_laws.specs.RowLaws.{RowsReadBack, EmptyRowsReadBack}
 use Rattle.cdl_laws.proofs.Given.{row_back, no_bytes, same_fill, array_len}
 
@@ -36,6 +36,3 @@ pub empty_rows_read_back : EmptyRowsReadBack
 empty_rows_read_back d records place var s known at none =
     let is = is_array d records place var s known at in
     no_bytes (slice_index_or d.arrays place []) (value_count d.header.dims var records) _ is.whole (grind (arith, none))
-
-pub data_reads_back : DataReadsBack
-data_reads_back d records width place var s known at some = grind (arith, rows_read_back d records width place var s known at some)

@@ -1,5 +1,5 @@
 -- What the statements of a text of bytes say: the characters of their constants are bytes.
-use Rattle.std.proofs.Common.{ℕ, ◌-◌, Bool, true, false, List, [], ◌∷◌, arith, zero, suc, Option, drop, map, if◌then◌else◌, None}
+use Rattle.std.proofs.Common.{ℕ, ◌-◌, Bool, true, false, List, [], ◌∷◌, arith, zero, suc, Option, drop, map, if◌then◌else◌, None, rules}
 use Rattle.cdl_laws.proofs.Prelude.{Version, character, unescape_at, or_zero, Lexeme, is_word_kind, is_mark, name_of, Value, Number, Characters, Underscore, both, at_end, after_member, constant, constants, option_map, Each, each_drop, each_take, IsByte, lexeme, is_opening_kind, is_end_kind, Statement, Open, Enter, DeclareDimensions, DeclareVariables, Attribute, Listed, Close, End, attribute_or_mark, assigned, other_statement, section_mark, shape, Section, Unopened, Globals, Dimensions, Variables, Values, Closed, Ended, Token}
 use Rattle.cdl_laws.proofs.Outcomes.{SomeIs, some_any, some_map, some_both, some_given, in_if}
 use Rattle.cdl_statements.specs.Shapes as shapes
@@ -80,8 +80,7 @@ other_says v _ l _ h = tt
 open_says : (v : Version) (section : Section) (l : Lexeme) (ls : List Lexeme) → Each HasBytes ls →
     SomeIs IsSaid (if is_mark 0x7d l then at_end Close ls else (if is_mark 0x3a l then assigned v false (Attribute None) ls else other_statement v section l ls))
 open_says v section l ls h =
-    in_if (SomeIs IsSaid) (is_mark 0x7d l) (at_end Close ls) _ (ended IsSaid Close ls tt)
-    (in_if (SomeIs IsSaid) (is_mark 0x3a l) (assigned v false (Attribute None) ls) (other_statement v section l ls) (attribute_says v None ls h) (other_says v section l ls h))
+    search (rules, in_if (SomeIs IsSaid), ended IsSaid Close ls tt, attribute_says v None ls h, other_says v section l ls h)
 
 pub shape_says : (v : Version) (section : Section) (ls : List Lexeme) → Each HasBytes ls → SomeIs IsSaid (shape v section ls)
 unfolding shape

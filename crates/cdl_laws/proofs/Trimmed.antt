@@ -45,9 +45,6 @@ trims_once d = search (rules, bytes_once, map_once, att_once)
 
 -- ---- still sayable
 
-char_size : (ty : NcType) → is_char ty ≡ true → size_of ty ≡ 1
-char_size ty h = grind arith
-
 -- as many values as before, or fewer
 whole_still : (limit size : ℕ) (char : Bool) (vals : List ℕ) (n : ℕ) → (char ≡ true → size ≡ 1) → n < limit → length vals ≡ n * size →
     (m : ℕ) × (m < limit) × (length (if char then without_trailing_nuls vals else vals) ≡ m * size)
@@ -59,7 +56,7 @@ whole_still limit size true vals n one few whole =
 
 att_sound : (v : Version) (att : Att) → IsSoundAtt v att → IsSoundAtt v (trimmed_att att)
 att_sound v att s =
-    let r = whole_still (count_limit v) (size_of att.ty) (is_char att.ty) att.vals s.values.count (char_size att.ty) s.values.counted s.values.whole in
+    let r = whole_still (count_limit v) (size_of att.ty) (is_char att.ty) att.vals s.values.count (λ char. grind (arith, char)) s.values.counted s.values.whole in
     record { name_len = s.name_len; ty = s.ty; values = record { count = r.0; counted = r.1; whole = r.2 } }
 
 over_map : {X : Type 0} (P : X → Type 0) (f : X → X) (xs : List X) → ((x : X) → P x → P (f x)) → All P xs → All P (map f xs)

@@ -1,24 +1,68 @@
-use Rattle.cdl_laws.proofs.PiecesRead.{pieces_are_statements, marks_read_back, dimensions_read_back, declarations_read_back, attributes_read_back, global_attributes_read_back}
-use Rattle.cdl_laws.proofs.RowsRead.{data_reads_back}
+use Rattle.std.proofs.Common.{◌≡◌, ℕ, List, [], ◌∷◌, ◌++◌, refl, arith, slice_index_or, Some}
+use Rattle.cdl_laws.proofs.Prelude.{concat_parts, Dim, Version, netcdf_word, IsName, Section, Globals, Dimensions, Variables, Values, scan, pieces_at, Close, shape, SaysStatement, opening_line, opening_piece, brace_piece, dimensions, AttributeReadsBack, cut_lexemes, lexemes, lexemes_at, pieces_of, Each, all_of, each_map, each_of}
+use Rattle.cdl_laws.proofs.Declarations.{dim_says, Speaks, global_says, owned_says}
+use Rattle.cdl_laws.proofs.Ends.{dimensions_says, variables_says, data_says, opening_lexemes, comment_back}
+use Rattle.cdl_laws.proofs.Lines.{pieces_are}
+use Rattle.cdl_laws.proofs.Sayables.{atts_speak}
+use Rattle.cdl_laws.proofs.Wholes.{declared}
+use Rattle.cdl_laws.proofs.RowsRead.{rows_read_back}
 use Rattle.cdl_laws.proofs.laws.piece_reads_back.Goals as goal
 
 pub returns-clause-pieces : goal.returns-clause-pieces
-returns-clause-pieces c = pieces_are_statements
+returns-clause-pieces c = pieces_are
+
+-- ---- marks
+
+opening_back : (name rest : List ℕ) → IsName name → cut_lexemes (lexemes (opening_line name ++ 10 ∷ rest)) ≡ opening_piece name ∷ pieces_of rest
+unfolding pieces_of pieces_at concat_parts netcdf_word
+opening_back name rest h = rw (opening_lexemes name rest h)
+
+closes : (v : Version) → Each (λ (section : Section). SaysStatement v section brace_piece Close) (Globals ∷ Dimensions ∷ Variables ∷ Values ∷ [])
+unfolding shape
+closes v = (record { sound = refl; shaped = refl }, (record { sound = refl; shaped = refl }, (record { sound = refl; shaped = refl }, (record { sound = refl; shaped = refl }, tt))))
 
 pub returns-clause-marks : goal.returns-clause-marks
-returns-clause-marks c = marks_read_back
+unfolding pieces_of lexemes_at scan pieces_at shape
+returns-clause-marks c = λ v. record {
+  opening = opening_back;
+  opens = λ name. record { sound = refl; shaped = refl };
+  dimensions = dimensions_says v;
+  variables = variables_says v (record { name = []; len = 0 } ∷ []);
+  variables_alone = variables_says v [];
+  values = data_says v;
+  comment = comment_back;
+  closing = refl;
+  closes = all_of (λ (section : Section). SaysStatement v section brace_piece Close) (Globals ∷ Dimensions ∷ Variables ∷ Values ∷ []) (closes v);
+  ends = record { sound = refl; shaped = refl };
+}
+
+-- ---- dimensions, declarations, attributes and values
 
 pub returns-clause-dimensions : goal.returns-clause-dimensions
-returns-clause-dimensions c = dimensions_read_back
+returns-clause-dimensions c = λ d records s k dim h. grind (arith, dim_says)
 
 pub returns-clause-declarations : goal.returns-clause-declarations
-returns-clause-declarations c = declarations_read_back
+returns-clause-declarations c = λ d s k var h.
+    let g = s.good in
+    let sound = g.is_sound.vars k var h in
+    let names = each_of (λ (dim : Dim). IsName dim.name) d.header.dims g.names.dims in
+    declared d.header.version d.header.dims (slice_index_or d.header.vars k var) (g.names.vars k var h).0 sound.shape names s.dims sound.ty
 
 pub returns-clause-attributes : goal.returns-clause-attributes
-returns-clause-attributes c = attributes_read_back
+returns-clause-attributes c = λ d s k var h.
+    let g = s.good in
+    let v = d.header.version in
+    let x = slice_index_or d.header.vars k var in
+    let name = (g.names.vars k var h).0 in
+    let speak = atts_speak v x.atts (g.is_sound.vars k var h).atts (g.values.vars k var h) (s.vars k var h).atts.some (g.names.vars k var h).1 in
+    all_of (AttributeReadsBack v Variables (Some x.name)) x.atts (each_map (Speaks v) (AttributeReadsBack v Variables (Some x.name)) x.atts (owned_says v x.name name) speak)
 
 pub returns-clause-global_attributes : goal.returns-clause-global_attributes
-returns-clause-global_attributes c = global_attributes_read_back
+returns-clause-global_attributes c = λ d section s before.
+    let g = s.good in
+    let v = d.header.version in
+    let atts = d.header.gatts in
+    grind (arith, global_says v section before, atts_speak v atts g.is_sound.gatts g.values.gatts s.gatts.some g.names.gatts, all_of, each_map)
 
 pub returns-clause-values : goal.returns-clause-values
-returns-clause-values c = data_reads_back
+returns-clause-values c = λ d records width place var s known at some. grind (arith, rows_read_back d records width place var s known at some)
