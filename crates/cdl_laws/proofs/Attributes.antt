@@ -1,6 +1,6 @@
 -- The values of an attribute are read back.
 use Rattle.std.proofs.Common.{◌≡◌, ℕ, zero, suc, ◌+◌, ◌*◌, ◌/◌, ◌^◌, ◌<◌, true, false, List, [], ◌∷◌, length, drop, take, map, sym, ◌∙◌, ap, refl, subst, arith, length-take, length-drop, ℤ, rules, pos, unsigned_abs, Ok}
-use Rattle.cdl_laws.proofs.Prelude.{flat_map, mul-div_cancel, ints, take-append-drop, get_or-drop, AreBytes, Att, NcType, Char, Version, numbers, numbers_from, bytes_of_number, IsInRange, size_of, IsSoundAtt, att_text, numbers_text, joined, without_trailing_nuls, IsName, is_char, has_type, trimmed_att, HasSomeNumber, Characters, has_number, some_size, is_had, Each, each_map, Lexeme, chars_text, concat_parts}
+use Rattle.cdl_laws.proofs.Prelude.{flat_map, mul-div_cancel, ints, take-append-drop, get_or-drop, AreBytes, Att, NcType, Char, Version, numbers, numbers_from, bytes_of_number, IsInRange, size_of, IsSoundAtt, att_text, numbers_text, joined, without_trailing_nuls, IsName, is_char, has_type, trimmed_att, HasSomeNumber, Characters, has_number, some_size, is_had, length-numbers_from, Each, each_map, Lexeme, chars_text, concat_parts}
 use Rattle.nc_base.proofs.NumberBytes.{bytes_read_back, numbers_in_range}
 use Rattle.cdl_laws.proofs.Acts.{numbers_added, chars_added}
 use Rattle.cdl_laws.proofs.Declarations.{Speaks, broken_read, numbers_said, suffixed, suffixed_read, first, others, all_bytes}
@@ -54,6 +54,13 @@ all_small ty xs h = each_map (IsInRange ty) (λ x. unsigned_abs x < 2 ^ 64) xs (
 pub count_is : (ty : NcType) (n : ℕ) (bytes : List ℕ) → length bytes ≡ n * size_of ty → numbers ty bytes ≡ numbers_from ty n bytes
 unfolding numbers
 count_is ty n bytes h = ap (λ k. numbers_from ty k bytes) (ap (λ m. m / size_of ty) h ∙ mul-div_cancel n (some_size ty))
+
+-- the numbers of whole values: they give back the bytes, are in the range of their type, and there are so many
+abbrev pub AreNumbersOf : NcType → List ℕ → ℕ → Type 0
+AreNumbersOf ty bytes n = (flat_map (bytes_of_number ty) (numbers ty bytes) ≡ bytes) × Each (IsInRange ty) (numbers ty bytes) × (length (numbers ty bytes) ≡ n)
+
+pub numbers_are : (ty : NcType) (n : ℕ) (bytes : List ℕ) → AreBytes bytes → length bytes ≡ n * size_of ty → AreNumbersOf ty bytes n
+numbers_are ty n bytes small h = rw (count_is ty n bytes h) (numbers_back ty n bytes small h, numbers_range ty n bytes small h, length-numbers_from ty n bytes)
 
 -- ---- attributes
 

@@ -43,10 +43,8 @@ pub dims_part : (v : Version) (n : ℕ) (dims : List Dim) (gatts : List Att) (dr
 unfolding dims_text dim_lines act
 dims_part v n [] gatts drafts h = takes_nothing v (state Globals [] gatts drafts)
 dims_part v n (d ∷ dims) gatts drafts h =
-    let in_dims : List Dim → State = λ done. state Dimensions done gatts drafts in
-    headed v dimensions_word (map (dim_line n) (d ∷ dims)) (length dims) (state Globals [] gatts drafts) (in_dims []) (in_dims (d ∷ dims))
-    (says_takes v dimensions_word (Enter Dimensions) (state Globals [] gatts drafts) (in_dims []) (dimensions_says v) refl)
-    (dims_taken v n (d ∷ dims) gatts drafts h)
+    headed v dimensions_word (map (dim_line n) (d ∷ dims)) (length dims) _ _ _
+    (says_takes v dimensions_word (Enter Dimensions) _ _ (dimensions_says v) refl) (dims_taken v n (d ∷ dims) gatts drafts h)
 
 pub variables_says : (v : Version) (dims : List Dim) → IsStatement v (after_dims dims) variables_word (Enter Variables)
 unfolding variables_word pieces_of lexemes_at scan word_len pieces_at is_section shape
@@ -58,11 +56,8 @@ pub vars_part : (v : Version) (dims : List Dim) (vars : List Var) (gatts : List 
 unfolding vars_text act
 vars_part v dims [] gatts distinct names fit = takes_nothing v (state (after_dims dims) dims gatts [])
 vars_part v dims (var ∷ vars) gatts distinct names fit =
-    let s = state (after_dims dims) dims gatts [] in
-    let t = state Variables dims gatts [] in
-    headed v variables_word (map (var_lines dims) (var ∷ vars)) (length vars) s t (state Variables dims gatts (map draft_of (var ∷ vars)))
-    (says_takes v variables_word (Enter Variables) s t (variables_says v dims) refl)
-    (vars_taken v dims gatts (var ∷ vars) distinct names fit)
+    headed v variables_word (map (var_lines dims) (var ∷ vars)) (length vars) _ _ _
+    (says_takes v variables_word (Enter Variables) _ _ (variables_says v dims) refl) (vars_taken v dims gatts (var ∷ vars) distinct names fit)
 
 -- the line before global attributes is a comment
 pub comment_back : (rest : List ℕ) → pieces_of (global_word ++ rest) ≡ pieces_of rest
@@ -74,10 +69,7 @@ pub gatts_part : (v : Version) (dims : List Dim) (vars : List Var) (gatts : List
 unfolding gatts_text att_lines
 gatts_part v dims vars [] drafts speak new = takes_nothing v (state (after_vars (after_dims dims) vars) dims [] drafts)
 gatts_part v dims vars (a ∷ gatts) drafts speak new =
-    let s = state (after_vars (after_dims dims) vars) dims [] drafts in
-    headed v global_word (map (att_line []) (a ∷ gatts)) (length gatts) s s
-    (state (after_vars (after_dims dims) vars) dims (map trimmed_att (a ∷ gatts)) drafts)
-    (λ rest. ap (in_turn (piece_read v) s) (comment_back rest))
+    headed v global_word (map (att_line []) (a ∷ gatts)) (length gatts) _ _ _ (λ rest. ap (in_turn (piece_read v) _) (comment_back rest))
     (globals_taken v (after_vars (after_dims dims) vars) dims (a ∷ gatts) drafts (grind (arith, globals, dimensions, variables)) speak new)
 
 -- ---- the end

@@ -1,7 +1,7 @@
 -- The array of a variable is given back by the text of its values.
 use Rattle.std.proofs.Common.{◌≡◌, ℕ, zero, suc, ◌*◌, ◌<◌, ◌≤◌, true, false, List, [], ◌∷◌, length, drop, take, map, sym, ◌∙◌, ap, refl, subst, arith, length-take, length-drop, ℤ, pos, ◌&&◌, ◌==◌, not, nat_lt, find, Some, rules, if◌then◌else◌, Option}
-use Rattle.cdl_laws.proofs.Prelude.{flat_map, int_eq, lt_of_mul-lt-mul_right, false≢true, Decides-int_eq, take-append-drop, Att, Dim, Header, Var, NcType, Version, fill_value, is_fill_att, value_count, IsArray, IsName, numbers, bytes_of_number, IsInRange, is_record_var, product, slab_lens, look_of, is_char, row_len, trimmed_att, trimmed_var, listable_of, filled, array_of, and_left, is_off, is_on, look-type, length-numbers_from, Each, each_drop, each_map, each_take, slab_rows, has_values, listed_values, Listing, and_false, option_map}
-use Rattle.cdl_laws.proofs.Attributes.{numbers_back, numbers_range, all_fit, all_small, count_is}
+use Rattle.cdl_laws.proofs.Prelude.{int_eq, lt_of_mul-lt-mul_right, false≢true, Decides-int_eq, take-append-drop, Att, Dim, Header, Var, NcType, Version, fill_value, is_fill_att, value_count, IsArray, IsName, numbers, IsInRange, is_record_var, product, slab_lens, look_of, is_char, row_len, trimmed_att, trimmed_var, listable_of, filled, array_of, and_left, is_off, is_on, look-type, Each, each_drop, each_map, each_take, slab_rows, has_values, listed_values, Listing, and_false, option_map}
+use Rattle.cdl_laws.proofs.Attributes.{AreNumbersOf, numbers_are, all_fit, all_small}
 use Rattle.cdl_laws.proofs.Characters.{flat, IsCharacter}
 use Rattle.cdl_laws.proofs.DataTexts.{Gives, IsRoomFor, gives_numbers, gives_table, gives_line, given_draft, IsGivenBy}
 
@@ -102,19 +102,8 @@ listed_table v h var n width k xs split some len range char name fill rank =
 -- ---- arrays
 
 -- an array's numbers
-pub array_numbers : (dims : List Dim) (n : ℕ) (var : Var) (array : List ℕ) → IsArray dims n var array →
-    flat_map (bytes_of_number var.ty) (numbers var.ty array) ≡ array
-array_numbers dims n var array is =
-    ap (flat_map (bytes_of_number var.ty)) (count_is var.ty (value_count dims var n) array is.whole) ∙ numbers_back var.ty (value_count dims var n) array is.bytes is.whole
-
-pub array_len : (dims : List Dim) (n : ℕ) (var : Var) (array : List ℕ) → IsArray dims n var array → length (numbers var.ty array) ≡ value_count dims var n
-array_len dims n var array is =
-    ap (λ (xs : List ℤ). length xs) (count_is var.ty (value_count dims var n) array is.whole) ∙ length-numbers_from var.ty (value_count dims var n) array
-
-pub array_range : (dims : List Dim) (n : ℕ) (var : Var) (array : List ℕ) → IsArray dims n var array →
-    Each (IsInRange var.ty) (numbers var.ty array)
-array_range dims n var array is =
-    subst (λ xs. Each (IsInRange var.ty) xs) (sym (count_is var.ty (value_count dims var n) array is.whole)) (numbers_range var.ty (value_count dims var n) array is.bytes is.whole)
+pub array_gives : (dims : List Dim) (n : ℕ) (var : Var) (array : List ℕ) → IsArray dims n var array → AreNumbersOf var.ty array (value_count dims var n)
+array_gives dims n var array is = numbers_are var.ty (value_count dims var n) array is.bytes is.whole
 
 -- ---- rows of a variable
 
@@ -154,7 +143,7 @@ gives_back v h n width var array is some both = record {
   o = Some both.0.listing;
   given = subst (λ b. IsGivenBy b v h.dims (look_of h var n width) var (numbers var.ty array) (Some both.0.listing)) (sym some) (both.0, refl);
   back = both.1;
-  exact = λ e. ap (λ (ys : List ℤ). length ys) (both.0.exact e) ∙ array_len h.dims n var array is;
+  exact = λ e. ap (λ (ys : List ℤ). length ys) (both.0.exact e) ∙ (array_gives h.dims n var array is).2;
 }
 
 -- any variable that has values is given back by their text: all of them, for every width and wherever the breaks are
@@ -164,8 +153,9 @@ unfolding look_of
 row_back v h n width var array is count name fill =
     let look = look_of h var n width in
     let xs = numbers var.ty array in
-    let len = array_len h.dims n var array is in
-    let range = array_range h.dims n var array is in
+    let gives = array_gives h.dims n var array is in
+    let len = gives.2 in
+    let range = gives.1 in
     let some : 0 < length xs = omega (arith, len, count) in
     let g : Gives v h.dims look var xs = elim (is_char var.ty) as (λ c. is_char var.ty ≡ c → Gives v h.dims look var xs) [
       | true ↦ (λ char. elim (look.in_rows) as (λ r. look.in_rows ≡ r → Gives v h.dims look var xs) [
@@ -177,7 +167,7 @@ row_back v h n width var array is count name fill =
       ] refl)
       | false ↦ (λ other. listed_numbers v h var n width xs some len range other name)
     ] refl in
-    (g, search (rules, filled, array_numbers h.dims n var array is))
+    (g, search (rules, filled, gives.0))
 
 pub no_bytes : (array : List ℕ) (m size : ℕ) → length array ≡ m * size → m ≡ 0 → array ≡ []
 no_bytes [] m size h z = refl

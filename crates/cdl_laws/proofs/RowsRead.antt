@@ -2,7 +2,7 @@
 use Rattle.std.proofs.Common.{◌≡◌, ℕ, suc, List, [], ◌∷◌, sym, ◌∙◌, ap, subst, arith, All, Some, slice_get, slice_index_or, rules}
 use Rattle.cdl_laws.proofs.Prelude.{Dataset, Att, Dim, Header, Known, Var, fill_value, IsArray, AreArrays, value_count, IsName, IsSayable, IsSayableVar, trimmed_var, listable_of, filled, all-at}
 use Rattle.cdl_laws.specs.RowLaws.{RowsReadBack, EmptyRowsReadBack}
-use Rattle.cdl_laws.proofs.Given.{row_back, no_bytes, same_fill, array_len}
+use Rattle.cdl_laws.proofs.Given.{row_back, no_bytes, same_fill, array_gives}
 
 -- ---- the parts of a dataset
 
@@ -30,7 +30,7 @@ rows_read_back d records width place var s known at some =
     let name = (all-at (λ (w : Var). IsName w.name × All (λ (att : Att). IsName att.name) w.atts) h.vars place var s.good.names.vars at).0 in
     let keeps = (all-at IsSayableVar h.vars place var s.vars at).fill in
     let same : fill_value (trimmed_var var) ≡ fill_value var = grind (arith, same_fill var, keeps) in
-    search (rules, row_back h.version h records width var array is, same, filled, array_len)
+    search (rules, row_back h.version h records width var array is, same, filled, (array_gives h.dims records var array is).2)
 
 pub empty_rows_read_back : EmptyRowsReadBack
 empty_rows_read_back d records place var s known at none =
