@@ -31,18 +31,15 @@ len_take ty n bytes h = grind (arith, length-take (size_of ty) bytes)
 len_drop : (ty : NcType) (n : ℕ) (bytes : List ℕ) → length bytes ≡ suc n * size_of ty → length (drop (size_of ty) bytes) ≡ n * size_of ty
 len_drop ty n bytes h = grind (arith, length-drop (size_of ty) bytes)
 
-pub numbers_back : (ty : NcType) (n : ℕ) (bytes : List ℕ) → AreBytes bytes → length bytes ≡ n * size_of ty → flat_map (bytes_of_number ty) (numbers_from ty n bytes) ≡ bytes
-numbers_back ty zero [] small h = refl
-numbers_back ty zero (b ∷ bytes) small h = grind arith
-numbers_back ty (suc n) bytes small h =
-    let first = bytes_read_back ty (take (size_of ty) bytes) (take_bytes (size_of ty) bytes small) (len_take ty n bytes h) in
-    let later = numbers_back ty n (drop (size_of ty) bytes) (drop_bytes (size_of ty) bytes small) (len_drop ty n bytes h) in
-    cc (first, later, take-append-drop (size_of ty) bytes)
-
-pub numbers_range : (ty : NcType) (n : ℕ) (bytes : List ℕ) → AreBytes bytes → length bytes ≡ n * size_of ty → Each (IsInRange ty) (numbers_from ty n bytes)
-numbers_range ty zero bytes small h = tt
-numbers_range ty (suc n) bytes small h =
-    (numbers_in_range ty (take (size_of ty) bytes) (take_bytes (size_of ty) bytes small) (len_take ty n bytes h), numbers_range ty n (drop (size_of ty) bytes) (drop_bytes (size_of ty) bytes small) (len_drop ty n bytes h))
+from_bytes : (ty : NcType) (n : ℕ) (bytes : List ℕ) → AreBytes bytes → length bytes ≡ n * size_of ty →
+    (flat_map (bytes_of_number ty) (numbers_from ty n bytes) ≡ bytes) × Each (IsInRange ty) (numbers_from ty n bytes)
+from_bytes ty zero [] small h = (refl, tt)
+from_bytes ty zero (b ∷ bytes) small h = absurd (let e : suc (length bytes) ≡ 0 * size_of ty = h in omega (arith, e))
+from_bytes ty (suc n) bytes small h =
+    let bytes_first = take_bytes (size_of ty) bytes small in
+    let first = bytes_read_back ty (take (size_of ty) bytes) bytes_first (len_take ty n bytes h) in
+    let others = from_bytes ty n (drop (size_of ty) bytes) (drop_bytes (size_of ty) bytes small) (len_drop ty n bytes h) in
+    (cc (first, others.0, take-append-drop (size_of ty) bytes), (numbers_in_range ty (take (size_of ty) bytes) bytes_first (len_take ty n bytes h), others.1))
 
 pub all_fit : (ty : NcType) (xs : List ℤ) → Each (IsInRange ty) xs → Each (λ x. has_number ty x ≡ true) xs
 all_fit ty xs h = each_map (IsInRange ty) (λ x. has_number ty x ≡ true) xs (is_had ty) h
@@ -60,7 +57,7 @@ abbrev pub AreNumbersOf : NcType → List ℕ → ℕ → Type 0
 AreNumbersOf ty bytes n = (flat_map (bytes_of_number ty) (numbers ty bytes) ≡ bytes) × Each (IsInRange ty) (numbers ty bytes) × (length (numbers ty bytes) ≡ n)
 
 pub numbers_are : (ty : NcType) (n : ℕ) (bytes : List ℕ) → AreBytes bytes → length bytes ≡ n * size_of ty → AreNumbersOf ty bytes n
-numbers_are ty n bytes small h = rw (count_is ty n bytes h) (numbers_back ty n bytes small h, numbers_range ty n bytes small h, length-numbers_from ty n bytes)
+numbers_are ty n bytes small h = let from = from_bytes ty n bytes small h in rw (count_is ty n bytes h) (from.0, from.1, length-numbers_from ty n bytes)
 
 -- ---- attributes
 
@@ -112,4 +109,4 @@ speaks v att sound small some name =
     counted : is_char att.ty ≡ false → (n : ℕ) → length att.vals ≡ n * size_of att.ty → Speaks v att
     counted e zero len = absurd (let s = some e in omega (arith, s, len))
     counted e (suc n) len =
-        grind (arith, count_is att.ty (suc n) att.vals len, numbers_range att.ty (suc n) att.vals small len, numbers_back att.ty (suc n) att.vals small len, some_speak v att, sound.ty)
+        let from = from_bytes att.ty (suc n) att.vals small len in grind (arith, count_is att.ty (suc n) att.vals len, from.0, from.1, some_speak v att, sound.ty)

@@ -1,6 +1,6 @@
 -- The strings of a variable of characters are read back, and what a row shows, filled up, is the row.
 use Rattle.std.proofs.Common.{◌≡◌, ℕ, suc, ◌+◌, ◌*◌, ◌<◌, ◌≤◌, true, false, List, [], ◌∷◌, ◌++◌, length, map, sym, ◌∙◌, ap, refl, subst, arith, append_assoc, append-nil, length-append, ℤ, ◌==◌, codes, zero, ◌-◌, Bool, pos, unsigned_abs, replicate, Some, Ok, rules}
-use Rattle.cdl_laws.proofs.Prelude.{flat_map, escaped_name, escaped_text, IsName, Look, is_char, char_lead, variable_opening, variable_closing, variable_text, Lexeme, Each, prefix_is, pieces_are, a_row, char_pieces, printed, map-append, length-replicate, replicate_more, Version, escaped_in_string, is_nul, string_value, stands_for, Characters, constant, constants, Listable, Joined, Rows, add_row, filled, in_turn, listing_of, values_in, le-leb, length-map, ◌>>=◌, any_each, lt-ltb, lexemes_at, concat_parts}
+use Rattle.cdl_laws.proofs.Prelude.{flat_map, escaped_name, escaped_text, IsName, Look, is_char, char_lead, variable_opening, variable_closing, variable_text, Lexeme, Each, prefix_is, pieces_are, a_row, char_pieces, printed, map-append, length-replicate, replicate_more, Version, escaped_in_string, is_nul, string_value, stands_for, Characters, constants, Listable, Joined, Rows, add_row, filled, in_turn, listing_of, values_in, le-leb, length-map, ◌>>=◌, any_each, lt-ltb, lexemes_at, concat_parts}
 use Rattle.cdl_laws.proofs.Texts.{Closed, mark, marks_closed, word, reading}
 use Rattle.cdl_laws.proofs.Strings.{string, string_read, unescape_all, between_quotes}
 use Rattle.cdl_laws.proofs.ValueTexts.{commas, comma, semicolon, turn, constants_say}
@@ -125,12 +125,9 @@ row_back t n fill xs h len all = grind (arith, printed, filled, pos, length-map,
 
 -- ---- what the strings say
 
-string_said : (v : Version) (takes_fill : Bool) (bytes : List ℕ) → constant v takes_fill (string bytes) ≡ Some (Characters bytes)
-string_said v takes_fill bytes = ap (λ (bs : List ℕ). Some (Characters (string_value bs))) (between_quotes (flat_map escaped_in_string bytes)) ∙ ap (λ (bs : List ℕ). Some (Characters bs)) (stands_for (flat_map escaped_in_string bytes) bytes (unescape_all bytes))
-
 pub strings_said : (v : Version) (takes_fill : Bool) (bytes : List ℕ) (all : List (List ℕ)) → constants v takes_fill (string bytes ∷ commas (map string all) ++ semicolon ∷ []) ≡ Some (map Characters (bytes ∷ all))
 strings_said v takes_fill bytes all = constants_say v takes_fill string Characters (λ b. Unit {0})
-    (λ b u. string_said v takes_fill b) bytes all (any_each (bytes ∷ all))
+    (λ b u. ap (λ (bs : List ℕ). Some (Characters (string_value bs))) (between_quotes (flat_map escaped_in_string b)) ∙ ap (λ (bs : List ℕ). Some (Characters bs)) (stands_for (flat_map escaped_in_string b) b (unescape_all b))) bytes all (any_each (bytes ∷ all))
 
 -- ---- what becomes of them
 

@@ -12,12 +12,11 @@ use Rattle.cdl_laws.proofs.Heads.{name_starts, bare_word, comment_closed, joined
 
 -- ---- dimensions
 
-records_comment : (n : ℕ) → list_all (λ b. not (b == 10)) (codes " (" ++ (decimal n ++ codes " currently)")) ≡ true
-records_comment n = list_all-append (λ b. not (b == 10)) (decimal n) (codes " currently)") ∙ and_both (list_all (λ b. not (b == 10)) (decimal n)) true (all_mono is_digit (λ b. not (b == 10)) (λ b is. grind arith) (decimal n) (decimal_digits n)) refl
-
 -- the comment after the record dimension
 records_read : (n : ℕ) → Closed (codes "// (" ++ (decimal n ++ codes " currently)\n")) []
-records_read n rest = simp append_assoc (simp append_assoc at (comment_closed (codes " (" ++ (decimal n ++ codes " currently)")) (records_comment n) rest))
+records_read n rest =
+    let one_line = list_all-append (λ b. not (b == 10)) (decimal n) (codes " currently)") ∙ and_both (list_all (λ b. not (b == 10)) (decimal n)) true (all_mono is_digit (λ b. not (b == 10)) (λ b is. grind arith) (decimal n) (decimal_digits n)) refl in
+    simp append_assoc (simp append_assoc at (comment_closed (codes " (" ++ (decimal n ++ codes " currently)")) one_line rest))
 
 -- the length as a lexeme
 abbrev pub extent_lexeme : ℕ → Lexeme

@@ -37,16 +37,13 @@ big_back v minus [] suf h big k = absurd (omega (arith, big))
 big_back v minus (d ∷ ds) suf h big k =
     grind (arith, based, prefix_all is_digit (d ∷ ds) suf h k)
 
-zero_back : (v : Version) (minus : Bool) (ty : NcType) → with_sign v minus (48 ∷ number_suffix ty) ≡ with_suffix minus 0 (type_of_suffix v (number_suffix ty))
-zero_back v minus ty = search rules
-
 pub on_suffix : (ty : NcType) → list_all goes_on_number (number_suffix ty) ≡ true
 on_suffix ty = grind arith
 
 unsigned_some : (v : Version) (minus : Bool) (ty : NcType) (n : ℕ) → n < 2 ^ 64 →
     with_sign v minus (decimal n ++ number_suffix ty) ≡ with_suffix minus n (type_of_suffix v (number_suffix ty))
 unfolding digits
-unsigned_some v minus ty zero h = zero_back v minus ty
+unsigned_some v minus ty zero h = search rules
 unsigned_some v minus ty (suc n) h =
     big_back v minus (decimal (suc n)) (number_suffix ty) (decimal_digits (suc n)) (first_decimal (suc n) (omega arith) h) (grind arith) ∙
     ap (λ m. with_suffix minus m (type_of_suffix v (number_suffix ty)))

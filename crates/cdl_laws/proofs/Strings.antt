@@ -2,7 +2,7 @@
 use Rattle.std.proofs.Common.{◌≡◌, ℕ, ◌+◌, ◌-◌, ◌/◌, ◌%◌, ◌<◌, true, false, List, [], ◌∷◌, ◌++◌, length, drop, take, sym, ◌∙◌, ap, refl, subst, arith, append_assoc, length-append, ◌==◌, map, Some, is_some, rules}
 use Rattle.cdl_laws.proofs.Prelude.{is_ascii_control, flat_map, list_all, eqb-true, take-append_seam, escaped_in_string, octal_escape, is_octal, number_in, len_until, scan, character, up_to_255, plain_escape, unescape, unescape_at, Lexeme, until_at_start, AreToken, escaped_text, lexemes_at}
 use Rattle.cdl_tokens.specs.declared.token.TokenKind.TheVariants as kinds
-use Rattle.cdl_laws.proofs.Texts.{Closed, prefix_again}
+use Rattle.cdl_laws.proofs.Texts.{prefix_again}
 
 -- ---- the characters
 
@@ -81,14 +81,10 @@ pub string_token : (bytes rest : List ℕ) → AreToken kinds.Text (quoted bytes
 unfolding scan
 string_token bytes rest fresh = grind (arith, append_assoc, take-append_seam, until_all, is_some, unescape_all, all_bytes, length-append)
 
-pub string_closed : (bytes : List ℕ) → Closed (quoted bytes) (string bytes ∷ [])
-string_closed bytes rest = prefix_again false (Some kinds.Text) 0x22 (flat_map escaped_in_string bytes ++ 0x22 ∷ []) rest
-    (string_token bytes rest false)
-
 pub string_read : (bytes rest : List ℕ) →
     lexemes_at false 0 (0x22 ∷ (escaped_text bytes ++ 0x22 ∷ rest)) ≡ string bytes ∷ lexemes_at false 0 rest
 unfolding escaped_text
-string_read bytes rest = simp append_assoc at (string_closed bytes rest)
+string_read bytes rest = simp append_assoc at (prefix_again false (Some kinds.Text) 0x22 (flat_map escaped_in_string bytes ++ 0x22 ∷ []) rest (string_token bytes rest false))
 
 -- what is between its quotes
 pub between_quotes : (w : List ℕ) → take (length (0x22 ∷ (w ++ 0x22 ∷ [])) - 2) (drop 1 (0x22 ∷ (w ++ 0x22 ∷ []))) ≡ w

@@ -1,5 +1,5 @@
 -- The strings of a text stand for bytes.
-use Rattle.std.proofs.Common.{◌≡◌, ℕ, zero, suc, ◌+◌, ◌-◌, ◌<◌, Bool, true, List, [], ◌∷◌, length, take, drop, sym, ◌∙◌, ap, refl, subst, arith, ◌&&◌, nat_lt, if◌then◌else◌, map, Option, Some, is_none, is_some, rules, false}
+use Rattle.std.proofs.Common.{◌≡◌, ℕ, zero, suc, ◌+◌, ◌-◌, ◌<◌, Bool, true, List, [], ◌∷◌, length, take, drop, sym, ◌∙◌, ap, refl, subst, arith, ◌&&◌, if◌then◌else◌, map, Option, Some, is_none, is_some, rules, false}
 use Rattle.cdl_laws.proofs.Prelude.{list_all, inner, string_value, unescape, or_zero, scan, scan_text, raw, tokens_at, tokens, with_token, token_at, Scanned, Token, TokenKind, StandsForBytes, StringsStandForBytes, inner_of, Each, all_of}
 use Rattle.cdl_tokens.specs.declared.token.TokenKind.TheVariants as kinds
 use Rattle.cdl_laws.proofs.Lines.{tail_at}
@@ -20,11 +20,8 @@ SaysString bytes f = f.kind ≡ Some kinds.Text → IsString bytes f.len
 either : (bytes : List ℕ) (b : Bool) (f g : Scanned) → SaysString bytes f → SaysString bytes g → SaysString bytes (if b then f else g)
 either bytes b f g h h2 = grind arith
 
-inside : (m n : ℕ) → nat_lt m n ≡ true → m < n
-inside m n h = grind (arith, h)
-
 text_says : (bytes : List ℕ) (n : ℕ) → SaysString bytes (scan_text bytes n)
-text_says bytes n = grind (arith, inside)
+text_says bytes n = grind arith
 
 abbrev is_text : Option TokenKind → Bool
 is_text (Some kinds.Text) = true

@@ -92,14 +92,10 @@ good_still d g = record {
   arrays = arrays_still d.header.dims g.records d.header.vars d.arrays g.arrays;
 }
 
-some_still : (att : Att) → HasSomeNumber att → HasSomeNumber (trimmed_att att)
-some_still att h e = subst (λ b. 0 < length (if b then without_trailing_nuls att.vals else att.vals)) (sym e) (h e)
-
 atts_still : (atts : List Att) → AreSayableAtts atts → AreSayableAtts (map trimmed_att atts)
-atts_still atts s = grind (arith, map-map (λ (a : Att). a.name) trimmed_att atts, over_map HasSomeNumber trimmed_att atts some_still s.some)
-
-var_still : (var : Var) → IsSayableVar var → IsSayableVar (trimmed_var var)
-var_still var s = record { atts = atts_still var.atts s.atts; fill = λ e. ap fill_value (var_once var) }
+atts_still atts s =
+    let some = over_map HasSomeNumber trimmed_att atts (λ a h e. subst (λ b. 0 < length (if b then without_trailing_nuls a.vals else a.vals)) (sym e) (h e)) s.some in
+    grind (arith, map-map (λ (a : Att). a.name) trimmed_att atts, some)
 
 no_vars : (vars : List Var) → map trimmed_var vars ≡ [] → vars ≡ []
 no_vars [] h = refl
@@ -111,7 +107,7 @@ trimmed_is_sayable d s = record {
   dims = s.dims;
   gatts = atts_still d.header.gatts s.gatts;
   names = subst AreDistinct (sym (map-map (λ (var : Var). var.name) trimmed_var d.header.vars)) s.names;
-  vars = over_map IsSayableVar trimmed_var d.header.vars var_still s.vars;
+  vars = over_map IsSayableVar trimmed_var d.header.vars (λ var is. record { atts = atts_still var.atts is.atts; fill = λ e. ap fill_value (var_once var) }) s.vars;
   records = λ e. s.records (no_vars (record_vars d.header.dims d.header.vars) (sym (record_trimmed d.header.dims d.header.vars) ∙ e));
 }
 

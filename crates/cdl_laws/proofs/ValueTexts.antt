@@ -42,11 +42,10 @@ value_lexeme look x = if is_fill_value look x then word (codes "_") else number 
 abbrev pub value_said : Look → ℤ → Value
 value_said look x = if is_fill_value look x then Underscore else Number (record { value = x; ty = Int })
 
-blank_reads : Reads (codes "_") (word (codes "_") ∷ [])
-blank_reads = word_reads 95 [] (λ rest. refl) (λ rest stop. word_at_start 95 rest ∙ ap (λ n. 1 + n) (stop_word rest stop))
-
 text_reads : (look : Look) (x : ℤ) → unsigned_abs x < 2 ^ 64 → Reads (number_text look x) (value_lexeme look x ∷ [])
-text_reads look x h = grind (arith, codes "_", number_reads (signed_decimal x) (value_is x h), word, number, blank_reads)
+text_reads look x h =
+    let blank = word_reads 95 [] (λ rest. refl) (λ rest stop. word_at_start 95 rest ∙ ap (λ n. 1 + n) (stop_word rest stop)) in
+    grind (arith, codes "_", number_reads (signed_decimal x) (value_is x h), word, number, blank)
 
 -- ---- what stands before a number
 
@@ -122,13 +121,9 @@ numbers_closed look x xs name h small fit rest =
 
 -- ---- what they say
 
-value_is_said : (v : Version) (look : Look) (x : ℤ) → unsigned_abs x < 2 ^ 64 →
-    constant v true (value_lexeme look x) ≡ Some (value_said look x)
-value_is_said v look x h = grind (arith, constant, word, codes, number, value_again)
-
 pub values_said : (v : Version) (look : Look) (x : ℤ) (xs : List ℤ) → AreSmall (x ∷ xs) → constants v true (value_lexeme look x ∷ commas (map (value_lexeme look) xs) ++ semicolon ∷ []) ≡ Some (map (value_said look) (x ∷ xs))
 values_said v look x xs fit = constants_say v true (value_lexeme look) (value_said look) (λ y. unsigned_abs y < 2 ^ 64)
-    (value_is_said v look) x xs fit
+    (λ y h. grind (arith, constant, word, codes, number, value_again)) x xs fit
 
 -- ---- what becomes of them
 
