@@ -1,15 +1,15 @@
 -- The values of an attribute are read back.
 use Rattle.std.proofs.Common.{◌≡◌, ℕ, zero, suc, ◌+◌, ◌*◌, ◌/◌, ◌^◌, ◌<◌, true, false, List, [], ◌∷◌, length, drop, take, map, sym, ◌∙◌, ap, refl, subst, arith, length-take, length-drop, ℤ, rules, pos, unsigned_abs, Ok}
-use Rattle.cdl_laws.proofs.Prelude.{flat_map, mul-div_cancel, ints, take-append-drop, get_or-drop, AreBytes, Att, NcType, Char, Version, numbers, numbers_from, bytes_of_number, IsInRange, size_of, IsSoundAtt, att_text, numbers_text, joined, without_trailing_nuls, IsName, is_char, has_type, trimmed_att, HasSomeNumber, Characters, has_number, some_size, is_had, length-numbers_from, Each, each_map, Lexeme, chars_text, concat_parts}
+use Rattle.cdl_laws.proofs.Prelude.{flat_map, mul-div_cancel, ints, take-append-drop, get_or-drop, AreBytes, Att, NcType, Char, Version, numbers, numbers_from, bytes_of_number, IsInRange, size_of, IsSoundAtt, att_text, numbers_text, joined, without_trailing_nuls, IsName, is_char, has_type, trimmed_att, HasSomeNumber, Characters, has_number, some_size, is_had, number_suffix, length-numbers_from, Each, each_map, Lexeme, chars_text, concat_parts}
 use Rattle.nc_base.proofs.NumberBytes.{bytes_read_back, numbers_in_range}
 use Rattle.cdl_laws.proofs.Acts.{numbers_added, chars_added}
-use Rattle.cdl_laws.proofs.Declarations.{Speaks, broken_read, numbers_said, suffixed, suffixed_read, first, others, all_bytes}
+use Rattle.cdl_laws.proofs.Declarations.{Speaks, broken_read, numbers_said, suffixed, first, others, all_bytes}
 use Rattle.cdl_laws.proofs.Characters.{strings_said}
 use Rattle.cdl_laws.proofs.Heads.{joined_reads, strings_fine}
-use Rattle.cdl_laws.proofs.Numerals.{numeral_again}
+use Rattle.cdl_laws.proofs.Numerals.{numeral_again, number_is, on_suffix}
 use Rattle.cdl_laws.proofs.Strings.{string}
 use Rattle.cdl_laws.proofs.Takes.{all_fine}
-use Rattle.cdl_laws.proofs.Texts.{Reads, number}
+use Rattle.cdl_laws.proofs.Texts.{Reads, number, number_reads}
 use Rattle.cdl_laws.proofs.ValueTexts.{commas, constants_say}
 
 pub small_is : (ty : NcType) (z : ℤ) → IsInRange ty z → unsigned_abs z < 2 ^ 64
@@ -84,14 +84,15 @@ values_text ty vals h = grind arith
 some_speak : (v : Version) (att : Att) (x : ℤ) (xs : List ℤ) → numbers att.ty att.vals ≡ x ∷ xs → is_char att.ty ≡ false → has_type v att.ty ≡ true → Each (IsInRange att.ty) (x ∷ xs) → flat_map (bytes_of_number att.ty) (x ∷ xs) ≡ att.vals → IsName att.name → Speaks v att
 some_speak v att x xs are other known range back name =
     let small = all_small att.ty (x ∷ xs) range in
-    let text = values_text att.ty att.vals other ∙ ap (λ ys. joined (map (suffixed att.ty) ys)) are in
     let lexeme : ℤ → Lexeme = λ y. number (suffixed att.ty y) in
+    let reads_each = each_map (λ y. unsigned_abs y < 2 ^ 64) (λ y. Reads (suffixed att.ty y) (lexeme y ∷ [])) (x ∷ xs) (λ y h. number_reads (suffixed att.ty y) (number_is y (number_suffix att.ty) h (on_suffix att.ty))) small in
+    let text = values_text att.ty att.vals other ∙ ap (λ ys. joined (map (suffixed att.ty) ys)) are in
     let whole : att.vals ≡ (trimmed_att att).vals = rw (other) refl in
     record {
       name = name;
       l = lexeme x;
       ls = map lexeme xs;
-      reads = subst (λ bs. Reads bs (lexeme x ∷ commas (map lexeme xs))) (sym text) (joined_reads (suffixed att.ty) lexeme x xs (suffixed_read att.ty (x ∷ xs) small));
+      reads = subst (λ bs. Reads bs (lexeme x ∷ commas (map lexeme xs))) (sym text) (joined_reads (suffixed att.ty) lexeme x xs reads_each);
       fine = grind (arith, all_fine, numeral_again);
       said = numbers_said att.ty (x ∷ xs);
       says = search (rules, constants_say, numeral_again);

@@ -22,9 +22,6 @@ strings_read gap between s (o ∷ os) rest = simp (append_assoc, string_read, be
 abbrev pub flat : List (List ℤ) → List ℤ
 flat rows = flat_map (λ (r : List ℤ). r) rows
 
-abbrev closing_bytes : List ℕ
-closing_bytes = codes "\" ;\n"
-
 later_lead : (look : Look) (n : ℕ) → look.in_rows ≡ true → 0 < n → char_lead look n ≡ codes "\",\n  \""
 later_lead look n h some = let z : (n == 0) ≡ false = grind (arith, some) in rw (h) (rw (z) refl)
 
@@ -45,7 +42,7 @@ rows_text look done k _ h len some wide all = grind arith
 
 -- ---- a variable's characters
 
-char_variable : (look : Look) (values : List ℤ) → is_char look.ty ≡ true → (0 < length values → 0 < look.row) → variable_text look values ≡ variable_opening look ++ (char_pieces look [] values ++ closing_bytes)
+char_variable : (look : Look) (values : List ℤ) → is_char look.ty ≡ true → (0 < length values → 0 < look.row) → variable_text look values ≡ variable_opening look ++ (char_pieces look [] values ++ codes "\" ;\n")
 unfolding variable_text variable_closing
 char_variable look values h wide = grind (arith, append_assoc, prefix_is, pieces_are)
 

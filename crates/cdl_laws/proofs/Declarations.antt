@@ -1,10 +1,10 @@
 -- The statements of a head, and what they say.
 use Rattle.std.proofs.Common.{◌≡◌, ℕ, zero, suc, ◌^◌, ◌<◌, true, false, List, [], ◌∷◌, ◌++◌, map, sym, ◌∙◌, ap, refl, arith, append_assoc, append-nil, ℤ, pos, decimal, ◌==◌, not, if◌then◌else◌, None, Some, Ok, codes, rules, length, subst}
-use Rattle.cdl_laws.proofs.Prelude.{signed_decimal, flat_map, list_all, list_all-append, all_mono, concat_parts, Att, Dim, NcType, Version, escaped_name, escaped_in_string, joined, dim_len_text, dim_line, unlimited_word, currently_word, att_line, att_text, broken_text, string_break, IsName, number_suffix, Section, Dimensions, Variables, is_digit, Lexeme, said_dim, IsBeforeData, globals, dimensions, variables, Value, Number, DeclareDimensions, Attribute, both, constants, assigned, shape, and_left, and_right, and_both, Each, escaped_text, type_word, DeclareVariables, Variable, in_parentheses, any_each, not_none, IsStatement, AttributeReadsBack, first_type, in_turn, add_constant, trimmed_att, Var, declaration, dim_name, shape_text, lexemes_at}
+use Rattle.cdl_laws.proofs.Prelude.{signed_decimal, flat_map, list_all, list_all-append, all_mono, concat_parts, Att, Dim, NcType, Version, escaped_name, escaped_in_string, joined, dim_len_text, dim_line, unlimited_word, currently_word, att_line, att_text, broken_text, string_break, IsName, number_suffix, Section, Dimensions, Variables, is_digit, Lexeme, said_dim, IsBeforeData, globals, dimensions, variables, Value, Number, DeclareDimensions, Attribute, both, constants, assigned, shape, and_left, and_right, and_both, Each, escaped_text, type_word, DeclareVariables, Variable, in_parentheses, any_each, each_map, not_none, IsStatement, AttributeReadsBack, first_type, in_turn, add_constant, trimmed_att, Var, declaration, dim_name, shape_text, lexemes_at}
 use Rattle.cdl_laws.proofs.Texts.{Closed, Reads, mark, word, number, name_word, name_stands, marks_closed, number_reads, mark_read, stops, reading}
-use Rattle.cdl_laws.proofs.Numerals.{value_again, decimal_digits, on_suffix, number_is, value_is}
+use Rattle.cdl_laws.proofs.Numerals.{value_again, decimal_digits, value_is}
 use Rattle.cdl_laws.proofs.Strings.{string}
-use Rattle.cdl_laws.proofs.ValueTexts.{commas, AreSmall}
+use Rattle.cdl_laws.proofs.ValueTexts.{commas}
 use Rattle.cdl_laws.proofs.Characters.{later_string, strings_read}
 use Rattle.cdl_laws.proofs.Takes.{statement_says, semicolon, is_fine, word_fine, all_fine}
 use Rattle.cdl_statements.specs.Shapes as shapes
@@ -42,10 +42,6 @@ dim_says v n dim name h =
 abbrev pub suffixed : NcType → ℤ → List ℕ
 suffixed ty n = signed_decimal n ++ number_suffix ty
 
-pub suffixed_read : (ty : NcType) (xs : List ℤ) → AreSmall xs → Each (λ x. Reads (suffixed ty x) (number (suffixed ty x) ∷ [])) xs
-suffixed_read ty [] h = tt
-suffixed_read ty (x ∷ xs) h = (number_reads (suffixed ty x) (number_is x (number_suffix ty) h.0 (on_suffix ty)), suffixed_read ty xs h.1)
-
 abbrev pub numbers_said : NcType → List ℤ → List Value
 numbers_said ty xs = map (λ x. Number (record { value = x; ty = ty })) xs
 
@@ -60,10 +56,7 @@ pub others : List ℕ → List (List ℕ)
 others (b ∷ c ∷ bytes) = if b == 10 then first (c ∷ bytes) ∷ others (c ∷ bytes) else others (c ∷ bytes)
 others _ = []
 
-abbrev flat_bytes : List (List ℕ) → List ℕ
-flat_bytes all = flat_map (λ (b : List ℕ). b) all
-
-pub all_bytes : (bytes : List ℕ) → first bytes ++ flat_bytes (others bytes) ≡ bytes
+pub all_bytes : (bytes : List ℕ) → first bytes ++ flat_map (λ (b : List ℕ). b) (others bytes) ≡ bytes
 unfolding first others
 all_bytes (b ∷ c ∷ bytes) = grind (arith, first, others, all_bytes (c ∷ bytes))
 all_bytes _ = refl
@@ -140,10 +133,6 @@ AreNames names = Each IsName names
 abbrev pub name_lexemes : List (List ℕ) → List Lexeme
 name_lexemes names = map (λ name. word (escaped_name name)) names
 
-names_read : (names : List (List ℕ)) → AreNames names → Each (λ name. Reads (escaped_name name) (word (escaped_name name) ∷ [])) names
-names_read [] h = tt
-names_read (name ∷ names) h = ((name_word name h.0).reads, names_read names h.1)
-
 abbrev shape_lexemes : List (List ℕ) → List Lexeme
 shape_lexemes [] = []
 shape_lexemes (n ∷ ns) = mark 40 ∷ word (escaped_name n) ∷ commas (name_lexemes ns) ++ mark 41 ∷ []
@@ -166,7 +155,7 @@ shape_closed dims [] [] same all rest = refl
 shape_closed dims (k ∷ ids) (n ∷ ns) same all rest =
     rw (not_none (length ids)) (subst (λ ms. lexemes_at false 0 ((40 ∷ (joined ms ++ 41 ∷ [])) ++ rest) ≡ (shape_lexemes (n ∷ ns)) ++ lexemes_at false 0 rest) (sym same)
     (parens_read (joined (map escaped_name (n ∷ ns))) (word (escaped_name n) ∷ commas (name_lexemes ns))
-    (joined_reads escaped_name (λ m. word (escaped_name m)) n ns (names_read (n ∷ ns) all)) rest))
+    (joined_reads escaped_name (λ m. word (escaped_name m)) n ns (each_map IsName (λ m. Reads (escaped_name m) (word (escaped_name m) ∷ [])) (n ∷ ns) (λ m valid. (name_word m valid).reads) all)) rest))
 shape_closed dims _ _ same all rest = absurd (cc)
 
 shape_stops : (dims : List Dim) (ids rest : List ℕ) → stops (shape_text dims ids ++ 32 ∷ rest) ≡ true

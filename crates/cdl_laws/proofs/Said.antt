@@ -1,6 +1,6 @@
 -- What the statements of a text of bytes say: the characters of their constants are bytes.
 use Rattle.std.proofs.Common.{ℕ, ◌-◌, Bool, true, false, List, [], ◌∷◌, arith, zero, suc, Option, drop, map, if◌then◌else◌, None, rules}
-use Rattle.cdl_laws.proofs.Prelude.{Version, character, unescape_at, or_zero, Lexeme, is_word_kind, is_mark, name_of, Value, Number, Characters, Underscore, both, at_end, after_member, constant, constants, option_map, Each, each_drop, each_take, IsByte, lexeme, is_opening_kind, is_end_kind, Statement, Open, Enter, DeclareDimensions, DeclareVariables, Attribute, Listed, Close, End, attribute_or_mark, assigned, other_statement, section_mark, shape, Section, Unopened, Globals, Dimensions, Variables, Values, Closed, Ended, Token}
+use Rattle.cdl_laws.proofs.Prelude.{Version, character, unescape_at, or_zero, Lexeme, is_word_kind, is_mark, name_of, Value, Characters, both, at_end, after_member, constant, constants, option_map, Each, each_drop, each_take, IsByte, lexeme, is_opening_kind, is_end_kind, Statement, Open, DeclareVariables, Attribute, Listed, Close, End, attribute_or_mark, assigned, other_statement, section_mark, shape, Section, Unopened, Globals, Dimensions, Variables, Values, Closed, Ended, Token}
 use Rattle.cdl_laws.proofs.Outcomes.{SomeIs, some_any, some_map, some_both, some_given, in_if}
 use Rattle.cdl_statements.specs.Shapes as shapes
 
@@ -25,9 +25,8 @@ stands_fine (suc more) (b ∷ bs) h = stands_fine more bs h.1
 stands_fine zero (b ∷ bs) h = grind (arith, stands_fine ((character (b ∷ bs)).len - 1) bs h.1)
 
 abbrev pub IsFineValue : Value → Type 0
-IsFineValue (Number n) = Unit {0}
 IsFineValue (Characters bytes) = Each IsByte bytes
-IsFineValue Underscore = Unit {0}
+IsFineValue _ = Unit {0}
 
 one_good : (v : Version) (takes_fill : Bool) (l : Lexeme) → HasBytes l → SomeIs IsFineValue (constant v takes_fill l)
 one_good v takes_fill l h = grind (arith, some_map, stands_fine, each_take, each_drop)
@@ -42,14 +41,8 @@ constants_good v takes_fill _ h = tt
 
 -- of what a statement says, the constants of an attribute are kept as they are
 abbrev pub IsSaid : Statement → Type 0
-IsSaid Open = Unit {0}
-IsSaid (Enter next) = Unit {0}
-IsSaid (DeclareDimensions ds) = Unit {0}
-IsSaid (DeclareVariables ty vs) = Unit {0}
 IsSaid (Attribute o name cs) = Each IsFineValue cs
-IsSaid (Listed name cs) = Unit {0}
-IsSaid Close = Unit {0}
-IsSaid End = Unit {0}
+IsSaid _ = Unit {0}
 
 assigned_says : (v : Version) (takes_fill : Bool) (f : List ℕ → List Value → Statement) (ls : List Lexeme) → Each HasBytes ls →
     ((name : List ℕ) (cs : List Value) → Each IsFineValue cs → IsSaid (f name cs)) → SomeIs IsSaid (assigned v takes_fill f ls)

@@ -1,28 +1,19 @@
 -- The full dump of a dataset that a text can declare means that dataset, trimmed.
-use Rattle.std.proofs.Common.{◌≡◌, ℕ, ◌<◌, true, List, [], ◌∷◌, map, sym, ◌∙◌, ap, refl, subst, arith, All, Ok, rules}
-use Rattle.cdl_laws.proofs.Prelude.{DataText, list_all, AreBytes, Dataset, Att, Dim, Header, Known, Streaming, Var, Version, Options, unknown, dump_text, shown_data_text, values_in_dataset, selection_of, IsGood, IsSoundVar, bare, bare_var, IsName, slab_count, dataset_of, Ended, has_small_array, is_sound, meaning, are_within_limits, records_in, sound_is_tested, State, IsFull, TextReadsBack, trimmed, trimmed_att, AreDistinct, IsSayable, IsSayableVar, Draft, and_both, some_count, Each, each_map, each_of, any_each, record_vars, array_of, trimmed_var}
+use Rattle.std.proofs.Common.{◌≡◌, ℕ, ◌<◌, true, [], map, sym, ◌∙◌, ap, refl, subst, arith, Ok, rules, slice_index_or}
+use Rattle.cdl_laws.proofs.Prelude.{DataText, list_all, Dataset, Dim, Header, Known, Streaming, Var, Options, unknown, dump_text, shown_data_text, values_in_dataset, selection_of, IsGood, bare, bare_var, IsName, slab_count, dataset_of, Ended, has_small_array, is_sound, meaning, are_within_limits, records_in, sound_is_tested, State, IsFull, TextReadsBack, trimmed, trimmed_att, AreDistinct, IsSayable, Draft, and_both, some_count, each_map, each_of, any_each, record_vars, array_of, trimmed_var}
 use Rattle.nc_base.specs.declared.header.NumRecs.{NumRecs}
 use Rattle.cdl_laws.proofs.Acts.{no_draft}
 use Rattle.cdl_laws.proofs.Datasets.{Row, row_name, given, keeps_fill, rows_of, arrays_back, records_back, all_small}
 use Rattle.nc_base.proofs.WholeValues.{map-map}
+use Rattle.std.proofs.lemmas.List.{get_or-map}
 use Rattle.cdl_laws.proofs.Dumps.{text_back}
 use Rattle.cdl_laws.proofs.Sayables.{new_after, none_before, draft_name, var_name, atts_new, atts_speak, dims_new, IsSayableHead, vars_fit}
 use Rattle.cdl_laws.proofs.Trimmed.{good_still}
 use Rattle.cdl_laws.proofs.Wholes.{state}
 
-all_bare : (vars : List Var) → Each (λ (var : Var). var.begin_at ≡ 0) (map bare_var vars)
-all_bare [] = tt
-all_bare (var ∷ vars) = (refl, all_bare vars)
-
 abbrev number : NumRecs → ℕ
 number (Known n) = n
 number Streaming = 0
-
--- the heads of all variables
-heads : (v : Version) (dims : List Dim) (vars : List Var) → Each (IsSoundVar v dims) vars → Each (λ (var : Var). IsName var.name × All (λ (att : Att). IsName att.name) var.atts) vars → Each (λ (var : Var). All (λ (att : Att). AreBytes att.vals) var.atts) vars →
-    Each IsSayableVar vars → Each (λ (var : Var). var.begin_at ≡ 0) vars → Each (IsSayableHead v dims) vars
-heads v dims [] sound names bytes say bare = tt
-heads v dims (var ∷ vars) sound names bytes say bare = search (rules, bare, heads v dims vars sound.1 names.1 bytes.1 say.1 bare.1)
 
 -- the header that is read is sound, as the trimmed one is
 small_all : (d : Dataset) (s : State) (n : ℕ) → IsGood d → dataset_of d.header.version s ≡ trimmed d → records_in s.dims s.drafts ≡ n → list_all (has_small_array s.dims n) s.drafts ≡ true → are_within_limits d.header.version s ≡ true
@@ -37,11 +28,14 @@ ready d o s full section g is =
     let h = d.header in
     let v = h.version in
     let n = g.records in
-    let sound = each_of (IsSoundVar v h.dims) h.vars g.is_sound.vars in
-    let names = each_of (λ (var : Var). IsName var.name × All (λ (att : Att). IsName att.name) var.atts) h.vars g.names.vars in
-    let say = each_of IsSayableVar h.vars s.vars in
-    let bares = subst (λ vars. Each (λ (var : Var). var.begin_at ≡ 0) vars) (sym (ap (λ (k : Header). k.vars) g.is_bare)) (all_bare h.vars) in
-    let head = heads v h.dims h.vars sound names (each_of (λ (var : Var). All (λ (att : Att). AreBytes att.vals) var.atts) h.vars g.values.vars) say bares in
+    let head = each_of (IsSayableHead v h.dims) h.vars (λ k var within. record {
+      name = (g.names.vars k var within).0;
+      sound = g.is_sound.vars k var within;
+      names = (g.names.vars k var within).1;
+      bytes = g.values.vars k var within;
+      sayable = s.vars k var within;
+      bare = ap (λ (it : Header). (slice_index_or it.vars k var).begin_at) g.is_bare ∙ ap (λ (w : Var). w.begin_at) (get_or-map bare_var h.vars k var var within);
+    }) in
     let valid = each_map (IsSayableHead v h.dims) (λ (var : Var). IsName var.name × keeps_fill var × (0 < slab_count h.dims var)) h.vars
     (λ var x. (x.name, x.sayable.fill, some_count h.dims var.dimids x.sound.shape)) head in
     let all = rows_of v h n o.width h.vars d.arrays g.arrays valid in

@@ -36,10 +36,6 @@ Closed bytes ls = (rest : List ℕ) → lexemes_at false 0 (bytes ++ rest) ≡ l
 abbrev pub Reads : List ℕ → List Lexeme → Type 0
 Reads bytes ls = (rest : List ℕ) → stops rest ≡ true → lexemes_at false 0 (bytes ++ rest) ≡ ls ++ lexemes_at false 0 rest
 
--- what stops even where it is followed by what stops
-abbrev pub Stops : List ℕ → Type 0
-Stops bytes = (rest : List ℕ) → stops rest ≡ true → stops (bytes ++ rest) ≡ true
-
 -- ---- marks
 
 abbrev pub mark : ℕ → Lexeme
@@ -47,9 +43,6 @@ mark b = record { kind = kinds.Mark; bytes = b ∷ [] }
 
 abbrev pub mark_of : ℕ → List Lexeme
 mark_of b = if is_mark_byte b then mark b ∷ [] else []
-
-abbrev pub marks_in : List ℕ → List Lexeme
-marks_in bytes = flat_map mark_of bytes
 
 pub mark_read : (b : ℕ) (rest : List ℕ) → (is_mark_byte b || is_blank b) ≡ true →
     lexemes_at false 0 (b ∷ rest) ≡ mark_of b ++ lexemes_at false 0 rest
@@ -59,7 +52,7 @@ mark_read b rest h =
     grind (arith, or_second, scan_mark false (b ∷ rest), scan_blank false (b ∷ rest), marks, blanks)
 
 -- marks and white space are read as marks
-pub marks_closed : (bytes : List ℕ) → list_all (λ b. is_mark_byte b || is_blank b) bytes ≡ true → Closed bytes (marks_in bytes)
+pub marks_closed : (bytes : List ℕ) → list_all (λ b. is_mark_byte b || is_blank b) bytes ≡ true → Closed bytes (flat_map mark_of bytes)
 marks_closed [] h = λ rest. refl
 marks_closed (b ∷ bytes) h =
     grind (arith, mark_read, and_right, marks_closed bytes)

@@ -1,7 +1,7 @@
 -- The listed numbers of a variable are read back, wherever the breaks are.
 use Rattle.std.proofs.Common.{◌≡◌, ℕ, ◌+◌, ◌^◌, ◌<◌, ◌≤◌, Bool, true, false, List, [], ◌∷◌, ◌++◌, length, map, sym, ◌∙◌, ap, refl, arith, append_assoc, append-nil, length-append, ℤ, unsigned_abs, ◌&&◌, if◌then◌else◌, Some, Result, Ok, codes, ◌⊎◌}
 use Rattle.cdl_laws.proofs.Prelude.{signed_decimal, flat_map, int_eq, mod-eq_of_lt, false≢true, concat_parts, escaped_name, Int, Version, IsName, Look, is_char, number_text, number_lead, number_piece, piece, pieces, variable_opening, variable_closing, variable_text, prefix_is, CdlKind, Lexeme, Value, Number, Underscore, both, constant, constants, constants, Listable, Numbers, add_number, has_number, in_turn, listing_of, word_at_start, Each, ◌>>=◌}
-use Rattle.cdl_laws.proofs.Texts.{Closed, Reads, Stops, mark, word, number, word_reads, stop_word, marks_closed, number_reads, reading}
+use Rattle.cdl_laws.proofs.Texts.{Closed, Reads, stops, mark, word, number, word_reads, stop_word, marks_closed, number_reads, reading}
 use Rattle.cdl_laws.proofs.Numerals.{value_again, value_is}
 
 -- one turn
@@ -75,10 +75,10 @@ pieces_none : (look : Look) (before : List ℕ) (values : List ℤ) → pieces l
 unfolding pieces
 pieces_none look before values = refl
 
-more_stop : (look : Look) (before : List ℕ) (values xs : List ℤ) → is_char look.ty ≡ false → 0 < length values → (look.in_rows ≡ false → length values + length xs ≤ look.row) → Stops (pieces look before values xs)
+more_stop : (look : Look) (before : List ℕ) (values xs : List ℤ) → is_char look.ty ≡ false → 0 < length values → (look.in_rows ≡ false → length values + length xs ≤ look.row) → (rest : List ℕ) → stops rest ≡ true → stops (pieces look before values xs ++ rest) ≡ true
 unfolding number_piece
-more_stop look before values [] h some small = grind (arith, pieces_none, pieces_first, pieces, piece)
-more_stop look before values _ h some small = grind (arith, pieces_first, pieces, piece, append_assoc, gap)
+more_stop look before values [] h some small rest stop = grind (arith, pieces_none, pieces_first, pieces, piece)
+more_stop look before values _ h some small rest stop = grind (arith, pieces_first, pieces, piece, append_assoc, gap)
 
 more_read : (look : Look) (before : List ℕ) (values xs : List ℤ) → is_char look.ty ≡ false → 0 < length values → (look.in_rows ≡ false → length values + length xs ≤ look.row) → AreSmall xs →
     Reads (pieces look before values xs) (commas (map (value_lexeme look) xs))
