@@ -13,18 +13,15 @@ pub mod Wholes
 pub mod DataTexts
 pub mod Ends
 pub mod Lines
-pub mod Dumps
 pub mod Attributes
 pub mod Sayables
 pub mod Given
 pub mod Datasets
-pub mod Outcomes
 pub mod Said
 pub mod Fine
 pub mod MeaningsAreGood
 pub mod Trimmed
 pub mod TextReadsBack
-pub mod TokensRead
 pub mod TextTokens
 pub mod RowsRead
 mod examples

@@ -1,8 +1,26 @@
 -- What the statements of a text of bytes say: the characters of their constants are bytes.
-use Rattle.std.proofs.Common.{ℕ, ◌-◌, Bool, true, false, List, [], ◌∷◌, arith, zero, suc, Option, drop, map, if◌then◌else◌, None, rules}
-use Rattle.cdl_laws.proofs.Prelude.{Version, character, unescape_at, or_zero, Lexeme, is_word_kind, is_mark, name_of, Value, Characters, both, at_end, after_member, constant, constants, option_map, Each, each_drop, each_take, IsByte, lexeme, is_opening_kind, is_end_kind, Statement, Open, DeclareVariables, Attribute, Listed, Close, End, attribute_or_mark, assigned, other_statement, section_mark, shape, Section, Unopened, Globals, Dimensions, Variables, Values, Closed, Ended, Token}
-use Rattle.cdl_laws.proofs.Outcomes.{SomeIs, some_any, some_map, some_both, some_given, in_if}
+use Rattle.std.proofs.Common.{◌≡◌, Bool, true, arith, if◌then◌else◌, Option, None, Some, ℕ, ◌-◌, false, List, [], ◌∷◌, zero, suc, drop, map, rules}
+use Rattle.cdl_laws.proofs.Prelude.{option_map, both, if_so, Version, character, unescape_at, or_zero, Lexeme, is_word_kind, is_mark, name_of, Value, Characters, at_end, after_member, constant, constants, Each, each_drop, each_take, IsByte, lexeme, is_opening_kind, is_end_kind, Statement, Open, DeclareVariables, Attribute, Listed, Close, End, attribute_or_mark, assigned, other_statement, section_mark, shape, Section, Unopened, Globals, Dimensions, Variables, Values, Closed, Ended, Token}
 use Rattle.cdl_statements.specs.Shapes as shapes
+
+abbrev pub SomeIs : {A : Type 0} → (A → Type 0) → Option A → Type 0
+SomeIs P None = Unit {0}
+SomeIs P (Some a) = P a
+
+pub some_any : {A : Type 0} (o : Option A) → SomeIs (λ a. Unit {0}) o
+some_any o = grind arith
+
+pub some_map : {A B : Type 0} (P : B → Type 0) (f : A → B) (o : Option A) → SomeIs (λ a. P (f a)) o → SomeIs P (option_map f o)
+some_map P f o h = grind arith
+
+pub some_both : {A B C : Type 0} (P : A → Type 0) (Q : B → Type 0) (R : C → Type 0) (f : A → B → C) (a : Option A) (b : Option B) → SomeIs P a → SomeIs Q b → ((x : A) (y : B) → P x → Q y → R (f x y)) → SomeIs R (both f a b)
+some_both P Q R f a b h h2 h3 = grind arith
+
+pub some_given : {A : Type 0} (P : A → Type 0) (b : Bool) (o : Option A) → (b ≡ true → SomeIs P o) → SomeIs P (if_so b o)
+some_given P b o h = grind arith
+
+pub in_if : {A : Type 0} (P : A → Type 0) (b : Bool) (x y : A) → P x → P y → P (if b then x else y)
+in_if P b x y h h2 = grind arith
 
 -- the token's bytes are bytes
 abbrev pub HasBytes : Lexeme → Type 0
