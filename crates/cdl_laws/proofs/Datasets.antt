@@ -1,6 +1,6 @@
 -- A dataset that a text can declare is read back from its full dump.
 use Rattle.std.proofs.Common.{◌≡◌, ℕ, ◌+◌, ◌*◌, ◌-◌, ◌/◌, ◌<◌, true, List, [], ◌∷◌, ◌++◌, map, ◌∙◌, ap, refl, arith, append_assoc, slice_index_or, ◌⊎◌, drop, sym, subst}
-use Rattle.cdl_laws.proofs.Prelude.{mul-add-div, div-eq_of_lt, Dataset, Dim, Header, Var, Version, values_in_dataset, fill_value, AreArrays, IsName, numbers, slab_count, record_vars, is_char, trimmed_var, array_of, records_in, Draft, Each, list_all, record_size_of, padded_size, has_small_array, and_both, le-leb, EachAfter, IsArray, Att, get_or-drop, drop-drop, variables_text, shown_data, Values, whole, has_values, look_of}
+use Rattle.cdl_laws.proofs.Prelude.{KeepsFill, mul-add-div, div-eq_of_lt, Dataset, Dim, Header, Var, Version, values_in_dataset, AreArrays, IsName, numbers, slab_count, record_vars, trimmed_var, array_of, records_in, Draft, Each, list_all, record_size_of, padded_size, has_small_array, and_both, le-leb, EachAfter, IsArray, Att, get_or-drop, drop-drop, variables_text, shown_data, Values, whole, has_values, look_of}
 use Rattle.cdl_laws.proofs.Given.{IsBack, is_back}
 use Rattle.cdl_laws.proofs.Acts.{no_draft}
 use Rattle.cdl_laws.proofs.DataTexts.{given_draft, IsGivenBy, all_marked, one_taken}
@@ -9,10 +9,6 @@ use Rattle.cdl_laws.proofs.Wholes.{state, draft_of}
 use Rattle.nc_base.proofs.WholeValues.{map-map}
 
 -- ---- rows
-
--- a variable's fill value stays where characters are trimmed
-abbrev pub keeps_fill : Var → Type 0
-keeps_fill var = is_char var.ty ≡ true → fill_value (trimmed_var var) ≡ fill_value var
 
 -- a variable and its array, which the text of its values gives back
 pub record Row (v : Version) (h : Header) (n width : ℕ) : Type 0 where
@@ -36,7 +32,7 @@ pub record Rows (v : Version) (h : Header) (n width : ℕ) (vars : List Var) (ar
   pub arrays_are : map (λ (r : Row v h n width). r.array) rows ≡ arrays
 
 pub rows_of : (v : Version) (h : Header) (n width : ℕ) (vars : List Var) (arrays : List (List ℕ)) → AreArrays h.dims n vars arrays →
-    Each (λ (var : Var). IsName var.name × keeps_fill var × (0 < slab_count h.dims var)) vars → Rows v h n width vars arrays
+    Each (λ (var : Var). IsName var.name × KeepsFill var × (0 < slab_count h.dims var)) vars → Rows v h n width vars arrays
 rows_of v h n width [] [] are all = record { rows = []; vars_are = refl; arrays_are = refl }
 rows_of v h n width (var ∷ vars) (a ∷ arrays) are all =
     let others = rows_of v h n width vars arrays are.1 all.1 in

@@ -1,5 +1,5 @@
 -- The names that proofs of this crate cite from elsewhere, passed on from one place.
-pub use Rattle.cdl_laws.specs.Goods.{IsNearlySayable, MeaningsAreGood, MeaningsAreNearlySayable}
+pub use Rattle.cdl_laws.specs.Goods.{KeepsFill, IsNearlySayable, MeaningsAreGood, MeaningsAreNearlySayable}
 pub use Rattle.cdl_laws.specs.PieceLaws.{AttributeReadsBack, DeclarationReadsBack, IsBeforeData, IsStatement, SaysStatement, brace_piece, declaration, dimensions, globals, opening_line, opening_piece, said_dim, variables}
 pub use Rattle.cdl_laws.specs.Reading.{cut_lexemes, lexemes, with_lexeme}
 unfoldable pub use Rattle.cdl_laws.specs.Reading.{lexemes_at, pieces_of}

@@ -74,7 +74,7 @@ once done d ds h zero_len = grind (arith, some_record, filter_append)
 abbrev pub dim_name : Dim → List ℕ
 dim_name d = d.name
 
-new_dims : (v : Version) (done ds : List Dim) → AreFresh (map dim_name done) (map dim_name ds) → AreDistinct (map dim_name ds) → Each (IsSoundDim v) ds → Each (λ (d : Dim). IsName d.name) ds → length (filter is_record (done ++ ds)) ≤ 1 → AreNewDims v done ds
+pub new_dims : (v : Version) (done ds : List Dim) → AreFresh (map dim_name done) (map dim_name ds) → AreDistinct (map dim_name ds) → Each (IsSoundDim v) ds → Each (λ (d : Dim). IsName d.name) ds → length (filter is_record (done ++ ds)) ≤ 1 → AreNewDims v done ds
 new_dims v done [] fresh distinct sound names few = tt
 new_dims v done (d ∷ ds) fresh distinct sound names few =
     let a : count_limit v < 2 ^ 64 = grind arith in
@@ -85,9 +85,6 @@ new_dims v done (d ∷ ds) fresh distinct sound names few =
           (subst (λ ns. AreFresh ns (map dim_name ds)) (sym (map-append dim_name done (d ∷ []))) (fresh_more (map dim_name done) d.name (map dim_name ds) fresh.1 distinct.0))
           distinct.1 sound.1 names.1 (subst (λ xs. length (filter is_record xs) ≤ 1) (sym (append_assoc done (d ∷ []) ds)) few),
     )
-
-pub dims_new : (v : Version) (ds : List Dim) → AreDistinct (map dim_name ds) → All (IsSoundDim v) ds → All (λ (d : Dim). IsName d.name) ds → length (filter is_record ds) ≤ 1 → AreNewDims v [] ds
-dims_new v ds distinct sound names few = search (rules, new_dims, none_before, each_of)
 
 -- ---- variables
 

@@ -1,18 +1,18 @@
 -- The full dump of a dataset that a text can declare means that dataset, trimmed.
 use Rattle.std.proofs.Common.{◌≡◌, ℕ, true, false, List, [], ◌∷◌, ◌++◌, map, ◌∙◌, ap, refl, append_assoc, append-nil, None, Ok, subst, codes, arith, rules, ◌<◌, sym, slice_index_or}
-use Rattle.cdl_laws.proofs.Prelude.{Enter, act, DataText, variables_text, concat_parts, Dataset, Att, Header, Var, Version, Options, dump_text, shown_data_text, values_in_dataset, shown_data, selection_of, is_selected, data_word, closing_word, head_text, netcdf_word, dims_text, vars_text, gatts_text, Variables, Values, Ended, meaning, piece_read, empty, finished, are_within_limits, dataset_of, cut_lexemes, lexemes, pieces_of, IsFull, trimmed, trimmed_att, in_turn, Each, list_all, Dim, Known, Streaming, unknown, IsGood, bare, bare_var, IsName, slab_count, has_small_array, is_sound, records_in, sound_is_tested, State, TextReadsBack, AreDistinct, IsSayable, Draft, and_both, some_count, each_map, each_of, any_each, record_vars, array_of, trimmed_var}
+use Rattle.cdl_laws.proofs.Prelude.{KeepsFill, IsSoundDim, Enter, act, DataText, variables_text, concat_parts, Dataset, Att, Header, Var, Version, Options, dump_text, shown_data_text, values_in_dataset, shown_data, selection_of, is_selected, data_word, closing_word, head_text, netcdf_word, dims_text, vars_text, gatts_text, Variables, Values, Ended, meaning, piece_read, empty, finished, are_within_limits, dataset_of, cut_lexemes, lexemes, pieces_of, IsFull, trimmed, trimmed_att, in_turn, Each, list_all, Dim, Known, Streaming, unknown, IsGood, bare, bare_var, IsName, slab_count, has_small_array, is_sound, records_in, sound_is_tested, State, TextReadsBack, AreDistinct, IsSayable, Draft, and_both, some_count, each_map, each_of, any_each, record_vars, array_of, trimmed_var}
 use Rattle.cdl_laws.proofs.Acts.{AreDistinctDims, HaveNames, no_draft}
 use Rattle.cdl_laws.proofs.Declarations.{Speaks}
 use Rattle.cdl_laws.proofs.Wholes.{state, AreNewDims, AreNewAtts, AreFit, draft_of}
 use Rattle.cdl_laws.proofs.DataTexts.{all_marked}
-use Rattle.cdl_laws.proofs.Datasets.{Row, AreNew, given, data_taken, data_whole, row_name, keeps_fill, rows_of, arrays_back, records_back, all_small}
+use Rattle.cdl_laws.proofs.Datasets.{Row, AreNew, given, data_taken, data_whole, row_name, rows_of, arrays_back, records_back, all_small}
 use Rattle.cdl_laws.proofs.Ends.{opening_bytes, opened, dims_part, vars_part, gatts_part, data_says, end_taken, after_dims, after_vars}
 use Rattle.cdl_laws.proofs.Takes.{Takes, says_takes}
 use Rattle.cdl_laws.proofs.Lines.{pieces_are, run_is}
 use Rattle.nc_base.specs.declared.header.NumRecs.{NumRecs}
 use Rattle.nc_base.proofs.WholeValues.{map-map}
 use Rattle.std.proofs.lemmas.List.{get_or-map}
-use Rattle.cdl_laws.proofs.Sayables.{new_after, none_before, draft_name, var_name, atts_new, atts_speak, dims_new, IsSayableHead, vars_fit}
+use Rattle.cdl_laws.proofs.Sayables.{new_after, none_before, draft_name, var_name, atts_new, atts_speak, new_dims, dim_name, IsSayableHead, vars_fit}
 use Rattle.cdl_laws.proofs.Trimmed.{good_still}
 
 dump_is : (h : Header) (o : Options) (n : ℕ) (section : DataText) →
@@ -57,22 +57,18 @@ pub record IsReadable (d : Dataset) (n width : ℕ) (rows : List (Row d.header.v
   pub small : are_within_limits d.header.version (state Ended d.header.dims (map trimmed_att d.header.gatts) (map given rows)) ≡ true
   pub back : dataset_of d.header.version (state Ended d.header.dims (map trimmed_att d.header.gatts) (map given rows)) ≡ trimmed d
 
--- the state at the end
-state_read : (d : Dataset) (o : Options) (n : ℕ) (rows : List (Row d.header.version d.header n o.width)) → IsFull o → IsReadable d n o.width rows → (section : DataText) → section ≡ shown_data_text d.header o (values_in_dataset d) n (selection_of d.header o) →
-    in_turn (piece_read d.header.version) empty (cut_lexemes (lexemes (dump_text d.header o n section))) ≡ Ok (state Ended d.header.dims (map trimmed_att d.header.gatts) (map given rows))
-unfolding closing_word
-state_read d o n rows full ready section is =
-    let read = data_read d.header.version d o n (map trimmed_att d.header.gatts) full rows ready.new ready.arrays_are d.header.vars refl ready.vars_are in
-    grind (arith, selected, data_whole d n o.width 0 d.header.vars, dump_is, opened, dims_part, vars_part, gatts_part, read)
-
 -- and what it means
 pub text_back : (d : Dataset) (o : Options) (n : ℕ) (rows : List (Row d.header.version d.header n o.width)) → IsFull o → IsReadable d n o.width rows → (section : DataText) → section ≡ shown_data_text d.header o (values_in_dataset d) n (selection_of d.header o) →
     meaning (dump_text d.header o n section) d.header.version ≡ Ok (trimmed d)
-unfolding finished
+unfolding finished closing_word
 text_back d o n rows full ready section is =
     let v = d.header.version in
     let bytes = dump_text d.header o n section in
-    grind (arith, run_is bytes v empty, pieces_are bytes, state_read d o n rows full ready section is)
+    let gatts = map trimmed_att d.header.gatts in
+    let values = data_read v d o n gatts full rows ready.new ready.arrays_are d.header.vars refl ready.vars_are in
+    let whole_text : in_turn (piece_read v) empty (cut_lexemes (lexemes bytes)) ≡ Ok (state Ended d.header.dims gatts (map given rows)) =
+    grind (arith, selected, data_whole d n o.width 0 d.header.vars, dump_is, opened, dims_part, vars_part, gatts_part, values) in
+    grind (arith, run_is bytes v empty, pieces_are bytes, whole_text)
 
 abbrev number : NumRecs → ℕ
 number (Known n) = n
@@ -99,7 +95,7 @@ ready d o s full section g is =
       sayable = s.vars k var within;
       bare = ap (λ (it : Header). (slice_index_or it.vars k var).begin_at) g.is_bare ∙ ap (λ (w : Var). w.begin_at) (get_or-map bare_var h.vars k var var within);
     }) in
-    let valid = each_map (IsSayableHead v h.dims) (λ (var : Var). IsName var.name × keeps_fill var × (0 < slab_count h.dims var)) h.vars
+    let valid = each_map (IsSayableHead v h.dims) (λ (var : Var). IsName var.name × KeepsFill var × (0 < slab_count h.dims var)) h.vars
     (λ var x. (x.name, x.sayable.fill, some_count h.dims var.dimids x.sound.shape)) head in
     let all = rows_of v h n o.width h.vars d.arrays g.arrays valid in
     let rows = all.rows in
@@ -114,10 +110,11 @@ ready d o s full section g is =
     let names : map row_name rows ≡ map var_name h.vars = sym (map-map var_name (λ (r : Row v h n o.width). r.var) rows) ∙ ap (map var_name) all.vars_are in
     let distinct : AreDistinct (map row_name rows) = subst AreDistinct (sym names) s.names in
     let back : dataset_of v (state Ended h.dims gatts drafts) ≡ trimmed d = search (rules, arrays) in
+    let dim_names = each_of (λ (dim : Dim). IsName dim.name) h.dims g.names.dims in
     text_back d o n rows full (record {
-      dims = dims_new v h.dims s.dims g.is_sound.dims g.names.dims g.is_sound.one_record_dim;
+      dims = new_dims v [] h.dims (none_before (map dim_name h.dims)) s.dims (each_of (IsSoundDim v) h.dims g.is_sound.dims) dim_names g.is_sound.one_record_dim;
       distinct = s.dims;
-      names = each_of (λ (dim : Dim). IsName dim.name) h.dims g.names.dims;
+      names = dim_names;
       vars = vars_fit v h.dims h.vars s.names head;
       gatts = atts_speak v h.gatts g.is_sound.gatts g.values.gatts s.gatts.some g.names.gatts;
       fresh = atts_new h.gatts s.gatts.names;

@@ -1,6 +1,6 @@
 -- A dataset without the NULs at the end of its attributes, and the fill values of its characters.
 use Rattle.std.proofs.Common.{◌≡◌, ℕ, ◌+◌, ◌-◌, ◌*◌, ◌≤◌, ◌<◌, Bool, true, false, List, [], ◌∷◌, length, map, sym, ◌∙◌, ap, refl, subst, arith, zero, suc, take, get_or, if◌then◌else◌, ◌==◌, All, rules, ℤ, pos, ◌&&◌, nat_lt, None, Some}
-use Rattle.cdl_laws.proofs.Prelude.{take-length, length-take, length-map, suffix_len-take_yes, suffix_len-take_no, suffix_len, AreBytes, Dataset, Att, Dim, Header, Known, Var, NcType, Version, fill_value, IsGood, IsSoundAtt, IsSoundVar, AreArrays, bare, bare_var, without_trailing_nuls, IsName, record_vars, size_of, is_char, count_limit, TrimsOnce, TrimmedIsSayable, AreDistinct, AreSayableAtts, IsSayableVar, HasSomeNumber, trimmed, trimmed_att, trimmed_var, trimmed_header, each_map, each_of, all_of, default_fill_of, false≢true, eqb-true, Char, number_of, code_of, FillValueSurvivesTrim, and_left, and_right}
+use Rattle.cdl_laws.proofs.Prelude.{take-length, length-take, length-map, suffix_len-take_yes, suffix_len-take_no, suffix_len, AreBytes, Dataset, Att, Dim, Known, Var, NcType, Version, fill_value, IsGood, IsSoundAtt, IsSoundVar, AreArrays, bare_var, without_trailing_nuls, IsName, record_vars, size_of, is_char, count_limit, TrimsOnce, TrimmedIsSayable, AreDistinct, AreSayableAtts, IsSayableVar, HasSomeNumber, trimmed, trimmed_att, trimmed_var, trimmed_header, each_map, each_of, all_of, default_fill_of, false≢true, eqb-true, Char, number_of, code_of, FillValueSurvivesTrim, and_left, and_right}
 use Rattle.cdl_laws.proofs.Attributes.{take_bytes}
 use Rattle.cdl_laws.proofs.Datasets.{same_record, record_trimmed}
 use Rattle.cdl_laws.proofs.MeaningsAreGood.{each_of_map}
@@ -68,9 +68,6 @@ att_bytes att h = grind (arith, take_bytes (length att.vals - suffix_len nul att
 var_sound : (v : Version) (dims : List Dim) (var : Var) → IsSoundVar v dims var → IsSoundVar v dims (trimmed_var var)
 var_sound v dims var s = search (rules, length-map, over_map, att_sound)
 
-bare_still : (h : Header) (n : ℕ) → h ≡ bare h n → trimmed_header h ≡ bare (trimmed_header h) n
-bare_still h n e = ap trimmed_header e ∙ ap (λ (vs : List Var). record h { numrecs = Known n; gatts = map trimmed_att h.gatts; vars = vs }) (map-map trimmed_var bare_var h.vars ∙ sym (map-map bare_var trimmed_var h.vars))
-
 arrays_still : (dims : List Dim) (n : ℕ) (vars : List Var) (arrays : List (List ℕ)) → AreArrays dims n vars arrays → AreArrays dims n (map trimmed_var vars) arrays
 arrays_still dims n (var ∷ vars) (x ∷ arrays) a = (record { bytes = a.0.bytes; whole = a.0.whole; small = a.0.small }, arrays_still dims n vars arrays a.1)
 arrays_still dims n _ _ a = grind arith
@@ -78,7 +75,9 @@ arrays_still dims n _ _ a = grind arith
 pub good_still : (d : Dataset) → IsGood d → IsGood (trimmed d)
 good_still d g = record {
   records = g.records;
-  is_bare = bare_still d.header g.records g.is_bare;
+  is_bare = ap trimmed_header g.is_bare ∙
+      ap (λ (vs : List Var). record d.header { numrecs = Known g.records; gatts = map trimmed_att d.header.gatts; vars = vs })
+      (map-map trimmed_var bare_var d.header.vars ∙ sym (map-map bare_var trimmed_var d.header.vars));
   is_sound = search (rules, length-map, over_map, att_sound, var_sound, same_record, g.is_sound);
   names = record {
     dims = g.names.dims;

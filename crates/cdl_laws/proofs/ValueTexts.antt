@@ -109,12 +109,8 @@ all_read look before x xs h small fit rest stop =
     let more = more_read look after (x ∷ []) xs h (omega arith) small2 fit.1 in
     simp (pieces_first look before [] x xs h, append_assoc, first_lead look, break_read, text_reads look x fit.0, stop_after, more)
 
--- the lexemes of a variable's numbers
-abbrev pub listed : Look → ℤ → List ℤ → List Lexeme
-listed look x xs = word (escaped_name look.name) ∷ mark 61 ∷ value_lexeme look x ∷ commas (map (value_lexeme look) xs)
-
 pub numbers_closed : (look : Look) (x : ℤ) (xs : List ℤ) → IsName look.name → is_char look.ty ≡ false → (look.in_rows ≡ false → length (x ∷ xs) ≤ look.row) → AreSmall (x ∷ xs) →
-    Closed (variable_text look (x ∷ xs)) (listed look x xs ++ mark 59 ∷ [])
+    Closed (variable_text look (x ∷ xs)) (word (escaped_name look.name) ∷ mark 61 ∷ value_lexeme look x ∷ commas (map (value_lexeme look) xs) ++ mark 59 ∷ [])
 unfolding variable_text variable_opening variable_closing concat_parts
 numbers_closed look x xs name h small fit rest =
     simp (prefix_is look (x ∷ xs) (λ char some. absurd (false≢true (sym h ∙ char))), reading, h, all_read look (variable_opening look) x xs h small fit)
