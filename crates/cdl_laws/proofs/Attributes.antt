@@ -17,9 +17,6 @@ small_is ty z h = grind (arith, pos, ints)
 
 -- ---- the numbers that stand in bytes
 
-drop_bytes : (n : ℕ) (bytes : List ℕ) → AreBytes bytes → AreBytes (drop n bytes)
-drop_bytes n bytes h i = subst (λ b. b < 256) (sym (get_or-drop n bytes i 0)) (h (n + i))
-
 pub take_bytes : (n : ℕ) (bytes : List ℕ) → AreBytes bytes → AreBytes (take n bytes)
 take_bytes (suc n) (b ∷ bytes) h zero = h 0
 take_bytes (suc n) (b ∷ bytes) h (suc i) = take_bytes n bytes (λ j. h (suc j)) i
@@ -38,7 +35,7 @@ from_bytes ty zero (b ∷ bytes) small h = absurd (let e : suc (length bytes) �
 from_bytes ty (suc n) bytes small h =
     let bytes_first = take_bytes (size_of ty) bytes small in
     let first = bytes_read_back ty (take (size_of ty) bytes) bytes_first (len_take ty n bytes h) in
-    let others = from_bytes ty n (drop (size_of ty) bytes) (drop_bytes (size_of ty) bytes small) (len_drop ty n bytes h) in
+    let others = from_bytes ty n (drop (size_of ty) bytes) (λ i. subst (λ b. b < 256) (sym (get_or-drop (size_of ty) bytes i 0)) (small (size_of ty + i))) (len_drop ty n bytes h) in
     (cc (first, others.0, take-append-drop (size_of ty) bytes), (numbers_in_range ty (take (size_of ty) bytes) bytes_first (len_take ty n bytes h), others.1))
 
 pub all_fit : (ty : NcType) (xs : List ℤ) → Each (IsInRange ty) xs → Each (λ x. has_number ty x ≡ true) xs

@@ -1,6 +1,6 @@
 -- Tokens have places and lines, and lexemes have none: what all pieces make of a state is the same.
-use Rattle.std.proofs.Common.{◌≡◌, ℕ, zero, suc, ◌+◌, ◌-◌, Bool, true, List, [], ◌∷◌, drop, take, map, sym, ◌∙◌, ap, refl, ◌&&◌, Option, is_none, Result, Ok, Err, rules, arith}
-use Rattle.cdl_laws.proofs.Prelude.{drop-drop, Version, CdlKind, TokenKind, Role, CutState, Token, scan, Lexeme, lexeme, first_role, role, run, piece_read, statements, pieces_after, with_first, step, pieces_by_steps, cut_lexemes, lexemes_at, lexemes, with_lexeme, State, in_turn, tokens_at, tokens, with_token, token_at}
+use Rattle.std.proofs.Common.{◌≡◌, ℕ, zero, suc, ◌+◌, ◌-◌, Bool, true, List, [], ◌∷◌, drop, take, map, sym, ◌∙◌, ap, refl, ◌&&◌, Option, is_none, Ok, rules, arith}
+use Rattle.cdl_laws.proofs.Prelude.{drop-drop, Version, TokenKind, Role, CutState, Token, scan, Lexeme, lexeme, first_role, role, run, piece_read, statements, pieces_after, with_first, step, pieces_by_steps, cut_lexemes, lexemes_at, lexemes, with_lexeme, State, in_turn, tokens_at, tokens, with_token, token_at}
 use Rattle.cdl_tokens.specs.declared.token.TokenKind.TheVariants as kinds
 use Rattle.cdl_statements.specs.declared.piece.CutState.TheVariants as places
 
@@ -45,11 +45,7 @@ pieces_are text =
 
 -- ---- what they make of a state
 
-held : State → Result State CdlKind → State
-held s (Ok u) = u
-held s (Err e) = s
-
 pub run_is : (text : List ℕ) (v : Version) (s t : State) (ps : List (List Token)) → in_turn (piece_read v) s (map (map (lexeme text)) ps) ≡ Ok t → run text v s ps ≡ Ok t
-unfolding run held
-run_is text v s t [] h = ap (λ u. Ok u) (ap (held s) h)
+unfolding run
+run_is text v s t [] h = let same : s ≡ t = cc in ap (λ u. Ok u) same
 run_is text v s t (p ∷ ps) h = grind (arith, (λ (u : State). run_is text v u t ps))

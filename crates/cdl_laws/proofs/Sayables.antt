@@ -4,7 +4,7 @@ use Rattle.cdl_laws.proofs.Prelude.{list_any, bytes_eq, false≢true, map-append
 use Rattle.cdl_laws.proofs.Acts.{record_once, no_draft, is_new_att}
 use Rattle.cdl_laws.proofs.Attributes.{speaks}
 use Rattle.cdl_laws.proofs.Declarations.{Speaks}
-use Rattle.cdl_laws.proofs.Wholes.{AreNewDims, AreNewAtts, IsFit, AreFit, draft_of}
+use Rattle.cdl_laws.proofs.Wholes.{AreNewDims, AreNewAtts, IsFit}
 
 -- ---- names
 
@@ -103,10 +103,5 @@ pub record IsSayableHead (v : Version) (dims : List Dim) (var : Var) : Type 0 wh
   pub sayable : IsSayableVar var
   pub bare : var.begin_at ≡ 0
 
-fit : (v : Version) (dims : List Dim) (before : List Draft) (var : Var) → IsSayableHead v dims var → no_draft var.name before → IsFit v dims before var
+pub fit : (v : Version) (dims : List Dim) (before : List Draft) (var : Var) → IsSayableHead v dims var → no_draft var.name before → IsFit v dims before var
 fit v dims before var head new = grind (arith, atts_speak, atts_new)
-
-pub vars_fit : (v : Version) (dims : List Dim) (vars : List Var) → AreDistinct (map var_name vars) → Each (IsSayableHead v dims) vars → AreFit v dims [] vars
-vars_fit v dims vars distinct heads =
-    new_after var_name draft_name draft_of (IsFit v dims) (IsSayableHead v dims) (λ var. refl) (fit v dims) [] vars
-    (none_before (map var_name vars)) distinct heads

@@ -1,6 +1,6 @@
 -- The head of a dump, statement after statement.
-use Rattle.std.proofs.Common.{◌≡◌, ℕ, suc, ◌^◌, ◌<◌, true, false, List, [], ◌∷◌, ◌++◌, length, map, sym, ◌∙◌, ap, refl, subst, arith, append_assoc, append-nil, None, Some, Ok, Option}
-use Rattle.cdl_laws.proofs.Prelude.{list_any, bytes_eq, concat_parts, Att, Dim, Var, NcType, Version, escaped_name, AreDimids, dim_line, att_line, att_lines, var_lines, dim_name, IsName, type_word, count_limit, has_type, Section, Dimensions, Variables, trimmed_att, trimmed_var, DeclareDimensions, DeclareVariables, Attribute, State, Draft, act, add_dim, add_att, said_dim, IsBeforeData, Each, ◌>>=◌, declaration, EachAfter, each_after, type_of, AttributeReadsBack, DeclarationReadsBack}
+use Rattle.std.proofs.Common.{◌≡◌, ℕ, suc, ◌^◌, ◌<◌, true, false, List, [], ◌∷◌, ◌++◌, length, map, sym, ◌∙◌, ap, refl, subst, arith, append_assoc, append-nil, None, Some, Ok}
+use Rattle.cdl_laws.proofs.Prelude.{list_any, bytes_eq, concat_parts, Att, Dim, Var, NcType, Version, escaped_name, AreDimids, dim_line, att_line, att_lines, var_lines, dim_name, IsName, type_word, count_limit, has_type, Section, Dimensions, Variables, trimmed_att, trimmed_var, DeclareDimensions, DeclareVariables, Attribute, State, Draft, act, add_dim, said_dim, IsBeforeData, Each, ◌>>=◌, declaration, EachAfter, each_after, type_of, DeclarationReadsBack}
 use Rattle.cdl_laws.proofs.Texts.{word}
 use Rattle.cdl_laws.proofs.ValueTexts.{turn}
 use Rattle.cdl_laws.proofs.Takes.{Takes, says_takes, takes_both}
@@ -48,10 +48,6 @@ dims_taken v n ds gatts drafts h =
 abbrev pub AreNewAtts : List Att → List Att → Type 0
 AreNewAtts done more = EachAfter trimmed_att (λ before a. is_new_att before (trimmed_att a)) done more
 
-att_is : (v : Version) (section : Section) (owner : Option (List ℕ)) (done : List Att) (a : Att) → IsName a.name → (r : AttributeReadsBack v section owner a) → is_new_att done (trimmed_att a) →
-    add_att a.name r.constants done ≡ Ok (done ++ trimmed_att a ∷ [])
-att_is v section owner done a name r new = att_added done (trimmed_att a) r.constants name new r.ty r.vals
-
 pub globals_taken : (v : Version) (section : Section) (dims : List Dim) (atts : List Att) (drafts : List Draft) → IsBeforeData section →
     Each (Speaks v) atts → AreNewAtts [] atts →
     Takes v (concat_parts (map (att_line []) atts)) (state section dims [] drafts) (state section dims (map trimmed_att atts) drafts)
@@ -61,7 +57,7 @@ globals_taken v section dims atts drafts before speak new =
     all_taken v (att_line []) trimmed_att (λ done a. Speaks v a × is_new_att done (trimmed_att a)) now
     (λ done a h. let r = global_says v section before a h.0 in
     says_takes v (att_line [] a) (Attribute None a.name r.constants) (now done) (now (done ++ trimmed_att a ∷ [])) r.statement
-    (ap (λ r. r >>= (λ atts. Ok (now atts))) (att_is v section None done a h.0.name r h.1)))
+    (ap (λ r. r >>= (λ atts. Ok (now atts))) (att_added done (trimmed_att a) r.constants h.0.name h.1 r.ty r.vals)))
     [] atts (each_after trimmed_att (Speaks v) (λ done a. is_new_att done (trimmed_att a)) [] atts speak new)
 
 pub owned_taken : (v : Version) (dims : List Dim) (gatts : List Att) (before : List Draft) (name ids : List ℕ)
@@ -76,7 +72,7 @@ owned_taken v dims gatts before name ids atts ty valid new speak fresh =
     all_taken v line trimmed_att (λ done a. Speaks v a × is_new_att done (trimmed_att a)) now
     (λ done a h. let r = owned_says v name valid a h.0 in
     says_takes v (line a) (Attribute (Some name) a.name r.constants) (now done) (now (done ++ trimmed_att a ∷ [])) r.statement
-    (grind (arith, variable_is, att_is v Variables (Some name) done a h.0.name r h.1)))
+    (grind (arith, variable_is, att_added done (trimmed_att a) r.constants h.0.name h.1 r.ty r.vals)))
     [] atts (each_after trimmed_att (Speaks v) (λ done a. is_new_att done (trimmed_att a)) [] atts speak fresh)
 
 -- ---- variables
