@@ -62,24 +62,14 @@ padding_returns : data_of bytes_and_shorts.header bytes_and_shorts.arrays ≡ he
 unfolding files_computed
 padding_returns = refl
 
--- a slab whose padded length doesn't fit 32 bits
-long_slab : vsize_of Cdf1 (2 ^ 32) ≡ 2 ^ 32 - 1
-long_slab = refl
-
-longest_slab_that_fits : vsize_of Cdf2 (2 ^ 32 - 4) ≡ 2 ^ 32 - 4
-longest_slab_that_fits = refl
-
-long_slab_of_version_5 : vsize_of Cdf5 (2 ^ 32) ≡ 2 ^ 32
-long_slab_of_version_5 = refl
+-- a slab whose padded length doesn't fit 32 bits, the longest that fits, and one of version 5
+long_slabs : vsize_of Cdf1 (2 ^ 32) ∷ vsize_of Cdf2 (2 ^ 32 - 4) ∷ vsize_of Cdf5 (2 ^ 32) ∷ [] ≡ (2 ^ 32 - 1) ∷ (2 ^ 32 - 4) ∷ (2 ^ 32) ∷ []
+long_slabs = refl
 
 -- where a header leaves the number of records open: the mark of its version, and no record
-streaming : print (numrecs_part strict Cdf1) Streaming ≡ replicate 4 0xff
+streaming : print (numrecs_part strict Cdf1) Streaming ∷ print (numrecs_part strict Cdf5) Streaming ∷ [] ≡ replicate 4 0xff ∷ replicate 8 0xff ∷ []
 unfolding files_computed
 streaming = refl
-
-streaming_of_version_5 : print (numrecs_part strict Cdf5) Streaming ≡ replicate 8 0xff
-unfolding files_computed
-streaming_of_version_5 = refl
 
 none_said : known_records Streaming ≡ 0
 none_said = refl
