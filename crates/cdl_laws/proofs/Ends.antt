@@ -1,6 +1,6 @@
 -- The opening, the section marks and the closing brace of a dump.
 use Rattle.std.proofs.Common.{◌≡◌, ℕ, ◌+◌, true, false, List, [], ◌∷◌, ◌++◌, length, map, ◌∙◌, ap, refl, arith, append_assoc, length-append, ◌==◌, Some, Ok, codes, rules, if◌then◌else◌, suc}
-use Rattle.cdl_laws.proofs.Prelude.{false≢true, eqb-true, concat_parts, Att, Dim, Var, Version, escaped_name, is_reserved, name_of, is_plain, dim_line, dim_lines, dims_text, att_line, att_lines, var_lines, vars_text, gatts_text, dimensions_word, variables_word, global_word, IsName, Section, Globals, Dimensions, Variables, Values, Ended, scan, word_len, len_until, piece_read, empty, pieces_at, is_section, cut_lexemes, lexemes_at, lexemes, pieces_of, trimmed_att, Enter, shape, State, Draft, act, in_turn, globals, dimensions, variables, and_left, until_at_start, lt-ltb, not_none, IsStatement, Each}
+use Rattle.cdl_laws.proofs.Prelude.{false≢true, eqb-true, concat_parts, Att, Dim, Var, Version, escaped_name, is_reserved, name_of, is_plain, dim_line, dim_lines, dims_text, att_line, att_lines, var_lines, vars_text, gatts_text, dimensions_word, variables_word, global_word, IsName, Section, Globals, Dimensions, Variables, Values, Ended, scan, word_len, len_until, piece_read, empty, pieces_after, is_section, cut_lexemes, lexemes_at, lexemes, pieces_of, trimmed_att, Enter, shape, State, Draft, act, in_turn, globals, dimensions, variables, and_left, until_at_start, lt-ltb, not_none, IsStatement, Each}
 use Rattle.cdl_tokens.specs.declared.token.TokenKind.TheVariants as kinds
 use Rattle.cdl_laws.proofs.NameTexts.{rest_of, marked, bare, begins}
 use Rattle.cdl_laws.proofs.Texts.{mark, word, prefix_again, some_name, marks_closed}
@@ -14,11 +14,11 @@ use Rattle.cdl_laws.proofs.Wholes.{state, dims_taken, AreNewDims, AreNewAtts, gl
 -- ---- section marks
 
 pub dimensions_says : (v : Version) → IsStatement v Globals dimensions_word (Enter Dimensions)
-unfolding dimensions_word pieces_of lexemes_at scan word_len pieces_at is_section shape
+unfolding dimensions_word pieces_of lexemes_at scan word_len pieces_after is_section shape
 dimensions_says v = record { piece = word (codes "dimensions") ∷ mark 58 ∷ []; cut = λ rest. refl; says = record { sound = refl; shaped = refl } }
 
 pub data_says : (v : Version) → IsStatement v Variables (codes "data:\n") (Enter Values)
-unfolding name_of is_reserved pieces_of lexemes_at scan word_len pieces_at is_section shape
+unfolding name_of is_reserved pieces_of lexemes_at scan word_len pieces_after is_section shape
 data_says v = record { piece = word (codes "data") ∷ mark 58 ∷ []; cut = λ rest. refl; says = record { sound = refl; shaped = refl } }
 
 -- ---- the head's parts
@@ -47,7 +47,7 @@ dims_part v n (d ∷ dims) gatts drafts h =
     (says_takes v dimensions_word (Enter Dimensions) _ _ (dimensions_says v) refl) (dims_taken v n (d ∷ dims) gatts drafts h)
 
 pub variables_says : (v : Version) (dims : List Dim) → IsStatement v (after_dims dims) variables_word (Enter Variables)
-unfolding variables_word pieces_of lexemes_at scan word_len pieces_at is_section shape
+unfolding variables_word pieces_of lexemes_at scan word_len pieces_after is_section shape
 variables_says v dims =
     record { piece = word (codes "variables") ∷ mark 58 ∷ []; cut = λ rest. refl; says = record { sound = refl; shaped = grind arith } }
 
@@ -75,7 +75,7 @@ gatts_part v dims vars (a ∷ gatts) drafts speak new =
 -- ---- the end
 
 pub end_taken : (v : Version) (section : Section) (dims : List Dim) (gatts : List Att) (drafts : List Draft) → is_open section ≡ true → in_turn (piece_read v) (state section dims gatts drafts) (pieces_of (codes "}\n")) ≡ Ok (state Ended dims gatts drafts)
-unfolding pieces_of lexemes_at scan pieces_at piece_read shape act
+unfolding pieces_of lexemes_at scan pieces_after piece_read shape act
 end_taken v section dims gatts drafts h = grind arith
 
 -- ---- the opening
@@ -105,5 +105,5 @@ opening_lexemes name rest h =
 -- all that stands after the opening decides
 pub opened : (v : Version) (name rest : List ℕ) → IsName name →
     in_turn (piece_read v) empty (cut_lexemes (lexemes (opening_bytes name ++ 10 ∷ rest))) ≡ in_turn (piece_read v) (state Globals [] [] []) (pieces_of rest)
-unfolding pieces_of pieces_at piece_read shape act
+unfolding pieces_of pieces_after piece_read shape act
 opened v name rest h = grind (arith, opening_lexemes, turn)

@@ -1,6 +1,6 @@
 -- Tokens have places and lines, and lexemes have none: what all pieces make of a state is the same.
 use Rattle.std.proofs.Common.{◌≡◌, ℕ, zero, suc, ◌+◌, ◌-◌, Bool, true, List, [], ◌∷◌, drop, take, map, sym, ◌∙◌, ap, refl, ◌&&◌, Option, is_none, Ok, rules, arith}
-use Rattle.cdl_laws.proofs.Prelude.{drop-drop, Version, TokenKind, Role, CutState, Token, scan, Lexeme, lexeme, first_role, role, run, piece_read, statements, pieces_after, with_first, step, pieces_by_steps, cut_lexemes, lexemes_at, lexemes, with_lexeme, State, in_turn, tokens_at, tokens, with_token, token_at}
+use Rattle.cdl_laws.proofs.Prelude.{drop-drop, Version, TokenKind, Role, CutState, Token, scan, Lexeme, lexeme, first_role, role, run, piece_read, statements, pieces_after, with_first, step, cut_lexemes, lexemes_at, lexemes, with_lexeme, State, in_turn, tokens_at, tokens, with_token, token_at}
 use Rattle.cdl_tokens.specs.declared.token.TokenKind.TheVariants as kinds
 use Rattle.cdl_statements.specs.declared.piece.CutState.TheVariants as places
 
@@ -38,10 +38,7 @@ pieces_map f role place (t ∷ ts) =
 
 pub pieces_are : (text : List ℕ) → map (map (lexeme text)) (statements text) ≡ cut_lexemes (lexemes text)
 pieces_are text =
-    ap (map (map (lexeme text))) (pieces_by_steps (lexeme text) (tokens text)) ∙
-    pieces_map (lexeme text) role places.Begins (tokens text) ∙
-    sym (pieces_by_steps (λ l. l) (map (lexeme text) (tokens text))) ∙
-    ap cut_lexemes (lexemes_are text true 0 0 text refl)
+    pieces_map (lexeme text) role places.Begins (tokens text) ∙ ap cut_lexemes (lexemes_are text true 0 0 text refl)
 
 -- ---- what they make of a state
 

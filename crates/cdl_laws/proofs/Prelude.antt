@@ -11,18 +11,13 @@ unfoldable pub use Rattle.cdl_statements.specs.SoundHeaders.{is_sound}
 unfoldable pub use Rattle.cdl_statements.specs.Meaning.{finished, are_within_limits, piece_read, run}
 pub use Rattle.cdl_statements.specs.State.{Listable, Draft, Joined, Listing, Numbers, Rows, State, add_constant, add_number, add_row, change_named, int_within, filled, first_type, in_turn, values_in, with_att, with_values, ◌>>=◌}
 unfoldable pub use Rattle.cdl_statements.specs.State.{act, add_att, add_dim, add_dimid, add_var, change_variable, listable_of, has_number, listing_of, type_of}
-pub use Rattle.cdl_statements.proofs.PieceLengths.{pieces_by_steps}
 pub use Rattle.cdl_statements.specs.Lexemes.{Lexeme, is_end_kind, is_mark, is_opening_kind, is_word, is_word_kind, lexeme}
 unfoldable pub use Rattle.cdl_statements.specs.Lexemes.{name_of}
-pub use Rattle.cdl_statements.specs.Pieces.{section_of}
-unfoldable pub use Rattle.cdl_statements.specs.Pieces.{pieces_at}
+pub use Rattle.cdl_statements.specs.Pieces.{first_role, role, section_of, statements, step, with_first}
+unfoldable pub use Rattle.cdl_statements.specs.Pieces.{is_section, pieces_after}
+pub use Rattle.cdl_statements.specs.code.Cutters.{is_end_role}
 pub use Rattle.cdl_statements.specs.Shapes.{Attribute, Close, Characters, DeclareDimensions, Dimension, End, Listed, Enter, Number, Open, Statement, DeclareVariables, Underscore, Value, Variable, after_member, assigned, at_end, attribute_or_mark, both, constant, constants, first_bad, if_so, in_parentheses, other_statement, section_mark, token_fault}
 unfoldable pub use Rattle.cdl_statements.specs.Shapes.{shape}
-pub use Rattle.cdl_statements.specs.Statements.{statements}
-pub use Rattle.cdl_statements.specs.code.CutSteps.{going_on, step, unless_end, with_first}
-unfoldable pub use Rattle.cdl_statements.specs.code.CutSteps.{pieces_after}
-pub use Rattle.cdl_statements.specs.code.Roles.{first_role, role}
-unfoldable pub use Rattle.cdl_statements.specs.code.Roles.{is_section}
 pub use Rattle.cdl_statements.specs.declared.{fault.CdlFault.CdlFault, fault.CdlKind.CdlKind, piece.CutState.CutState, piece.Role.Role, section.Section.Section}
 pub use Rattle.cdl_statements.specs.declared.fault.CdlKind.TheVariants.{BadName, BadNumber, BadShape, BadToken, DuplicateData, DuplicateName, FloatingType, MixedConstants, NumberRange, StringTooLong, Syntax, TooLarge, TooManyValues, TwoRecordDims, UnknownDimension, UnknownType, UnknownVariable, WrongKind, ZeroDimension}
 pub use Rattle.cdl_statements.specs.declared.section.Section.TheVariants.{Closed, Dimensions, Ended, Globals, Unopened, Values, Variables}

@@ -1,6 +1,6 @@
 -- What a text makes of a state, statement by statement.
 use Rattle.std.proofs.Common.{◌≡◌, ℕ, Bool, true, false, List, [], ◌∷◌, ◌++◌, ◌∙◌, ap, refl, append_assoc, ◌&&◌, None, Some, is_none, Ok, arith, rules, map}
-use Rattle.cdl_laws.proofs.Prelude.{list_all, Version, Section, Globals, Dimensions, Variables, Values, Role, Lexeme, first_role, role, piece_read, pieces_after, going_on, unless_end, with_first, pieces_by_steps, cut_lexemes, pieces_of, Statement, first_bad, token_fault, shape, State, act, in_turn, and_left, and_right, and_both, Each, IsStatement, lexemes_at}
+use Rattle.cdl_laws.proofs.Prelude.{list_all, Version, Section, Globals, Dimensions, Variables, Values, Role, Lexeme, first_role, role, piece_read, pieces_after, step, is_end_role, with_first, cut_lexemes, pieces_of, Statement, first_bad, token_fault, shape, State, act, in_turn, and_left, and_right, and_both, Each, IsStatement, lexemes_at}
 use Rattle.cdl_statements.specs.declared.piece.Role.TheVariants as roles
 use Rattle.cdl_statements.specs.declared.piece.CutState.TheVariants.{Begins, Inside}
 use Rattle.cdl_laws.proofs.Texts as texts
@@ -24,19 +24,24 @@ is_starter roles.Colon = true
 is_starter roles.Other = true
 is_starter _ = false
 
-next_goes_on : (p rest : List Lexeme) → all_plain p ≡ true → unless_end (first_role role (p ++ semicolon ∷ rest)) Inside ≡ going_on Inside
+next_goes_on : (p rest : List Lexeme) → all_plain p ≡ true → is_end_role (first_role role (p ++ semicolon ∷ rest)) ≡ false
 next_goes_on [] rest h = refl
 next_goes_on (t ∷ p) rest h = grind (arith, and_left (is_plain (role t)) (all_plain p) h)
 
 inside_one : (p rest : List Lexeme) → all_plain p ≡ true → pieces_after role Inside (p ++ semicolon ∷ rest) ≡ (p ++ semicolon ∷ []) ∷ pieces_after role Begins rest
 unfolding pieces_after
 inside_one [] rest h = refl
-inside_one (t ∷ p) rest h = grind (arith, is_plain, and_left, and_right, semicolon, next_goes_on, with_first, inside_one p rest)
+inside_one (t ∷ p) rest h =
+    let plain : all_plain p ≡ true = and_right (is_plain (role t)) (all_plain p) h in
+    grind (arith, is_plain, and_left (is_plain (role t)) (all_plain p) h, next_goes_on p rest plain, with_first, inside_one p rest plain)
+
+begun : (r n : Role) → is_starter r ≡ true → is_end_role n ≡ false → step Begins r n ≡ record { ends = false; state = Inside }
+begun r n h off = grind arith
 
 one_by_steps : (t : Lexeme) (p rest : List Lexeme) → is_starter (role t) ≡ true → all_plain p ≡ true →
     pieces_after role Begins ((t ∷ p ++ semicolon ∷ []) ++ rest) ≡ (t ∷ p ++ semicolon ∷ []) ∷ pieces_after role Begins rest
 unfolding pieces_after
-one_by_steps t p rest start h = grind (arith, append_assoc, semicolon, next_goes_on, with_first, inside_one)
+one_by_steps t p rest start h = rw (append_assoc p (semicolon ∷ []) rest, begun (role t) (first_role role (p ++ semicolon ∷ rest)) start (next_goes_on p rest h), inside_one p rest h) refl
 
 -- ---- what a text makes of a state
 
@@ -86,5 +91,5 @@ unfolding pieces_of
 statement_says v section bytes a p statement reads start fine is =
     let piece = a ∷ p ++ semicolon ∷ [] in
     let plain = (fine_says v p (and_right (is_fine v a) (list_all (is_fine v) p) fine)).0 in
-    let cut : (rest : List Lexeme) → cut_lexemes (piece ++ rest) ≡ piece ∷ cut_lexemes rest = search (rules, pieces_by_steps, one_by_steps, plain) in
+    let cut : (rest : List Lexeme) → cut_lexemes (piece ++ rest) ≡ piece ∷ cut_lexemes rest = search (rules, one_by_steps, plain) in
     record { piece = piece; cut = λ rest. ap cut_lexemes (reads rest) ∙ cut (lexemes_at false 0 rest); says = record { sound = (fine_says v (a ∷ p) fine).1; shaped = is } }

@@ -15,7 +15,7 @@ use Rattle.cdl_statements.specs.declared.section.Section.TheVariants.{Unopened, 
 use Rattle.cdl_tokens.specs.declared.token.TokenKind.TheVariants as kinds
 use Rattle.cdl_statements.specs.Lexemes.{Lexeme, lexeme}
 use Rattle.cdl_statements.specs.Shapes.{Value, Dimension, Statement, Open, Enter, DeclareDimensions, DeclareVariables, Attribute, Listed, Close, End, first_bad, shape}
-use Rattle.cdl_statements.specs.Statements.{statements}
+use Rattle.cdl_statements.specs.Pieces.{statements}
 use Rattle.cdl_statements.specs.State.{in_turn, add_dimid, add_constant, first_type, type_of}
 use Rattle.cdl_laws.specs.Reading.{cut_lexemes, lexemes, pieces_of}
 

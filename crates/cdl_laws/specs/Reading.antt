@@ -3,7 +3,8 @@ use Rattle.std.specs.Prelude.{ℕ, zero, suc, Bool, true, false, List, [], ◌�
 use Rattle.nc_base.specs.Bytes.{Bytes}
 use Rattle.cdl_tokens.specs.Scan.{scan}
 use Rattle.cdl_statements.specs.Lexemes.{Lexeme}
-use Rattle.cdl_statements.specs.Pieces.{pieces_at}
+use Rattle.cdl_statements.specs.Pieces.{pieces_after, role}
+use Rattle.cdl_statements.specs.declared.piece.CutState.TheVariants.{Begins}
 use Rattle.cdl_tokens.specs.declared.{token.TokenKind.TokenKind, token.TokenKind.TheVariants.End}
 
 abbrev pub with_lexeme : Option TokenKind → Bytes → List Lexeme → List Lexeme
@@ -21,7 +22,7 @@ abbrev pub lexemes : Bytes → List Lexeme
 lexemes text = lexemes_at true 0 text
 
 abbrev pub cut_lexemes : List Lexeme → List (List Lexeme)
-cut_lexemes ls = pieces_at (λ l. l) false 0 ls
+cut_lexemes ls = pieces_after role Begins ls
 
 -- the pieces of the bytes after a whole piece
 unfoldable pub pieces_of : Bytes → List (List Lexeme)

@@ -24,13 +24,11 @@ pub use Rattle.cdl_statements.proofs.Dues.{only_completes}
 pub use Rattle.cdl_statements.proofs.Listing.{value_first}
 pub use Rattle.cdl_statements.specs.Lexemes.{Lexeme, is_mark, is_mark_kind, is_word_kind, lexeme}
 pub use Rattle.cdl_statements.specs.Shapes.{Attribute, Close, Dimension, End, Listed, Enter, Open, Statement, DeclareVariables, Value, first_bad}
-pub use Rattle.cdl_statements.specs.Pieces.{section_of}
+pub use Rattle.cdl_statements.specs.Pieces.{section_of, statements, step}
 unfoldable pub use Rattle.cdl_statements.specs.Shapes.{shape}
-pub use Rattle.cdl_statements.specs.Statements.{statements}
 pub use Rattle.cdl_statements.specs.code.Contents.{Declaration, attribute_said, dimension_said, is_unlimited, mark_said, other_said, parts_or_zero, variable_said, with_name}
 unfoldable pub use Rattle.cdl_statements.specs.code.Contents.{declaration_said, dimensions_said, statement_said, value_of, values}
-pub use Rattle.cdl_statements.specs.code.CutSteps.{step}
-unfoldable pub use Rattle.cdl_statements.specs.code.CutSteps.{pieces_after}
+unfoldable pub use Rattle.cdl_statements.specs.Pieces.{pieces_after}
 pub use Rattle.cdl_statements.specs.code.Cutters.{first_line, first_piece, is_done, next_token, offset_of, other_pieces, text_of, tokens_left, version_of}
 unfoldable pub use Rattle.cdl_statements.specs.code.Cutters.{after, pieces_left, words}
 pub use Rattle.cdl_statements.specs.code.DueTokens.{opens_section_after, is_value_of, is_whole, only}

@@ -1,5 +1,4 @@
 pub mod Cuts
-pub mod PieceLengths
 pub mod ShapeChecks
 pub mod Options
 pub mod Dues

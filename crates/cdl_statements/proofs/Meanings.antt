@@ -17,7 +17,7 @@ use Rattle.nc_base.proofs.Tests.{and_left, and_right}
 use Rattle.cdl_statements.specs.Meaning.{are_within_limits, array_of, closing_line, dataset_of, empty, finished, has_small_array, header_of, listed_values, meaning, records_in, records_of, run}
 use Rattle.cdl_statements.specs.SoundHeaders.{is_sound}
 use Rattle.cdl_statements.specs.State.{Draft, State, filled}
-use Rattle.cdl_statements.specs.Statements.{statements}
+use Rattle.cdl_statements.specs.Pieces.{statements}
 use Rattle.cdl_statements.specs.declared.fault.CdlFault.{CdlFault}
 use Rattle.cdl_statements.proofs.Each.{Each, each_more}
 use Rattle.cdl_statements.proofs.ListedValues.{AreFit, IsFit, filled_len, run_fit}

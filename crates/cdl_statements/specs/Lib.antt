@@ -1,7 +1,6 @@
 pub mod Lexemes
 pub mod Pieces
 pub mod Shapes
-pub mod Statements
 pub mod FaultWords
 pub mod State
 pub mod SoundHeaders

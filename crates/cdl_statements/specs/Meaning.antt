@@ -10,7 +10,7 @@ use Rattle.nc_base.specs.Types.{size_of}
 use Rattle.cdl_statements.specs.Lexemes.{Lexeme, lexeme}
 use Rattle.cdl_statements.specs.Shapes.{shape, first_bad}
 use Rattle.cdl_statements.specs.SoundHeaders.{is_sound}
-use Rattle.cdl_statements.specs.Statements.{statements}
+use Rattle.cdl_statements.specs.Pieces.{statements}
 use Rattle.cdl_statements.specs.declared.{fault.CdlFault.CdlFault, fault.CdlKind.CdlKind, section.Section.TheVariants.Unopened}
 use Rattle.cdl_statements.specs.declared.fault.CdlKind.TheVariants.{Syntax, TooLarge}
 use Rattle.cdl_tokens.specs.declared.token.Token.{Token}

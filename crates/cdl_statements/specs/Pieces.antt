@@ -1,8 +1,14 @@
--- Definition. The tokens cut into pieces.
-use Rattle.std.specs.Prelude.{ℕ, zero, suc, Bool, true, false, List, [], ◌∷◌, ◌-◌, ◌&&◌, ◌||◌, if◌then◌else◌, map, take, codes, Option, None, Some, is_some}
-use Rattle.std.specs.Str.{byte}
-use Rattle.cdl_statements.specs.Lexemes.{Lexeme, is_mark, is_word, is_opening_kind, is_end_kind}
-use Rattle.cdl_statements.specs.declared.section.Section.{Section}
+-- Definition. The statements of a text: its tokens, cut into pieces.
+use Rattle.std.specs.Prelude.{ℕ, Bool, true, false, List, [], ◌∷◌, ◌==◌, ◌||◌, if◌then◌else◌, codes, slice_index, Option, None, Some}
+use Rattle.std.specs.Str.{byte, bytes_eq}
+use Rattle.nc_base.specs.Bytes.{Bytes}
+use Rattle.cdl_tokens.specs.Tokens.{tokens}
+use Rattle.cdl_tokens.specs.declared.{token.Token.Token, token.TokenKind.TokenKind}
+use Rattle.cdl_tokens.specs.declared.token.TokenKind.TheVariants as kinds
+use Rattle.cdl_statements.specs.Lexemes.{Lexeme, is_word, lexeme}
+use Rattle.cdl_statements.specs.declared.{piece.CutState.CutState, piece.Role.Role, piece.Step.Step, section.Section.Section}
+use Rattle.cdl_statements.specs.declared.piece.CutState.TheVariants.{Begins, Inside, Marked, Closed}
+use Rattle.cdl_statements.specs.declared.piece.Role.TheVariants as roles
 use Rattle.cdl_statements.specs.declared.section.Section.TheVariants.{Dimensions, Variables, Values}
 
 -- the section that a word begins
@@ -12,40 +18,67 @@ section_of l =
     else if is_word (codes "variables") l then Some Variables
     else if is_word (codes "data") l then Some Values else None
 
--- such a word and a colon
-abbrev pub is_section_mark : Lexeme → List Lexeme → Bool
-is_section_mark l [] = false
-is_section_mark l (c ∷ ls) = is_some (section_of l) && is_mark (byte ":") c
+-- ---- what a token is to the cut
 
--- a token that is a piece by itself, if a statement may begin there
-abbrev pub is_alone : Lexeme → Bool
-is_alone l = is_opening_kind l.kind || is_end_kind l.kind || is_mark (byte "}") l
+-- an unescaped `dimensions`, `variables` or `data`
+unfoldable pub is_section : Bytes → Bool
+is_section word = bytes_eq word (codes "dimensions") || bytes_eq word (codes "variables") || bytes_eq word (codes "data")
 
--- how many tokens come before End
-abbrev pub len_before_end : List Lexeme → ℕ
-len_before_end [] = 0
-len_before_end (l ∷ ls) = if is_end_kind l.kind then 0 else suc (len_before_end ls)
+abbrev pub mark_role : ℕ → Role
+mark_role b = if b == byte ":" then roles.Colon else if b == byte ";" then roles.Semicolon else if b == byte "}" then roles.Brace else roles.Other
 
--- how many come up to the first `;`, with it, or before End
-abbrev pub statement_len : List Lexeme → ℕ
-statement_len [] = 0
-statement_len (l ∷ ls) =
-    if is_end_kind l.kind then 0
-    else if is_mark (byte ";") l then 1
-    else suc (statement_len ls)
+abbrev pub role_of : TokenKind → Bytes → Role
+role_of kinds.Opening bytes = roles.Opening
+role_of kinds.Word bytes = if is_section bytes then roles.Section else roles.Other
+role_of kinds.Mark bytes = mark_role (slice_index bytes 0)
+role_of kinds.End bytes = roles.End
+role_of _ bytes = roles.Other
 
--- how many tokens the piece has that begins with l; `true`: the piece before it began with `}`, so that all tokens up to End are one piece
-abbrev pub piece_len : Bool → Lexeme → List Lexeme → ℕ
-piece_len true l ls = if is_end_kind l.kind then 1 else len_before_end (l ∷ ls)
-piece_len false l ls =
-    if is_alone l then 1
-    else if is_section_mark l ls then 2 else statement_len (l ∷ ls)
+abbrev pub role : Lexeme → Role
+role l = role_of l.kind l.bytes
 
--- The pieces of these tokens, whose lexemes `lexeme_of` gives (in laws they are lexemes themselves). more: how many of them belong to the
--- piece before. after_brace: that piece began with `}`. (After what follows a `}` comes End, which is a piece in any case.)
-unfoldable pub pieces_at : {X : Type 0} → (X → Lexeme) → Bool → ℕ → List X → List (List X)
-pieces_at lexeme_of after_brace more [] = []
-pieces_at lexeme_of after_brace (suc more) (t ∷ ts) = pieces_at lexeme_of after_brace more ts
-pieces_at lexeme_of after_brace zero (t ∷ ts) =
-    let len = piece_len after_brace (lexeme_of t) (map lexeme_of ts) in
-    take len (t ∷ ts) ∷ pieces_at lexeme_of (is_mark (byte "}") (lexeme_of t)) (len - 1) ts
+-- a token of this text
+abbrev pub role_in : Bytes → Token → Role
+role_in text t = role (lexeme text t)
+
+-- the first one's role, or End
+abbrev pub first_role : {X : Type 0} → (X → Role) → List X → Role
+first_role role [] = roles.End
+first_role role (t ∷ ts) = role t
+
+-- ---- the cut
+
+abbrev pub ending : CutState → Step
+ending state = record { ends = true; state = state }
+
+abbrev pub going_on : CutState → Step
+going_on state = record { ends = false; state = state }
+
+-- whether a token ends its piece, by what comes before it, its role and the next token's role; and what then comes before the next token
+abbrev pub step : CutState → Role → Role → Step
+step Marked role next = ending Begins
+step state roles.End next = ending Begins
+step Inside roles.Semicolon next = ending Begins
+step Begins roles.Semicolon next = ending Begins
+step Begins roles.Opening next = ending Begins
+step Begins roles.Brace next = ending Closed
+step Begins roles.Section roles.Colon = going_on Marked
+-- any other piece ends before End
+step state role roles.End = ending Begins
+step Closed role next = going_on Closed
+step state role next = going_on Inside
+
+-- a token before the pieces, as a piece or as the first piece's first
+abbrev pub with_first : {X : Type 0} → Bool → X → List (List X) → List (List X)
+with_first true t ps = (t ∷ []) ∷ ps
+with_first false t [] = (t ∷ []) ∷ []
+with_first false t (p ∷ ps) = (t ∷ p) ∷ ps
+
+-- the pieces of what comes after this state
+unfoldable pub pieces_after : {X : Type 0} → (X → Role) → CutState → List X → List (List X)
+pieces_after role state [] = []
+pieces_after role state (t ∷ ts) =
+    with_first (step state (role t) (first_role role ts)).ends t (pieces_after role (step state (role t) (first_role role ts)).state ts)
+
+abbrev pub statements : Bytes → List (List Token)
+statements text = pieces_after (role_in text) Begins (tokens text)

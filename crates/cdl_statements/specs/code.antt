@@ -1,5 +1,3 @@
-pub mod Roles
-pub mod CutSteps
 pub mod Cutters
 pub mod Views
 pub mod DueTokens

@@ -1,10 +1,9 @@
 //! The statements of a text, one at a time.
 
 ghost use Rattle.std.specs.Prelude.{◌≡◌, [], None, OnErr, IfOk, IfSome, IsErr, true, false, ◌<◌, if◌then◌else◌};
-ghost use Rattle.cdl_statements.specs.code.Roles.{role_in};
+ghost use Rattle.cdl_statements.specs.Pieces.{role_in, statements};
 ghost use Rattle.cdl_statements.specs.Lexemes.{lexeme};
 ghost use Rattle.cdl_tokens.specs.code.Scanners as scanners;
-ghost use Rattle.cdl_statements.specs.Statements.{statements};
 
 use crate::lexeme::Lexeme;
 use crate::piece::{CutState, Role};

@@ -1,8 +1,7 @@
 //! How a list of tokens is cut into statements.
 
 ghost use Rattle.std.specs.Prelude.{◌≡◌, true, if◌then◌else◌};
-ghost use Rattle.cdl_statements.specs.code.CutSteps.{ending, going_on, section_step, unless_end};
-ghost use Rattle.cdl_statements.specs.code.Roles.{is_section, mark_role};
+ghost use Rattle.cdl_statements.specs.Pieces.{ending, going_on, is_section, mark_role};
 
 use cdl_tokens::{Token, TokenKind, byte_at};
 
@@ -23,7 +22,7 @@ pub enum Role {
 }
 
 impl Role {
-    ghost use Rattle.cdl_statements.specs.code.Roles.{role_in};
+    ghost use Rattle.cdl_statements.specs.Pieces.{role_in};
 
     /// Returns the role that `token` has when tokens are cut into statements. `text` has to be the text that the token was read from.
     #[inline]
@@ -41,7 +40,7 @@ impl Role {
 }
 
 /// Returns the role of a word: `Section` for an unescaped `dimensions`, `variables` or `data`, otherwise `Other`.
-#[tactic(auto, unfolding(crate::specs::code::Roles::is_section))]
+#[tactic(auto, unfolding(crate::specs::Pieces::is_section))]
 #[inline(never)]
 fn word_role(word: &[u8]) -> Role
     ensures { result ≡ (if is_section word.now then Role.Section else Role.Other) }
@@ -91,8 +90,8 @@ pub struct Step {
 }
 
 impl CutState {
-    ghost use Rattle.cdl_statements.specs.code.Roles.{is_end_role};
-    ghost use Rattle.cdl_statements.specs.code.CutSteps.{step};
+    ghost use Rattle.cdl_statements.specs.code.Cutters.{is_end_role};
+    ghost use Rattle.cdl_statements.specs.Pieces.{step};
 
     /// Returns what a token does to its statement. `self` is the state before the token, `role` is its role, and `next` is the role of the
     /// token after it.
@@ -100,22 +99,15 @@ impl CutState {
         ensures step { result ≡ step self role next }
         ensures last { is_end_role role ≡ true → result.ends ≡ true }
     {
-        match self {
-            CutState::Begins => match role {
-                Role::Opening | Role::Semicolon | Role::End => ending(CutState::Begins),
-                Role::Section => section_step(next),
-                Role::Brace => ending(CutState::Closed),
-                Role::Colon | Role::Other => unless_end(next, CutState::Inside),
-            },
-            CutState::Inside => match role {
-                Role::Semicolon | Role::End => ending(CutState::Begins),
-                _ => unless_end(next, CutState::Inside),
-            },
-            CutState::Marked => ending(CutState::Begins),
-            CutState::Closed => match role {
-                Role::End => ending(CutState::Begins),
-                _ => unless_end(next, CutState::Closed),
-            },
+        match (self, role, next) {
+            (CutState::Marked, _, _) | (_, Role::End, _) => ending(CutState::Begins),
+            (CutState::Inside | CutState::Begins, Role::Semicolon, _) => ending(CutState::Begins),
+            (CutState::Begins, Role::Opening, _) => ending(CutState::Begins),
+            (CutState::Begins, Role::Brace, _) => ending(CutState::Closed),
+            (CutState::Begins, Role::Section, Role::Colon) => going_on(CutState::Marked),
+            (_, _, Role::End) => ending(CutState::Begins),
+            (CutState::Closed, _, _) => going_on(CutState::Closed),
+            _ => going_on(CutState::Inside),
         }
     }
 }
@@ -132,26 +124,4 @@ fn going_on(state: CutState) -> Step
     ensures { result ≡ going_on state }
 {
     Step { ends: false, state }
-}
-
-/// Returns the step of a token after which its statement goes on, unless the text ends there. `next` is the role of the token that comes
-/// next. If `next` is `End`, returns the step of a statement's last token. Otherwise `state` is the state before the token that comes next.
-fn unless_end(next: Role, state: CutState) -> Step
-    ensures { result ≡ unless_end next state }
-{
-    match next {
-        Role::End => ending(CutState::Begins),
-        _ => going_on(state),
-    }
-}
-
-/// Returns the step of `dimensions`, `variables` or `data` as the first token of a statement. `next` is the role of the token after it. If
-/// `next` is `Colon`, both are a section mark, which ends with the colon. Otherwise the statement goes on, unless the text ends there.
-fn section_step(next: Role) -> Step
-    ensures { result ≡ section_step next }
-{
-    match next {
-        Role::Colon => going_on(CutState::Marked),
-        _ => unless_end(next, CutState::Inside),
-    }
 }

@@ -2,8 +2,7 @@
 use Rattle.std.proofs.Common.{◌≡◌, ℕ, zero, suc, ◌+◌, ◌-◌, ◌≤◌, Bool, List, [], ◌∷◌, length, map, drop, refl, ap, arith, Option, Result, ◌&&◌, is_none, min, rules}
 use Rattle.cdl_values.proofs.Prelude.{Version, values, words, pieces_left, text_of, first_piece, Lexeme, followed, Value, Cutter, CdlKind, TokenKind, Capacity, AtMost, Unlimited, listing_of, Fills, HasCapacity, as_bytes, capacity_for, most, packed, Fill, Filling, Numbers, Rows}
 use Rattle.cdl_statements.specs.State as states
-use Rattle.cdl_statements.specs.code.Roles.{first_role}
-use Rattle.cdl_statements.specs.code.CutSteps.{pieces_after, step, with_first}
+use Rattle.cdl_statements.specs.Pieces.{first_role, pieces_after, step, with_first}
 use Rattle.cdl_tokens.specs.Scan.{scan}
 use Rattle.cdl_tokens.specs.Tokens.{tokens_at, with_token}
 use Rattle.cdl_statements.specs.declared.{piece.CutState.CutState, piece.Role.Role}

@@ -1,6 +1,6 @@
 -- The tokens of a few texts, their pieces, and what words and numbers say, by computation.
 use Rattle.std.proofs.Common.{◌≡◌, ℕ, List, [], ◌∷◌, refl, true, false, ℤ, pos, neg_ℤ, codes, length, map, Option, None, Some}
-use Rattle.cdl_laws.proofs.Prelude.{NcType, Byte, Short, Int, Ubyte, Ushort, Uint, Int64, Uint64, Cdf5, is_reserved, Scanned, Token, TokenKind, Word, Text, Bad, unescape_at, character, word_value, word_len, len_until, scan, tokens, tokens_at, pieces_at, is_section, is_word, is_mark, name_of, statements, TypedNumber, type_of_suffix, numeral, parts}
+use Rattle.cdl_laws.proofs.Prelude.{NcType, Byte, Short, Int, Ubyte, Ushort, Uint, Int64, Uint64, Cdf5, is_reserved, Scanned, Token, TokenKind, Word, Text, Bad, unescape_at, character, word_value, word_len, len_until, scan, tokens, tokens_at, pieces_after, is_section, is_word, is_mark, name_of, statements, TypedNumber, type_of_suffix, numeral, parts}
 use Rattle.cdl_tokens.specs.declared.token.TokenKind.TheVariants.{Opening, Number, Mark, End}
 
 -- f gives what stands beside the texts of each row
@@ -88,7 +88,7 @@ pieces : Gives (λ text. map length (statements text)) (
     ∷ row (codes "netcdf t { = x ; y ;" ∷ codes "netcdf t { ( x ; y ;" ∷ codes "netcdf t { = : x ;" ∷ codes "netcdf t { data 5 : x ;" ∷ codes "netcdf t { 5 : x ;" ∷ codes "netcdf t { \"data\" : x ;" ∷ codes "netcdf t { @ : x ;" ∷ codes "netcdf t { data @ : x ;" ∷ [])
     ((1 ∷ 3 ∷ 2 ∷ 1 ∷ []) ∷ (1 ∷ 3 ∷ 2 ∷ 1 ∷ []) ∷ (1 ∷ 4 ∷ 1 ∷ []) ∷ (1 ∷ 5 ∷ 1 ∷ []) ∷ (1 ∷ 4 ∷ 1 ∷ []) ∷ (1 ∷ 4 ∷ 1 ∷ []) ∷ (1 ∷ 4 ∷ 1 ∷ []) ∷ (1 ∷ 5 ∷ 1 ∷ []) ∷ [])
     ∷ [])
-unfolding tokens_at scan word_len len_until unescape_at character pieces_at is_section
+unfolding tokens_at scan word_len len_until unescape_at character pieces_after is_section
 pieces = refl
 
 -- ---- words and marks

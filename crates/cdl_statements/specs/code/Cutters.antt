@@ -1,13 +1,16 @@
 -- For contracts. What a cutter has before it.
 use Rattle.std.specs.Prelude.{ℕ, List, ◌∷◌, [], Bool, true, false, if◌then◌else◌, ◌≡◌, drop, map}
 use Rattle.cdl_statements.specs.Lexemes.{Lexeme, lexeme}
-use Rattle.cdl_statements.specs.code.Roles.{role_in}
 use Rattle.cdl_tokens.specs.code.Scanners.{followed, left}
 use Rattle.cdl_tokens.specs.code.Scanners as scanners
-use Rattle.cdl_statements.specs.code.CutSteps.{pieces_after, with_first}
+use Rattle.cdl_statements.specs.Pieces.{pieces_after, role_in, with_first}
 use Rattle.cdl_tokens.specs.declared.token.Token.{Token}
 use Rattle.nc_base.specs.declared.version.Version.{Version}
-use Rattle.cdl_statements.specs.declared.cutter.Cutter.{Cutter}
+use Rattle.cdl_statements.specs.declared.{cutter.Cutter.Cutter, piece.Role.Role, piece.Role.TheVariants.End}
+
+abbrev pub is_end_role : Role → Bool
+is_end_role End = true
+is_end_role _ = false
 
 abbrev pub text_of : Cutter → List ℕ
 text_of c = scanners.text_of c.scanner

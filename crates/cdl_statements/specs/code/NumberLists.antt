@@ -3,7 +3,7 @@ use Rattle.std.specs.Prelude.{◌≡◌, refl}
 use Rattle.cdl_tokens.specs.code.Scanners.{comma_before}
 use Rattle.cdl_tokens.specs.code.Scanners as scanners
 use Rattle.cdl_statements.specs.code.Cutters.{is_done, next_token, version_of}
-use Rattle.cdl_statements.specs.code.Roles.{role_in}
+use Rattle.cdl_statements.specs.Pieces.{role_in}
 use Rattle.cdl_statements.specs.declared.{cutter.Cutter.Cutter, number_list.NumberList.NumberList}
 
 -- the cutter that has gone on to the comma before the list's scanner

@@ -1,5 +1,5 @@
 use Rattle.std.proofs.Common.{◌≡◌, ℕ, List, [], ◌∷◌, ◌++◌, refl, arith, slice_index_or, Some}
-use Rattle.cdl_laws.proofs.Prelude.{concat_parts, Dim, Version, netcdf_word, IsName, Section, Globals, Dimensions, Variables, Values, scan, pieces_at, Close, shape, SaysStatement, opening_line, opening_piece, brace_piece, dimensions, AttributeReadsBack, cut_lexemes, lexemes, lexemes_at, pieces_of, Each, all_of, each_map, each_of}
+use Rattle.cdl_laws.proofs.Prelude.{concat_parts, Dim, Version, netcdf_word, IsName, Section, Globals, Dimensions, Variables, Values, scan, pieces_after, Close, shape, SaysStatement, opening_line, opening_piece, brace_piece, dimensions, AttributeReadsBack, cut_lexemes, lexemes, lexemes_at, pieces_of, Each, all_of, each_map, each_of}
 use Rattle.cdl_laws.proofs.Declarations.{dim_says, Speaks, global_says, owned_says}
 use Rattle.cdl_laws.proofs.Ends.{dimensions_says, variables_says, data_says, opening_lexemes, comment_back}
 use Rattle.cdl_laws.proofs.Lines.{pieces_are}
@@ -14,7 +14,7 @@ returns-clause-pieces c = pieces_are
 -- ---- marks
 
 opening_back : (name rest : List ℕ) → IsName name → cut_lexemes (lexemes (opening_line name ++ 10 ∷ rest)) ≡ opening_piece name ∷ pieces_of rest
-unfolding pieces_of pieces_at concat_parts netcdf_word
+unfolding pieces_of pieces_after concat_parts netcdf_word
 opening_back name rest h = rw (opening_lexemes name rest h)
 
 closes : (v : Version) → Each (λ (section : Section). SaysStatement v section brace_piece Close) (Globals ∷ Dimensions ∷ Variables ∷ Values ∷ [])
@@ -22,7 +22,7 @@ unfolding shape
 closes v = (record { sound = refl; shaped = refl }, (record { sound = refl; shaped = refl }, (record { sound = refl; shaped = refl }, (record { sound = refl; shaped = refl }, tt))))
 
 pub returns-clause-marks : goal.returns-clause-marks
-unfolding pieces_of lexemes_at scan pieces_at shape
+unfolding pieces_of lexemes_at scan pieces_after shape
 returns-clause-marks c = λ v. record {
   opening = opening_back;
   opens = λ name. record { sound = refl; shaped = refl };

@@ -1,12 +1,10 @@
 use Rattle.std.proofs.Common.{List, sym, ap, ◌∙◌, ℕ}
 use Rattle.cdl_tokens.specs.code.Scanners as scanners
-use Rattle.cdl_statements.proofs.Prelude.{Begins, tokens, pieces_left, role_in, pieces_after, lexeme}
-use Rattle.cdl_statements.proofs.PieceLengths.{pieces_by_steps}
+use Rattle.cdl_statements.proofs.Prelude.{Begins, tokens, pieces_left, role_in, pieces_after}
 use Rattle.cdl_statements.proofs.cutter.Cutter.new.Goals as goal
 
 pub returns-clause-pieces : goal.returns-clause-pieces
 unfolding pieces_left
 returns-clause-pieces c =
     ap (pieces_after (role_in (scanners.text_of c.token-next.new.self)) Begins) (sym c.token-next.ensures.token ∙ c.new-scanner.ensures.left) ∙
-    ap (λ (x : List ℕ). pieces_after (role_in x) Begins (tokens c.args.text.now)) (c.token-next.ensures.text ∙ c.new-scanner.ensures.text) ∙
-    sym (pieces_by_steps (lexeme c.args.text.now) (tokens c.args.text.now))
+    ap (λ (x : List ℕ). pieces_after (role_in x) Begins (tokens c.args.text.now)) (c.token-next.ensures.text ∙ c.new-scanner.ensures.text)
