@@ -1,9 +1,9 @@
 -- The strings of a variable of characters are read back, and what a row shows, filled up, is the row.
-use Rattle.std.proofs.Common.{◌≡◌, ℕ, suc, ◌+◌, ◌*◌, ◌<◌, ◌≤◌, true, false, List, [], ◌∷◌, ◌++◌, length, map, sym, ◌∙◌, ap, refl, subst, arith, append_assoc, append-nil, length-append, ℤ, ◌==◌, codes, zero, ◌-◌, Bool, pos, unsigned_abs, replicate, Some, Ok, rules}
-use Rattle.cdl_laws.proofs.Prelude.{flat_map, escaped_name, escaped_text, IsName, Look, is_char, char_lead, variable_opening, variable_closing, variable_text, Lexeme, Each, prefix_is, pieces_are, a_row, char_pieces, printed, map-append, length-replicate, replicate_more, Version, escaped_in_string, is_nul, string_value, stands_for, Characters, constants, Listable, Joined, Rows, add_row, filled, in_turn, listing_of, values_in, le-leb, length-map, ◌>>=◌, any_each, lt-ltb, lexemes_at, concat_parts}
+use Rattle.std.proofs.Common.{◌≡◌, ℕ, suc, ◌+◌, ◌*◌, ◌<◌, ◌≤◌, true, false, List, [], ◌∷◌, ◌++◌, length, map, sym, ◌∙◌, ap, refl, subst, arith, append_assoc, append-nil, length-append, ℤ, ◌==◌, codes, zero, ◌-◌, Bool, pos, unsigned_abs, replicate, Some, Ok, Option}
+use Rattle.cdl_laws.proofs.Prelude.{flat_map, escaped_name, escaped_text, IsName, Look, is_char, char_lead, variable_opening, variable_closing, variable_text, Lexeme, Each, prefix_is, pieces_are, a_row, char_pieces, printed, map-append, length-replicate, replicate_more, Version, escaped_in_string, is_nul, string_value, stands_for, Characters, constants, Joined, Rows, filled, in_turn, le-leb, length-map, any_each, lexemes_at, concat_parts, add_value}
 use Rattle.cdl_laws.proofs.Texts.{Closed, mark, marks_closed, word, reading}
 use Rattle.cdl_laws.proofs.Strings.{string, string_read, unescape_all, between_quotes}
-use Rattle.cdl_laws.proofs.ValueTexts.{commas, comma, semicolon, turn, constants_say}
+use Rattle.cdl_laws.proofs.ValueTexts.{commas, comma, semicolon, turn, constants_say, IsWithin}
 
 -- ---- strings in a list
 
@@ -128,22 +128,15 @@ strings_said v takes_fill bytes all = constants_say v takes_fill string Characte
 
 -- ---- what becomes of them
 
-rows_added : (listable : Listable) (t : Bool) (before : List (List ℕ)) (rows : List (List ℤ)) → (listable.is_open ≡ false → length before + length rows ≤ listable.rows) → Each (λ (r : List ℤ). (length r ≡ listable.row) × Each IsCharacter r) rows →
-    in_turn (add_row listable) before (map Characters (map (printed t 0) rows)) ≡ Ok (before ++ map (printed t 0) rows)
-rows_added listable t before [] wide all = ap Ok (sym (append-nil before))
-rows_added listable t before (r ∷ rows) wide all =
-    grind (arith, length-append, turn, append_assoc, rows_added listable t (before ++ printed t 0 r ∷ []) rows, le-leb, shown_len, lt-ltb)
+row_listed : (len : ℕ) (fill : ℤ) (room : Option ℕ) (t : Bool) (before r more : List ℤ) → (t ≡ true → fill ≡ pos 0) → IsWithin room (length (before ++ (r ++ more))) → length r ≡ len → Each IsCharacter r →
+    add_value (Rows len fill) room before (Characters (printed t 0 r)) ≡ Ok (before ++ r)
+row_listed len fill room t before r more trims wide is all = grind (arith, length-append, le-leb, shown_len, row_back)
 
-pub rows_listed : (listable : Listable) (t : Bool) (rows : List (List ℤ)) → is_char listable.ty ≡ true → listable.in_rows ≡ true → (listable.is_open ≡ false → length rows ≤ listable.rows) → Each (λ (r : List ℤ). (length r ≡ listable.row) × Each IsCharacter r) rows →
-    listing_of listable (map Characters (map (printed t 0) rows)) ≡ Ok (Rows (map (printed t 0) rows))
-unfolding listing_of
-rows_listed listable t rows ty h wide all = rw (ty) (rw (h) (ap (λ items. items >>= (λ bytes. Ok (Rows bytes))) (rows_added listable t [] rows (λ e. let f = wide e in omega (arith, f)) all)))
+pub rows_listed : (len : ℕ) (fill : ℤ) (room : Option ℕ) (t : Bool) (before : List ℤ) (rows : List (List ℤ)) → (t ≡ true → fill ≡ pos 0) → IsWithin room (length (before ++ flat rows)) → Each (λ (r : List ℤ). (length r ≡ len) × Each IsCharacter r) rows →
+    in_turn (add_value (Rows len fill) room) before (map Characters (map (printed t 0) rows)) ≡ Ok (before ++ flat rows)
+rows_listed len fill room t before [] trims wide all = ap Ok (sym (append-nil before))
+rows_listed len fill room t before (r ∷ rows) trims wide all =
+    grind (arith, turn, row_listed, append_assoc, rows_listed len fill room t (before ++ r) rows)
 
--- and the rows filled up are the rows that were printed
-pub rows_full : (listable : Listable) (t : Bool) (rows : List (List ℤ)) → (t ≡ true → listable.fill ≡ pos 0) → Each (λ (r : List ℤ). (length r ≡ listable.row) × Each IsCharacter r) rows → values_in listable (Rows (map (printed t 0) rows)) ≡ flat rows
-rows_full listable t [] fill all = refl
-rows_full listable t (r ∷ rows) fill all = search (rules, row_back, rows_full listable t rows fill all.1)
-
-pub line_listed : (listable : Listable) (t : Bool) (r : List ℤ) → is_char listable.ty ≡ true → listable.in_rows ≡ false → (listable.is_open ≡ false → length r ≤ listable.count) → listing_of listable (Characters (printed t 0 r) ∷ []) ≡ Ok (Joined (printed t 0 r))
-unfolding listing_of
-line_listed listable t r ty h wide = grind (arith, turn, shown_len)
+pub line_listed : (room : Option ℕ) (t : Bool) (r : List ℤ) → IsWithin room (length r) → in_turn (add_value Joined room) [] (Characters (printed t 0 r) ∷ []) ≡ Ok (map pos (printed t 0 r))
+line_listed room t r wide = grind (arith, turn, le-leb, shown_len)

@@ -1,6 +1,6 @@
 -- The array of a variable is given back by the text of its values.
-use Rattle.std.proofs.Common.{◌≡◌, ℕ, zero, suc, ◌*◌, ◌<◌, ◌≤◌, true, false, List, [], ◌∷◌, length, drop, take, map, sym, ◌∙◌, ap, refl, subst, arith, length-take, length-drop, ℤ, pos, ◌&&◌, ◌==◌, not, nat_lt, find, Some, rules, if◌then◌else◌, Option}
-use Rattle.cdl_laws.proofs.Prelude.{int_eq, lt_of_mul-lt-mul_right, false≢true, Decides-int_eq, take-append-drop, Att, Dim, Header, Var, NcType, Version, fill_value, is_fill_att, value_count, IsArray, IsName, numbers, IsInRange, is_record_var, product, slab_lens, look_of, is_char, row_len, trimmed_att, trimmed_var, listable_of, filled, array_of, and_left, is_off, is_on, look-type, Each, each_drop, each_map, each_take, slab_rows, has_values, listed_values, Listing, and_false, option_map}
+use Rattle.std.proofs.Common.{◌≡◌, ℕ, zero, suc, ◌*◌, ◌<◌, true, false, List, [], ◌∷◌, length, drop, take, map, sym, ◌∙◌, ap, refl, subst, arith, length-take, length-drop, ℤ, pos, ◌&&◌, ◌==◌, not, nat_lt, find, Some, rules, if◌then◌else◌, Option}
+use Rattle.cdl_laws.proofs.Prelude.{int_eq, false≢true, Decides-int_eq, take-append-drop, Att, Dim, Header, Var, NcType, Version, fill_value, is_fill_att, value_count, IsArray, IsName, numbers, IsInRange, is_record_var, product, slab_lens, look_of, is_char, row_len, trimmed_att, trimmed_var, filled, array_of, and_left, is_off, is_on, look-type, Each, each_drop, each_map, each_take, slab_rows, has_values, listed_values, and_false, option_map, takes_of, Takes, Numbers, Joined, Rows}
 use Rattle.cdl_laws.proofs.Attributes.{AreNumbersOf, numbers_are, all_fit, all_small}
 use Rattle.cdl_laws.proofs.Characters.{flat, IsCharacter}
 use Rattle.cdl_laws.proofs.DataTexts.{Gives, IsRoomFor, gives_numbers, gives_table, gives_line, given_draft, IsGivenBy}
@@ -18,9 +18,9 @@ same_fill var h = grind (arith, found_trimmed var.atts)
 
 -- ---- rooms
 
-room_is : (h : Header) (var : Var) (n width m : ℕ) → m ≡ value_count h.dims var n → IsName var.name → fill_value (trimmed_var var) ≡ fill_value var → IsRoomFor (look_of h var n width) (listable_of h.dims (trimmed_var var)) var m
-unfolding look_of listable_of
-room_is h var n width m is name fill = grind arith
+room_is : (h : Header) (var : Var) (n width m : ℕ) (takes : Takes) → m ≡ value_count h.dims var n → IsName var.name → takes_of h.dims (trimmed_var var) ≡ takes → IsRoomFor h.dims (look_of h var n width) var takes m
+unfolding look_of
+room_is h var n width m takes is name taken = record { name = refl; valid = name; taken = taken; wide = grind arith }
 
 row_all : (h : Header) (var : Var) (n width : ℕ) → (look_of h var n width).in_rows ≡ false → (look_of h var n width).row ≡ value_count h.dims var n
 unfolding look_of
@@ -31,10 +31,10 @@ row_all h var n width e = rw (is_on (nat_lt (length var.dimids) 2) e) refl
 pub listed_numbers : (v : Version) (h : Header) (var : Var) (n width : ℕ) (xs : List ℤ) → 0 < length xs →
     length xs ≡ value_count h.dims var n → Each (IsInRange var.ty) xs → is_char var.ty ≡ false → IsName var.name →
     Gives v h.dims (look_of h var n width) var xs
-unfolding listable_of
+unfolding look_of takes_of
 listed_numbers v h var n width [] some len range other name = absurd (omega (arith, some))
 listed_numbers v h var n width (x ∷ xs) some len range other name =
-    gives_numbers v h.dims (look_of h var n width) var x xs (room_is h var n width (length (x ∷ xs)) len name (same_fill var other)) (ap is_char (look-type h var n width) ∙ other)
+    gives_numbers v h.dims (look_of h var n width) var var.ty x xs (room_is h var n width (length (x ∷ xs)) (Numbers var.ty (fill_value var)) len name (grind (arith, same_fill var other, other))) (ap is_char (look-type h var n width) ∙ other)
     (λ e. let r = row_all h var n width e in omega (arith, r, len)) (all_small var.ty (x ∷ xs) range)
     (all_fit var.ty (x ∷ xs) range)
 
@@ -47,11 +47,15 @@ trimmed_fill : (h : Header) (var : Var) (n width : ℕ) → (look_of h var n wid
 unfolding look_of
 trimmed_fill h var n width e = (Decides-int_eq (fill_value var) (pos 0)).0 (and_left (int_eq (fill_value var) (pos 0)) (not (is_record_var h.dims var && (length var.dimids == 1))) e)
 
+line_takes : (h : Header) (var : Var) (n width : ℕ) → is_char var.ty ≡ true → (look_of h var n width).in_rows ≡ false → takes_of h.dims (trimmed_var var) ≡ Joined
+unfolding look_of takes_of
+line_takes h var n width char rank = grind (arith, char, rank)
+
 pub listed_line : (v : Version) (h : Header) (var : Var) (n width : ℕ) (xs : List ℤ) →
     0 < length xs → length xs ≡ value_count h.dims var n → Each (IsInRange var.ty) xs → is_char var.ty ≡ true → IsName var.name →
     fill_value (trimmed_var var) ≡ fill_value var → (look_of h var n width).in_rows ≡ false → (is_record_var h.dims var ≡ true → (look_of h var n width).trimmed ≡ false) → Gives v h.dims (look_of h var n width) var xs
 listed_line v h var n width [] some len range char name fill rank whole = grind (arith, room_is, look-type)
-listed_line v h var n width _ some len range char name fill rank whole = grind (arith, gives_line, room_is, look-type, row_all, trimmed_fill, are_characters)
+listed_line v h var n width _ some len range char name fill rank whole = grind (arith, gives_line, room_is, line_takes, look-type, row_all, trimmed_fill, are_characters)
 
 -- ---- characters at rank 2 and up
 
@@ -70,21 +74,10 @@ unfolding rows_of
 rows_are zero row xs h all = tt
 rows_are (suc k) row xs h all = grind (arith, length-take, each_take, length-drop, each_drop, rows_are k row (drop row xs))
 
-rank_row : (h : Header) (var : Var) (n width : ℕ) → (look_of h var n width).in_rows ≡ true → (look_of h var n width).row ≡ (listable_of h.dims (trimmed_var var)).row
-unfolding look_of listable_of
-rank_row h var n width e = let f = is_off (nat_lt (length var.dimids) 2) e in rw (f) refl
-
-rows_len : (k row : ℕ) (xs : List ℤ) → length (rows_of k row xs) ≡ k
-unfolding rows_of
-rows_len zero row xs = refl
-rows_len (suc k) row xs = ap suc (rows_len k row (drop row xs))
-
-rows_within : (h : Header) (var : Var) (n width k : ℕ) → (look_of h var n width).in_rows ≡ true → suc k * (look_of h var n width).row ≡ value_count h.dims var n → 0 < (look_of h var n width).row →
-    (listable_of h.dims (trimmed_var var)).is_open ≡ false → suc k ≤ (listable_of h.dims (trimmed_var var)).rows
-unfolding listable_of look_of
-rows_within h var n width k rank split some closed =
-    let two = is_off (nat_lt (length var.dimids) 2) rank in
-    grind (arith, slab_rows h.dims var.dimids two, rank_row h var n width rank, lt_of_mul-lt-mul_right)
+table_takes : (h : Header) (var : Var) (n width : ℕ) → is_char var.ty ≡ true → (look_of h var n width).in_rows ≡ true → fill_value (trimmed_var var) ≡ fill_value var →
+    takes_of h.dims (trimmed_var var) ≡ Rows (look_of h var n width).row (look_of h var n width).fill
+unfolding look_of takes_of
+table_takes h var n width char rank fill = grind (arith, char, rank, fill)
 
 pub listed_table : (v : Version) (h : Header) (var : Var) (n width k : ℕ) (xs : List ℤ) →
     length xs ≡ suc k * (look_of h var n width).row → 0 < (look_of h var n width).row → length xs ≡ value_count h.dims var n →
@@ -95,9 +88,8 @@ listed_table v h var n width k xs split some len range char name fill rank =
     let look = look_of h var n width in
     let same = flat_rows (suc k) look.row xs split in
     subst (λ ys. Gives v h.dims look var ys) same
-    (gives_table v h.dims look var (take look.row xs) (rows_of k look.row (drop look.row xs)) (room_is h var n width (length (flat (rows_of (suc k) look.row xs))) (ap (λ (ys : List ℤ). length ys) same ∙ len) name fill) (ap is_char (look-type h var n width) ∙ char) rank
-    (trimmed_fill h var n width) (rank_row h var n width rank) some
-    (λ closed. let few = rows_within h var n width k rank (sym split ∙ len) some closed in let m = rows_len k look.row (drop look.row xs) in omega (arith, few, m)) (rows_are (suc k) look.row xs split (are_characters var.ty xs char range)))
+    (gives_table v h.dims look var (take look.row xs) (rows_of k look.row (drop look.row xs)) (room_is h var n width (length (flat (rows_of (suc k) look.row xs))) (Rows look.row look.fill) (ap (λ (ys : List ℤ). length ys) same ∙ len) name (table_takes h var n width char rank fill))
+    (ap is_char (look-type h var n width) ∙ char) rank (trimmed_fill h var n width) some (rows_are (suc k) look.row xs split (are_characters var.ty xs char range)))
 
 -- ---- arrays
 
@@ -132,23 +124,23 @@ line_whole h var n width rank is = grind (arith, and_false, false≢true, is_on)
 
 -- the text of its values, if it has any, gives back its array
 pub record IsBack (v : Version) (h : Header) (n width : ℕ) (var : Var) (array : List ℕ) : Type 0 where
-  pub o : Option Listing
+  pub o : Option (List ℤ)
   pub given : IsGivenBy (has_values h.dims n var) v h.dims (look_of h var n width) var (numbers var.ty array) o
   pub back : array_of h.dims n (given_draft var o) ≡ array
-  pub exact : is_record_var h.dims var ≡ true → length (listed_values h.dims (given_draft var o)) ≡ value_count h.dims var n
+  pub exact : is_record_var h.dims var ≡ true → length (listed_values (given_draft var o)) ≡ value_count h.dims var n
 
 gives_back : (v : Version) (h : Header) (n width : ℕ) (var : Var) (array : List ℕ) → IsArray h.dims n var array → has_values h.dims n var ≡ true →
-    (g : Gives v h.dims (look_of h var n width) var (numbers var.ty array)) × (array_of h.dims n (given_draft var (Some g.listing)) ≡ array) → IsBack v h n width var array
+    (g : Gives v h.dims (look_of h var n width) var (numbers var.ty array)) × (array_of h.dims n (given_draft var (Some g.listed)) ≡ array) → IsBack v h n width var array
 gives_back v h n width var array is some both = record {
-  o = Some both.0.listing;
-  given = subst (λ b. IsGivenBy b v h.dims (look_of h var n width) var (numbers var.ty array) (Some both.0.listing)) (sym some) (both.0, refl);
+  o = Some both.0.listed;
+  given = subst (λ b. IsGivenBy b v h.dims (look_of h var n width) var (numbers var.ty array) (Some both.0.listed)) (sym some) (both.0, refl);
   back = both.1;
   exact = λ e. ap (λ (ys : List ℤ). length ys) (both.0.exact e) ∙ (array_gives h.dims n var array is).2;
 }
 
 -- any variable that has values is given back by their text: all of them, for every width and wherever the breaks are
 pub row_back : (v : Version) (h : Header) (n width : ℕ) (var : Var) (array : List ℕ) → IsArray h.dims n var array → 0 < value_count h.dims var n → IsName var.name → (is_char var.ty ≡ true → fill_value (trimmed_var var) ≡ fill_value var) →
-    (g : Gives v h.dims (look_of h var n width) var (numbers var.ty array)) × (array_of h.dims n (given_draft var (Some g.listing)) ≡ array)
+    (g : Gives v h.dims (look_of h var n width) var (numbers var.ty array)) × (array_of h.dims n (given_draft var (Some g.listed)) ≡ array)
 unfolding look_of
 row_back v h n width var array is count name fill =
     let look = look_of h var n width in

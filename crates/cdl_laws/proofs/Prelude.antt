@@ -9,8 +9,8 @@ pub use Rattle.cdl_laws.specs.Trims.{FillValueSurvivesTrim, TrimmedIsSayable, Tr
 pub use Rattle.cdl_statements.specs.Meaning.{array_of, closing_line, dataset_of, empty, has_small_array, header_of, meaning, records_in, listed_values}
 unfoldable pub use Rattle.cdl_statements.specs.SoundHeaders.{is_sound}
 unfoldable pub use Rattle.cdl_statements.specs.Meaning.{finished, are_within_limits, piece_read, run}
-pub use Rattle.cdl_statements.specs.State.{Listable, Draft, Joined, Listing, Numbers, Rows, State, add_constant, add_number, add_row, change_named, int_within, filled, first_type, in_turn, values_in, with_att, with_values, ◌>>=◌}
-unfoldable pub use Rattle.cdl_statements.specs.State.{act, add_att, add_dim, add_dimid, add_var, change_variable, listable_of, has_number, listing_of, type_of}
+pub use Rattle.cdl_statements.specs.State.{Draft, Joined, Numbers, Rows, State, Takes, add_constant, add_value, change_named, has_room, int_within, filled, first_type, in_turn, room_of, values_listed, with_att, with_values, ◌>>=◌}
+unfoldable pub use Rattle.cdl_statements.specs.State.{act, add_att, add_dim, add_dimid, add_var, change_variable, has_number, takes_of, type_of}
 pub use Rattle.cdl_statements.specs.Lexemes.{Lexeme, is_end_kind, is_mark, is_opening_kind, is_word, is_word_kind, lexeme}
 unfoldable pub use Rattle.cdl_statements.specs.Lexemes.{name_of}
 pub use Rattle.cdl_statements.specs.Pieces.{first_role, role, section_of, statements, step, with_first}

@@ -1,6 +1,6 @@
 -- The listed numbers of a variable are read back, wherever the breaks are.
-use Rattle.std.proofs.Common.{◌≡◌, ℕ, ◌+◌, ◌^◌, ◌<◌, ◌≤◌, Bool, true, false, List, [], ◌∷◌, ◌++◌, length, map, sym, ◌∙◌, ap, refl, arith, append_assoc, append-nil, length-append, ℤ, unsigned_abs, ◌&&◌, if◌then◌else◌, Some, Result, Ok, codes, ◌⊎◌}
-use Rattle.cdl_laws.proofs.Prelude.{signed_decimal, flat_map, int_eq, mod-eq_of_lt, false≢true, concat_parts, escaped_name, Int, Version, IsName, Look, is_char, number_text, number_lead, number_piece, piece, pieces, variable_opening, variable_closing, variable_text, prefix_is, CdlKind, Lexeme, Value, Number, Underscore, both, constant, constants, constants, Listable, Numbers, add_number, has_number, in_turn, listing_of, word_at_start, Each, ◌>>=◌}
+use Rattle.std.proofs.Common.{◌≡◌, ℕ, ◌+◌, ◌^◌, ◌<◌, ◌≤◌, Bool, true, false, List, [], ◌∷◌, ◌++◌, length, map, sym, ◌∙◌, ap, refl, arith, append_assoc, append-nil, length-append, ℤ, unsigned_abs, ◌&&◌, if◌then◌else◌, Some, Result, Ok, codes, ◌⊎◌, Option, None}
+use Rattle.cdl_laws.proofs.Prelude.{signed_decimal, flat_map, int_eq, mod-eq_of_lt, false≢true, concat_parts, escaped_name, Int, Version, IsName, Look, is_char, number_text, number_lead, number_piece, piece, pieces, variable_opening, variable_closing, variable_text, prefix_is, CdlKind, Lexeme, Value, Number, Underscore, both, constant, constants, constants, Numbers, has_number, in_turn, word_at_start, Each, NcType, add_value, le-leb}
 use Rattle.cdl_laws.proofs.Texts.{Closed, Reads, stops, mark, word, number, word_reads, stop_word, marks_closed, number_reads, reading}
 use Rattle.cdl_laws.proofs.Numerals.{value_again, value_is}
 
@@ -123,17 +123,16 @@ values_said v look x xs fit = constants_say v true (value_lexeme look) (value_sa
 
 -- ---- what becomes of them
 
-one_added : (look : Look) (listable : Listable) (before : List ℤ) (x : ℤ) → listable.fill ≡ look.fill → (listable.is_open ≡ false → length before < listable.count) → has_number listable.ty x ≡ true →
-    add_number listable before (value_said look x) ≡ Ok (before ++ x ∷ [])
-one_added look listable before x same wide fit = grind arith
+-- so many are taken
+abbrev pub IsWithin : Option ℕ → ℕ → Type 0
+IsWithin None n = Unit {0}
+IsWithin (Some room) n = n ≤ room
 
-all_added : (look : Look) (listable : Listable) (before xs : List ℤ) → listable.fill ≡ look.fill → (listable.is_open ≡ false → length before + length xs ≤ listable.count) → Each (λ x. has_number listable.ty x ≡ true) xs →
-    in_turn (add_number listable) before (map (value_said look) xs) ≡ Ok (before ++ xs)
-all_added look listable before [] same wide fit = ap Ok (sym (append-nil before))
-all_added look listable before (x ∷ xs) same wide fit =
-    grind (arith, turn, one_added, length-append, append_assoc, all_added look listable (before ++ x ∷ []) xs same)
+one_added : (look : Look) (ty : NcType) (room : Option ℕ) (before : List ℤ) (x : ℤ) (xs : List ℤ) → IsWithin room (length (before ++ x ∷ xs)) → has_number ty x ≡ true → add_value (Numbers ty look.fill) room before (value_said look x) ≡ Ok (before ++ x ∷ [])
+one_added look ty room before x xs wide fit = grind (arith, length-append, le-leb)
 
-pub numbers_listed : (look : Look) (listable : Listable) (xs : List ℤ) → is_char listable.ty ≡ false → listable.fill ≡ look.fill → (listable.is_open ≡ false → length xs ≤ listable.count) → Each (λ x. has_number listable.ty x ≡ true) xs →
-    listing_of listable (map (value_said look) xs) ≡ Ok (Numbers xs)
-unfolding listing_of
-numbers_listed look listable xs h same wide fit = rw (h) (ap (λ values. values >>= (λ ys. Ok (Numbers ys))) (all_added look listable [] xs same (λ e. let f = wide e in omega (arith, f)) fit))
+pub numbers_listed : (look : Look) (ty : NcType) (room : Option ℕ) (before xs : List ℤ) → IsWithin room (length (before ++ xs)) → Each (λ x. has_number ty x ≡ true) xs →
+    in_turn (add_value (Numbers ty look.fill) room) before (map (value_said look) xs) ≡ Ok (before ++ xs)
+numbers_listed look ty room before [] wide fit = ap Ok (sym (append-nil before))
+numbers_listed look ty room before (x ∷ xs) wide fit =
+    grind (arith, turn, one_added, append_assoc, numbers_listed look ty room (before ++ x ∷ []) xs)

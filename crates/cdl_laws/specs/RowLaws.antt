@@ -1,5 +1,5 @@
 -- Law. The values that the text of a variable lists give its array.
-use Rattle.std.specs.Prelude.{◌≡◌, ℕ, true, false, List, [], length, slice_get, slice_index_or, Some, Ok}
+use Rattle.std.specs.Prelude.{◌≡◌, ℕ, ℤ, true, false, List, [], length, slice_get, slice_index_or, Some, Ok}
 use Rattle.nc_base.specs.declared.{dataset.Dataset.Dataset, header.NumRecs.TheVariants.Known, header.Var.Var}
 use Rattle.nc_base.specs.Dump.{has_values}
 use Rattle.nc_base.specs.Datasets.{values_in_dataset}
@@ -9,19 +9,19 @@ use Rattle.nc_base.specs.ValueText.{look_of, variable_text}
 use Rattle.cdl_statements.specs.declared.section.Section.TheVariants.{Values}
 use Rattle.cdl_statements.specs.Shapes.{Value, Listed}
 use Rattle.cdl_statements.specs.Meaning.{array_of}
-use Rattle.cdl_statements.specs.State.{Listing, listable_of, listing_of, values_in}
+use Rattle.cdl_statements.specs.State.{values_listed}
 use Rattle.cdl_laws.specs.PieceLaws.{IsStatement}
 
--- The text of the values of the variable in this place is one statement, which lists values for it. Added in turn, they give
--- a listing; and its numbers, filled up with the fill value, are the numbers of its array. A record variable lists all numbers of
--- its records, so that their number gives the number of records.
+-- The text of the values of the variable in this place is one statement, which lists values for it. They are taken; and filled up
+-- with the fill value, they are the numbers of its array. A record variable lists all numbers of its records, so that their number
+-- gives the number of records.
 pub record RowReadsBack (d : Dataset) (records width place : ℕ) (var : Var) : Type 0 where
   pub values : List Value
   pub statement : IsStatement d.header.version Values (variable_text (look_of d.header var records width) (values_in_dataset d place var).values) (Listed var.name values)
-  pub listing : Listing
-  pub added : listing_of (listable_of d.header.dims var) values ≡ Ok listing
-  pub array : array_of d.header.dims records (record { var = var; listed = Some listing }) ≡ slice_index_or d.arrays place []
-  pub whole : is_record_var d.header.dims var ≡ true → length (values_in (listable_of d.header.dims var) listing) ≡ value_count d.header.dims var records
+  pub listed : List ℤ
+  pub added : values_listed d.header.dims var values ≡ Ok listed
+  pub array : array_of d.header.dims records (record { var = var; listed = Some listed }) ≡ slice_index_or d.arrays place []
+  pub whole : is_record_var d.header.dims var ≡ true → length listed ≡ value_count d.header.dims var records
 
 abbrev pub RowsReadBack : Type 0
 RowsReadBack = (d : Dataset) (records width place : ℕ) (var : Var) → IsSayable d

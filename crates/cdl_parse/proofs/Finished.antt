@@ -23,15 +23,15 @@ slabs_small v dims n (d ∷ drafts) sound =
 
 -- ---- the arrays
 
-whole_is : (dims : List Dim) (n : ℕ) (d : Draft) → array_of dims n d ≡ whole_array dims n d.var (listed_of dims d)
-whole_is dims n d = grind (arith, listed_count dims d, flat_map-append)
+whole_is : (dims : List Dim) (n : ℕ) (d : Draft) → array_of dims n d ≡ whole_array dims n d.var (listed_of d)
+whole_is dims n d = grind (arith, listed_count d, flat_map-append)
 
-all_whole : (dims : List Dim) (n : ℕ) (drafts : List Draft) → map (array_of dims n) drafts ≡ whole_arrays dims n (map var_of drafts) (map (listed_of dims) drafts)
+all_whole : (dims : List Dim) (n : ℕ) (drafts : List Draft) → map (array_of dims n) drafts ≡ whole_arrays dims n (map var_of drafts) (map listed_of drafts)
 all_whole dims n [] = refl
-all_whole dims n (d ∷ drafts) = ap (λ a. a ∷ map (array_of dims n) drafts) (whole_is dims n d) ∙ ap (λ rest. whole_array dims n d.var (listed_of dims d) ∷ rest) (all_whole dims n drafts)
+all_whole dims n (d ∷ drafts) = ap (λ a. a ∷ map (array_of dims n) drafts) (whole_is dims n d) ∙ ap (λ rest. whole_array dims n d.var (listed_of d) ∷ rest) (all_whole dims n drafts)
 
 abbrev pub declared : Version → State → Declared
-declared v s = record { header = header_of v s; listed = map (listed_of s.dims) s.drafts }
+declared v s = record { header = header_of v s; listed = map listed_of s.drafts }
 
 dataset_is : (v : Version) (s : State) → dataset_of v s ≡ dataset_of_declared (declared v s)
 dataset_is v s = ap (λ arrays. record { header = header_of v s; arrays = arrays }) (all_whole s.dims (records_in s.dims s.drafts) s.drafts)
@@ -69,11 +69,11 @@ same_header v s n is = ap (λ m. header_with v m s) (sym is)
 
 -- ---- by what the code has
 
-pub kept_at : (ds dims : List Dim) (vs vars : List Var) (ls listed : List (List ℕ)) (s : State) (r : Option ℕ) → ds ≡ dims → vs ≡ vars → ls ≡ listed → s.dims ≡ dims → AllList dims vars listed s.drafts → AreShaped dims s.drafts →
-    ((drafts : List Draft) → AllList ds vs ls drafts → AreShaped ds drafts → r ≡ records_kept ds drafts) → records_kept s.dims s.drafts ≡ r
+pub kept_at : (ds dims : List Dim) (vs vars : List Var) (ls listed : List (List ℕ)) (s : State) (r : Option ℕ) → ds ≡ dims → vs ≡ vars → ls ≡ listed → s.dims ≡ dims → AllList vars listed s.drafts → AreShaped dims s.drafts →
+    ((drafts : List Draft) → AllList vs ls drafts → AreShaped ds drafts → r ≡ records_kept ds drafts) → records_kept s.dims s.drafts ≡ r
 kept_at ds dims vs vars ls listed s r a b c is lists shaped h = search rules
 
-pub header_at : (v : Version) (n : ℕ) (s : State) (dims : List Dim) (gatts : List Att) (vars : List Var) (listed : List (List ℕ)) → s.dims ≡ dims → s.gatts ≡ gatts → AllList dims vars listed s.drafts →
+pub header_at : (v : Version) (n : ℕ) (s : State) (dims : List Dim) (gatts : List Att) (vars : List Var) (listed : List (List ℕ)) → s.dims ≡ dims → s.gatts ≡ gatts → AllList vars listed s.drafts →
     header_with v n s ≡ record { version = v; numrecs = Known n; dims = dims; gatts = gatts; vars = vars }
 header_at v n s dims gatts vars listed is att-is lists = search (rules, all_are)
 
@@ -83,16 +83,16 @@ unsound v s line n kept bad =
     answer v s line false (enough_is v s false true (ap is_sound (sym (same_header v s n some.1)) ∙ bad) some.0)
 
 is_declared : (v : Version) (s : State) (line n : ℕ) → records_kept s.dims s.drafts ≡ Some n → is_sound (header_with v n s) ≡ true →
-    finished v line (Ok s) ≡ or_too_large line (Some (record { header = header_with v n s; listed = map (listed_of s.dims) s.drafts }))
+    finished v line (Ok s) ≡ or_too_large line (Some (record { header = header_with v n s; listed = map listed_of s.drafts }))
 is_declared v s line n kept sound =
     let some = some_of (list_all (is_within_limits s.dims (records_in s.dims s.drafts)) s.drafts) (records_in s.dims s.drafts) n kept in
     let same = same_header v s n some.1 in
     answer v s line true (enough_is v s true true (ap is_sound (sym same) ∙ sound) some.0) ∙
-    ap (λ (h : Header). or_too_large line (Some (record { header = h; listed = map (listed_of s.dims) s.drafts }))) (sym same)
+    ap (λ (h : Header). or_too_large line (Some (record { header = h; listed = map listed_of s.drafts }))) (sym same)
 
-pub finished_as : (v : Version) (s : State) (line n : ℕ) → records_kept s.dims s.drafts ≡ Some n → finished v line (Ok s) ≡ or_too_large line (if_sound (header_with v n s) (map (listed_of s.dims) s.drafts))
+pub finished_as : (v : Version) (s : State) (line n : ℕ) → records_kept s.dims s.drafts ≡ Some n → finished v line (Ok s) ≡ or_too_large line (if_sound (header_with v n s) (map listed_of s.drafts))
 finished_as v s line n kept = by (is_sound (header_with v n s)) refl
   where
-    by : (sound : Bool) → is_sound (header_with v n s) ≡ sound → finished v line (Ok s) ≡ or_too_large line (if sound then Some (record { header = header_with v n s; listed = map (listed_of s.dims) s.drafts }) else None)
+    by : (sound : Bool) → is_sound (header_with v n s) ≡ sound → finished v line (Ok s) ≡ or_too_large line (if sound then Some (record { header = header_with v n s; listed = map listed_of s.drafts }) else None)
     by true is = is_declared v s line n kept is
     by false is = unsound v s line n kept is

@@ -3,8 +3,8 @@ pub use Rattle.cdl_statements.specs.Meaning.{array_of, closing_line, dataset_of,
 pub use Rattle.cdl_statements.proofs.Readings.{checked, shaped}
 unfoldable pub use Rattle.cdl_statements.specs.Meaning.{finished, are_within_limits, piece_read, run}
 pub use Rattle.std.specs.Option.{ok_or}
-pub use Rattle.cdl_statements.specs.State.{Draft, Listing, State, add_constant, change_named, dim_len_of, first_type, in_turn, type_said, unless, values_in, when, with_att, with_values, ◌>>=◌}
-unfoldable pub use Rattle.cdl_statements.specs.State.{act, add_att, add_dim, add_dimid, add_var, change_variable, listable_of, listing_of, type_of}
+pub use Rattle.cdl_statements.specs.State.{Draft, State, add_constant, change_named, dim_len_of, first_type, in_turn, type_said, unless, when, with_att, with_values, ◌>>=◌}
+unfoldable pub use Rattle.cdl_statements.specs.State.{act, add_att, add_dim, add_dimid, add_var, change_variable, type_of}
 pub use Rattle.cdl_parse.specs.code.AttributeNames.{att_names, has_attribute}
 pub use Rattle.cdl_parse.specs.code.AttributeRead.{att_read, att_said, constants_said}
 pub use Rattle.cdl_parse.specs.code.ClosingLines.{closing_after, closing_of, with_line}
@@ -44,7 +44,7 @@ unfoldable pub use Rattle.cdl_tokens.specs.Numerals.{parts}
 pub use Rattle.cdl_tokens.specs.declared.token.Token.{Token}
 pub use Rattle.cdl_values.specs.code.Answers.{ContinuesRead, FailsRead, Leaves}
 pub use Rattle.cdl_values.specs.code.Listed.{AllList, AreShaped, Lists, unlisted_drafts}
-pub use Rattle.cdl_values.specs.code.Meant.{AllSuit, Means, Suits, begins_brace, listing_bytes, name_first, names_of, with_listing}
+pub use Rattle.cdl_values.specs.code.Meant.{AllSuit, Means, Suits, begins_brace, listed_bytes, name_first, names_of, with_listed}
 pub use Rattle.cdl_values.specs.code.NameIndices.{IsIndex, is_new, position_of, var_names}
 pub use Rattle.cdl_values.specs.declared.{data.Target.Target, read_error.ReadError.ReadError}
 pub use Rattle.cdl_values.specs.declared.read_error.ReadError.TheVariants.{Fault, OutOfMemory}

@@ -12,21 +12,21 @@ use Rattle.nc_base.proofs.SoundLaws.{some_size}
 abbrev pub var_of : Draft → Var
 var_of d = d.var
 
-abbrev pub listed_of : List Dim → Draft → List ℕ
-listed_of dims d = flat_map (bytes_of_number d.var.ty) (listed_values dims d)
+abbrev pub listed_of : Draft → List ℕ
+listed_of d = flat_map (bytes_of_number d.var.ty) (listed_values d)
 
-pub all_are : (dims : List Dim) (vars : List Var) (arrays : List (List ℕ)) (drafts : List Draft) → AllList dims vars arrays drafts → (vars ≡ map var_of drafts) × (arrays ≡ map (listed_of dims) drafts)
-all_are dims [] [] [] h = (refl, refl)
-all_are dims (var ∷ vars) (array ∷ arrays) (d ∷ drafts) h = search (rules, all_are dims vars arrays drafts h.1)
-all_are dims _ _ _ h = absurd h
+pub all_are : (vars : List Var) (arrays : List (List ℕ)) (drafts : List Draft) → AllList vars arrays drafts → (vars ≡ map var_of drafts) × (arrays ≡ map listed_of drafts)
+all_are [] [] [] h = (refl, refl)
+all_are (var ∷ vars) (array ∷ arrays) (d ∷ drafts) h = search (rules, all_are vars arrays drafts h.1)
+all_are _ _ _ h = absurd h
 
-pub one-each : (dims : List Dim) (vars : List Var) (arrays : List (List ℕ)) (drafts : List Draft) → AllList dims vars arrays drafts → length arrays ≡ length vars
-one-each dims [] [] [] h = refl
-one-each dims (var ∷ vars) (array ∷ arrays) (d ∷ drafts) h = ap suc (one-each dims vars arrays drafts h.1)
-one-each dims _ _ _ h = absurd h
+pub one-each : (vars : List Var) (arrays : List (List ℕ)) (drafts : List Draft) → AllList vars arrays drafts → length arrays ≡ length vars
+one-each [] [] [] h = refl
+one-each (var ∷ vars) (array ∷ arrays) (d ∷ drafts) h = ap suc (one-each vars arrays drafts h.1)
+one-each _ _ _ h = absurd h
 
-pub listed_count : (dims : List Dim) (d : Draft) → length (listed_of dims d) / size_of d.var.ty ≡ length (listed_values dims d)
-listed_count dims d = ap (λ n. n / size_of d.var.ty) (length-numbers d.var.ty (listed_values dims d)) ∙ mul-div_cancel (length (listed_values dims d)) (some_size d.var.ty)
+pub listed_count : (d : Draft) → length (listed_of d) / size_of d.var.ty ≡ length (listed_values d)
+listed_count d = ap (λ n. n / size_of d.var.ty) (length-numbers d.var.ty (listed_values d)) ∙ mul-div_cancel (length (listed_values d)) (some_size d.var.ty)
 
 -- ---- over all variables
 
@@ -51,17 +51,17 @@ max_zero : (a b : ℕ) → max a b ≡ max a (max 0 b)
 max_zero a b = omega arith
 
 pub with_all_is : (dims : List Dim) (drafts : List Draft) (e : Extent) →
-    with_all dims (Some e) (map var_of drafts) (map (listed_of dims) drafts) ≡ reached (list_all (has_small dims) drafts) (max e.records (records_in dims drafts)) (max e.widest (widest_in dims drafts))
+    with_all dims (Some e) (map var_of drafts) (map listed_of drafts) ≡ reached (list_all (has_small dims) drafts) (max e.records (records_in dims drafts)) (max e.widest (widest_in dims drafts))
 with_all_is dims [] e = search rules
 with_all_is dims (d ∷ drafts) e =
     ap (λ n. with_all dims (if has_small dims d then Some (if is_record_var dims d.var then record {
       records = max e.records (records_for (slab_count dims d.var) n);
       widest = max e.widest (slab_size dims d.var);
-    } else e) else None) (map var_of drafts) (map (listed_of dims) drafts)) (listed_count dims d) ∙
+    } else e) else None) (map var_of drafts) (map listed_of drafts)) (listed_count d) ∙
     by (has_small dims d) (is_record_var dims d.var) (with_all_is dims drafts)
   where
     n : ℕ
-    n = records_for (slab_count dims d.var) (length (listed_values dims d))
+    n = records_for (slab_count dims d.var) (length (listed_values d))
 
     w : ℕ
     w = slab_size dims d.var
@@ -69,8 +69,8 @@ with_all_is dims (d ∷ drafts) e =
     rest : Extent → Option Extent
     rest f = reached (list_all (has_small dims) drafts) (max f.records (records_in dims drafts)) (max f.widest (widest_in dims drafts))
 
-    by : (small growing : Bool) → ((f : Extent) → with_all dims (Some f) (map var_of drafts) (map (listed_of dims) drafts) ≡ rest f) →
-        with_all dims (if small then Some (if growing then record { records = max e.records n; widest = max e.widest w } else e) else None) (map var_of drafts) (map (listed_of dims) drafts) ≡
+    by : (small growing : Bool) → ((f : Extent) → with_all dims (Some f) (map var_of drafts) (map listed_of drafts) ≡ rest f) →
+        with_all dims (if small then Some (if growing then record { records = max e.records n; widest = max e.widest w } else e) else None) (map var_of drafts) (map listed_of drafts) ≡
         reached (small && list_all (has_small dims) drafts) (max e.records (max (if growing then n else 0) (records_in dims drafts))) (max e.widest (max (if growing then w else 0) (widest_in dims drafts)))
     by false growing more = refl
     by true true more =
@@ -119,7 +119,7 @@ records_are dims drafts shaped = search (rules, within_wide, some_wide)
 abbrev pub nothing : Extent
 nothing = record { records = 0; widest = 0 }
 
-from_nothing : (dims : List Dim) (vars : List Var) (arrays : List (List ℕ)) (drafts : List Draft) → AllList dims vars arrays drafts →
+from_nothing : (dims : List Dim) (vars : List Var) (arrays : List (List ℕ)) (drafts : List Draft) → AllList vars arrays drafts →
     with_all dims (Some nothing) vars arrays ≡ (if list_all (has_small dims) drafts then Some (reach dims drafts) else None)
 from_nothing dims vars arrays drafts lists = search (rules, all_are, with_all_is, reached)
 
@@ -128,10 +128,10 @@ kept_is : (dims : List Dim) (drafts : List Draft) →
 kept_is dims drafts = grind (arith, all_small dims (records_in dims drafts) drafts)
 
 -- a slab passes the limit
-pub none_kept : (dims : List Dim) (vars : List Var) (arrays : List (List ℕ)) (drafts : List Draft) → AllList dims vars arrays drafts → with_all dims (Some nothing) vars arrays ≡ None → records_kept dims drafts ≡ None
+pub none_kept : (dims : List Dim) (vars : List Var) (arrays : List (List ℕ)) (drafts : List Draft) → AllList vars arrays drafts → with_all dims (Some nothing) vars arrays ≡ None → records_kept dims drafts ≡ None
 none_kept dims vars arrays drafts lists none = search (rules, all_small, all_are, with_all_is, reached)
 
-pub some_kept : (dims : List Dim) (vars : List Var) (arrays : List (List ℕ)) (drafts : List Draft) (e : Extent) → AllList dims vars arrays drafts → AreShaped dims drafts → with_all dims (Some nothing) vars arrays ≡ Some e →
+pub some_kept : (dims : List Dim) (vars : List Var) (arrays : List (List ℕ)) (drafts : List Draft) (e : Extent) → AllList vars arrays drafts → AreShaped dims drafts → with_all dims (Some nothing) vars arrays ≡ Some e →
     records_within e ≡ records_kept dims drafts
 some_kept dims vars arrays drafts e lists shaped is =
     by (list_all (has_small dims) drafts) (sym (from_nothing dims vars arrays drafts lists) ∙ is) ∙ sym (kept_is dims drafts)
@@ -142,7 +142,7 @@ some_kept dims vars arrays drafts e lists shaped is =
     by false h = cc
 
 -- each slab has a value
-pub each_some : (dims : List Dim) (vars : List Var) (arrays : List (List ℕ)) (drafts : List Draft) → AllList dims vars arrays drafts → AreShaped dims drafts → All (λ (var : Var). 0 < slab_count dims var) vars
+pub each_some : (dims : List Dim) (vars : List Var) (arrays : List (List ℕ)) (drafts : List Draft) → AllList vars arrays drafts → AreShaped dims drafts → All (λ (var : Var). 0 < slab_count dims var) vars
 each_some dims [] [] [] lists shaped = All-nil (λ (var : Var). 0 < slab_count dims var)
 each_some dims (var ∷ vars) (array ∷ arrays) (d ∷ drafts) lists shaped =
     search (rules, All-cons, some_count, All-head, All-tail, each_some dims vars arrays drafts lists.1 (All-tail (λ (e : Draft). AreDimids dims [] e.var.dimids) d drafts shaped))

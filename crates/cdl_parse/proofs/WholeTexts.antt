@@ -5,16 +5,16 @@ use Rattle.cdl_parse.proofs.DraftNames.{unlisted_names}
 use Rattle.cdl_statements.specs.declared.fault.CdlFault.{CdlFault}
 
 -- of no variable anything is listed
-pub none_listed : (dims : List Dim) (vars : List Var) → AllList dims vars (replicate (length vars) []) (unlisted_drafts vars)
-none_listed dims [] = tt
-none_listed dims (var ∷ vars) = (record { is = refl; bytes = refl }, none_listed dims vars)
+pub none_listed : (vars : List Var) → AllList vars (replicate (length vars) []) (unlisted_drafts vars)
+none_listed [] = tt
+none_listed (var ∷ vars) = (record { is = refl; bytes = refl }, none_listed vars)
 
 -- neither before the data section nor in it
 pub past_values : (section : Section) → is_early section ≡ false → (section ≡ Values → ⊥) → is_over section ≡ true
 past_values section h h2 = grind arith
 
 -- what is listed changes no shape
-pub listed_shapes : (dims : List Dim) (vars : List Var) (arrays : List (List ℕ)) (drafts : List Draft) → AllList dims vars arrays drafts → AreShaped dims (unlisted_drafts vars) → AreShaped dims drafts
+pub listed_shapes : (dims : List Dim) (vars : List Var) (arrays : List (List ℕ)) (drafts : List Draft) → AllList vars arrays drafts → AreShaped dims (unlisted_drafts vars) → AreShaped dims drafts
 listed_shapes dims [] [] [] h are = λ k d inside. are k d inside
 listed_shapes dims (var ∷ vars) (a ∷ arrays) (d ∷ drafts) h are =
     All-cons (λ (d : Draft). AreDimids dims [] d.var.dimids) d drafts

@@ -43,12 +43,12 @@ are_bytes _ h _ = grind arith
 -- ---- arrays
 
 -- what is listed has room over the records
-listed_fits : (dims : List Dim) (r : ℕ) (d : Draft) → AreDimids dims [] d.var.dimids → IsFit dims d → records_of dims d ≤ r → length (listed_values dims d) ≤ value_count dims d.var r
+listed_fits : (dims : List Dim) (r : ℕ) (d : Draft) → AreDimids dims [] d.var.dimids → IsFit dims d → records_of dims d ≤ r → length (listed_values d) ≤ value_count dims d.var r
 listed_fits dims r d shape fit h = by (is_record_var dims d.var) refl
   where
-    by : (growing : Bool) → is_record_var dims d.var ≡ growing → length (listed_values dims d) ≤ slab_count dims d.var * (if growing then r else 1)
+    by : (growing : Bool) → is_record_var dims d.var ≡ growing → length (listed_values d) ≤ slab_count dims d.var * (if growing then r else 1)
     by true is = grind (arith, some_count dims d.var.dimids shape, lt-div-mul-add, mul-le-mul_left, mul_comm)
-    by false is = let few = fit.within is d.var.atts in omega (arith, few)
+    by false is = let few = fit.within is in omega (arith, few)
 
 array_is : (dims : List Dim) (r : ℕ) (d : Draft) → AreDimids dims [] d.var.dimids → IsFit dims d → value_count dims d.var r * size_of d.var.ty ≤ array_limit → records_of dims d ≤ r → IsArray dims r d.var (array_of dims r d)
 array_is dims r d shape fit small h = search (rules, filled, length-numbers, filled_len, listed_fits, are_bytes, numbers_bytes)

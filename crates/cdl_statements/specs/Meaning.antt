@@ -14,7 +14,7 @@ use Rattle.cdl_statements.specs.Pieces.{statements}
 use Rattle.cdl_statements.specs.declared.{fault.CdlFault.CdlFault, fault.CdlKind.CdlKind, section.Section.TheVariants.Unopened}
 use Rattle.cdl_statements.specs.declared.fault.CdlKind.TheVariants.{Syntax, TooLarge}
 use Rattle.cdl_tokens.specs.declared.token.Token.{Token}
-use Rattle.cdl_statements.specs.State.{State, Draft, act, listable_of, filled, values_in}
+use Rattle.cdl_statements.specs.State.{State, Draft, act, filled}
 
 -- ---- statements
 
@@ -44,13 +44,13 @@ empty = record { section = Unopened; dims = []; gatts = []; drafts = [] }
 
 -- ---- arrays
 
-abbrev pub listed_values : List Dim → Draft → List ℤ
-listed_values dims d = elim d.listed [ None ↦ [] | Some listing ↦ values_in (listable_of dims d.var) listing ]
+abbrev pub listed_values : Draft → List ℤ
+listed_values d = elim d.listed [ None ↦ [] | Some values ↦ values ]
 
 -- how many records hold the values of one variable
 abbrev pub records_of : List Dim → Draft → ℕ
 records_of dims d =
-    if is_record_var dims d.var then (length (listed_values dims d) + slab_count dims d.var - 1) / slab_count dims d.var else 0
+    if is_record_var dims d.var then (length (listed_values d) + slab_count dims d.var - 1) / slab_count dims d.var else 0
 
 abbrev pub records_in : List Dim → List Draft → ℕ
 records_in dims [] = 0
@@ -58,7 +58,7 @@ records_in dims (d ∷ ds) = max (records_of dims d) (records_in dims ds)
 
 -- the array of a variable over n records: what is listed, and then fill values
 abbrev pub array_of : List Dim → ℕ → Draft → Bytes
-array_of dims n d = flat_map (bytes_of_number d.var.ty) (filled (value_count dims d.var n) (fill_value d.var) (listed_values dims d))
+array_of dims n d = flat_map (bytes_of_number d.var.ty) (filled (value_count dims d.var n) (fill_value d.var) (listed_values d))
 
 abbrev pub header_of : Version → State → Header
 header_of v s = record {

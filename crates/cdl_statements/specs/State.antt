@@ -1,6 +1,6 @@
 -- Definition. The dataset so far, and what each statement makes of it. A fault is the first from the left.
-use Rattle.std.specs.Prelude.{ℕ, ℤ, pos, neg_ℤ, Bool, true, false, List, [], ◌∷◌, ◌++◌, ◌+◌, ◌-◌, ◌^◌, ◌&&◌, ◌||◌, ◌==◌, not, nat_lt, nat_le, if◌then◌else◌, length, take, codes, map, replicate, find, Option, None, Some, is_some, Result, Ok, Err, ⊤, int_le, unsigned_abs}
-use Rattle.std.specs.List.{flat_map, list_any, position}
+use Rattle.std.specs.Prelude.{ℕ, ℤ, pos, neg_ℤ, Bool, true, false, List, [], ◌∷◌, ◌++◌, ◌+◌, ◌-◌, ◌^◌, ◌&&◌, ◌||◌, ◌==◌, not, nat_lt, nat_le, if◌then◌else◌, length, codes, map, replicate, find, Option, None, Some, is_some, Result, Ok, Err, ⊤, int_le, unsigned_abs}
+use Rattle.std.specs.List.{list_any, position}
 use Rattle.std.specs.Option.{ok_or}
 use Rattle.std.specs.Ordering.{int_eq}
 use Rattle.std.specs.Str.{bytes_eq}
@@ -9,7 +9,7 @@ use mir.Val.{bits, hbits}
 use Rattle.nc_base.specs.declared.{header.Att.Att, header.Dim.Dim, header.Var.Var, nc_type.NcType.NcType, version.Version.Version}
 use Rattle.nc_base.specs.declared.nc_type.NcType.TheVariants.{Char, Int}
 use Rattle.nc_base.specs.Fill.{fill_value}
-use Rattle.nc_base.specs.Sizes.{has_record_dim, dim_len, is_record_dim, is_record_var, product, slab_count}
+use Rattle.nc_base.specs.Sizes.{has_record_dim, is_record_dim, is_record_var, slab_count}
 use Rattle.nc_base.specs.Names.{is_name}
 use Rattle.nc_base.specs.Numbers.{bytes_of_number}
 use Rattle.nc_base.specs.Types.{all_types, code_of, type_word, width_of, is_signed}
@@ -21,18 +21,10 @@ use Rattle.cdl_statements.specs.declared.{fault.CdlKind.CdlKind, section.Section
 use Rattle.cdl_statements.specs.declared.fault.CdlKind.TheVariants.{BadName, DuplicateName, UnknownDimension, UnknownVariable, FloatingType, UnknownType, ZeroDimension, TwoRecordDims, BadShape, MixedConstants, NumberRange, WrongKind, TooManyValues, StringTooLong, DuplicateData}
 use Rattle.cdl_statements.specs.declared.section.Section.TheVariants.{Globals, Closed, Ended}
 
--- what is listed of a variable
-pub data Listing : Type 0 where
-  Numbers : (values : List ℤ) → Listing
-  -- strings one after the other: at rank 0 or 1
-  Joined : (bytes : Bytes) → Listing
-  -- a string a row: at rank 2 and up
-  Rows : (rows : List Bytes) → Listing
-
--- a variable, and what the data section has listed of it so far
+-- a variable, and its values if the data section has listed them
 pub record Draft : Type 0 where
   pub var : Var
-  pub listed : Option Listing
+  pub listed : Option (List ℤ)
 
 pub record State : Type 0 where
   pub section : Section
@@ -166,80 +158,61 @@ with_att name cs d = do
 
 -- ---- data
 
--- what a variable takes
-pub record Listable : Type 0 where
-  pub ty : NcType
-  pub fill : ℤ
-  -- a record variable takes any number of values
-  pub is_open : Bool
-  -- how many values a slab has: all values, unless it is a record variable
-  pub count : ℕ
-  -- the rank is 2 or more
-  pub in_rows : Bool
-  -- if in_rows: how many rows there are (0 for a record variable, which is open)
-  pub rows : ℕ
-  -- if in_rows: how many values a row has
-  pub row : ℕ
+-- in which form a variable takes values
+pub data Takes : Type 0 where
+  -- numbers of a type; `_` stands for the fill value
+  Numbers : (ty : NcType) (fill : ℤ) → Takes
+  -- characters at rank 0 and 1: strings one after the other
+  Joined : Takes
+  -- characters at rank 2 and up: a string a row, which is filled up to the row's length
+  Rows : (len : ℕ) (fill : ℤ) → Takes
 
-unfoldable pub listable_of : List Dim → Var → Listable
-listable_of dims var = record {
-  ty = var.ty;
-  fill = fill_value var;
-  is_open = is_record_var dims var;
-  count = slab_count dims var;
-  in_rows = not (nat_lt (length var.dimids) 2);
-  rows = product (map (dim_len dims) (take (length var.dimids - 1) var.dimids));
-  -- (at rank 0 and 1, where it isn't used, this is 0)
-  row = row_len dims var.dimids 0;
-}
+unfoldable pub takes_of : List Dim → Var → Takes
+takes_of dims var =
+    if not (is_char var.ty) then Numbers var.ty (fill_value var)
+    else if nat_lt (length var.dimids) 2 then Joined
+    else Rows (row_len dims var.dimids 0) (fill_value var)
 
-abbrev pub add_number : Listable → List ℤ → Value → Result (List ℤ) CdlKind
-add_number listable before (Characters bytes) = Err WrongKind
-add_number listable before Underscore = do
-  _ ← unless (listable.is_open || nat_lt (length before) listable.count) TooManyValues
-  Ok (before ++ listable.fill ∷ [])
-add_number listable before (Number n) = do
-  _ ← unless (listable.is_open || nat_lt (length before) listable.count) TooManyValues
-  _ ← unless (has_number listable.ty n.value) NumberRange
-  Ok (before ++ n.value ∷ [])
+-- how many values a variable takes; None: any number, since it is a record variable
+abbrev pub room_of : List Dim → Var → Option ℕ
+room_of dims var = if is_record_var dims var then None else Some (slab_count dims var)
 
-abbrev pub add_characters : Listable → Bytes → Value → Result Bytes CdlKind
-add_characters listable before (Characters bytes) = do
-  _ ← unless (listable.is_open || nat_le (length before + length bytes) listable.count) StringTooLong
-  Ok (before ++ bytes)
-add_characters listable before _ = Err WrongKind
-
-abbrev pub add_row : Listable → List Bytes → Value → Result (List Bytes) CdlKind
-add_row listable before (Characters bytes) = do
-  _ ← unless (listable.is_open || nat_lt (length before) listable.rows) TooManyValues
-  _ ← unless (nat_le (length bytes) listable.row) StringTooLong
-  Ok (before ++ bytes ∷ [])
-add_row listable before _ = Err WrongKind
-
-abbrev pub listed_by : {A : Type 0} → (List A → Value → Result (List A) CdlKind) → (List A → Listing) → List Value → Result Listing CdlKind
-listed_by add listing values = in_turn add [] values >>= (λ items. Ok (listing items))
-
-unfoldable pub listing_of : Listable → List Value → Result Listing CdlKind
-listing_of listable values =
-    if is_char listable.ty
-    then (if listable.in_rows then listed_by (add_row listable) Rows values else listed_by (add_characters listable) Joined values)
-    else listed_by (add_number listable) Numbers values
+-- the room takes n values after these
+abbrev pub has_room : Option ℕ → List ℤ → ℕ → Bool
+has_room None before n = true
+has_room (Some room) before n = nat_le (length before + n) room
 
 -- the values, and fill values up to n in all
 abbrev pub filled : ℕ → ℤ → List ℤ → List ℤ
 filled n fill values = values ++ replicate (n - length values) fill
 
--- what a listing lists; each row is filled up
-abbrev pub values_in : Listable → Listing → List ℤ
-values_in listable (Numbers values) = values
-values_in listable (Joined bytes) = map pos bytes
-values_in listable (Rows rows) = flat_map (λ bytes. filled listable.row listable.fill (map pos bytes)) rows
+-- appends what a VALUE lists
+abbrev pub add_value : Takes → Option ℕ → List ℤ → Value → Result (List ℤ) CdlKind
+add_value (Numbers ty fill) room before Underscore = do
+  _ ← unless (has_room room before 1) TooManyValues
+  Ok (before ++ fill ∷ [])
+add_value (Numbers ty fill) room before (Number n) = do
+  _ ← unless (has_room room before 1) TooManyValues
+  _ ← unless (has_number ty n.value) NumberRange
+  Ok (before ++ n.value ∷ [])
+add_value Joined room before (Characters bytes) = do
+  _ ← unless (has_room room before (length bytes)) StringTooLong
+  Ok (before ++ map pos bytes)
+add_value (Rows len fill) room before (Characters bytes) = do
+  _ ← unless (has_room room before len) TooManyValues
+  _ ← unless (nat_le (length bytes) len) StringTooLong
+  Ok (before ++ filled len fill (map pos bytes))
+add_value takes room before value = Err WrongKind
+
+-- the values that a statement lists of a variable
+abbrev pub values_listed : List Dim → Var → List Value → Result (List ℤ) CdlKind
+values_listed dims var values = in_turn (add_value (takes_of dims var) (room_of dims var)) [] values
 
 abbrev pub with_values : List Dim → List Value → Draft → Result Draft CdlKind
 with_values dims values d = do
   _ ← when (is_some d.listed) DuplicateData
-  listing ← listing_of (listable_of dims d.var) values
-  Ok (record d { listed = Some listing })
+  listed ← values_listed dims d.var values
+  Ok (record d { listed = Some listed })
 
 -- ---- statements
 

@@ -1,12 +1,13 @@
 -- A statement has fewer values than the greatest capacity, so that stands for all from there on.
-use Rattle.std.proofs.Common.{◌≡◌, ℕ, zero, suc, ◌+◌, ◌-◌, ◌≤◌, Bool, List, [], ◌∷◌, length, map, drop, refl, ap, arith, Option, Result, ◌&&◌, is_none, min, rules}
-use Rattle.cdl_values.proofs.Prelude.{Version, values, words, pieces_left, text_of, first_piece, Lexeme, followed, Value, Cutter, CdlKind, TokenKind, Capacity, AtMost, Unlimited, listing_of, Fills, HasCapacity, as_bytes, capacity_for, most, packed, Fill, Filling, Numbers, Rows}
-use Rattle.cdl_statements.specs.State as states
+use Rattle.std.proofs.Common.{◌≡◌, ℕ, zero, suc, ◌+◌, ◌-◌, ◌≤◌, Bool, List, [], ◌∷◌, length, map, drop, refl, sym, ap, ◌∙◌, arith, Option, Result, ◌&&◌, is_none, min, rules}
+use Rattle.cdl_values.proofs.Prelude.{Version, values, words, pieces_left, text_of, first_piece, Lexeme, followed, Value, Cutter, CdlKind, TokenKind, Capacity, AtMost, Unlimited, Dim, room_of, takes_of, values_listed, positions_in, taken_type, Fills, HasCapacity, as_bytes, capacity_for, most, packed, Fill, Filling, Numbers, Rows}
 use Rattle.cdl_statements.specs.Pieces.{first_role, pieces_after, step, with_first}
 use Rattle.cdl_tokens.specs.Scan.{scan}
 use Rattle.cdl_tokens.specs.Tokens.{tokens_at, with_token}
 use Rattle.cdl_statements.specs.declared.{piece.CutState.CutState, piece.Role.Role}
 use Rattle.cdl_tokens.specs.declared.token.Token.{Token}
+use Rattle.nc_base.specs.declared.header.Var.{Var}
+use Rattle.cdl_values.proofs.Places.{positions_room}
 use Rattle.cdl_values.proofs.Turns.{all_turns}
 
 -- ---- how many values a statement has
@@ -74,6 +75,8 @@ same : (f : Filling) (m : ℕ) (xs : List Value) → length xs ≤ most → pack
 same f m xs h = grind (arith, capped, numbers_same, rows_same)
 
 -- the values of a variable with this capacity
-pub all_taken : (f : Filling) (capacity : Capacity) (r : states.Listable) (xs : List Value) → Fills f r → HasCapacity f capacity r → length xs ≤ most → as_bytes r (listing_of r xs) ≡ packed f capacity xs
-all_taken f Unlimited r xs h takes few = all_turns f Unlimited r xs h takes
-all_taken f (AtMost n) r xs h takes few = grind (arith, all_turns f, same f)
+pub all_taken : (f : Filling) (capacity : Capacity) (dims : List Dim) (var : Var) (xs : List Value) → Fills f (takes_of dims var) → HasCapacity f capacity dims var → length xs ≤ most →
+    as_bytes (taken_type f) (values_listed dims var xs) ≡ packed f capacity xs
+all_taken f Unlimited dims var xs h is few = all_turns f (takes_of dims var) h Unlimited (room_of dims var) xs (grind (arith, is))
+all_taken f (AtMost n) dims var xs h has few =
+    all_turns f (takes_of dims var) h (AtMost (positions_in f dims var)) (room_of dims var) xs (positions_room f dims var h has.0) ∙ same f (positions_in f dims var) xs few ∙ ap (λ m. packed f (AtMost m) xs) (sym has.1)

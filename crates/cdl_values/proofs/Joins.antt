@@ -1,10 +1,11 @@
 -- What a statement of the data section means is what its state lists.
-use Rattle.std.proofs.Common.{◌≡◌, ℕ, suc, ◌≤◌, arith, Bool, true, false, List, [], ◌∷◌, ◌++◌, length, refl, ap, ◌∙◌, length-append, append_assoc, Option, None, Some, Result, Ok, Err, if◌then◌else◌, slice_get, drop, rules}
-use Rattle.cdl_values.proofs.Prelude.{flat_map, position_from, bytes_eq, length-drop, bytes_of_number, Dim, Version, values, completes, next, word_value, Lexeme, is_mark, Listed, first_bad, shape, CdlKind, Syntax, UnknownVariable, fine_on, State, Draft, Listing, listable_of, change_named, change_variable, values_in, with_values, act, data_read, bytes_assigned, target_of, target_at, unless_given, packed_for, unless_bad, AllSuit, names_of, HasListed, Means, begins_brace, ReadsStatement, result_array, GivesRead, ReadError, as_bytes, most, Target}
+use Rattle.std.proofs.Common.{◌≡◌, ℕ, ℤ, suc, ◌≤◌, sym, arith, Bool, true, false, List, [], ◌∷◌, ◌++◌, length, refl, ap, ◌∙◌, length-append, append_assoc, Option, None, Some, Result, Ok, Err, if◌then◌else◌, slice_get, drop, rules}
+use Rattle.cdl_values.proofs.Prelude.{flat_map, position_from, bytes_eq, length-drop, bytes_of_number, Dim, Version, values, completes, next, word_value, Lexeme, is_mark, Listed, first_bad, shape, CdlKind, Syntax, UnknownVariable, fine_on, State, Value, Draft, Filling, Fills, Suits, packed, takes_of, taken_type, values_listed, change_named, change_variable, with_values, act, data_read, bytes_assigned, target_of, target_at, unless_given, packed_for, unless_bad, AllSuit, names_of, HasListed, Means, begins_brace, ReadsStatement, result_array, GivesRead, ReadError, as_bytes, most, Target}
 use Rattle.cdl_statements.specs.declared.due.Due.TheVariants as dues
 use Rattle.cdl_statements.specs.declared.section.Section.TheVariants.{Values}
 use Rattle.cdl_statements.proofs.Sections.{data_is}
 use Rattle.cdl_statements.proofs.Readings.{checked, shaped}
+use Rattle.nc_base.specs.declared.header.Var.{Var}
 use Rattle.cdl_statements.specs.Meaning.{piece_read}
 use Rattle.cdl_statements.specs.State.{◌>>=◌}
 use Rattle.cdl_values.proofs.Counts.{all_taken, values_len}
@@ -27,34 +28,38 @@ found_from dims pre (t ∷ ts) (d ∷ ds) name h =
 found_from dims pre _ _ name h = absurd h
 
 -- one draft
-listed_ty : (dims : List Dim) (d : Draft) → d.var.ty ≡ (listable_of dims d.var).ty
-unfolding listable_of
-listed_ty dims d = refl
+listed_ty : (dims : List Dim) (var : Var) (f : Filling) → Fills f (takes_of dims var) → taken_type f ≡ var.ty
+unfolding takes_of
+listed_ty dims var f h = grind (arith, h)
 
-one_listed : (dims : List Dim) (d : Draft) (l : Result Listing CdlKind) (p : Result (List ℕ) CdlKind) → as_bytes (listable_of dims d.var) l ≡ p →
+one_listed : (d : Draft) (l : Result (List ℤ) CdlKind) (p : Result (List ℕ) CdlKind) → as_bytes d.var.ty l ≡ p →
     (name : List ℕ) (ds : List Draft) → bytes_eq d.var.name name ≡ true →
-    HasListed dims name (d ∷ ds) p (l >>= (λ xs. Ok (record d { listed = Some xs })) >>= (λ e. Ok (e ∷ ds)))
-one_listed dims d (Ok xs) (Ok bs) is name ds same =
-    let r = listable_of dims d.var in
-    (xs, rw (same) (ap (λ t. flat_map (bytes_of_number t) (values_in r xs)) (listed_ty dims d) ∙ (let e : flat_map (bytes_of_number r.ty) (values_in r xs) ≡ bs = cc in e)), rw (same) refl)
-one_listed dims d (Err e) (Err g) is name ds same = let f : e ≡ g = cc in ap Err f
-one_listed dims d _ _ is name ds same = cc
+    HasListed name (d ∷ ds) p (l >>= (λ xs. Ok (record d { listed = Some xs })) >>= (λ e. Ok (e ∷ ds)))
+one_listed d (Ok xs) (Ok bs) is name ds same = (xs, rw (same) (let e : flat_map (bytes_of_number d.var.ty) xs ≡ bs = cc in e), rw (same) refl)
+one_listed d (Err e) (Err g) is name ds same = let f : e ≡ g = cc in ap Err f
+one_listed d _ _ is name ds same = cc
+
+-- the values of one draft
+draft_taken : (dims : List Dim) (t : Target) (d : Draft) (xs : List Value) → Suits dims t d → length xs ≤ most → as_bytes d.var.ty (values_listed dims d.var xs) ≡ packed t.filling t.capacity xs
+draft_taken dims t d xs suits few =
+    ap (λ ty. as_bytes ty (values_listed dims d.var xs)) (sym (listed_ty dims d.var t.filling suits.fills)) ∙
+    all_taken t.filling t.capacity dims d.var xs suits.fills suits.takes few
 
 at_target : (v : Version) (dims : List Dim) (ts : List Target) (ds : List Draft) (name : List ℕ) (ws : List Lexeme) → AllSuit dims ts ds → length (values v ws) ≤ most →
-    HasListed dims name ds (packed_for v ws (named (names_of ds) ts name)) (change_named name (with_values dims (values v ws)) ds)
+    HasListed name ds (packed_for v ws (named (names_of ds) ts name)) (change_named name (with_values dims (values v ws)) ds)
 unfolding named
 at_target v dims [] [] name ws h few = refl
 at_target v dims (t ∷ ts) (d ∷ ds) name ws h few =
-    search (rules, values, one_listed, all_taken, named, at_target v dims ts ds name ws h.1 few)
+    search (rules, values, one_listed, draft_taken, named, at_target v dims ts ds name ws h.1 few)
 at_target v dims _ _ name ws h few = absurd h
 
 -- by its name
 at_name : (v : Version) (dims : List Dim) (ts : List Target) (ds : List Draft) (name : List ℕ) (ws : List Lexeme) → AllSuit dims ts ds → length (values v ws) ≤ most →
-    HasListed dims name ds (packed_for v ws (target_of (names_of ds) ts name)) (change_variable name (with_values dims (values v ws)) ds)
+    HasListed name ds (packed_for v ws (target_of (names_of ds) ts name)) (change_variable name (with_values dims (values v ws)) ds)
 unfolding change_variable
 at_name v dims ts ds name ws h few = grind (arith, values v ws, found_from dims [] ts ds name h, at_target v dims ts ds name ws h few)
 
-acted : (s : State) (name : List ℕ) (p : Result (List ℕ) CdlKind) (after : Result (List Draft) CdlKind) → HasListed s.dims name s.drafts p after → (v : Version) (l : Lexeme) (ls : List Lexeme) → word_value l.bytes ≡ name →
+acted : (s : State) (name : List ℕ) (p : Result (List ℕ) CdlKind) (after : Result (List Draft) CdlKind) → HasListed name s.drafts p after → (v : Version) (l : Lexeme) (ls : List Lexeme) → word_value l.bytes ≡ name →
     piece_read v s (l ∷ ls) ≡ (after >>= (λ ds. Ok (record s { drafts = ds }))) → Means v s (l ∷ ls) p
 acted s name p after h v l ls h2 h3 = grind arith
 

@@ -54,8 +54,11 @@ pub token_packed : (version : Version) (filling : Filling) (capacity left : Capa
 token_packed version filling capacity left l ls bs cs other adds counts = search (rules, over_value, one_packed, added, is_after)
 
 -- characters
+pub one_byte : (b : ℕ) → b < 256 → bytes_of_number Char (pos b) ≡ b ∷ []
+one_byte b h = search rules
+
 pub one_char : (b : ℕ) (bs : List ℕ) → b < 256 → char_bytes (b ∷ bs) ≡ b ∷ char_bytes bs
-one_char b bs h = ap (λ xs. xs ++ char_bytes bs) (let e : bytes_of_number Char (pos b) ≡ b ∷ [] = search rules in e)
+one_char b bs h = ap (λ xs. xs ++ char_bytes bs) (one_byte b h)
 
 pub chars_len : (bs : List ℕ) → length (char_bytes bs) ≡ length bs
 chars_len [] = refl

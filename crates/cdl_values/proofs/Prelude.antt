@@ -1,6 +1,6 @@
 -- The names that proofs of this crate cite from elsewhere, passed on from one place.
-pub use Rattle.cdl_statements.specs.State.{Draft, Listing, State, add_characters, add_constant, add_number, add_row, change_named, filled, in_turn, listed_by, same_type, type_said, unless, values_in, when, with_values}
-unfoldable pub use Rattle.cdl_statements.specs.State.{act, change_variable, listable_of, has_number, listing_of}
+pub use Rattle.cdl_statements.specs.State.{Draft, State, Takes, add_constant, add_value, change_named, filled, has_room, in_turn, room_of, same_type, type_said, unless, values_listed, when, with_values}
+unfoldable pub use Rattle.cdl_statements.specs.State.{act, change_variable, has_number, takes_of}
 pub use Rattle.cdl_statements.proofs.Dues.{fine_on, only_completes}
 pub use Rattle.cdl_statements.proofs.Listing.{past_mark}
 pub use Rattle.cdl_statements.proofs.NumberLists.{at_same_comma, same_after, same_words}
@@ -29,11 +29,11 @@ pub use Rattle.cdl_tokens.specs.code.Magnitudes.{held, word}
 pub use Rattle.cdl_tokens.specs.code.Scanners.{followed, is_unescaped, left}
 pub use Rattle.cdl_tokens.specs.declared.{numeral.Numeral.Numeral, token.TokenKind.TokenKind}
 pub use Rattle.cdl_values.specs.code.Answers.{Adds, ContinuesRead, FailsRead, GivesRead, Leaves}
-pub use Rattle.cdl_values.specs.code.Capacities.{Fills, HasCapacity, as_bytes, capacity_for, most, positions_in}
+pub use Rattle.cdl_values.specs.code.Capacities.{Fills, HasCapacity, as_bytes, capacity_for, most, positions_in, taken_type}
 pub use Rattle.cdl_values.specs.code.DataRead.{bytes_assigned, unless_given, packed_for, target_at, target_of, unless_bad}
 unfoldable pub use Rattle.cdl_values.specs.code.DataRead.{data_read}
 pub use Rattle.cdl_values.specs.code.Listed.{AreShaped, unlisted_draft, unlisted_drafts}
-pub use Rattle.cdl_values.specs.code.Meant.{AllSuit, HasListed, Means, ReadsStatement, Suits, begins_brace, listing_bytes, names_of, result_array, with_listing}
+pub use Rattle.cdl_values.specs.code.Meant.{AllSuit, HasListed, Means, ReadsStatement, Suits, begins_brace, listed_bytes, names_of, result_array, with_listed}
 pub use Rattle.cdl_values.specs.code.NameIndices.{IsIndex, first_with_hash, hash_of, is_new, later_position, position_of, unless_first}
 unfoldable pub use Rattle.cdl_values.specs.code.NameIndices.{hash_on}
 pub use Rattle.cdl_values.specs.declared.{capacity.Capacity.Capacity, name_index.NameIndex.NameIndex, data.Given.Given, data.Target.Target, fill.Fill.Fill, filling.Filling.Filling, read_error.ReadError.ReadError}

@@ -1,7 +1,7 @@
 -- Targets that suit a state's drafts: the premises of the data section's reader can be met.
 use Rattle.std.proofs.Common.{List, [], ◌∷◌, false, rules, ◌^◌, ◌-◌, codes, None, pos, neg_ℤ}
 use Rattle.nc_base.specs.Fill.{fill_value}
-use Rattle.cdl_values.proofs.Prelude.{Dim, Int, Char, Draft, listable_of, has_number, AllSuit, AtMost, Target, Fill, Numbers, Joined, Rows}
+use Rattle.cdl_values.proofs.Prelude.{Dim, Int, Char, Draft, takes_of, has_number, AllSuit, AtMost, Target, Fill, Numbers, Joined, Rows}
 
 dims : List Dim
 dims = record { name = codes "n"; len = 2 } ∷ record { name = codes "k"; len = 3 } ∷ record { name = codes "w"; len = 2 ^ 40 } ∷ []
@@ -25,5 +25,5 @@ targets =
     record { filling = Numbers int_fill; capacity = AtMost (2 ^ 64 - 1); given = false } ∷ []
 
 suited : AllSuit dims targets drafts
-unfolding dims drafts int_fill targets listable_of fill_value
+unfolding dims drafts int_fill targets takes_of fill_value
 suited = search rules

@@ -4,7 +4,7 @@ ghost use Rattle.std.specs.Prelude.{◌≡◌, ◌<◌, ◌-◌, ◌*◌, [], mi
 ghost use Rattle.nc_base.specs.Headers.{AreDimids};
 ghost use Rattle.nc_base.specs.Sizes.{dim_len, product};
 ghost use Rattle.nc_base.specs.declared.nc_type.NcType.TheVariants.{Char};
-ghost use Rattle.cdl_statements.specs.State.{listable_of};
+ghost use Rattle.cdl_statements.specs.State.{takes_of};
 ghost use Rattle.cdl_values.specs.code.Capacities.{Fills, HasCapacityAsFilled, most};
 ghost use Rattle.cdl_values.specs.code.Listed.{unlisted_draft};
 ghost use Rattle.cdl_values.specs.code.Meant.{SuitVariables, Suits};
@@ -51,7 +51,7 @@ fn target(dims: &[Dim], var: &Var) -> Target
 /// Returns the [`Filling`] of a variable, which is not its fill value but the form in which it takes the values that the data section lists
 /// for it: strings if its type is char, otherwise numbers of its type.
 fn filling(dims: &[Dim], var: &Var) -> Filling
-    ensures { AreDimids dims.now [] var.now.dimids → Fills result (listable_of dims.now var.now) }
+    ensures { AreDimids dims.now [] var.now.dimids → Fills result (takes_of dims.now var.now) }
 {
     match var.ty {
         NcType::Char => characters(dims, var),
@@ -62,7 +62,7 @@ fn filling(dims: &[Dim], var: &Var) -> Filling
 /// Returns the [`Filling`] of a variable of the type char: joined strings at rank 0 and 1, otherwise a string for each row.
 fn characters(dims: &[Dim], var: &Var) -> Filling
     requires { var.now.ty ≡ Char }
-    ensures { AreDimids dims.now [] var.now.dimids → Fills result (listable_of dims.now var.now) }
+    ensures { AreDimids dims.now [] var.now.dimids → Fills result (takes_of dims.now var.now) }
 {
     let dimids = var.dimids.as_slice();
     if dimids.len() < 2 {
@@ -76,7 +76,7 @@ fn characters(dims: &[Dim], var: &Var) -> Filling
 
 /// Returns how many values a variable takes from the data section: numbers, bytes or rows, as its form `filling` counts them. A record
 /// variable has no limit.
-#[tactic(auto, unfolding(cdl_statements::specs::State::listable_of))]
+#[tactic(auto, unfolding(cdl_statements::specs::State::takes_of))]
 fn capacity(dims: &[Dim], var: &Var, filling: Filling) -> Capacity
     ensures { HasCapacityAsFilled dims.now var.now filling result }
 {

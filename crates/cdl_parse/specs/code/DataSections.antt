@@ -24,7 +24,7 @@ pub record IsInDataSection (vars : List Var) (names : List (List ℕ)) (targets 
   pub section : s.section ≡ Values
   pub named : names ≡ names_of s.drafts
   pub suit : AllSuit s.dims targets s.drafts
-  pub lists : AllList s.dims vars arrays s.drafts
+  pub lists : AllList vars arrays s.drafts
 
 -- the state is at the beginning of the data section of this text: these are the variables, their names and what they take
 pub record BeginsData (start : Cutter) (names : List (List ℕ)) (targets : List Target) (vars : List Var) (s : State) : Type 0 where
@@ -41,7 +41,7 @@ Closes start s (Err e) = FailsRead e (piece_read (version_of start) s (words sta
 
 -- the statement is the closing brace, and what is listed is these bytes; or it lists values, and afterwards the state stands so
 abbrev pub TakesStatement : Bool → List Var → Cutter → State → List Target → List (List ℕ) → Type 0
-TakesStatement true vars start s targets arrays = (piece_read (version_of start) s (words start) ≡ Ok (record s { section = Closed })) × AllList s.dims vars arrays s.drafts
+TakesStatement true vars start s targets arrays = (piece_read (version_of start) s (words start) ≡ Ok (record s { section = Closed })) × AllList vars arrays s.drafts
 TakesStatement false vars start s targets arrays = (ds : List Draft) × (piece_read (version_of start) s (words start) ≡ Ok (record s { drafts = ds })) × IsInDataSection vars (names_of s.drafts) targets arrays (record s { drafts = ds })
 
 -- the statement is taken, or it has the fault
@@ -57,7 +57,7 @@ ReadsNextStatement start names before after result =
 -- the bytes are listed of these variables, and the text is read on after the section, open or closed; or there is the fault
 abbrev pub ReadsData : List Var → Cutter → State → Result DataSection ParseError → Type 0
 ReadsData vars start s (Ok d) =
-    (ds : List Draft) × AllList s.dims vars d.arrays.items ds ×
+    (ds : List Draft) × AllList vars d.arrays.items ds ×
     (run (text_of start) (version_of start) s (pieces_left start) ≡ run (text_of start) (version_of start) (record s { section = if d.is_closed then Closed else Values; drafts = ds }) (pieces_left d.rest))
 ReadsData vars start s (Err e) = FailsAt e (run (text_of start) (version_of start) s (pieces_left start))
 

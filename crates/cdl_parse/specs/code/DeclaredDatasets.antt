@@ -25,4 +25,4 @@ or_too_large line None = Err (record { line = line; kind = TooLarge })
 -- such a state is finished as what is declared, or it is too large
 abbrev pub Finishes : Version → List Dim → List Att → List Var → List (List ℕ) → Option Declared → Type 0
 Finishes version dims gatts vars listed result =
-    (s : State) → s.dims ≡ dims → s.gatts ≡ gatts → AllList dims vars listed s.drafts → AreShaped dims s.drafts → (line : ℕ) → finished version line (Ok s) ≡ or_too_large line result
+    (s : State) → s.dims ≡ dims → s.gatts ≡ gatts → AllList vars listed s.drafts → AreShaped dims s.drafts → (line : ℕ) → finished version line (Ok s) ≡ or_too_large line result

@@ -49,4 +49,4 @@ extent_of dims vars listed = with_all dims (Some (record { records = 0; widest =
 
 -- the result is the number of records that are kept, if this is what is listed of the variables
 abbrev pub CountsRecords : List Dim → List Var → List (List ℕ) → Option ℕ → Type 0
-CountsRecords dims vars listed result = (drafts : List Draft) → AllList dims vars listed drafts → AreShaped dims drafts → result ≡ records_kept dims drafts
+CountsRecords dims vars listed result = (drafts : List Draft) → AllList vars listed drafts → AreShaped dims drafts → result ≡ records_kept dims drafts

@@ -29,7 +29,7 @@ fault_of (stops.Fault fault) = fault
 -- these bytes are listed of the variables, and the text is read on after that; or there is the fault
 abbrev pub ReadsValues : List Var → Cutter → State → Result Values ParseError → Type 0
 ReadsValues vars start s (Ok values) =
-    (drafts : List Draft) × AllList s.dims vars values.listed.items drafts ×
+    (drafts : List Draft) × AllList vars values.listed.items drafts ×
     (run (text_of start) (version_of start) s (pieces_left start) ≡ run (text_of start) (version_of start) (record s { section = values.section; drafts = drafts }) (pieces_left values.rest))
 ReadsValues vars start s (Err e) = FailsAt e (run (text_of start) (version_of start) s (pieces_left start))
 
@@ -49,7 +49,7 @@ ReadsAsDefined start dims vars names section result = (s : State) → s.section 
 pub record AreContentsOf (c : Contents) (s : State) : Type 0 where
   pub dims : s.dims ≡ c.dims
   pub gatts : s.gatts ≡ c.gatts
-  pub listed : AllList c.dims c.vars c.listed.items s.drafts
+  pub listed : AllList c.vars c.listed.items s.drafts
   pub shaped : AreShaped c.dims s.drafts
 
 -- the text is read to its end, with these contents; or there is the fault

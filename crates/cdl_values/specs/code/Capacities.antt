@@ -1,21 +1,26 @@
 -- For contracts. What a variable takes, beside what its values are checked against.
-use Rattle.std.specs.Prelude.{ℕ, ◌≡◌, ◌-◌, ◌^◌, min, true, false, List, [], ◌∷◌, Result, Ok, Err}
+use Rattle.std.specs.Prelude.{ℕ, ◌≡◌, ◌<◌, ◌-◌, ◌^◌, ℤ, pos, min, true, false, List, length, map, take, Result, Ok, Err}
 use Rattle.std.specs.List.{flat_map}
-use Rattle.nc_base.specs.declared.{header.Dim.Dim, header.Var.Var, nc_type.NcType.TheVariants.Char}
+use Rattle.nc_base.specs.declared.{header.Dim.Dim, header.Var.Var, nc_type.NcType.NcType, nc_type.NcType.TheVariants.Char}
 use Rattle.nc_base.specs.Numbers.{bytes_of_number}
-use Rattle.nc_base.specs.ValueText.{is_char}
+use Rattle.nc_base.specs.Sizes.{dim_len, is_record_var, product, slab_count}
 use Rattle.cdl_statements.specs.declared.fault.CdlKind.{CdlKind}
 use Rattle.cdl_statements.specs.State as states
-use Rattle.cdl_statements.specs.State.{Listing, listable_of, values_in}
+use Rattle.cdl_statements.specs.State.{Takes, takes_of}
 use Rattle.cdl_values.specs.declared.{capacity.Capacity.Capacity, filling.Filling.Filling}
 use Rattle.cdl_values.specs.declared.capacity.Capacity.TheVariants.{AtMost, Unlimited}
 use Rattle.cdl_values.specs.declared.filling.Filling.TheVariants.{Numbers, Joined, Rows}
 
--- it is filled so
-abbrev pub Fills : Filling → states.Listable → Type 0
-Fills (Numbers fill) r = (r.ty ≡ fill.ty) × (is_char fill.ty ≡ false) × (r.fill ≡ fill.value)
-Fills Joined r = (r.ty ≡ Char) × (r.in_rows ≡ false)
-Fills (Rows len fill) r = (r.ty ≡ Char) × (r.in_rows ≡ true) × (r.row ≡ len) × (bytes_of_number Char r.fill ≡ fill ∷ [])
+-- it is filled so; a row has a byte at least
+abbrev pub Fills : Filling → Takes → Type 0
+Fills (Numbers fill) takes = takes ≡ states.Numbers fill.ty fill.value
+Fills Joined takes = takes ≡ states.Joined
+Fills (Rows len fill) takes = (takes ≡ states.Rows len (pos fill)) × (0 < len) × (fill < 256)
+
+-- the type of what it takes
+abbrev pub taken_type : Filling → NcType
+taken_type (Numbers fill) = fill.ty
+taken_type filling = Char
 
 -- the greatest capacity
 abbrev pub most : ℕ
@@ -27,22 +32,21 @@ capacity_for (Numbers fill) m = min m most
 capacity_for Joined m = m
 capacity_for (Rows len fill) m = min m most
 
--- how many positions there are
-abbrev pub positions_in : Filling → states.Listable → ℕ
-positions_in (Numbers fill) r = r.count
-positions_in Joined r = r.count
-positions_in (Rows len fill) r = r.rows
+-- how many positions a variable has: rows, or values
+abbrev pub positions_in : Filling → List Dim → Var → ℕ
+positions_in (Rows len fill) dims var = product (map (dim_len dims) (take (length var.dimids - 1) var.dimids))
+positions_in filling dims var = slab_count dims var
 
 -- it has this capacity for values
-abbrev pub HasCapacity : Filling → Capacity → states.Listable → Type 0
-HasCapacity filling Unlimited r = r.is_open ≡ true
-HasCapacity filling (AtMost n) r = (r.is_open ≡ false) × (n ≡ capacity_for filling (positions_in filling r))
+abbrev pub HasCapacity : Filling → Capacity → List Dim → Var → Type 0
+HasCapacity filling Unlimited dims var = is_record_var dims var ≡ true
+HasCapacity filling (AtMost n) dims var = (is_record_var dims var ≡ false) × (n ≡ capacity_for filling (positions_in filling dims var))
 
 -- a variable that is filled so has this capacity
 abbrev pub HasCapacityAsFilled : List Dim → Var → Filling → Capacity → Type 0
-HasCapacityAsFilled dims var filling capacity = Fills filling (listable_of dims var) → HasCapacity filling capacity (listable_of dims var)
+HasCapacityAsFilled dims var filling capacity = Fills filling (takes_of dims var) → HasCapacity filling capacity dims var
 
 -- the bytes of what is listed
-abbrev pub as_bytes : states.Listable → Result Listing CdlKind → Result (List ℕ) CdlKind
-as_bytes r (Ok listing) = Ok (flat_map (bytes_of_number r.ty) (values_in r listing))
-as_bytes r (Err e) = Err e
+abbrev pub as_bytes : NcType → Result (List ℤ) CdlKind → Result (List ℕ) CdlKind
+as_bytes ty (Ok values) = Ok (flat_map (bytes_of_number ty) values)
+as_bytes ty (Err e) = Err e

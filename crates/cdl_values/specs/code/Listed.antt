@@ -19,12 +19,12 @@ abbrev pub AreShaped : List Dim → List Draft → Type 0
 AreShaped dims drafts = All (λ (d : Draft). AreDimids dims [] d.var.dimids) drafts
 
 -- of this variable these bytes are listed
-pub record Lists (dims : List Dim) (var : Var) (array : List ℕ) (d : Draft) : Type 0 where
+pub record Lists (var : Var) (array : List ℕ) (d : Draft) : Type 0 where
   pub is : d.var ≡ var
-  pub bytes : array ≡ flat_map (bytes_of_number var.ty) (listed_values dims d)
+  pub bytes : array ≡ flat_map (bytes_of_number var.ty) (listed_values d)
 
 -- of each variable the bytes at its place
-abbrev pub AllList : List Dim → List Var → List (List ℕ) → List Draft → Type 0
-AllList dims [] [] [] = ⊤
-AllList dims (var ∷ vars) (array ∷ arrays) (d ∷ drafts) = Lists dims var array d × AllList dims vars arrays drafts
-AllList dims _ _ _ = ⊥
+abbrev pub AllList : List Var → List (List ℕ) → List Draft → Type 0
+AllList [] [] [] = ⊤
+AllList (var ∷ vars) (array ∷ arrays) (d ∷ drafts) = Lists var array d × AllList vars arrays drafts
+AllList _ _ _ = ⊥

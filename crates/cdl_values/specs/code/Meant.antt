@@ -1,5 +1,5 @@
 -- For contracts. What a statement of the data section means, in bytes.
-use Rattle.std.specs.Prelude.{ℕ, ◌≡◌, ◌<◌, ◌^◌, length, Bool, false, List, [], ◌∷◌, if◌then◌else◌, is_some, map, Some, Result, Ok, Err, ⊤}
+use Rattle.std.specs.Prelude.{ℕ, ℤ, ◌≡◌, ◌<◌, ◌^◌, length, Bool, false, List, [], ◌∷◌, if◌then◌else◌, is_some, map, Some, Result, Ok, Err, ⊤}
 use Rattle.std.specs.List.{flat_map}
 use Rattle.std.specs.Str.{bytes_eq}
 use Rattle.nc_base.specs.Numbers.{bytes_of_number}
@@ -9,7 +9,7 @@ use Rattle.cdl_statements.specs.code.Cutters.{text_of, version_of, words}
 use Rattle.cdl_statements.specs.declared.{cutter.Cutter.Cutter, section.Section.TheVariants.Values, fault.CdlKind.CdlKind}
 use Rattle.cdl_statements.specs.Lexemes.{Lexeme, is_mark}
 use Rattle.cdl_statements.specs.Meaning.{piece_read}
-use Rattle.cdl_statements.specs.State.{State, Draft, Listing, listable_of, values_in}
+use Rattle.cdl_statements.specs.State.{State, Draft, takes_of}
 use Rattle.cdl_values.specs.declared.{read_error.ReadError.ReadError, data.Given.Given, data.Target.Target}
 use Rattle.cdl_values.specs.declared.read_error.ReadError.TheVariants.{OutOfMemory, Fault}
 use Rattle.cdl_values.specs.code.Capacities.{Fills, HasCapacity}
@@ -18,8 +18,8 @@ use Rattle.cdl_values.specs.code.Listed.{AreShaped, unlisted_drafts}
 -- a target is what a draft takes
 pub record Suits (dims : List Dim) (t : Target) (d : Draft) : Type 0 where
   pub given : t.given ≡ is_some d.listed
-  pub fills : Fills t.filling (listable_of dims d.var)
-  pub takes : HasCapacity t.filling t.capacity (listable_of dims d.var)
+  pub fills : Fills t.filling (takes_of dims d.var)
+  pub takes : HasCapacity t.filling t.capacity dims d.var
 
 -- each target is what the draft at its position takes
 abbrev pub AllSuit : List Dim → List Target → List Draft → Type 0
@@ -34,20 +34,20 @@ SuitVariables dims vars targets = AreShaped dims (unlisted_drafts vars) → AllS
 abbrev pub names_of : List Draft → List (List ℕ)
 names_of drafts = map (λ (d : Draft). d.var.name) drafts
 
--- with this listing of the first variable of this name
-abbrev pub with_listing : List ℕ → Listing → List Draft → List Draft
-with_listing name listing [] = []
-with_listing name listing (d ∷ ds) = if bytes_eq d.var.name name then record d { listed = Some listing } ∷ ds else d ∷ with_listing name listing ds
+-- with these values listed of the first variable of this name
+abbrev pub with_listed : List ℕ → List ℤ → List Draft → List Draft
+with_listed name values [] = []
+with_listed name values (d ∷ ds) = if bytes_eq d.var.name name then record d { listed = Some values } ∷ ds else d ∷ with_listed name values ds
 
--- the listing as its bytes
-abbrev pub listing_bytes : List Dim → List ℕ → Listing → List Draft → List ℕ
-listing_bytes dims name listing [] = []
-listing_bytes dims name listing (d ∷ ds) = if bytes_eq d.var.name name then flat_map (bytes_of_number d.var.ty) (values_in (listable_of dims d.var) listing) else listing_bytes dims name listing ds
+-- the values as its bytes
+abbrev pub listed_bytes : List ℕ → List ℤ → List Draft → List ℕ
+listed_bytes name values [] = []
+listed_bytes name values (d ∷ ds) = if bytes_eq d.var.name name then flat_map (bytes_of_number d.var.ty) values else listed_bytes name values ds
 
--- the drafts with a listing of these bytes, or the fault
-abbrev pub HasListed : List Dim → List ℕ → List Draft → Result (List ℕ) CdlKind → Result (List Draft) CdlKind → Type 0
-HasListed dims name drafts (Err e) after = after ≡ Err e
-HasListed dims name drafts (Ok array) after = (listing : Listing) × (listing_bytes dims name listing drafts ≡ array) × (after ≡ Ok (with_listing name listing drafts))
+-- the drafts with values of these bytes listed, or the fault
+abbrev pub HasListed : List ℕ → List Draft → Result (List ℕ) CdlKind → Result (List Draft) CdlKind → Type 0
+HasListed name drafts (Err e) after = after ≡ Err e
+HasListed name drafts (Ok array) after = (values : List ℤ) × (listed_bytes name values drafts ≡ array) × (after ≡ Ok (with_listed name values drafts))
 
 abbrev pub name_first : List Lexeme → List ℕ
 name_first [] = []
@@ -61,7 +61,7 @@ name_said start = name_first (words start)
 abbrev pub Means : Version → State → List Lexeme → Result (List ℕ) CdlKind → Type 0
 Means v s ws (Err e) = piece_read v s ws ≡ Err e
 Means v s ws (Ok array) =
-    (listing : Listing) × (listing_bytes s.dims (name_first ws) listing s.drafts ≡ array) × (piece_read v s ws ≡ Ok (record s { drafts = with_listing (name_first ws) listing s.drafts }))
+    (values : List ℤ) × (listed_bytes (name_first ws) values s.drafts ≡ array) × (piece_read v s ws ≡ Ok (record s { drafts = with_listed (name_first ws) values s.drafts }))
 
 -- its first token is the closing brace
 abbrev pub begins_brace : List Lexeme → Bool

@@ -1,5 +1,5 @@
 use Rattle.std.proofs.Common.{rules, ◌≡◌, ◌∙◌, ap, sym, None, Some, List, ℕ, map}
-use Rattle.cdl_parse.proofs.Prelude.{Known, Dim, Header, if_sound, or_too_large}
+use Rattle.cdl_parse.proofs.Prelude.{Known, Header, if_sound, or_too_large}
 use Rattle.cdl_parse.proofs.Finished.{array_too_large, finished_as, given_if_sound, header_at, kept_at}
 use Rattle.cdl_parse.proofs.SizeLimits.{all_are, listed_of}
 use Rattle.cdl_parse.proofs.finishing.finish.Goals as goal
@@ -21,7 +21,7 @@ returns-clause-declares c = λ s is att-is lists shaped line.
     let same = header_at a.version n s a.dims a.gatts a.vars a.listed.items is att-is lists in
     finished_as a.version s line n
     (kept_at c.as_slice.result.now a.dims c.as_slice-2.result.now a.vars c.as_slice-3.result.now a.listed.items s c.records_within_limits.result c.as_slice.ensures c.as_slice-2.ensures c.as_slice-3.ensures.value is lists shaped c.records_within_limits.ensures ∙ kept) ∙
-    ap (λ (h : Header). or_too_large line (if_sound h (map (listed_of s.dims) s.drafts))) same ∙
+    ap (λ (h : Header). or_too_large line (if_sound h (map listed_of s.drafts))) same ∙
     ap (λ (ls : List (List ℕ)). or_too_large line (if_sound (record { version = a.version; numrecs = Known n; dims = a.dims; gatts = a.gatts; vars = a.vars }) ls))
-    (ap (λ (ds : List Dim). map (listed_of ds) s.drafts) is ∙ sym (all_are a.dims a.vars a.listed.items s.drafts lists).1) ∙
+    (sym (all_are a.vars a.listed.items s.drafts lists).1) ∙
     ap (or_too_large line) (sym (given_if_sound c.declared_if_sound.result _ a.listed.items c.declared_if_sound.ensures))

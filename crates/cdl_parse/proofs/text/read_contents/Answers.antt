@@ -25,12 +25,12 @@ returns-clause-reads c = λ small.
     let version = c.in_ok-values.ensures.same.version ∙ c.in_ok-definitions.ensures.same.version in
     let ended = c.in_ok-closing_line.ensures.ends at refl in
     let kept : s.dims ≡ c.into_sequence-dims.result = search rules in
-    let lists = subst (λ vs. AllList s.dims vs values.listed.items read.0) listed_of read.1 in (
+    let lists = subst (λ vs. AllList vs values.listed.items read.0) listed_of read.1 in (
       record at { section = ended.0 },
       record {
         dims = search rules;
         gatts = search rules;
-        listed = subst (λ ds. AllList ds vars values.listed.items read.0) kept lists;
+        listed = lists;
         shaped = subst (λ ds. AreShaped ds read.0) kept (listed_shapes s.dims vars values.listed.items read.0 lists (subst (AreShaped s.dims) (sym c.in_ok-vars.ensures.vars) c.in_ok-definitions.ensures.shaped));
       },
       so_far ∙ same_end (text_of start) (text_of values.rest) (version_of start) (version_of values.rest) at (pieces_left values.rest) _ text version ended.1,

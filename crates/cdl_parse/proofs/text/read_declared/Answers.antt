@@ -21,6 +21,6 @@ returns-in-Some-clause-one_each c =
     let short : length (text_of c.new.result) < 2 ^ 63 = subst (λ t. length t < 2 ^ 63) (sym c.new.ensures.text) (search rules) in
     let read = c.in_ok-dims.ensures.reads short in
     let contents = c.in_ok-dims.field-0 in
-    let each : length contents.listed.items ≡ length contents.vars = one-each contents.dims contents.vars contents.listed.items read.0.drafts read.1.listed in
+    let each : length contents.listed.items ≡ length contents.vars = one-each contents.vars contents.listed.items read.0.drafts read.1.listed in
     let kept = c.in-Some.ensures.keeps in
     ap length kept.0 ∙ each ∙ sym (ap length kept.1)

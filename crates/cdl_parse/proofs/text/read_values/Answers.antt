@@ -11,7 +11,7 @@ returns-in_ok-empty_arrays-in_default c =
     record {
       reads = λ s section at. (
         unlisted_drafts vars,
-        subst (λ arrays. AllList s.dims vars arrays (unlisted_drafts vars)) (sym empty) (none_listed s.dims vars),
+        subst (λ arrays. AllList vars arrays (unlisted_drafts vars)) (sym empty) (none_listed vars),
         ap (λ here. run (text_of start) (version_of start) (record s { section = here }) (pieces_left start)) section ∙
             ap (λ ds. run (text_of start) (version_of start) (record s { section = c.args.section; drafts = ds }) (pieces_left start)) at.unlisted,
       );
