@@ -7,7 +7,6 @@ use Rattle.cdl_laws.proofs.Strings.{string}
 use Rattle.cdl_laws.proofs.ValueTexts.{commas}
 use Rattle.cdl_laws.proofs.Characters.{later_string, strings_read}
 use Rattle.cdl_laws.proofs.Takes.{statement_says, semicolon, is_fine, word_fine, all_fine}
-use Rattle.cdl_statements.specs.Shapes as shapes
 use Rattle.cdl_laws.proofs.Heads.{name_starts, bare_word, comment_closed, joined_reads, fine_commas, type_reads, type_starts, opens_none}
 
 -- ---- dimensions
