@@ -66,7 +66,8 @@ fault_message l e fault.FloatingType = says (codes ": found _") (FieldType ∷ [
 fault_message l e fault.BadType = says (codes ": found _, expected 1 to _") (FieldType ∷ Number (last_type l.entries) ∷ [])
 -- a dimension id may be wrong only since it is that of the record dimension; the fifth field of a header is the number of dimensions
 fault_message l e fault.BadShape =
-    if nat_lt (number_of e.content) (number_at l.entries 4) then says (codes ": found _, expected no record dimension here") (FieldContent ∷ [])
+    if nat_lt (number_of e.content) (number_at l.entries 4)
+    then says (codes ": found _, expected no record dimension here") (FieldContent ∷ [])
     else below (number_at l.entries 4)
 fault_message l e fault.TwoRecordDims = says (codes ": found _, expected at least 1") (FieldContent ∷ [])
 fault_message l e fault.BadOffset = below (top_bit e.size)
@@ -78,8 +79,10 @@ abbrev pub layout_message : LayoutFact → Message
 layout_message (layout.Streaming n) = says (codes ": found the streaming mark, for _") (Number n ∷ [])
 layout_message (layout.UnusedRecords n) = says (codes ": found _, expected 0") (Number n ∷ [])
 layout_message (layout.LargeVariable n limit) = says (codes ": found _, expected at most _") (Number n ∷ Number limit ∷ [])
-layout_message (layout.BeginInHeader n end) = says (codes ": found _, expected at least _, the end of the header") (Number n ∷ Number end ∷ [])
-layout_message (layout.Overlap n end of) = says (codes ": found _, expected at least _, the end of _") (Number n ∷ Long end ∷ OfBlock of ∷ [])
+layout_message (layout.BeginInHeader n end) =
+    says (codes ": found _, expected at least _, the end of the header") (Number n ∷ Number end ∷ [])
+layout_message (layout.Overlap n end of) =
+    says (codes ": found _, expected at least _, the end of _") (Number n ∷ Long end ∷ OfBlock of ∷ [])
 layout_message (layout.Unpadded n end of) =
     says (codes ": found _, expected at least _, the padded end of _") (Number n ∷ Long end ∷ OfBlock of ∷ [])
 layout_message (layout.Order n least of) =

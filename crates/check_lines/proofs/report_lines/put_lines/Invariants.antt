@@ -6,6 +6,8 @@ use Rattle.check_lines.proofs.report_lines.put_lines.Given as goal
 
 abbrev pub invariant-loop-finding : goal.invariant-loop-finding
 invariant-loop-finding g l = record {
-  written : IsWritten (g.W.Sink.view l.fn.sink) (g.W.Sink.view l.sink) (line_if (filter_for l.filter) l.file l.report.listing) l.findings l.finding-index;
+  written :
+      IsWritten (g.W.Sink.view l.fn.sink) (g.W.Sink.view l.sink)
+      (line_if (filter_for l.filter) l.file l.report.listing) l.findings l.finding-index;
   passed : IsPassed l.report.listing.entries (record { count = l.passed.0; names = l.passed.1.0 });
 }
