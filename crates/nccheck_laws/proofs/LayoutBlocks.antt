@@ -1,5 +1,5 @@
 -- The blocks of a layout: those of slots that aren't record slots, and that of the records.
-use Rattle.std.proofs.Common.{◌≡◌, ℕ, zero, suc, ◌+◌, ◌-◌, ◌*◌, ◌<◌, ◌≤◌, max, min, true, false, List, [], ◌∷◌, length, take, fold, refl, ap, subst, arith, inl, inr, Some, unwrap_or, if◌then◌else◌}
+use Rattle.std.proofs.Common.{◌≡◌, ℕ, zero, suc, ◌+◌, ◌-◌, ◌*◌, ◌<◌, ◌≤◌, max, min, true, false, List, [], ◌∷◌, length, take, fold, refl, ap, arith, Some, unwrap_or, if◌then◌else◌}
 use Rattle.std.specs.List.{Contains}
 use Rattle.std.specs.Option.{option_map_or}
 use Rattle.std.proofs.lemmas.Bool.{cases_lt}
@@ -12,16 +12,12 @@ use Rattle.nc_layout.specs.BlockRules.{greatest_end}
 use Rattle.nc_layout.specs.SlotRules.{bytes_before}
 use Rattle.nc_layout.specs.code.PassedSlots.{is_record_slot}
 use Rattle.nc_layout.specs.code.Sweep.{padding_end}
-use Rattle.nc_layout.proofs.BlockOrder.{contains-none, contains-here, contains-cases, contains-filter, filter-contains}
+use Rattle.nc_layout.proofs.BlockOrder.{contains-here, contains-filter, filter-contains}
 use Rattle.nc_layout.proofs.SweptBlocks.{greatest_from-above, greatest_from-least}
 use Rattle.nccheck_laws.specs.LayoutLaws.{fixed_bytes}
 use Rattle.nccheck_laws.proofs.IndexedSlots.{At, contains-at, at-contains, there-from, in-each, total-whole, total-reach}
 
 -- ---- each of them
-
--- what holds of the only element holds of each
-pub each-one : {X : Type 0} (P : X → Type 0) (x : X) → P x → (y : X) → Contains (x ∷ []) y → P y
-each-one {X} P x here y has = elim (contains-cases x y [] has) [ inl same ↦ subst P same here | inr none ↦ absurd (contains-none y none) ]
 
 -- what holds of those of slots and of that of the records holds of each block
 pub each-block : (layout : Layout) (P : Extent → Type 0)
