@@ -115,7 +115,8 @@ placed-name v o =
     (λ text. chained ((at name.NamePadding o, refl), refl, grind arith) (λ padding. tt)))
 
 placed-each : {A : Type 0} (steps : List Step) (element : List A → Part A)
-    → ((before : List A) (k : ℕ) → Placed (Item k ∷ steps) (element before)) → (n : ℕ) (before : List A) → Placed steps (each element n before)
+    → ((before : List A) (k : ℕ) → Placed (Item k ∷ steps) (element before)) → (n : ℕ) (before : List A)
+    → Placed steps (each element n before)
 unfolding each
 placed-each steps element one zero before = tt
 placed-each steps element one (suc n) before = (one before (length before), λ x. placed-each steps element one n (before ++ x ∷ []))

@@ -1,10 +1,10 @@
 -- What a field shows at which nothing is found about its spelling.
-use Rattle.std.proofs.Common.{◌≡◌, ℕ, ◌+◌, ◌==◌, ◌&&◌, ◌||◌, not, Bool, false, cond, List, [], ◌∷◌, ◌++◌, length, map, replicate, Some, None, refl, ap, ◌∙◌, subst, arith, length-take-le, option_to_list, if◌then◌else◌}
-use Rattle.nccheck_laws.proofs.Prelude.{common_steps, Header, Bytes, Step, Padding, Tag, Count, Vsize, Item, Dims, Gatts, Vars, Atts, Content, Entry, FieldName, Owner, Field, Seen, seen_by, steps_of, name_steps, owner_steps, whole_content, seen, bytes_of, number_of, IsWritten, AreWritten, Fact, Finding, Indexed, field_at, indexed, indexed_from, finding, each_before, ahead_of, finding_by_name, attribute_finding, is_first, facts_with, findings_at, field_findings, attribute_findings, is_of_spelling, has_any, ltb-false, cut_content, is_field, next_number, number_in, empty_list, has_nonzero, content_facts}
+use Rattle.std.proofs.Common.{◌≡◌, ℕ, ◌+◌, ◌==◌, ◌&&◌, ◌||◌, not, Bool, true, false, cond, List, [], ◌∷◌, ◌++◌, length, map, replicate, Some, None, refl, sym, ap, ◌∙◌, subst, arith, length-take-le, option_to_list, if◌then◌else◌}
+use Rattle.nccheck_laws.proofs.Prelude.{common_steps, Header, Bytes, Step, Padding, Tag, Count, Vsize, Dims, Gatts, Vars, Atts, Content, Entry, FieldName, Owner, Field, Seen, seen_by, steps_of, name_steps, owner_steps, whole_content, seen, bytes_of, number_of, IsWritten, AreWritten, Fact, Finding, Indexed, field_at, indexed, indexed_from, finding, each_before, ahead_of, finding_by_name, attribute_finding, is_first, facts_with, findings_at, field_findings, attribute_findings, is_of_spelling, has_any, ltb-false, cut_content, is_field, next_number, number_in, empty_list, has_nonzero, content_facts}
 use Rattle.nc_fields.specs.declared.entry.Content.TheVariants as content
 use Rattle.nc_fields.specs.declared.place.FieldName.TheVariants as name
 use Rattle.nccheck_laws.specs.Written.{IsWrittenTag}
-use Rattle.nccheck_laws.proofs.Vsizes.{IsWhole, AreWhole, IsVsizeWritten, AreVsizesWritten}
+use Rattle.nccheck_laws.proofs.Vsizes.{IsWhole, AreWhole, is_vsize_at, vsizes, AreNumbered, AreSizes, first-size, next-sizes}
 use Rattle.nc_report.specs.declared.finding.Fact.TheVariants as fact
 
 -- nothing of these findings is about the spelling
@@ -116,16 +116,32 @@ tag-written : (len tag : ℕ) (fs : List Field) → AreWhole fs → ShowsAfter t
 unfolding seen
 tag-written len tag v2 w e = grind arith
 
-is-written : (h : Header) (len : ℕ) (steps : List Step) (f : Field) (fs : List Field) → IsWhole f → AreWhole fs → IsVsizeWritten h steps f
+-- a field that isn't the size of a variable
+is-written : (h : Header) (len : ℕ) (steps : List Step) (f : Field) (fs : List Field) → IsWhole f → AreWhole fs → is_vsize_at steps ≡ false
     → Shows steps (whole_content steps f.size f.start) (map (seen len) fs) → IsWritten h steps f fs
-is-written h len (Padding ∷ steps) f fs w whole size e =
+is-written h len (Padding ∷ steps) f fs w whole other e =
     all-zeros (bytes_of f) e ∙ ap (λ n. replicate n 0) (length-take-le f.size f.start (ltb-false _ _ w.whole))
-is-written h len (Tag ∷ steps) f fs w whole size e = tag-written len (number_of f) fs whole e
-is-written h len (Vsize ∷ Item i ∷ steps) f fs w whole size e = size
-is-written h len steps f fs w whole size e = tt
+is-written h len (Tag ∷ steps) f fs w whole other e = tag-written len (number_of f) fs whole e
+is-written h len (Vsize ∷ steps) f fs w whole other e = absurd cc
+is-written h len steps f fs w whole other e = tt
 
-pub quiet-written : (h : Header) (len : ℕ) (fs : List Field) → AreQuiet (map (seen len) fs) → AreWhole fs → AreVsizesWritten h fs
-    → AreWritten h fs
+pub quiet-written : (h : Header) (len k : ℕ) (fs : List Field) → AreQuiet (map (seen len) fs) → AreWhole fs → AreNumbered k (vsizes fs)
+    → AreSizes h k (vsizes fs) → AreWritten h fs
 unfolding seen
-quiet-written h len [] quiet whole sizes = tt
-quiet-written h len (f ∷ fs) quiet whole sizes = grind (arith, quiet-written h len fs quiet.1 whole.1 sizes.1, is-written, seen-content)
+quiet-written h len k [] quiet whole at are = tt
+quiet-written h len k (f ∷ fs) quiet whole at are =
+    by-test (is_vsize_at f.steps) refl at are (λ k at are. quiet-written h len k fs quiet.1 whole.1 at are)
+  where
+    by-test : (b : Bool) → is_vsize_at f.steps ≡ b → AreNumbered k (cond b (f ∷ vsizes fs) (vsizes fs))
+        → AreSizes h k (cond b (f ∷ vsizes fs) (vsizes fs))
+        → ((k : ℕ) → AreNumbered k (vsizes fs) → AreSizes h k (vsizes fs) → AreWritten h fs)
+        → IsWritten h f.steps f fs × AreWritten h fs
+    by-test true is at are go = (
+      subst (λ steps. IsWritten h steps f fs) (sym at.0) (first-size h k f (vsizes fs) are),
+      go (k + 1) at.1 (next-sizes h k f (vsizes fs) are),
+    )
+    by-test false is at are go = (
+      is-written h len f.steps f fs whole.0 whole.1 is
+          (subst (λ c. Shows f.steps c (map (seen len) fs)) (seen-content len f whole.0) (quiet.0 whole.0.sound)),
+      go k at are,
+    )

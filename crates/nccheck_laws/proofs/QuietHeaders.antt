@@ -4,7 +4,7 @@ use Rattle.nccheck_laws.proofs.Prelude.{list_any-IsPermutation, Dim, Var, Header
 use Rattle.nc_fields.specs.declared.entry.Content.TheVariants as content
 use Rattle.nccheck_laws.proofs.StrictHeaders.{strict-headers}
 use Rattle.nccheck_laws.proofs.WrittenParts.{written-fields}
-use Rattle.nccheck_laws.proofs.Vsizes.{AreWhole, AreSizes, spelled-whole, is_vsize_at, vsizes, AreNumbered, header-numbered, numbered-written}
+use Rattle.nccheck_laws.proofs.Vsizes.{AreWhole, AreSizes, spelled-whole, is_vsize_at, vsizes, AreNumbered, header-numbered}
 use Rattle.nccheck_laws.proofs.FirstFaults.{faultless}
 use Rattle.nccheck_laws.proofs.LayoutFacts.{is-read, whole-header, same-layout}
 use Rattle.nccheck_laws.specs.ReportLaws.{QuietSpellingsAreCanonical, QuietHeadersAreCanonical}
@@ -116,9 +116,9 @@ quiet-spellings from r h rest are report s quiet =
     let sizes = (both-other (vsize_findings layout gs) (map (located gs) (layout_findings layout)) facts).0 in
     let same = named-seen (length from) 0 l.entries fs report.listing.entries in
     written-fields from h rest are s
-    (quiet-written h (length from) fs (subst AreQuiet report.listing.entries (entries-quiet l other.0)) whole
-    (numbered-written h 0 fs at
-    (sizes-written h l.end l.file_len (length from) gs (vsizes fs) same (whole-sizes fs whole) at (subst (λ layout. AreOther (vsize_findings layout gs)) (same-layout h l.end l.file_len) sizes))))
+    (quiet-written h (length from) 0 fs (subst AreQuiet report.listing.entries (entries-quiet l other.0)) whole at
+    (sizes-written h l.end l.file_len (length from) gs (vsizes fs) same (whole-sizes fs whole) at
+    (subst (λ layout. AreOther (vsize_findings layout gs)) (same-layout h l.end l.file_len) sizes)))
 
 -- and a header without a fault is read
 pub quiet-headers : QuietHeadersAreCanonical

@@ -1,5 +1,5 @@
 -- The fields of a header that is spelled are whole, and those that are the sizes of variables stand there in the order of the variables.
-use Rattle.std.proofs.Common.{◌≡◌, ℕ, suc, zero, ◌+◌, Bool, true, false, cond, nat_lt, List, [], ◌∷◌, ◌++◌, length, Option, None, refl, sym, ap, ◌∙◌, subst, arith, filter, length-append, append-nil, slice_get, IfSome}
+use Rattle.std.proofs.Common.{◌≡◌, ℕ, suc, zero, ◌+◌, Bool, true, false, nat_lt, List, [], ◌∷◌, ◌++◌, length, Option, None, refl, sym, ap, ◌∙◌, subst, arith, filter, length-append, append-nil, slice_get, IfSome}
 use Rattle.nccheck_laws.proofs.Prelude.{common_steps, Dim, Var, Header, Version, Bytes, count_width, Step, Part, done, bytes, decoded, under, chain, Spells, Dims, Gatts, Vars, Item, Name, Shape, Atts, Vsize, byte_len, padded_total, record_vars, dimension_tag, dim_after, dimid_after, var_after, number, limited_part, offset_part, ignored, name_part, type_part, each, counted, list_head, list_part, dim_part, dim_list, att_part, att_list, dimid_part, shape_part, var_part, var_list, version_part, magic_part, numrecs_part, header_by, Field, fields, number_of, IsWrittenVsize}
 use Rattle.nc_base.proofs.Prelude.{filter-append}
 use Rattle.nc_base.specs.Grammar.{Rules}
@@ -199,41 +199,14 @@ header-numbered r from h rest (v, m, s, (n, m2, ns, (dims, m3, d, (gatts, m4, g,
 
 -- ---- fields whose sizes are as they are written
 
--- a field with these steps is a size as it is written, if it is that of a variable
-abbrev pub IsVsizeWritten : Header → List Step → Field → Type 0
-IsVsizeWritten h (Vsize ∷ Item i ∷ steps) f = IsWrittenVsize h i (number_of f)
-IsVsizeWritten h steps f = Unit {0}
-
-abbrev pub AreVsizesWritten : Header → List Field → Type 0
-AreVsizesWritten h [] = Unit {0}
-AreVsizesWritten h (f ∷ fs) = IsVsizeWritten h f.steps f × AreVsizesWritten h fs
-
-no-size : (h : Header) (steps : List Step) (f : Field) → is_vsize_at steps ≡ false → IsVsizeWritten h steps f
-no-size h v1 f none = grind arith
-
 -- each of these sizes of variables, of which the first has this index, is as it is written
 abbrev pub AreSizes : Header → ℕ → List Field → Type 0
 AreSizes h k sizes = (i : ℕ) → IfSome (slice_get sizes i) (λ (f : Field). IsWrittenVsize h (k + i) (number_of f))
 
-next-sizes : (h : Header) (k : ℕ) (f : Field) (sizes : List Field) → AreSizes h k (f ∷ sizes) → AreSizes h (k + 1) sizes
+pub next-sizes : (h : Header) (k : ℕ) (f : Field) (sizes : List Field) → AreSizes h k (f ∷ sizes) → AreSizes h (k + 1) sizes
 next-sizes h k f sizes are i =
     let same : k + suc i ≡ (k + 1) + i = omega arith in
     subst (λ j. IfSome (slice_get sizes i) (λ (f : Field). IsWrittenVsize h j (number_of f))) same (are (suc i))
 
-first-size : (h : Header) (k : ℕ) (f : Field) (sizes : List Field) → AreSizes h k (f ∷ sizes) → IsWrittenVsize h k (number_of f)
+pub first-size : (h : Header) (k : ℕ) (f : Field) (sizes : List Field) → AreSizes h k (f ∷ sizes) → IsWrittenVsize h k (number_of f)
 first-size h k f sizes are = let same : k + 0 ≡ k = omega arith in subst (λ j. IsWrittenVsize h j (number_of f)) same (are 0)
-
-pub numbered-written : (h : Header) (k : ℕ) (fs : List Field) → AreNumbered k (vsizes fs) → AreSizes h k (vsizes fs)
-    → AreVsizesWritten h fs
-numbered-written h k [] at are = tt
-numbered-written h k (f ∷ fs) at are = by-test (is_vsize_at f.steps) refl at are (λ k at are. numbered-written h k fs at are)
-  where
-    by-test : (b : Bool) → is_vsize_at f.steps ≡ b → AreNumbered k (cond b (f ∷ vsizes fs) (vsizes fs))
-        → AreSizes h k (cond b (f ∷ vsizes fs) (vsizes fs))
-        → ((k : ℕ) → AreNumbered k (vsizes fs) → AreSizes h k (vsizes fs) → AreVsizesWritten h fs)
-        → IsVsizeWritten h f.steps f × AreVsizesWritten h fs
-    by-test true is at are go = (
-      subst (λ steps. IsVsizeWritten h steps f) (sym at.0) (first-size h k f (vsizes fs) are),
-      go (k + 1) at.1 (next-sizes h k f (vsizes fs) are),
-    )
-    by-test false is at are go = (no-size h f.steps f is, go k at are)
