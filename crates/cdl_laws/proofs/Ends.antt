@@ -9,7 +9,7 @@ use Rattle.cdl_laws.proofs.Strings.{until_plain}
 use Rattle.cdl_laws.proofs.Takes.{Takes, says_takes, takes_both, takes_nothing, is_open}
 use Rattle.cdl_laws.proofs.Acts as acts
 use Rattle.cdl_laws.proofs.Declarations.{Speaks}
-use Rattle.cdl_laws.proofs.Wholes.{state, dims_taken, AreNewDims, AreNewAtts, globals_taken, AreFit, vars_taken, draft_of}
+use Rattle.cdl_laws.proofs.Wholes.{state, dims_taken, AreNewDims, AreNewAtts, globals_taken, AreFit, IsFit, all_taken, var_taken, draft_of}
 
 -- ---- section marks
 
@@ -57,7 +57,8 @@ unfolding vars_text act
 vars_part v dims [] gatts distinct names fit = takes_nothing v (state (after_dims dims) dims gatts [])
 vars_part v dims (var ∷ vars) gatts distinct names fit =
     headed v variables_word (map (var_lines dims) (var ∷ vars)) (length vars) _ _ _
-    (says_takes v variables_word (Enter Variables) _ _ (variables_says v dims) refl) (vars_taken v dims gatts (var ∷ vars) distinct names fit)
+    (says_takes v variables_word (Enter Variables) _ _ (variables_says v dims) refl)
+    (all_taken v (var_lines dims) draft_of (IsFit v dims) (λ drafts. state Variables dims gatts drafts) (λ before w is. var_taken v dims gatts before w is distinct names) [] (var ∷ vars) fit)
 
 -- the line before global attributes is a comment
 pub comment_back : (rest : List ℕ) → pieces_of (global_word ++ rest) ≡ pieces_of rest

@@ -12,7 +12,7 @@ abbrev pub state : Section → List Dim → List Att → List Draft → State
 state section dims gatts drafts = record { section = section; dims = dims; gatts = gatts; drafts = drafts }
 
 -- lines after each of which one thing more stands in the state
-all_taken : {X Y : Type 0} (v : Version) (line : X → List ℕ) (f : X → Y) (P : List Y → X → Type 0) (now : List Y → State) →
+pub all_taken : {X Y : Type 0} (v : Version) (line : X → List ℕ) (f : X → Y) (P : List Y → X → Type 0) (now : List Y → State) →
     ((done : List Y) (x : X) → P done x → Takes v (line x) (now done) (now (done ++ f x ∷ []))) →
     (done : List Y) (xs : List X) → EachAfter f P done xs → Takes v (concat_parts (map line xs)) (now done) (now (done ++ map f xs))
 unfolding concat_parts
@@ -116,7 +116,7 @@ declared v dims var name are names distinct known = record {
   dimids = ids_added dims [] var.dimids distinct names are;
 }
 
-var_taken : (v : Version) (dims : List Dim) (gatts : List Att) (before : List Draft) (var : Var) → IsFit v dims before var → AreDistinctDims dims → HaveNames dims →
+pub var_taken : (v : Version) (dims : List Dim) (gatts : List Att) (before : List Draft) (var : Var) → IsFit v dims before var → AreDistinctDims dims → HaveNames dims →
     Takes v (var_lines dims var) (state Variables dims gatts before) (state Variables dims gatts (before ++ draft_of var ∷ []))
 unfolding act att_lines
 var_taken v dims gatts before var fit distinct names =
@@ -130,10 +130,3 @@ var_taken v dims gatts before var fit distinct names =
     (grind (arith, turn, r.ty, var_added dims var.ty before var.name r.names var.dimids fit.name fit.new r.dimids)))
     (subst (λ b. Takes v (concat_parts shown) t (state Variables dims gatts (before ++ record { var = record { name = var.name; dimids = var.dimids; atts = map trimmed_att var.atts; ty = var.ty; begin_at = b }; listed = None } ∷ []))) (sym fit.bare)
     (owned_taken v dims gatts before var.name var.dimids var.atts var.ty fit.name fit.new fit.atts fit.fresh)))
-
-pub vars_taken : (v : Version) (dims : List Dim) (gatts : List Att) (vars : List Var) → AreDistinctDims dims → HaveNames dims →
-    AreFit v dims [] vars →
-    Takes v (concat_parts (map (var_lines dims) vars)) (state Variables dims gatts []) (state Variables dims gatts (map draft_of vars))
-vars_taken v dims gatts vars distinct names all =
-    all_taken v (var_lines dims) draft_of (IsFit v dims) (λ drafts. state Variables dims gatts drafts)
-    (λ before var fit. var_taken v dims gatts before var fit distinct names) [] vars all
