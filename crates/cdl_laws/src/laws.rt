@@ -109,7 +109,6 @@ pub fn fill_value_survives_trim()
 
 /// If a text means a dataset, then a text can declare this dataset (in the sense of `IsSayable`) if and only
 /// if none of its variables of characters is in the one case that [`fill_value_survives_trim`] excepts.
-#[tactic(auto, using(crate::proofs::MeaningsAreGood::meanings_are_nearly_sayable, crate::proofs::Trimmed::fill_value_survives_trim))]
 pub fn meanings_are_sayable()
     ensures { MeaningsAreSayable }
 {}
