@@ -83,7 +83,7 @@ fn near_len(bytes: &[u8], a: u8, b: u8, c: u8) -> usize
 {
     bytes
         .iter()
-        .take_while(|x| **x != a && **x != b && **x != c)
+        .take_while(|x| !(**x == a || **x == b || **x == c))
         .count()
 }
 
@@ -98,10 +98,7 @@ pub fn count_of(bytes: &[u8], byte: u8) -> usize
         at += BLOCK;
     }
     let (_, rest) = bytes.split_at(at);
-    for b in rest {
-        count += (*b == byte) as usize;
-    }
-    count
+    count + rest.iter().filter(|b| **b == byte).count()
 }
 
 /// Returns how many bytes of the vector are `byte`.

@@ -18,13 +18,13 @@ token_before kind len s = record { kind = kind; line = s.line; first = s.at - le
 abbrev pub comma_before : Scanner → Token
 comma_before = token_before Mark 1
 
--- a byte that is none of the three
-abbrev pub is_none_of : ℕ → ℕ → ℕ → ℕ → Bool
-is_none_of first second third b = not (b == first) && not (b == second) && not (b == third)
-
 -- a byte that is one of the three
 abbrev pub is_any_of : ℕ → ℕ → ℕ → ℕ → Bool
 is_any_of first second third b = (b == first) || (b == second) || (b == third)
+
+-- a byte that is none of the three
+abbrev pub is_none_of : ℕ → ℕ → ℕ → ℕ → Bool
+is_none_of first second third b = not (is_any_of first second third b)
 
 -- a byte that stands for itself in a string: any but a backslash
 abbrev pub is_unescaped : ℕ → Bool

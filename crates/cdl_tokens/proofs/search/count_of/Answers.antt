@@ -3,11 +3,4 @@ use Rattle.cdl_tokens.proofs.Masks.{counted_more}
 use Rattle.cdl_tokens.proofs.search.count_of.Goals as goal
 
 pub loop-at-preserved : goal.loop-at-preserved
-loop-at-preserved c =
-    let more = counted_more (λ b. b == c.args.byte) c.args.bytes.now c.loop-at.at 64 in
-    let here = c.equal_in-count.ensures in
-    record {
-      within = omega arith;
-      counted = omega (arith, more, here.value, c.loop-at.invariant.counted);
-      few = omega (arith, here.few);
-    }
+loop-at-preserved c = grind (arith, counted_more (λ b. b == c.args.byte) c.args.bytes.now c.loop-at.at 64)

@@ -1,4 +1,4 @@
-use Rattle.std.proofs.Common.{◌≡◌, ◌==◌, ◌≤◌, ◌+◌, ◌-◌, count_by, length, take}
+use Rattle.std.proofs.Common.{◌≡◌, ◌==◌, ◌≤◌, ◌-◌, count_by, length, take}
 use Rattle.cdl_tokens.proofs.search.count_of.Given as goal
 
 abbrev pub invariant-loop-at : goal.invariant-loop-at
@@ -10,9 +10,3 @@ invariant-loop-at l = record {
 
 abbrev pub decreases-loop-at : goal.decreases-loop-at
 decreases-loop-at l = length l.bytes - l.at
-
-abbrev pub invariant-loop-b : goal.invariant-loop-b
-invariant-loop-b l = record {
-  counted : l.count ≡ count_by (λ b. b == l.byte) (take l.at l.bytes) + count_by (λ b. b == l.byte) (take l.b-index l.rest);
-  few : l.count ≤ l.at + l.b-index;
-}
