@@ -103,7 +103,7 @@ def some_missing(values):
 
 
 def a_byte(cdl):
-    return generating(cdl) / len(cdl)
+    return generating(cdl) / len(cdl.encode())
 
 
 def string(content, length):
@@ -111,14 +111,16 @@ def string(content, length):
     return text(f"\tn = {length} ;\n", "\tchar c(n) ;\n", f' c = "{content}" ;\n')
 
 
-def letters(count):
-    return "".join(random.Random(1).choices("abcdefgh ", k=count))
+def letters(count, among="abcdefgh "):
+    return "".join(random.Random(1).choices(among, k=count))
 
 
-def rows(count, length):
-    many = letters(count * length)
+def rows(count, length, among="abcdefgh "):
+    """Rows of this many letters, each of as many bytes."""
+    many = letters(count * length, among)
     lines = ",\n".join(f'  "{many[at:at + length]}"' for at in range(0, len(many), length))
-    return text(f"\tr = {count} ;\n\tx = {length} ;\n", "\tchar c(r, x) ;\n", f" c =\n{lines} ;\n")
+    size = len(many[:length].encode())
+    return text(f"\tr = {count} ;\n\tx = {size} ;\n", "\tchar c(r, x) ;\n", f" c =\n{lines} ;\n")
 
 
 def made(cdl):
@@ -232,6 +234,7 @@ ROWS = [
     Row("ncgen, bytes", TUNED, 1.3, lambda: read_to_tuned(numbers(-128, 128, LONG), "byte")),
     Row("ncgen, int64s of 18 digits", TUNED, 1.3, lambda: read_to_tuned(numbers(10**17, 10**18, LONG // 2), "int64", "nc5")),
     Row("ncgen, rows of 80 characters", TEXT_BYTE, 5, lambda: a_byte(rows(30_000, 80))),
+    Row("ncgen, rows of 80 bytes in UTF-8", TEXT_BYTE, 5, lambda: a_byte(rows(30_000, 40, "äöüéèñøß"))),
     Row("ncgen, a string of 10 MB", TEXT_BYTE, 2.5, lambda: a_byte(string(letters(10 * MB), 10 * MB))),
     Row("ncgen, a comment of 10 MB", TEXT_BYTE, 1.4, lambda: a_byte("netcdf t {\n//" + "x" * 10 * MB + "\n}\n")),
     Row("ncgen, ints with the suffix L", PLAIN, 1.5, lambda: as_plain(numbers(10**5, 10**7, form="{}L"))),
