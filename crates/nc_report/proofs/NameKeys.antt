@@ -6,7 +6,6 @@ use Rattle.std.specs.Cmp.Lexicographic.{slice_cmp, bytes_decides}
 use Rattle.std.specs.Map.{lookup}
 use Rattle.std.specs.Option.{option_map, option_map_or, option_or}
 use Rattle.std.specs.declared.cmp.Ordering.{Ordering}
-use Rattle.std.specs.declared.cmp.Ordering.TheVariants.{Less, Equal, Greater}
 use Rattle.std.specs.Ordering.{is_eq, nat_cmp, ordering_then}
 use Rattle.std.specs.Str.{bytes_eq}
 use Rattle.std.proofs.lemmas.Bool.{and_parts}
@@ -14,7 +13,6 @@ use Rattle.std.proofs.lemmas.Grind.{common_steps}
 use Rattle.std.proofs.lemmas.List.Folds.{find-append}
 use Rattle.std.proofs.lemmas.Map.Text.{is_eq-slice_cmp}
 use Rattle.nc_report.specs.declared.names.NameList.{NameList}
-use Rattle.nc_report.specs.declared.names.NameList.TheVariants.{Dims, GlobalAtts, Vars, VarAtts}
 use Rattle.nc_report.specs.contracts.names.NameListOrd.TheImpl as lists
 use Rattle.nc_report.specs.Indexed.{Indexed}
 use Rattle.nc_report.specs.NameRules.{NameKey, is_same_key, is_same_list, is_index, is_first, key_of, has_key, first_index}
@@ -49,27 +47,10 @@ same_number : (i k : ℕ) → is_eq (nat_cmp i k) ≡ (i == k)
 same_number i k = grind (arith, common_steps)
 
 same_list : (a b : NameList) → is_eq (lists.ghosts.cmp a b) ≡ is_same_list a b
-same_list Dims Dims = refl
-same_list Dims GlobalAtts = refl
-same_list Dims Vars = refl
-same_list Dims (VarAtts k) = refl
-same_list GlobalAtts Dims = refl
-same_list GlobalAtts GlobalAtts = refl
-same_list GlobalAtts Vars = refl
-same_list GlobalAtts (VarAtts k) = refl
-same_list Vars Dims = refl
-same_list Vars GlobalAtts = refl
-same_list Vars Vars = refl
-same_list Vars (VarAtts k) = refl
-same_list (VarAtts i) Dims = refl
-same_list (VarAtts i) GlobalAtts = refl
-same_list (VarAtts i) Vars = refl
-same_list (VarAtts i) (VarAtts k) = same_number i k
+same_list v0 v1 = grind (arith, same_number)
 
 both : (a b : Ordering) → is_eq (ordering_then a b) ≡ (is_eq a && is_eq b)
-both Less b = refl
-both Equal b = refl
-both Greater b = refl
+both v0 b = grind arith
 
 same_name : (a b : LentKey)
     → is_eq (ordering_then (lists.ghosts.cmp a.1.0 b.1.0) (slice_cmp nat_cmp a.1.1.now b.1.1.now)) ≡ is_same_key (plain a) (plain b)
@@ -97,11 +78,7 @@ lookup-same {X = X} p q same (e ∷ es) =
 -- ---- equal keys
 
 same_lists : (a b : NameList) → is_same_list a b ≡ true → a ≡ b
-same_lists Dims Dims h = refl
-same_lists GlobalAtts GlobalAtts h = refl
-same_lists Vars Vars h = refl
-same_lists (VarAtts i) (VarAtts k) h = let e : i ≡ k = grind (arith, common_steps) in ap VarAtts e
-same_lists a b h = cc
+same_lists v0 v1 h = grind (arith, common_steps)
 
 same_keys : (a b : NameKey) → is_same_key a b ≡ true → a ≡ b
 same_keys a b h =
