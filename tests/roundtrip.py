@@ -5,7 +5,7 @@
 
 For each dataset of tests/datasets.py, bin/ncgen has to make, from what bin/ncdump prints of its file, at some width, the file of the
 same dataset without the NULs at the end of its attributes, byte for byte; the dump of that file has to be the same text; and bin/nccheck
-has to find no violation in it but those that a text can declare.
+has to find nothing in it, notes included, but what a text can declare.
 
 With --unidata the same text is given to Unidata's ncgen too (Debian's netcdf-bin), and it is said how many of its files have the
 same bytes. It makes others where it is known to differ (docs/DIFFERENCES.md).
@@ -57,7 +57,7 @@ class Trips:
             self.fail(number, "another file")
         elif run(BIN / "ncdump", *options, "second.nc").stdout != dump.stdout:
             self.fail(number, "another text")
-        found = run(BIN / "nccheck", "second.nc").stdout
+        found = run(BIN / "nccheck", "-l", "note", "second.nc").stdout
         if any(line.split(b": ")[2] not in ALLOWED for line in found.splitlines()):
             self.fail(number, f"a check finds {found}")
         return True
