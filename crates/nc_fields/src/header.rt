@@ -258,7 +258,8 @@ fn kept_letters(alloc: Global, is_hdf5: bool, letters: FieldBytes) -> Result<Fie
 
 /// Returns the letters, or errs with `NotNetcdf` if they aren't `CDF`.
 fn letters_in(letters: &[u8]) -> Result<[u8; 3], HeadFault>
-    ensures { result ≡ (if bytes_eq letters.now (codes "CDF") then Ok letters.now else Err (Format NotNetcdf)) }
+    ensures { result ≡ (if bytes_eq letters.now (codes "CDF") then Ok letters.now
+        else Err (Format NotNetcdf)) }
 {
     if letters == b"CDF".as_slice() {
         Ok(*b"CDF")
