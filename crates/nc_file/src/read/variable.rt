@@ -133,7 +133,7 @@ impl<S: Source> Window<'_, S> {
         let dimids = self.shape(alloc, version, dims)?;
         let atts = self.att_list(alloc, version)?;
         let sized = self.sized_type(version, dims, dimids.as_slice(), total)?;
-        self.number(version)?;
+        let _vsize = self.number(version)?;
         let begin_at = self.offset(version)?;
         Ok(SizedVar {
             var: Var {

@@ -11,5 +11,5 @@ returns-clause-read g c = record {
   kept = search rules;
   cause = search rules;
   reads = search (rules, part_runs);
-  used = var-used c.args.version c.args.dims.now c.args.total c.in_ok-number.field-0 _ _ _ _ _ _ _ _ c.in_ok-name.ensures.used c.in_ok-dimids.ensures.used c.in_ok-atts.ensures.used c.in_ok-sized.ensures.read.used c.in_ok-number.ensures.used c.in_ok-begin_at.ensures.used;
+  used = var-used c.args.version c.args.dims.now c.args.total c.in_ok-_vsize._vsize _ _ _ _ _ _ _ _ c.in_ok-name.ensures.used c.in_ok-dimids.ensures.used c.in_ok-atts.ensures.used c.in_ok-sized.ensures.read.used c.in_ok-_vsize.ensures.used c.in_ok-begin_at.ensures.used;
 }
