@@ -12,8 +12,9 @@ use crate::statement::check_statement;
 use cdl_statements::{CdlFault, Cutter, Section};
 
 /// Checks that nothing comes after the closing brace but the end of the text. `start` has the statements after the brace. If it has any,
-/// `section` has to be the section of the next one, `Closed` or `Ended`. `before` has the lines of the last two statements before `start`.
-/// Returns the line of the closing brace. Does not allocate.
+/// `section` has to be the section of the next one: `Closed` right after the brace, `Ended` after the end. `before` has the lines of the
+/// last two statements before `start`, since the brace is the last statement of a text but one. Returns the line of the closing brace.
+/// Does not allocate.
 ///
 /// # Errors
 ///

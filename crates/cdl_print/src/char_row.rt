@@ -74,8 +74,9 @@ fn put_next_part<W: Sink>(
     put_part_with_lead(sink, layout, progress, text, part)
 }
 
-/// Writes the characters of `part` with what stands before them ([`put_shown_with_lead`]), but without those that [`Layout::shown_chars`]
-/// leaves out. Moves `progress` past `part`. NULs at its end that weren't written are held back, or dropped if the row ends there.
+/// Writes what stands before the row if `part` begins it, the NULs that were held back, and the characters of `part`
+/// ([`put_shown_with_lead`]). In a trimmed layout NULs at the end of `part` aren't written ([`Layout::shown_chars`]): they are held back,
+/// or dropped if the row ends there. Moves `progress` past `part`.
 fn put_part_with_lead<W: Sink>(
     sink: &mut W,
     layout: &Layout<'_>,

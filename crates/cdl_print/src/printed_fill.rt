@@ -27,7 +27,8 @@ impl PrintedFill {
         }
     }
 
-    /// Returns true if a number is from 0 to 99 and doesn't print as `_`, so that its digits are shown.
+    /// Returns true if a number is from 0 to 99 and isn't `below_100`. If [`PrintedFill::of`] made `self`, it then doesn't print as `_`, so
+    /// its digits are shown.
     #[inline(always)]
     pub fn shows_below_100(self, number: i128) -> bool
         ensures { result ≡ shows_below_100 self.below_100 number }

@@ -63,7 +63,8 @@ pub fn pack(
 ///
 /// # Errors
 ///
-/// `Unnamed` if a token, a value or the shape has a fault; `OutOfMemory` if an allocation failed.
+/// `Unnamed` if a token, a value or the shape has a fault; no clause says that it is only then, since the caller reads the statement again
+/// for the fault. `OutOfMemory` if an allocation failed.
 #[inline(never)]
 pub fn pack_and_check<'a>(
     alloc: Global,

@@ -42,7 +42,7 @@ fn put_owner<W: Sink>(sink: &mut W, names: Names<'_>, owner: Owner) -> Result<()
     }
 }
 
-/// Writes an element of a list, and a space after it.
+/// Writes an element of a list as a part of a path, such as `var[2] "temperature"`, and a space after it.
 #[tactic(auto, using(devices::proofs::Writes::writes), unfolding(crate::specs::Paths::element_part))]
 fn put_element_part<W: Sink>(
     sink: &mut W,

@@ -258,7 +258,8 @@ pub fn is_record_var(dims: &[Dim], var: &Var) -> bool
 }
 
 /// Returns the number of bytes of a slab of this shape and type, without padding. It is the size of a value times the lengths
-/// of the dimensions, without the first one if that is the record dimension. Returns `None` above 2^48 bytes.
+/// of the dimensions, without the first one if that is the record dimension; one that isn't there counts as of length 0. Returns `None`
+/// above 2^48 bytes.
 pub fn slab_of(dims: &[Dim], dimids: &[u64], ty: NcType) -> Option<u64>
     ensures { IsCappedSlab dims.now dimids.now ty result }
 {

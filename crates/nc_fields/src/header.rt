@@ -186,7 +186,8 @@ impl Fields {
         Ok(byte)
     }
 
-    /// Reads the version byte. Errs with `UnknownVersion` if it is none of 1, 2 and 5.
+    /// Reads and lists the version byte, and returns the version. Errs with `UnknownVersion` if it is none of 1, 2 and 5, with
+    /// `HeaderTruncated` if there is none, and if the source or an allocation fails.
     #[tactic(auto, using(crate::proofs::Checks::part_lists), unfolding(nc_base::specs::Grammar::version_part))]
     fn version<S: Source>(&mut self, window: &mut Window<'_, S>) -> Result<Version, HeadFault>
         ensures { Checked (at window.old self.old) (at window.new self.new)

@@ -116,7 +116,7 @@ fn count_words(count: Count) -> &'static str
     }
 }
 
-/// Writes a count and its words.
+/// Writes the number `n` and the words that say what it counts, such as `3 with errors, `.
 #[tactic(auto, using(devices::proofs::Writes::writes), unfolding(crate::specs::Tallies::count_text))]
 fn put_count<W: Sink>(sink: &mut W, n: u128, count: Count) -> Result<(), WriteFailed>
     ensures { Wrote W.view sink.old sink.new (count_text n count) result }
