@@ -1,7 +1,7 @@
 -- Law. If nothing is found at the begins of variables and blocks, then each variable begins right after what comes before it: those that
 -- aren't record variables follow the header in its order, each with its padding, and then come the slabs of the first record. If nothing
 -- is found at the end of the file either, then the file ends after the last of its padded slabs. Such begins and such a length have no
--- findings, in a layout within limits. Without the findings that let slabs share bytes, no two slabs have a byte in common. Where values are
+-- findings, in a sound layout. Without the findings that let slabs share bytes, no two slabs have a byte in common. Where values are
 -- missing, a slab isn't whole.
 use Rattle.std.specs.Prelude.{◌≡◌, ◌≤◌, ◌<◌, IsSome, ◌⊎◌, ℕ, ◌+◌, ◌*◌, Bool, true, false, if◌then◌else◌, List, filter, take, sum_by, slice_get, IfSome}
 use Rattle.std.specs.List.{All, AllPairs, list_any}

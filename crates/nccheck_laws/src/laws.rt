@@ -20,13 +20,13 @@ ghost use Rattle.nccheck_laws.specs.OneReport.{EachFileHasReport, ReportsAreOne}
 /// order, and then those of the first record.
 ///
 /// `length`: if nothing is found at the end of the file either, then the file ends after the last of its padded slabs. So no other rule on
-/// begins or on the length is needed. Needs a layout within limits.
+/// begins or on the length is needed. Needs a sound layout ([`Layout::is_sound`](nc_layout::Layout::is_sound)).
 pub fn quiet_layouts_are_canonical()
     ensures begins { QuietBeginsAreCanonical }
     ensures length { QuietLengthIsCanonical }
 {}
 
-/// States two laws of layouts within limits, and does nothing: the converses of [`quiet_layouts_are_canonical`]. `begins`: if each variable
+/// States two laws of sound layouts, and does nothing: the converses of [`quiet_layouts_are_canonical`]. `begins`: if each variable
 /// begins right after the header and the padded slabs that come before its own, then nothing is found at the begins of variables and blocks.
 ///
 /// `length`: if the file also ends after the last of its padded slabs, then nothing is found at its end.
@@ -57,7 +57,7 @@ pub fn spelled_headers_have_sound_layouts()
 /// the header and the padded slabs that come before its own, then these are the begins of a generated file.
 ///
 /// `files`: if the number of records is known, and nothing is found at begins and at the end of the file, then the file has the header and
-/// the length of the file that is generated from its header without begins. Needs a layout within limits.
+/// the length of the file that is generated from its header without begins. Needs a sound layout.
 pub fn quiet_files_are_as_generated()
     ensures begins { CanonicalBeginsAreGenerated }
     ensures files { QuietFilesAreGenerated }
@@ -65,12 +65,12 @@ pub fn quiet_files_are_as_generated()
 
 /// States a law, and does nothing: the converse of `files` in [`quiet_files_are_as_generated`]. If a file's header has the begins of a
 /// generated one, and ends where it does as it is written, and the file has the length of the generated one, then nothing is found at begins
-/// and at the end of the file. Needs a layout within limits, and a known number of records.
+/// and at the end of the file. Needs a sound layout, and a known number of records.
 pub fn generated_layouts_are_quiet()
     ensures { GeneratedFilesAreQuiet }
 {}
 
-/// States three laws of files, and does nothing. `ends`: if a header has a layout within limits in a file, the file ends before its values
+/// States three laws of files, and does nothing. `ends`: if a header has a sound layout in a file, the file ends before its values
 /// do exactly if some variable has a first missing value.
 ///
 /// `found`: in such a file, values are found to be missing exactly if some variable has a first missing value.
