@@ -31,4 +31,5 @@ asked_by_taken words rows none is = ap asked_in is ∙ unless_none (fault_of ncc
 pub refused_words : (words : List (List ℕ)) (kind : ErrorKind) (r : Result CheckOptions OptFault) → IsErrAnd r (TellsKind kind)
     → (kind ≡ kinds.OutOfMemory) ⊎ IsAmong kind (fault_of nccheck words) → AnswersBy asked_for (asked_by words) r
 unfolding asked_by
-refused_words words kind r is_fault has = refusal_answers asked_for (fault_of nccheck words) (asked_in (matches_of nccheck words)) kind r is_fault has
+refused_words words kind r is_fault has =
+    refusal_answers asked_for (fault_of nccheck words) (asked_in (matches_of nccheck words)) kind r is_fault has

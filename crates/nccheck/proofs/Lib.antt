@@ -2,4 +2,3 @@ pub mod CommandLines
 pub mod InTurn
 pub mod Listing
 pub mod Openings
-pub mod PathLists

@@ -1,102 +1,83 @@
 -- A run over a list whose bytes come part by part.
-use Rattle.std.proofs.Common.{◌≡◌, ℕ, ◌+◌, ◌<◌, ◌≤◌, ◌^◌, List, [], ◌∷◌, ◌++◌, ◌⊎◌, codes, inl, inr, refl, sym, ap, ◌∙◌, append_assoc, append-nil, length, take, map, true, false, Bool, subst, Option, Some, None, IfSome, Err, arith, unwrap_or}
-use Rattle.std.specs.Io.KnownBytes.{Consumes, IsAtEnd, Keeps}
+use Rattle.std.proofs.Common.{◌≡◌, ℕ, ◌+◌, ◌<◌, ◌≤◌, ◌^◌, List, [], ◌∷◌, ◌++◌, ◌⊎◌, codes, inl, inr, refl, sym, ap, ◌∙◌, append_assoc, append-nil, length, take}
+use Rattle.std.proofs.Common.{◌&&◌, not, map, Bool, true, false, Option, Some, None, IfSome, Err, arith, unwrap_or}
+use Rattle.std.specs.Io.KnownBytes.{Consumes}
+use Rattle.std.proofs.KnownBytes.{Consumes-all, Consumes-kept, Consumes-nil, Consumes-trans}
 use Rattle.std.proofs.lemmas.List.{length-append, length-take-le}
 use Rattle.nc_base.specs.Bytes.{Bytes}
 use Rattle.devices.specs.Failures.{HasFailed}
-use Rattle.devices.specs.Openers.{OpenerView}
 use Rattle.devices.specs.Readers.{ReaderView}
-use Rattle.devices.specs.code.PathOpens.{NamesAsBefore}
+use Rattle.devices.specs.Uses.{Use}
 use Rattle.devices.specs.code.ReaderReads.{HandedOver, NoneHandedOver}
 use Rattle.nccheck.specs.CommandLine.{Asked}
-use Rattle.nccheck.specs.PathLists.{Broken, Item, items_after, items_in, last_items, Path, Unread, Whole}
-use Rattle.nccheck.specs.Runs.{Either, Fails, Openings, openings, ReadsList, ReadsNothing, State}
-use Rattle.nccheck.specs.Tallies.{counted, no_files}
-use Rattle.nccheck.specs.code.Counts.{Counts, CountsAll, CountsList, Gives, Takes}
+use Rattle.nccheck.specs.PathLists.{Broken, Item, items_after, items_in, last_items, ListEnd, Path, Unread, Whole}
+use Rattle.nccheck.specs.Runs.{Either, Fails, has_ended, Openings, ReadsList, ReadsNothing, RunsFiles, State, Writes}
+use Rattle.nccheck.specs.Tallies.{counted, no_files, status_of, summary_line}
+use Rattle.nccheck.specs.code.Counts.{Counts, CountsAll, CountsList, Gives, Takes, TakesItems}
 use Rattle.nccheck.specs.declared.tally.Tally.{Tally}
 use Rattle.nccheck.specs.declared.fault.FileFault.TheVariants.{ReadFailed}
-use Rattle.nccheck.proofs.InTurn.{counts_named, counts_none, counts_one, counts_stop, counts_then, either_first, either_second}
-use Rattle.nccheck.proofs.PathLists.{gives_all, gives_none, gives_path, gives_then}
+use Rattle.nccheck.proofs.InTurn.{counts_none, counts_one, counts_stop, counts_then, either}
 
--- what paths name at this time is what they named at first
-pub takes_named : {P : Type 0} (is_transparent : Bool) (first now : Bytes → Option Bytes) (view : P → OpenerView) (a : Asked) (bytes begun last : Bytes)
-    (old new : State P) (before : Tally) (after : Option Tally) → NamesAsBefore first now
-    → Takes (openings is_transparent now view) a bytes begun last old new before after
-    → Takes (openings is_transparent first view) a bytes begun last old new before after
-takes_named is_transparent first now view a bytes begun last old new before after same t = record {
-  items = t.items;
-  counts = counts_named is_transparent first now view a same t.items old new before after t.counts;
-  takes = t.takes;
-}
+-- ---- the bytes of a list
 
--- ---- bytes that a reader has given
+-- those that were read, and those that are left, are all, if they are known
+with_rest : (a b : Option Bytes) (bytes : Bytes) → Consumes a b bytes → IfSome a (λ all. bytes ++ unwrap_or b [] ≡ all)
+with_rest None b bytes read = tt
+with_rest (Some xs) None bytes read = absurd read
+with_rest (Some xs) (Some ys) bytes read = sym read
 
-consumes_none : (a : Option Bytes) → Consumes a a []
-consumes_none None = tt
-consumes_none (Some xs) = refl
+given_then : (bytes others begun mid : Bytes) (items more : List Item) (rest : ListEnd → Bytes → List Item) → Gives bytes begun mid items
+    → ((end : ListEnd) (left : Bytes) → items_after end mid (others ++ left) ≡ more ++ rest end left)
+    → (end : ListEnd) (left : Bytes) → items_after end begun ((bytes ++ others) ++ left) ≡ (items ++ more) ++ rest end left
+given_then bytes others begun mid items more rest one two end left =
+    ap (items_after end begun) (append_assoc bytes others left) ∙ one.is end (others ++ left)
+    ∙ ap (λ (x : List Item). items ++ x) (two end left) ∙ sym (append_assoc items more (rest end left))
 
-consumes_then : (a b c : Option Bytes) (first second : Bytes) → Consumes a b first → Consumes b c second → Consumes a c (first ++ second)
-consumes_then None b c first second one two = tt
-consumes_then (Some xs) None c first second one two = absurd one
-consumes_then (Some xs) (Some ys) None first second one two = absurd two
-consumes_then (Some xs) (Some ys) (Some zs) first second one two = one ∙ ap (λ (rest : Bytes). first ++ rest) two ∙ sym (append_assoc first second zs)
+items_then : (bytes others begun mid now : Bytes) (items more : List Item) (after : Option Tally) → Gives bytes begun mid items
+    → TakesItems others mid now more after → TakesItems (bytes ++ others) begun now (items ++ more) after
+items_then bytes others begun mid now items more (Some after) one two =
+    record { is = given_then bytes others begun mid items more _ one two.is }
+items_then bytes others begun mid now items more None one two =
+    record { others = two.others; is = given_then bytes others begun mid items more _ one two.is }
 
-consumes_kept : (a b c : Option Bytes) (bytes : Bytes) → Consumes a b bytes → Keeps b c → Consumes a c bytes
-consumes_kept None b c bytes one kept = tt
-consumes_kept (Some xs) None c bytes one kept = absurd one
-consumes_kept (Some xs) (Some ys) None bytes one kept = absurd kept
-consumes_kept (Some xs) (Some ys) (Some zs) bytes one kept = one ∙ ap (λ (rest : Bytes). bytes ++ rest) (sym kept)
+-- the NUL after a path
+gives_path : (begun : Bytes) (after : Option Tally) → TakesItems (0 ∷ []) begun [] (Path begun ∷ []) after
+gives_path begun (Some after) = record { is = λ end more. refl }
+gives_path begun None = record { others = λ end more. items_after end [] more; is = λ end more. refl }
 
--- all bytes, if they are known
-all_read : (a b : Option Bytes) (bytes rest : Bytes) → Consumes a b bytes → IfSome b (λ left. rest ≡ left) → IfSome a (λ all. bytes ++ rest ≡ all)
-all_read None b bytes rest one is = tt
-all_read (Some xs) None bytes rest one is = absurd one
-all_read (Some xs) (Some ys) bytes rest one is = ap (λ (left : Bytes). bytes ++ left) is ∙ sym one
-
-at_end : (b : Option Bytes) → IsAtEnd b → IfSome b (λ left. [] ≡ left)
-at_end None end = tt
-at_end (Some xs) end = sym end
-
-known_left : (b : Option Bytes) → IfSome b (λ left. unwrap_or b [] ≡ left)
-known_left None = tt
-known_left (Some xs) = refl
-
-untouched : (has_list : Bool) (input : ReaderView) → (items : List Item) × Either has_list (ReadsList input input items) (ReadsNothing input input items)
-untouched true input = (
-  items_in Whole (unwrap_or input.remaining []),
-  record {
-    bytes = unwrap_or input.remaining [];
-    end = Whole;
-    has = (known_left input.remaining, refl);
-    is = refl;
-  },
-)
+-- a list of which nothing was read
+untouched : (has_list : Bool) (input : ReaderView)
+    → (items : List Item) × Either has_list (ReadsList input input items) (ReadsNothing input input items)
+untouched true input =
+    let all = unwrap_or input.remaining [] in
+    let read = with_rest input.remaining input.remaining [] (Consumes-nil input.remaining) in
+    (items_in Whole all, record { bytes = all; end = Whole; has = (read, refl); is = refl })
 untouched false input = ([], record { same = refl; none = refl })
 
 module _ {P : Type 0} (o : Openings P) (a : Asked) where
+  -- what was read so far
+  pub record ReadUpTo (start here : ReaderView) (begun : Bytes) (old now : State P) (first tally : Tally) (n : ℕ) : Type 0 where
+    pub bytes : Bytes
+    pub part : Consumes start.remaining here.remaining bytes
+    pub failures : here.failures ≡ start.failures
+    pub takes : Takes o a bytes [] begun old now first (Some tally)
+    pub enough : n ≤ length bytes
+
+module _ {P : Type 0} {o : Openings P} {a : Asked} where
   -- bytes of which all items were checked, and then bytes after them
-  pub takes_then : (bytes others begun mid now : Bytes) (old cur new : State P) (first between : Tally) (after : Option Tally)
+  pub takes_then : {bytes others begun mid now : Bytes} {old cur new : State P} {first between : Tally} {after : Option Tally}
       → Takes o a bytes begun mid old cur first (Some between) → Takes o a others mid now cur new between after
       → Takes o a (bytes ++ others) begun now old new first after
-  takes_then bytes others begun mid now old cur new first between (Some after) one two = record {
+  takes_then {bytes} {others} {begun} {mid} {now} {after = after} one two = record {
     items = one.items ++ two.items;
-    counts = counts_then o a one.items two.items old cur new first between (Some after) one.counts two.counts;
-    takes = gives_then bytes others begun mid now one.items two.items one.takes two.takes;
-  }
-  takes_then bytes others begun mid now old cur new first between None one two = record {
-    items = one.items ++ two.items;
-    counts = counts_then o a one.items two.items old cur new first between None one.counts two.counts;
-    takes = record {
-      others = two.takes.others;
-      is = λ end more. ap (items_after end begun) (append_assoc bytes others more) ∙ one.takes.is end (others ++ more)
-          ∙ ap (λ (x : List Item). one.items ++ x) (two.takes.is end more) ∙ sym (append_assoc one.items two.items (two.takes.others end more));
-    };
+    counts = counts_then one.counts two.counts;
+    takes = items_then bytes others begun mid now one.items two.items after one.takes two.takes;
   }
 
   -- bytes after those of which one has ended the run don't matter
-  pub takes_stop : (bytes rest begun now last : Bytes) (old new : State P) (tally : Tally) → Takes o a bytes begun now old new tally None
-      → Takes o a (bytes ++ rest) begun last old new tally None
-  takes_stop bytes rest begun now last old new tally t = record {
+  pub takes_stop : {bytes begun now : Bytes} (rest last : Bytes) {old new : State P} {tally : Tally}
+      → Takes o a bytes begun now old new tally None → Takes o a (bytes ++ rest) begun last old new tally None
+  takes_stop {bytes} {begun} rest last t = record {
     items = t.items;
     counts = t.counts;
     takes = record {
@@ -105,158 +86,176 @@ module _ {P : Type 0} (o : Openings P) (a : Asked) where
     };
   }
 
-  -- no byte
-  pub takes_none : (begun : Bytes) (now : State P) (tally : Tally) → Takes o a [] begun begun now now tally (Some tally)
-  takes_none begun now tally = record { items = []; counts = counts_none o a now tally; takes = gives_none begun }
-
   -- the NUL after a path
-  pub takes_path : (b : ℕ) (begun last : Bytes) (old new : State P) (tally : Tally) (after : Option Tally) → b ≡ 0 → last ≡ []
-      → Counts o a (Path begun ∷ []) old new tally after → Takes o a (b ∷ []) begun last old new tally after
-  takes_path b begun last old new tally (Some after) is none counts = record {
-    items = Path begun ∷ [];
-    counts = counts;
-    takes = subst (λ (now : Bytes). Gives (b ∷ []) begun now (Path begun ∷ [])) (sym none) (gives_path begun b is);
-  }
-  takes_path b begun last old new tally None is none counts = record {
-    items = Path begun ∷ [];
-    counts = counts;
-    takes = record { others = λ end more. items_after end [] more; is = (gives_path begun b is).is };
-  }
+  pub takes_path : {begun : Bytes} {old new : State P} {tally : Tally} {after : Option Tally}
+      → Counts o a (Path begun ∷ []) old new tally after → Takes o a (0 ∷ []) begun [] old new tally after
+  takes_path {begun} {after = after} counts = record { items = Path begun ∷ []; counts = counts; takes = gives_path begun after }
 
-  -- ---- what was read so far
+  -- ---- a list that is read to its end
 
-  pub record ReadUpTo (start here : ReaderView) (begun : Bytes) (old now : State P) (first tally : Tally) (n : ℕ) : Type 0 where
-    pub bytes : Bytes
-    pub part : Consumes start.remaining here.remaining bytes
-    pub failures : here.failures ≡ start.failures
-    pub takes : Takes o a bytes [] begun old now first (Some tally)
-    pub enough : n ≤ length bytes
-
-  pub read_none : (start : ReaderView) (old : State P) (tally : Tally) → ReadUpTo start start [] old old tally tally 0
+  pub read_none : (start : ReaderView) (old : State P) (tally : Tally) → ReadUpTo o a start start [] old old tally tally 0
   read_none start old tally = record {
     bytes = [];
-    part = consumes_none start.remaining;
+    part = Consumes-nil start.remaining;
     failures = refl;
-    takes = takes_none [] old tally;
+    takes = record { items = []; counts = counts_none old tally; takes = record { is = λ end more. refl } };
     enough = omega arith;
   }
 
   -- one more part was read, and its items were checked
-  pub read_more : (start here next : ReaderView) (begun last before following : Bytes) (old now new : State P) (first tally more : Tally) (n k : ℕ)
-      → ReadUpTo start here begun old now first tally n → HandedOver here next before following k → 0 < k → length following ≡ length before
-      → Takes o a (take k following) begun last now new tally (Some more) → ReadUpTo start next last old new first more (n + 1)
-  read_more start here next begun last before following old now new first tally more n k up handed some same takes = record {
+  pub read_more : {start here next : ReaderView} {begun last before following : Bytes} {old now new : State P}
+      {first tally more : Tally} {n k : ℕ}
+      → ReadUpTo o a start here begun old now first tally n → HandedOver here next before following k → 0 < k
+      → length following ≡ length before
+      → Takes o a (take k following) begun last now new tally (Some more) → ReadUpTo o a start next last old new first more (n + 1)
+  read_more {start} {here} {next} {following = following} {k = k} up handed some same takes = record {
     bytes = up.bytes ++ take k following;
-    part = consumes_then start.remaining here.remaining next.remaining up.bytes (take k following) up.part handed.bytes;
+    part = Consumes-trans start.remaining here.remaining next.remaining up.bytes (take k following) up.part handed.bytes;
     failures = handed.failures ∙ up.failures;
-    takes = takes_then up.bytes (take k following) [] begun last old now new first tally (Some more) up.takes takes;
+    takes = takes_then up.takes takes;
     enough = let within : k ≤ length following = omega (arith, handed.within, same) in
         omega (arith, length-append up.bytes (take k following), length-take-le k following within, up.enough);
   }
 
   -- a fault has ended the run at an item of this part
-  pub read_stop : (start here next : ReaderView) (begun last before following : Bytes) (old now new : State P) (first tally : Tally) (n k : ℕ)
-      → ReadUpTo start here begun old now first tally n → HandedOver here next before following k
+  pub read_stop : {start here next : ReaderView} {begun last before following : Bytes} {old now new : State P} {first tally : Tally}
+      {n k : ℕ}
+      → ReadUpTo o a start here begun old now first tally n → HandedOver here next before following k
       → Takes o a (take k following) begun last now new tally None → CountsList o a start next old new first None
-  read_stop start here next begun last before following old now new first tally n k up handed takes =
-      let part = take k following in
-      let all = takes_then up.bytes part [] begun last old now new first tally None up.takes takes in
+  read_stop {start} {here} {next} {following = following} {k = k} up handed takes =
+      let bytes = up.bytes ++ take k following in
+      let all = takes_then up.takes takes in
       let rest = unwrap_or next.remaining [] in
+      let part = Consumes-trans start.remaining here.remaining next.remaining up.bytes (take k following) up.part handed.bytes in
       record {
         items = all.items ++ all.takes.others Whole rest;
         reads = record {
-          bytes = (up.bytes ++ part) ++ rest;
+          bytes = bytes ++ rest;
           end = Whole;
-          has = (
-            all_read start.remaining next.remaining (up.bytes ++ part) rest
-                (consumes_then start.remaining here.remaining next.remaining up.bytes part up.part handed.bytes) (known_left next.remaining),
-            handed.failures ∙ up.failures,
-          );
+          has = (with_rest start.remaining next.remaining bytes part, handed.failures ∙ up.failures);
           is = sym (all.takes.is Whole rest);
         };
-        counts = counts_stop o a all.items (all.takes.others Whole rest) old new first all.counts;
+        counts = counts_stop (all.takes.others Whole rest) all.counts;
       }
 
   -- the list has ended
-  pub read_whole : (start here next : ReaderView) (begun before following : Bytes) (old now new : State P) (first tally : Tally) (after : Option Tally) (n k : ℕ)
-      → ReadUpTo start here begun old now first tally n → HandedOver here next before following k → k ≡ 0 → 0 < length before
+  pub read_whole : {start here next : ReaderView} {begun before following : Bytes} {old now new : State P} {first tally : Tally}
+      {after : Option Tally} {n k : ℕ}
+      → ReadUpTo o a start here begun old now first tally n → HandedOver here next before following k → k ≡ 0 → 0 < length before
       → Counts o a (last_items Whole begun) now new tally after → CountsList o a start next old new first after
-  read_whole start here next begun before following old now new first tally after n k up handed none some counts =
-      let t = up.takes in
-      let nothing : take k following ≡ [] = ap (λ (i : ℕ). take i following) none in
-      let kept : Consumes here.remaining next.remaining [] = subst (Consumes here.remaining next.remaining) nothing handed.bytes in
-      let part = consumes_then start.remaining here.remaining next.remaining up.bytes [] up.part kept in
+  read_whole {start} {here} {next} {begun} {following = following} {k = k} up handed none some counts =
+      let bytes = up.bytes ++ take k following in
+      let part = Consumes-trans start.remaining here.remaining next.remaining up.bytes (take k following) up.part handed.bytes in
       record {
-        items = t.items ++ last_items Whole begun;
+        items = up.takes.items ++ last_items Whole begun;
         reads = record {
-          bytes = (up.bytes ++ []) ++ [];
+          bytes = bytes;
           end = Whole;
           has = (
-            all_read start.remaining next.remaining (up.bytes ++ []) [] part (at_end next.remaining (handed.some none some)),
+            Consumes-all start.remaining next.remaining bytes [] bytes part (handed.some none some) refl,
             handed.failures ∙ up.failures,
           );
-          is = sym (ap (items_in Whole) (append-nil (up.bytes ++ []) ∙ append-nil up.bytes) ∙ gives_all up.bytes [] begun t.items Whole t.takes);
+          is = rw none (sym (up.takes.takes.is Whole []));
         };
-        counts = counts_then o a t.items (last_items Whole begun) old now new first tally after t.counts counts;
+        counts = counts_then up.takes.counts counts;
       }
 
   -- ---- a list that can't be read on
 
-  broken : (start here next : ReaderView) (begun : Bytes) (old now new : State P) (first tally : Tally) (n : ℕ)
-      → (up : ReadUpTo start here begun old now first tally n) → Consumes start.remaining next.remaining up.bytes
+  broken : {start here next : ReaderView} {begun : Bytes} {old now new : State P} {first tally : Tally} {n : ℕ}
+      → (up : ReadUpTo o a start here begun old now first tally n) → Consumes start.remaining next.remaining up.bytes
       → HasFailed start.failures next.failures ⊎ (2 ^ 64 ≤ length up.bytes + 1) → Fails (codes "-") ReadFailed now new (Err ReadFailed)
       → CountsList o a start next old new first (Some (counted tally (Err ReadFailed)))
-  broken start here next begun old now new first tally n up part why fails =
-      let t = up.takes in
-      record {
-        items = t.items ++ Unread ∷ [];
-        reads = record {
-          bytes = up.bytes;
-          end = Broken;
-          has = (part, why);
-          is = sym (gives_all up.bytes [] begun t.items Broken t.takes);
-        };
-        counts = counts_then o a t.items (Unread ∷ []) old now new first tally (Some (counted tally (Err ReadFailed))) t.counts
-            (counts_one o a Unread now new tally (Err ReadFailed) fails refl);
-      }
+  broken up part why fails = record {
+    items = up.takes.items ++ Unread ∷ [];
+    reads = record {
+      bytes = up.bytes;
+      end = Broken;
+      has = (part, why);
+      is = sym (ap (items_in Broken) (sym (append-nil up.bytes)) ∙ up.takes.takes.is Broken []);
+    };
+    counts = counts_then up.takes.counts (counts_one (Err ReadFailed) fails (refl, refl));
+  }
 
   -- since a read has failed
-  pub read_failed : (start here next : ReaderView) (begun : Bytes) (old now new : State P) (first tally : Tally) (n : ℕ)
-      → ReadUpTo start here begun old now first tally n → NoneHandedOver here next → Fails (codes "-") ReadFailed now new (Err ReadFailed)
+  pub read_failed : {start here next : ReaderView} {begun : Bytes} {old now new : State P} {first tally : Tally} {n : ℕ}
+      → ReadUpTo o a start here begun old now first tally n → NoneHandedOver here next
+      → Fails (codes "-") ReadFailed now new (Err ReadFailed)
       → CountsList o a start next old new first (Some (counted tally (Err ReadFailed)))
-  read_failed start here next begun old now new first tally n up none fails =
-      broken start here next begun old now new first tally n up (consumes_kept start.remaining here.remaining next.remaining up.bytes up.part none.bytes)
-      (inl (subst (λ (count : ℕ). HasFailed count next.failures) up.failures none.failures)) fails
+  read_failed {start} {here} {next} up none fails =
+      broken up (Consumes-kept start.remaining here.remaining next.remaining up.bytes up.part none.bytes)
+      (inl (rw up.failures at none.failures)) fails
 
   -- since it is too long
-  pub read_too_much : (start here : ReaderView) (begun : Bytes) (old now new : State P) (first tally : Tally) (n : ℕ)
-      → ReadUpTo start here begun old now first tally n → 2 ^ 64 ≤ n + 1 → Fails (codes "-") ReadFailed now new (Err ReadFailed)
+  pub read_too_much : {start here : ReaderView} {begun : Bytes} {old now new : State P} {first tally : Tally} {n : ℕ}
+      → ReadUpTo o a start here begun old now first tally n → 2 ^ 64 ≤ n + 1 → Fails (codes "-") ReadFailed now new (Err ReadFailed)
       → CountsList o a start here old new first (Some (counted tally (Err ReadFailed)))
-  read_too_much start here begun old now new first tally n up most fails =
-      broken start here here begun old now new first tally n up up.part (inr (omega (arith, up.enough, most))) fails
+  read_too_much up most fails = broken up up.part (inr (omega (arith, up.enough, most))) fails
 
   -- ---- the words, and then the list
 
   -- a file of the words has ended the run, so nothing of the list was read
-  pub all_stop : (input : ReaderView) (old new : State P) → Counts o a (map Path a.files) old new no_files None → CountsAll o a input input old new None
-  all_stop input old new c =
+  pub all_stop : {input : ReaderView} {old new : State P} → Counts o a (map Path a.files) old new no_files None
+      → CountsAll o a input input old new None
+  all_stop {input} c =
       let l = untouched a.has_list input in
-      record { items = l.0; reads = l.1; counts = counts_stop o a (map Path a.files) l.0 old new no_files c }
+      record { items = l.0; reads = l.1; counts = counts_stop l.0 c }
 
   -- there is no list
-  pub all_words : (input : ReaderView) (old new : State P) (after : Option Tally) → a.has_list ≡ false
+  pub all_words : {input : ReaderView} {old new : State P} {after : Option Tally} → a.has_list ≡ false
       → Counts o a (map Path a.files) old new no_files after → CountsAll o a input input old new after
-  all_words input old new after none c = record {
+  all_words none c = record {
     items = [];
-    reads = either_second a.has_list _ _ none (record { same = refl; none = refl });
-    counts = subst (λ (items : List Item). Counts o a items old new no_files after) (sym (append-nil (map Path a.files))) c;
+    reads = rw none (record { same = refl; none = refl });
+    counts = rw (append-nil (map Path a.files)) c;
   }
 
   -- and then the list
-  pub all_then : (start end : ReaderView) (old mid new : State P) (tally : Tally) (after : Option Tally) → a.has_list ≡ true
-      → Counts o a (map Path a.files) old mid no_files (Some tally) → CountsList o a start end mid new tally after → CountsAll o a start end old new after
-  all_then start end old mid new tally after some words list = record {
-    items = list.items;
-    reads = either_first a.has_list _ _ some list.reads;
-    counts = counts_then o a (map Path a.files) list.items old mid new no_files tally after words list.counts;
+  pub all_then : {start end : ReaderView} {old mid new : State P} {tally : Tally} {after : Option Tally} → a.has_list ≡ true
+      → Counts o a (map Path a.files) old mid no_files (Some tally) → CountsList o a start end mid new tally after
+      → CountsAll o a start end old new after
+  all_then some words list = record { items = list.items; reads = rw some list.reads; counts = counts_then words list.counts }
+
+  -- ---- the last line
+
+  -- none, where a fault has ended the run
+  pub runs_stopped : {input : Use ReaderView} {old new : State P} → CountsAll o a input.before input.after old new None
+      → RunsFiles o a input old new 2
+  runs_stopped {new = new} c = record {
+    listed = c.items;
+    reads = c.reads;
+    answers = c.counts.answers;
+    mid = new;
+    runs = c.counts.runs;
+    opener = refl;
+    ends = either (a.is_counted && not (has_ended c.counts.answers)) (λ yes. absurd (grind (arith, yes, c.counts.counts.0)))
+        (λ no. record { same = refl; stays = sym c.counts.counts.1 });
+  }
+
+  -- none, where it isn't asked for
+  pub runs_silent : {input : Use ReaderView} {old new : State P} {tally : Tally} {status : ℕ}
+      → CountsAll o a input.before input.after old new (Some tally)
+      → a.is_counted ≡ false → status ≡ status_of tally → RunsFiles o a input old new status
+  runs_silent {new = new} c none is = record {
+    listed = c.items;
+    reads = c.reads;
+    answers = c.counts.answers;
+    mid = new;
+    runs = c.counts.runs;
+    opener = refl;
+    ends = rw none (record { same = refl; stays = is ∙ ap status_of c.counts.counts.0 });
+  }
+
+  pub runs_counted : {input : Use ReaderView} {old mid new : State P} {tally : Tally} {status : ℕ}
+      → CountsAll o a input.before input.after old mid (Some tally)
+      → a.is_counted ≡ true → new.opener ≡ mid.opener → Writes (summary_line tally) mid new (status_of tally) status
+      → RunsFiles o a input old new status
+  runs_counted {mid = mid} c some same writes = record {
+    listed = c.items;
+    reads = c.reads;
+    answers = c.counts.answers;
+    mid = mid;
+    runs = c.counts.runs;
+    opener = same;
+    ends = rw (some, c.counts.counts.1, ← c.counts.counts.0) writes;
   }

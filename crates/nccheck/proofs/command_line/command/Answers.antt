@@ -19,4 +19,5 @@ returns c =
     let three = c.in_ok-arg-3.ensures.shape c.flag-3.ensures.local ∙ ap₂ with_rule two list_is in
     let four = c.in_ok-arg-4.ensures.shape c.option.ensures.local ∙ ap₂ with_rule three level_is in
     let five = c.in_ok-arg-5.ensures.shape c.option-2.ensures.local ∙ ap₂ with_rule four ignored_is in
-    IfOk-weaker c.arg-6.result _ _ (λ command adds. adds.shape c.files.ensures.local ∙ ap₂ with_rule five c.files.ensures.rule) c.arg-6.ensures
+    IfOk-weaker c.arg-6.result _ _
+    (λ command adds. adds.shape c.files.ensures.local ∙ ap₂ with_rule five c.files.ensures.rule) c.arg-6.ensures

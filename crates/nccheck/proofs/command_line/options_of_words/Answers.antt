@@ -11,8 +11,10 @@ pub returns-in_err-matches : goal.returns-in_err-matches
 returns-in_err-matches c =
     let words = texts_of c.args.words.now in
     let is = c.in_ok-command.ensures in
-    let has = subst (λ (app : App). HasKind (fault_of app words) c.in_err-matches.field-0.0) is (c.in_err-matches.ensures.kinds (ap is_simple_and_free is ∙ is_plain)) in
-    refused_words words (kind_of c.in_err-matches.field-0.0) c.from_residual-in_err-matches.result c.from_residual-in_err-matches.ensures.1 has
+    let has = subst (λ (app : App). HasKind (fault_of app words) c.in_err-matches.field-0.0) is
+    (c.in_err-matches.ensures.kinds (ap is_simple_and_free is ∙ is_plain)) in
+    refused_words words (kind_of c.in_err-matches.field-0.0)
+    c.from_residual-in_err-matches.result c.from_residual-in_err-matches.ensures.1 has
 
 pub returns : goal.returns
 returns c =

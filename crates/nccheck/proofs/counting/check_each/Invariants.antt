@@ -13,6 +13,7 @@ invariant-loop-file g l = record {
   names : NamesAsBefore (g.P.Opener.named l.fn.opener) (g.P.Opener.named l.opener);
   counts : Counts (openings g.P.Source.Source.is_transparent (g.P.Opener.named l.fn.opener) g.P.Opener.view) (asked_for l.options)
       (map Path (texts_of (take l.file-index l.files)))
-      (state g.O.Sink.view g.E.Sink.view l.fn.opener l.fn.out l.fn.err) (state g.O.Sink.view g.E.Sink.view l.opener l.out l.err) no_files (Some l.tally);
+      (state g.O.Sink.view g.E.Sink.view l.fn.opener l.fn.out l.fn.err) (state g.O.Sink.view g.E.Sink.view l.opener l.out l.err)
+      no_files (Some l.tally);
   few : total l.tally ≤ l.file-index;
 }
