@@ -139,7 +139,8 @@ AreLeft n = n.progress.position + length n.values ≤ n.look.total
 abbrev pub AreInRow : NextValues → Type 0
 AreInRow n = 0 < length n.values → (0 < n.progress.row_index) × (n.progress.row_index + length n.values ≤ n.look.row)
 
--- the next values are printed, whichever stand before them
+-- the next values are printed, whichever stand before them (of a progress that no values lead to it says nothing: `HasPrinted`, which holds of
+-- a new printer and after each of its calls, names values that do)
 pub record IsAfterNext (n : NextValues) (q : Progress) : Type 0 where
   pub position : q.position ≡ n.progress.position + length n.values
   pub following : (xs : List ℤ) → IsAfter n.look xs n.progress → IsAfter n.look (xs ++ n.values) q
