@@ -101,7 +101,7 @@ fn put_next_value(
 
 /// Puts a byte's number that isn't its row's first, as `_` or in decimal, into `text` at the end of `line`, after `, `, and on a new line if
 /// it doesn't fit. Returns the last line after it. No branch depends on the number, unless it prints as `_` or begins a line. Needs a
-/// `fill` made of `layout`, a number from -128 to 255, and, as any number does, room for 47 bytes in `text`.
+/// `fill` made of `layout`, a number from -128 to 255, and room for 47 bytes in `text`, as for any number.
 #[inline(always)]
 fn put_next_byte(
     text: &mut [u8],

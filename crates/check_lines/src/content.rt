@@ -81,7 +81,7 @@ fn put_digits<W: Sink>(sink: &mut W, bytes: &[u8], is_zero: bool) -> Result<(), 
     Ok(())
 }
 
-/// Writes a byte as two hexadecimal digits, or 0 in its place.
+/// Writes a byte as two hexadecimal digits, or `00` if `is_zero` is true.
 fn put_hex_byte<W: Sink>(sink: &mut W, b: u8, is_zero: bool) -> Result<(), WriteFailed>
     ensures { Wrote W.view sink.old sink.new (digits is_zero b) result }
 {
