@@ -30,7 +30,7 @@ all: bin/ncdump bin/ncgen bin/nccheck
 # Proves and builds the programs, if anything of the crates that they stand on has changed.
 program_crates := $(addprefix crates/,$(shell ./build.sh --crates 2>/dev/null))
 bin/ncdump bin/ncgen bin/nccheck &: $(wildcard build.sh kit.sh HANDLES crates.txt) $(if $(program_crates),$(shell find $(program_crates) \
-		\( -name out -o -name must-fail -o -name wrong-bodies \) -prune -o -type f -print))
+		\( -name out -o -name wrong-bodies \) -prune -o -type f -print))
 	@$(sources)
 	@test -x bin/ncdump || { $(try); }
 	./build.sh
@@ -50,8 +50,8 @@ sources = test -e build.sh || \
 	{ echo 'This needs the sources and the Rattle kit: this folder is a release, which has the built programs in bin/.' >&2; exit 1; }
 
 # The merge gate, in parts that run side by side where none waits for another.
-test: $(if $(wildcard tests),test-proofs test-definitions test-named test-bodies test-programs,kit)
-test-bodies test-programs: test-proofs
+test: $(if $(wildcard tests),test-proofs test-definitions test-named test-bodies test-programs test-growth,kit)
+test-bodies test-programs test-growth: test-proofs
 test-proofs test-definitions test-named: kit
 ifeq ($(MAKECMDGOALS),test)
 MAKEFLAGS += --jobs=3
@@ -84,27 +84,29 @@ test-bodies:
 	tests/wrong_bodies.py
 
 # Places where out of memory is made of anything but a failed allocation, or of one by a number that isn't known to be needed; the tests and
-# the programs that the gate has built, with each allocation failing in turn; how much memory the programs ask for; the programs from end to
-# end, with their calls of the system counted, on texts and files of many parts, whose time may not grow with a square, nor be that of a
-# slower way, on random datasets, and on mangled files and texts; the recipes of the manual pages; the documents; and a release, unpacked
-# and run.
+# the programs that the gate has built, with each allocation failing in turn; the programs from end to end, with their calls of the system
+# counted; the recipes of the manual pages; the documents; and a release, unpacked and run.
 test-programs:
 	tests/refusals.py
 	tests/either_kit.sh
 	tests/allocation_failures.sh
-	tests/memory.py
 	tests/ncdump.sh
 	tests/ncgen.sh
 	tests/nccheck.sh
 	tests/recipes.sh
 	tests/calls.sh
+	tests/documents.py
+	tests/release.sh
+
+# The built programs on many files and texts: how much memory they ask for; files of many lengths; texts and files of many parts, whose time
+# may not grow with a square, nor be that of a slower way; random datasets; and mangled files and texts.
+test-growth:
+	tests/memory.py
 	tests/lengths.py 8
 	tests/squares.py
 	tests/ratios.py
 	tests/roundtrip.py
 	tests/hostile.py
-	tests/documents.py
-	tests/release.sh
 
 # The scripts run make of their own, which knows nothing of this one.
 unexport MAKEFLAGS
@@ -180,4 +182,4 @@ clean:
 	@$(sources)
 	rm -rf bin dist crates/*/out
 
-.PHONY: all try kit test test-proofs test-definitions test-named test-bodies test-programs install uninstall names dist check clean
+.PHONY: all try kit test test-proofs test-definitions test-named test-bodies test-programs test-growth install uninstall names dist check clean

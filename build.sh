@@ -26,7 +26,7 @@ copy_crates() {
     local folder=$1
     shift
     grep -E "^($(tr ' ' '|' <<<"$*")):" crates.txt >"$folder/crates.txt"
-    tar -c --exclude=out --exclude=must-fail --exclude=wrong-bodies HANDLES "${@/#/crates/}" | tar -x -C "$folder"
+    tar -c --exclude=out --exclude=wrong-bodies HANDLES "${@/#/crates/}" | tar -x -C "$folder"
 }
 
 # Hands on what rt says, and says on standard error how many of the crates that are named it has proved.

@@ -3,13 +3,11 @@
 
     tests/definitions.py [NAME ...]
 
-Each tests/definitions/NAME.edit is a wrong text, token, meaning, file or header, in the format of the edits in
-crates/nc_base/must-fail, but with paths from the top of the repository: those edits are tried in their own crate alone, and the laws
-stand above the definitions. A line 'law: CRATE LAW' names the law that has to refuse; where there is none, any law of cdl_laws
-may, where those stand that join a dump to what is read of it. The laws are proved here over the sources of the crates below,
-without the functions of these: so it is a law that refuses, or a lemma on its way. Worked examples are left out of the copy for
-the same reason. Each try begins with what the laws' proof without any edit left, and proves again what the edit changes and what
-stands on that. The last line is 'N passed, M failed'.
+Each tests/definitions/NAME.edit is a wrong text, token, meaning, file or header, in the format of a wrong body, but with paths from
+the top of the repository. A line 'law: CRATE LAW' names the law that has to refuse. The laws that edits name are proved here over
+the sources of the crates below, without the functions of these: so it is a law that refuses, or a lemma on its way. Worked examples
+are left out of the copy for the same reason. Each try begins with what the laws' proof without any edit left, and proves again what
+the edit changes and what stands on that. The last line is 'N passed, M failed'.
 """
 
 import re
@@ -24,8 +22,6 @@ from edits import BadEdit, apply, read_edit
 from messages import Said, are_laws_judged, expect_words
 
 EDITS = prover.TOP / "tests" / "definitions"
-# the crate of the laws that have to refuse an edit which names none
-LAWS = "cdl_laws"
 # the folder of a crate's proofs with its worked examples, which no file outside such a folder cites
 EXAMPLES = "examples"
 
@@ -43,9 +39,10 @@ def copy_crate(crate, to):
 
 
 def law_of(edit):
-    """The crate of the law that has to refuse an edit, and the law's name, or None where it may be any."""
-    found = re.search(r"^law: (\w+) (\w+)$", edit.read_text(), re.M)
-    return found.groups() if found else (LAWS, None)
+    """The crate of the law that has to refuse an edit, and the law's name."""
+    if found := re.search(r"^law: (\w+) (\w+)$", edit.read_text(), re.M):
+        return found.groups()
+    sys.exit(f"BAD EDIT: {edit.name}: no line names the law that has to refuse\n0 passed, 1 failed")
 
 
 def below(crate):
@@ -61,9 +58,8 @@ def sources(crates):
     return [word for crate in crates for word in ["--lib", f"{crate}:{uses(crate)}=../{crate}/src/lib.rt"]]
 
 
-def laws_with(crate, edit, kept, law=None):
-    """What the prover says of a law of a crate, or of all, over what a folder keeps, where an edit is applied, or None where nothing is
-    changed."""
+def laws_with(crate, laws, edit, kept):
+    """What the prover says of laws of a crate, over what a folder keeps, where an edit is applied, or None where nothing is changed."""
     crates, libraries = below(crate)
     with tempfile.TemporaryDirectory() as folder:
         for each in [*crates, crate]:
@@ -71,7 +67,7 @@ def laws_with(crate, edit, kept, law=None):
         if edit:
             apply(read_edit(edit)[0], Path(folder))
         words = [*prover.check_words(crate), *prover.built(["std", *libraries]), *sources(crates)]
-        words += ["--incremental", kept, "--only", f"laws::{law}" if law else "laws"]
+        words += ["--incremental", kept, *(f"--only=laws::{law}" for law in laws)]
         return Said(crate, prover.said(words, Path(folder, "crates", crate)))
 
 
@@ -80,22 +76,22 @@ def verdict(edit, proved):
     crate, law = law_of(edit)
     try:
         with tempfile.TemporaryDirectory() as folder:
-            said = laws_with(crate, edit, shutil.copytree(proved / crate, Path(folder, "kept")), law)
+            said = laws_with(crate, [law], edit, shutil.copytree(proved / crate, Path(folder, "kept")))
     except BadEdit as why:
         return False, f"{edit.stem}: BAD EDIT: {why}"
     refused = [it.rpartition("::")[2] for it in said.refused()]
     if said.are_all_proved():
-        return False, f"{edit.stem}: NOT REFUSED: {law or 'every law'} is still proved"
+        return False, f"{edit.stem}: NOT REFUSED: {law} is still proved"
     if not refused or not said.errors or said.is_unread():
         return False, f"{edit.stem}: BAD EDIT: the laws did not reach the prover: {(said.errors or [said.text[-200:]])[0][:300]}"
-    if law and law not in refused:
+    if law not in refused:
         return False, f"{edit.stem}: NOT REFUSED by {law}, but by {' '.join(refused)}"
     return True, f"{edit.stem}: refused, as it must be: {' '.join(refused)}"
 
 
-def unproved(crate, proved):
-    """What is wrong with the laws of a crate where nothing is changed, or None; `proved` keeps what was proved."""
-    said = laws_with(crate, None, proved / crate)
+def unproved(crate, laws, proved):
+    """What is wrong with these laws of a crate where nothing is changed, or None; `proved` keeps what was proved."""
+    said = laws_with(crate, laws, None, proved / crate)
     return None if said.are_all_proved() else f"{crate}: its laws are not proved as they stand:\n{said.text[-2000:]}"
 
 
@@ -106,10 +102,12 @@ def main():
         if unknown := {*sys.argv[1:]} - {edit.stem for edit in edits}:
             sys.exit(f"no such edit: {' '.join(sorted(unknown))}")
     expect_words(are_laws_judged)
-    crates, results = sorted({law_of(edit)[0] for edit in edits}), []
+    laws, results = {}, []
+    for crate, law in sorted({law_of(edit) for edit in edits}):
+        laws.setdefault(crate, []).append(law)
     with tempfile.TemporaryDirectory() as folder, ThreadPoolExecutor(prover.at_once()) as pool:
         proved = Path(folder)
-        wrong = [it for it in pool.map(lambda crate: unproved(crate, proved), crates) if it]
+        wrong = [it for it in pool.map(lambda crate: unproved(crate, laws[crate], proved), laws) if it]
         if wrong:
             print("\n".join(wrong))
             return 1

@@ -75,8 +75,15 @@ class Broken(Exception):
 
 def ended(words, given=b""):
     """What a program has written when it has ended within its time."""
-    limited = lambda: resource.setrlimit(resource.RLIMIT_CPU, (SECONDS, SECONDS))
-    return subprocess.run(words, capture_output=True, input=given, timeout=WAIT, preexec_fn=limited)
+    with subprocess.Popen(words, stdin=subprocess.PIPE, stdout=subprocess.PIPE, stderr=subprocess.PIPE) as child:
+        # (set by the parent, since a function that the child runs would need a copy of this process)
+        resource.prlimit(child.pid, resource.RLIMIT_CPU, (SECONDS, SECONDS))
+        try:
+            said = child.communicate(given, timeout=WAIT)
+        except subprocess.TimeoutExpired:
+            child.kill()
+            raise
+    return subprocess.CompletedProcess(words, child.returncode, *said)
 
 
 def run(*words, given=b""):
@@ -277,7 +284,7 @@ def tried(seed):
     return None
 
 
-def main(cases=20_000, seed=1):
+def main(cases=5_000, seed=1):
     seeds = range(seed, seed + cases // EACH)
     failed = 0
     with tempfile.TemporaryDirectory() as folder:

@@ -19,7 +19,7 @@ from pathlib import Path
 BIN = Path(__file__).resolve().parent.parent / "bin"
 # seconds of processor time; a run that took less counts as this
 FLOOR = 0.01
-# how often each time is taken; the least counts
+# how often the time for few parts is taken, and that for many at most; the least counts
 TIMES = 5
 # letters whose names are no words of CDL
 LETTERS = "abcdefghjklmnopqrstuvwxyzABCDEFGHIJKLMNOPQRSTUVWXYZ"
@@ -304,10 +304,21 @@ def usage_of(seconds, words, status=0):
     return usage
 
 
-def least_time(seconds, *words, status=0):
-    """The least processor time of a program that is run TIMES times, and ends with this status."""
-    usages = [usage_of(seconds, words, status) for _ in range(TIMES)]
-    return min(it.ru_utime + it.ru_stime for it in usages)
+def least_time(seconds, *words, status=0, few=None):
+    """The least processor time of a program that is run TIMES times, and ends with this status, or until it keeps its bound beside that
+    for few parts, if that is given."""
+    least = math.inf
+    for _ in range(TIMES):
+        usage = usage_of(seconds, words, status)
+        least = min(least, usage.ru_utime + usage.ru_stime)
+        if few is not None and least <= seconds and least < bound(few):
+            break
+    return least
+
+
+def bound(few):
+    """What many parts have to take less than, beside the time for few."""
+    return 8 * max(few, FLOOR)
 
 
 def compared(few, many, seconds):
@@ -315,28 +326,28 @@ def compared(few, many, seconds):
     said = f"{few:.3f} s and {many:.3f} s"
     if many > seconds:
         raise Broken(f"{said}, where {seconds} s are allowed")
-    if many >= 8 * max(few, FLOOR):
+    if many >= bound(few):
         raise Broken(f"{said}: the time grows with more than the parts")
     return said
 
 
-def made(kind, n, seconds):
+def made(kind, n, seconds, few=None):
     """The time in which the text of n parts is generated."""
     Path("many.cdl").write_text(kind(n))
-    return least_time(seconds, BIN / "ncgen", "-k", "nc6", "-o", "many.nc", "many.cdl")
+    return least_time(seconds, BIN / "ncgen", "-k", "nc6", "-o", "many.nc", "many.cdl", few=few)
 
 
-def dumped(kind, n, seconds):
+def dumped(kind, n, seconds, few=None):
     """The time in which the file of the last text is dumped."""
     words = WORDS[kind](n) if kind in WORDS else []
-    return least_time(seconds, BIN / "ncdump", *words, "many.nc")
+    return least_time(seconds, BIN / "ncdump", *words, "many.nc", few=few)
 
 
 def times(kind):
     """The times for n parts and for 4n: of ncgen, and of ncdump."""
     n, to_make, to_dump = KINDS[kind]
     few = made(kind, n, to_make), dumped(kind, n, to_dump)
-    many = made(kind, 4 * n, to_make), dumped(kind, 4 * n, to_dump)
+    many = made(kind, 4 * n, to_make, few[0]), dumped(kind, 4 * n, to_dump, few[1])
     generated = compared(few[0], many[0], to_make)
     return f"{generated} generated, {compared(few[1], many[1], to_dump)} dumped"
 
@@ -345,11 +356,12 @@ def checked(kind):
     """The times in which the files of n parts and of 4n are checked."""
     build, n, seconds = CHECKED[kind]
 
-    def taken(parts):
+    def taken(parts, few=None):
         Path("many.nc").write_bytes(build(parts))
-        return least_time(seconds, BIN / "nccheck", "-l", "note", "many.nc", status=1)
+        return least_time(seconds, BIN / "nccheck", "-l", "note", "many.nc", status=1, few=few)
 
-    return compared(taken(n), taken(4 * n), seconds) + " checked"
+    few = taken(n)
+    return compared(few, taken(4 * n, few), seconds) + " checked"
 
 
 def verdicts():

@@ -33,23 +33,68 @@ const ROOM: usize = 1024;
 /// standard error.
 type Run<'a> = (&'a [&'a str], usize, u8, &'a [u8], &'a [u8]);
 
-/// Runs over a clean file, `clean`, one with an error, `text`, one with a violation, `names`, and one with a note, `records`.
-const RUNS: &[Run<'_>] = &[
-    (&["nccheck", "clean", "records"], ROOM, 0, b"", b""),
-    (&["nccheck", "names", "clean"], ROOM, 1, LINE, b""),
-    (&["nccheck", "names", "-q"], ROOM, 1, b"", b""),
-    (&["nccheck", "-l", "error", "names"], ROOM, 0, b"", b""),
-    (&["nccheck"], ROOM, 2, b"", USAGE),
-    (&["nccheck", "-l", "worst", "clean"], ROOM, 2, b"", USAGE),
-    (&["nccheck", "-q", "-q", "clean"], ROOM, 2, b"", USAGE),
-    (
-        &["nccheck", "none", "names"],
-        ROOM,
-        2,
-        LINE,
-        b"nccheck: none: cannot open\n",
-    ),
-    // paths with control characters and backslashes, which are escaped, and with quotes and letters, which are not
+/// Runs over a clean file, `clean`, one with an error, `text`, one with a violation, `names`, and one with a note, `records`: blocks with an
+/// empty line between two. A block has the status and the words of a run, and after the marks `>` and `!` the lines that it writes to
+/// standard output and to standard error.
+const RUNS: &str = r#"
+0 nccheck clean records
+
+1 nccheck names clean
+>names:84: violation: duplicate-name: var[1] "x" name: found the name of number 0
+
+1 nccheck names -q
+
+0 nccheck -l error names
+
+2 nccheck none names
+>names:84: violation: duplicate-name: var[1] "x" name: found the name of number 0
+!nccheck: none: cannot open
+
+1 nccheck names\
+>names\\:84: violation: duplicate-name: var[1] "x" name: found the name of number 0
+
+2 nccheck -s clean names none records
+>names:84: violation: duplicate-name: var[1] "x" name: found the name of number 0
+>3 checked: 0 with errors, 1 with violations, 0 with notes, 2 with nothing to report; 1 not checked
+!nccheck: none: cannot open
+
+1 nccheck -qs -l note records text records
+>3 checked: 1 with errors, 0 with violations, 2 with notes, 0 with nothing to report; 0 not checked
+
+0 nccheck -sql error names clean
+>2 checked: 0 with errors, 0 with violations, 0 with notes, 2 with nothing to report; 0 not checked
+
+0 nccheck -i duplicate-name names
+
+1 nccheck -i vsize,duplicate-name,gap -s names clean text
+>text:0: error: not-netcdf: magic: found 0x6e6574, expected 0x434446
+>3 checked: 1 with errors, 0 with violations, 0 with notes, 2 with nothing to report; 0 not checked
+
+0 nccheck -V
+>nccheck 0.3.0
+
+0 nccheck -x none -V -h
+>nccheck 0.3.0
+
+2 nccheck -- -V -h
+!nccheck: -V: cannot open
+!nccheck: -h: cannot open
+"#;
+
+/// Words that are answered with the usage, a run a line.
+const USAGE_FAULTS: &str = "nccheck
+nccheck -l worst clean
+nccheck -q -q clean
+nccheck -i duplicate-nam,vsize names
+nccheck -i duplicate-name, names
+nccheck -i  names
+nccheck -i gap -i vsize names";
+
+/// Other runs.
+const OTHERS: &[Run<'_>] = &[
+    (&["nccheck", "-h"], ROOM, 0, HELP, b""),
+    (&["nccheck", "-q", "-q", "-h", "-V"], ROOM, 0, HELP, b""),
+    // a path with control characters and backslashes, which are escaped, and with quotes and letters, which are not
     (
         &["nccheck", "a\t\n\x01\x7f\\\"'\u{e9}"],
         ROOM,
@@ -57,36 +102,7 @@ const RUNS: &[Run<'_>] = &[
         b"",
         b"nccheck: a\\t\\n\\001\\177\\\\\"'\xc3\xa9: cannot open\n",
     ),
-    (
-        &["nccheck", "names\\"],
-        ROOM,
-        1,
-        b"names\\\\:84: violation: duplicate-name: var[1] \"x\" name: found the name of number 0\n",
-        b"",
-    ),
-    // the files are counted
-    (
-        &["nccheck", "-s", "clean", "names", "none", "records"],
-        ROOM,
-        2,
-        b"names:84: violation: duplicate-name: var[1] \"x\" name: found the name of number 0\n\
-        3 checked: 0 with errors, 1 with violations, 0 with notes, 2 with nothing to report; 1 not checked\n",
-        b"nccheck: none: cannot open\n",
-    ),
-    (
-        &["nccheck", "-qs", "-l", "note", "records", "text", "records"],
-        ROOM,
-        1,
-        b"3 checked: 1 with errors, 0 with violations, 2 with notes, 0 with nothing to report; 0 not checked\n",
-        b"",
-    ),
-    (
-        &["nccheck", "-sql", "error", "names", "clean"],
-        ROOM,
-        0,
-        b"2 checked: 0 with errors, 0 with violations, 0 with notes, 2 with nothing to report; 0 not checked\n",
-        b"",
-    ),
+    // a run ends if standard output fails, and the files aren't counted
     (
         &["nccheck", "-q", "-s", "clean"],
         9,
@@ -94,63 +110,6 @@ const RUNS: &[Run<'_>] = &[
         b"1 checked",
         b"nccheck: write failed\n",
     ),
-    // kinds that are ignored, and words that name no kinds
-    (
-        &["nccheck", "-i", "duplicate-name", "names"],
-        ROOM,
-        0,
-        b"",
-        b"",
-    ),
-    (
-        &[
-            "nccheck",
-            "-i",
-            "vsize,duplicate-name,gap",
-            "-s",
-            "names",
-            "clean",
-            "text",
-        ],
-        ROOM,
-        1,
-        b"text:0: error: not-netcdf: magic: found 0x6e6574, expected 0x434446\n\
-        3 checked: 1 with errors, 0 with violations, 0 with notes, 2 with nothing to report; 0 not checked\n",
-        b"",
-    ),
-    (
-        &["nccheck", "-i", "duplicate-nam,vsize", "names"],
-        ROOM,
-        2,
-        b"",
-        USAGE,
-    ),
-    (
-        &["nccheck", "-i", "duplicate-name,", "names"],
-        ROOM,
-        2,
-        b"",
-        USAGE,
-    ),
-    (&["nccheck", "-i", "", "names"], ROOM, 2, b"", USAGE),
-    (
-        &["nccheck", "-i", "gap", "-i", "vsize", "names"],
-        ROOM,
-        2,
-        b"",
-        USAGE,
-    ),
-    // the version and the help, whatever else is there
-    (&["nccheck", "-V"], ROOM, 0, b"nccheck 0.3.0\n", b""),
-    (&["nccheck", "-h"], ROOM, 0, HELP, b""),
-    (
-        &["nccheck", "-x", "none", "-V", "-h"],
-        ROOM,
-        0,
-        b"nccheck 0.3.0\n",
-        b"",
-    ),
-    (&["nccheck", "-q", "-q", "-h", "-V"], ROOM, 0, HELP, b""),
     (
         &["nccheck", "-V"],
         9,
@@ -158,14 +117,6 @@ const RUNS: &[Run<'_>] = &[
         b"nccheck 0",
         b"nccheck: write failed\n",
     ),
-    (
-        &["nccheck", "--", "-V", "-h"],
-        ROOM,
-        2,
-        b"",
-        b"nccheck: -V: cannot open\nnccheck: -h: cannot open\n",
-    ),
-    // a run ends if standard output fails, and the files aren't counted
     (
         &["nccheck", "-s", "names", "none"],
         9,
@@ -283,6 +234,68 @@ fn ends(alloc: Global, files: &[MemFile<'_>], run: &Run<'_>, input: Input<'_>) -
     ended == status && out.taken() == lines && err.taken() == trouble
 }
 
+/// These words, one by one.
+fn words_of<'a>(alloc: Global, words: &'a str) -> Result<Vec<&'a str>, AllocError> {
+    let mut list = Vec::new(alloc);
+    for word in words.split(' ') {
+        list.push(word)?;
+    }
+    Ok(list)
+}
+
+/// Returns true if the run of this block ends as the block says.
+fn ends_so(alloc: Global, files: &[MemFile<'_>], block: &str) -> Result<bool, AllocError> {
+    let (mut status, mut words) = (0, Vec::new(alloc));
+    let (mut lines, mut trouble) = (String::new(alloc), String::new(alloc));
+    for line in block.split('\n') {
+        if let Some(line) = line.strip_prefix(">") {
+            push_line(&mut lines, line)?;
+        } else if let Some(line) = line.strip_prefix("!") {
+            push_line(&mut trouble, line)?;
+        } else if let Some((number, rest)) = line.split_once(' ') {
+            status = number.parse().unwrap_or(9);
+            words = words_of(alloc, rest)?;
+        }
+    }
+    let (lines, trouble) = (lines.as_bytes(), trouble.as_bytes());
+    let run = (words.as_slice(), ROOM, status, lines, trouble);
+    Ok(ends(alloc, files, &run, UNREAD))
+}
+
+/// Adds a line to a text.
+fn push_line(text: &mut String, line: &str) -> Result<(), AllocError> {
+    text.push_str(line)?;
+    text.push('\n')
+}
+
+/// Returns true if these words are answered with the usage.
+fn ends_with_usage(alloc: Global, files: &[MemFile<'_>], words: &str) -> Result<bool, AllocError> {
+    let words = words_of(alloc, words)?;
+    let run = (words.as_slice(), ROOM, 2, b"".as_slice(), USAGE);
+    Ok(ends(alloc, files, &run, UNREAD))
+}
+
+/// Fails unless all runs over these files end as they have to.
+fn all_end_so(rt: &impl Abort, alloc: Global, files: &[MemFile<'_>]) -> Result<(), AllocError> {
+    for block in RUNS.split("\n\n") {
+        assert!(rt; ends_so(alloc, files, block)?, "{block}");
+    }
+    for words in USAGE_FAULTS.split('\n') {
+        assert!(rt; ends_with_usage(alloc, files, words)?, "{words}");
+    }
+    for run in OTHERS {
+        assert!(rt; ends(alloc, files, run, UNREAD), "{:?}", run.0);
+    }
+    for (bytes, fails, run) in LISTS {
+        let input = Input {
+            bytes: *bytes,
+            fails: *fails,
+        };
+        assert!(rt; ends(alloc, files, run, input), "{bytes:?}");
+    }
+    Ok(())
+}
+
 #[test]
 fn runs_end_with_their_status(rt: HostRuntime) -> Result<(), AllocError> {
     let equal_names = patched(rt.alloc(), COORDINATES, 84, b"x")?;
@@ -308,15 +321,5 @@ fn runs_end_with_their_status(rt: HostRuntime) -> Result<(), AllocError> {
             bytes: TWO_RECORDS,
         },
     ];
-    for run in RUNS {
-        assert!(rt; ends(rt.alloc(), &files, run, UNREAD), "{:?}", run.0);
-    }
-    for (bytes, fails, run) in LISTS {
-        let input = Input {
-            bytes: *bytes,
-            fails: *fails,
-        };
-        assert!(rt; ends(rt.alloc(), &files, run, input), "{bytes:?}");
-    }
-    Ok(())
+    all_end_so(&rt, rt.alloc(), &files)
 }

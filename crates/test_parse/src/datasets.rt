@@ -1,54 +1,45 @@
 //! Texts that give a dataset.
 
-use crate::parsing::{Texts, WHOLE, check};
+use crate::parsing::{Texts, VERSIONS, WHOLE, check, gives_in_each};
 use std::alloc::AllocError;
 use std::test::*;
 
 /// Texts in which nothing is declared.
 const WITHOUT_DECLARATIONS: Texts = Texts {
     said: ("Known(0)", ""),
-    given: &[
-        (b"netcdf t {}", ""),
-        (b"netcdf{}", ""),
-        (b"netcdf\n{}", ""),
-        (b"netcdf \\\\{}", ""),
-        (b"// netcdf u }\n netcdf t // {}", ""),
-        (b"netcdf t {\n}\n// }", ""),
-        // the blanks between tokens
-        (
-            b"\x09\x0a\x0b\x0c\x0d netcdf t {\x09\x0a\x0b\x0c\x0d }\x09\x0a\x0b\x0c\x0d ",
-            "",
-        ),
-        (
-            b"netcdf t { dimensions : variables// ;\n: data\n: } // no end of line",
-            "",
-        ),
-        (b"netcdf t { dimensions: data: }", ""),
-        // bytes of an opening that are no characters
-        (b"netcdf \"}\\{;// \x00\xff\n{}", ""),
-    ],
+    given: b"\
+        netcdf t {}|\n\
+        netcdf{}|\n\
+        netcdf^{}|\n\
+        netcdf \\\\{}|\n\
+        // netcdf u }^ netcdf t // {}|\n\
+        netcdf t {^}^// }|\n\
+        # the blanks between tokens\n\
+        \x09^\x0b\x0c\x0d netcdf t {\x09^\x0b\x0c\x0d }\x09^\x0b\x0c\x0d |\n\
+        netcdf t { dimensions : variables// ;^: data^: } // no end of line|\n\
+        netcdf t { dimensions: data: }|\n\
+        # bytes of an opening that are no characters\n\
+        netcdf \"}\\{;// \x00\xff^{}|\n\
+        ",
     ..WHOLE
 };
 
-/// Texts that declare something.
-const DATASETS: Texts = Texts {
-    given: &[
-        (ONE_VARIABLE, ONE_VARIABLE_SAID),
-        (ESCAPED_NAMES, ESCAPED_NAMES_SAID),
-        (CONSTANTS, CONSTANTS_SAID),
-        (DIFFERENT_LENGTHS, DIFFERENT_LENGTHS_SAID),
-        (NO_RECORDS, NO_RECORDS_SAID),
-        (FILL_VALUES, FILL_VALUES_SAID),
-        (SAME_NAMES, SAME_NAMES_SAID),
-        (SAME_HASH, SAME_HASH_SAID),
-        (FILLED_ROW, FILLED_ROW_SAID),
-        (ALL_NULS, ALL_NULS_SAID),
-        (EMPTY_STRINGS, EMPTY_STRINGS_SAID),
-        (RECORDS_OF_CHARACTERS, RECORDS_OF_CHARACTERS_SAID),
-        (JOINED_STRINGS, JOINED_STRINGS_SAID),
-    ],
-    ..WHOLE
-};
+/// Texts that declare something, and what is said of their datasets.
+const DATASETS: &[(&[u8], &str)] = &[
+    (ONE_VARIABLE, ONE_VARIABLE_SAID),
+    (ESCAPED_NAMES, ESCAPED_NAMES_SAID),
+    (CONSTANTS, CONSTANTS_SAID),
+    (DIFFERENT_LENGTHS, DIFFERENT_LENGTHS_SAID),
+    (NO_RECORDS, NO_RECORDS_SAID),
+    (FILL_VALUES, FILL_VALUES_SAID),
+    (SAME_NAMES, SAME_NAMES_SAID),
+    (SAME_HASH, SAME_HASH_SAID),
+    (FILLED_ROW, FILLED_ROW_SAID),
+    (ALL_NULS, ALL_NULS_SAID),
+    (EMPTY_STRINGS, EMPTY_STRINGS_SAID),
+    (RECORDS_OF_CHARACTERS, RECORDS_OF_CHARACTERS_SAID),
+    (JOINED_STRINGS, JOINED_STRINGS_SAID),
+];
 
 /// Three shorts. One of them is left to be filled.
 pub const ONE_VARIABLE: &[u8] =
@@ -234,5 +225,10 @@ e Char []
 
 #[test]
 fn texts_give_datasets(rt: HostRuntime) -> Result<(), AllocError> {
-    check(&rt, rt.alloc(), &[WITHOUT_DECLARATIONS, DATASETS])
+    const ALL: &[Texts] = &[WITHOUT_DECLARATIONS];
+    check(&rt, rt.alloc(), ALL)?;
+    for (text, said) in DATASETS {
+        gives_in_each(&rt, rt.alloc(), VERSIONS, *text, said.as_bytes())?;
+    }
+    Ok(())
 }

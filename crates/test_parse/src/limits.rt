@@ -35,7 +35,7 @@ fn each_prefix_of_a_text(rt: HostRuntime) -> Result<(), AllocError> {
         let prefix = &ONE_VARIABLE[..len];
         let line = line_feeds(prefix).saturating_add(1);
         let want = fault_said(rt.alloc(), line, fault_of_prefix(len))?;
-        gives(&rt, rt.alloc(), Version::Cdf1, prefix, want.as_str())?;
+        gives(&rt, rt.alloc(), Version::Cdf1, prefix, want.as_bytes())?;
     }
     // all but the line feed at the end
     assert!(rt; parse(rt.alloc(), &ONE_VARIABLE[..79], Version::Cdf1).is_ok());
@@ -55,7 +55,7 @@ fn a_long_name(rt: HostRuntime) -> Result<(), AllocError> {
         rt.alloc(),
         Version::Cdf1,
         text.as_bytes(),
-        want.as_str(),
+        want.as_bytes(),
     )
 }
 
@@ -95,7 +95,13 @@ fn faults_after_long_lists(rt: HostRuntime) -> Result<(), AllocError> {
     ];
     for (last, want) in ROWS {
         let text = long_lists(rt.alloc(), *last)?;
-        gives(&rt, rt.alloc(), Version::Cdf1, text.as_bytes(), *want)?;
+        gives(
+            &rt,
+            rt.alloc(),
+            Version::Cdf1,
+            text.as_bytes(),
+            want.as_bytes(),
+        )?;
     }
     Ok(())
 }

@@ -1,7 +1,6 @@
 //! Names and strings: their bytes and their escapes.
 
 use crate::parsing::{Texts, WHOLE, check};
-use cdl_parse::CdlKind::{BadName, BadNumber, BadToken, Syntax};
 use std::alloc::AllocError;
 use std::test::*;
 
@@ -9,82 +8,82 @@ use std::test::*;
 const NAMES: Texts = Texts {
     around: ("netcdf t {\n:", " = 1b ; }"),
     said: ("Known(0)\n:", " Byte \"\\x01\""),
-    given: &[
-        (b"_", "_"),
-        (b"\\_", "_"),
-        (b"\\2", "2"),
-        (b"nA9_.@+-m", "nA9_.@+-m"),
-        (b"n\\!\\~\\:\\;\\{m", "n!~:;{m"),
-        (b"a\\ \\ b", "a  b"),
-        (b"\\a\\\\", r"a\\"),
-        (b"na\xc3\xafve", r"na\xc3\xafve"),
-        (b"\\\xe2\\\x82\\\xac", r"\xe2\x82\xac"),
-        (b"\xf4\x8f\xbf\xbf", r"\xf4\x8f\xbf\xbf"),
-        (b"\\data", "data"),
-        (b"data_", "data_"),
-        (b"Data", "Data"),
-    ],
-    refused: &[
-        (b"2", 2, Syntax),
-        (b"2a", 2, BadNumber),
-        (b".a", 2, BadToken),
-        (b"-a", 2, BadToken),
-        (b"n!m", 2, BadToken),
-        (b"n/m", 2, BadToken),
-        (b"n m", 2, Syntax),
-        (b"n:m", 2, Syntax),
-        (b"n(m", 2, Syntax),
-        (b"n\\\nm", 2, BadToken),
-        (b"n\\\x7fm", 2, BadToken),
-        // these are words, but the format has no such names
-        (b"n\\/m", 2, BadName),
-        (b"\\ a", 2, BadName),
-        (b"a\\ ", 2, BadName),
-        (b"\\.a", 2, BadName),
-        (b"\\-a", 2, BadName),
-        (b"\xe2\x82", 2, BadName),
-        (b"\xc0\xaf", 2, BadName),
-        (b"\xed\xa0\x80", 2, BadName),
-        (b"\xf4\x90\x80\x80", 2, BadName),
-        // reserved words
-        (b"netcdf", 2, Syntax),
-        (b"dimensions", 2, Syntax),
-        (b"variables", 2, Syntax),
-        (b"data", 2, Syntax),
-        (b"byte", 2, Syntax),
-        (b"char", 2, Syntax),
-        (b"short", 2, Syntax),
-        (b"int", 2, Syntax),
-        (b"long", 2, Syntax),
-        (b"float", 2, Syntax),
-        (b"real", 2, Syntax),
-        (b"double", 2, Syntax),
-        (b"ubyte", 2, Syntax),
-        (b"ushort", 2, Syntax),
-        (b"uint", 2, Syntax),
-        (b"int64", 2, Syntax),
-        (b"uint64", 2, Syntax),
-        (b"string", 2, Syntax),
-        (b"unlimited", 2, Syntax),
-        (b"UNLIMITED", 2, Syntax),
-    ],
+    given: b"\
+        _|_\n\
+        \\_|_\n\
+        \\2|2\n\
+        nA9_.@+-m|nA9_.@+-m\n\
+        n\\!\\~\\:\\;\\{m|n!~:;{m\n\
+        a\\ \\ b|a  b\n\
+        \\a\\\\|a\\\\\n\
+        na\xc3\xafve|na\\xc3\\xafve\n\
+        \\\xe2\\\x82\\\xac|\\xe2\\x82\\xac\n\
+        \xf4\x8f\xbf\xbf|\\xf4\\x8f\\xbf\\xbf\n\
+        \\data|data\n\
+        data_|data_\n\
+        Data|Data\n\
+        ",
+    refused: b"\
+        2|2 Syntax\n\
+        2a|2 BadNumber\n\
+        .a|2 BadToken\n\
+        -a|2 BadToken\n\
+        n!m|2 BadToken\n\
+        n/m|2 BadToken\n\
+        n m|2 Syntax\n\
+        n:m|2 Syntax\n\
+        n(m|2 Syntax\n\
+        n\\^m|2 BadToken\n\
+        n\\\x7fm|2 BadToken\n\
+        # these are words, but the format has no such names\n\
+        n\\/m|2 BadName\n\
+        \\ a|2 BadName\n\
+        a\\ |2 BadName\n\
+        \\.a|2 BadName\n\
+        \\-a|2 BadName\n\
+        \xe2\x82|2 BadName\n\
+        \xc0\xaf|2 BadName\n\
+        \xed\xa0\x80|2 BadName\n\
+        \xf4\x90\x80\x80|2 BadName\n\
+        # reserved words\n\
+        netcdf|2 Syntax\n\
+        dimensions|2 Syntax\n\
+        variables|2 Syntax\n\
+        data|2 Syntax\n\
+        byte|2 Syntax\n\
+        char|2 Syntax\n\
+        short|2 Syntax\n\
+        int|2 Syntax\n\
+        long|2 Syntax\n\
+        float|2 Syntax\n\
+        real|2 Syntax\n\
+        double|2 Syntax\n\
+        ubyte|2 Syntax\n\
+        ushort|2 Syntax\n\
+        uint|2 Syntax\n\
+        int64|2 Syntax\n\
+        uint64|2 Syntax\n\
+        string|2 Syntax\n\
+        unlimited|2 Syntax\n\
+        UNLIMITED|2 Syntax\n\
+        ",
     ..WHOLE
 };
 
 /// Bytes between the braces of a text.
 const BYTES: Texts = Texts {
     around: ("netcdf t {\n", "\n}"),
-    refused: &[
-        (b"\x00", 2, BadToken),
-        (b"\x08", 2, BadToken),
-        (b"\x0e", 2, BadToken),
-        (b"'", 2, BadToken),
-        (b"{", 2, BadToken),
-        (b"\\", 2, BadToken),
-        (b"\x7f", 2, BadToken),
-        (b"\x80", 2, Syntax),
-        (b"}", 3, Syntax),
-    ],
+    refused: b"\
+        \x00|2 BadToken\n\
+        \x08|2 BadToken\n\
+        \x0e|2 BadToken\n\
+        '|2 BadToken\n\
+        {|2 BadToken\n\
+        \\|2 BadToken\n\
+        \x7f|2 BadToken\n\
+        \x80|2 Syntax\n\
+        }|3 Syntax\n\
+        ",
     ..WHOLE
 };
 
@@ -92,41 +91,39 @@ const BYTES: Texts = Texts {
 const STRINGS: Texts = Texts {
     around: ("netcdf t {\n\n:a = \"", "\" ; }"),
     said: ("Known(0)\n:a Char \"", "\""),
-    given: &[
-        (b"", ""),
-        (b"a\nb\x00\xff", r"a\nb\x00\xff"),
-        (b"// ; }'", r"// ; }\'"),
-        (b"\\a\\b\\t\\n\\v\\f\\r", r"\x07\x08\t\n\x0b\x0c\r"),
-        (b"\\\\\\\"\\'\\?\\q\\X41", r#"\\\"\'?qX41"#),
-        (b"\\\n\\\xff", r"\n\xff"),
-        (b"\\8\\9", "89"),
-        (b"\\1-\\7-\\18\\778", r"\x01-\x07-\x018?8"),
-        (b"\\0\\00\\000\\0000", r"\x00\x00\x00\x000"),
-        (b"\\377\\3777\\1012", r"\xff\xff7A2"),
-        (b"\\x41\\x4\\x414\\xaF\\xfAf\\x4g", r"A\x04A4\xaf\xfaf\x04g"),
-        (b"\\\\x \\\\400", r"\\x \\400"),
-        // a quote after 17 bytes, and an escape of one after 89
-        (b"abcdefghijklmnopq", "abcdefghijklmnopq"),
-        (
-            b"abcdefghijabcdefghijabcdefghijabcdefghijabcdefghijabcdefghijabcdefghijabcdefghijabcdefghi\\\"",
-            r#"abcdefghijabcdefghijabcdefghijabcdefghijabcdefghijabcdefghijabcdefghijabcdefghijabcdefghi\""#,
-        ),
-        // strings are joined
-        (b"a\", \"b\", \"c\\n\",\"d", r"abc\nd"),
-    ],
-    refused: &[
-        (b"\"", 3, BadToken),
-        (b"\\", 3, BadToken),
-        (b"\\400", 3, BadToken),
-        (b"\\777\\0", 3, BadToken),
-        (b"\\x", 3, BadToken),
-        (b"\\xg1", 3, BadToken),
-        (b"abcdefghijklmnopqrstuvwxyz\\x", 3, BadToken),
-    ],
+    given: b"\
+        |\n\
+        a^b\x00\xff|a\\nb\\x00\\xff\n\
+        // ; }'|// ; }\\'\n\
+        \\a\\b\\t\\n\\v\\f\\r|\\x07\\x08\\t\\n\\x0b\\x0c\\r\n\
+        \\\\\\\"\\'\\?\\q\\X41|\\\\\\\"\\'?qX41\n\
+        \\^\\\xff|\\n\\xff\n\
+        \\8\\9|89\n\
+        \\1-\\7-\\18\\778|\\x01-\\x07-\\x018?8\n\
+        \\0\\00\\000\\0000|\\x00\\x00\\x00\\x000\n\
+        \\377\\3777\\1012|\\xff\\xff7A2\n\
+        \\x41\\x4\\x414\\xaF\\xfAf\\x4g|A\\x04A4\\xaf\\xfaf\\x04g\n\
+        \\\\x \\\\400|\\\\x \\\\400\n\
+        # a quote after 17 bytes, and an escape of one after 89\n\
+        abcdefghijklmnopq|abcdefghijklmnopq\n\
+        abcdefghijabcdefghijabcdefghijabcdefghijabcdefghijabcdefghijabcdefghijabcdefghijabcdefghi\\\"|abcdefghijabcdefghijabcdefghijabcdefghijabcdefghijabcdefghijabcdefghijabcdefghijabcdefghi\\\"\n\
+        # strings are joined\n\
+        a\", \"b\", \"c\\n\",\"d|abc\\nd\n\
+        ",
+    refused: br#"
+"|3 BadToken
+\|3 BadToken
+\400|3 BadToken
+\777\0|3 BadToken
+\x|3 BadToken
+\xg1|3 BadToken
+abcdefghijklmnopqrstuvwxyz\x|3 BadToken
+"#,
     ..WHOLE
 };
 
 #[test]
 fn names_and_strings_stand_for_bytes(rt: HostRuntime) -> Result<(), AllocError> {
-    check(&rt, rt.alloc(), &[NAMES, BYTES, STRINGS])
+    const ALL: &[Texts] = &[NAMES, BYTES, STRINGS];
+    check(&rt, rt.alloc(), ALL)
 }

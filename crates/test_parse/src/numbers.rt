@@ -1,7 +1,6 @@
 //! Numbers: the ends of the ranges of types, and the numbers past them; the types of constants; and lengths of dimensions.
 
 use crate::parsing::{CDF5, OLD_VERSIONS, Texts, WHOLE, check};
-use cdl_parse::CdlKind::{BadNumber, MixedConstants, NumberRange, ZeroDimension};
 use std::alloc::AllocError;
 use std::test::*;
 
@@ -12,8 +11,14 @@ const END: &str = " ; }";
 const BYTES: Texts = Texts {
     around: ("netcdf t {\nvariables: byte v ;\ndata: v = ", END),
     said: ("Known(0)\nv Byte []\n= \"", "\""),
-    given: &[(b"-128", r"\x80"), (b"127", r"\x7f")],
-    refused: &[(b"-129", 3, NumberRange), (b"128", 3, NumberRange)],
+    given: br"
+-128|\x80
+127|\x7f
+",
+    refused: br"
+-129|3 NumberRange
+128|3 NumberRange
+",
     ..WHOLE
 };
 
@@ -21,28 +26,28 @@ const BYTES: Texts = Texts {
 const SHORTS: Texts = Texts {
     around: ("netcdf t {\nvariables: short v ;\ndata: v = ", END),
     said: ("Known(0)\nv Short []\n= \"", "\""),
-    given: &[
-        (b"-32768", r"\x80\x00"),
-        (b"32767", r"\x7f\xff"),
-        (b"-0100000", r"\x80\x00"),
-        (b"077777", r"\x7f\xff"),
-        (b"-0x8000", r"\x80\x00"),
-        (b"0X7fFF", r"\x7f\xff"),
-        (b"0000000000000000000000000000000000000000017", r"\x00\x0f"),
-        (b"0x00000000000000000000000000000000000000017", r"\x00\x17"),
-        (b"300b", r"\x01,"),
-        (b"-32768B", r"\x80\x00"),
-        (b"7L", r"\x00\x07"),
-    ],
-    refused: &[
-        (b"-32769", 3, NumberRange),
-        (b"32768", 3, NumberRange),
-        (b"-0100001", 3, NumberRange),
-        (b"0100000", 3, NumberRange),
-        (b"-0x8001", 3, NumberRange),
-        (b"0x8000", 3, NumberRange),
-        (b"32768l", 3, NumberRange),
-    ],
+    given: br"
+-32768|\x80\x00
+32767|\x7f\xff
+-0100000|\x80\x00
+077777|\x7f\xff
+-0x8000|\x80\x00
+0X7fFF|\x7f\xff
+0000000000000000000000000000000000000000017|\x00\x0f
+0x00000000000000000000000000000000000000017|\x00\x17
+300b|\x01,
+-32768B|\x80\x00
+7L|\x00\x07
+",
+    refused: br"
+-32769|3 NumberRange
+32768|3 NumberRange
+-0100001|3 NumberRange
+0100000|3 NumberRange
+-0x8001|3 NumberRange
+0x8000|3 NumberRange
+32768l|3 NumberRange
+",
     ..WHOLE
 };
 
@@ -50,14 +55,14 @@ const SHORTS: Texts = Texts {
 const INTS: Texts = Texts {
     around: ("netcdf t {\nvariables: int v ;\ndata: v = ", END),
     said: ("Known(0)\nv Int []\n= \"", "\""),
-    given: &[
-        (b"-2147483648", r"\x80\x00\x00\x00"),
-        (b"2147483647", r"\x7f\xff\xff\xff"),
-    ],
-    refused: &[
-        (b"-2147483649", 3, NumberRange),
-        (b"2147483648", 3, NumberRange),
-    ],
+    given: br"
+-2147483648|\x80\x00\x00\x00
+2147483647|\x7f\xff\xff\xff
+",
+    refused: br"
+-2147483649|3 NumberRange
+2147483648|3 NumberRange
+",
     ..WHOLE
 };
 
@@ -66,8 +71,14 @@ const UBYTES: Texts = Texts {
     versions: CDF5,
     around: ("netcdf t {\nvariables: ubyte v ;\ndata: v = ", END),
     said: ("Known(0)\nv Ubyte []\n= \"", "\""),
-    given: &[(b"-0", r"\x00"), (b"255", r"\xff")],
-    refused: &[(b"-1", 3, NumberRange), (b"256", 3, NumberRange)],
+    given: br"
+-0|\x00
+255|\xff
+",
+    refused: br"
+-1|3 NumberRange
+256|3 NumberRange
+",
     ..WHOLE
 };
 
@@ -76,8 +87,14 @@ const USHORTS: Texts = Texts {
     versions: CDF5,
     around: ("netcdf t {\nvariables: ushort v ;\ndata: v = ", END),
     said: ("Known(0)\nv Ushort []\n= \"", "\""),
-    given: &[(b"0", r"\x00\x00"), (b"65535", r"\xff\xff")],
-    refused: &[(b"-1", 3, NumberRange), (b"65536", 3, NumberRange)],
+    given: br"
+0|\x00\x00
+65535|\xff\xff
+",
+    refused: br"
+-1|3 NumberRange
+65536|3 NumberRange
+",
     ..WHOLE
 };
 
@@ -86,11 +103,14 @@ const UINTS: Texts = Texts {
     versions: CDF5,
     around: ("netcdf t {\nvariables: uint v ;\ndata: v = ", END),
     said: ("Known(0)\nv Uint []\n= \"", "\""),
-    given: &[
-        (b"0", r"\x00\x00\x00\x00"),
-        (b"4294967295", r"\xff\xff\xff\xff"),
-    ],
-    refused: &[(b"-1", 3, NumberRange), (b"4294967296", 3, NumberRange)],
+    given: br"
+0|\x00\x00\x00\x00
+4294967295|\xff\xff\xff\xff
+",
+    refused: br"
+-1|3 NumberRange
+4294967296|3 NumberRange
+",
     ..WHOLE
 };
 
@@ -99,14 +119,14 @@ const INT64S: Texts = Texts {
     versions: CDF5,
     around: ("netcdf t {\nvariables: int64 v ;\ndata: v = ", END),
     said: ("Known(0)\nv Int64 []\n= \"", "\""),
-    given: &[
-        (b"-9223372036854775808", r"\x80\x00\x00\x00\x00\x00\x00\x00"),
-        (b"9223372036854775807", r"\x7f\xff\xff\xff\xff\xff\xff\xff"),
-    ],
-    refused: &[
-        (b"-9223372036854775809", 3, NumberRange),
-        (b"9223372036854775808", 3, NumberRange),
-    ],
+    given: br"
+-9223372036854775808|\x80\x00\x00\x00\x00\x00\x00\x00
+9223372036854775807|\x7f\xff\xff\xff\xff\xff\xff\xff
+",
+    refused: br"
+-9223372036854775809|3 NumberRange
+9223372036854775808|3 NumberRange
+",
     ..WHOLE
 };
 
@@ -115,22 +135,19 @@ const UINT64S: Texts = Texts {
     versions: CDF5,
     around: ("netcdf t {\nvariables: uint64 v ;\ndata: v = ", END),
     said: ("Known(0)\nv Uint64 []\n= \"", "\""),
-    given: &[
-        (b"0", r"\x00\x00\x00\x00\x00\x00\x00\x00"),
-        (b"18446744073709551615", r"\xff\xff\xff\xff\xff\xff\xff\xff"),
-        (
-            b"01777777777777777777777",
-            r"\xff\xff\xff\xff\xff\xff\xff\xff",
-        ),
-        (b"0xffffffffffffffff", r"\xff\xff\xff\xff\xff\xff\xff\xff"),
-    ],
-    refused: &[
-        (b"-1", 3, NumberRange),
-        (b"18446744073709551616", 3, NumberRange),
-        (b"02000000000000000000000", 3, NumberRange),
-        (b"0x10000000000000000", 3, NumberRange),
-        (b"9999999999999999999999999999999999999999", 3, NumberRange),
-    ],
+    given: br"
+0|\x00\x00\x00\x00\x00\x00\x00\x00
+18446744073709551615|\xff\xff\xff\xff\xff\xff\xff\xff
+01777777777777777777777|\xff\xff\xff\xff\xff\xff\xff\xff
+0xffffffffffffffff|\xff\xff\xff\xff\xff\xff\xff\xff
+",
+    refused: br"
+-1|3 NumberRange
+18446744073709551616|3 NumberRange
+02000000000000000000000|3 NumberRange
+0x10000000000000000|3 NumberRange
+9999999999999999999999999999999999999999|3 NumberRange
+",
     ..WHOLE
 };
 
@@ -138,32 +155,26 @@ const UINT64S: Texts = Texts {
 const UNSET: Texts = Texts {
     around: ("netcdf t {\nvariables: ", " v ; }"),
     said: ("Known(0)\nv ", "\""),
-    given: &[
-        (b"byte", "Byte []\n= \"\\x81"),
-        (b"char", "Char []\n= \"\\x00"),
-        (b"short", "Short []\n= \"\\x80\\x01"),
-        (b"int", "Int []\n= \"\\x80\\x00\\x00\\x01"),
-        (b"long", "Int []\n= \"\\x80\\x00\\x00\\x01"),
-    ],
+    given: br#"
+byte|Byte []^= "\x81
+char|Char []^= "\x00
+short|Short []^= "\x80\x01
+int|Int []^= "\x80\x00\x00\x01
+long|Int []^= "\x80\x00\x00\x01
+"#,
     ..WHOLE
 };
 
 /// The same of the types of CDF-5.
 const UNSET_OF_CDF5: Texts = Texts {
     versions: CDF5,
-    given: &[
-        (b"ubyte", "Ubyte []\n= \"\\xff"),
-        (b"ushort", "Ushort []\n= \"\\xff\\xff"),
-        (b"uint", "Uint []\n= \"\\xff\\xff\\xff\\xff"),
-        (
-            b"int64",
-            "Int64 []\n= \"\\x80\\x00\\x00\\x00\\x00\\x00\\x00\\x02",
-        ),
-        (
-            b"uint64",
-            "Uint64 []\n= \"\\xff\\xff\\xff\\xff\\xff\\xff\\xff\\xfe",
-        ),
-    ],
+    given: br#"
+ubyte|Ubyte []^= "\xff
+ushort|Ushort []^= "\xff\xff
+uint|Uint []^= "\xff\xff\xff\xff
+int64|Int64 []^= "\x80\x00\x00\x00\x00\x00\x00\x02
+uint64|Uint64 []^= "\xff\xff\xff\xff\xff\xff\xff\xfe
+"#,
     ..UNSET
 };
 
@@ -171,112 +182,94 @@ const UNSET_OF_CDF5: Texts = Texts {
 const CONSTANTS: Texts = Texts {
     around: ("netcdf t {\n:a = ", " ; }"),
     said: ("Known(0)\n:a ", ""),
-    given: &[
-        (b"-0", r#"Int "\x00\x00\x00\x00""#),
-        (b"00B", r#"Byte "\x00""#),
-        (b"017S", r#"Short "\x00\x0f""#),
-        (b"+1l", r#"Int "\x00\x00\x00\x01""#),
-        // in hexadecimal, `b` is a digit
-        (b"0x1b", r#"Int "\x00\x00\x00\x1b""#),
-        (b"0X1BS", r#"Short "\x00\x1b""#),
-        (b"0xAbCdEfL", r#"Int "\x00\xab\xcd\xef""#),
-        (b"127b, -128B", r#"Byte "\x7f\x80""#),
-        (b"0x7fffs, -0x8000s", r#"Short "\x7f\xff\x80\x00""#),
-        (
-            b"2147483647, -2147483648",
-            r#"Int "\x7f\xff\xff\xff\x80\x00\x00\x00""#,
-        ),
-        (
-            b"1, 2L, 0x3, 04l",
-            r#"Int "\x00\x00\x00\x01\x00\x00\x00\x02\x00\x00\x00\x03\x00\x00\x00\x04""#,
-        ),
-        (
-            b"1s, 2S,-3s ,4s , 05s, 6s",
-            r#"Short "\x00\x01\x00\x02\xff\xfd\x00\x04\x00\x05\x00\x06""#,
-        ),
-        (b"1b, 2b, -3B//\n, 4b, 5b", r#"Byte "\x01\x02\xfd\x04\x05""#),
-    ],
-    refused: &[
-        (b"128b", 2, NumberRange),
-        (b"-129b", 2, NumberRange),
-        (b"32768s", 2, NumberRange),
-        (b"-32769s", 2, NumberRange),
-        (b"2147483648", 2, NumberRange),
-        (b"-2147483649l", 2, NumberRange),
-        // these have no form of an integer
-        (b"08", 2, BadNumber),
-        (b"018", 2, BadNumber),
-        (b"09b", 2, BadNumber),
-        (b"0x", 2, BadNumber),
-        (b"-0xg", 2, BadNumber),
-        (b"0xs", 2, BadNumber),
-        (b"1.", 2, BadNumber),
-        (b"-.5", 2, BadNumber),
-        (b"+.5e3", 2, BadNumber),
-        (b"1.2.3", 2, BadNumber),
-        (b"1e5", 2, BadNumber),
-        (b"1f", 2, BadNumber),
-        (b"1_000", 2, BadNumber),
-        (b"1bb", 2, BadNumber),
-        (b"1lll", 2, BadNumber),
-        (b"1lu", 2, BadNumber),
-        (b"1ul", 2, BadNumber),
-        (b"1bu", 2, BadNumber),
-        (b"0b1", 2, BadNumber),
-        (b"0o7", 2, BadNumber),
-        (b"12a", 2, BadNumber),
-    ],
+    given: br#"
+-0|Int "\x00\x00\x00\x00"
+00B|Byte "\x00"
+017S|Short "\x00\x0f"
++1l|Int "\x00\x00\x00\x01"
+# in hexadecimal, `b` is a digit
+0x1b|Int "\x00\x00\x00\x1b"
+0X1BS|Short "\x00\x1b"
+0xAbCdEfL|Int "\x00\xab\xcd\xef"
+127b, -128B|Byte "\x7f\x80"
+0x7fffs, -0x8000s|Short "\x7f\xff\x80\x00"
+2147483647, -2147483648|Int "\x7f\xff\xff\xff\x80\x00\x00\x00"
+1, 2L, 0x3, 04l|Int "\x00\x00\x00\x01\x00\x00\x00\x02\x00\x00\x00\x03\x00\x00\x00\x04"
+1s, 2S,-3s ,4s , 05s, 6s|Short "\x00\x01\x00\x02\xff\xfd\x00\x04\x00\x05\x00\x06"
+1b, 2b, -3B//^, 4b, 5b|Byte "\x01\x02\xfd\x04\x05"
+"#,
+    refused: br"
+128b|2 NumberRange
+-129b|2 NumberRange
+32768s|2 NumberRange
+-32769s|2 NumberRange
+2147483648|2 NumberRange
+-2147483649l|2 NumberRange
+# these have no form of an integer
+08|2 BadNumber
+018|2 BadNumber
+09b|2 BadNumber
+0x|2 BadNumber
+-0xg|2 BadNumber
+0xs|2 BadNumber
+1.|2 BadNumber
+-.5|2 BadNumber
++.5e3|2 BadNumber
+1.2.3|2 BadNumber
+1e5|2 BadNumber
+1f|2 BadNumber
+1_000|2 BadNumber
+1bb|2 BadNumber
+1lll|2 BadNumber
+1lu|2 BadNumber
+1ul|2 BadNumber
+1bu|2 BadNumber
+0b1|2 BadNumber
+0o7|2 BadNumber
+12a|2 BadNumber
+",
     ..WHOLE
 };
 
 /// Constants with the suffixes of CDF-5.
 const CONSTANTS_OF_CDF5: Texts = Texts {
     versions: CDF5,
-    given: &[
-        (b"1uB", r#"Ubyte "\x01""#),
-        (b"0x1ub", r#"Ubyte "\x01""#),
-        (b"0ub, 255UB", r#"Ubyte "\x00\xff""#),
-        (b"01Us, 65535us", r#"Ushort "\x00\x01\xff\xff""#),
-        (
-            b"-0U, 4294967295u",
-            r#"Uint "\x00\x00\x00\x00\xff\xff\xff\xff""#,
-        ),
-        (b"0x1Ll", r#"Int64 "\x00\x00\x00\x00\x00\x00\x00\x01""#),
-        (
-            b"-9223372036854775808ll",
-            r#"Int64 "\x80\x00\x00\x00\x00\x00\x00\x00""#,
-        ),
-        (b"1uLl", r#"Uint64 "\x00\x00\x00\x00\x00\x00\x00\x01""#),
-        (
-            b"18446744073709551615ull",
-            r#"Uint64 "\xff\xff\xff\xff\xff\xff\xff\xff""#,
-        ),
-    ],
-    refused: &[
-        (b"256UB", 2, NumberRange),
-        (b"65536us", 2, NumberRange),
-        (b"-1U", 2, NumberRange),
-        (b"4294967296u", 2, NumberRange),
-        (b"9223372036854775808ll", 2, NumberRange),
-        (b"18446744073709551616ull", 2, NumberRange),
-        (b"1u, 1", 2, MixedConstants),
-        (b"1ub, 1b", 2, MixedConstants),
-        (b"1L, 1LL", 2, MixedConstants),
-    ],
+    given: br#"
+1uB|Ubyte "\x01"
+0x1ub|Ubyte "\x01"
+0ub, 255UB|Ubyte "\x00\xff"
+01Us, 65535us|Ushort "\x00\x01\xff\xff"
+-0U, 4294967295u|Uint "\x00\x00\x00\x00\xff\xff\xff\xff"
+0x1Ll|Int64 "\x00\x00\x00\x00\x00\x00\x00\x01"
+-9223372036854775808ll|Int64 "\x80\x00\x00\x00\x00\x00\x00\x00"
+1uLl|Uint64 "\x00\x00\x00\x00\x00\x00\x00\x01"
+18446744073709551615ull|Uint64 "\xff\xff\xff\xff\xff\xff\xff\xff"
+"#,
+    refused: br"
+256UB|2 NumberRange
+65536us|2 NumberRange
+-1U|2 NumberRange
+4294967296u|2 NumberRange
+9223372036854775808ll|2 NumberRange
+18446744073709551616ull|2 NumberRange
+1u, 1|2 MixedConstants
+1ub, 1b|2 MixedConstants
+1L, 1LL|2 MixedConstants
+",
     ..CONSTANTS
 };
 
 /// The older versions don't have these suffixes.
 const CONSTANTS_OF_OLD_VERSIONS: Texts = Texts {
     versions: OLD_VERSIONS,
-    given: &[],
-    refused: &[
-        (b"256UB", 2, BadNumber),
-        (b"-1U", 2, BadNumber),
-        (b"1us", 2, BadNumber),
-        (b"1ll", 2, BadNumber),
-        (b"1ull", 2, BadNumber),
-    ],
+    given: b"",
+    refused: br"
+256UB|2 BadNumber
+-1U|2 BadNumber
+1us|2 BadNumber
+1ll|2 BadNumber
+1ull|2 BadNumber
+",
     ..CONSTANTS
 };
 
@@ -284,47 +277,47 @@ const CONSTANTS_OF_OLD_VERSIONS: Texts = Texts {
 const LENGTHS: Texts = Texts {
     around: ("netcdf t {\ndimensions: x = ", " ; }"),
     said: ("Known(0)\nx = ", ""),
-    given: &[
-        (b"+7", "7"),
-        (b"300b", "300"),
-        (b"70000S", "70000"),
-        (b"2147483647", "2147483647"),
-        (b"017777777777", "2147483647"),
-        (b"0x0000000000000000000000007fffffffL", "2147483647"),
-        (b"UNLIMITED", "0"),
-        (b"unlimited", "0"),
-    ],
-    refused: &[
-        (b"0b", 2, ZeroDimension),
-        (b"-0", 2, ZeroDimension),
-        (b"0x0s", 2, ZeroDimension),
-        (b"-1", 2, NumberRange),
-        (b"9223372036854775808", 2, NumberRange),
-        (b"9999999999999999999999999999999999999999", 2, NumberRange),
-        (b"1.0", 2, BadNumber),
-        (b"08", 2, BadNumber),
-    ],
+    given: br"
++7|7
+300b|300
+70000S|70000
+2147483647|2147483647
+017777777777|2147483647
+0x0000000000000000000000007fffffffL|2147483647
+UNLIMITED|0
+unlimited|0
+",
+    refused: br"
+0b|2 ZeroDimension
+-0|2 ZeroDimension
+0x0s|2 ZeroDimension
+-1|2 NumberRange
+9223372036854775808|2 NumberRange
+9999999999999999999999999999999999999999|2 NumberRange
+1.0|2 BadNumber
+08|2 BadNumber
+",
     ..WHOLE
 };
 
 /// Lengths that only CDF-5 has.
 const LENGTHS_OF_CDF5: Texts = Texts {
     versions: CDF5,
-    given: &[
-        (b"2147483648", "2147483648"),
-        (b"9223372036854775807", "9223372036854775807"),
-    ],
+    given: br"
+2147483648|2147483648
+9223372036854775807|9223372036854775807
+",
     ..LENGTHS
 };
 
 /// The older versions don't have them.
 const LENGTHS_OF_OLD_VERSIONS: Texts = Texts {
     versions: OLD_VERSIONS,
-    given: &[],
-    refused: &[
-        (b"2147483648", 2, NumberRange),
-        (b"0x80000000", 2, NumberRange),
-    ],
+    given: b"",
+    refused: br"
+2147483648|2 NumberRange
+0x80000000|2 NumberRange
+",
     ..LENGTHS
 };
 
