@@ -7,7 +7,7 @@ use std::process::Abort;
 use std::test::Fail;
 use test_files::{
     COORDINATES, LARGE_SLAB, LONG_LINE, ONE_VARIABLE, SMALLEST, TWO_RECORD_DIMS, UNSIGNED_FILLS,
-    patched,
+    patched, words_of,
 };
 
 /// A run of the program on these words, the first one its name, with a space between two. The only file is `t.nc`, which has these bytes.
@@ -41,15 +41,6 @@ const REFUSED: Run<'static> = Run {
 
 /// How the program is used.
 const USAGE: &[u8] = b"usage: ncdump [-h] [-c] [-v names] [-n name] [-l width] file\n";
-
-/// These words, one by one.
-fn words_of<'a>(alloc: Global, words: &'a str) -> Result<Vec<&'a str>, Fail> {
-    let mut list = Vec::new(alloc);
-    for word in words.split(' ') {
-        list.push(word)?;
-    }
-    Ok(list)
-}
 
 /// Fails unless the run is so.
 fn expect_run(rt: &impl Abort, alloc: Global, run: &Run<'_>) -> Result<(), Fail> {

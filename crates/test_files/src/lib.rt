@@ -7,6 +7,7 @@ mod headers;
 mod made;
 mod records;
 mod values;
+mod words;
 
 pub use characters::{
     ALL_NULS, ESCAPED_CHARACTERS, FILLED_ROWS, HELD_NULS, MANY_HELD_NULS, ROWS_OF_NULS,
@@ -27,3 +28,4 @@ pub use values::{
     COORDINATES, FILL_OF_BYTES, FILLED_SHORTS, FORTY_SHORTS, LONG_LINE, LOW_BYTE, ONE_VARIABLE,
     ONE_VARIABLE_CDF2, ONE_VARIABLE_CDF5, SHORT_LINE, UNSIGNED_FILLS,
 };
+pub use words::words_of;

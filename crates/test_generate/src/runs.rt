@@ -7,6 +7,7 @@ use ncgen::{command, options_of, run_with};
 use std::alloc::{AllocError, Global};
 use std::process::Abort;
 use std::test::*;
+use test_files::words_of;
 
 /// A text, the same at a path that begins with a dash, and one that is refused.
 const TEXTS: [MemFile<'static>; 3] = [
@@ -61,39 +62,60 @@ fn is_file(made: &MadeFile, path: &str, bytes: &[u8]) -> bool {
 }
 
 /// The file of the text in CDF-1, CDF-2 and CDF-5.
-const CDF1: &[u8] = test_files::ONE_VARIABLE;
+/// The file of the text in this version.
+fn file_in(version: Version) -> &'static [u8] {
+    match version {
+        Version::Cdf1 => test_files::ONE_VARIABLE,
+        Version::Cdf2 => test_files::ONE_VARIABLE_CDF2,
+        Version::Cdf5 => test_files::ONE_VARIABLE_CDF5,
+    }
+}
 
-const CDF2: &[u8] = test_files::ONE_VARIABLE_CDF2;
-
-const CDF5: &[u8] = test_files::ONE_VARIABLE_CDF5;
+/// Words, and the path and the version of the file that they ask for.
+const FILES: &[(&str, &str, Version)] = &[
+    ("ncgen -b d/f.cdl", "f.nc", Version::Cdf1),
+    ("ncgen -b -o x d/f.cdl", "x", Version::Cdf1),
+    ("ncgen d/f.cdl -ox", "x", Version::Cdf1),
+    ("ncgen -o x", "x", Version::Cdf1),
+    ("ncgen -bo x", "x", Version::Cdf1),
+    ("ncgen -b -- -x", "-x.nc", Version::Cdf1),
+    // the output takes the place of the text
+    ("ncgen -o d/f.cdl d/f.cdl", "d/f.cdl", Version::Cdf1),
+    ("ncgen -b -k classic d/f.cdl", "f.nc", Version::Cdf1),
+    ("ncgen -b -k nc3 d/f.cdl", "f.nc", Version::Cdf1),
+    ("ncgen -b -k nc6 d/f.cdl", "f.nc", Version::Cdf2),
+    ("ncgen -b -k nc5 d/f.cdl", "f.nc", Version::Cdf5),
+];
 
 #[test]
-fn words_choose_the_output_and_its_version(rt: HostRuntime) {
-    const ROWS: &[(&[&str], &str, &[u8])] = &[
-        (&["ncgen", "-b", "d/f.cdl"], "f.nc", CDF1),
-        (&["ncgen", "-b", "-o", "x", "d/f.cdl"], "x", CDF1),
-        (&["ncgen", "d/f.cdl", "-ox"], "x", CDF1),
-        (&["ncgen", "-o", "x"], "x", CDF1),
-        (&["ncgen", "-bo", "x"], "x", CDF1),
-        (&["ncgen", "-b", "--", "-x"], "-x.nc", CDF1),
-        // the output takes the place of the text
-        (&["ncgen", "-o", "d/f.cdl", "d/f.cdl"], "d/f.cdl", CDF1),
-        (&["ncgen", "-b", "-k", "classic", "d/f.cdl"], "f.nc", CDF1),
-        (&["ncgen", "-b", "-k", "nc3", "d/f.cdl"], "f.nc", CDF1),
-        (&["ncgen", "-o", "x", "-k", "64-bit offset"], "x", CDF2),
-        (&["ncgen", "-b", "-k", "nc6", "d/f.cdl"], "f.nc", CDF2),
-        (&["ncgen", "-o", "x", "-k", "64-bit data"], "x", CDF5),
-        (&["ncgen", "-b", "-k", "nc5", "d/f.cdl"], "f.nc", CDF5),
-    ];
-    for (words, path, file) in ROWS {
+fn words_choose_the_output_and_its_version(rt: HostRuntime) -> Result<(), AllocError> {
+    for (text, path, version) in FILES {
+        let words = words_of(rt.alloc(), *text)?;
+        let made = Some((*path, file_in(*version)));
         ends(
             &rt,
             rt.alloc(),
-            *words,
+            words.as_slice(),
             (&TEXTS, SHORTS),
             b"",
-            Some((*path, *file)),
+            made,
         );
+    }
+    Ok(())
+}
+
+/// Versions whose names have a space.
+const SPACED: &[(&str, Version)] = &[
+    ("64-bit offset", Version::Cdf2),
+    ("64-bit data", Version::Cdf5),
+];
+
+#[test]
+fn kinds_with_a_space(rt: HostRuntime) {
+    for (kind, version) in SPACED {
+        let words = ["ncgen", "-o", "x", "-k", *kind];
+        let made = Some(("x", file_in(*version)));
+        ends(&rt, rt.alloc(), &words, (&TEXTS, SHORTS), b"", made);
     }
 }
 
@@ -140,54 +162,73 @@ const FAR: &[u8] = b"netcdf t { dimensions: x = 2147483647 ; variables: byte a(x
 /// One byte more than a text may have.
 const TOO_LONG: usize = (1 << 28) + 1;
 
+/// Words that are answered with the usage, a run a line.
+const USAGE_FAULTS: &str = "ncgen -b
+ncgen -k nc4 d/f.cdl
+ncgen -k NC3 d/f.cdl
+ncgen -k  d/f.cdl
+ncgen -k
+ncgen -b -b d/f.cdl
+ncgen -o x -o x d/f.cdl
+ncgen -k nc3 -k nc3 d/f.cdl
+ncgen d/f.cdl d/f.cdl
+ncgen --help
+ncgen -V
+ncgen -x d/f.cdl";
+
+#[test]
+fn other_words_have_the_usage(rt: HostRuntime) -> Result<(), AllocError> {
+    for text in USAGE_FAULTS.split('\n') {
+        let words = words_of(rt.alloc(), text)?;
+        ends(
+            &rt,
+            rt.alloc(),
+            words.as_slice(),
+            (&TEXTS, SHORTS),
+            USAGE,
+            None,
+        );
+    }
+    // no memory is lacking where there are many words
+    let many = Vec::from_elem(rt.alloc(), "d/f.cdl", 100)?;
+    ends(
+        &rt,
+        rt.alloc(),
+        many.as_slice(),
+        (&TEXTS, SHORTS),
+        USAGE,
+        None,
+    );
+    Ok(())
+}
+
+/// Words, standard input, and the line; none where the text is only checked.
+const LINES: &[(&str, &[u8], &[u8])] = &[
+    ("ncgen", SHORTS, b""),
+    ("ncgen d/f.cdl", b"", b""),
+    (
+        "ncgen -b bad.cdl",
+        b"",
+        b"ncgen: bad.cdl: line 5: number out of range\n",
+    ),
+    (
+        "ncgen -o x",
+        REFUSED,
+        b"ncgen: -: line 5: number out of range\n",
+    ),
+    ("ncgen", b"", b"ncgen: -: line 1: syntax\n"),
+    ("ncgen no.cdl", SHORTS, b"ncgen: no.cdl: cannot open\n"),
+    ("ncgen -o x", FAR, b"ncgen: -: offset too large\n"),
+    ("ncgen", FAR, b"ncgen: -: offset too large\n"),
+    (
+        "ncgen long.cdl",
+        b"",
+        b"ncgen: long.cdl: CDL text too long\n",
+    ),
+];
+
 #[test]
 fn runs_without_an_output(rt: HostRuntime) -> Result<(), AllocError> {
-    // words, standard input, and the line; none where the text is only checked
-    const ROWS: &[(&[&str], &[u8], &[u8])] = &[
-        (&["ncgen"], SHORTS, b""),
-        (&["ncgen", "d/f.cdl"], b"", b""),
-        (
-            &["ncgen", "-b", "bad.cdl"],
-            b"",
-            b"ncgen: bad.cdl: line 5: number out of range\n",
-        ),
-        (
-            &["ncgen", "-o", "x"],
-            REFUSED,
-            b"ncgen: -: line 5: number out of range\n",
-        ),
-        (&["ncgen"], b"", b"ncgen: -: line 1: syntax\n"),
-        (
-            &["ncgen", "no.cdl"],
-            SHORTS,
-            b"ncgen: no.cdl: cannot open\n",
-        ),
-        (&["ncgen", "-o", "x"], FAR, b"ncgen: -: offset too large\n"),
-        (&["ncgen"], FAR, b"ncgen: -: offset too large\n"),
-        (
-            &["ncgen", "long.cdl"],
-            b"",
-            b"ncgen: long.cdl: CDL text too long\n",
-        ),
-        (&["ncgen", "-b"], SHORTS, USAGE),
-        (&["ncgen", "-k", "nc4", "d/f.cdl"], SHORTS, USAGE),
-        (&["ncgen", "-k", "NC3", "d/f.cdl"], SHORTS, USAGE),
-        (&["ncgen", "-k", "", "d/f.cdl"], SHORTS, USAGE),
-        (&["ncgen", "-k"], SHORTS, USAGE),
-        (&["ncgen", "-b", "-b", "d/f.cdl"], SHORTS, USAGE),
-        (&["ncgen", "-o", "x", "-o", "x", "d/f.cdl"], SHORTS, USAGE),
-        (
-            &["ncgen", "-k", "nc3", "-k", "nc3", "d/f.cdl"],
-            SHORTS,
-            USAGE,
-        ),
-        (&["ncgen", "d/f.cdl", "d/f.cdl"], SHORTS, USAGE),
-        (&["ncgen", "--help"], SHORTS, USAGE),
-        (&["ncgen", "-V"], SHORTS, USAGE),
-        (&["ncgen", "-x", "d/f.cdl"], SHORTS, USAGE),
-        // no memory is lacking where there are many words
-        (&["d/f.cdl"; 100], SHORTS, USAGE),
-    ];
     let long = Vec::from_elem(rt.alloc(), b' ', TOO_LONG)?;
     let [good, _, bad] = TEXTS;
     let texts = [
@@ -198,8 +239,16 @@ fn runs_without_an_output(rt: HostRuntime) -> Result<(), AllocError> {
             bytes: long.as_slice(),
         },
     ];
-    for (words, input, line) in ROWS {
-        ends(&rt, rt.alloc(), *words, (&texts, *input), *line, None);
+    for (text, input, line) in LINES {
+        let words = words_of(rt.alloc(), *text)?;
+        ends(
+            &rt,
+            rt.alloc(),
+            words.as_slice(),
+            (&texts, *input),
+            *line,
+            None,
+        );
     }
     Ok(())
 }

@@ -7,7 +7,7 @@ use std::alloc::{AllocError, Global};
 use std::io;
 use std::io::{ErrorKind, Read};
 use std::process::Abort;
-use test_files::{COORDINATES, TWO_RECORDS, patched};
+use test_files::{COORDINATES, TWO_RECORDS, patched, words_of};
 
 /// How the program is used.
 const USAGE: &[u8] = b"usage: nccheck [-q] [-s] [-0] [-l level] [-i kinds] [file ...]\n";
@@ -232,15 +232,6 @@ fn ends(alloc: Global, files: &[MemFile<'_>], run: &Run<'_>, input: Input<'_>) -
         &mut err,
     );
     ended == status && out.taken() == lines && err.taken() == trouble
-}
-
-/// These words, one by one.
-fn words_of<'a>(alloc: Global, words: &'a str) -> Result<Vec<&'a str>, AllocError> {
-    let mut list = Vec::new(alloc);
-    for word in words.split(' ') {
-        list.push(word)?;
-    }
-    Ok(list)
 }
 
 /// Returns true if the run of this block ends as the block says.
