@@ -27,16 +27,13 @@ pub mod Refusals
 pub mod FaultFindings
 pub mod QuietRules
 pub mod FirstFaults
-pub mod QuietFields
+pub mod Spellings
 pub mod QuietHeaders
-pub mod CanonicalFindings
 pub mod LayoutFacts
 pub mod QuietFiles
 pub mod MissingFindings
 pub mod WholeFiles
 pub mod CleanLayouts
-pub mod CanonicalReports
-pub mod EntryPlaces
 pub mod FieldPlaces
 pub mod OneListing
 pub mod ListedValues

@@ -1,35 +1,17 @@
--- A report finds that values are missing exactly if some variable of the header has a first missing value.
-use Rattle.std.proofs.Common.{arith, ◌≡◌, ℕ, ◌+◌, ◌||◌, Bool, false, List, [], ◌∷◌, ◌++◌, length, map, flat_map, find, Option, Some, None, Ok, refl, sym, ap, ◌∙◌, subst}
-use Rattle.nccheck_laws.proofs.Prelude.{All, list_any, option_to_list, option_map, All-nil, All-cons, All-append, list_any-append, list_any_none, list_any-IsPermutation, FormatFault, Header, FloatingType, strict, header_by, reads, Entry, Content, FieldName, Listing, lenient, without_values, Layout, layout_findings, layout_of, spelled-layout, Fact, Finding, Indexed, field_at, indexed_from, indexed, finding, facts_with, findings_at, field_findings, floating_findings, header_findings, vsize_findings, located, layout_facts, whole_findings, all_findings, has_any, finds, is_of_missing, is_floating, is_missing}
+-- What a report finds about the layout is what is found in the layout of the header; so it finds that values are missing exactly if some
+-- variable of the header has a first missing value.
+use Rattle.std.proofs.Common.{arith, ◌≡◌, ℕ, ◌+◌, Bool, false, List, [], ◌∷◌, length, map, flat_map, Option, Some, None, Ok, refl, sym, ap, ◌∙◌}
+use Rattle.nccheck_laws.proofs.Prelude.{list_any, list_any-append, list_any-IsPermutation, option_to_list, option_map, FloatingType, name_findings, attribute_findings, FormatFault, Header, Bytes, SpellsHeader, strict, Entry, Content, FieldName, Listing, without_values, layout_findings, layout_of, spelled-layout, Fact, Finding, Report, IsReport, Indexed, field_at, indexed_from, indexed, finding, facts_with, findings_at, field_findings, floating_findings, header_findings, vsize_findings, located, layout_facts, all_findings, has_any, finds, is_of_missing, is_missing, LayoutFact, LayoutFinding}
 use Rattle.nc_fields.specs.declared.entry.Content.TheVariants as content
-use Rattle.nccheck_laws.proofs.StrictHeaders.{strict-headers}
-use Rattle.nccheck_laws.proofs.MissingValues.{missing-found}
 use Rattle.nc_report.specs.declared.finding.Fact.TheVariants as fact
 use Rattle.nccheck_laws.specs.FaultLaws.{ReportsTellMissingValues}
+use Rattle.nccheck_laws.specs.ReportLaws.{is_of_layout}
 use Rattle.nccheck_laws.proofs.FaultFindings.{fault-fact}
-use Rattle.nccheck_laws.proofs.LayoutFacts.{all-located, is-read, whole-header, same-layout}
-use Rattle.nccheck_laws.proofs.QuietRules.{is_layout, Plain, plain-names, plain-attributes, plain-vsizes}
+use Rattle.nccheck_laws.proofs.LayoutFacts.{read-header, whole-header, same-layout}
+use Rattle.nccheck_laws.proofs.MissingValues.{missing-found}
+use Rattle.nccheck_laws.proofs.QuietRules.{is_layout, is_odd, fewer, plain-names, plain-attributes, plain-vsizes}
 
--- the finding is that values are missing
-abbrev pub tells_missing : Finding → Bool
-tells_missing f = is_missing f.fact
-
--- ---- findings of other facts
-
-abbrev OtherFact : Fact → Type 0
-OtherFact fact = is_layout fact ≡ false
-
-abbrev pub Other : Finding → Type 0
-Other f = OtherFact f.fact
-
-pub all-other : (fs : List Finding) → All Plain fs → All Other fs
-all-other fs plain k x lt = (plain k x lt).1
-
--- ---- at fields alone
-
-others : (fs : List Finding) → has_any is_layout fs ≡ false → All Other fs
-others [] none = All-nil Other
-others (f ∷ fs) none = All-cons Other f fs (grind arith) (others fs (grind arith))
+-- ---- findings at fields
 
 other-facts : (f : Indexed) (o : Option FormatFault) (place : FieldName) (size : ℕ) (c : Content)
     → has_any is_layout (map (finding f) (facts_with o place size c)) ≡ false
@@ -38,59 +20,87 @@ other-facts f None place size (content.Number n) = grind arith
 other-facts f None place size (content.Bytes bs) = grind arith
 other-facts f None place size c = refl
 
-other-fields : (i : ℕ) (es : List Entry) → All Other (flat_map findings_at (indexed_from i es))
-other-fields i [] = All-nil Other
+other-fields : (i : ℕ) (es : List Entry) → has_any is_layout (flat_map findings_at (indexed_from i es)) ≡ false
+other-fields i [] = refl
 other-fields i (e ∷ es) =
-    All-append Other _ _ (others _ (other-facts (field_at i e) e.fault e.place.name e.size e.content)) (other-fields (i + 1) es)
+    grind (arith, list_any-append, other-facts (field_at i e) e.fault e.place.name e.size e.content, other-fields (i + 1) es)
 
-other-floating : (o : Option Indexed) → All Other (option_to_list (option_map (λ f. finding f (fact.Fault FloatingType)) o))
-other-floating (Some f) = others (finding f (fact.Fault FloatingType) ∷ []) refl
-other-floating None = All-nil Other
+not-layout : (x : Fact) → is_odd x ≡ false → is_layout x ≡ false
+not-layout x plain = grind arith
 
-pub other-header : (es : List Entry) → All Other (header_findings es)
+no-layout : (fs : List Finding) → has_any is_odd fs ≡ false → has_any is_layout fs ≡ false
+no-layout fs plain = fewer is_odd is_layout not-layout fs plain
+
+other-floating : (o : Option Indexed) → has_any is_layout (option_to_list (option_map (λ f. finding f (fact.Fault FloatingType)) o)) ≡ false
+other-floating v0 = grind arith
+
+other-header : (es : List Entry) → has_any is_layout (header_findings es) ≡ false
 unfolding header_findings field_findings floating_findings
 other-header es =
     let fs = indexed es in
-    All-append Other _ _
-    (All-append Other _ _
-    (All-append Other _ _ (other-fields 0 es) (other-floating (find is_floating fs)))
-    (all-other _ (plain-names fs)))
-    (all-other _ (plain-attributes fs))
+    let names = no-layout (name_findings fs) (plain-names fs) in
+    let attributes = no-layout (attribute_findings fs) (plain-attributes fs) in
+    grind (arith, list_any-append, other-fields 0 es, other-floating)
 
--- ---- about the layout
+-- ---- findings about the layout
 
-not-missing : (x : Fact) → OtherFact x → is_missing x ≡ false
-not-missing x other = grind arith
+pub all-located : (test : Fact → Bool) (kind : LayoutFact → Bool) → ((x : LayoutFact) → test (fact.Layout x) ≡ kind x) → (fs : List Indexed)
+    (ls : List LayoutFinding)
+    → has_any test (map (located fs) ls) ≡ list_any (λ (l : LayoutFinding). kind l.fact) ls
+all-located test kind agree fs [] = refl
+all-located test kind agree fs (l ∷ ls) = grind (arith, all-located test kind agree fs ls, agree l.fact)
 
--- what comes after findings of other facts
-after-others : (xs ys : List Finding) → All Other xs → list_any tells_missing (xs ++ ys) ≡ list_any tells_missing ys
-after-others xs ys others =
-    list_any-append tells_missing xs ys ∙ ap (λ b. b || list_any tells_missing ys) (list_any_none tells_missing xs
-    (λ k d lt. not-missing _ (others k d lt)))
+-- the test is passed by facts about the layout of this kind
+pub record IsOfLayout (test : Fact → Bool) (kind : LayoutFact → Bool) : Type 0 where
+  pub agree : (x : LayoutFact) → test (fact.Layout x) ≡ kind x
+  pub other : (x : Fact) → is_layout x ≡ false → test x ≡ false
 
-layout-tells : (layout : Layout) (fs : List Indexed) → list_any tells_missing (layout_facts layout fs) ≡ finds is_of_missing layout
-layout-tells layout fs =
-    after-others (vsize_findings layout fs) (map (located fs) (layout_findings layout)) (all-other _ (plain-vsizes layout fs))
-    ∙ all-located is_missing is_of_missing (λ fact. refl) fs (layout_findings layout)
+other-layout : (kind : LayoutFact → Bool) (x : Fact) → is_layout x ≡ false → is_of_layout kind x ≡ false
+other-layout kind x other = grind arith
+
+other-missing : (x : Fact) → is_layout x ≡ false → is_missing x ≡ false
+other-missing x other = grind arith
+
+pub of-layout : (kind : LayoutFact → Bool) → IsOfLayout (is_of_layout kind) kind
+of-layout kind = record { agree = λ x. refl; other = other-layout kind }
+
+pub of-missing : IsOfLayout is_missing is_of_missing
+of-missing = record { agree = λ x. refl; other = other-missing }
+
+listing-tells : (test : Fact → Bool) (kind : LayoutFact → Bool) → IsOfLayout test kind → (l : Listing) (h : Header) → l.header ≡ Ok h
+    → has_any test (all_findings l) ≡ finds kind (layout_of h l.end l.file_len)
+unfolding all_findings
+listing-tells test kind of l h same =
+    let fs = indexed l.entries in
+    let layout = layout_of h l.end l.file_len in
+    let header = fewer is_layout test of.other (header_findings l.entries) (other-header l.entries) in
+    let sizes = vsize_findings layout fs in
+    let vsizes = fewer is_layout test of.other sizes (no-layout sizes (plain-vsizes layout fs)) in
+    let facts = all-located test kind of.agree fs (layout_findings layout) in
+    grind (arith, list_any-append, whole-header l h same)
+
+-- in a report of a header that is listed to its end
+pub report-tells : (test : Fact → Bool) (kind : LayoutFact → Bool) → IsOfLayout test kind → (bytes : Bytes) (r : Report) (h : Header)
+    → IsReport bytes r → r.listing.header ≡ Ok h → has_any test r.findings ≡ finds kind (layout_of h r.listing.end (length bytes))
+report-tells test kind of bytes r h report same =
+    sym (list_any-IsPermutation (λ (f : Finding). test f.fact) (all_findings r.listing) r.findings report.all)
+    ∙ listing-tells test kind of r.listing h same ∙ ap (λ n. finds kind (layout_of h r.listing.end n)) report.listing.file_len
+
+-- and of one that can be read
+pub read-tells : (test : Fact → Bool) (kind : LayoutFact → Bool) → IsOfLayout test kind → (bytes : Bytes) (r : Report) (h : Header)
+    (rest : Bytes) (header_end : ℕ) → IsReport bytes r → SpellsHeader bytes h rest → header_end + length rest ≡ length bytes
+    → has_any test r.findings ≡ finds kind (layout_of h header_end (length bytes))
+read-tells test kind of bytes r h rest header_end report spelled ends =
+    let read = read-header bytes r h rest report spelled in
+    let at = read.1 in
+    let same : r.listing.end ≡ header_end = omega arith in
+    report-tells test kind of bytes r (without_values h) report read.0
+    ∙ ap (finds kind) (same-layout h r.listing.end (length bytes) ∙ ap (λ n. layout_of h n (length bytes)) same)
 
 -- ---- the law
 
-pub listing-tells : (l : Listing) (h : Header) → l.header ≡ Ok h
-    → list_any tells_missing (all_findings l) ≡ finds is_of_missing (layout_of h l.end l.file_len)
-unfolding all_findings
-listing-tells l h same =
-    after-others (header_findings l.entries) (whole_findings l) (other-header l.entries)
-    ∙ ap (list_any tells_missing) (whole-header l h same)
-    ∙ layout-tells (layout_of h l.end l.file_len) (indexed l.entries)
-
 pub missing-told : ReportsTellMissingValues
 missing-told bytes r h rest report spelled =
-    let l = r.listing in
-    let read = is-read bytes report.listing.rest l.header (without_values h) rest report.listing.header
-    (reads (header_by lenient) bytes (without_values h) rest (strict-headers bytes h rest spelled).0) in
-    let ends = subst (λ rest. l.end + length rest ≡ length bytes) read.1 report.listing.end in
-    sym (list_any-IsPermutation tells_missing (all_findings l) r.findings report.all)
-    ∙ listing-tells l (without_values h) read.0
-    ∙ ap (finds is_of_missing) (same-layout h l.end l.file_len)
-    ∙ ap (λ n. finds is_of_missing (layout_of h l.end n)) report.listing.file_len
-    ∙ missing-found h bytes l.end (spelled-layout strict bytes h rest l.end spelled ends)
+    let ends = (read-header bytes r h rest report spelled).1 in
+    read-tells is_missing is_of_missing of-missing bytes r h rest r.listing.end report spelled ends
+    ∙ missing-found h bytes r.listing.end (spelled-layout strict bytes h rest r.listing.end spelled ends)

@@ -31,7 +31,7 @@ AreWhole h bytes =
     All (IsWholeSlot (length bytes) (record_size h) (record_count h (length bytes))) (map (slot_of h.dims) h.vars)
 
 -- no value of the variable is missing
-abbrev HasAll : Header → Bytes → Var → Type 0
+abbrev pub HasAll : Header → Bytes → Var → Type 0
 HasAll h bytes var = first_missing h bytes var (record_count h (length bytes)) ≡ None
 
 values-present : (h : Header) (bytes : Bytes) (header_end : ℕ) → IsSoundLayout (layout_of h header_end (length bytes))
@@ -53,14 +53,14 @@ all-present h bytes header_end sound within =
 
 -- ---- tests
 
-pub not-some : (o : Option ℕ) → is_some o ≡ false → o ≡ None
+not-some : (o : Option ℕ) → is_some o ≡ false → o ≡ None
 not-some o none = grind arith
 
-none-lack : (h : Header) (bytes : Bytes) (vars : List Var) → list_any (lacks_values h bytes) vars ≡ false → All (HasAll h bytes) vars
+pub none-lack : (h : Header) (bytes : Bytes) (vars : List Var) → list_any (lacks_values h bytes) vars ≡ false → All (HasAll h bytes) vars
 none-lack h bytes [] none = All-nil _
 none-lack h bytes (var ∷ vars) none = grind (arith, none-lack h bytes vars, All-cons, not-some)
 
-all-have : (h : Header) (bytes : Bytes) (vars : List Var) → All (HasAll h bytes) vars → list_any (lacks_values h bytes) vars ≡ false
+pub all-have : (h : Header) (bytes : Bytes) (vars : List Var) → All (HasAll h bytes) vars → list_any (lacks_values h bytes) vars ≡ false
 all-have h bytes vars all = list_any_none (lacks_values h bytes) vars (λ k d lt. ap is_some (all k d lt))
 
 pub short-lacks : ShortFilesLackValues

@@ -39,7 +39,7 @@ apart r told e = cc
 
 -- ---- facts
 
-same-fault : (a b : FormatFault) → faults.ghosts.cmp a b ≡ Equal → a ≡ b
+pub same-fault : (a b : FormatFault) → faults.ghosts.cmp a b ≡ Equal → a ≡ b
 same-fault fault.NotNetcdf fault.NotNetcdf e = refl
 same-fault (fault.UnknownVersion i) (fault.UnknownVersion k) e = ap fault.UnknownVersion (number i k e)
 same-fault fault.HeaderTruncated fault.HeaderTruncated e = refl
