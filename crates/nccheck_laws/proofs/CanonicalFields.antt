@@ -1,18 +1,9 @@
 -- The fields of a header that is spelled as it is written are as they are written in it.
 use Rattle.std.proofs.Common.{◌≡◌, ℕ, suc, zero, ◌^◌, ◌<◌, ◌==◌, ◌||◌, ◌&&◌, not, false, List, [], ◌∷◌, ◌++◌, length, take, drop, Option, Some, None, refl, sym, ap, ◌∙◌, subst, arith, append_assoc, append-nil, replicate, if◌then◌else◌, slice_get, IfSome, All}
-use Rattle.nccheck_laws.proofs.Prelude.{All-nil, All-cons, All-append, byte_len, w32, Dim, Var, Header, Version, BadCount, Bytes, count_width, padded_size, padded_total, record_vars, Step, Part, done, bytes, decoded, under, chain, Spells, Tag, Count, Item, Padding, Vsize, strict, checked, variable_tag, attribute_tag, att_after, dimid_after, var_after, vsize_of, header_part, SpellsHeader, number, limited_part, offset_part, ignored, name_part, type_part, each, counted, list_head, list_part, dim_part, dim_list, att_part, att_list, dimid_part, shape_part, var_part, var_list, version_part, magic_part, numrecs_part, header_by, Field, fields, header_fields, bytes_of, number_of, has_nonzero, lenient, without_values, IsWrittenVsize, from_be_bytes, to_be_bytes, Att, print, count_part, first}
-use Rattle.std.proofs.lemmas.List.Elements.{All-get_or}
-use Rattle.std.proofs.lemmas.Option.{slice_get_within, get_or_from_slice_get}
-use Rattle.nc_base.specs.Headers.{IsSoundVar}
-use Rattle.nc_base.specs.Versions.{offset_limit}
-use Rattle.nc_base.specs.Grammar.{header_spelling}
-use Rattle.nc_base.specs.code.PartRuns.{IsPrintable}
-use Rattle.nc_base.proofs.PartOutcomes.{printed}
-use Rattle.nc_base.proofs.Printable.{wide-32, header-printable}
+use Rattle.nccheck_laws.proofs.Prelude.{All-nil, All-cons, All-append, byte_len, w32, Dim, Var, Header, Version, BadCount, Bytes, count_width, padded_size, padded_total, record_vars, Step, Part, done, bytes, decoded, under, chain, Spells, Tag, Count, Item, Padding, Vsize, strict, checked, variable_tag, attribute_tag, att_after, dimid_after, var_after, vsize_of, header_part, SpellsHeader, number, limited_part, offset_part, ignored, name_part, type_part, each, counted, list_head, list_part, dim_part, dim_list, att_part, att_list, dimid_part, shape_part, var_part, var_list, version_part, magic_part, numrecs_part, header_by, Field, fields, header_fields, bytes_of, number_of, has_nonzero, lenient, without_values, IsWrittenVsize, from_be_bytes, to_be_bytes, Att, print, count_part, first, All-get_or, slice_get_within, get_or_from_slice_get, IsSoundVar, offset_limit, header_spelling, IsPrintable, printed, wide-32, header-printable, CanonicalFieldsAreWritten}
 use Rattle.nc_base.proofs.SoundSpelling.{spelled-sound}
 use Rattle.nc_fields.specs.Entries.{number_in}
 use Rattle.nc_fields.proofs.Numbers.{number-in_count}
-use Rattle.nccheck_laws.specs.Written.{CanonicalFieldsAreWritten}
 use Rattle.nccheck_laws.proofs.StrictHeaders.{strict-fields, strict-headers}
 use Rattle.nccheck_laws.proofs.Vsizes.{spelled-whole}
 use Rattle.nccheck_laws.proofs.Spellings.{odd_padding, odd_tag, odd_list, any_odd, IsSized, AreSized, are-written}

@@ -1,20 +1,8 @@
 -- Where each slot begins in its canonical place, nothing is found at the begins; nor at the end of a file of the canonical length.
 use Rattle.std.proofs.Common.{◌≡◌, ℕ, ◌+◌, ◌≤◌, max, true, length, take, filter, arith}
-use Rattle.std.specs.List.{Contains}
-use Rattle.std.proofs.lemmas.Bool.{cases_lt}
-use Rattle.std.proofs.lemmas.Bool.Decides.{nat_tests}
-use Rattle.nc_layout.specs.declared.{slot.Slot.Slot, slot.Layout.Layout, blocks.Extent.Extent}
-use Rattle.nc_layout.specs.Slots.{padded_slab, is_fixed, slab_in_record, record_count}
-use Rattle.nc_layout.specs.Blocks.{slot_block, records_block, blocks, before, precedes, has_values}
-use Rattle.nc_layout.specs.SlotRules.{slot_findings}
-use Rattle.nc_layout.specs.BlockRules.{block_findings, greatest_end}
-use Rattle.nc_layout.specs.FileEnd.{values_end, padding_end, used_end, end_findings}
-use Rattle.nc_layout.specs.Findings.{IsSoundSlot, IsSoundLayout}
-use Rattle.nccheck_laws.specs.LayoutLaws.{is_of_begin, is_of_end, HasCanonicalBegins, CanonicalBeginsAreQuiet, CanonicalLengthIsQuiet}
-use Rattle.nc_layout.specs.code.Sweep.{value_end}
+use Rattle.nccheck_laws.proofs.Prelude.{Contains, cases_lt, nat_tests, Slot, Layout, Extent, padded_slab, is_fixed, slab_in_record, record_count, slot_block, records_block, blocks, before, precedes, has_values, slot_findings, block_findings, greatest_end, values_end, used_end, end_findings, IsSoundSlot, IsSoundLayout, is_of_begin, is_of_end, HasCanonicalBegins, CanonicalBeginsAreQuiet, CanonicalLengthIsQuiet, value_end, filter-contains, greatest_from-ge, greatest_from-above, greatest_from-least}
+use Rattle.nc_layout.specs.FileEnd.{padding_end}
 use Rattle.nc_layout.specs.code.Sweep as sweep
-use Rattle.nc_layout.proofs.BlockOrder.{filter-contains}
-use Rattle.nc_layout.proofs.SweptBlocks.{greatest_from-ge, greatest_from-above, greatest_from-least}
 use Rattle.nccheck_laws.proofs.FoundNone.{Quiet, all-quiet}
 use Rattle.nccheck_laws.proofs.IndexedSlots.{At, all-at, filtered-at, slab-le}
 use Rattle.nccheck_laws.proofs.LayoutBlocks.{each-block, all-place, before-le, place-reached, records_end-above, records_end-le}

@@ -1,20 +1,7 @@
 -- A report finds nothing at begins and at the end of a generated file.
 use Rattle.std.proofs.Common.{arith, ◌≡◌, ℕ, ◌+◌, Bool, List, [], ◌∷◌, ◌++◌, length, sym, ap, ◌∙◌}
-use Rattle.nccheck_laws.proofs.Prelude.{common_steps, All, All-nil, All-cons, Att, Header, Var, Bytes, SpellsHeader, strict, spelled-layout, LayoutFact}
-use Rattle.std.proofs.lemmas.List.Elements.{All-head, All-tail}
-use Rattle.nc_base.specs.declared.{dataset.Dataset.Dataset}
-use Rattle.nc_base.specs.declared.header.NumRecs.TheVariants.{Known}
-use Rattle.nc_base.specs.Datasets.{Fits}
-use Rattle.nc_base.specs.GeneratedFile.{begin_after, data_of, vars_with_begins}
-unfoldable use Rattle.nc_base.specs.GeneratedFile.{file_of, with_begins}
-use Rattle.nc_base.specs.Grammar.{header_spelling}
-use Rattle.nc_base.specs.Names.{IsName}
-use Rattle.nc_base.specs.Headers.{AreArrays, IsGood, HasValidNames, bare}
-use Rattle.nc_base.proofs.FileHolds.{bare-after, sound-after}
-use Rattle.nc_base.proofs.PartOutcomes.{printed}
-use Rattle.nc_base.proofs.Printable.{header-printable}
-use Rattle.nccheck_laws.specs.LayoutLaws.{is_of_begin, is_of_end}
-use Rattle.nccheck_laws.specs.ReportLaws.{is_of_layout, GeneratedFilesHaveQuietLayouts}
+use Rattle.nccheck_laws.proofs.Prelude.{common_steps, All-nil, All-cons, Att, Header, Var, Bytes, SpellsHeader, strict, spelled-layout, LayoutFact, All-head, All-tail, Dataset, Known, Fits, begin_after, data_of, vars_with_begins, file_of, with_begins, header_spelling, IsName, AreArrays, IsGood, HasValidNames, bare, bare-after, sound-after, printed, header-printable, is_of_begin, is_of_end, is_of_layout, GeneratedFilesHaveQuietLayouts}
+use Rattle.std.specs.List.{All}
 use Rattle.nccheck_laws.proofs.GeneratedLayouts.{generated-quiet as layouts-quiet}
 use Rattle.nccheck_laws.proofs.MissingFindings.{of-layout, read-tells}
 

@@ -1,13 +1,8 @@
 -- Among the facts of an entry that the strict rules refuse is the fault with which they do, but for a floating type.
 use Rattle.std.proofs.Common.{◌≡◌, ℕ, ◌==◌, Bool, true, false, cond, List, [], ◌∷◌, ◌++◌, length, take, Option, Some, None, refl, sym, ◌∙◌, arith}
-use Rattle.nccheck_laws.proofs.Prelude.{Contains, FormatFault, BadCount, FloatingType, Entry, Content, FieldName, Owner, name_steps, owner_steps, refusal_in, Fact, facts_with, Length, bytes_eq, Fault, is_floating_in}
-use Rattle.nc_base.specs.declared.fault.FormatFault.TheVariants.{NotNetcdf}
+use Rattle.nccheck_laws.proofs.Prelude.{Contains, FormatFault, BadCount, FloatingType, Entry, Content, FieldName, Owner, name_steps, owner_steps, refusal_in, Fact, facts_with, Length, bytes_eq, Fault, is_floating_in, NotNetcdf, hdf5_signature, Hdf5, Gzip, EmptyFile, gzip_signature, fault_fact, is_large_count, strict_fault}
 use Rattle.nc_fields.specs.declared.entry.Content.TheVariants as content
 use Rattle.nc_fields.specs.declared.place.FieldName.TheVariants as name
-use Rattle.nc_fields.specs.Entries.{hdf5_signature}
-use Rattle.nc_report.specs.declared.finding.Fact.TheVariants.{Hdf5, Gzip, EmptyFile}
-use Rattle.nc_report.specs.FieldRules.{gzip_signature, fault_fact, is_large_count}
-use Rattle.nccheck_laws.specs.FaultLaws.{strict_fault}
 use Rattle.nccheck_laws.proofs.Refusals.{refusal_of}
 
 -- ---- the facts of one entry

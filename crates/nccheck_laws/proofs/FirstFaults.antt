@@ -1,16 +1,13 @@
 -- The first fault of a report is that of the first entry that the strict rules refuse.
 use Rattle.std.proofs.Common.{◌-◌, min, ◌≡◌, ◌==◌, ◌&&◌, ℕ, ◌+◌, ◌≤◌, ◌⊎◌, inl, inr, Bool, true, false, List, [], ◌∷◌, ◌++◌, length, map, flat_map, Option, Some, None, refl, sym, ap, ◌∙◌, subst, arith, le_refl}
-use Rattle.nccheck_laws.proofs.Prelude.{nat_tests, list_any, list_any-append, list_any-IsPermutation, All, Contains, option_to_list, All-cons, Contains-append_right, FormatFault, FloatingType, Bytes, header_part, header_by, run, Entry, Listing, lenient, first_refusal, header_fields, Fact, Finding, Report, Indexed, field_at, indexed_from, indexed, finding, facts_of, findings_at, field_findings, floating_findings, header_findings, whole_findings, name_findings, attribute_findings, all_findings, IsReport, is_fault, All-contains, All-permutation, left_after, is_floating_in, floating_finding}
-use Rattle.std.specs.Ordering.{is_eq}
-use Rattle.std.proofs.lemmas.Cmp.{tied_itself}
-use Rattle.std.proofs.lemmas.List.Elements.{All-head, All-tail, Contains-append_cases}
-use Rattle.std.proofs.lemmas.List.Folds.{Any-from_list_any}
+use Rattle.nccheck_laws.proofs.Prelude.{nat_tests, list_any, list_any-append, list_any-IsPermutation, Contains, All-cons, Contains-append_right, FormatFault, FloatingType, Bytes, header_part, header_by, run, Entry, Listing, lenient, first_refusal, header_fields, Fact, Finding, Report, Indexed, field_at, indexed_from, indexed, finding, facts_of, findings_at, field_findings, floating_findings, header_findings, whole_findings, name_findings, attribute_findings, all_findings, IsReport, is_fault, All-contains, All-permutation, left_after, is_floating_in, floating_finding, is_eq, tied_itself, All-head, All-tail, Contains-append_cases, Any-from_list_any, strict_fault, HasNoFault, IsReadable, FindsFirst, FaultlessHeadersAreReadable, FirstFaultIsReaders}
+use Rattle.std.specs.List.{All}
+use Rattle.std.specs.Option.{option_to_list}
 use Rattle.nc_base.specs.contracts.fault.FormatFaultOrd.TheImpl as faults
 use Rattle.nc_base.specs.contracts.fault.FormatFaultOrd.TheImpl.Laws as fault_laws
 use Rattle.nc_base.proofs.PartPlaces.{stops-in}
 use Rattle.nccheck_laws.proofs.FieldOrder.{fields-descend}
 use Rattle.nccheck_laws.proofs.StrictHeaders.{strict-headers, unrefused-headers, strict-faults}
-use Rattle.nccheck_laws.specs.FaultLaws.{strict_fault, HasNoFault, IsReadable, FindsFirst, FaultlessHeadersAreReadable, FirstFaultIsReaders}
 use Rattle.nccheck_laws.proofs.Refusals.{refusal_of, FirstRefused, none-refused, first-refused}
 use Rattle.nccheck_laws.proofs.FaultFindings.{fault_among, facts-fault, floating-fault, quiet-type, contains-first}
 use Rattle.nccheck_laws.proofs.QuietRules.{FaultsLieAt, RefusedLiesAt, all-lie}

@@ -1,12 +1,6 @@
 -- Nothing is found at begins and at the end of a file that has the begins and the length of a generated one.
 use Rattle.std.proofs.Common.{◌≡◌, refl, ℕ, zero, suc, ◌+◌, List, [], ◌∷◌, ◌++◌, length, map, slice_get, IfSome, sym, ◌∙◌, ap, arith, append_assoc, length-append}
-use Rattle.nc_base.specs.declared.{header.Header.Header, header.Var.Var}
-use Rattle.nc_base.specs.GeneratedFile.{vars_with_begins, with_begins}
-use Rattle.nc_base.specs.Grammar.{header_spelling}
-use Rattle.nc_layout.specs.declared.{slot.Slot.Slot}
-use Rattle.nc_layout.specs.HeaderLayout.{slot_of, layout_of}
-use Rattle.nccheck_laws.specs.HeaderLaws.{GeneratedFilesAreQuiet}
-use Rattle.nccheck_laws.specs.LayoutLaws.{canonical_begin, HasCanonicalBegins}
+use Rattle.nccheck_laws.proofs.Prelude.{Header, Var, vars_with_begins, with_begins, header_spelling, Slot, slot_of, layout_of, GeneratedFilesAreQuiet, canonical_begin, HasCanonicalBegins}
 use Rattle.nccheck_laws.proofs.GeneratedFiles.{begins-bare}
 use Rattle.nccheck_laws.proofs.CanonicalLayouts.{begins-quiet, length-quiet}
 use Rattle.nccheck_laws.proofs.GeneratedFiles.{begin-is}

@@ -1,7 +1,6 @@
 -- The header of a listing, and its layout.
 use Rattle.std.proofs.Common.{◌≡◌, ℕ, ◌+◌, List, [], ◌∷◌, length, map, Result, Ok, Err, refl, ap, subst, arith}
-use Rattle.nccheck_laws.proofs.Prelude.{FormatFault, Dim, Header, Var, Bytes, SpellsHeader, header_by, run, reads, stops, Listing, lenient, IsOutcome, without_values, layout_of, slot_of, Report, indexed, layout_facts, whole_findings, IsReport}
-use Rattle.nccheck_laws.specs.Agreement.{var_without_values}
+use Rattle.nccheck_laws.proofs.Prelude.{FormatFault, Dim, Header, Var, Bytes, SpellsHeader, header_by, run, reads, stops, Listing, lenient, IsOutcome, without_values, layout_of, slot_of, Report, indexed, layout_facts, whole_findings, IsReport, var_without_values}
 use Rattle.nccheck_laws.proofs.StrictHeaders.{strict-headers}
 
 -- what these bytes spell is what was read

@@ -1,11 +1,10 @@
 -- What a report finds about the layout is what is found in the layout of the header; so it finds that values are missing exactly if some
 -- variable of the header has a first missing value.
 use Rattle.std.proofs.Common.{arith, ◌≡◌, ℕ, ◌+◌, Bool, false, List, [], ◌∷◌, length, map, flat_map, Option, Some, None, Ok, refl, sym, ap, ◌∙◌}
-use Rattle.nccheck_laws.proofs.Prelude.{list_any, list_any-append, list_any-IsPermutation, option_to_list, option_map, FloatingType, name_findings, attribute_findings, FormatFault, Header, Bytes, SpellsHeader, strict, Entry, Content, FieldName, Listing, without_values, layout_findings, layout_of, spelled-layout, Fact, Finding, Report, IsReport, Indexed, field_at, indexed_from, indexed, finding, facts_with, findings_at, field_findings, floating_findings, header_findings, vsize_findings, located, layout_facts, all_findings, has_any, finds, is_of_missing, is_missing, LayoutFact, LayoutFinding}
+use Rattle.nccheck_laws.proofs.Prelude.{list_any, list_any-append, list_any-IsPermutation, option_map, FloatingType, name_findings, attribute_findings, FormatFault, Header, Bytes, SpellsHeader, strict, Entry, Content, FieldName, Listing, without_values, layout_findings, layout_of, spelled-layout, Fact, Finding, Report, IsReport, Indexed, field_at, indexed_from, indexed, finding, facts_with, findings_at, field_findings, floating_findings, header_findings, vsize_findings, located, layout_facts, all_findings, has_any, finds, is_of_missing, is_missing, LayoutFact, LayoutFinding, ReportsTellMissingValues, is_of_layout}
+use Rattle.std.specs.Option.{option_to_list}
 use Rattle.nc_fields.specs.declared.entry.Content.TheVariants as content
 use Rattle.nc_report.specs.declared.finding.Fact.TheVariants as fact
-use Rattle.nccheck_laws.specs.FaultLaws.{ReportsTellMissingValues}
-use Rattle.nccheck_laws.specs.ReportLaws.{is_of_layout}
 use Rattle.nccheck_laws.proofs.FaultFindings.{fault-fact}
 use Rattle.nccheck_laws.proofs.LayoutFacts.{read-header, whole-header, same-layout}
 use Rattle.nccheck_laws.proofs.MissingValues.{missing-found}

@@ -1,25 +1,11 @@
 -- Values are found to be missing exactly if some variable has a first missing value.
 use Rattle.std.proofs.Common.{◌≡◌, ℕ, ◌≤◌, false, List, [], ◌∷◌, length, map, refl, ap, arith, Option, None, All}
-use Rattle.std.specs.List.{list_any}
-use Rattle.std.specs.Prelude.{is_some}
-use Rattle.std.proofs.lemmas.List.Elements.{All-cons, All-map, All-nil}
-use Rattle.std.proofs.lemmas.List.Folds.{list_any_none}
-use Rattle.nc_base.specs.declared.{header.Header.Header, header.Var.Var}
-use Rattle.nc_base.specs.Bytes.{Bytes}
-use Rattle.nc_base.specs.Places.{first_missing}
+use Rattle.nccheck_laws.proofs.Prelude.{list_any, is_some, All-cons, All-map, All-nil, list_any_none, Header, Var, Bytes, first_missing, Layout, block_findings, end_findings, values_end, IsSoundLayout, IsSoundSlot, MissingValuesAreFound, ShortFilesLackValues, finds, is_of_missing, lacks_values, layout_of, slot_of, slot_findings, nat_tests}
 use Rattle.nc_base.specs.Sizes.{record_count, record_size}
-use Rattle.nc_layout.specs.declared.{slot.Layout.Layout}
-use Rattle.nc_layout.specs.BlockRules.{block_findings}
-use Rattle.nc_layout.specs.FileEnd.{end_findings, values_end}
-use Rattle.nc_layout.specs.Findings.{IsSoundLayout, IsSoundSlot}
-use Rattle.nccheck_laws.specs.HeaderLaws.{MissingValuesAreFound, ShortFilesLackValues, finds, is_of_missing, lacks_values}
-use Rattle.nc_layout.specs.HeaderLayout.{layout_of, slot_of}
-use Rattle.nc_layout.specs.SlotRules.{slot_findings}
 pub use Rattle.nc_layout.proofs.HeaderSlots.{unmapped}
 use Rattle.nccheck_laws.proofs.WholeSlots.{quiet-values}
 use Rattle.nccheck_laws.proofs.HeaderRecords.{count-is, size-is}
 use Rattle.nccheck_laws.proofs.FoundNone.{all-quiet, quiet-end}
-use Rattle.std.proofs.lemmas.Bool.Decides.{nat_tests}
 use Rattle.nccheck_laws.proofs.WholeSlots.{IsWholeSlot, values-whole, whole-values}
 use Rattle.nccheck_laws.proofs.WholeVariables.{whole-slot, whole-variable}
 

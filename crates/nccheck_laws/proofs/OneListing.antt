@@ -1,7 +1,6 @@
 -- Each list of bytes has one listing.
 use Rattle.std.proofs.Common.{◌≡◌, ℕ, ◌-◌, List, [], ◌∷◌, length, map, Option, Result, Ok, Err, refl, sym, ap, ap₂, ◌∙◌, arith}
-use Rattle.nccheck_laws.proofs.Prelude.{Header, FormatFault, Bytes, Step, header_by, Outcome, run, reads, stops, Content, Entry, Listing, Field, fields, Seen, seen_by, steps_of, seen, lenient, IsOutcome, with_rest, left_after, Tells, tells, shorter}
-use Rattle.nc_fields.specs.Listings.{IsListing}
+use Rattle.nccheck_laws.proofs.Prelude.{Header, FormatFault, Bytes, Step, header_by, Outcome, run, reads, stops, Content, Entry, Listing, Field, fields, Seen, seen_by, steps_of, seen, lenient, IsOutcome, with_rest, left_after, Tells, tells, shorter, IsListing}
 use Rattle.nccheck_laws.proofs.FieldPlaces.{ArePlaced, placed-header}
 
 -- ---- entries

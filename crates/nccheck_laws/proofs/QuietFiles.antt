@@ -1,9 +1,6 @@
 -- A file has the header and the length of a generated file if no fault is found, and nothing about the spelling, at begins and at its end.
 use Rattle.std.proofs.Common.{◌≡◌, ◌+◌, ◌++◌, Bool, length, sym, ap, ◌∙◌, length-append}
-use Rattle.nccheck_laws.proofs.Prelude.{Header, Bytes, SpellsHeader, strict, layout_of, spelled-layout, LayoutFact, Report, IsReport}
-use Rattle.nc_base.specs.Grammar.{header_spelling}
-use Rattle.nccheck_laws.specs.LayoutLaws.{is_of_begin, is_of_end}
-use Rattle.nccheck_laws.specs.ReportLaws.{is_of_layout, HasQuietLayout, IsAsGenerated, QuietFilesAreCanonical}
+use Rattle.nccheck_laws.proofs.Prelude.{Header, Bytes, SpellsHeader, strict, layout_of, spelled-layout, LayoutFact, Report, IsReport, header_spelling, is_of_begin, is_of_end, is_of_layout, HasQuietLayout, IsAsGenerated, QuietFilesAreCanonical}
 use Rattle.nccheck_laws.proofs.CanonicalBegins.{quiet-begins}
 use Rattle.nccheck_laws.proofs.GeneratedFiles.{canonical-generated, quiet-generated}
 use Rattle.nccheck_laws.proofs.MissingFindings.{of-layout, read-tells}

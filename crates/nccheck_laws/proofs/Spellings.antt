@@ -1,12 +1,9 @@
 -- What is found about the spelling at whole fields: that of what fills one up a byte isn't 0, and that a list has its own tag and no elements.
 use Rattle.std.proofs.Common.{◌≡◌, ℕ, zero, suc, ◌+◌, ◌==◌, ◌&&◌, ◌||◌, not, Bool, true, false, List, [], ◌∷◌, ◌++◌, length, map, replicate, Option, Some, None, refl, sym, ap, ◌∙◌, subst, arith, length-take-le, option_to_list, if◌then◌else◌}
-use Rattle.nccheck_laws.proofs.Prelude.{list_any-append, nat_tests, ltb-false, option_map, Header, FormatFault, FloatingType, Bytes, Step, Padding, Tag, Count, Vsize, Item, Content, Entry, FieldName, Owner, Field, seen_by, steps_of, name_steps, owner_steps, whole_content, seen, bytes_of, number_of, IsWritten, IsWrittenVsize, AreWritten, Fact, Finding, Indexed, field_at, indexed_from, indexed, finding, each_before, each_after, ahead_of, finding_by_name, attribute_finding, is_first, facts_with, findings_at, field_findings, attribute_findings, floating_findings, name_findings, header_findings, duplicate_name, is_of_spelling, has_any, is_field, next_number, number_in, empty_list, has_nonzero, content_facts, Ahead}
+use Rattle.nccheck_laws.proofs.Prelude.{list_any-append, nat_tests, ltb-false, option_map, Header, FormatFault, FloatingType, Bytes, Step, Padding, Tag, Count, Vsize, Item, Content, Entry, FieldName, Owner, Field, seen_by, steps_of, name_steps, owner_steps, whole_content, seen, bytes_of, number_of, IsWritten, IsWrittenVsize, AreWritten, Fact, Finding, Indexed, field_at, indexed_from, indexed, finding, each_before, each_after, ahead_of, finding_by_name, attribute_finding, is_first, facts_with, findings_at, field_findings, attribute_findings, floating_findings, name_findings, header_findings, duplicate_name, is_of_spelling, has_any, is_field, next_number, number_in, empty_list, has_nonzero, content_facts, Ahead, type_finding, name_finding, fact_if, IsWrittenTag}
 use Rattle.nc_fields.specs.declared.entry.Content.TheVariants as content
 use Rattle.nc_fields.specs.declared.place.FieldName.TheVariants as name
 use Rattle.nc_report.specs.declared.finding.Fact.TheVariants as fact
-use Rattle.nc_report.specs.AttributeRules.{type_finding, name_finding}
-use Rattle.nc_report.specs.FieldRules.{fact_if}
-use Rattle.nccheck_laws.specs.Written.{IsWrittenTag}
 use Rattle.nccheck_laws.proofs.Vsizes.{IsWhole, AreWhole}
 
 -- one of these findings is about the spelling

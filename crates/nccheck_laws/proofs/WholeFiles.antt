@@ -1,14 +1,8 @@
 -- A report has no fault and finds no missing values exactly if the file holds a dataset.
 use Rattle.std.proofs.Common.{◌≡◌, length, map, None, refl, sym, subst, ◌∙◌}
-use Rattle.nccheck_laws.proofs.Prelude.{All, Header, Var, Bytes, Report, IsReport, file_of, first_missing}
-use Rattle.std.specs.List.{concat}
-use Rattle.nc_base.specs.declared.{dataset.Dataset.Dataset}
-use Rattle.nc_base.specs.Datasets.{HoldsDataset}
-use Rattle.nc_base.specs.Headers.{bare}
-use Rattle.nc_base.specs.Places.{stored_bytes}
+use Rattle.nccheck_laws.proofs.Prelude.{Header, Var, Bytes, Report, IsReport, file_of, first_missing, concat, Dataset, HoldsDataset, bare, stored_bytes, file-holds, FindsWholeFile, WholeFilesHoldDatasets, GeneratedFilesAreFoundWhole}
+use Rattle.std.specs.List.{All}
 use Rattle.nc_base.specs.Sizes.{record_count}
-use Rattle.nc_base.proofs.FileHolds.{file-holds}
-use Rattle.nccheck_laws.specs.ReportLaws.{FindsWholeFile, WholeFilesHoldDatasets, GeneratedFilesAreFoundWhole}
 use Rattle.nccheck_laws.proofs.FirstFaults.{faultless}
 use Rattle.nccheck_laws.proofs.MissingFindings.{missing-told}
 use Rattle.nccheck_laws.proofs.MissingValues.{none-lack, all-have}
