@@ -1,5 +1,5 @@
 -- The order of findings tells all of them apart.
-use Rattle.std.proofs.Common.{◌≡◌, ℕ, false, refl, sym, ap, Option, Some, None}
+use Rattle.std.proofs.Common.{◌≡◌, ℕ, false, refl, sym, ap, Option, Some, None, arith}
 use Rattle.nccheck_laws.proofs.Prelude.{FormatFault, Fact, Finding, Ordering, Less, Equal, Greater, LayoutFact, finding_cmp, option_cmp, is_eq, nat_cmp, ordering_then, ranked, Block, Slab}
 use Rattle.nc_base.specs.declared.fault.FormatFault.TheVariants as fault
 use Rattle.nc_layout.specs.declared.finding.Block.TheVariants as block
@@ -23,9 +23,7 @@ both Equal s e = (refl, e)
 both Greater s e = cc
 
 option : (o p : Option ℕ) → option_cmp nat_cmp o p ≡ Equal → o ≡ p
-option None None e = refl
-option (Some i) (Some k) e = ap Some (number i k e)
-option o p e = cc
+option v0 v1 e = grind (arith, number)
 
 -- what is told apart by an order isn't the same
 apart : {A : Type 0} (r : Ordering) → is_eq r ≡ false → r ≡ Equal → A
@@ -50,9 +48,7 @@ same-fault fault.TooLarge fault.TooLarge e = refl
 same-fault a b e = apart (faults.ghosts.cmp a b) refl e
 
 same-block : (a b : Block) → blocks.ghosts.cmp a b ≡ Equal → a ≡ b
-same-block (block.Var i) (block.Var k) e = ap block.Var (number i k e)
-same-block block.Records block.Records e = refl
-same-block a b e = apart (blocks.ghosts.cmp a b) refl e
+same-block v0 v1 e = grind (arith, number)
 
 -- a number, and what comes after it
 beside : {X : Type 0} (R : X → X → Ordering) → ((x y : X) → R x y ≡ Equal → x ≡ y) → (i k : ℕ) (x y : X)
@@ -68,9 +64,7 @@ beside-both R sure i k m n x y e =
     (number i k parts.0, more.0, more.1)
 
 same-slab : (a b : Slab) → slabs.ghosts.cmp a b ≡ Equal → a ≡ b
-same-slab (slab.Var i) (slab.Var k) e = ap slab.Var (number i k e)
-same-slab (slab.Record i m) (slab.Record k n) e = let parts = beside nat_cmp number i k m n e in cc
-same-slab a b e = apart (slabs.ghosts.cmp a b) refl e
+same-slab v0 v1 e = grind (arith, both, number)
 
 same-layout : (a b : LayoutFact) → layouts.ghosts.cmp a b ≡ Equal → a ≡ b
 same-layout (layout.Streaming i) (layout.Streaming k) e = ap layout.Streaming (number i k e)
