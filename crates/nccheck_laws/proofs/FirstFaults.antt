@@ -1,6 +1,6 @@
 -- The first fault of a report is that of the first entry that the strict rules refuse.
 use Rattle.std.proofs.Common.{◌-◌, min, ◌≡◌, ◌==◌, ◌&&◌, ℕ, ◌+◌, ◌≤◌, ◌⊎◌, inl, inr, Bool, true, false, List, [], ◌∷◌, ◌++◌, length, map, flat_map, Option, Some, None, refl, sym, ap, ◌∙◌, subst, arith, le_refl}
-use Rattle.nccheck_laws.proofs.Prelude.{nat_tests, list_any, list_any-append, list_any-IsPermutation, Contains, All-cons, Contains-append_right, FormatFault, FloatingType, Bytes, header_part, header_by, run, Entry, Listing, lenient, first_refusal, header_fields, Fact, Finding, Report, Indexed, field_at, indexed_from, indexed, finding, facts_of, findings_at, field_findings, floating_findings, header_findings, whole_findings, name_findings, attribute_findings, all_findings, IsReport, is_fault, All-contains, All-permutation, left_after, is_floating_in, floating_finding, is_eq, tied_itself, All-head, All-tail, Contains-append_cases, Any-from_list_any, strict_fault, HasNoFault, IsReadable, FindsFirst, FaultlessHeadersAreReadable, FirstFaultIsReaders}
+use Rattle.nccheck_laws.proofs.Prelude.{nat_tests, list_any, list_any-append, list_any-IsPermutation, Contains, All-cons, Contains-append_right, FormatFault, FloatingType, Bytes, header_part, header_by, run, Entry, lenient, first_refusal, header_fields, Fact, Finding, Report, Indexed, field_at, indexed_from, indexed, finding, facts_of, findings_at, field_findings, floating_findings, header_findings, whole_findings, name_findings, attribute_findings, all_findings, IsReport, is_fault, All-contains, All-permutation, left_after, is_floating_in, floating_finding, is_eq, tied_itself, All-head, All-tail, Contains-append_cases, Any-from_list_any, strict_fault, HasNoFault, IsReadable, FindsFirst, FaultlessHeadersAreReadable, FirstFaultIsReaders}
 use Rattle.std.specs.List.{All}
 use Rattle.std.specs.Option.{option_to_list}
 use Rattle.nc_base.specs.contracts.fault.FormatFaultOrd.TheImpl as faults

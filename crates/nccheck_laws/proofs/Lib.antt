@@ -12,7 +12,6 @@ pub mod WholeVariables
 pub mod MissingValues
 pub mod TruncatedDumps
 pub mod CanonicalLayouts
-pub mod GeneratedLayouts
 pub mod Leaves
 pub mod Agreement
 pub mod OddNames
@@ -31,7 +30,6 @@ pub mod Spellings
 pub mod QuietHeaders
 pub mod LayoutFacts
 pub mod QuietFiles
-pub mod MissingFindings
 pub mod WholeFiles
 pub mod CleanLayouts
 pub mod FieldPlaces

@@ -9,7 +9,7 @@ use Rattle.nccheck_laws.specs.ErrorLaws.{HasNoError, ListedHeadersTellMissingVal
 use Rattle.nccheck_laws.proofs.FaultFindings.{fault-fact}
 use Rattle.nccheck_laws.proofs.FieldPlaces.{HasFault, Shows, is_floating_fault, shown-faults}
 use Rattle.nccheck_laws.proofs.FirstFaults.{first-told, later-told}
-use Rattle.nccheck_laws.proofs.MissingFindings.{of-layout, of-missing, report-tells}
+use Rattle.nccheck_laws.proofs.LayoutFacts.{of-layout, of-missing, report-tells}
 use Rattle.nccheck_laws.proofs.QuietRules.{fewer}
 
 -- ---- a header that is listed to its end

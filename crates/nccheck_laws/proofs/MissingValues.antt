@@ -3,10 +3,9 @@ use Rattle.std.proofs.Common.{◌≡◌, ℕ, ◌≤◌, false, List, [], ◌∷
 use Rattle.nccheck_laws.proofs.Prelude.{list_any, is_some, All-cons, All-map, All-nil, list_any_none, Header, Var, Bytes, first_missing, Layout, block_findings, end_findings, values_end, IsSoundLayout, IsSoundSlot, MissingValuesAreFound, ShortFilesLackValues, finds, is_of_missing, lacks_values, layout_of, slot_of, slot_findings, nat_tests}
 use Rattle.nc_base.specs.Sizes.{record_count, record_size}
 pub use Rattle.nc_layout.proofs.HeaderSlots.{unmapped}
-use Rattle.nccheck_laws.proofs.WholeSlots.{quiet-values}
+use Rattle.nccheck_laws.proofs.WholeSlots.{quiet-values, IsWholeSlot, values-whole, whole-values}
 use Rattle.nccheck_laws.proofs.HeaderRecords.{count-is, size-is}
 use Rattle.nccheck_laws.proofs.FoundNone.{all-quiet, quiet-end}
-use Rattle.nccheck_laws.proofs.WholeSlots.{IsWholeSlot, values-whole, whole-values}
 use Rattle.nccheck_laws.proofs.WholeVariables.{whole-slot, whole-variable}
 
 -- ---- slots and variables

@@ -3,7 +3,7 @@ use Rattle.std.proofs.Common.{◌≡◌, ◌+◌, ◌++◌, Bool, length, sym, a
 use Rattle.nccheck_laws.proofs.Prelude.{Header, Bytes, SpellsHeader, strict, layout_of, spelled-layout, LayoutFact, Report, IsReport, header_spelling, is_of_begin, is_of_end, is_of_layout, HasQuietLayout, IsAsGenerated, QuietFilesAreCanonical}
 use Rattle.nccheck_laws.proofs.CanonicalBegins.{quiet-begins}
 use Rattle.nccheck_laws.proofs.GeneratedFiles.{canonical-generated, quiet-generated}
-use Rattle.nccheck_laws.proofs.MissingFindings.{of-layout, read-tells}
+use Rattle.nccheck_laws.proofs.LayoutFacts.{of-layout, read-tells}
 use Rattle.nccheck_laws.proofs.QuietHeaders.{quiet-headers}
 
 as-generated : (bytes : Bytes) (r : Report) (h : Header) (rest : Bytes) → IsReport bytes r → SpellsHeader bytes h rest

@@ -29,16 +29,20 @@ pub fewer : (test other : Fact → Bool) → ((x : Fact) → test x ≡ false �
 fewer test other is [] none = refl
 fewer test other is (f ∷ fs) none = grind (arith, is f.fact, fewer test other is fs)
 
-plain-name : (earlier : List Indexed) (f : Indexed) → ArePlain (option_to_list (duplicate_name earlier f))
-plain-name earlier f = grind arith
+-- a test that no name that is there twice passes
+name-fails : (test : Fact → Bool) → ((n : ℕ) → test (fact.DuplicateName n) ≡ false) → (earlier : List Indexed) (f : Indexed)
+    → has_any test (option_to_list (duplicate_name earlier f)) ≡ false
+name-fails test never earlier f = grind arith
 
-names-from : (earlier fs : List Indexed) → ArePlain (each_after duplicate_name earlier fs)
-names-from earlier [] = refl
-names-from earlier (f ∷ fs) = grind (arith, list_any-append, plain-name earlier f, names-from (earlier ++ f ∷ []) fs)
+pub names-fail : (test : Fact → Bool) → ((n : ℕ) → test (fact.DuplicateName n) ≡ false) → (earlier fs : List Indexed)
+    → has_any test (each_after duplicate_name earlier fs) ≡ false
+names-fail test never earlier [] = refl
+names-fail test never earlier (f ∷ fs) =
+    grind (arith, list_any-append, name-fails test never earlier f, names-fail test never (earlier ++ f ∷ []) fs)
 
 pub plain-names : (fs : List Indexed) → ArePlain (name_findings fs)
 unfolding name_findings
-plain-names fs = names-from [] fs
+plain-names fs = names-fail is_odd (λ n. refl) [] fs
 
 plain-by_name : (first : Bool) (place : FieldName) (f : Indexed) (ahead : Ahead) → ArePlain (option_to_list (finding_by_name first place f ahead))
 plain-by_name first v1 f ahead = grind arith

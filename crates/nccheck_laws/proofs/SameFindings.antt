@@ -1,9 +1,7 @@
 -- The order of findings tells all of them apart.
-use Rattle.std.proofs.Common.{◌≡◌, ℕ, false, refl, sym, ap, Option, Some, None, arith}
+use Rattle.std.proofs.Common.{◌≡◌, ℕ, false, refl, sym, ap, Option, arith}
 use Rattle.nccheck_laws.proofs.Prelude.{FormatFault, Fact, Finding, Ordering, Less, Equal, Greater, LayoutFact, finding_cmp, option_cmp, is_eq, nat_cmp, ordering_then, ranked, Block, Slab}
 use Rattle.nc_base.specs.declared.fault.FormatFault.TheVariants as fault
-use Rattle.nc_layout.specs.declared.finding.Block.TheVariants as block
-use Rattle.nc_layout.specs.declared.finding.Slab.TheVariants as slab
 use Rattle.nc_layout.specs.declared.finding.LayoutFact.TheVariants as layout
 use Rattle.nc_report.specs.declared.finding.Fact.TheVariants as fact
 use Rattle.nc_base.specs.contracts.fault.FormatFaultOrd.TheImpl as faults

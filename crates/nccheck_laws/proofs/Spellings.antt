@@ -1,9 +1,10 @@
 -- What is found about the spelling at whole fields: that of what fills one up a byte isn't 0, and that a list has its own tag and no elements.
-use Rattle.std.proofs.Common.{◌≡◌, ℕ, zero, suc, ◌+◌, ◌==◌, ◌&&◌, ◌||◌, not, Bool, true, false, List, [], ◌∷◌, ◌++◌, length, map, replicate, Option, Some, None, refl, sym, ap, ◌∙◌, subst, arith, length-take-le, option_to_list, if◌then◌else◌}
-use Rattle.nccheck_laws.proofs.Prelude.{list_any-append, nat_tests, ltb-false, option_map, Header, FormatFault, FloatingType, Bytes, Step, Padding, Tag, Count, Vsize, Item, Content, Entry, FieldName, Owner, Field, seen_by, steps_of, name_steps, owner_steps, whole_content, seen, bytes_of, number_of, IsWritten, IsWrittenVsize, AreWritten, Fact, Finding, Indexed, field_at, indexed_from, indexed, finding, each_before, each_after, ahead_of, finding_by_name, attribute_finding, is_first, facts_with, findings_at, field_findings, attribute_findings, floating_findings, name_findings, header_findings, duplicate_name, is_of_spelling, has_any, is_field, next_number, number_in, empty_list, has_nonzero, content_facts, Ahead, type_finding, name_finding, fact_if, IsWrittenTag}
+use Rattle.std.proofs.Common.{◌≡◌, ℕ, ◌+◌, ◌==◌, ◌&&◌, ◌||◌, not, Bool, false, List, [], ◌∷◌, ◌++◌, length, map, replicate, Option, None, refl, ap, ◌∙◌, arith, length-take-le, option_to_list, if◌then◌else◌}
+use Rattle.nccheck_laws.proofs.Prelude.{list_any-append, nat_tests, ltb-false, option_map, Header, FormatFault, FloatingType, Bytes, Step, Padding, Tag, Vsize, Item, Content, Entry, FieldName, Owner, Field, seen_by, steps_of, name_steps, owner_steps, whole_content, seen, bytes_of, number_of, IsWritten, IsWrittenVsize, AreWritten, Fact, Finding, Indexed, field_at, indexed_from, indexed, finding, each_before, ahead_of, finding_by_name, attribute_finding, is_first, facts_with, field_findings, attribute_findings, floating_findings, name_findings, header_findings, is_of_spelling, has_any, is_field, next_number, number_in, empty_list, has_nonzero, content_facts, Ahead, type_finding, name_finding, fact_if, IsWrittenTag}
 use Rattle.nc_fields.specs.declared.entry.Content.TheVariants as content
 use Rattle.nc_fields.specs.declared.place.FieldName.TheVariants as name
 use Rattle.nc_report.specs.declared.finding.Fact.TheVariants as fact
+use Rattle.nccheck_laws.proofs.QuietRules.{names-fail}
 use Rattle.nccheck_laws.proofs.Vsizes.{IsWhole, AreWhole}
 
 -- one of these findings is about the spelling
@@ -128,19 +129,12 @@ fields-odd all k (more {e = e} {f = f} {es = es} {fs = fs} is rest) =
     ∙ ap (λ steps. odd_list steps f fs) is.steps in
     grind (arith, list_any-append, fields-odd all (k + 1) rest)
 
-duplicate-none : (earlier : List Indexed) (f : Indexed) → any_spelling (option_to_list (duplicate_name earlier f)) ≡ false
-duplicate-none earlier f = grind arith
-
-names-none : (earlier fs : List Indexed) → any_spelling (each_after duplicate_name earlier fs) ≡ false
-names-none earlier [] = refl
-names-none earlier (f ∷ fs) = grind (arith, list_any-append, duplicate-none, names-none (earlier ++ f ∷ []) fs)
-
 floating-none : (o : Option Indexed) → any_spelling (option_to_list (option_map (λ f. finding f (fact.Fault FloatingType)) o)) ≡ false
 floating-none v0 = grind arith
 
 pub header-odd : (es : List Entry) (fs : List Field) → AreOf es fs → any_spelling (header_findings es) ≡ any_odd fs
 unfolding header_findings floating_findings name_findings attribute_findings
-header-odd es fs are = grind (arith, list_any-append, fields-odd (indexed es) 0 are, names-none [] (indexed es), floating-none)
+header-odd es fs are = grind (arith, list_any-append, fields-odd (indexed es) 0 are, names-fail is_of_spelling (λ n. refl) [] (indexed es), floating-none)
 
 -- ---- fields that are as they are written
 

@@ -1,10 +1,10 @@
 -- A report has no fault and finds no missing values exactly if the file holds a dataset.
 use Rattle.std.proofs.Common.{◌≡◌, length, map, None, refl, sym, subst, ◌∙◌}
-use Rattle.nccheck_laws.proofs.Prelude.{Header, Var, Bytes, Report, IsReport, file_of, first_missing, concat, Dataset, HoldsDataset, bare, stored_bytes, file-holds, FindsWholeFile, WholeFilesHoldDatasets, GeneratedFilesAreFoundWhole}
+use Rattle.nccheck_laws.proofs.Prelude.{Var, Bytes, Report, IsReport, file_of, first_missing, concat, Dataset, HoldsDataset, bare, stored_bytes, file-holds, FindsWholeFile, WholeFilesHoldDatasets, GeneratedFilesAreFoundWhole}
 use Rattle.std.specs.List.{All}
 use Rattle.nc_base.specs.Sizes.{record_count}
 use Rattle.nccheck_laws.proofs.FirstFaults.{faultless}
-use Rattle.nccheck_laws.proofs.MissingFindings.{missing-told}
+use Rattle.nccheck_laws.proofs.LayoutFacts.{missing-told}
 use Rattle.nccheck_laws.proofs.MissingValues.{none-lack, all-have}
 
 held-whole : (bytes : Bytes) (r : Report) (d : Dataset) → IsReport bytes r → HoldsDataset bytes d → FindsWholeFile r
