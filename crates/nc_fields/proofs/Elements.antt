@@ -1,9 +1,7 @@
 -- Readers of the elements of a list, one after the other.
 use Rattle.std.proofs.Common.{◌≡◌, ℕ, suc, ◌+◌, ◌-◌, ◌<◌, ◌≤◌, List, [], ◌∷◌, ◌++◌, length, drop, Option, Result, Ok, Err, refl, sym, ap, subst, arith, length-append}
-use Rattle.nc_fields.proofs.Prelude.{Ghosts, Reader, HeadFault, Step, Part, done, chain, under, Checked, OutOfMemory, left, OnTrue_from, first, sub-zero}
-use Rattle.nc_base.specs.Parts.{Item}
-unfoldable use Rattle.nc_base.specs.Grammar.{each}
-use Rattle.nc_file.proofs.PartRuns.{shorter}
+use Rattle.nc_fields.proofs.Prelude.{Ghosts, Reader, HeadFault, Step, Part, done, chain, under, Checked, OutOfMemory, left, OnTrue_from, first, Item, each, shorter}
+use Rattle.std.proofs.Math.Nat.{sub-zero}
 use Rattle.nc_fields.proofs.Checks.{chain_lists}
 
 -- the next element, and then the others

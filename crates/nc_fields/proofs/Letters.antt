@@ -1,17 +1,12 @@
 -- The letters at the start of a file, of which fewer than three may be there.
 use Rattle.std.proofs.Common.{◌≡◌, ℕ, ◌<◌, ◌≤◌, min, Bool, true, false, cond, leb, nat_lt, if◌then◌else◌, List, [], ◌∷◌, None, ◌-◌, length, take, drop, length-take, map, ◌++◌, Result, Ok, Err, subst, refl, sym, ap, ap₂, ◌∙◌, arith, take_all, codes}
-use Rattle.std.proofs.lemmas.List.{take_min, drop_min}
-use Rattle.std.specs.Str.{bytes_eq}
+use Rattle.nc_fields.proofs.Prelude.{take_min, drop_min, bytes_eq, Magic, Caused, Reads, hdf5_signature, kept_letters, kept-then, Ghosts, Bytes, Part, bytes, checked, Outcome, and_then, with_rest, run, left_after, FormatFault, HeaderTruncated, NotNetcdf, Read, left, HeadFault, Window, Format, OutOfMemory, ReadFailed, Entry, Content, Place, Reader, Start, entry_of, Checked, IsStart, ListsCut, with_fault, OnTrue, OnTrue_at, OnTrue_from, leb-true, leb-false, Kept, Step, listed, next_of, source_of, seen_by, Lists, shorter, left_after-ok}
+use Rattle.std.proofs.lemmas.Bool.Decides.{nat_tests}
+use Rattle.std.proofs.lemmas.Grind.{common_steps}
 use Rattle.std.specs.Cmp.Lexicographic.{bytes_decides}
-use Rattle.nc_base.specs.Parts.{Magic}
-use Rattle.nc_file.specs.code.Window.{Caused, Reads}
-use Rattle.nc_fields.specs.Entries.{hdf5_signature, kept_letters}
-use Rattle.nc_file.proofs.Bytes.{kept-then}
 use Rattle.nc_fields.specs.declared.entry.Content.TheVariants as content
-use Rattle.nc_fields.proofs.Prelude.{Ghosts, Bytes, Part, bytes, checked, Outcome, and_then, with_rest, run, left_after, FormatFault, HeaderTruncated, NotNetcdf, Read, left, HeadFault, Window, Format, OutOfMemory, ReadFailed, Entry, Content, Place, Reader, Start, entry_of, Checked, IsStart, ListsCut, with_fault, OnTrue, OnTrue_at, OnTrue_from, leb-false, Kept, Step, listed, next_of, source_of, seen_by, Lists}
 use Rattle.nc_fields.specs.declared.place.Owner.TheVariants as owner
 use Rattle.nc_fields.specs.declared.place.FieldName.TheVariants as name
-use Rattle.nc_file.proofs.PartRuns.{shorter, left_after-ok}
 use Rattle.nc_fields.proofs.Checks.{IsField, bytes-field, decoded-field, fault_in, seen_at, one-more, listed-one, listed-memory, with_fault-last, Stopped, stopped}
 
 -- what the letters are judged by
@@ -33,76 +28,41 @@ answered (Ok letters) = Ok letters
 answered (Err fault) = Err (Format fault)
 
 pub letters-answer : (letters : Bytes) → (if bytes_eq letters (codes "CDF") then Ok letters else Err (Format NotNetcdf)) ≡ answered (letters_in letters)
-letters-answer letters = by-test (bytes_eq letters (codes "CDF"))
-  where
-    by-test : (b : Bool) → (if b then Ok letters else Err (Format NotNetcdf)) ≡ answered (if b then Ok letters else Err NotNetcdf)
-    by-test true = refl
-    by-test false = refl
+letters-answer letters = grind arith
 
 -- fewer than three bytes aren't `CDF`
 few-letters : (letters : Bytes) → length letters < 3 → letters_in letters ≡ Err NotNetcdf
-few-letters letters few = by-test (bytes_eq letters (codes "CDF")) refl
-  where
-    by-test : (b : Bool) → bytes_eq letters (codes "CDF") ≡ b → ◌≡◌ {A = Result Bytes FormatFault} (if b then Ok letters else Err NotNetcdf) (Err NotNetcdf)
-    by-test true is = absurd (let same : letters ≡ codes "CDF" = (bytes_decides letters (codes "CDF")).0 is in omega (arith, few, ap length same))
-    by-test false is = refl
+few-letters letters few = let same = (bytes_decides letters (codes "CDF")).0 in grind arith
 
 -- what is left after a value that is judged
 judged-left : {A : Type 0} (y : Result A FormatFault) (rest : Bytes) → left_after (with_rest y rest) ≡ length rest
 unfolding left_after
-judged-left (Ok y) rest = refl
-judged-left (Err e) rest = refl
+judged-left y rest = grind arith
 
 -- reading goes on after the letters, or ends where there are fewer
 letters-run : (from : Bytes) → run letters_part from ≡ with_rest (letters_in (take 3 from)) (drop 3 from)
 unfolding run
-letters-run from = by-test (leb 3 (length from)) refl
-  where
-    by-test : (b : Bool) → leb 3 (length from) ≡ b
-        → and_then {A = Bytes} (cond b (Ok (take 3 from, drop 3 from)) (Err (NotNetcdf, []))) (λ x rest. with_rest (letters_in x) rest)
-        ≡ with_rest (letters_in (take 3 from)) (drop 3 from)
-    by-test true is = refl
-    by-test false is =
-        let few : length from < 3 = leb-false 3 (length from) is in
-        let all : take 3 from ≡ from = take_all 3 from (omega (arith, few)) in
-        let none : drop 3 from ≡ [] = grind (arith, few) in
-        sym (ap (λ y. with_rest y (drop 3 from)) (ap letters_in all ∙ few-letters from few) ∙ ap (λ rest. with_rest (Err NotNetcdf) rest) none)
+letters-run from =
+    let few = few-letters from in let all = take_all 3 from in grind (arith, common_steps, leb-true, leb-false)
 
 -- fewer than three bytes are kept as they are
 few-kept : (from : Bytes) → length from < 3 → kept_letters from ≡ from
-few-kept from few = by-test (bytes_eq hdf5_signature (take 8 from)) refl
-  where
-    by-test : (b : Bool) → bytes_eq hdf5_signature (take 8 from) ≡ b → (if b then hdf5_signature else take 3 from) ≡ from
-    by-test true is =
-        absurd (let same : hdf5_signature ≡ take 8 from = (bytes_decides hdf5_signature (take 8 from)).0 is in omega (arith, few, length-take 8 from, ap length same))
-    by-test false is = take_all 3 from (omega (arith, few))
+few-kept from few =
+    let same = (bytes_decides hdf5_signature (take 8 from)).0 in grind (arith, take_all 3 from, length-take 8 from)
 
 letters-content : (from : Bytes) (b : Bool) → nat_lt (length from) 3 ≡ b → ◌≡◌ {A = Content} (content.Bytes (kept_letters from)) (cond b (content.Bytes from) (content.Bytes (kept_letters from)))
-letters-content from true is = ap content.Bytes (few-kept from (grind arith))
-letters-content from false is = refl
+letters-content from b is = grind (arith, few-kept, nat_tests)
 
 -- as many of them as there are are read
 letters-there : (from : Bytes) → run (bytes (min 3 (length from)) HeaderTruncated) from ≡ Ok (take 3 from, drop 3 from)
 unfolding run
-letters-there from = by-test (leb (min 3 (length from)) (length from)) refl
-  where
-    by-test : (b : Bool) → leb (min 3 (length from)) (length from) ≡ b
-        → ◌≡◌ {A = Outcome Bytes} (cond b (Ok (take (min 3 (length from)) from, drop (min 3 (length from)) from)) (Err (HeaderTruncated, []))) (Ok (take 3 from, drop 3 from))
-    by-test true is = ap₂ (λ (xs rest : Bytes). Ok (xs, rest)) (take_min 3 from) (drop_min 3 from)
-    by-test false is = absurd (omega (arith, leb-false (min 3 (length from)) (length from) is))
+letters-there from = grind (arith, take_min 3 from, drop_min 3 from, leb-false)
 
 same-parts : (xs ys rest more : Bytes) → ◌≡◌ {A = Outcome Bytes} (Ok (xs, rest)) (Ok (ys, more)) → (ys ≡ xs) × (more ≡ rest)
 same-parts xs ys rest more e = let first : ys ≡ xs = grind arith in let second : more ≡ rest = grind arith in (first, second)
 
 letters-left : (from : Bytes) → left_after (run letters_part from) ≤ left_after (run (bytes (min 3 (length from)) HeaderTruncated) from)
-letters-left from =
-    omega (
-      arith,
-      ap left_after (letters-run from),
-      judged-left (letters_in (take 3 from)) (drop 3 from),
-      ap left_after (letters-there from),
-      left_after-ok Bytes (take 3 from) (drop 3 from),
-    )
+letters-left from = grind (arith, letters-run from, letters-there from, judged-left, left_after-ok)
 
 along : {x n : ℕ} (from : Bytes) → n ≡ min 3 (length from) → left_after (run (bytes n HeaderTruncated) from) ≤ x → left_after (run letters_part from) ≤ x
 along from same le = omega (arith, le, letters-left from, ap (λ k. left_after (run (bytes k HeaderTruncated) from)) same)

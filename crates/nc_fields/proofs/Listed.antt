@@ -1,9 +1,7 @@
 -- What a listing says of the bytes of a source.
 use Rattle.std.proofs.Common.{◌≡◌, ℕ, ◌+◌, List, [], length, map, Result, Ok, Err, IfOk, sym, ap, subst, arith, ◌∙◌}
-use Rattle.nc_fields.proofs.Prelude.{Ghosts, Reader, Header, HeadFault, Format, OutOfMemory, ReadFailed, Checked, source_of, left, OnTrue, OnTrue_at, OnTrue_from, lenient, Seen, seen, seen_by, listed, fields, Outcome, run, Kept, next_of, length-drop}
-use Rattle.nc_base.specs.Grammar.{header_by}
+use Rattle.nc_fields.proofs.Prelude.{Ghosts, Reader, Header, HeadFault, Format, OutOfMemory, ReadFailed, Checked, source_of, left, OnTrue, OnTrue_at, OnTrue_from, lenient, Seen, seen, seen_by, listed, fields, Outcome, run, Kept, next_of, length-drop, header_by, Listing, ListFault}
 use Rattle.nc_base.proofs.PartOutcomes.{Tells, tells}
-use Rattle.nc_fields.specs.declared.{header.Listing.Listing, list_fault.ListFault.ListFault}
 use Rattle.nc_fields.specs.Listings.{Blames, IsListing}
 use Rattle.nc_file.specs.code.Answers.{ReadUpTo}
 use Rattle.nc_fields.specs.code.Answers.{Answers}

@@ -1,10 +1,6 @@
 -- Values that are passed over, piece by piece.
 use Rattle.std.proofs.Common.{◌≡◌, ℕ, ◌+◌, ◌≤◌, ◌<◌, Bool, false, List, [], ◌++◌, length, take, drop, Result, Ok, Err, IfOk, refl, sym, ap, subst, ◌∙◌, arith, rules, inl, inr, length-append}
-use Rattle.nc_fields.proofs.Prelude.{Ghosts, Window, HeadFault, Format, OutOfMemory, ReadFailed, Bytes, left, next_of, OnTrue, OnTrue_at, OnTrue_from, drop-drop, source_of, ends_with_nul, Entry, Start, ListsCut}
-use Rattle.std.proofs.lemmas.List.{get_or-append_right}
-use Rattle.nc_file.proofs.Bytes.{Progress, IsAdvanced, Stopped, on-by, chunk-next, read-content, stop-bytes}
-use Rattle.nc_file.specs.code.Window.{Ready}
-use Rattle.nc_fields.specs.code.PassedValues.{in_place, PassesValues}
+use Rattle.nc_fields.proofs.Prelude.{Ghosts, Window, HeadFault, Format, OutOfMemory, ReadFailed, Bytes, left, next_of, OnTrue, OnTrue_at, OnTrue_from, drop-drop, source_of, ends_with_nul, Entry, Start, ListsCut, get_or-append_right, Progress, IsAdvanced, Stopped, on-by, chunk-next, read-content, stop-bytes, Ready, in_place, PassesValues}
 
 -- ---- pieces
 
@@ -24,15 +20,6 @@ module _ {S : Type 0} {g : Ghosts S} where
     pub same : OnTrue g.is_transparent (vals ≡ take (length vals) (left start))
     pub whole : length vals + missing ≡ n
     pub is_last : last ≡ ends_with_nul vals
-
-  pub passed-none : (start : Window S g) (n : ℕ) → PassedSome start start n n false
-  passed-none start n = record {
-    vals = [];
-    so_far = record { kept = record { same_source = refl; bytes = refl; same_buffer_len = refl; handed = refl }; failures = refl; used = omega arith };
-    same = OnTrue_from g.is_transparent _ (λ known. refl);
-    whole = omega arith;
-    is_last = refl;
-  }
 
   -- a piece that the window held after the first bytes
   pub passed-more : (start mid held now : Window S g) (n missing left_over : ℕ) (before last : Bool) (piece : Bytes) → PassedSome start mid n missing before → Progress mid held 0

@@ -1,12 +1,8 @@
 -- The order of blocks, and blocks that have been sorted by their begins.
 use Rattle.std.proofs.Common.{◌≡◌, suc, ◌≤◌, Bool, true, false, cond, List, [], ◌∷◌, filter, refl, sym, subst, arith, ◌⊎◌}
-use Rattle.std.specs.List.{Contains, AllPairs}
+use Rattle.nc_layout.proofs.Prelude.{Contains, AllPairs, AllPairs-filter, nat_tests, Block, Extent, is_listed_before, precedes}
 use Rattle.std.specs.List.Sorted.{IsNonDecreasingBy, IsStableByKey, ties}
 use Rattle.std.specs.Ordering.{nat_cmp, is_lt}
-use Rattle.std.proofs.lemmas.List.Kept.{AllPairs-filter}
-use Rattle.std.proofs.lemmas.Bool.Decides.{nat_tests}
-use Rattle.nc_layout.specs.declared.{finding.Block.Block, blocks.Extent.Extent}
-use Rattle.nc_layout.specs.Blocks.{is_listed_before, precedes}
 
 -- ---- one block before another
 

@@ -1,17 +1,7 @@
 -- The first slab that isn't whole, part by part.
 use Rattle.std.proofs.Common.{◌≡◌, ℕ, zero, suc, ◌+◌, ◌*◌, ◌<◌, ◌≤◌, true, List, [], ◌∷◌, ◌++◌, length, get_or, map, filter, refl, sym, ap, arith, Option, Some, None, All, if◌then◌else◌, nat_lt}
-use Rattle.std.specs.List.{range_with_len}
-use Rattle.std.proofs.lemmas.Bool.{cases_lt}
-use Rattle.std.proofs.lemmas.Bool.Decides.{nat_tests}
-use Rattle.std.proofs.lemmas.Grind.{common_steps}
-use Rattle.std.proofs.lemmas.List.Elements.{filter-append}
-use Rattle.std.proofs.lemmas.List.Sums.{sum_by-append}
-use Rattle.std.proofs.Math.ListN.{take-append-drop}
+use Rattle.nc_layout.proofs.Prelude.{range_with_len, cases_lt, nat_tests, common_steps, filter-append, sum_by-append, take-append-drop, Slot, SlabPlace, record_slots, slab_in_record, record_size, IsSoundSlot, first_of, first_slab, is_cut, record_slab}
 use Rattle.std.proofs.Math.Nat.{mul-le-mul_right}
-use Rattle.nc_layout.specs.declared.{slot.Slot.Slot, file_end.SlabPlace.SlabPlace}
-use Rattle.nc_layout.specs.Slots.{record_slots, slab_in_record, record_size}
-use Rattle.nc_layout.specs.Findings.{IsSoundSlot}
-use Rattle.nc_layout.specs.FileEnd.{first_of, first_slab, is_cut, record_slab}
 use Rattle.nc_layout.proofs.SlotLists.{rest-taken}
 
 -- ---- the first of several

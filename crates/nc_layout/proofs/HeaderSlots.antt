@@ -1,15 +1,6 @@
 -- The slots of a header's variables: which have records, and how many bytes they take.
 use Rattle.std.proofs.Common.{◌≡◌, ℕ, ◌+◌, ◌<◌, ◌≤◌, Bool, List, [], ◌∷◌, ◌++◌, length, get_or, take, map, sum_by, refl, subst, arith, All, if◌then◌else◌}
-use Rattle.std.proofs.lemmas.Grind.{common_steps}
-use Rattle.std.proofs.lemmas.List.{take_more, get_or-map, length-map}
-use Rattle.std.proofs.lemmas.List.Elements.{All-push}
-use Rattle.std.proofs.lemmas.List.Sums.{sum-map}
-use Rattle.nc_base.specs.declared.{header.Dim.Dim, header.Header.Header, header.Var.Var}
-use Rattle.nc_base.specs.Sizes.{record_vars, padded_size, padded_total, slab_size, slab_limit}
-use Rattle.nc_layout.specs.declared.slot.Slot.{Slot}
-use Rattle.nc_layout.specs.Slots.{padded_slab, record_slots}
-use Rattle.nc_layout.specs.Findings.{IsSoundSlot, IsSoundLayout}
-use Rattle.nc_layout.specs.HeaderLayout.{slot_of, layout_of}
+use Rattle.nc_layout.proofs.Prelude.{common_steps, take_more, get_or-map, length-map, All-push, sum-map, Dim, Header, Var, record_vars, padded_size, padded_total, slab_size, slab_limit, Slot, padded_slab, record_slots, IsSoundSlot, IsSoundLayout, slot_of, layout_of}
 
 -- ---- the slots of a loop
 

@@ -1,3 +1,4 @@
+pub mod Prelude
 pub mod SlotLists
 pub mod PassedLists
 pub mod CutSlabs

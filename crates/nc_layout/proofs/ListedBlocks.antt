@@ -1,16 +1,9 @@
 -- The blocks of a file are listed in the order of the header, the records last.
 use Rattle.std.proofs.Common.{◌≡◌, ℕ, ◌+◌, ◌<◌, true, List, [], ◌∷◌, ◌++◌, length, get_or, arith, Option, Some, None}
-use Rattle.std.specs.List.{Contains, AllPairs}
-use Rattle.std.specs.Option.{option_map_or}
-use Rattle.std.proofs.lemmas.Bool.Decides.{nat_tests}
+use Rattle.nc_layout.proofs.Prelude.{Contains, AllPairs, option_map_or, nat_tests, Contains-get_or, AllPairs-cons, Slot, Layout, Extent, records_begin, record_count, is_listed_before, each_slot, slot_block, fixed_block, records_block, blocks}
 use Rattle.std.proofs.lemmas.List.{append-nil}
-use Rattle.std.proofs.lemmas.List.Elements.{Contains-get_or}
-use Rattle.std.proofs.lemmas.List.Kept.{AllPairs-cons}
 use Rattle.std.proofs.lemmas.List.Quantifiers.{all_pairs_push}
-use Rattle.nc_layout.specs.declared.{slot.Slot.Slot, slot.Layout.Layout, blocks.Extent.Extent}
 use Rattle.nc_layout.specs.declared.finding.Block.TheVariants.{Var, Records}
-use Rattle.nc_layout.specs.Slots.{records_begin, record_count}
-use Rattle.nc_layout.specs.Blocks.{is_listed_before, each_slot, slot_block, fixed_block, records_block, blocks}
 use Rattle.nc_layout.proofs.BlockOrder.{Listed, contains-none, contains-cases}
 
 -- the blocks of slots from index i on are listed after those before it, and before the records

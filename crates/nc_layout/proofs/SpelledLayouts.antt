@@ -1,20 +1,13 @@
 -- A header that bytes spell, by whatever rules, has a sound layout.
-use Rattle.std.proofs.lemmas.Grind.{common_steps}
 use Rattle.std.proofs.Common.{◌≡◌, ℕ, zero, suc, ◌+◌, ◌^◌, ◌<◌, ◌≤◌, Bool, true, List, [], ◌∷◌, ◌++◌, length, sym, subst, append_assoc, append-nil, arith, if◌then◌else◌, Result, Ok, Err, All}
-use Rattle.std.proofs.lemmas.Bool.{leb-true}
-use Rattle.std.proofs.lemmas.Bool.Decides.{nat_tests}
-use Rattle.std.proofs.lemmas.List.Elements.{All-nil, All-cons, All-append, All-map}
-use Rattle.nc_base.specs.declared.{fault.FormatFault.FormatFault, header.Dim.Dim, header.Var.Var, header.Header.Header, version.Version.Version}
+use Rattle.nc_layout.proofs.Prelude.{common_steps, leb-true, nat_tests, All-nil, All-cons, All-append, All-map, FormatFault, Dim, Var, Header, Version, record_limit, record_vars, padded_total, IsSoundSlot, IsSoundLayout, slot_of, layout_of}
 use Rattle.nc_base.specs.Bytes.{Bytes}
-use Rattle.nc_base.specs.Sizes.{record_limit, record_vars, padded_total}
 use Rattle.nc_base.specs.Headers.{IsDimid, AreDimids}
 use Rattle.nc_base.specs.Parts.{Part, Spells}
 use Rattle.nc_base.specs.Grammar.{Rules, offset_part, each, counted, list_part, dimid_part, dimid_after, shape_part, is_within_limits, var_part, var_after, var_list, header_by}
 use Rattle.nc_base.proofs.SoundLaws.{some_product, some_count, some_size}
 use Rattle.nc_base.proofs.Printable.{total-append, one-total}
 use Rattle.nc_base.proofs.Tests.{and_parts}
-use Rattle.nc_layout.specs.Findings.{IsSoundSlot, IsSoundLayout}
-use Rattle.nc_layout.specs.HeaderLayout.{slot_of, layout_of}
 use Rattle.nc_layout.proofs.HeaderSlots.{record_slots-total}
 
 -- a test that was passed

@@ -1,14 +1,6 @@
 -- Lists of fields with their indices, one field on.
-use Rattle.std.proofs.Common.{◌≡◌, ℕ, ◌+◌, ◌-◌, ◌<◌, ◌≤◌, Bool, true, false, cond, if◌then◌else◌, List, [], ◌∷◌, ◌++◌, length, get_or, drop, take, refl, ap, sym, ◌∙◌, arith, Option, Some}
-use Rattle.std.proofs.lemmas.List.{at_drop_more, take_more, length-take-le}
-use Rattle.std.proofs.lemmas.List.Sorted.{IsPermutation-refl, IsPermutation-trans, IsPermutation-append_left, IsPermutation-append_comm}
-use Rattle.std.specs.Prelude.{IsPermutation, find}
-use Rattle.std.specs.Option.{option_to_list, option_and_then}
-use Rattle.nc_fields.specs.declared.entry.Entry.{Entry}
-use Rattle.nc_report.specs.declared.{finding.Finding.Finding, ahead.Ahead.Ahead, ahead.NumberAt.NumberAt, ahead.ValuesAt.ValuesAt}
-use Rattle.nc_report.specs.Indexed.{Indexed, field_at, indexed, indexed_from, each_before}
-use Rattle.nc_report.specs.Ahead.{ahead_of, is_count, is_type, is_values, is_var_type, var_type_at, number_at, values_at}
-use Rattle.nc_report.specs.code.Passes.{ahead_with, each_backward}
+use Rattle.std.proofs.Common.{◌≡◌, ℕ, ◌+◌, ◌-◌, ◌<◌, ◌≤◌, List, [], ◌∷◌, ◌++◌, length, get_or, drop, take, ap, sym, ◌∙◌, arith, Option}
+use Rattle.nc_report.proofs.Prelude.{at_drop_more, take_more, length-take-le, IsPermutation-refl, IsPermutation-trans, IsPermutation-append_left, IsPermutation-append_comm, IsPermutation, option_to_list, Entry, Finding, Indexed, field_at, indexed, indexed_from, each_before, ahead_of, ahead_with, each_backward}
 
 -- the fields from index i on are the one there, and those after it
 pub rest : {A : Type 0} (f : List Indexed → A) (es : List Entry) (i : ℕ) (d : Entry) → i < length es
@@ -26,23 +18,8 @@ rest-before es n e some le is =
 
 -- ---- what lies ahead
 
-picked : {A : Type 0} (g : Indexed → Option A) (b : Bool) (f : Indexed) (o : Option Indexed)
-    → (if b then g f else option_and_then g o) ≡ option_and_then g (cond b (Some f) o)
-picked g true f o = refl
-picked g false f o = refl
-
-made : (next type_code count var_type other_type other_count other_var : Option NumberAt) (values other_values : Option ValuesAt)
-    → type_code ≡ other_type → count ≡ other_count → values ≡ other_values → var_type ≡ other_var
-    → (let one : Ahead = record { next = next; type_code = type_code; count = count; values = values; var_type = var_type } in
-    let other : Ahead = record { next = next; type_code = other_type; count = other_count; values = other_values; var_type = other_var } in
-    one ≡ other)
-made next type_code count var_type other_type other_count other_var values other_values t c v w = cc
-
 pub ahead_with-is : (f : Indexed) (after : List Indexed) → ahead_with f (ahead_of after) ≡ ahead_of (f ∷ after)
-ahead_with-is f after =
-    made (number_at f) _ _ _ _ _ _ _ _ (picked number_at (is_type f) f (find is_type after))
-    (picked number_at (is_count f) f (find is_count after))
-    (picked values_at (is_values f) f (find is_values after)) (picked var_type_at (is_var_type f) f (find is_var_type after))
+ahead_with-is f after = grind arith
 
 -- ---- from the last field to the first
 

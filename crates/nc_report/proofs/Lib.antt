@@ -1,3 +1,4 @@
+pub mod Prelude
 pub mod IndexedLists
 pub mod NameKeys
 pub mod Located

@@ -1,59 +1,31 @@
 -- Findings at fields that are kept as numbers.
-use Rattle.std.proofs.Common.{◌≡◌, ℕ, ◌+◌, List, [], ◌∷◌, ◌++◌, map, slice_get, Option, Some, None, Result, Ok, Err, OnOk, SomeIff, append_assoc, arith, refl, sym, ap, ap₂, subst, ◌∙◌}
-use Rattle.std.specs.Prelude.{IsPermutation}
-use Rattle.std.proofs.lemmas.List.Sorted.{IsPermutation-map, IsPermutation-append, IsPermutation-refl}
-use Rattle.std.specs.Option.{option_map, option_to_list}
+use Rattle.std.proofs.Common.{◌≡◌, ℕ, ◌+◌, List, [], ◌∷◌, ◌++◌, map, slice_get, Option, Some, Result, Ok, Err, OnOk, SomeIff, append_assoc, arith, refl, sym, ap, ap₂, subst, ◌∙◌}
+use Rattle.nc_report.proofs.Prelude.{IsPermutation, IsPermutation-map, IsPermutation-append, IsPermutation-refl, option_map, option_to_list, Version, append-nil, Header, FormatFault, Listing, Entry, Slot, Layout, LayoutFinding, padded_slab, each_slot, layout_findings, IsSoundLayout, layout_of, Fact, Finding, NumberField, NumberFields, Indexed, indexed, vsize_findings, whole_findings, is_vsize, named, vsize_finding, found_at, located, number_field, HoldsNumbers, found_at_number, located_number, vsize_fact, vsize_facts}
 use Rattle.std.proofs.lemmas.Option.{slice_get-map}
-use Rattle.nc_base.specs.declared.version.Version.{Version}
-use Rattle.std.proofs.lemmas.List.{append-nil}
-use Rattle.nc_base.specs.declared.{header.Header.Header, fault.FormatFault.FormatFault}
-use Rattle.nc_fields.specs.declared.{header.Listing.Listing, entry.Entry.Entry}
-use Rattle.nc_layout.specs.declared.{slot.Slot.Slot, slot.Layout.Layout, finding.LayoutFinding.LayoutFinding, finding.LayoutPlace.LayoutPlace}
-use Rattle.nc_layout.specs.declared.finding.LayoutPlace.TheVariants as places
-use Rattle.nc_layout.specs.Slots.{padded_slab}
-use Rattle.nc_layout.specs.Blocks.{each_slot}
-use Rattle.nc_layout.specs.Findings.{layout_findings, IsSoundLayout}
-use Rattle.nc_layout.specs.HeaderLayout.{layout_of}
-use Rattle.nc_report.specs.declared.{finding.Fact.Fact, finding.Finding.Finding, number_fields.NumberField.NumberField, number_fields.NumberFields.NumberFields}
-use Rattle.nc_report.specs.declared.finding.Fact.TheVariants as fact
-use Rattle.nc_report.specs.Indexed.{Indexed, indexed}
-unfoldable use Rattle.nc_report.specs.WholeHeader.{vsize_findings, whole_findings}
-use Rattle.nc_report.specs.WholeHeader.{is_numrecs, is_vsize, is_begin, named, vsize_finding, found_at, located}
-use Rattle.nc_report.specs.code.WholeHeaders.{number_field, HoldsNumbers, found_at_number, located_number, vsize_fact, vsize_facts}
 
 -- at a field in this place of a list
 placed : (fs : List Indexed) (i : ℕ) (what : Fact) → found_at_number (slice_get (map number_field fs) i) what ≡ found_at (slice_get fs i) what
-placed fs i what = rw (slice_get-map number_field fs i) (by-option (slice_get fs i))
-  where
-    by-option : (o : Option Indexed) → found_at_number (option_map number_field o) what ≡ found_at o what
-    by-option (Some f) = refl
-    by-option None = refl
+placed fs i what = grind (arith, slice_get-map)
 
 pub located-numbers : (fields : List Indexed) (ns : NumberFields) (l : LayoutFinding) → HoldsNumbers fields ns → located_number ns l ≡ located fields l
-located-numbers fields ns l h = by-place l.place
-  where
-    by-place : (p : LayoutPlace) → located_number ns (record l { place = p }) ≡ located fields (record l { place = p })
-    by-place places.NumRecs = ap (λ (xs : List NumberField). found_at_number (slice_get xs 0) (fact.Layout l.fact)) h.numrecs ∙ placed (named is_numrecs fields) 0 (fact.Layout l.fact)
-    by-place (places.Vsize i) = ap (λ (xs : List NumberField). found_at_number (slice_get xs i) (fact.Layout l.fact)) h.vsizes ∙ placed (named is_vsize fields) i (fact.Layout l.fact)
-    by-place (places.Begin i) = ap (λ (xs : List NumberField). found_at_number (slice_get xs i) (fact.Layout l.fact)) h.begins ∙ placed (named is_begin fields) i (fact.Layout l.fact)
-    by-place (places.Data offset) = refl
+located-numbers fields ns l h = grind (arith, placed, h.numrecs, h.vsizes, h.begins)
 
 sized : (v : Version) (padded : ℕ) (o : Option Indexed) → vsize_fact v padded (option_map number_field o) ≡ vsize_finding v padded o
-sized v padded (Some f) = refl
-sized v padded None = refl
+sized v padded o = grind arith
 
 sizes : (v : Version) (fs : List Indexed) (i : ℕ) (slots : List Slot)
     → each_slot (λ i slot. option_to_list (vsize_fact v (padded_slab slot) (slice_get (map number_field fs) i))) i slots ≡ each_slot (λ i slot. option_to_list (vsize_finding v (padded_slab slot) (slice_get fs i))) i slots
 sizes v fs i [] = refl
-sizes v fs i (slot ∷ slots) = ap₂ (λ xs ys. xs ++ ys) (ap option_to_list (ap (vsize_fact v (padded_slab slot)) (slice_get-map number_field fs i) ∙ sized v (padded_slab slot) (slice_get fs i))) (sizes v fs (i + 1) slots)
+sizes v fs i (slot ∷ slots) = grind (arith, slice_get-map, sized, sizes v fs (i + 1) slots)
 
 pub vsizes-numbers : (fields : List Indexed) (ns : NumberFields) (layout : Layout) → HoldsNumbers fields ns → vsize_facts layout ns.vsizes ≡ vsize_findings layout fields
 unfolding vsize_findings
-vsizes-numbers fields ns layout h = ap (λ (xs : List NumberField). vsize_facts layout xs) h.vsizes ∙ sizes layout.version (named is_vsize fields) 0 layout.slots
+vsizes-numbers fields ns layout h =
+    ap (λ (xs : List NumberField). vsize_facts layout xs) h.vsizes ∙ sizes layout.version (named is_vsize fields) 0 layout.slots
 
 map-same : {A B : Type 0} (f g : A → B) (xs : List A) → ((x : A) → f x ≡ g x) → map f xs ≡ map g xs
 map-same f g [] same = refl
-map-same f g (x ∷ xs) same = ap₂ (λ y ys. y ∷ ys) (same x) (map-same f g xs same)
+map-same f g (x ∷ xs) same = grind (arith, same x, map-same f g xs same)
 
 -- the findings at their fields, in whichever order they were found
 pub pushed-located : (ns : NumberFields) (layout : Layout) (of_layout slice : List LayoutFinding) (old new : List Finding) {A E : Type 0} (result : Result A E) → IsPermutation (layout_findings layout) of_layout

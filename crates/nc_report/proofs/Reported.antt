@@ -1,30 +1,13 @@
 -- What a report says of a listing.
 use Rattle.std.proofs.Common.{ℕ, ◌++◌, Bool, List, Option, Result, Ok, Err, sym, subst}
-use Rattle.std.specs.Prelude.{IsPermutation}
-use Rattle.std.specs.List.{AllPairs}
-use Rattle.std.specs.Cmp.{IsTotalOrder}
-use Rattle.std.specs.Cmp.Lexicographic.{options_total}
-use Rattle.std.proofs.lemmas.Cmp.{nat_cmp_total, on_total, then_total}
-use Rattle.std.proofs.lemmas.List.Sorted.{IsPermutation-trans, IsPermutation-append_left}
-use Rattle.std.specs.Bool.{OnTrue}
-use Rattle.std.proofs.lemmas.Bool.{OnTrue_at, OnTrue_from}
+use Rattle.nc_report.proofs.Prelude.{IsPermutation, AllPairs, IsTotalOrder, options_total, nat_cmp_total, on_total, then_total, IsPermutation-trans, IsPermutation-append_left, OnTrue, OnTrue_at, OnTrue_from, Header, FormatFault, Listing, IsSoundLayout, layout_of, Fact, Finding, Kind, header_findings, whole_findings, all_findings, finding_cmp, IsInOrder, IsReport, HasSoundLayout}
 use Rattle.nc_base.specs.Bytes.{Bytes}
-use Rattle.nc_base.specs.declared.{header.Header.Header, fault.FormatFault.FormatFault}
-use Rattle.nc_fields.specs.declared.header.Listing.{Listing}
 use Rattle.nc_fields.specs.Lenient.{lenient}
 use Rattle.nc_fields.specs.Listings.{IsListing, IsOutcome}
-use Rattle.nc_layout.specs.Findings.{IsSoundLayout}
-use Rattle.nc_layout.specs.HeaderLayout.{layout_of}
 use Rattle.nc_layout.proofs.SpelledLayouts.{spelled-layout}
-use Rattle.nc_report.specs.declared.{finding.Fact.Fact, finding.Finding.Finding, kind.Kind.Kind}
 use Rattle.nc_report.specs.contracts.finding.FactOrd.TheImpl.Laws as fact_laws
 use Rattle.nc_report.specs.contracts.kind.KindOrd.TheImpl.Laws as kind_laws
 use Rattle.nc_report.specs.Kinds.{kind_of}
-use Rattle.nc_report.specs.HeaderRules.{header_findings}
-use Rattle.nc_report.specs.WholeHeader.{whole_findings}
-unfoldable use Rattle.nc_report.specs.Reports.{all_findings}
-use Rattle.nc_report.specs.Reports.{finding_cmp, IsInOrder, IsReport}
-use Rattle.nc_report.specs.code.WholeHeaders.{HasSoundLayout}
 
 -- ---- the order
 

@@ -1,16 +1,12 @@
 -- What the whole command line reads.
 use Rattle.std.proofs.Common.{ℕ, true, List, [], Result, ◌≡◌, ◌∙◌, refl, ap, ◌⊎◌, IsErrAnd}
+use Rattle.nccheck.proofs.Prelude.{Row, fault_of, is_simple, is_simple_and_free, matches_of, AnswersBy, asked_by, asked_in, nccheck, asked_for, CheckOptions}
 use Rattle.clap.specs.Kinds.{IsAmong}
-use Rattle.clap.specs.Words.{Row, fault_of, is_simple, is_simple_and_free, matches_of}
 use Rattle.clap.specs.declared.error.kind.ErrorKind.{ErrorKind}
 use Rattle.clap.proofs.OnLiterals.{clap_on_literals}
 use Rattle.clap.specs.declared.error.kind.ErrorKind.TheVariants as kinds
 use Rattle.cli_base.proofs.Refusals.{TellsKind, refusal_answers, unless_none}
-use Rattle.cli_base.specs.code.Answers.{AnswersBy}
 use Rattle.cli_base.specs.declared.fault.OptFault.{OptFault}
-use Rattle.nccheck.specs.CommandLine.{asked_by, asked_in, nccheck}
-use Rattle.nccheck.specs.code.Options.{asked_for}
-use Rattle.nccheck.specs.declared.options.CheckOptions.{CheckOptions}
 
 -- the parse says all of the command's matches
 pub is_plain : is_simple_and_free nccheck ≡ true

@@ -1,17 +1,11 @@
 -- A run over one item after another.
 use Rattle.std.proofs.Common.{◌≡◌, inl, inr, true, false, Bool, List, [], ◌∷◌, ◌++◌, refl, ap}
+use Rattle.nccheck.proofs.Prelude.{Bytes, Asked, Item, ChecksItem, Either, ends_run, has_ended, IsTold, Openings, RunsOver, State, Answer, Counts, IsCount, Tally}
 use Rattle.std.proofs.Common.{Option, Some, None, Result, Ok, Err, arith}
 use Rattle.std.proofs.lemmas.List.Folds.{list_any-append}
 use Rattle.std.proofs.lemmas.List.Sums.{fold-append}
-use Rattle.nc_base.specs.Bytes.{Bytes}
 use Rattle.devices.specs.Sinks.{SinkView}
 use Rattle.devices.specs.code.SinkWrites.{Written}
-use Rattle.nccheck.specs.CommandLine.{Asked}
-use Rattle.nccheck.specs.PathLists.{Item}
-use Rattle.nccheck.specs.Runs.{ChecksItem, Either, ends_run, has_ended, IsTold, Openings, RunsOver, State}
-use Rattle.nccheck.specs.Tallies.{Answer}
-use Rattle.nccheck.specs.code.Counts.{Counts, IsCount}
-use Rattle.nccheck.specs.declared.tally.Tally.{Tally}
 
 -- the line of a fault was written, whatever the call answered
 pub is_told : {X E : Type 0} (old new : SinkView) (text : Bytes) (result : Result X E) → Written old new text result → IsTold old new text

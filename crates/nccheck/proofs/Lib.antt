@@ -1,3 +1,4 @@
+pub mod Prelude
 pub mod CommandLines
 pub mod InTurn
 pub mod Listing

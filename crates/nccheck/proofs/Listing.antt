@@ -1,20 +1,11 @@
 -- A run over a list whose bytes come part by part.
 use Rattle.std.proofs.Common.{◌≡◌, ℕ, ◌+◌, ◌<◌, ◌≤◌, ◌^◌, List, [], ◌∷◌, ◌++◌, ◌⊎◌, codes, inl, inr, refl, sym, ap, ◌∙◌, append_assoc, append-nil, length, take}
+use Rattle.nccheck.proofs.Prelude.{length-append, length-take-le, Bytes, HasFailed, ReaderView, Asked, Broken, Item, items_after, items_in, last_items, ListEnd, Path, Unread, Whole, Either, Fails, has_ended, Openings, ReadsList, ReadsNothing, RunsFiles, State, Writes, counted, no_files, status_of, summary_line, Counts, CountsAll, CountsList, Gives, Takes, TakesItems, Tally}
 use Rattle.std.proofs.Common.{◌&&◌, not, map, Bool, true, false, Option, Some, None, IfSome, Err, arith, unwrap_or}
 use Rattle.std.specs.Io.KnownBytes.{Consumes}
 use Rattle.std.proofs.KnownBytes.{Consumes-all, Consumes-kept, Consumes-nil, Consumes-trans}
-use Rattle.std.proofs.lemmas.List.{length-append, length-take-le}
-use Rattle.nc_base.specs.Bytes.{Bytes}
-use Rattle.devices.specs.Failures.{HasFailed}
-use Rattle.devices.specs.Readers.{ReaderView}
 use Rattle.devices.specs.Uses.{Use}
 use Rattle.devices.specs.code.ReaderReads.{HandedOver, NoneHandedOver}
-use Rattle.nccheck.specs.CommandLine.{Asked}
-use Rattle.nccheck.specs.PathLists.{Broken, Item, items_after, items_in, last_items, ListEnd, Path, Unread, Whole}
-use Rattle.nccheck.specs.Runs.{Either, Fails, has_ended, Openings, ReadsList, ReadsNothing, RunsFiles, State, Writes}
-use Rattle.nccheck.specs.Tallies.{counted, no_files, status_of, summary_line}
-use Rattle.nccheck.specs.code.Counts.{Counts, CountsAll, CountsList, Gives, Takes, TakesItems}
-use Rattle.nccheck.specs.declared.tally.Tally.{Tally}
 use Rattle.nccheck.specs.declared.fault.FileFault.TheVariants.{ReadFailed}
 use Rattle.nccheck.proofs.InTurn.{counts_none, counts_one, counts_stop, counts_then, either}
 

@@ -1,12 +1,9 @@
 -- Whose failure it was, where one path was opened.
 use Rattle.std.proofs.Common.{◌≡◌, Result, arith}
-use Rattle.devices.specs.Failures.{HasFailed}
+use Rattle.nccheck.proofs.Prelude.{HasFailed, HasBack, OpensOnce, FileFault, OpensFile, ReadFailsOnly}
 use Rattle.devices.specs.Openers.{OpenerView}
 use Rattle.devices.specs.Sources.{SourceView}
-use Rattle.devices.specs.code.PathOpens.{HasBack, OpensOnce}
 use Rattle.devices.proofs.Openings.{one_failure, no_failure}
-use Rattle.nccheck.specs.declared.fault.FileFault.{FileFault}
-use Rattle.nccheck.specs.Runs.{OpensFile, ReadFailsOnly}
 
 -- the source's failure is the opener's, once it has the source back
 pub opens_file : {A : Type 0} (old mid new : OpenerView) (start source : SourceView) (result : Result A FileFault)

@@ -1,20 +1,8 @@
 -- Where slots and blocks end if each slot begins in its canonical place; so a file without findings at begins and at its end has the
 -- length of a generated one.
 use Rattle.std.proofs.Common.{◌≡◌, ℕ, zero, suc, ◌+◌, ◌-◌, ◌*◌, ◌<◌, ◌≤◌, true, length, filter, subst, arith, Option, Some, IfSome, max, refl}
-use Rattle.std.specs.List.{Contains}
-use Rattle.std.proofs.lemmas.Bool.{cases_lt, lt-ltb}
-use Rattle.std.proofs.lemmas.Bool.Decides.{nat_tests}
-use Rattle.std.proofs.lemmas.Option.{slice_get_within}
-use Rattle.nc_layout.specs.declared.{slot.Slot.Slot, slot.Layout.Layout, blocks.Extent.Extent}
-use Rattle.nc_layout.specs.Slots.{padded_slab, is_fixed, slab_in_record, record_size, records_begin, record_count}
-use Rattle.nc_layout.specs.Blocks.{slot_block, records_block, blocks, has_values}
-use Rattle.nc_layout.specs.SlotRules.{bytes_before}
-use Rattle.nc_layout.specs.FileEnd.{padding_end, used_end, end_findings}
-use Rattle.nc_layout.specs.Findings.{IsSoundSlot, IsSoundLayout}
-use Rattle.nc_layout.specs.code.PassedSlots.{is_record_slot}
-use Rattle.nc_layout.proofs.BlockOrder.{contains-filter}
-use Rattle.nc_layout.proofs.SweptBlocks.{greatest_from-ge, greatest_from-above, greatest_from-least}
-use Rattle.nccheck_laws.specs.LayoutLaws.{fixed_bytes, is_of_end, canonical_begin, HasCanonicalBegins, canonical_len, QuietLengthIsCanonical}
+use Rattle.nccheck_laws.proofs.Prelude.{Contains, cases_lt, lt-ltb, nat_tests, slice_get_within, Slot, Layout, Extent, padded_slab, is_fixed, slab_in_record, record_size, records_begin, record_count, slot_block, records_block, blocks, has_values, bytes_before, used_end, end_findings, IsSoundSlot, IsSoundLayout, is_record_slot, contains-filter, greatest_from-ge, greatest_from-above, greatest_from-least, fixed_bytes, is_of_end, canonical_begin, HasCanonicalBegins, canonical_len, QuietLengthIsCanonical}
+use Rattle.nc_layout.specs.FileEnd.{padding_end}
 use Rattle.nccheck_laws.proofs.IndexedSlots.{At, all-at, total-below, total-whole, total-reach, slab-fits, part-le}
 use Rattle.nccheck_laws.proofs.LayoutBlocks.{each-block, fixed-there, records-there, fixed_place, all-place, records_end-above, records_end-le, first_begin, begins, begin-is}
 use Rattle.nccheck_laws.proofs.FoundNone.{quiet-end}

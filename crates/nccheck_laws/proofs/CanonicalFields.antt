@@ -1,34 +1,22 @@
 -- The fields of a header that is spelled as it is written are as they are written in it.
 use Rattle.std.proofs.Common.{◌≡◌, ℕ, suc, zero, ◌^◌, ◌<◌, ◌==◌, ◌||◌, ◌&&◌, not, false, List, [], ◌∷◌, ◌++◌, length, take, drop, Option, Some, None, refl, sym, ap, ◌∙◌, subst, arith, append_assoc, append-nil, replicate, if◌then◌else◌, slice_get, IfSome, All}
-use Rattle.nccheck_laws.proofs.Prelude.{All-nil, All-cons, All-append, byte_len, w32, Dim, Var, Header, Version, BadCount, Bytes, count_width, padded_size, padded_total, record_vars, Step, Part, done, bytes, decoded, under, chain, Spells, Tag, Count, Item, Padding, Vsize, strict, checked, variable_tag, dimid_after, var_after, vsize_of, header_part, SpellsHeader, number, limited_part, offset_part, ignored, name_part, type_part, each, counted, list_head, list_part, dim_part, dim_list, att_part, att_list, dimid_part, shape_part, var_part, var_list, version_part, magic_part, numrecs_part, header_by, Field, fields, header_fields, bytes_of, number_of, IsWrittenVsize, IsWritten, AreWritten, from_be_bytes, to_be_bytes, Att, print, count_part, first}
-use Rattle.std.proofs.lemmas.List.Elements.{All-get_or}
-use Rattle.std.proofs.lemmas.Option.{slice_get_within, get_or_from_slice_get}
-use Rattle.nc_base.specs.Headers.{IsSoundVar}
-use Rattle.nc_base.specs.Versions.{offset_limit}
-use Rattle.nc_base.specs.Grammar.{header_spelling}
-use Rattle.nc_base.specs.code.PartRuns.{IsPrintable}
-use Rattle.nc_base.proofs.PartOutcomes.{printed}
-use Rattle.nc_base.proofs.Printable.{wide-32, header-printable}
+use Rattle.nccheck_laws.proofs.Prelude.{All-nil, All-cons, All-append, byte_len, w32, Dim, Var, Header, Version, BadCount, Bytes, count_width, padded_size, padded_total, record_vars, Step, Part, done, bytes, decoded, under, chain, Spells, Tag, Count, Item, Padding, Vsize, strict, checked, variable_tag, attribute_tag, att_after, dimid_after, var_after, vsize_of, header_part, SpellsHeader, number, limited_part, offset_part, ignored, name_part, type_part, each, counted, list_head, list_part, dim_part, dim_list, att_part, att_list, dimid_part, shape_part, var_part, var_list, version_part, magic_part, numrecs_part, header_by, Field, fields, header_fields, bytes_of, number_of, has_nonzero, lenient, without_values, IsWrittenVsize, from_be_bytes, to_be_bytes, Att, print, count_part, first, All-get_or, slice_get_within, get_or_from_slice_get, IsSoundVar, offset_limit, header_spelling, IsPrintable, printed, wide-32, header-printable, CanonicalFieldsAreWritten}
 use Rattle.nc_base.proofs.SoundSpelling.{spelled-sound}
 use Rattle.nc_fields.specs.Entries.{number_in}
 use Rattle.nc_fields.proofs.Numbers.{number-in_count}
-use Rattle.nccheck_laws.specs.Written.{CanonicalFieldsAreWritten}
-use Rattle.nccheck_laws.proofs.StrictHeaders.{strict-fields}
+use Rattle.nccheck_laws.proofs.StrictHeaders.{strict-fields, strict-headers}
+use Rattle.nccheck_laws.proofs.Vsizes.{spelled-whole}
+use Rattle.nccheck_laws.proofs.Spellings.{odd_padding, odd_tag, odd_list, any_odd, IsSized, AreSized, are-written}
 use Rattle.nccheck_laws.proofs.Written.{whole_field, at-start, bytes-fields, decoded-fields, chain-fields}
 use Rattle.nccheck_laws.proofs.WrittenParts.{elements-leaf}
 
 -- ---- fields that are as they are written
 
--- after a list's tag: the number after it is 0 only if the tag is
-abbrev pub FollowsTag : ℕ → List Field → Type 0
-FollowsTag tag [] = Unit {0}
-FollowsTag tag (f ∷ after) = (not (tag == 0) && (number_of f == 0)) ≡ false
-
 -- A field with these steps, which these fields follow, is as it is written in this header. (`IsWritten` says something of a tag only if the
 -- field after it is a count. In a header it always is.)
 abbrev pub IsCanonical : Header → List Step → Field → List Field → Type 0
-IsCanonical h (Padding ∷ steps) f after = bytes_of f ≡ replicate f.size 0
-IsCanonical h (Tag ∷ steps) f after = FollowsTag (number_of f) after
+IsCanonical h (Padding ∷ steps) f after = has_nonzero (bytes_of f) ≡ false
+IsCanonical h (Tag ∷ steps) f after = odd_tag (number_of f) after ≡ false
 IsCanonical h (Vsize ∷ Item i ∷ steps) f after = IsWrittenVsize h i (number_of f)
 IsCanonical h steps f after = Unit {0}
 
@@ -36,12 +24,16 @@ abbrev pub AreCanonical : Header → List Field → Type 0
 AreCanonical h [] = Unit {0}
 AreCanonical h (f ∷ fields) = IsCanonical h f.steps f fields × AreCanonical h fields
 
-is-written : (h : Header) (steps : List Step) (f : Field) (after : List Field) → IsCanonical h steps f after → IsWritten h steps f after
-is-written h v1 f after is = grind arith
+is-parts : (h : Header) (steps : List Step) (f : Field) (after : List Field) → IsCanonical h steps f after
+    → (odd_padding steps f ≡ false) × (odd_list steps f after ≡ false) × IsSized h steps f
+is-parts h v1 f after is = (grind arith, grind arith, grind arith)
 
-are-written : (h : Header) (fs : List Field) → AreCanonical h fs → AreWritten h fs
-are-written h [] are = tt
-are-written h (f ∷ fs) are = (is-written h f.steps f fs are.0, are-written h fs are.1)
+pub canonical-parts : (h : Header) (fs : List Field) → AreCanonical h fs → (any_odd fs ≡ false) × AreSized h fs
+canonical-parts h [] are = (refl, tt)
+canonical-parts h (f ∷ fs) are =
+    let first = is-parts h f.steps f fs are.0 in
+    let others = canonical-parts h fs are.1 in
+    (grind arith, (first.2, others.1))
 
 -- ---- what is written of a part
 
@@ -97,10 +89,14 @@ plain : (P : List Field → Type 0) {n : ℕ} {content : Bytes} (f : Field) (aft
     → bytes_of f ≡ content → Unit {0}
 plain P f after holds size is = tt
 
+no-nonzero : (n : ℕ) → has_nonzero (replicate n 0) ≡ false
+no-nonzero zero = refl
+no-nonzero (suc n) = no-nonzero n
+
 -- padding
 zeros : (P : List Field → Type 0) {n : ℕ} (f : Field) (after : List Field) → P after → f.size ≡ n → bytes_of f ≡ replicate n 0
-    → bytes_of f ≡ replicate f.size 0
-zeros P f after holds size is = is ∙ ap (λ n. replicate n 0) (sym size)
+    → has_nonzero (bytes_of f) ≡ false
+zeros P {n = n} f after holds size is = ap has_nonzero is ∙ no-nonzero n
 
 -- the tag that is written of a list of n elements
 abbrev tag_of : ℕ → ℕ → ℕ
@@ -177,7 +173,9 @@ shown-dims h P v steps dims = grind (arith, shown-list, shown-name, plain)
 shown-atts : (h : Header) (P : List Field → Type 0) (v : Version) (steps : List Step) (atts : List Att)
     → AreShown h P steps (att_list strict v) atts
 unfolding att_list att_part type_part limited_part number ignored
-shown-atts h P v steps atts = grind (arith, shown-list, shown-name, plain, zeros)
+shown-atts h P v steps atts =
+    shown-list h P v attribute_tag steps (att_after strict v) atts (omega arith)
+    (λ P before att is. (shown-name h _ v _ att.name, (plain _, (plain _, (plain _, (zeros _, tt))))))
 
 shown-shape : (h : Header) (P : List Field → Type 0) (v : Version) (dims : List Dim) (steps : List Step) (ids : List ℕ)
     → AreShown h P steps (shape_part v dims) ids
@@ -257,4 +255,7 @@ header-canonical from h rest s is =
     (subst (AreCanonical h) (append-nil (fields [] header_part (header_spelling h ++ rest))) are)
 
 pub canonical-fields : CanonicalFieldsAreWritten
-canonical-fields from h rest s is = are-written h (header_fields from) (header-canonical from h rest s is)
+canonical-fields from h rest s is =
+    let spelled = (strict-headers from h rest s).0 in
+    let parts = canonical-parts h (header_fields from) (header-canonical from h rest s is) in
+    are-written h (header_fields from) (spelled-whole [] (header_by lenient) from (without_values h) rest spelled) parts.0 parts.1

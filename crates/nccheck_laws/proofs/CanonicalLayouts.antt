@@ -1,25 +1,15 @@
--- Where each slot begins in its canonical place, nothing is found at the begins; nor at the end of a file of the canonical length.
-use Rattle.std.proofs.Common.{◌≡◌, ℕ, ◌+◌, ◌≤◌, max, true, length, take, filter, arith}
-use Rattle.std.specs.List.{Contains}
-use Rattle.std.proofs.lemmas.Bool.{cases_lt}
-use Rattle.std.proofs.lemmas.Bool.Decides.{nat_tests}
-use Rattle.nc_layout.specs.declared.{slot.Slot.Slot, slot.Layout.Layout, blocks.Extent.Extent}
-use Rattle.nc_layout.specs.Slots.{padded_slab, is_fixed, slab_in_record, record_count}
-use Rattle.nc_layout.specs.Blocks.{slot_block, records_block, blocks, before, precedes, has_values}
-use Rattle.nc_layout.specs.SlotRules.{slot_findings}
-use Rattle.nc_layout.specs.BlockRules.{block_findings, greatest_end}
-use Rattle.nc_layout.specs.FileEnd.{values_end, padding_end, used_end, end_findings}
-use Rattle.nc_layout.specs.Findings.{IsSoundSlot, IsSoundLayout}
-use Rattle.nccheck_laws.specs.LayoutLaws.{is_of_begin, is_of_end, HasCanonicalBegins, CanonicalBeginsAreQuiet, CanonicalLengthIsQuiet}
-use Rattle.nc_layout.specs.code.Sweep.{value_end}
+-- Where each slot begins in its canonical place, nothing is found at the begins; nor at the end of a file of the canonical length. So nothing
+-- is found in the layout of a generated file.
+use Rattle.std.proofs.Common.{◌≡◌, ℕ, ◌+◌, ◌≤◌, max, true, length, take, filter, arith, refl, zero, suc, List, [], ◌∷◌, ◌++◌, map, slice_get, IfSome, sym, ◌∙◌, ap, append_assoc, length-append}
+use Rattle.nccheck_laws.proofs.Prelude.{Contains, cases_lt, nat_tests, Slot, Layout, Extent, padded_slab, is_fixed, slab_in_record, record_count, slot_block, records_block, blocks, before, precedes, has_values, slot_findings, block_findings, greatest_end, values_end, used_end, end_findings, IsSoundSlot, IsSoundLayout, is_of_begin, is_of_end, HasCanonicalBegins, CanonicalBeginsAreQuiet, CanonicalLengthIsQuiet, value_end, filter-contains, greatest_from-ge, greatest_from-above, greatest_from-least, Header, Var, vars_with_begins, with_begins, header_spelling, slot_of, layout_of, GeneratedFilesAreQuiet, canonical_begin}
+use Rattle.nc_layout.specs.FileEnd.{padding_end}
 use Rattle.nc_layout.specs.code.Sweep as sweep
-use Rattle.nc_layout.proofs.BlockOrder.{filter-contains}
-use Rattle.nc_layout.proofs.SweptBlocks.{greatest_from-ge, greatest_from-above, greatest_from-least}
 use Rattle.nccheck_laws.proofs.FoundNone.{Quiet, all-quiet}
 use Rattle.nccheck_laws.proofs.IndexedSlots.{At, all-at, filtered-at, slab-le}
 use Rattle.nccheck_laws.proofs.LayoutBlocks.{each-block, all-place, before-le, place-reached, records_end-above, records_end-le}
 use Rattle.nccheck_laws.proofs.CanonicalBegins.{IsQuietSlot, IsQuietBlock}
 use Rattle.nccheck_laws.proofs.CanonicalEnds.{fixed-place, slab-place, records-place, fixed-ends, fixed-ends-all, used-le, padding-ge}
+use Rattle.nccheck_laws.proofs.GeneratedFiles.{begins-bare, begin-is, canonical-is}
 
 -- ---- what holds of a slot
 
@@ -166,3 +156,31 @@ end-none layout values padding used = grind (arith, nat_tests)
 
 pub length-quiet : CanonicalLengthIsQuiet
 length-quiet layout sound h len = grind (arith, used-le, padding-ge, padding-used, values-used, all-quiet, slot-end, end-none, block-end)
+
+-- ---- generated files
+
+-- these variables, which follow others, have the begins of a generated file
+begins-canonical : (h : Header) (file_len : ℕ) (before vars : List Var) → h.vars ≡ before ++ vars
+    → vars_with_begins h before vars ≡ vars → (j : ℕ)
+    → IfSome (slice_get (map (slot_of h.dims) vars) j) (λ (slot : Slot).
+    slot.begin ≡ canonical_begin (layout_of h (length (header_spelling h)) file_len) (length before + j) slot)
+begins-canonical h file_len before [] is same j = tt
+begins-canonical h file_len before (var ∷ vars) is same zero =
+    grind (arith, begin-is h (length (header_spelling h)) file_len before var vars is)
+begins-canonical h file_len before (var ∷ vars) is same (suc j) =
+    let more : vars_with_begins h (before ++ var ∷ []) vars ≡ vars = cc in
+    grind (
+      arith,
+      length-append before (var ∷ []),
+      begins-canonical h file_len (before ++ var ∷ []) vars (is ∙ sym (append_assoc before (var ∷ []) vars)) more j,
+    )
+
+generated-canonical : (h : Header) (file_len : ℕ) → with_begins h ≡ h
+    → HasCanonicalBegins (layout_of h (length (header_spelling h)) file_len)
+unfolding with_begins
+generated-canonical h file_len same i =
+    grind (arith, begins-canonical h file_len [] h.vars refl (ap (λ (x : Header). x.vars) same) i)
+
+pub generated-quiet : GeneratedFilesAreQuiet
+generated-quiet h arrays n file_len known are sound begins len =
+    grind (arith, generated-canonical, begins-bare, begins-quiet, length-quiet, canonical-is)

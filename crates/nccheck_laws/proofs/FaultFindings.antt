@@ -1,13 +1,8 @@
--- Findings that are faults lie at entries that the strict rules refuse, and there is one at the first of these.
-use Rattle.std.proofs.Common.{◌≡◌, ℕ, ◌==◌, ◌⊎◌, inl, inr, Bool, true, false, cond, List, [], ◌∷◌, ◌++◌, length, take, Option, Some, None, refl, sym, ◌∙◌, subst, arith}
-use Rattle.nccheck_laws.proofs.Prelude.{Contains, Contains-append_right, FormatFault, BadCount, FloatingType, Entry, Content, FieldName, Owner, name_steps, owner_steps, refusal_in, Fact, facts_with, Length, bytes_eq, Fault, is_floating_in}
-use Rattle.nc_base.specs.declared.fault.FormatFault.TheVariants.{NotNetcdf}
+-- Among the facts of an entry that the strict rules refuse is the fault with which they do, but for a floating type.
+use Rattle.std.proofs.Common.{◌≡◌, ℕ, ◌==◌, Bool, true, false, cond, List, [], ◌∷◌, ◌++◌, length, take, Option, Some, None, refl, sym, ◌∙◌, arith}
+use Rattle.nccheck_laws.proofs.Prelude.{Contains, FormatFault, BadCount, FloatingType, Entry, Content, FieldName, Owner, name_steps, owner_steps, refusal_in, Fact, facts_with, Length, bytes_eq, Fault, is_floating_in, NotNetcdf, hdf5_signature, Hdf5, Gzip, EmptyFile, gzip_signature, fault_fact, is_large_count, strict_fault}
 use Rattle.nc_fields.specs.declared.entry.Content.TheVariants as content
 use Rattle.nc_fields.specs.declared.place.FieldName.TheVariants as name
-use Rattle.nc_fields.specs.Entries.{hdf5_signature}
-use Rattle.nc_report.specs.declared.finding.Fact.TheVariants.{Hdf5, Gzip, EmptyFile}
-use Rattle.nc_report.specs.FieldRules.{gzip_signature, fault_fact, is_large_count}
-use Rattle.nccheck_laws.specs.FaultLaws.{strict_fault}
 use Rattle.nccheck_laws.proofs.Refusals.{refusal_of}
 
 -- ---- the facts of one entry
@@ -38,43 +33,10 @@ fault-fact P NotNetcdf (content.Bytes bs) hdf5 gzip empty is =
     by-tests false false false = is
 fault-fact P fault c hdf5 gzip empty is = is
 
--- one of these facts is such a one
-pub record HasFact (P : Fact → Type 0) (facts : List Fact) : Type 0 where
-  pub fact : Fact
-  pub has : Contains facts fact
-  pub is : P fact
-
-has-first : (P : Fact → Type 0) (fact : Fact) (facts : List Fact) → P fact → HasFact P (fact ∷ facts)
-has-first P fact facts is = record { fact = fact; has = contains-first fact facts; is = is }
-
--- the programs that read values stop with this fault
-abbrev pub IsFault : FormatFault → Fact → Type 0
-IsFault fault fact = strict_fault fact ≡ Some fault
-
--- this fault is one of its facts, or its type is floating
-abbrev pub ShowsFault : FieldName → ℕ → Content → Option FormatFault → FormatFault → Type 0
-ShowsFault place size c o fault = HasFact (IsFault fault) (facts_with o place size c) ⊎ ((is_floating_in place c ≡ true) × (fault ≡ FloatingType))
-
--- a field with a fault
-pub own-fact : (P : Fact → Type 0) (place : FieldName) (size : ℕ) (c : Content) (o : Option FormatFault) (fault : FormatFault) → o ≡ Some fault
-    → P (fault_fact fault c) → HasFact P (facts_with o place size c)
-own-fact P place size c o fault same is = subst (λ o. HasFact P (facts_with o place size c)) (sym same) (has-first P (fault_fact fault c) [] is)
-
 -- the fault of the first of these facts that is one
-abbrev fault_among : List Fact → Option FormatFault
+abbrev pub fault_among : List Fact → Option FormatFault
 fault_among [] = None
 fault_among (x ∷ xs) = elim (strict_fault x) [ Some fault ↦ Some fault | None ↦ fault_among xs ]
-
-has-among : (fault : FormatFault) (facts : List Fact) → fault_among facts ≡ Some fault → HasFact (IsFault fault) facts
-has-among fault [] is = absurd cc
-has-among fault (x ∷ xs) is = by-fault (strict_fault x) refl is (has-among fault xs)
-  where
-    by-fault : (o : Option FormatFault) → strict_fault x ≡ o
-        → (elim o as (λ o. Option FormatFault) [ Some fault ↦ Some fault | None ↦ fault_among xs ]) ≡ Some fault
-        → (fault_among xs ≡ Some fault → HasFact (IsFault fault) xs) → HasFact (IsFault fault) (x ∷ xs)
-    by-fault (Some own) e is more = has-first (IsFault fault) x xs (e ∙ is)
-    by-fault None e is more =
-        let h = more is in record { fact = h.fact; has = Contains-append_right (x ∷ []) xs h.fact h.has; is = h.is }
 
 own-fault : (fault : FormatFault) (c : Content) → fault_among (fault_fact fault c ∷ []) ≡ Some fault
 own-fault NotNetcdf c = fault-fact (λ x. fault_among (x ∷ []) ≡ Some NotNetcdf) NotNetcdf c refl refl refl refl
@@ -84,7 +46,7 @@ still-refused : (size : ℕ) (c : Content) (place : FieldName) (owner : Owner) (
     → refusal_in size c (name_steps place ++ owner_steps owner) (Some fault) ≡ Some fault
 still-refused size c place owner fault plain = grind arith
 
-facts-fault : (size : ℕ) (c : Content) (place : FieldName) (owner : Owner) (o : Option FormatFault) → is_floating_in place c ≡ false
+pub facts-fault : (size : ℕ) (c : Content) (place : FieldName) (owner : Owner) (o : Option FormatFault) → is_floating_in place c ≡ false
     → fault_among (facts_with o place size c) ≡ refusal_in size c (name_steps place ++ owner_steps owner) o
 facts-fault size c place owner (Some fault) plain = own-fault fault c ∙ sym (still-refused size c place owner fault plain)
 facts-fault size (content.Number n) name.NumRecs owner None plain = grind arith
@@ -97,9 +59,6 @@ facts-fault size (content.Bytes bs) name.NamePadding owner None plain = grind ar
 facts-fault size (content.Bytes bs) name.Padding owner None plain = grind arith
 facts-fault size c place owner None plain = refl
 
-pub refused-shown : (e : Entry) (fault : FormatFault) → refusal_of e ≡ Some fault → ShowsFault e.place.name e.size e.content e.fault fault
-refused-shown e fault refused = by-test (is_floating_in e.place.name e.content) refl
-  where
-    by-test : (b : Bool) → is_floating_in e.place.name e.content ≡ b → ShowsFault e.place.name e.size e.content e.fault fault
-    by-test true is = inr (is, grind arith)
-    by-test false is = inl (has-among fault _ (facts-fault e.size e.content e.place.name e.place.owner e.fault is ∙ refused))
+pub floating-fault : (e : Entry) (fault : FormatFault) → refusal_of e ≡ Some fault → is_floating_in e.place.name e.content ≡ true
+    → fault ≡ FloatingType
+floating-fault e fault refused is = grind arith

@@ -1,73 +1,87 @@
 -- The first fault of a report is that of the first entry that the strict rules refuse.
-use Rattle.std.proofs.Common.{◌-◌, min, ◌≡◌, ℕ, zero, suc, ◌+◌, ◌≤◌, ◌⊎◌, inl, inr, Bool, true, false, cond, List, [], ◌∷◌, ◌++◌, length, map, flat_map, find, Option, Some, None, is_some, refl, sym, ap, ◌∙◌, subst, arith, le_refl}
-use Rattle.nccheck_laws.proofs.Prelude.{common_steps, All, Contains, option_to_list, option_map, All-cons, Contains-append_right, FormatFault, FloatingType, Bytes, header_part, header_by, run, Entry, Listing, lenient, first_refusal, header_fields, Fact, Finding, Report, Indexed, field_at, indexed_from, indexed, finding, facts_of, findings_at, field_findings, floating_findings, header_findings, all_findings, IsReport, is_fault, All-contains, Contains-permutation, All-permutation, left_after, Fault, is_floating_in, is_floating, floating_finding}
-use Rattle.std.proofs.lemmas.List.Elements.{Contains-append_left, Contains-append_cases}
+use Rattle.std.proofs.Common.{◌-◌, min, ◌≡◌, ◌==◌, ◌&&◌, ℕ, ◌+◌, ◌≤◌, ◌⊎◌, inl, inr, Bool, true, false, List, [], ◌∷◌, ◌++◌, length, map, flat_map, Option, Some, None, refl, sym, ap, ◌∙◌, subst, arith, le_refl}
+use Rattle.nccheck_laws.proofs.Prelude.{nat_tests, list_any, list_any-append, list_any-IsPermutation, Contains, All-cons, Contains-append_right, FormatFault, FloatingType, Bytes, header_part, header_by, run, Entry, lenient, first_refusal, header_fields, Fact, Finding, Report, Indexed, field_at, indexed_from, indexed, finding, facts_of, findings_at, field_findings, floating_findings, header_findings, whole_findings, name_findings, attribute_findings, all_findings, IsReport, is_fault, All-contains, All-permutation, left_after, is_floating_in, floating_finding, is_eq, tied_itself, All-head, All-tail, Contains-append_cases, Any-from_list_any, strict_fault, HasNoFault, IsReadable, FindsFirst, FaultlessHeadersAreReadable, FirstFaultIsReaders}
+use Rattle.std.specs.List.{All}
+use Rattle.std.specs.Option.{option_to_list}
+use Rattle.nc_base.specs.contracts.fault.FormatFaultOrd.TheImpl as faults
+use Rattle.nc_base.specs.contracts.fault.FormatFaultOrd.TheImpl.Laws as fault_laws
 use Rattle.nc_base.proofs.PartPlaces.{stops-in}
 use Rattle.nccheck_laws.proofs.FieldOrder.{fields-descend}
 use Rattle.nccheck_laws.proofs.StrictHeaders.{strict-headers, unrefused-headers, strict-faults}
-use Rattle.nccheck_laws.specs.FaultLaws.{HasNoFault, IsReadable, FindsFirst, FaultlessHeadersAreReadable, FirstFaultIsReaders}
 use Rattle.nccheck_laws.proofs.Refusals.{refusal_of, FirstRefused, none-refused, first-refused}
-use Rattle.nccheck_laws.proofs.FaultFindings.{HasFact, IsFault, ShowsFault, quiet-type, refused-shown, contains-first}
+use Rattle.nccheck_laws.proofs.FaultFindings.{fault_among, facts-fault, floating-fault, quiet-type, contains-first}
 use Rattle.nccheck_laws.proofs.QuietRules.{FaultsLieAt, RefusedLiesAt, all-lie}
+use Rattle.nccheck_laws.proofs.SameFindings.{same-fault}
 
 -- ---- a finding at the first entry that is refused
 
--- such a fact is found at this offset
-pub record Finds (P : Fact → Type 0) (found : List Finding) (offset : ℕ) : Type 0 where
-  pub finding : Finding
-  pub has : Contains found finding
-  pub is : P finding.fact
-  pub at : finding.offset ≡ offset
+abbrev is_same : Option FormatFault → FormatFault → Bool
+is_same (Some a) b = is_eq (faults.ghosts.cmp a b)
+is_same None b = false
 
-pub finds-left : {P : Fact → Type 0} {offset : ℕ} (xs ys : List Finding) → Finds P xs offset → Finds P (xs ++ ys) offset
-finds-left xs ys f = record { finding = f.finding; has = Contains-append_left xs ys f.finding f.has; is = f.is; at = f.at }
+-- the finding is this fault, at this offset
+abbrev tells : FormatFault → ℕ → Finding → Bool
+tells fault offset f = is_same (strict_fault f.fact) fault && (f.offset == offset)
 
-pub finds-right : {P : Fact → Type 0} {offset : ℕ} (xs ys : List Finding) → Finds P ys offset → Finds P (xs ++ ys) offset
-finds-right xs ys f = record { finding = f.finding; has = Contains-append_right xs ys f.finding f.has; is = f.is; at = f.at }
+itself : (fault : FormatFault) → is_eq (faults.ghosts.cmp fault fault) ≡ true
+itself fault = ap is_eq (tied_itself fault_laws.total-law fault)
 
-finds-here : (P : Fact → Type 0) (i : Indexed) (fact : Fact) (others : List Finding) → P fact → Finds P (finding i fact ∷ others) i.entry.offset
-finds-here P i fact others is = record { finding = finding i fact; has = contains-first (finding i fact) others; is = is; at = refl }
+same-told : (o : Option FormatFault) (fault : FormatFault) → is_same o fault ≡ true → o ≡ Some fault
+same-told o fault is = grind (arith, same-fault)
 
-pub finds-map : (P : Fact → Type 0) (f : Indexed) (facts : List Fact) → HasFact P facts → Finds P (map (finding f) facts) f.entry.offset
-finds-map P f facts h = among facts h.has
-  where
-    among : (facts : List Fact) → Contains facts h.fact → Finds P (map (finding f) facts) f.entry.offset
-    among [] (k, lt, is) = absurd (omega arith)
-    among (fact ∷ facts) (zero, lt, is) = finds-here P f fact (map (finding f) facts) (subst P (sym is) h.is)
-    among (fact ∷ facts) (suc k, lt, is) = finds-right (finding f fact ∷ []) (map (finding f) facts) (among facts (k, omega arith, is))
+facts-tell : (fault : FormatFault) (i : Indexed) (facts : List Fact) → fault_among facts ≡ Some fault
+    → list_any (tells fault i.entry.offset) (map (finding i) facts) ≡ true
+facts-tell fault i [] is = absurd cc
+facts-tell fault i (x ∷ facts) is = grind (arith, nat_tests, itself fault, facts-tell fault i facts)
 
-finds-field : (P : Fact → Type 0) (i : ℕ) (front : List Entry) (e : Entry) (back : List Entry) → HasFact P (facts_of e)
-    → Finds P (flat_map findings_at (indexed_from i (front ++ e ∷ back))) e.offset
-finds-field P i [] e back has =
-    finds-left (findings_at (field_at i e)) (flat_map findings_at (indexed_from (i + 1) back))
-    (finds-map P (field_at i e) (facts_of e) has)
-finds-field P i (x ∷ front) e back has = grind (arith, finds-field P (i + 1) front e back has, finds-right)
+-- a test that some finding passes, or a later one
+pub first-told : (test : Finding → Bool) (xs ys : List Finding) → list_any test xs ≡ true → list_any test (xs ++ ys) ≡ true
+first-told test xs ys is = grind (arith, list_any-append)
 
--- the first floating type among these fields, the first of which passes the test or doesn't
-abbrev first_floating : Bool → Indexed → List Indexed → List Finding
-first_floating b f fs = option_to_list (option_map (λ f. finding f (Fault FloatingType)) (cond b (Some f) (find is_floating fs)))
+pub later-told : (test : Finding → Bool) (xs ys : List Finding) → list_any test ys ≡ true → list_any test (xs ++ ys) ≡ true
+later-told test xs ys is = grind (arith, list_any-append)
 
-finds-floating : (i : ℕ) (front : List Entry) (e : Entry) (back : List Entry) → ((x : Entry) → Contains front x → refusal_of x ≡ None)
+fields-tell : (fault : FormatFault) (i : ℕ) (front : List Entry) (e : Entry) (back : List Entry) → fault_among (facts_of e) ≡ Some fault
+    → list_any (tells fault e.offset) (flat_map findings_at (indexed_from i (front ++ e ∷ back))) ≡ true
+fields-tell fault i [] e back is =
+    first-told (tells fault e.offset) (findings_at (field_at i e)) (flat_map findings_at (indexed_from (i + 1) back))
+    (facts-tell fault (field_at i e) (facts_of e) is)
+fields-tell fault i (x ∷ front) e back is =
+    later-told (tells fault e.offset) (findings_at (field_at i x)) (flat_map findings_at (indexed_from (i + 1) (front ++ e ∷ back)))
+    (fields-tell fault (i + 1) front e back is)
+
+-- the first floating type
+floating-tells : (i : ℕ) (front : List Entry) (e : Entry) (back : List Entry) → All (λ (x : Entry). refusal_of x ≡ None) front
     → is_floating_in e.place.name e.content ≡ true
-    → Finds (IsFault FloatingType) (option_to_list (floating_finding (indexed_from i (front ++ e ∷ back)))) e.offset
-finds-floating i [] e back none is =
-    subst (λ b. Finds (IsFault FloatingType) (first_floating b (field_at i e) (indexed_from (i + 1) back)) e.offset) (sym is)
-    (finds-here (IsFault FloatingType) (field_at i e) (Fault FloatingType) [] refl)
-finds-floating i (x ∷ front) e back none is = grind (arith, finds-floating (i + 1) front e back (λ y has. none y (Contains-append_right (x ∷ []) front y has)) is, quiet-type, contains-first, Contains-append_right)
+    → list_any (tells FloatingType e.offset) (option_to_list (floating_finding (indexed_from i (front ++ e ∷ back)))) ≡ true
+floating-tells i [] e back none is = grind (arith, nat_tests, itself FloatingType)
+floating-tells i (x ∷ front) e back none is =
+    let first = quiet-type x (All-head (λ (x : Entry). refusal_of x ≡ None) x front none) in
+    grind (arith, floating-tells (i + 1) front e back (All-tail (λ (x : Entry). refusal_of x ≡ None) x front none) is)
 
--- of those at fields alone, or of the one at a floating type
-finds-shown : (len : ℕ) (es : List Entry) (fault : FormatFault) (rest : Bytes) (r : FirstRefused len es fault rest)
-    → ShowsFault r.entry.place.name r.entry.size r.entry.content r.entry.fault fault
-    → Finds (IsFault fault) (field_findings (indexed es) ++ floating_findings (indexed es)) r.entry.offset
-unfolding field_findings floating_findings
-finds-shown len es fault rest r (inl has) = grind (arith, finds-left, finds-field)
-finds-shown len es fault rest r (inr (is, same)) = grind (arith, finds-right, finds-floating, All-contains)
-
--- of all findings
-pub finds-among_all : {P : Fact → Type 0} (l : Listing) (offset : ℕ)
-    → Finds P (field_findings (indexed l.entries) ++ floating_findings (indexed l.entries)) offset → Finds P (all_findings l) offset
-unfolding all_findings header_findings
-finds-among_all l offset f = grind (arith, common_steps)
+entries-tell : (fault : FormatFault) (front : List Entry) (e : Entry) (back : List Entry)
+    → All (λ (x : Entry). refusal_of x ≡ None) front → refusal_of e ≡ Some fault
+    → list_any (tells fault e.offset) (header_findings (front ++ e ∷ back)) ≡ true
+unfolding header_findings field_findings floating_findings
+entries-tell fault front e back none refused =
+    let es = indexed (front ++ e ∷ back) in
+    let test = tells fault e.offset in
+    let alone = flat_map findings_at es in
+    let floating = option_to_list (floating_finding es) in
+    first-told test (alone ++ floating ++ name_findings es) (attribute_findings es)
+    (first-told test (alone ++ floating) (name_findings es) (by-test (is_floating_in e.place.name e.content) refl))
+  where
+    by-test : (b : Bool) → is_floating_in e.place.name e.content ≡ b
+        → list_any (tells fault e.offset)
+        (flat_map findings_at (indexed (front ++ e ∷ back)) ++ option_to_list (floating_finding (indexed (front ++ e ∷ back))))
+        ≡ true
+    by-test true is =
+        later-told (tells fault e.offset) (flat_map findings_at (indexed (front ++ e ∷ back))) _
+        (subst (λ fault. list_any (tells fault e.offset) (option_to_list (floating_finding (indexed (front ++ e ∷ back)))) ≡ true)
+        (sym (floating-fault e fault refused is)) (floating-tells 0 front e back none is))
+    by-test false is =
+        first-told (tells fault e.offset) (flat_map findings_at (indexed (front ++ e ∷ back))) _
+        (fields-tell fault 0 front e back (facts-fault e.size e.content e.place.name e.place.owner e.fault is ∙ refused))
 
 -- ---- no fault before it
 
@@ -94,25 +108,33 @@ refused-first bytes r fault rest report refused =
 end-of : (len end offset size left : ℕ) → end + left ≡ len → offset ≤ len → left ≡ len - offset - size → end ≡ min (offset + size) len
 end-of len end offset size left at within is = grind arith
 
+report-tells : (bytes : Bytes) (r : Report) (fault : FormatFault) (rest : Bytes) → IsReport bytes r
+    → (first : FirstRefused (length bytes) r.listing.entries fault rest) → list_any (tells fault first.entry.offset) r.findings ≡ true
+unfolding all_findings
+report-tells bytes r fault rest report first =
+    sym (list_any-IsPermutation (tells fault first.entry.offset) (all_findings r.listing) r.findings report.all)
+    ∙ first-told (tells fault first.entry.offset) (header_findings r.listing.entries) (whole_findings r.listing)
+    (rw first.is (entries-tell fault first.front first.entry first.back first.before first.refused))
+
 finds-first : (bytes : Bytes) (r : Report) (fault : FormatFault) (rest : Bytes) (end : ℕ) → IsReport bytes r
     → FirstRefused (length bytes) r.listing.entries fault rest → end + length rest ≡ length bytes → FindsFirst r fault end
 finds-first bytes r fault rest end report first at =
-    let entries = r.listing.entries in
     let low = λ (n : ℕ). first.entry.offset ≤ n in
-    let shown = finds-shown (length bytes) entries fault rest first (refused-shown first.entry fault first.refused) in
-    let found = finds-among_all r.listing first.entry.offset shown in
+    let found = Any-from_list_any (tells fault first.entry.offset) r.findings (report-tells bytes r fault rest report first) in
+    let is : is_same (strict_fault found.1.fact) fault ≡ true = grind arith in
+    let begins : found.1.offset ≡ first.entry.offset = grind (arith, nat_tests) in
     let ended = end-of (length bytes) end first.entry.offset first.entry.size (length rest) at first.ends.within first.ends.left in
     record {
-      found = found.finding;
-      in_report = Contains-permutation (all_findings r.listing) r.findings found.finding report.all found.has;
-      fact = found.is;
-      first = subst (λ n. All (λ (f : Finding). is_fault f.fact ≡ true → n ≤ f.offset) r.findings) (sym found.at)
+      found = found.1;
+      in_report = (found.0, found.2, found.3);
+      fact = same-told (strict_fault found.1.fact) fault is;
+      first = subst (λ n. All (λ (f : Finding). is_fault f.fact ≡ true → n ≤ f.offset) r.findings) (sym begins)
           (All-permutation (FaultsLieAt low) (all_findings r.listing) r.findings report.all
-          (all-lie low r.listing (after-first (length bytes) entries fault rest first)));
+          (all-lie low r.listing (after-first (length bytes) r.listing.entries fault rest first)));
       field = first.entry;
       in_listing = subst (λ (es : List Entry). Contains es first.entry) (sym first.is)
           (Contains-append_right first.front (first.entry ∷ first.back) first.entry (contains-first first.entry first.back));
-      begins = found.at;
+      begins = begins;
       ends = subst (λ n. end ≡ min (first.entry.offset + first.entry.size) n) (sym report.listing.file_len) ended;
     }
 
@@ -127,12 +149,10 @@ readable : (bytes : Bytes) (r : Report) → IsReport bytes r → HasNoFault r �
     → first_refusal (header_fields bytes) ≡ o → IsReadable bytes
 readable bytes r report none None is = unrefused-headers bytes is
 readable bytes r report none (Some (fault, rest)) is =
-    let refused = refused-first bytes r fault rest report is in
-    let shown = finds-shown (length bytes) r.listing.entries fault rest refused (refused-shown refused.entry fault refused.refused) in
-    let found = finds-among_all r.listing refused.entry.offset shown in
-    let has = Contains-permutation (all_findings r.listing) r.findings found.finding report.all found.has in
-    let quiet = All-contains (λ (f : Finding). is_fault f.fact ≡ false) r.findings found.finding none has in
-    absurd (let never : true ≡ false = sym (ap (λ (o : Option FormatFault). is_some o) found.is) ∙ quiet in cc)
+    let first = refused-first bytes r fault rest report is in
+    let found = Any-from_list_any (tells fault first.entry.offset) r.findings (report-tells bytes r fault rest report first) in
+    let quiet = All-contains (λ (f : Finding). is_fault f.fact ≡ false) r.findings found.1 none (found.0, found.2, found.3) in
+    absurd (grind (arith, same-told (strict_fault found.1.fact) fault))
 
 not-true : (b : Bool) → (b ≡ true → ⊥) → b ≡ false
 not-true v0 never = grind arith

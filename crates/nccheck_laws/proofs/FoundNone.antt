@@ -1,15 +1,9 @@
 -- What holds of each slot, of each block and at the end of the file if no finding is of a kind, and the converse.
 use Rattle.std.proofs.Common.{◌≡◌, ℕ, zero, suc, ◌+◌, Bool, false, List, [], ◌∷◌, ◌++◌, refl, subst, arith, inl, inr}
-use Rattle.nccheck_laws.proofs.Prelude.{list_any, Contains, list_any-append, Slot, Layout, LayoutFinding, each_slot, layout_findings, LayoutFact, FindsNone}
+use Rattle.nccheck_laws.proofs.Prelude.{list_any, Contains, list_any-append, Slot, Layout, LayoutFinding, each_slot, layout_findings, LayoutFact, FindsNone, Extent, blocks, slot_findings, block_findings, end_findings, contains-none, contains-here, contains-there, contains-cases}
 use Rattle.std.specs.Prelude.{flat_map}
-use Rattle.nc_layout.specs.declared.{blocks.Extent.Extent}
 use Rattle.nc_layout.specs.declared.finding.LayoutFact.TheVariants as facts
-use Rattle.nc_layout.specs.Blocks.{blocks}
 use Rattle.nc_layout.specs.NumRecsRules.{numrecs_findings}
-use Rattle.nc_layout.specs.SlotRules.{slot_findings}
-use Rattle.nc_layout.specs.BlockRules.{block_findings}
-use Rattle.nc_layout.specs.FileEnd.{end_findings}
-use Rattle.nc_layout.proofs.BlockOrder.{contains-none, contains-here, contains-there, contains-cases}
 use Rattle.nccheck_laws.proofs.IndexedSlots.{At}
 
 -- none of these findings is of the kind
@@ -19,16 +13,18 @@ Quiet kind findings = list_any (λ (finding : LayoutFinding). kind finding.fact)
 parts : (kind : LayoutFact → Bool) (a b c d : List LayoutFinding) → Quiet kind (a ++ b ++ c ++ d) → Quiet kind b × Quiet kind c × Quiet kind d
 parts kind a b c d h = (grind (arith, list_any-append), grind (arith, list_any-append), grind (arith, list_any-append))
 
-quiet-from : (kind : LayoutFact → Bool) (f : ℕ → Slot → List LayoutFinding) (i : ℕ) (slots : List Slot) (k m : ℕ) (x : Slot)
-    → Quiet kind (each_slot f i slots) → At slots k x → m ≡ i + k → Quiet kind (f m x)
-quiet-from kind f i [] k m x h at is = cc
-quiet-from kind f i (y ∷ ys) zero m x h at is = grind (arith, list_any-append)
-quiet-from kind f i (y ∷ ys) (suc k) m x h at is = grind (arith, quiet-from kind f (i + 1) ys k m x (grind (arith, list_any-append)) at (omega arith), list_any-append)
+pub quiet-from : {A : Type 0} (p : A → Bool) (f : ℕ → Slot → List A) (i : ℕ) (slots : List Slot) (k m : ℕ)
+    → list_any p (each_slot f i slots) ≡ false → (x : Slot) → At slots k x → m ≡ i + k → list_any p (f m x) ≡ false
+quiet-from p f i [] k m h x at is = absurd cc
+quiet-from p f i (y ∷ ys) zero m h x at is = grind (arith, list_any-append)
+quiet-from p f i (y ∷ ys) (suc k) m h x at is =
+    quiet-from p f (i + 1) ys k m (grind (arith, list_any-append)) x at (omega arith)
 
 pub quiet-slot : (kind : LayoutFact → Bool) (layout : Layout) (i : ℕ) (x : Slot) → FindsNone kind layout → At layout.slots i x
     → Quiet kind (slot_findings layout i x)
 unfolding layout_findings
-quiet-slot kind layout i x h at = grind (arith, quiet-from, parts)
+quiet-slot kind layout i x h at =
+    quiet-from _ (slot_findings layout) 0 layout.slots i i (parts kind (numrecs_findings layout) _ _ _ h).0 x at (omega arith)
 
 pub quiet-end : (kind : LayoutFact → Bool) (layout : Layout) → FindsNone kind layout → Quiet kind (end_findings layout)
 unfolding layout_findings
@@ -50,12 +46,12 @@ quiet-block kind layout b h has = grind (arith, quiet-flat, parts)
 
 -- ---- the converse
 
-each-quiet : (kind : LayoutFact → Bool) (f : ℕ → Slot → List LayoutFinding) (i : ℕ) (slots : List Slot)
-    → ((k m : ℕ) (x : Slot) → At slots k x → m ≡ i + k → Quiet kind (f m x)) → Quiet kind (each_slot f i slots)
-each-quiet kind f i [] each = refl
-each-quiet kind f i (y ∷ ys) each =
+pub each-quiet : {A : Type 0} (p : A → Bool) (f : ℕ → Slot → List A) (i : ℕ) (slots : List Slot)
+    → ((k m : ℕ) (x : Slot) → At slots k x → m ≡ i + k → list_any p (f m x) ≡ false) → list_any p (each_slot f i slots) ≡ false
+each-quiet p f i [] each = refl
+each-quiet p f i (y ∷ ys) each =
     let first = each 0 i y refl (omega arith) in
-    let others = each-quiet kind f (i + 1) ys (λ k m x at is. each (suc k) m x at (omega arith)) in grind (arith, list_any-append)
+    let others = each-quiet p f (i + 1) ys (λ k m x at is. each (suc k) m x at (omega arith)) in grind (arith, list_any-append)
 
 flat-quiet : (kind : LayoutFact → Bool) (f : Extent → List LayoutFinding) (bs : List Extent)
     → ((b : Extent) → Contains bs b → Quiet kind (f b)) → Quiet kind (flat_map f bs)
@@ -78,4 +74,7 @@ pub all-quiet : (kind : LayoutFact → Bool) (layout : Layout) → ((n : ℕ) �
     → Quiet kind (end_findings layout)
     → ((b : Extent) → Contains (blocks layout) b → Quiet kind (block_findings layout.header_end (blocks layout) b)) → FindsNone kind layout
 unfolding layout_findings
-all-quiet kind layout streamed unused slots end bs = grind (arith, all-of, numrecs-quiet, each-quiet, flat-quiet)
+all-quiet kind layout streamed unused slots end bs =
+    let each = each-quiet _ (slot_findings layout) 0 layout.slots (λ k m x at is.
+    let same : k ≡ m = omega arith in subst (λ n. Quiet kind (slot_findings layout n x)) same (slots k x at)) in
+    grind (arith, all-of, numrecs-quiet, flat-quiet)

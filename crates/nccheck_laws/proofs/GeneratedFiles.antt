@@ -1,27 +1,9 @@
 -- The begins and the length of a generated file are the canonical ones, whatever begins the header has.
 use Rattle.std.proofs.Common.{◌≡◌, ℕ, zero, suc, ◌+◌, ◌*◌, ◌<◌, ◌≤◌, List, [], ◌∷◌, ◌++◌, length, map, refl, sym, ◌∙◌, arith, append_assoc, length-append, Some, slice_get}
-use Rattle.std.specs.Prelude.{flat_map, zip}
-use Rattle.std.specs.List.{range_with_len}
-use Rattle.std.proofs.lemmas.Grind.{common_steps}
-use Rattle.std.proofs.lemmas.List.{map-append, length-map, take-append-le}
-use Rattle.std.proofs.Math.Seq.{take-length}
-use Rattle.nc_base.specs.declared.{dataset.Dataset.Dataset, header.Dim.Dim, header.Header.Header, header.Var.Var}
-use Rattle.nc_base.specs.declared.header.NumRecs.TheVariants.{Known}
-use Rattle.nc_base.specs.Bytes.{Bytes}
-use Rattle.nc_base.specs.GeneratedFile.{data_of, file_of, fixed_vars, known_records, record_part, slabs_before, vars_with_begins, with_begins}
+use Rattle.nccheck_laws.proofs.Prelude.{zip, range_with_len, common_steps, map-append, length-map, take-append-le, take-length, Dataset, Dim, Header, Var, Known, Bytes, data_of, file_of, fixed_vars, known_records, record_part, slabs_before, vars_with_begins, with_begins, header_spelling, AreArrays, bare, bare_var, padded_total, record_size_of, record_vars, header-len-bare, len-after, record_size_of-bare, records-bare, Slot, record_count, slot_of, layout_of, record_slots-total, CanonicalBeginsAreGenerated, QuietFilesAreGenerated, canonical_begin, canonical_len, HasCanonicalBegins}
+use Rattle.std.specs.Prelude.{flat_map}
 use Rattle.nc_base.specs.GeneratedFile.{is_sole_narrow as is_sole_narrow_var}
-use Rattle.nc_base.specs.Grammar.{header_spelling}
-use Rattle.nc_base.specs.Headers.{AreArrays, bare, bare_var}
-use Rattle.nc_base.specs.Sizes.{padded_total, record_size_of, record_vars}
-use Rattle.nc_base.proofs.FileHolds.{header-len-bare, len-after, record_size_of-bare, records-bare}
-use Rattle.nc_base.proofs.FilePlaces.{length-blocks, length-record, padded_total-append, record_size_of-slots}
-use Rattle.nc_base.proofs.FilePlaces.{slots as record_bytes}
-use Rattle.nc_layout.specs.declared.slot.Slot.{Slot}
-use Rattle.nc_layout.specs.Slots.{record_count}
-use Rattle.nc_layout.specs.HeaderLayout.{slot_of, layout_of}
-use Rattle.nc_layout.proofs.HeaderSlots.{record_slots-total}
-use Rattle.nccheck_laws.specs.HeaderLaws.{CanonicalBeginsAreGenerated, QuietFilesAreGenerated}
-use Rattle.nccheck_laws.specs.LayoutLaws.{canonical_begin, canonical_len, HasCanonicalBegins}
+use Rattle.nc_base.proofs.FilePlaces.{length-blocks, length-record, padded_total-append, record_size_of-slots, slots as record_bytes}
 use Rattle.nccheck_laws.proofs.CanonicalBegins.{quiet-begins}
 use Rattle.nccheck_laws.proofs.CanonicalEnds.{quiet-length}
 use Rattle.nccheck_laws.proofs.HeaderRecords.{fixed_slots-total, size-is}

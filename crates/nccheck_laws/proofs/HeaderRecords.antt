@@ -1,19 +1,9 @@
 -- The records of a header are those of its slots: their size, their begin and their number.
-use Rattle.std.proofs.lemmas.Grind.{common_steps}
 use Rattle.std.proofs.Common.{◌≡◌, ℕ, ◌-◌, ◌/◌, min, List, [], ◌∷◌, filter, map, fold, sum_by, refl, ap, arith}
-use Rattle.std.specs.Option.{option_map_or}
-use Rattle.std.proofs.lemmas.List.Sums.{sum-map}
-use Rattle.nc_base.specs.declared.{header.Dim.Dim, header.Header.Header, header.Var.Var}
-use Rattle.nc_base.specs.GeneratedFile.{fixed_vars}
-use Rattle.nc_base.specs.Sizes.{least_begin, padded_total, record_size_of, record_vars, records_between}
+use Rattle.nccheck_laws.proofs.Prelude.{common_steps, option_map_or, sum-map, Dim, Header, Var, fixed_vars, least_begin, padded_total, record_size_of, record_vars, records_between, Slot, is_fixed, is_sole_narrow, least, record_count, record_size, records_begin, records_by_length, slot_of, layout_of, slots-total, record_slots-are, fixed_bytes}
 use Rattle.nc_base.specs.Sizes.{record_count as header_record_count, record_size as header_record_size}
-use Rattle.nc_layout.specs.declared.{slot.Slot.Slot}
-use Rattle.nc_layout.specs.Slots.{is_fixed, is_sole_narrow, least, record_count, record_size, records_begin, records_by_length}
-use Rattle.nc_layout.specs.HeaderLayout.{slot_of, layout_of}
 use Rattle.nc_layout.specs.code.Records.{slab_if}
-use Rattle.nc_layout.proofs.HeaderSlots.{slots-total, record_slots-are}
 use Rattle.nc_layout.proofs.SlotLists.{record_size_is}
-use Rattle.nccheck_laws.specs.LayoutLaws.{fixed_bytes}
 use Rattle.nccheck_laws.proofs.LayoutBlocks.{min-from}
 
 -- ---- the bytes of the slots that aren't record slots

@@ -1,20 +1,6 @@
 -- The blocks of a layout: those of slots that aren't record slots, and that of the records.
 use Rattle.std.proofs.Common.{◌≡◌, ℕ, zero, suc, ◌+◌, ◌-◌, ◌*◌, ◌<◌, ◌≤◌, max, min, true, false, List, [], ◌∷◌, length, take, fold, refl, ap, arith, Some, unwrap_or, if◌then◌else◌}
-use Rattle.std.specs.List.{Contains}
-use Rattle.std.specs.Option.{option_map_or}
-use Rattle.std.proofs.lemmas.Bool.{cases_lt}
-use Rattle.std.proofs.lemmas.Bool.Decides.{nat_tests}
-use Rattle.std.proofs.lemmas.List.Elements.{Contains-append_left, Contains-append_right, Contains-append_cases}
-use Rattle.nc_layout.specs.declared.{slot.Slot.Slot, slot.Layout.Layout, blocks.Extent.Extent}
-use Rattle.nc_layout.specs.Slots.{padded_slab, is_fixed, record_slots, record_size, records_begin, record_count}
-use Rattle.nc_layout.specs.Blocks.{each_slot, slot_block, fixed_block, records_end, records_block, blocks, before, precedes}
-use Rattle.nc_layout.specs.BlockRules.{greatest_end}
-use Rattle.nc_layout.specs.SlotRules.{bytes_before}
-use Rattle.nc_layout.specs.code.PassedSlots.{is_record_slot}
-use Rattle.nc_layout.specs.code.Sweep.{padding_end}
-use Rattle.nc_layout.proofs.BlockOrder.{contains-here, contains-filter, filter-contains}
-use Rattle.nc_layout.proofs.SweptBlocks.{greatest_from-above, greatest_from-least}
-use Rattle.nccheck_laws.specs.LayoutLaws.{fixed_bytes}
+use Rattle.nccheck_laws.proofs.Prelude.{Contains, option_map_or, cases_lt, nat_tests, Contains-append_left, Contains-append_right, Contains-append_cases, Slot, Layout, Extent, padded_slab, is_fixed, record_slots, record_size, records_begin, record_count, each_slot, slot_block, fixed_block, records_end, records_block, blocks, before, precedes, greatest_end, bytes_before, is_record_slot, padding_end, contains-here, contains-filter, filter-contains, greatest_from-above, greatest_from-least, fixed_bytes}
 use Rattle.nccheck_laws.proofs.IndexedSlots.{At, contains-at, at-contains, there-from, in-each, total-whole, total-reach}
 
 -- ---- each of them

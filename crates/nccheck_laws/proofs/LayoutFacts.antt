@@ -1,46 +1,19 @@
--- What a report finds about the layout of a whole header, and the header whose layout it is.
-use Rattle.std.proofs.Common.{◌≡◌, ℕ, ◌+◌, Bool, false, List, [], ◌∷◌, length, map, Result, Ok, Err, refl, ap, ◌∙◌, subst, arith}
-use Rattle.std.specs.List.{list_any}
-use Rattle.std.proofs.lemmas.List.Folds.{list_any-append}
-use Rattle.std.proofs.lemmas.List.Sorted.{list_any-IsPermutation}
-use Rattle.nc_base.specs.declared.{fault.FormatFault.FormatFault, header.Dim.Dim, header.Header.Header, header.Var.Var}
-use Rattle.nc_base.specs.Bytes.{Bytes}
-use Rattle.nc_base.specs.Grammar.{SpellsHeader, header_by}
-use Rattle.nc_base.specs.code.PartRuns.{run}
-use Rattle.nc_base.proofs.PartOutcomes.{reads, stops}
-use Rattle.nc_fields.specs.declared.{header.Listing.Listing}
-use Rattle.nc_fields.specs.Lenient.{lenient}
-use Rattle.nc_fields.specs.Listings.{IsOutcome}
-use Rattle.nccheck_laws.specs.Agreement.{var_without_values, without_values}
+-- What a report finds about the layout is what is found in the layout of the header; so it finds that values are missing exactly if some
+-- variable of the header has a first missing value.
+use Rattle.std.proofs.Common.{◌≡◌, ℕ, ◌+◌, List, [], ◌∷◌, length, map, Result, Ok, Err, refl, ap, subst, arith, Bool, false, flat_map, Option, Some, None, sym, ◌∙◌}
+use Rattle.nccheck_laws.proofs.Prelude.{FormatFault, Dim, Header, Var, Bytes, SpellsHeader, header_by, run, reads, stops, Listing, lenient, IsOutcome, without_values, layout_of, slot_of, Report, indexed, layout_facts, whole_findings, IsReport, var_without_values, list_any, list_any-append, list_any-IsPermutation, option_map, FloatingType, name_findings, attribute_findings, strict, Entry, Content, FieldName, layout_findings, spelled-layout, Fact, Finding, Indexed, field_at, indexed_from, finding, facts_with, findings_at, field_findings, floating_findings, header_findings, vsize_findings, located, all_findings, has_any, finds, is_of_missing, is_missing, LayoutFact, LayoutFinding, ReportsTellMissingValues, is_of_layout}
 use Rattle.nccheck_laws.proofs.StrictHeaders.{strict-headers}
-use Rattle.nc_layout.specs.declared.{finding.LayoutFact.LayoutFact, finding.LayoutFinding.LayoutFinding}
-use Rattle.nc_layout.specs.Findings.{layout_findings}
-use Rattle.nccheck_laws.specs.LayoutLaws.{FindsNone}
-use Rattle.nc_layout.specs.HeaderLayout.{layout_of, slot_of}
-use Rattle.nc_report.specs.declared.{finding.Fact.Fact, finding.Finding.Finding, report.Report.Report}
+use Rattle.std.specs.Option.{option_to_list}
+use Rattle.nc_fields.specs.declared.entry.Content.TheVariants as content
 use Rattle.nc_report.specs.declared.finding.Fact.TheVariants as fact
-use Rattle.nc_report.specs.Indexed.{Indexed, indexed}
-use Rattle.nc_report.specs.WholeHeader.{located, layout_facts}
-unfoldable use Rattle.nc_report.specs.WholeHeader.{whole_findings}
-unfoldable use Rattle.nc_report.specs.Reports.{all_findings}
-use Rattle.nc_report.specs.Reports.{IsReport}
-use Rattle.nccheck_laws.specs.ReportLaws.{is_of_layout, has_any}
+use Rattle.nccheck_laws.proofs.FaultFindings.{fault-fact}
+use Rattle.nccheck_laws.proofs.MissingValues.{missing-found}
+use Rattle.nccheck_laws.proofs.QuietRules.{is_layout, is_odd, fewer, plain-names, plain-attributes, plain-vsizes}
 
--- ---- findings at their fields
-
--- a test of facts says of those about the layout what this test of them says
-abbrev pub Agree : (Fact → Bool) → (LayoutFact → Bool) → Type 0
-Agree test kind = (x : LayoutFact) → test (fact.Layout x) ≡ kind x
-
-pub all-located : (test : Fact → Bool) (kind : LayoutFact → Bool) → Agree test kind → (fs : List Indexed) (ls : List LayoutFinding)
-    → list_any (λ (f : Finding). test f.fact) (map (located fs) ls) ≡ list_any (λ (l : LayoutFinding). kind l.fact) ls
-all-located test kind agree fs [] = refl
-all-located test kind agree fs (l ∷ ls) = grind (arith, all-located test kind agree fs ls, agree l.fact)
-
--- ---- the header of the listing
+-- ---- the header of a listing
 
 -- what these bytes spell is what was read
-pub is-read : (bytes rest : Bytes) (o : Result Header FormatFault) (h : Header) (after : Bytes) → IsOutcome bytes rest o
+is-read : (bytes rest : Bytes) (o : Result Header FormatFault) (h : Header) (after : Bytes) → IsOutcome bytes rest o
     → run (header_by lenient) bytes ≡ Ok (h, after)
     → (o ≡ Ok h) × (rest ≡ after)
 is-read bytes rest (Ok x) h after told read = grind (arith, reads)
@@ -60,33 +33,105 @@ pub same-layout : (h : Header) (header_end file_len : ℕ)
     → layout_of (without_values h) header_end file_len ≡ layout_of h header_end file_len
 same-layout h header_end file_len = grind (arith, same-slots)
 
--- ---- reports without findings about the layout
-
-pub listing-finds-none : (kind : LayoutFact → Bool) (l : Listing) (h : Header) → l.header ≡ Ok h
-    → has_any (is_of_layout kind) (all_findings l) ≡ false → FindsNone kind (layout_of h l.end l.file_len)
-unfolding all_findings
-listing-finds-none kind l h same none =
-    let facts = all-located (is_of_layout kind) kind (λ x. refl) (indexed l.entries) (layout_findings (layout_of h l.end l.file_len)) in
-    grind (arith, list_any-append, whole-header l h same)
-
--- the header that is listed, and its layout
-pub read-layout : (bytes : Bytes) (r : Report) (h : Header) (rest : Bytes) (header_end : ℕ)
-    → IsReport bytes r → SpellsHeader bytes h rest → header_end + length rest ≡ length bytes
-    → (r.listing.header ≡ Ok (without_values h))
-    × (layout_of (without_values h) r.listing.end r.listing.file_len ≡ layout_of h header_end (length bytes))
-read-layout bytes r h rest header_end report spelled ends =
+-- the header that is listed, and where it ends
+pub read-header : (bytes : Bytes) (r : Report) (h : Header) (rest : Bytes) → IsReport bytes r → SpellsHeader bytes h rest
+    → (r.listing.header ≡ Ok (without_values h)) × (r.listing.end + length rest ≡ length bytes)
+read-header bytes r h rest report spelled =
     let l = r.listing in
     let read = is-read bytes report.listing.rest l.header (without_values h) rest report.listing.header
     (reads (header_by lenient) bytes (without_values h) rest (strict-headers bytes h rest spelled).0) in
-    let at = subst (λ rest. l.end + length rest ≡ length bytes) read.1 report.listing.end in
-    let same : l.end ≡ header_end = omega arith in
-    (read.0, grind (arith, report.listing.file_len, same-layout h l.end l.file_len))
+    (read.0, subst (λ rest. l.end + length rest ≡ length bytes) read.1 report.listing.end)
 
--- if a report has no finding of this kind about the layout, then the layout of the header that is read has none
-pub report-finds-none : (kind : LayoutFact → Bool) (bytes : Bytes) (r : Report) (h : Header) (rest : Bytes) (header_end : ℕ)
-    → IsReport bytes r → SpellsHeader bytes h rest → header_end + length rest ≡ length bytes
-    → has_any (is_of_layout kind) r.findings ≡ false → FindsNone kind (layout_of h header_end (length bytes))
-report-finds-none kind bytes r h rest header_end report spelled ends none =
-    let read = read-layout bytes r h rest header_end report spelled ends in
-    let found = list_any-IsPermutation (λ (f : Finding). is_of_layout kind f.fact) (all_findings r.listing) r.findings report.all ∙ none in
-    subst (FindsNone kind) read.1 (listing-finds-none kind r.listing (without_values h) read.0 found)
+-- ---- findings at fields
+
+other-facts : (f : Indexed) (o : Option FormatFault) (place : FieldName) (size : ℕ) (c : Content)
+    → has_any is_layout (map (finding f) (facts_with o place size c)) ≡ false
+other-facts f (Some fault) place size c = fault-fact (λ x. has_any is_layout (finding f x ∷ []) ≡ false) fault c refl refl refl refl
+other-facts f None place size (content.Number n) = grind arith
+other-facts f None place size (content.Bytes bs) = grind arith
+other-facts f None place size c = refl
+
+other-fields : (i : ℕ) (es : List Entry) → has_any is_layout (flat_map findings_at (indexed_from i es)) ≡ false
+other-fields i [] = refl
+other-fields i (e ∷ es) =
+    grind (arith, list_any-append, other-facts (field_at i e) e.fault e.place.name e.size e.content, other-fields (i + 1) es)
+
+not-layout : (x : Fact) → is_odd x ≡ false → is_layout x ≡ false
+not-layout x plain = grind arith
+
+no-layout : (fs : List Finding) → has_any is_odd fs ≡ false → has_any is_layout fs ≡ false
+no-layout fs plain = fewer is_odd is_layout not-layout fs plain
+
+other-floating : (o : Option Indexed) → has_any is_layout (option_to_list (option_map (λ f. finding f (fact.Fault FloatingType)) o)) ≡ false
+other-floating v0 = grind arith
+
+other-header : (es : List Entry) → has_any is_layout (header_findings es) ≡ false
+unfolding header_findings field_findings floating_findings
+other-header es =
+    let fs = indexed es in
+    let names = no-layout (name_findings fs) (plain-names fs) in
+    let attributes = no-layout (attribute_findings fs) (plain-attributes fs) in
+    grind (arith, list_any-append, other-fields 0 es, other-floating)
+
+-- ---- findings about the layout
+
+pub all-located : (test : Fact → Bool) (kind : LayoutFact → Bool) → ((x : LayoutFact) → test (fact.Layout x) ≡ kind x) → (fs : List Indexed)
+    (ls : List LayoutFinding)
+    → has_any test (map (located fs) ls) ≡ list_any (λ (l : LayoutFinding). kind l.fact) ls
+all-located test kind agree fs [] = refl
+all-located test kind agree fs (l ∷ ls) = grind (arith, all-located test kind agree fs ls, agree l.fact)
+
+-- the test is passed by facts about the layout of this kind
+pub record IsOfLayout (test : Fact → Bool) (kind : LayoutFact → Bool) : Type 0 where
+  pub agree : (x : LayoutFact) → test (fact.Layout x) ≡ kind x
+  pub other : (x : Fact) → is_layout x ≡ false → test x ≡ false
+
+other-layout : (kind : LayoutFact → Bool) (x : Fact) → is_layout x ≡ false → is_of_layout kind x ≡ false
+other-layout kind x other = grind arith
+
+other-missing : (x : Fact) → is_layout x ≡ false → is_missing x ≡ false
+other-missing x other = grind arith
+
+pub of-layout : (kind : LayoutFact → Bool) → IsOfLayout (is_of_layout kind) kind
+of-layout kind = record { agree = λ x. refl; other = other-layout kind }
+
+pub of-missing : IsOfLayout is_missing is_of_missing
+of-missing = record { agree = λ x. refl; other = other-missing }
+
+listing-tells : (test : Fact → Bool) (kind : LayoutFact → Bool) → IsOfLayout test kind → (l : Listing) (h : Header) → l.header ≡ Ok h
+    → has_any test (all_findings l) ≡ finds kind (layout_of h l.end l.file_len)
+unfolding all_findings
+listing-tells test kind of l h same =
+    let fs = indexed l.entries in
+    let layout = layout_of h l.end l.file_len in
+    let header = fewer is_layout test of.other (header_findings l.entries) (other-header l.entries) in
+    let sizes = vsize_findings layout fs in
+    let vsizes = fewer is_layout test of.other sizes (no-layout sizes (plain-vsizes layout fs)) in
+    let facts = all-located test kind of.agree fs (layout_findings layout) in
+    grind (arith, list_any-append, whole-header l h same)
+
+-- in a report of a header that is listed to its end
+pub report-tells : (test : Fact → Bool) (kind : LayoutFact → Bool) → IsOfLayout test kind → (bytes : Bytes) (r : Report) (h : Header)
+    → IsReport bytes r → r.listing.header ≡ Ok h → has_any test r.findings ≡ finds kind (layout_of h r.listing.end (length bytes))
+report-tells test kind of bytes r h report same =
+    sym (list_any-IsPermutation (λ (f : Finding). test f.fact) (all_findings r.listing) r.findings report.all)
+    ∙ listing-tells test kind of r.listing h same ∙ ap (λ n. finds kind (layout_of h r.listing.end n)) report.listing.file_len
+
+-- and of one that can be read
+pub read-tells : (test : Fact → Bool) (kind : LayoutFact → Bool) → IsOfLayout test kind → (bytes : Bytes) (r : Report) (h : Header)
+    (rest : Bytes) (header_end : ℕ) → IsReport bytes r → SpellsHeader bytes h rest → header_end + length rest ≡ length bytes
+    → has_any test r.findings ≡ finds kind (layout_of h header_end (length bytes))
+read-tells test kind of bytes r h rest header_end report spelled ends =
+    let read = read-header bytes r h rest report spelled in
+    let at = read.1 in
+    let same : r.listing.end ≡ header_end = omega arith in
+    report-tells test kind of bytes r (without_values h) report read.0
+    ∙ ap (finds kind) (same-layout h r.listing.end (length bytes) ∙ ap (λ n. layout_of h n (length bytes)) same)
+
+-- ---- the law
+
+pub missing-told : ReportsTellMissingValues
+missing-told bytes r h rest report spelled =
+    let ends = (read-header bytes r h rest report spelled).1 in
+    read-tells is_missing is_of_missing of-missing bytes r h rest r.listing.end report spelled ends
+    ∙ missing-found h bytes r.listing.end (spelled-layout strict bytes h rest r.listing.end spelled ends)

@@ -12,7 +12,6 @@ pub mod WholeVariables
 pub mod MissingValues
 pub mod TruncatedDumps
 pub mod CanonicalLayouts
-pub mod GeneratedLayouts
 pub mod Leaves
 pub mod Agreement
 pub mod OddNames
@@ -27,16 +26,12 @@ pub mod Refusals
 pub mod FaultFindings
 pub mod QuietRules
 pub mod FirstFaults
-pub mod QuietFields
+pub mod Spellings
 pub mod QuietHeaders
-pub mod CanonicalFindings
 pub mod LayoutFacts
 pub mod QuietFiles
-pub mod MissingFindings
 pub mod WholeFiles
 pub mod CleanLayouts
-pub mod CanonicalReports
-pub mod EntryPlaces
 pub mod FieldPlaces
 pub mod OneListing
 pub mod ListedValues

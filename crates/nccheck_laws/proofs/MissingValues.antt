@@ -1,26 +1,11 @@
 -- Values are found to be missing exactly if some variable has a first missing value.
 use Rattle.std.proofs.Common.{◌≡◌, ℕ, ◌≤◌, false, List, [], ◌∷◌, length, map, refl, ap, arith, Option, None, All}
-use Rattle.std.specs.List.{list_any}
-use Rattle.std.specs.Prelude.{is_some}
-use Rattle.std.proofs.lemmas.List.Elements.{All-cons, All-map, All-nil}
-use Rattle.std.proofs.lemmas.List.Folds.{list_any_none}
-use Rattle.nc_base.specs.declared.{header.Header.Header, header.Var.Var}
-use Rattle.nc_base.specs.Bytes.{Bytes}
-use Rattle.nc_base.specs.Places.{first_missing}
+use Rattle.nccheck_laws.proofs.Prelude.{list_any, is_some, All-cons, All-map, All-nil, list_any_none, Header, Var, Bytes, first_missing, Layout, block_findings, end_findings, values_end, IsSoundLayout, IsSoundSlot, MissingValuesAreFound, ShortFilesLackValues, finds, is_of_missing, lacks_values, layout_of, slot_of, slot_findings, nat_tests}
 use Rattle.nc_base.specs.Sizes.{record_count, record_size}
-use Rattle.nc_layout.specs.declared.{slot.Layout.Layout}
-use Rattle.nc_layout.specs.BlockRules.{block_findings}
-use Rattle.nc_layout.specs.FileEnd.{end_findings, values_end}
-use Rattle.nc_layout.specs.Findings.{IsSoundLayout, IsSoundSlot}
-use Rattle.nccheck_laws.specs.HeaderLaws.{MissingValuesAreFound, ShortFilesLackValues, finds, is_of_missing, lacks_values}
-use Rattle.nc_layout.specs.HeaderLayout.{layout_of, slot_of}
-use Rattle.nc_layout.specs.SlotRules.{slot_findings}
 pub use Rattle.nc_layout.proofs.HeaderSlots.{unmapped}
-use Rattle.nccheck_laws.proofs.WholeSlots.{quiet-values}
+use Rattle.nccheck_laws.proofs.WholeSlots.{quiet-values, IsWholeSlot, values-whole, whole-values}
 use Rattle.nccheck_laws.proofs.HeaderRecords.{count-is, size-is}
 use Rattle.nccheck_laws.proofs.FoundNone.{all-quiet, quiet-end}
-use Rattle.std.proofs.lemmas.Bool.Decides.{nat_tests}
-use Rattle.nccheck_laws.proofs.WholeSlots.{IsWholeSlot, values-whole, whole-values}
 use Rattle.nccheck_laws.proofs.WholeVariables.{whole-slot, whole-variable}
 
 -- ---- slots and variables
@@ -31,7 +16,7 @@ AreWhole h bytes =
     All (IsWholeSlot (length bytes) (record_size h) (record_count h (length bytes))) (map (slot_of h.dims) h.vars)
 
 -- no value of the variable is missing
-abbrev HasAll : Header → Bytes → Var → Type 0
+abbrev pub HasAll : Header → Bytes → Var → Type 0
 HasAll h bytes var = first_missing h bytes var (record_count h (length bytes)) ≡ None
 
 values-present : (h : Header) (bytes : Bytes) (header_end : ℕ) → IsSoundLayout (layout_of h header_end (length bytes))
@@ -53,14 +38,14 @@ all-present h bytes header_end sound within =
 
 -- ---- tests
 
-pub not-some : (o : Option ℕ) → is_some o ≡ false → o ≡ None
+not-some : (o : Option ℕ) → is_some o ≡ false → o ≡ None
 not-some o none = grind arith
 
-none-lack : (h : Header) (bytes : Bytes) (vars : List Var) → list_any (lacks_values h bytes) vars ≡ false → All (HasAll h bytes) vars
+pub none-lack : (h : Header) (bytes : Bytes) (vars : List Var) → list_any (lacks_values h bytes) vars ≡ false → All (HasAll h bytes) vars
 none-lack h bytes [] none = All-nil _
 none-lack h bytes (var ∷ vars) none = grind (arith, none-lack h bytes vars, All-cons, not-some)
 
-all-have : (h : Header) (bytes : Bytes) (vars : List Var) → All (HasAll h bytes) vars → list_any (lacks_values h bytes) vars ≡ false
+pub all-have : (h : Header) (bytes : Bytes) (vars : List Var) → All (HasAll h bytes) vars → list_any (lacks_values h bytes) vars ≡ false
 all-have h bytes vars all = list_any_none (lacks_values h bytes) vars (λ k d lt. ap is_some (all k d lt))
 
 pub short-lacks : ShortFilesLackValues

@@ -1,10 +1,6 @@
 -- A valid name may be a name by the lenient rules.
 use Rattle.std.proofs.Common.{◌≡◌, ℕ, ◌==◌, ◌&&◌, not, Bool, true, [], ◌∷◌, length, take_while, nat_lt, refl, arith}
-use Rattle.nccheck_laws.proofs.Prelude.{common_steps, Bytes, is_name, may_be_name}
-use Rattle.std.specs.List.{list_all}
-use Rattle.std.proofs.lemmas.List.Sums.{take_while-cons}
-use Rattle.nc_base.specs.Names.{may_begin_name, may_follow_in_name}
-use Rattle.nc_fields.specs.Lenient.{is_no_control}
+use Rattle.nccheck_laws.proofs.Prelude.{common_steps, Bytes, is_name, may_be_name, list_all, take_while-cons, may_begin_name, may_follow_in_name, is_no_control}
 
 abbrev is_printing : Bytes → Bool
 is_printing bs = list_all is_no_control bs

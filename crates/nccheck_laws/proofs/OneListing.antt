@@ -1,11 +1,23 @@
 -- Each list of bytes has one listing.
 use Rattle.std.proofs.Common.{◌≡◌, ℕ, ◌-◌, List, [], ◌∷◌, length, map, Option, Result, Ok, Err, refl, sym, ap, ap₂, ◌∙◌, arith}
-use Rattle.nccheck_laws.proofs.Prelude.{Header, FormatFault, Bytes, Step, header_by, Outcome, run, reads, stops, Content, Entry, Listing, Field, fields, Seen, seen_by, steps_of, seen, lenient, IsOutcome, with_rest, left_after, Tells, tells, shorter}
-use Rattle.nc_fields.specs.Listings.{IsListing}
-use Rattle.nccheck_laws.proofs.EntryPlaces.{entries-told}
+use Rattle.nccheck_laws.proofs.Prelude.{Header, FormatFault, Bytes, Step, header_by, Outcome, run, reads, stops, Content, Entry, Listing, Field, fields, Seen, seen_by, steps_of, seen, lenient, IsOutcome, with_rest, left_after, Tells, tells, shorter, IsListing}
 use Rattle.nccheck_laws.proofs.FieldPlaces.{ArePlaced, placed-header}
 
 -- ---- entries
+
+-- the steps to a field tell its place, so what the rules look at in a field tells its entry
+seen-told : (d e : Entry) → seen_by d ≡ seen_by e → d ≡ e
+seen-told d e is = grind arith
+
+-- entries in which the same is seen are the same
+entries-told : (ds es : List Entry) → map seen_by ds ≡ map seen_by es → ds ≡ es
+entries-told [] [] is = refl
+entries-told [] (e ∷ es) is = absurd cc
+entries-told (d ∷ ds) [] is = absurd cc
+entries-told (d ∷ ds) (e ∷ es) is =
+    let first : seen_by d ≡ seen_by e = cc in
+    let others : map seen_by ds ≡ map seen_by es = cc in
+    ap₂ (λ x xs. x ∷ xs) (seen-told d e first) (entries-told ds es others)
 
 -- what is seen in fields that have places
 entries-of : (file_len : ℕ) (fs : List Field) → ArePlaced fs → (es : List Entry) × (map seen_by es ≡ map (seen file_len) fs)

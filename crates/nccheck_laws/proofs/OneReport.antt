@@ -1,8 +1,6 @@
 -- Each list of bytes has one report.
 use Rattle.std.proofs.Common.{◌≡◌, List, sym, subst}
-use Rattle.nccheck_laws.proofs.Prelude.{Listing, Finding, Report, all_findings, IsPermutation-sym, IsPermutation-trans, finding_cmp}
-use Rattle.std.specs.Prelude.{IsPermutation}
-use Rattle.nc_report.proofs.OneOrder.{same-lists}
+use Rattle.nccheck_laws.proofs.Prelude.{Listing, Finding, Report, all_findings, IsPermutation-sym, IsPermutation-trans, finding_cmp, IsPermutation, same-lists}
 use Rattle.nc_report.proofs.Reported.{findings-total}
 use Rattle.nccheck_laws.specs.OneReport.{EachFileHasReport, ReportsAreOne}
 use Rattle.nccheck_laws.proofs.OneListing.{listing_of, one-listing}

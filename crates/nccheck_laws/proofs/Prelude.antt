@@ -1,64 +1,99 @@
 -- The names that several files of proofs cite from elsewhere, passed on from one place.
-pub use Rattle.nc_base.proofs.PartOutcomes.{reads, stops, Tells, tells}
-pub use Rattle.nc_base.specs.Bytes.{Bytes}
-pub use Rattle.nc_base.specs.GeneratedFile.{file_of}
-pub use Rattle.nc_base.specs.Grammar.{SpellsHeader, checked, dim_after, dimension_tag, dimid_after, header_part, strict, var_after, variable_tag, vsize_of, att_after, attribute_tag, count_part, first, is_within_limits}
+pub use Rattle.nc_base.proofs.FileHolds.{bare-after, file-holds, header-len-bare, len-after, record_size_of-bare, records-bare, sound-after}
+pub use Rattle.nc_base.proofs.PartOutcomes.{Tells, printed, reads, stops, tells}
+pub use Rattle.nc_base.proofs.Prelude.{be_bytes_4, be_bytes_8, mul-div_cancel}
+pub use Rattle.nc_base.proofs.Printable.{header-printable, one-total, total-append, wide-32}
+pub use Rattle.nc_base.proofs.SlabBytes.{fixed-whole, record-whole}
+pub use Rattle.nc_base.specs.Bytes.{AreBytes, Bytes}
+pub use Rattle.nc_base.specs.Datasets.{Fits, HoldsDataset}
+pub use Rattle.nc_base.specs.GeneratedFile.{begin_after, fixed_vars, known_records, record_part, slabs_before, vars_with_begins}
+unfoldable pub use Rattle.nc_base.specs.GeneratedFile.{data_of, file_of, with_begins}
+pub use Rattle.nc_base.specs.Grammar.{Rules, SpellsHeader, att_after, attribute_tag, checked, count_part, dim_after, dimension_tag, dimid_after, first, header_part, header_spelling, is_within_limits, strict, type_in, var_after, variable_tag, version_in, vsize_of}
 unfoldable pub use Rattle.nc_base.specs.Grammar.{att_list, att_part, counted, dim_list, dim_part, dimid_part, each, header_by, ignored, limited_part, list_head, list_part, magic_part, name_part, number, numrecs_part, offset_part, shape_part, type_part, var_list, var_part, version_part}
-pub use Rattle.nc_base.specs.Names.{is_name}
-pub use Rattle.nc_base.specs.Parts.{Atts, Count, Dims, Gatts, Item, Name, Padding, Part, Shape, Step, Tag, Vars, Vsize, bytes, chain, decoded, done, under, Length, Magic, TypeCode}
+pub use Rattle.nc_base.specs.Headers.{AreArrays, HasValidNames, IsGood, IsSoundVar, bare, bare_var}
+pub use Rattle.nc_base.specs.Names.{IsName, is_name, may_begin_name, may_follow_in_name}
+pub use Rattle.nc_base.specs.Parts.{Atts, Begin, Count, Dims, Gatts, Item, Length, Magic, Name, Padding, Part, Records, Shape, Step, Tag, Text, TypeCode, Values, Vars, VersionByte, Vsize, bytes, chain, decoded, done, under}
 unfoldable pub use Rattle.nc_base.specs.Parts.{Spells, print}
-pub use Rattle.nc_base.specs.Places.{first_missing}
-pub use Rattle.nc_base.specs.Sizes.{padded_size, padded_total, record_vars}
-pub use Rattle.nc_base.specs.Versions.{count_width, count_limit}
-pub use Rattle.nc_base.specs.code.PartRuns.{Outcome, and_then, with_rest}
-unfoldable pub use Rattle.nc_base.specs.code.PartRuns.{run, left_after}
-pub use Rattle.nc_base.specs.declared.{fault.FormatFault.FormatFault, header.Dim.Dim, header.Header.Header, header.Var.Var, version.Version.Version, header.Att.Att, nc_type.NcType.NcType}
-pub use Rattle.nc_base.specs.declared.fault.FormatFault.TheVariants.{BadCount, FloatingType, HeaderTruncated, TooLarge}
-pub use Rattle.nc_fields.proofs.Checks.{fault_in}
-pub use Rattle.nc_fields.specs.Entries.{Seen, name_steps, owner_steps, seen_by, steps_of, whole_content, cut_content}
+pub use Rattle.nc_base.specs.Places.{distance, ends_after, first_missing, slab_strides, stored_bytes, vectors_below}
+unfoldable pub use Rattle.nc_base.specs.Places.{value_offsets}
+pub use Rattle.nc_base.specs.Sizes.{has_record_dim, is_record_var, least_begin, padded_size, padded_total, product, record_size_of, record_vars, records_between, slab_lens, slab_size}
+pub use Rattle.nc_base.specs.Types.{code_of, size_of}
+pub use Rattle.nc_base.specs.Versions.{count_limit, count_width, offset_limit, offset_width, version_byte}
+pub use Rattle.nc_base.specs.code.PartRuns.{IsPrintable, Outcome, StopsWith, and_then, with_rest}
+unfoldable pub use Rattle.nc_base.specs.code.PartRuns.{left_after, run}
+pub use Rattle.nc_base.specs.declared.{dataset.Dataset.Dataset, fault.FormatFault.FormatFault, header.Att.Att, header.Dim.Dim, header.Header.Header, header.NumRecs.NumRecs, header.Var.Var, nc_type.NcType.NcType, version.Version.Version}
+pub use Rattle.nc_base.specs.declared.fault.FormatFault.TheVariants.{BadCount, BadName, BadTag, FloatingType, HeaderTruncated, NotNetcdf, TooLarge, TwoRecordDims}
+pub use Rattle.nc_base.specs.declared.header.NumRecs.TheVariants.{Known}
+pub use Rattle.nc_fields.proofs.Checks.{IsField, bytes-field, decoded-field, fault_in}
+pub use Rattle.nc_fields.specs.Entries.{Seen, cut_content, hdf5_signature, name_steps, owner_steps, seen_by, steps_of, whole_content}
 unfoldable pub use Rattle.nc_fields.specs.Entries.{seen}
 pub use Rattle.nc_fields.specs.Fields.{Field}
 unfoldable pub use Rattle.nc_fields.specs.Fields.{fields}
-pub use Rattle.nc_fields.specs.Lenient.{lenient, may_be_name}
-pub use Rattle.nc_fields.specs.Listings.{IsOutcome}
-pub use Rattle.nc_fields.specs.declared.{entry.Content.Content, entry.Entry.Entry, header.Listing.Listing, place.FieldName.FieldName, place.Owner.Owner}
+pub use Rattle.nc_fields.specs.Lenient.{any_length_limit, is_no_control, lenient, may_be_name}
+pub use Rattle.nc_fields.specs.Listings.{IsListing, IsOutcome}
+pub use Rattle.nc_fields.specs.declared.{entry.Content.Content, entry.Entry.Entry, header.Listing.Listing, place.FieldName.FieldName, place.Owner.Owner, place.Place.Place}
 pub use Rattle.nc_file.proofs.PartRuns.{shorter}
+pub use Rattle.nc_layout.proofs.BlockOrder.{contains-cases, contains-filter, contains-here, contains-none, contains-there, filter-contains}
+pub use Rattle.nc_layout.proofs.HeaderSlots.{record_slots-are, record_slots-total, slots-total}
 pub use Rattle.nc_layout.proofs.SpelledLayouts.{spelled-layout}
-pub use Rattle.nc_layout.specs.Blocks.{each_slot}
+pub use Rattle.nc_layout.proofs.SweptBlocks.{greatest_from-above, greatest_from-ge, greatest_from-least}
+pub use Rattle.nc_layout.specs.BlockRules.{greatest_end}
+unfoldable pub use Rattle.nc_layout.specs.BlockRules.{block_findings}
+pub use Rattle.nc_layout.specs.Blocks.{before, each_slot, fixed_block, has_values, precedes, records_block, records_end, slot_block}
+unfoldable pub use Rattle.nc_layout.specs.Blocks.{blocks}
+pub use Rattle.nc_layout.specs.FileEnd.{first_slab, is_cut, record_slab, slabs_of, used_end, values_end}
+unfoldable pub use Rattle.nc_layout.specs.FileEnd.{all_slabs, end_findings, first_cut_slab}
+pub use Rattle.nc_layout.specs.Findings.{IsSoundLayout, IsSoundSlot}
 unfoldable pub use Rattle.nc_layout.specs.Findings.{layout_findings}
 pub use Rattle.nc_layout.specs.HeaderLayout.{layout_of, slot_of}
-pub use Rattle.nc_layout.specs.Slots.{padded_slab}
-pub use Rattle.nc_layout.specs.declared.{finding.LayoutFinding.LayoutFinding, slot.Layout.Layout, slot.Slot.Slot, finding.LayoutFact.LayoutFact}
+pub use Rattle.nc_layout.specs.SlotRules.{bytes_before, greatest_begin}
+unfoldable pub use Rattle.nc_layout.specs.SlotRules.{slot_findings}
+pub use Rattle.nc_layout.specs.Slots.{is_fixed, is_sole_narrow, least, padded_slab, record_slots, slab_in_record}
+unfoldable pub use Rattle.nc_layout.specs.Slots.{record_count, record_size, records_begin, records_by_length}
+pub use Rattle.nc_layout.specs.code.PassedSlots.{is_record_slot}
+pub use Rattle.nc_layout.specs.code.Sweep.{padding_end, value_end}
+pub use Rattle.nc_layout.specs.declared.{blocks.Extent.Extent, file_end.SlabPlace.SlabPlace, finding.Block.Block, finding.LayoutFact.LayoutFact, finding.LayoutFinding.LayoutFinding, finding.Slab.Slab, slot.Layout.Layout, slot.Slot.Slot}
+pub use Rattle.nc_report.proofs.OneOrder.{UpTo, pairs-head, pairs-tail, same-lists}
 pub use Rattle.nc_report.specs.Ahead.{ahead_of, is_field, next_number, number_in}
-pub use Rattle.nc_report.specs.AttributeRules.{attribute_finding, finding_by_name, empty_list}
+pub use Rattle.nc_report.specs.AttributeRules.{attribute_finding, empty_list, finding_by_name, name_finding, type_finding}
 unfoldable pub use Rattle.nc_report.specs.AttributeRules.{attribute_findings}
-pub use Rattle.nc_report.specs.FieldRules.{facts_of, facts_with, findings_at, content_facts, floating_finding, has_nonzero, is_floating, is_floating_in}
+pub use Rattle.nc_report.specs.FieldRules.{content_facts, fact_if, facts_of, facts_with, fault_fact, findings_at, floating_finding, gzip_signature, has_nonzero, is_floating_in, is_large_count}
 unfoldable pub use Rattle.nc_report.specs.FieldRules.{field_findings, floating_findings}
 unfoldable pub use Rattle.nc_report.specs.HeaderRules.{header_findings}
-pub use Rattle.nc_report.specs.Indexed.{Indexed, each_before, field_at, finding, indexed, indexed_from, each_after}
-pub use Rattle.nc_report.specs.NameRules.{is_first, duplicate_name}
+pub use Rattle.nc_report.specs.Indexed.{Indexed, each_after, each_before, field_at, finding, indexed, indexed_from}
+pub use Rattle.nc_report.specs.NameRules.{duplicate_name, is_first}
 unfoldable pub use Rattle.nc_report.specs.NameRules.{name_findings}
 pub use Rattle.nc_report.specs.Reports.{IsReport, finding_cmp}
 unfoldable pub use Rattle.nc_report.specs.Reports.{all_findings}
 pub use Rattle.nc_report.specs.WholeHeader.{is_vsize, layout_facts, located, named, vsize_finding}
 unfoldable pub use Rattle.nc_report.specs.WholeHeader.{vsize_findings, whole_findings}
-pub use Rattle.nc_report.specs.declared.{finding.Fact.Fact, finding.Finding.Finding, report.Report.Report, ahead.Ahead.Ahead}
-pub use Rattle.nc_report.specs.declared.finding.Fact.TheVariants.{Fault}
-pub use Rattle.nccheck_laws.specs.Agreement.{first_refusal, header_fields, refusal_in, without_values}
-pub use Rattle.nccheck_laws.specs.FaultLaws.{is_fault, is_missing}
-pub use Rattle.nccheck_laws.specs.HeaderLaws.{finds, is_of_missing, lacks_values}
-pub use Rattle.nccheck_laws.specs.LayoutLaws.{FindsNone}
-pub use Rattle.nccheck_laws.specs.ReportLaws.{has_any, is_of_spelling}
-pub use Rattle.nccheck_laws.specs.Written.{AreWritten, IsWritten, IsWrittenVsize, bytes_of, number_of}
-pub use Rattle.std.proofs.lemmas.Bool.{ltb-false}
+pub use Rattle.nc_report.specs.declared.{ahead.Ahead.Ahead, finding.Fact.Fact, finding.Finding.Finding, kind.Severity.Severity, report.Report.Report}
+pub use Rattle.nc_report.specs.declared.finding.Fact.TheVariants.{EmptyFile, Fault, Gzip, Hdf5}
+pub use Rattle.nccheck_laws.specs.Agreement.{LenientHeadersAreStrict, SpellsLeniently, StrictFaultsAreFirstRefusals, StrictHeadersAreLenient, UnrefusedHeadersAreSpelled, att_without_values, first_refusal, header_fields, refusal, refusal_in, var_without_values, without_values}
+pub use Rattle.nccheck_laws.specs.FaultLaws.{FaultlessHeadersAreReadable, FindsFirst, FirstFaultIsReaders, HasNoFault, IsReadable, ReportsTellMissingValues, is_fault, is_missing, strict_fault}
+pub use Rattle.nccheck_laws.specs.HeaderLaws.{CanonicalBeginsAreGenerated, GeneratedFilesAreQuiet, MissingValuesAreFound, MissingValuesStopDumps, QuietFilesAreGenerated, ShortFilesLackValues, ShowsAllValues, finds, is_of_missing, is_truncated, lacks_values}
+pub use Rattle.nccheck_laws.specs.LayoutLaws.{AreApart, CanonicalBeginsAreQuiet, CanonicalLengthIsQuiet, FindsNone, HasCanonicalBegins, MissingValuesHaveSlab, QuietBeginsAreCanonical, QuietLengthIsCanonical, QuietSlabsAreApart, canonical_begin, canonical_len, fixed_bytes, is_of_begin, is_of_end, is_of_shared_bytes}
+pub use Rattle.nccheck_laws.specs.ReportLaws.{CanonicalSpellingsAreQuiet, FindsWholeFile, GeneratedFilesAreFoundWhole, GeneratedFilesHaveQuietLayouts, GeneratedFilesHaveQuietSpellings, HasQuietLayout, IsAsGenerated, QuietFilesAreCanonical, QuietHeadersAreCanonical, QuietSpellingsAreCanonical, WholeFilesHoldDatasets, has_any, is_of_layout, is_of_spelling}
+pub use Rattle.nccheck_laws.specs.Written.{AreWritten, CanonicalFieldsAreWritten, IsWritten, IsWrittenTag, IsWrittenVsize, WrittenFieldsAreCanonical, bytes_of, number_of}
+pub use Rattle.std.proofs.Math.Nat.{mul-le-mul_right}
+pub use Rattle.std.proofs.Math.Seq.{drop-append_seam, take-append_seam, take-length}
+pub use Rattle.std.proofs.lemmas.Bool.{cases_lt, false≢true, le-ltb, leb-false, leb-true, lt-ltb, ltb-false}
 pub use Rattle.std.proofs.lemmas.Bool.Decides.{nat_tests}
+pub use Rattle.std.proofs.lemmas.Cmp.{ranked, tied_itself, upto}
 pub use Rattle.std.proofs.lemmas.Grind.{common_steps}
-pub use Rattle.std.proofs.lemmas.List.Elements.{All-append, All-cons, All-nil, Contains-append_right, All-contains}
-pub use Rattle.std.proofs.lemmas.List.Folds.{list_any-append, list_any_none}
-pub use Rattle.std.proofs.lemmas.List.Sorted.{list_any-IsPermutation, All-permutation, Contains-permutation, IsPermutation-sym, IsPermutation-trans}
-pub use Rattle.std.specs.Int.{byte_len, w32, from_be_bytes, to_be_bytes}
-pub use Rattle.std.specs.List.{All, Contains, list_any}
-pub use Rattle.std.specs.Option.{option_map, option_to_list}
+pub use Rattle.std.proofs.lemmas.List.{length-drop, length-map, length-take, map-append, take-append-le}
+pub use Rattle.std.proofs.lemmas.List.Elements.{All-append, All-cons, All-contains, All-get_or, All-head, All-map, All-nil, All-tail, All-weaker, Contains-append_cases, Contains-append_left, Contains-append_right, Contains-get_or}
+pub use Rattle.std.proofs.lemmas.List.Folds.{Any-from_list_any, list_any-append, list_any_none}
+pub use Rattle.std.proofs.lemmas.List.FromFn.{get_or-map-range_with_len, length-map-range_with_len}
+pub use Rattle.std.proofs.lemmas.List.Kept.{AllPairs-cons}
+pub use Rattle.std.proofs.lemmas.List.Sorted.{All-permutation, IsPermutation-cons, IsPermutation-middle, IsPermutation-refl, IsPermutation-sym, IsPermutation-trans, list_any-IsPermutation}
+pub use Rattle.std.proofs.lemmas.List.Sums.{fails_before_first, sum-map, sum_by-cons, sum_by-le-sum_by, take_while-cons}
+pub use Rattle.std.proofs.lemmas.Option.{get_or_from_slice_get, slice_get-get_or, slice_get-map, slice_get_within}
+pub use Rattle.std.specs.Int.{Width, byte_len, from_be_bytes, to_be_bytes, w32, w64}
+pub use Rattle.std.specs.List.{AllPairs, Contains, concat, list_all, list_any, position, range_with_len}
+pub use Rattle.std.specs.Option.{option_cmp, option_map, option_map_or}
+pub use Rattle.std.specs.Ordering.{is_eq, is_gt, nat_cmp, ordering_reverse, ordering_then}
+pub use Rattle.std.specs.Prelude.{IsPermutation, is_some, zip}
 pub use Rattle.std.specs.Str.{bytes_eq}
 pub use Rattle.std.specs.declared.{cmp.Ordering.Ordering}
 pub use Rattle.std.specs.declared.cmp.Ordering.TheVariants.{Equal, Greater, Less}

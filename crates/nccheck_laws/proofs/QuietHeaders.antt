@@ -1,126 +1,192 @@
--- A header about whose spelling a report finds nothing is spelled as it is written.
-use Rattle.std.proofs.Common.{◌≡◌, ℕ, zero, suc, ◌+◌, List, [], ◌∷◌, ◌++◌, length, map, Option, Some, None, refl, sym, ap, ◌∙◌, subst, arith, slice_get, IfSome, option_to_list}
-use Rattle.nccheck_laws.proofs.Prelude.{list_any-IsPermutation, Dim, Var, Header, Version, padded_size, header_by, vsize_of, reads, Entry, FieldName, Owner, Listing, Field, lenient, Seen, seen_by, name_steps, owner_steps, seen, header_fields, without_values, number_of, IsWrittenVsize, Slot, each_slot, layout_of, Finding, Indexed, indexed_from, indexed, header_findings, is_vsize, named, vsize_finding, located, whole_findings, layout_findings, vsize_findings, all_findings, is_of_spelling, padded_slab, slot_of}
-use Rattle.nc_fields.specs.declared.entry.Content.TheVariants as content
+-- A report finds nothing about the spelling of a header exactly if it is spelled as it is written.
+use Rattle.std.proofs.Common.{◌≡◌, ◌↔◌, ℕ, zero, suc, ◌+◌, ◌||◌, Bool, true, false, List, [], ◌∷◌, ◌++◌, length, map, Option, Some, None, Ok, refl, sym, ap, ◌∙◌, subst, arith, slice_get, IfSome, option_to_list, if◌then◌else◌}
+use Rattle.nccheck_laws.proofs.Prelude.{nat_tests, common_steps, option_map, list_any_none, list_any-append, list_any-IsPermutation, Var, Header, Version, Bytes, SpellsHeader, Step, vsize_of, header_by, Entry, FieldName, Owner, Field, lenient, name_steps, owner_steps, whole_content, header_fields, without_values, number_of, IsWrittenVsize, Slot, layout_of, layout_findings, Finding, Indexed, indexed_from, indexed, is_vsize, named, vsize_finding, whole_findings, vsize_findings, all_findings, is_of_spelling, padded_slab, padded_size, slot_of, LayoutFinding, Listing, Report, IsReport, file_of, slice_get-map, with_begins, data_of, QuietSpellingsAreCanonical, CanonicalSpellingsAreQuiet, QuietHeadersAreCanonical, GeneratedFilesHaveQuietSpellings}
+use Rattle.nc_fields.specs.Entries.{number_of as content_number}
 use Rattle.nccheck_laws.proofs.StrictHeaders.{strict-headers}
 use Rattle.nccheck_laws.proofs.WrittenParts.{written-fields}
-use Rattle.nccheck_laws.proofs.Vsizes.{AreWhole, AreSizes, spelled-whole, is_vsize_at, vsizes, AreNumbered, header-numbered}
+use Rattle.nccheck_laws.proofs.Vsizes.{Counts, spelled-whole, is_vsize_at, AreNumbered, header-numbered}
+use Rattle.nccheck_laws.proofs.Spellings.{IsSized, AreSized, AreOf, none, more, are-of, any_odd, any_spelling, header-odd, are-written}
+use Rattle.nccheck_laws.proofs.CanonicalFields.{canonical-parts, header-canonical}
 use Rattle.nccheck_laws.proofs.FirstFaults.{faultless}
-use Rattle.nccheck_laws.proofs.LayoutFacts.{is-read, whole-header, same-layout}
-use Rattle.nccheck_laws.specs.ReportLaws.{QuietSpellingsAreCanonical, QuietHeadersAreCanonical}
-use Rattle.nccheck_laws.proofs.QuietFields.{AreOther, both-other, AreQuiet, quiet-entries, quiet-written, seen-content}
+use Rattle.nccheck_laws.proofs.FoundNone.{quiet-from, each-quiet}
+use Rattle.nccheck_laws.proofs.IndexedSlots.{At}
+use Rattle.nccheck_laws.proofs.LayoutFacts.{read-header, whole-header, same-layout, all-located}
+use Rattle.nccheck_laws.proofs.CleanLayouts.{read-as}
 
 -- ---- the sizes of variables among entries and fields
+
+abbrev sizes_of : List Field → List ℕ
+sizes_of [] = []
+sizes_of (f ∷ fs) = if is_vsize_at f.steps then number_of f ∷ sizes_of fs else sizes_of fs
 
 same-kind : (place : FieldName) (o : Owner) → is_vsize place ≡ is_vsize_at (name_steps place ++ owner_steps o)
 same-kind place o = grind arith
 
--- these entries that are sizes of variables, as they are seen
-pub named-seen : (len k : ℕ) (entries : List Entry) (fs : List Field) → map seen_by entries ≡ map (seen len) fs
-    → map (λ (f : Indexed). seen_by f.entry) (named is_vsize (indexed_from k entries)) ≡ map (seen len) (vsizes fs)
-unfolding seen
-named-seen len k [] [] same = refl
-named-seen len k [] (f ∷ fs) same = absurd cc
-named-seen len k (e ∷ es) [] same = absurd cc
-named-seen len k (e ∷ es) (f ∷ fs) same =
-    let first : seen_by e ≡ seen len f = cc in
-    let rest : map seen_by es ≡ map (seen len) fs = cc in
-    let kind : is_vsize e.place.name ≡ is_vsize_at f.steps =
-    same-kind e.place.name e.place.owner ∙ ap (λ (s : Seen). is_vsize_at s.steps) first in
-    grind (arith, named-seen len (k + 1) es fs rest)
-
--- one of these fields, among the entries
-pick : (len i : ℕ) (entries : List Indexed) (fs : List Field) (f : Field)
-    → map (λ (x : Indexed). seen_by x.entry) entries ≡ map (seen len) fs → slice_get fs i ≡ Some f
-    → (x : Indexed) × (slice_get entries i ≡ Some x) × (seen_by x.entry ≡ seen len f)
-pick len i [] [] f same there = absurd cc
-pick len i [] (g ∷ fs) f same there = absurd cc
-pick len i (x ∷ xs) [] f same there = absurd cc
-pick len zero (x ∷ xs) (g ∷ fs) f same there = grind arith
-pick len (suc i) (x ∷ xs) (g ∷ fs) f same there =
-    let more : map (λ (x : Indexed). seen_by x.entry) xs ≡ map (seen len) fs = cc in pick len i xs fs f more there
-
-pub whole-sizes : (fs : List Field) → AreWhole fs → AreWhole (vsizes fs)
-whole-sizes [] w = tt
-whole-sizes (f ∷ fs) w = grind (arith, whole-sizes fs w.1)
-
 -- a size of a variable is a number
-pub size-number : (len k i : ℕ) (fs : List Field) (f : Field) → AreWhole fs → AreNumbered k fs → slice_get fs i ≡ Some f
-    → (seen len f).content ≡ content.Number (number_of f)
-size-number len k i [] f w at there = absurd cc
-size-number len k zero (g ∷ fs) f w at there = grind (arith, seen-content)
-size-number len k (suc i) (g ∷ fs) f w at there = size-number len (k + 1) i fs f w.1 at.1 there
+size-number : (steps : List Step) (f : Field) → is_vsize_at steps ≡ true
+    → content_number (whole_content steps f.size f.start) ≡ number_of f
+size-number steps f is = grind arith
 
-pub from-zero : (i : ℕ) → 0 + i ≡ i
-from-zero i = omega arith
+abbrev entry_number : Indexed → ℕ
+entry_number g = content_number g.entry.content
 
-slots-other : (find : ℕ → Slot → List Finding) (dims : List Dim) (vars : List Var) (k m i : ℕ) (var : Var)
-    → AreOther (each_slot find k (map (slot_of dims) vars)) → slice_get vars i ≡ Some var → m ≡ k + i → AreOther (find m (slot_of dims var))
-slots-other find dims [] k m i var e there at = absurd cc
-slots-other find dims (x ∷ vars) k m zero var e there at = grind (arith, both-other)
-slots-other find dims (x ∷ vars) k m (suc i) var e there at =
-    let more = slots-other find dims vars (k + 1) m i var in grind (arith, both-other)
+named-sizes : (k : ℕ) {es : List Entry} {fs : List Field} → AreOf es fs
+    → map entry_number (named is_vsize (indexed_from k es)) ≡ sizes_of fs
+named-sizes k none = refl
+named-sizes k (more {e = e} {f = f} is rest) =
+    grind (arith, common_steps, same-kind e.place.name e.place.owner, is.steps, is.content, size-number f.steps f, named-sizes (k + 1) rest)
 
-found-size : (v : Version) (padded : ℕ) (o : Option Indexed) (f : Indexed) (n : ℕ) → o ≡ Some f → f.entry.content ≡ content.Number n
-    → AreOther (option_to_list (vsize_finding v padded o)) → n ≡ vsize_of v padded
-found-size v padded o f n is number other = grind arith
+-- ---- sizes that are as they are written
 
--- this size of a variable is as it is written, if nothing is found at it
-size-written : (h : Header) (end file_len len i : ℕ) (entries : List Indexed) (fs : List Field) (f : Field)
-    → map (λ (x : Indexed). seen_by x.entry) (named is_vsize entries) ≡ map (seen len) fs → AreWhole fs → AreNumbered 0 fs
-    → AreOther (vsize_findings (layout_of h end file_len) entries) → slice_get fs i ≡ Some f → IsWrittenVsize h i (number_of f)
-unfolding vsize_findings seen
-size-written h end file_len len i entries fs f same whole at other there = by-var (slice_get h.vars i) refl
+-- each of these sizes, the first of which is that of the variable at this index
+abbrev AreSizes : Header → ℕ → List ℕ → Type 0
+AreSizes h k [] = Unit {0}
+AreSizes h k (n ∷ ns) = IsWrittenVsize h k n × AreSizes h (k + 1) ns
+
+not-sized : (h : Header) (steps : List Step) (f : Field) → is_vsize_at steps ≡ false → IsSized h steps f
+not-sized h steps f is = grind arith
+
+sizes-sized : (h : Header) (k : ℕ) (fs : List Field) → AreNumbered k fs → AreSizes h k (sizes_of fs) ↔ AreSized h fs
+sizes-sized h k [] at = (λ are. tt, λ are. tt)
+sizes-sized h k (f ∷ fs) at = by-test (is_vsize_at f.steps) refl at (λ k at. sizes-sized h k fs at)
   where
-    by-var : (o : Option Var) → slice_get h.vars i ≡ o → IfSome o (λ (var : Var). number_of f ≡ vsize_of h.version (padded_size h.dims var))
-    by-var None is = tt
-    by-var (Some var) is =
-        let picked = pick len i (named is_vsize entries) fs f same there in
-        found-size h.version (padded_size h.dims var) (slice_get (named is_vsize entries) i) picked.0 (number_of f) picked.1
-        (ap (λ (s : Seen). s.content) picked.2 ∙ size-number len 0 i fs f whole at there)
-        (slots-other (λ i slot. option_to_list (vsize_finding h.version (padded_slab slot) (slice_get (named is_vsize entries) i)))
-        h.dims h.vars 0 i i var other is (sym (from-zero i)))
+    by-test : (b : Bool) → is_vsize_at f.steps ≡ b → Counts b k f.steps (λ k. AreNumbered k fs)
+        → ((k : ℕ) → AreNumbered k fs → AreSizes h k (sizes_of fs) ↔ AreSized h fs)
+        → AreSizes h k (if b then number_of f ∷ sizes_of fs else sizes_of fs) ↔ (IsSized h f.steps f × AreSized h fs)
+    by-test true is at go = (
+      λ are. (subst (λ steps. IsSized h steps f) (sym at.0) are.0, (go (k + 1) at.1).0 are.1),
+      λ are. (subst (λ steps. IsSized h steps f) at.0 are.0, (go (k + 1) at.1).1 are.1),
+    )
+    by-test false is at go = (λ are. (not-sized h f.steps f is, (go k at).0 are), λ are. (go k at).1 are.1)
 
-sizes-written : (h : Header) (end file_len len : ℕ) (entries : List Indexed) (fs : List Field)
-    → map (λ (x : Indexed). seen_by x.entry) (named is_vsize entries) ≡ map (seen len) fs → AreWhole fs → AreNumbered 0 fs
-    → AreOther (vsize_findings (layout_of h end file_len) entries) → AreSizes h 0 fs
-sizes-written h end file_len len entries fs same whole at other i = by-field (slice_get fs i) refl
+-- at any index
+AtEach : Header → ℕ → List ℕ → Type 0
+AtEach h k ns = (i m n : ℕ) → slice_get ns i ≡ Some n → m ≡ k + i → IsWrittenVsize h m n
+
+sizes-each : (h : Header) (k : ℕ) (ns : List ℕ) → AreSizes h k ns → AtEach h k ns
+unfolding AtEach
+sizes-each h k [] are i m n there at = absurd cc
+sizes-each h k (x ∷ ns) are zero m n there at =
+    let same : x ≡ n = cc in
+    let here : k ≡ m = omega arith in subst (λ i. IsWrittenVsize h i n) here (subst (IsWrittenVsize h k) same are.0)
+sizes-each h k (x ∷ ns) are (suc i) m n there at = sizes-each h (k + 1) ns are.1 i m n there (omega arith)
+
+each-sizes : (h : Header) (k : ℕ) (ns : List ℕ) → AtEach h k ns → AreSizes h k ns
+unfolding AtEach
+each-sizes h k [] each = tt
+each-sizes h k (x ∷ ns) each =
+    (each 0 k x refl (omega arith), each-sizes h (k + 1) ns (λ i m n there at. each (suc i) m n there (omega arith)))
+
+-- ---- what is found at them
+
+size-found : (v : Version) (padded : ℕ) (g : Indexed)
+    → any_spelling (option_to_list (vsize_finding v padded (Some g))) ≡ false ↔ (entry_number g ≡ vsize_of v padded)
+size-found v padded g = (λ quiet. grind (arith, nat_tests), λ is. grind (arith, nat_tests))
+
+-- what is found at the size of the variable of this slot
+abbrev found_at : Version → List Indexed → ℕ → Slot → List Finding
+found_at v gs i slot = option_to_list (vsize_finding v (padded_slab slot) (slice_get gs i))
+
+-- the variable of a slot, and the field of its size
+slot-size : (h : Header) (gs : List Indexed) (i : ℕ) (x : Slot) (o : Option Indexed) (p : Option Var) → slice_get h.vars i ≡ p
+    → At (map (slot_of h.dims) h.vars) i x
+    → any_spelling (option_to_list (vsize_finding h.version (padded_slab x) o)) ≡ false
+    ↔ ((n : ℕ) → option_map entry_number o ≡ Some n → IsWrittenVsize h i n)
+slot-size h gs i x None p is at = (λ quiet n there. absurd cc, λ each. refl)
+slot-size h gs i x (Some g) p is at =
+    let there = sym at ∙ slice_get-map (slot_of h.dims) h.vars i ∙ ap (option_map (slot_of h.dims)) is in by-var p is there
   where
-    by-field : (o : Option Field) → slice_get fs i ≡ o → IfSome o (λ (f : Field). IsWrittenVsize h (0 + i) (number_of f))
-    by-field None is = tt
-    by-field (Some f) is =
-        subst (λ j. IsWrittenVsize h j (number_of f)) (sym (from-zero i))
-        (size-written h end file_len len i entries fs f same whole at other is)
+    by-var : (p : Option Var) → slice_get h.vars i ≡ p → Some x ≡ option_map (slot_of h.dims) p
+        → any_spelling (option_to_list (vsize_finding h.version (padded_slab x) (Some g))) ≡ false
+        ↔ ((n : ℕ) → Some (entry_number g) ≡ Some n → IsWrittenVsize h i n)
+    by-var None is there = absurd cc
+    by-var (Some var) is there =
+        let slot : x ≡ slot_of h.dims var = cc in
+        rw (slot, is) (
+          λ quiet n same. let number : entry_number g ≡ n = cc in
+              subst (λ n. n ≡ vsize_of h.version (padded_size h.dims var)) number
+              ((size-found h.version (padded_size h.dims var) g).0 quiet),
+          λ each. (size-found h.version (padded_size h.dims var) g).1 (each (entry_number g) refl),
+        )
+
+sizes-found : (h : Header) (end file_len : ℕ) (gs : List Indexed) (ns : List ℕ) → map entry_number (named is_vsize gs) ≡ ns
+    → any_spelling (vsize_findings (layout_of h end file_len) gs) ≡ false ↔ AtEach h 0 ns
+unfolding vsize_findings AtEach
+sizes-found h end file_len gs ns same =
+    let fs = named is_vsize gs in
+    let slots = map (slot_of h.dims) h.vars in
+    let test = λ (f : Finding). is_of_spelling f.fact in
+    let number = λ (i : ℕ). sym (slice_get-map entry_number fs i) ∙ ap (λ (ns : List ℕ). slice_get ns i) same in (
+      λ quiet i m n there at.
+          let here : m ≡ i = omega arith in
+          rw here (written i (λ x in_slots. quiet-from test (found_at h.version fs) 0 slots i i quiet x in_slots (omega arith)) n (number i ∙ there)),
+      λ each. each-quiet test (found_at h.version fs) 0 slots (λ i m x in_slots at.
+          let here : m ≡ i = omega arith in
+          rw here ((slot-size h fs i x (slice_get fs i) (slice_get h.vars i) refl in_slots).1
+          (λ n is. each i i n (sym (number i) ∙ is) (omega arith)))),
+    )
+  where
+    -- of a variable without a slot nothing is said
+    written : (i : ℕ) → ((x : Slot) → At (map (slot_of h.dims) h.vars) i x → any_spelling (found_at h.version (named is_vsize gs) i x) ≡ false)
+        → (n : ℕ) → option_map entry_number (slice_get (named is_vsize gs) i) ≡ Some n → IsWrittenVsize h i n
+    written i quiet n is = by-var (slice_get h.vars i) refl
+      where
+        by-var : (p : Option Var) → slice_get h.vars i ≡ p → IfSome p (λ (var : Var). n ≡ vsize_of h.version (padded_size h.dims var))
+        by-var None there = tt
+        by-var (Some var) there =
+            let at = slice_get-map (slot_of h.dims) h.vars i ∙ ap (option_map (slot_of h.dims)) there in
+            subst (λ (p : Option Var). IfSome p (λ (var : Var). n ≡ vsize_of h.version (padded_size h.dims var))) there
+            ((slot-size h (named is_vsize gs) i (slot_of h.dims var) (slice_get (named is_vsize gs) i) (slice_get h.vars i) refl at).0
+            (quiet (slot_of h.dims var) at) n is)
 
 -- ---- the whole
 
-entries-quiet : (l : Listing) → AreOther (header_findings l.entries) → AreQuiet (map seen_by l.entries)
-unfolding header_findings
-entries-quiet l other = grind (arith, both-other, quiet-entries)
+whole-spelling : (l : Listing) (h : Header) → l.header ≡ Ok (without_values h)
+    → any_spelling (whole_findings l) ≡ any_spelling (vsize_findings (layout_of h l.end l.file_len) (indexed l.entries))
+whole-spelling l h read =
+    let gs = indexed l.entries in
+    let layout = layout_of h l.end l.file_len in
+    let at = all-located is_of_spelling (λ x. false) (λ x. refl) gs (layout_findings layout) in
+    let never = list_any_none (λ (l : LayoutFinding). false) (layout_findings layout) (λ k d lt. refl) in
+    grind (arith, list_any-append, whole-header l (without_values h) read, same-layout h l.end l.file_len)
 
-pub quiet-spellings : QuietSpellingsAreCanonical
+-- nothing is found about the spelling exactly if no field is odd and each size is as it is written
+spelling-quiet : (bytes : Bytes) (r : Report) (h : Header) (rest : Bytes) → IsReport bytes r → SpellsHeader bytes h rest
+    → any_spelling r.findings ≡ false ↔ ((any_odd (header_fields bytes) ≡ false) × AreSized h (header_fields bytes))
 unfolding all_findings
-quiet-spellings from r h rest are report s quiet =
+spelling-quiet bytes r h rest report s =
     let l = r.listing in
     let k = without_values h in
-    let fs = header_fields from in
-    let spelled = (strict-headers from h rest s).0 in
-    let whole = spelled-whole [] (header_by lenient) from k rest spelled in
-    let at = header-numbered lenient from k rest spelled in
-    let other = both-other (header_findings l.entries) (whole_findings l)
-    (list_any-IsPermutation (λ (f : Finding). is_of_spelling f.fact) (all_findings l) r.findings report.all ∙ quiet) in
-    let read = is-read from report.listing.rest l.header k rest report.listing.header (reads (header_by lenient) from k rest spelled) in
-    let facts = subst AreOther (whole-header l k read.0) other.1 in
-    let gs = indexed l.entries in
-    let layout = layout_of k l.end l.file_len in
-    let sizes = (both-other (vsize_findings layout gs) (map (located gs) (layout_findings layout)) facts).0 in
-    let same = named-seen (length from) 0 l.entries fs report.listing.entries in
-    written-fields from h rest are s
-    (quiet-written h (length from) 0 fs (subst AreQuiet report.listing.entries (entries-quiet l other.0)) whole at
-    (sizes-written h l.end l.file_len (length from) gs (vsizes fs) same (whole-sizes fs whole) at
-    (subst (λ layout. AreOther (vsize_findings layout gs)) (same-layout h l.end l.file_len) sizes)))
+    let fs = header_fields bytes in
+    let spelled = (strict-headers bytes h rest s).0 in
+    let are = are-of (length bytes) l.entries fs report.listing.entries (spelled-whole [] (header_by lenient) bytes k rest spelled) in
+    let sized = sizes-sized h 0 fs (header-numbered lenient bytes k rest spelled) in
+    let sizes = sizes-found h l.end l.file_len (indexed l.entries) (sizes_of fs) (named-sizes 0 are) in
+    let found : any_spelling r.findings
+    ≡ (any_odd fs || any_spelling (vsize_findings (layout_of h l.end l.file_len) (indexed l.entries))) =
+    sym (list_any-IsPermutation (λ (f : Finding). is_of_spelling f.fact) (all_findings l) r.findings report.all)
+    ∙ grind (arith, list_any-append, header-odd l.entries fs are, whole-spelling l h (read-header bytes r h rest report s).0) in (
+      λ quiet. (grind arith, sized.0 (each-sizes h 0 (sizes_of fs) (sizes.0 (grind arith)))),
+      λ both. let quiet = sizes.1 (sizes-each h 0 (sizes_of fs) (sized.1 both.1)) in grind (arith, both.0),
+    )
+
+pub quiet-spellings : QuietSpellingsAreCanonical
+quiet-spellings from r h rest are report s quiet =
+    let whole = spelled-whole [] (header_by lenient) from (without_values h) rest (strict-headers from h rest s).0 in
+    let shown = (spelling-quiet from r h rest report s).0 quiet in
+    written-fields from h rest are s (are-written h (header_fields from) whole shown.0 shown.1)
+
+pub canonical-quiet : CanonicalSpellingsAreQuiet
+canonical-quiet bytes r h rest report s is =
+    (spelling-quiet bytes r h rest report s).1 (canonical-parts h (header_fields bytes) (header-canonical bytes h rest s is))
 
 -- and a header without a fault is read
 pub quiet-headers : QuietHeadersAreCanonical
 quiet-headers from r are report sound quiet =
     let s = (faultless from r report).0 sound in (s.0, s.1, s.2, quiet-spellings from r s.0 s.1 are report s.2 quiet)
+
+-- so a report finds nothing about the spelling of a generated file
+pub generated-spellings : GeneratedFilesHaveQuietSpellings
+generated-spellings d r good fits report =
+    let s = read-as d good fits in
+    canonical-quiet (file_of d) r (with_begins d.header) (data_of d.header d.arrays) report s.spelled s.written

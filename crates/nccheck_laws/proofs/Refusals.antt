@@ -1,8 +1,7 @@
 -- The first entry of a listing that the strict rules refuse.
 use Rattle.std.proofs.Common.{le_trans, ◌≡◌, ℕ, ◌-◌, ◌≤◌, Bool, true, false, cond, nat_lt, List, [], ◌∷◌, ◌++◌, length, map, drop, Option, Some, None, refl, sym, ap, ◌∙◌, subst, arith}
-use Rattle.nccheck_laws.proofs.Prelude.{All, All-nil, All-cons, FormatFault, Bytes, Step, Entry, Field, seen, Seen, seen_by, steps_of, whole_content, refusal_in, first_refusal, Magic, cut_content}
-use Rattle.std.proofs.lemmas.List.{length-drop}
-use Rattle.nccheck_laws.specs.Agreement.{refusal}
+use Rattle.nccheck_laws.proofs.Prelude.{All-nil, All-cons, FormatFault, Bytes, Step, Entry, Field, seen, Seen, seen_by, steps_of, whole_content, refusal_in, first_refusal, Magic, cut_content, length-drop, refusal}
+use Rattle.std.specs.List.{All}
 use Rattle.nccheck_laws.proofs.Agreement.{first_of}
 use Rattle.nccheck_laws.proofs.FieldOrder.{Descend}
 

@@ -1,14 +1,7 @@
 -- The order of findings tells all of them apart.
-use Rattle.std.proofs.Common.{◌≡◌, ℕ, false, refl, sym, ap, Option, Some, None}
-use Rattle.nccheck_laws.proofs.Prelude.{FormatFault, Fact, Finding, Ordering, Less, Equal, Greater, LayoutFact, finding_cmp}
-use Rattle.std.specs.Option.{option_cmp}
-use Rattle.std.specs.Ordering.{is_eq, nat_cmp, ordering_then}
-use Rattle.std.proofs.lemmas.Cmp.{ranked}
+use Rattle.std.proofs.Common.{◌≡◌, ℕ, false, refl, sym, ap, Option, arith}
+use Rattle.nccheck_laws.proofs.Prelude.{FormatFault, Fact, Finding, Ordering, Less, Equal, Greater, LayoutFact, finding_cmp, option_cmp, is_eq, nat_cmp, ordering_then, ranked, Block, Slab}
 use Rattle.nc_base.specs.declared.fault.FormatFault.TheVariants as fault
-use Rattle.nc_layout.specs.declared.finding.Block.{Block}
-use Rattle.nc_layout.specs.declared.finding.Block.TheVariants as block
-use Rattle.nc_layout.specs.declared.finding.Slab.{Slab}
-use Rattle.nc_layout.specs.declared.finding.Slab.TheVariants as slab
 use Rattle.nc_layout.specs.declared.finding.LayoutFact.TheVariants as layout
 use Rattle.nc_report.specs.declared.finding.Fact.TheVariants as fact
 use Rattle.nc_base.specs.contracts.fault.FormatFaultOrd.TheImpl as faults
@@ -28,9 +21,7 @@ both Equal s e = (refl, e)
 both Greater s e = cc
 
 option : (o p : Option ℕ) → option_cmp nat_cmp o p ≡ Equal → o ≡ p
-option None None e = refl
-option (Some i) (Some k) e = ap Some (number i k e)
-option o p e = cc
+option v0 v1 e = grind (arith, number)
 
 -- what is told apart by an order isn't the same
 apart : {A : Type 0} (r : Ordering) → is_eq r ≡ false → r ≡ Equal → A
@@ -39,7 +30,7 @@ apart r told e = cc
 
 -- ---- facts
 
-same-fault : (a b : FormatFault) → faults.ghosts.cmp a b ≡ Equal → a ≡ b
+pub same-fault : (a b : FormatFault) → faults.ghosts.cmp a b ≡ Equal → a ≡ b
 same-fault fault.NotNetcdf fault.NotNetcdf e = refl
 same-fault (fault.UnknownVersion i) (fault.UnknownVersion k) e = ap fault.UnknownVersion (number i k e)
 same-fault fault.HeaderTruncated fault.HeaderTruncated e = refl
@@ -55,9 +46,7 @@ same-fault fault.TooLarge fault.TooLarge e = refl
 same-fault a b e = apart (faults.ghosts.cmp a b) refl e
 
 same-block : (a b : Block) → blocks.ghosts.cmp a b ≡ Equal → a ≡ b
-same-block (block.Var i) (block.Var k) e = ap block.Var (number i k e)
-same-block block.Records block.Records e = refl
-same-block a b e = apart (blocks.ghosts.cmp a b) refl e
+same-block v0 v1 e = grind (arith, number)
 
 -- a number, and what comes after it
 beside : {X : Type 0} (R : X → X → Ordering) → ((x y : X) → R x y ≡ Equal → x ≡ y) → (i k : ℕ) (x y : X)
@@ -73,9 +62,7 @@ beside-both R sure i k m n x y e =
     (number i k parts.0, more.0, more.1)
 
 same-slab : (a b : Slab) → slabs.ghosts.cmp a b ≡ Equal → a ≡ b
-same-slab (slab.Var i) (slab.Var k) e = ap slab.Var (number i k e)
-same-slab (slab.Record i m) (slab.Record k n) e = let parts = beside nat_cmp number i k m n e in cc
-same-slab a b e = apart (slabs.ghosts.cmp a b) refl e
+same-slab v0 v1 e = grind (arith, both, number)
 
 same-layout : (a b : LayoutFact) → layouts.ghosts.cmp a b ≡ Equal → a ≡ b
 same-layout (layout.Streaming i) (layout.Streaming k) e = ap layout.Streaming (number i k e)

@@ -1,23 +1,6 @@
 -- If none of the findings lets slabs share bytes, no two slabs have a byte in common.
 use Rattle.std.proofs.Common.{◌≡◌, ℕ, suc, ◌+◌, ◌-◌, ◌*◌, ◌<◌, ◌≤◌, true, List, [], ◌∷◌, ◌++◌, get_or, arith, refl}
-use Rattle.std.specs.List.{Contains, AllPairs}
-use Rattle.std.proofs.lemmas.Bool.{cases_lt}
-use Rattle.std.proofs.lemmas.Bool.Decides.{nat_tests}
-use Rattle.std.proofs.lemmas.List.Elements.{All-append, Contains-get_or}
-use Rattle.std.proofs.lemmas.List.FromFn.{get_or-map-range_with_len, length-map-range_with_len}
-use Rattle.std.proofs.lemmas.List.Kept.{AllPairs-cons}
-use Rattle.std.proofs.Math.Nat.{mul-le-mul_right}
-use Rattle.nc_layout.specs.declared.{slot.Slot.Slot, slot.Layout.Layout, blocks.Extent.Extent, file_end.SlabPlace.SlabPlace}
-use Rattle.nc_layout.specs.Slots.{padded_slab, is_fixed, record_size, record_count}
-use Rattle.nc_layout.specs.Blocks.{each_slot, blocks, before, precedes}
-use Rattle.nc_layout.specs.SlotRules.{slot_findings, bytes_before}
-use Rattle.nc_layout.specs.BlockRules.{block_findings}
-use Rattle.nc_layout.specs.FileEnd.{record_slab, slabs_of, all_slabs}
-use Rattle.nccheck_laws.specs.LayoutLaws.{is_of_shared_bytes, FindsNone, AreApart, QuietSlabsAreApart}
-use Rattle.nc_layout.specs.code.PassedSlots.{is_record_slot}
-use Rattle.nc_layout.specs.code.Sweep.{value_end}
-use Rattle.nc_layout.proofs.BlockOrder.{contains-here, contains-there, contains-filter}
-use Rattle.nc_layout.proofs.SweptBlocks.{greatest_from-above}
+use Rattle.nccheck_laws.proofs.Prelude.{Contains, AllPairs, cases_lt, nat_tests, All-append, Contains-get_or, get_or-map-range_with_len, length-map-range_with_len, AllPairs-cons, mul-le-mul_right, Slot, Layout, Extent, SlabPlace, padded_slab, is_fixed, record_size, record_count, each_slot, blocks, before, precedes, slot_findings, bytes_before, block_findings, record_slab, slabs_of, all_slabs, is_of_shared_bytes, FindsNone, AreApart, QuietSlabsAreApart, is_record_slot, value_end, contains-here, contains-there, contains-filter, greatest_from-above}
 use Rattle.nccheck_laws.proofs.FoundNone.{quiet-slot, quiet-block}
 use Rattle.nccheck_laws.proofs.IndexedSlots.{At, in-from, in-each, total-below, slab-fits, slab-le}
 use Rattle.nccheck_laws.proofs.LayoutBlocks.{fixed-there, records-there, records_end-above, first_begin, begins}

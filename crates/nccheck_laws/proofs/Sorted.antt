@@ -1,15 +1,7 @@
 -- Each list has a permutation in a total order.
 use Rattle.std.proofs.Common.{◌≡◌, Bool, true, false, cond, List, [], ◌∷◌, refl, ap, arith}
-use Rattle.nccheck_laws.proofs.Prelude.{All-nil, All-cons, Ordering, Less, Equal, Greater, IsPermutation-sym, IsPermutation-trans, All-permutation}
-use Rattle.std.specs.Prelude.{IsPermutation}
-use Rattle.std.specs.List.{AllPairs}
+use Rattle.nccheck_laws.proofs.Prelude.{All-nil, All-cons, Ordering, Less, Equal, Greater, IsPermutation-sym, IsPermutation-trans, All-permutation, IsPermutation, AllPairs, is_gt, ordering_reverse, upto, All-weaker, AllPairs-cons, IsPermutation-refl, IsPermutation-cons, IsPermutation-middle, UpTo, pairs-head, pairs-tail}
 use Rattle.std.specs.Cmp.{IsTotalOrder}
-use Rattle.std.specs.Ordering.{is_gt, ordering_reverse}
-use Rattle.std.proofs.lemmas.Cmp.{upto}
-use Rattle.std.proofs.lemmas.List.Elements.{All-weaker}
-use Rattle.std.proofs.lemmas.List.Kept.{AllPairs-cons}
-use Rattle.std.proofs.lemmas.List.Sorted.{IsPermutation-refl, IsPermutation-cons, IsPermutation-middle}
-use Rattle.nc_report.proofs.OneOrder.{UpTo, pairs-head, pairs-tail}
 
 module _ {X : Type 0} (R : X → X → Ordering) (order : IsTotalOrder R) where
   -- the element, before the first one that it isn't after

@@ -1,20 +1,8 @@
 -- The slots whose slabs are all whole in the file, the end of the values, and the first slab that isn't whole.
 use Rattle.std.proofs.Common.{◌≡◌, ℕ, ◌+◌, ◌-◌, ◌*◌, ◌<◌, ◌≤◌, Bool, true, false, not, List, [], ◌∷◌, filter, ap, arith, All, Some, None, slice_get}
-use Rattle.std.specs.List.{Contains}
-use Rattle.std.proofs.lemmas.Bool.{lt-ltb}
-use Rattle.std.proofs.lemmas.Bool.Decides.{nat_tests}
-use Rattle.std.proofs.lemmas.List.FromFn.{get_or-map-range_with_len, length-map-range_with_len}
-use Rattle.std.proofs.Math.Nat.{mul-le-mul_right}
-use Rattle.nc_layout.specs.declared.{slot.Slot.Slot, slot.Layout.Layout, blocks.Extent.Extent, finding.LayoutFact.LayoutFact, finding.Slab.Slab, file_end.SlabPlace.SlabPlace}
+use Rattle.nccheck_laws.proofs.Prelude.{Contains, lt-ltb, nat_tests, get_or-map-range_with_len, length-map-range_with_len, mul-le-mul_right, Slot, Layout, Extent, LayoutFact, Slab, SlabPlace, is_fixed, record_size, record_count, slot_block, records_block, blocks, has_values, values_end, first_slab, is_cut, record_slab, slabs_of, all_slabs, first_cut_slab, end_findings, IsSoundSlot, IsSoundLayout, contains-here, contains-none, contains-cases, contains-filter, filter-contains, greatest_from-above, greatest_from-least, MissingValuesHaveSlab}
 use Rattle.nc_layout.specs.declared.finding.Slab.TheVariants as slabs
 use Rattle.nc_layout.specs.declared.finding.LayoutFact.TheVariants as facts
-use Rattle.nc_layout.specs.Slots.{is_fixed, record_size, record_count}
-use Rattle.nc_layout.specs.Blocks.{slot_block, records_block, blocks, has_values}
-use Rattle.nc_layout.specs.FileEnd.{values_end, first_slab, is_cut, record_slab, slabs_of, all_slabs, first_cut_slab, end_findings}
-use Rattle.nc_layout.specs.Findings.{IsSoundSlot, IsSoundLayout}
-use Rattle.nc_layout.proofs.BlockOrder.{contains-here, contains-none, contains-cases, contains-filter, filter-contains}
-use Rattle.nc_layout.proofs.SweptBlocks.{greatest_from-above, greatest_from-least}
-use Rattle.nccheck_laws.specs.LayoutLaws.{MissingValuesHaveSlab}
 use Rattle.nccheck_laws.proofs.FoundNone.{Quiet}
 use Rattle.nccheck_laws.proofs.IndexedSlots.{all-at, at-all, there-from}
 use Rattle.nccheck_laws.proofs.LayoutBlocks.{each-block, fixed-there, records-there, records_end-above, records_end-le, first_begin, begins}

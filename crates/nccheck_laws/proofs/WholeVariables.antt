@@ -1,17 +1,8 @@
 -- The slabs of a variable are whole in a file if none of its values is missing, and the other way around.
 use Rattle.std.proofs.Common.{◌≡◌, ℕ, zero, suc, ◌+◌, ◌*◌, ◌<◌, ◌≤◌, Bool, true, false, List, [], ◌∷◌, ◌++◌, length, map, refl, arith, None, All, if◌then◌else◌}
+use Rattle.nccheck_laws.proofs.Prelude.{position, range_with_len, map-append, All-cons, All-head, All-nil, All-tail, fails_before_first, Header, Var, Bytes, distance, ends_after, first_missing, slab_strides, value_offsets, vectors_below, is_record_var, product, slab_lens, slab_size, size_of, fixed-whole, record-whole, slot_of}
 use Rattle.std.specs.Prelude.{flat_map}
-use Rattle.std.specs.List.{position, range_with_len}
-use Rattle.std.proofs.lemmas.List.{map-append}
-use Rattle.std.proofs.lemmas.List.Elements.{All-cons, All-head, All-nil, All-tail}
-use Rattle.std.proofs.lemmas.List.Sums.{fails_before_first}
-use Rattle.nc_base.specs.declared.{header.Header.Header, header.Var.Var}
-use Rattle.nc_base.specs.Bytes.{Bytes}
-use Rattle.nc_base.specs.Places.{distance, ends_after, first_missing, slab_strides, value_offsets, vectors_below}
-use Rattle.nc_base.specs.Sizes.{is_record_var, product, record_size, slab_lens, slab_size}
-use Rattle.nc_base.specs.Types.{size_of}
-use Rattle.nc_base.proofs.SlabBytes.{fixed-whole, record-whole}
-use Rattle.nc_layout.specs.HeaderLayout.{slot_of}
+use Rattle.nc_base.specs.Sizes.{record_size}
 use Rattle.nccheck_laws.proofs.WholeSlots.{IsWholeSlot}
 
 -- ---- lists

@@ -1,11 +1,6 @@
 -- Parts whose fields are as they are written: the bytes are what is written of the value.
 use Rattle.std.proofs.Common.{◌≡◌, ℕ, suc, zero, List, [], ◌∷◌, ◌++◌, length, take, Option, Some, None, Result, Ok, refl, sym, ap, ◌∙◌, subst, arith, append_assoc}
-use Rattle.nccheck_laws.proofs.Prelude.{common_steps, w32, byte_len, Header, Version, FormatFault, Bytes, Step, Part, done, bytes, decoded, under, chain, Spells, Padding, count_width, number, ignored, reads, Field, fields, IsWritten, AreWritten, to_be_bytes, from_be_bytes, print}
-use Rattle.std.proofs.Math.Seq.{take-append_seam}
-use Rattle.std.specs.Int.{Width, w64}
-use Rattle.nc_base.proofs.Prelude.{be_bytes_4, be_bytes_8}
-use Rattle.nc_base.specs.Bytes.{AreBytes}
-use Rattle.nc_base.specs.Versions.{offset_width}
+use Rattle.nccheck_laws.proofs.Prelude.{common_steps, w32, byte_len, Header, Version, FormatFault, Bytes, Step, Part, done, bytes, decoded, under, chain, Spells, Padding, count_width, number, ignored, reads, Field, fields, IsWritten, AreWritten, to_be_bytes, from_be_bytes, print, take-append_seam, Width, w64, be_bytes_4, be_bytes_8, AreBytes, offset_width}
 
 -- ---- the fields of what is spelled
 

@@ -1,16 +1,8 @@
 -- The parts of a header whose fields are as they are written: their bytes are what is written of their values.
 use Rattle.std.proofs.Common.{◌≡◌, ℕ, suc, zero, ◌==◌, ◌||◌, ◌&&◌, not, Bool, true, false, List, [], ◌∷◌, ◌++◌, length, drop, Some, Result, Ok, Err, refl, sym, ap, ◌∙◌, subst, arith, append_assoc, append-nil, codes, if◌then◌else◌, slice_get, eqb-true}
-use Rattle.nccheck_laws.proofs.Prelude.{nat_tests, common_steps, w32, FormatFault, Dim, Var, Header, Version, BadCount, Bytes, count_width, padded_size, Step, Part, under, Spells, Tag, Count, Item, Name, Shape, Atts, Vsize, strict, checked, variable_tag, dimid_after, var_after, vsize_of, header_part, number, limited_part, offset_part, name_part, type_part, each, counted, list_head, list_part, dim_part, dim_list, att_part, att_list, dimid_part, shape_part, var_part, var_list, version_part, magic_part, numrecs_part, header_by, Field, fields, AreWritten, bytes_eq, Att, NcType, TooLarge, count_limit, TypeCode, is_within_limits, count_part, first}
+use Rattle.nccheck_laws.proofs.Prelude.{nat_tests, common_steps, w32, FormatFault, Dim, Var, Header, Version, BadCount, Bytes, count_width, padded_size, Step, Part, under, Spells, Tag, Count, Item, Name, Shape, Atts, Vsize, strict, checked, variable_tag, dimid_after, var_after, vsize_of, header_part, number, limited_part, offset_part, name_part, type_part, each, counted, list_head, list_part, dim_part, dim_list, att_part, att_list, dimid_part, shape_part, var_part, var_list, version_part, magic_part, numrecs_part, header_by, Field, fields, AreWritten, bytes_eq, Att, NcType, TooLarge, count_limit, TypeCode, is_within_limits, count_part, first, drop-append_seam, mul-div_cancel, NumRecs, BadTag, code_of, version_byte, type_in, version_in, WrittenFieldsAreCanonical}
 use Rattle.std.proofs.lemmas.Slice.Eq.{bytes_eq-Decides}
-use Rattle.std.proofs.Math.Seq.{drop-append_seam}
-use Rattle.nc_base.proofs.Prelude.{mul-div_cancel}
 use Rattle.nc_base.proofs.SoundLaws.{some_size}
-use Rattle.nc_base.specs.declared.{header.NumRecs.NumRecs}
-use Rattle.nc_base.specs.declared.fault.FormatFault.TheVariants.{BadTag}
-use Rattle.nc_base.specs.Types.{code_of}
-use Rattle.nc_base.specs.Versions.{version_byte}
-use Rattle.nc_base.specs.Grammar.{type_in, version_in}
-use Rattle.nccheck_laws.specs.Written.{WrittenFieldsAreCanonical}
 use Rattle.nccheck_laws.proofs.StrictHeaders.{strict-fields}
 use Rattle.nccheck_laws.proofs.Written.{IsKept, kept, is-width-32, is-width-count, is-width-offset, kept-number, kept-ignored}
 use Rattle.nccheck_laws.proofs.Leaves.{IsLeafOf, leaf-spelled}

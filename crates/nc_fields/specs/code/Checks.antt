@@ -63,10 +63,6 @@ abbrev pub IsHeld : Bytes → Result Bytes HeadFault → Type 0
 IsHeld bytes (Ok held) = held ≡ bytes
 IsHeld bytes (Err e) = e ≡ OutOfMemory
 
--- one judge after another
-abbrev pub judged_then : {C A B : Type 0} → (C → Result A FormatFault) → (A → Result B FormatFault) → C → Result B FormatFault
-judged_then {A = A} {B = B} judge decode x = elim (judge x) as (λ y. Result B FormatFault) [ Ok y ↦ decode y | Err f ↦ Err f ]
-
 -- this field begins at the next byte
 pub record IsStart {S : Type 0} {g : Ghosts S} (w : Window S g) (place : Place) (size : ℕ) (start : Start) : Type 0 where
   pub same_place : start.place ≡ place

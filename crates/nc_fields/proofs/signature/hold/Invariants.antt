@@ -1,6 +1,5 @@
 use Rattle.std.proofs.Common.{◌≡◌, ◌≤◌, ◌+◌}
-use Rattle.std.specs.Bool.{OnTrue}
-use Rattle.nc_file.specs.code.Window.{Kept, source_of}
+use Rattle.nc_fields.proofs.Prelude.{OnTrue, Kept, source_of}
 use Rattle.nc_fields.proofs.signature.hold.Given as goal
 
 -- at least as many bytes are held as reads were made

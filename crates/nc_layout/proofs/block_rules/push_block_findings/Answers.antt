@@ -1,5 +1,5 @@
 use Rattle.std.proofs.Common.{arith, sym, subst}
-use Rattle.std.specs.List.{AllPairs}
+use Rattle.nc_layout.proofs.Prelude.{AllPairs}
 use Rattle.nc_layout.proofs.BlockOrder.{Listed, ascending-sorted}
 use Rattle.nc_layout.proofs.ListedBlocks.{blocks-listed}
 use Rattle.nc_layout.proofs.SweptBlocks.{swept-blocks}

@@ -1,7 +1,5 @@
 use Rattle.std.proofs.Common.{◌≡◌, ◌+◌, map, fold, max}
-use Rattle.nc_layout.specs.declared.slot.Slot.{Slot}
-use Rattle.nc_layout.specs.Slots.{record_slots}
-use Rattle.nc_layout.specs.code.Records.{slab_if}
+use Rattle.nc_layout.proofs.Prelude.{Slot, record_slots, slab_if}
 use Rattle.nc_layout.proofs.SlotLists.{rest}
 use Rattle.nc_layout.proofs.blocks.last_record_ends.Given as goal
 

@@ -1,5 +1,5 @@
 use Rattle.std.proofs.Common.{arith}
-use Rattle.std.proofs.lemmas.Bool.Decides.{nat_tests}
+use Rattle.nc_layout.proofs.Prelude.{nat_tests}
 use Rattle.nc_layout.proofs.blocks.records_ends.Goals as goal
 
 pub returns-else-records-eq0-clause-values : goal.returns-else-records-eq0-clause-values

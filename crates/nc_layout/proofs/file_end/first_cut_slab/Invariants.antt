@@ -1,6 +1,5 @@
 use Rattle.std.proofs.Common.{◌≡◌, filter, drop}
-use Rattle.nc_layout.specs.Blocks.{each_slot}
-use Rattle.nc_layout.specs.FileEnd.{first_of, first_slab, is_cut, slabs_of, first_cut_slab}
+use Rattle.nc_layout.proofs.Prelude.{each_slot, first_of, first_slab, is_cut, slabs_of, first_cut_slab}
 use Rattle.nc_layout.proofs.file_end.first_cut_slab.Given as goal
 
 abbrev pub invariant-loop-i : goal.invariant-loop-i

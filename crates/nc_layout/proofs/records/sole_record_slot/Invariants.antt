@@ -1,6 +1,5 @@
 use Rattle.std.proofs.Common.{◌≡◌, ◌++◌}
-use Rattle.std.specs.Option.{option_to_list}
-use Rattle.nc_layout.specs.Slots.{record_slots}
+use Rattle.nc_layout.proofs.Prelude.{option_to_list, record_slots}
 use Rattle.nc_layout.proofs.SlotLists.{rest}
 use Rattle.nc_layout.proofs.records.sole_record_slot.Given as goal
 

@@ -1,8 +1,5 @@
 use Rattle.std.proofs.Common.{arith, append_assoc}
-use Rattle.std.proofs.lemmas.List.{at_drop_more}
-use Rattle.nc_layout.specs.declared.slot.Slot.{Slot}
-use Rattle.nc_layout.specs.Blocks.{each_slot}
-use Rattle.nc_layout.specs.SlotRules.{slot_findings}
+use Rattle.nc_layout.proofs.Prelude.{at_drop_more, Slot, each_slot, slot_findings}
 use Rattle.nc_layout.proofs.PassedLists.{passed-more, bytes_before-le}
 use Rattle.nc_layout.proofs.slot_rules.push_slot_findings.Goals as goal
 

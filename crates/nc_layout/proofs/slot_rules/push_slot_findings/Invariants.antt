@@ -1,7 +1,5 @@
 use Rattle.std.proofs.Common.{◌≡◌, ◌++◌, drop}
-use Rattle.nc_layout.specs.Blocks.{each_slot}
-use Rattle.nc_layout.specs.SlotRules.{slot_findings}
-use Rattle.nc_layout.specs.code.PassedSlots.{HasPassed}
+use Rattle.nc_layout.proofs.Prelude.{each_slot, slot_findings, HasPassed}
 use Rattle.nc_layout.proofs.slot_rules.push_slot_findings.Given as goal
 
 abbrev pub invariant-loop-i : goal.invariant-loop-i

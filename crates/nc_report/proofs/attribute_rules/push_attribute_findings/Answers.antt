@@ -1,12 +1,5 @@
 use Rattle.std.proofs.Common.{◌≡◌, ◌-◌, ◌++◌, Bool, List, drop, ap, sym, ◌∙◌, append_assoc, arith}
-use Rattle.std.specs.Option.{option_to_list}
-use Rattle.nc_report.specs.declared.finding.Finding.{Finding}
-use Rattle.nc_report.specs.declared.ahead.Ahead.{Ahead}
-use Rattle.nc_report.specs.Indexed.{Indexed, field_at, indexed, indexed_from}
-use Rattle.nc_report.specs.Ahead.{ahead_of}
-use Rattle.nc_report.specs.AttributeRules.{attribute_finding, attribute_findings, finding_by_name}
-use Rattle.nc_report.specs.NameRules.{is_first}
-use Rattle.nc_report.specs.code.Passes.{ahead_with, each_backward}
+use Rattle.nc_report.proofs.Prelude.{option_to_list, Finding, Ahead, Indexed, field_at, indexed, indexed_from, ahead_of, attribute_finding, attribute_findings, finding_by_name, is_first, ahead_with, each_backward}
 use Rattle.nc_report.proofs.IndexedLists.{rest-before, ahead_with-is, each_backward-permutation}
 use Rattle.nc_report.proofs.NameKeys.{first-of}
 use Rattle.nc_report.proofs.attribute_rules.push_attribute_findings.Goals as goal

@@ -1,8 +1,5 @@
 use Rattle.std.proofs.Common.{◌≡◌, ◌++◌, drop}
-use Rattle.nc_report.specs.Indexed.{indexed, indexed_from}
-use Rattle.nc_report.specs.Ahead.{ahead_of}
-use Rattle.nc_report.specs.AttributeRules.{attribute_finding}
-use Rattle.nc_report.specs.code.Passes.{each_backward}
+use Rattle.nc_report.proofs.Prelude.{indexed, indexed_from, ahead_of, attribute_finding, each_backward}
 use Rattle.nc_report.proofs.attribute_rules.push_attribute_findings.Given as goal
 
 abbrev pub invariant-loop-i : goal.invariant-loop-i

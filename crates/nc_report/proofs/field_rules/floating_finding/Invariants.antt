@@ -1,7 +1,5 @@
 use Rattle.std.proofs.Common.{◌≡◌, drop}
-use Rattle.std.specs.Prelude.{find}
-use Rattle.nc_report.specs.Indexed.{indexed, indexed_from}
-use Rattle.nc_report.specs.FieldRules.{is_floating}
+use Rattle.nc_report.proofs.Prelude.{find, indexed, indexed_from, is_floating}
 use Rattle.nc_report.proofs.field_rules.floating_finding.Given as goal
 
 abbrev pub invariant-loop-i : goal.invariant-loop-i

@@ -1,11 +1,8 @@
 use Rattle.std.proofs.Common.{◌≡◌, Bool, true, false, List, ℕ, not, ◌&&◌, IsTrue, ◌↔◌, ap, sym, ◌∙◌}
-use Rattle.std.specs.Bool.{one_answer}
-use Rattle.std.specs.Str.{chars, IsUtf8, is_utf8}
-use Rattle.std.proofs.lemmas.Bool.{false_from_ne_true}
+use Rattle.nc_report.proofs.Prelude.{one_answer, chars, IsUtf8, is_utf8, false_from_ne_true, is_not_nfc}
 use Rattle.std.proofs.lemmas.Str.{IsUtf8-from_is_utf8, is_utf8-from_IsUtf8}
 use Rattle.unicode_normalization.specs.Forms.{Nfc, IsInForm, is_nfc}
 use Rattle.unicode_normalization.proofs.FormsLemmas.{is_in_form-true, is_in_form_from}
-use Rattle.nc_report.specs.FieldRules.{is_not_nfc}
 use Rattle.nc_report.proofs.field_rules.is_not_nfc.Goals as goal
 
 tested : (b : Bool) (text bytes : List ℕ) → text ≡ bytes → IsUtf8 bytes → (IsTrue b ↔ IsInForm Nfc (chars text)) → not b ≡ is_not_nfc bytes

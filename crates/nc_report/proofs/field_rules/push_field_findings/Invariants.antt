@@ -1,7 +1,5 @@
 use Rattle.std.proofs.Common.{◌≡◌, ◌++◌, drop}
-use Rattle.std.specs.Prelude.{flat_map}
-use Rattle.nc_report.specs.Indexed.{indexed, indexed_from}
-use Rattle.nc_report.specs.FieldRules.{findings_at}
+use Rattle.nc_report.proofs.Prelude.{flat_map, indexed, indexed_from, findings_at}
 use Rattle.nc_report.proofs.field_rules.push_field_findings.Given as goal
 
 abbrev pub invariant-loop-i : goal.invariant-loop-i

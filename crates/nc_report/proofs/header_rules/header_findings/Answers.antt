@@ -1,8 +1,5 @@
 use Rattle.std.proofs.Common.{◌≡◌, List, [], ◌++◌, sym, ◌∙◌, ap, subst}
-use Rattle.std.specs.Prelude.{IsPermutation}
-use Rattle.std.proofs.lemmas.List.Sorted.{IsPermutation-append_right}
-use Rattle.nc_report.specs.declared.finding.Finding.{Finding}
-use Rattle.nc_report.specs.HeaderRules.{header_findings}
+use Rattle.nc_report.proofs.Prelude.{IsPermutation, IsPermutation-append_right, Finding, header_findings}
 use Rattle.nc_report.proofs.header_rules.header_findings.Goals as goal
 
 -- what has been appended part by part, the last part in another order

@@ -1,8 +1,5 @@
 use Rattle.std.proofs.Common.{◌≡◌, ℕ, ◌∙◌, ap, sym, Option, Some, None}
-use Rattle.std.specs.Option.{option_map, option_or}
-use Rattle.nc_report.specs.Indexed.{field_at}
-use Rattle.nc_report.specs.NameRules.{NameKey, is_same_key, key_of}
-use Rattle.nc_report.specs.code.FirstNames.{index_if}
+use Rattle.nc_report.proofs.Prelude.{option_map, option_or, field_at, NameKey, is_same_key, key_of, index_if}
 use Rattle.nc_report.proofs.NameKeys.{LentName, lent, first_index-other, first_index-name}
 use Rattle.nc_report.proofs.name_rules.duplicate_name.Goals as goal
 

@@ -1,9 +1,5 @@
 use Rattle.std.proofs.Common.{◌≡◌, ◌+◌, ◌∷◌, [], ◌++◌, List, take, drop, ap, sym, ◌∙◌, append_assoc, Option}
-use Rattle.std.specs.Option.{option_to_list}
-use Rattle.nc_fields.specs.declared.entry.Entry.{Entry}
-use Rattle.nc_report.specs.declared.finding.Finding.{Finding}
-use Rattle.nc_report.specs.Indexed.{Indexed, field_at, indexed, indexed_from, each_after}
-use Rattle.nc_report.specs.NameRules.{duplicate_name, first_index}
+use Rattle.nc_report.proofs.Prelude.{option_to_list, Entry, Finding, Indexed, field_at, indexed, indexed_from, each_after, duplicate_name, first_index}
 use Rattle.nc_report.proofs.IndexedLists.{rest, indexed-take}
 use Rattle.nc_report.proofs.name_rules.push_name_findings.Goals as goal
 

@@ -1,7 +1,5 @@
 use Rattle.std.proofs.Common.{List, subst}
-use Rattle.std.specs.Prelude.{IsPermutation}
-use Rattle.nc_fields.specs.declared.entry.Entry.{Entry}
-use Rattle.nc_report.specs.HeaderRules.{header_findings}
+use Rattle.nc_report.proofs.Prelude.{IsPermutation, Entry, header_findings}
 use Rattle.nc_report.proofs.Reported.{all-found}
 use Rattle.nc_report.proofs.report.findings_of.Goals as goal
 

@@ -1,8 +1,5 @@
 use Rattle.std.proofs.Common.{List, rules, sym, subst}
-use Rattle.std.specs.List.{AllPairs}
-use Rattle.std.proofs.lemmas.List.Sorted.{answers_always}
-use Rattle.nc_report.specs.declared.finding.Finding.{Finding}
-use Rattle.nc_report.specs.Reports.{finding_cmp, IsInOrder}
+use Rattle.nc_report.proofs.Prelude.{AllPairs, answers_always, Finding, finding_cmp, IsInOrder}
 use Rattle.nc_report.proofs.OneOrder.{sorted-order}
 use Rattle.nc_report.proofs.Reported.{key, findings-total}
 use Rattle.nc_report.proofs.report.in_order.Goals as goal

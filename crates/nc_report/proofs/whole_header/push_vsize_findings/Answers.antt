@@ -1,11 +1,5 @@
 use Rattle.std.proofs.Common.{ℕ, List, ◌++◌, ◌+◌, ap, ap₂, sym, ◌∙◌, append_assoc, drop, slice_get}
-use Rattle.std.proofs.lemmas.List.{at_drop_more}
-use Rattle.std.specs.Option.{option_to_list}
-use Rattle.nc_layout.specs.declared.slot.Slot.{Slot}
-use Rattle.nc_layout.specs.Slots.{padded_slab}
-use Rattle.nc_layout.specs.Blocks.{each_slot}
-use Rattle.nc_report.specs.declared.finding.Finding.{Finding}
-use Rattle.nc_report.specs.code.WholeHeaders.{vsize_fact}
+use Rattle.nc_report.proofs.Prelude.{at_drop_more, option_to_list, Slot, padded_slab, each_slot, Finding, vsize_fact}
 use Rattle.nc_report.proofs.whole_header.push_vsize_findings.Goals as goal
 
 pub loop-i-preserved : goal.loop-i-preserved

@@ -1,8 +1,5 @@
 use Rattle.std.proofs.Common.{◌≡◌, ◌++◌, drop, slice_get}
-use Rattle.std.specs.Option.{option_to_list}
-use Rattle.nc_layout.specs.Slots.{padded_slab}
-use Rattle.nc_layout.specs.Blocks.{each_slot}
-use Rattle.nc_report.specs.code.WholeHeaders.{vsize_fact}
+use Rattle.nc_report.proofs.Prelude.{option_to_list, padded_slab, each_slot, vsize_fact}
 use Rattle.nc_report.proofs.whole_header.push_vsize_findings.Given as goal
 
 abbrev pub invariant-loop-i : goal.invariant-loop-i

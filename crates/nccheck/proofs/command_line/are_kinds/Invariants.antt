@@ -1,6 +1,6 @@
 use Rattle.std.proofs.Common.{◌≡◌, drop}
+use Rattle.nccheck.proofs.Prelude.{texts_of}
 use Rattle.std.specs.List.{list_all}
-use Rattle.cli_base.specs.Arguments.{texts_of}
 use Rattle.nccheck.specs.KindWords.{is_kind_word}
 use Rattle.nccheck.proofs.command_line.are_kinds.Given as goal
 

@@ -1,8 +1,6 @@
 use Rattle.std.proofs.Common.{rules, ◌≡◌, ◌∙◌, ap₂, codes}
+use Rattle.nccheck.proofs.Prelude.{app_of, new_app, rule_of, with_rule, flag, option, quiet, nccheck}
 use Rattle.std.proofs.lemmas.Result.{IfOk-weaker}
-use Rattle.clap.specs.Words.{app_of, new_app, rule_of, with_rule}
-use Rattle.cli_base.specs.Arguments.{flag, option, quiet}
-use Rattle.nccheck.specs.CommandLine.{nccheck}
 use Rattle.nccheck.proofs.command_line.command.Goals as goal
 
 pub returns : goal.returns

@@ -1,9 +1,5 @@
 use Rattle.std.proofs.Common.{◌∙◌, ap, subst, sym, Option}
-use Rattle.cli_base.specs.Arguments.{texts_of}
-use Rattle.clap.specs.Words.{App, HasKind, fault_of, found_of, is_simple, is_simple_and_free, kind_of, matches_of, rows_of}
-use Rattle.cli_base.specs.code.Answers.{AnswersBy}
-use Rattle.nccheck.specs.CommandLine.{Asked}
-use Rattle.nccheck.specs.code.Options.{asked_for}
+use Rattle.nccheck.proofs.Prelude.{texts_of, App, HasKind, fault_of, found_of, is_simple, is_simple_and_free, kind_of, matches_of, rows_of, AnswersBy, Asked, asked_for}
 use Rattle.nccheck.proofs.CommandLines.{asked_by_taken, is_exact, is_plain, refused_words}
 use Rattle.nccheck.proofs.command_line.options_of_words.Goals as goal
 

@@ -1,4 +1,4 @@
-use Rattle.std.proofs.Math.Path.{fun_ext}
+use Rattle.nccheck.proofs.Prelude.{fun_ext}
 use Rattle.nccheck.proofs.Listing.{all_stop, all_then, all_words}
 use Rattle.nccheck.proofs.counting.check_all.Goals as goal
 

@@ -1,12 +1,5 @@
 use Rattle.std.proofs.Common.{ℕ, ◌≡◌, ◌∙◌, ◌+◌, ◌<◌, [], ◌∷◌, length, Some, None, Option, refl, sym, get_or, take, drop, take-append-drop, arith}
-use Rattle.std.proofs.Math.Path.{fun_ext}
-use Rattle.std.proofs.lemmas.List.{take_more}
-use Rattle.nc_base.specs.Bytes.{Bytes}
-use Rattle.nccheck.specs.CommandLine.{Asked}
-use Rattle.nccheck.specs.PathLists.{Path}
-use Rattle.nccheck.specs.Runs.{Openings, State}
-use Rattle.nccheck.specs.code.Counts.{Counts, Takes}
-use Rattle.nccheck.specs.declared.tally.Tally.{Tally}
+use Rattle.nccheck.proofs.Prelude.{fun_ext, take_more, Bytes, Asked, Path, Openings, State, Counts, Takes, Tally}
 use Rattle.nccheck.proofs.Listing.{takes_path, takes_stop, takes_then}
 use Rattle.nccheck.proofs.counting.check_bytes.Goals as goal
 

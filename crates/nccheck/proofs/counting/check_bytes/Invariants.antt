@@ -1,9 +1,5 @@
 use Rattle.std.proofs.Common.{◌+◌, ◌≤◌, Some, take}
-use Rattle.devices.specs.code.PathOpens.{NamesAsBefore}
-use Rattle.nccheck.specs.Runs.{openings, state}
-use Rattle.nccheck.specs.Tallies.{total}
-use Rattle.nccheck.specs.code.Counts.{Takes}
-use Rattle.nccheck.specs.code.Options.{asked_for}
+use Rattle.nccheck.proofs.Prelude.{NamesAsBefore, openings, state, total, Takes, asked_for}
 use Rattle.nccheck.proofs.counting.check_bytes.Given as goal
 
 abbrev pub invariant-loop-b : goal.invariant-loop-b

@@ -1,15 +1,6 @@
 use Rattle.std.proofs.Common.{ℕ, ◌≡◌, ◌∙◌, ◌+◌, ◌<◌, List, [], ◌∷◌, ◌++◌, length, map, Some, None, Option, ap, sym, get_or, take, drop, take-append-drop, arith}
+use Rattle.nccheck.proofs.Prelude.{fun_ext, map-append, take_more, texts_of, Bytes, Item, Path, Asked, Openings, State, no_files, Counts, Tally}
 use Rattle.std.specs.Borrow.{Bor}
-use Rattle.std.proofs.Math.Path.{fun_ext}
-use Rattle.std.proofs.lemmas.List.{map-append, take_more}
-use Rattle.cli_base.specs.Arguments.{texts_of}
-use Rattle.nc_base.specs.Bytes.{Bytes}
-use Rattle.nccheck.specs.PathLists.{Item, Path}
-use Rattle.nccheck.specs.CommandLine.{Asked}
-use Rattle.nccheck.specs.Runs.{Openings, State}
-use Rattle.nccheck.specs.Tallies.{no_files}
-use Rattle.nccheck.specs.code.Counts.{Counts}
-use Rattle.nccheck.specs.declared.tally.Tally.{Tally}
 use Rattle.nccheck.proofs.InTurn.{counts_stop, counts_then}
 use Rattle.nccheck.proofs.counting.check_each.Goals as goal
 

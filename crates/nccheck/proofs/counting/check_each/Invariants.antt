@@ -1,11 +1,5 @@
 use Rattle.std.proofs.Common.{◌≤◌, map, Some, take}
-use Rattle.cli_base.specs.Arguments.{texts_of}
-use Rattle.devices.specs.code.PathOpens.{NamesAsBefore}
-use Rattle.nccheck.specs.PathLists.{Path}
-use Rattle.nccheck.specs.Runs.{openings, state}
-use Rattle.nccheck.specs.Tallies.{no_files, total}
-use Rattle.nccheck.specs.code.Counts.{Counts}
-use Rattle.nccheck.specs.code.Options.{asked_for}
+use Rattle.nccheck.proofs.Prelude.{texts_of, NamesAsBefore, Path, openings, state, no_files, total, Counts, asked_for}
 use Rattle.nccheck.proofs.counting.check_each.Given as goal
 
 abbrev pub invariant-loop-file : goal.invariant-loop-file

@@ -1,9 +1,5 @@
 use Rattle.std.proofs.Common.{◌+◌, ◌*◌, ◌≤◌}
-use Rattle.devices.specs.Readers.{view_of}
-use Rattle.devices.specs.code.PathOpens.{NamesAsBefore}
-use Rattle.nccheck.specs.Runs.{openings, state}
-use Rattle.nccheck.specs.Tallies.{total}
-use Rattle.nccheck.specs.code.Options.{asked_for}
+use Rattle.nccheck.proofs.Prelude.{view_of, NamesAsBefore, openings, state, total, asked_for}
 use Rattle.nccheck.proofs.Listing.{ReadUpTo}
 use Rattle.nccheck.proofs.counting.check_list.Given as goal
 

@@ -1,9 +1,9 @@
 use Rattle.std.proofs.Common.{◌≡◌, ◌≤◌, true, arith, List, ℕ, length, nat_le}
+use Rattle.nccheck.proofs.Prelude.{is_path}
 use Rattle.std.specs.Str.{is_utf8}
 use Rattle.std.proofs.lemmas.Bool.{false_from_ne_true}
 use Rattle.std.proofs.lemmas.Bool.Decides.{nat_tests}
 use Rattle.std.proofs.lemmas.Str.{IsUtf8-from_is_utf8, is_utf8-from_IsUtf8}
-use Rattle.nccheck.specs.PathLists.{is_path}
 use Rattle.nccheck.proofs.path_list.path_of.Goals as goal
 
 judged : (file : List ℕ) → length file ≤ 65535 → is_path file ≡ is_utf8 file

@@ -1,4 +1,4 @@
-use Rattle.nccheck_laws.proofs.CanonicalReports.{generated-spellings}
+use Rattle.nccheck_laws.proofs.QuietHeaders.{generated-spellings}
 use Rattle.nccheck_laws.proofs.CleanLayouts.{generated-quiet}
 use Rattle.nccheck_laws.proofs.laws.generated_files_are_quiet.Goals as goal
 

@@ -1,5 +1,4 @@
-use Rattle.nccheck_laws.proofs.GeneratedFiles.{canonical-generated}
-use Rattle.nccheck_laws.proofs.GeneratedFiles.{quiet-generated}
+use Rattle.nccheck_laws.proofs.GeneratedFiles.{canonical-generated, quiet-generated}
 use Rattle.nccheck_laws.proofs.laws.quiet_files_are_as_generated.Goals as goal
 
 pub returns-clause-begins : goal.returns-clause-begins

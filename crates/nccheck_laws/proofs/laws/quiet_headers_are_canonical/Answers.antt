@@ -1,6 +1,5 @@
-use Rattle.nccheck_laws.proofs.CanonicalReports.{canonical-quiet}
 use Rattle.nccheck_laws.proofs.QuietFiles.{quiet-files}
-use Rattle.nccheck_laws.proofs.QuietHeaders.{quiet-spellings, quiet-headers}
+use Rattle.nccheck_laws.proofs.QuietHeaders.{quiet-spellings, canonical-quiet, quiet-headers}
 use Rattle.nccheck_laws.proofs.laws.quiet_headers_are_canonical.Goals as goal
 
 pub returns-clause-spelling : goal.returns-clause-spelling

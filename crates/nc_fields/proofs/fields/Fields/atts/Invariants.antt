@@ -1,6 +1,4 @@
-use Rattle.nc_fields.specs.code.Checks.{at}
-use Rattle.nc_base.specs.Grammar.{att_after}
-use Rattle.nc_fields.specs.Lenient.{lenient}
+use Rattle.nc_fields.proofs.Prelude.{at, att_after, lenient}
 use Rattle.nc_fields.specs.code.Lists.{list_steps}
 use Rattle.nc_fields.proofs.Elements.{ChecksOn}
 use Rattle.nc_fields.proofs.fields.Fields.atts.Given as goal

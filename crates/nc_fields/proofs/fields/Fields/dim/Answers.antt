@@ -1,5 +1,4 @@
-use Rattle.nc_base.specs.Grammar.{dim_part}
-use Rattle.nc_fields.proofs.Prelude.{err_from_is_err_and}
+use Rattle.nc_fields.proofs.Prelude.{dim_part, err_from_is_err_and}
 use Rattle.nc_fields.proofs.Elements.{checked-under, checked-chain, checked-err}
 use Rattle.nc_fields.proofs.fields.Fields.dim.Goals as goal
 

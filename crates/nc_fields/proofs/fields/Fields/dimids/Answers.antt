@@ -1,6 +1,5 @@
 use Rattle.std.proofs.Common.{ap, sym, ◌==◌}
-use Rattle.nc_base.specs.Grammar.{dimid_part}
-use Rattle.nc_fields.proofs.Prelude.{err_from_is_err_and}
+use Rattle.nc_fields.proofs.Prelude.{dimid_part, err_from_is_err_and}
 use Rattle.nc_fields.proofs.Elements.{elements-start, elements-err, elements-next, elements-memory, elements-done}
 use Rattle.nc_fields.proofs.fields.Fields.dimids.Goals as goal
 

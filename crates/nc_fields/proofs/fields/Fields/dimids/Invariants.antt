@@ -1,8 +1,5 @@
-use Rattle.nc_fields.specs.code.Checks.{at}
 use Rattle.std.proofs.Common.{◌∷◌}
-use Rattle.nc_base.specs.Parts.{Shape}
-use Rattle.nc_base.specs.Grammar.{dimid_after}
-use Rattle.nc_fields.specs.Entries.{owner_steps}
+use Rattle.nc_fields.proofs.Prelude.{at, Shape, dimid_after, owner_steps}
 use Rattle.nc_fields.proofs.Elements.{ChecksOn}
 use Rattle.nc_fields.proofs.fields.Fields.dimids.Given as goal
 

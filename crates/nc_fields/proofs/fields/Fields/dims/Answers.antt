@@ -1,8 +1,5 @@
 use Rattle.std.proofs.Common.{ap, rules, sym}
-use Rattle.nc_base.specs.Grammar.{dim_part}
-use Rattle.nc_base.specs.Sizes.{has_record_dim}
-use Rattle.nc_file.proofs.PartRuns.{has_record-next}
-use Rattle.nc_fields.proofs.Prelude.{err_from_is_err_and, lenient}
+use Rattle.nc_fields.proofs.Prelude.{dim_part, has_record_dim, has_record-next, err_from_is_err_and, lenient}
 use Rattle.nc_fields.proofs.Elements.{elements-start, elements-err, elements-next, elements-memory, elements-done}
 use Rattle.nc_fields.proofs.fields.Fields.dims.Goals as goal
 

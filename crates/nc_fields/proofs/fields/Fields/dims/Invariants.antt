@@ -1,9 +1,5 @@
-use Rattle.nc_fields.specs.code.Checks.{at}
 use Rattle.std.proofs.Common.{◌≡◌, ◌∷◌, []}
-use Rattle.nc_base.specs.Parts.{Dims}
-use Rattle.nc_base.specs.Grammar.{dim_after}
-use Rattle.nc_base.specs.Sizes.{has_record_dim}
-use Rattle.nc_fields.specs.Lenient.{lenient}
+use Rattle.nc_fields.proofs.Prelude.{at, Dims, dim_after, has_record_dim, lenient}
 use Rattle.nc_fields.proofs.Elements.{ChecksOn}
 use Rattle.nc_fields.proofs.fields.Fields.dims.Given as goal
 

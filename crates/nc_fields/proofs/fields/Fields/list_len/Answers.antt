@@ -1,5 +1,4 @@
-use Rattle.nc_base.specs.Grammar.{list_head}
-use Rattle.nc_fields.proofs.Prelude.{err_from_is_err_and}
+use Rattle.nc_fields.proofs.Prelude.{list_head, err_from_is_err_and}
 use Rattle.nc_fields.proofs.Elements.{checked-under, checked-chain, checked-err, steps-along}
 use Rattle.nc_fields.proofs.fields.Fields.list_len.Goals as goal
 

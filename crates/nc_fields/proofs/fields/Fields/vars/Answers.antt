@@ -1,7 +1,5 @@
 use Rattle.std.proofs.Common.{ap, rules, sym}
-use Rattle.nc_base.specs.Grammar.{var_part}
-use Rattle.nc_file.proofs.Totals.{total_of, total_of-append}
-use Rattle.nc_fields.proofs.Prelude.{err_from_is_err_and, lenient}
+use Rattle.nc_fields.proofs.Prelude.{var_part, total_of, total_of-append, err_from_is_err_and, lenient}
 use Rattle.nc_fields.proofs.Elements.{elements-start, elements-err, elements-next, elements-memory, elements-done}
 use Rattle.nc_fields.proofs.fields.Fields.vars.Goals as goal
 

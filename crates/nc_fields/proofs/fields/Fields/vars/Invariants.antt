@@ -1,9 +1,5 @@
-use Rattle.nc_fields.specs.code.Checks.{at}
 use Rattle.std.proofs.Common.{◌≡◌, ◌∷◌, []}
-use Rattle.nc_base.specs.Parts.{Vars}
-use Rattle.nc_base.specs.Grammar.{var_after}
-use Rattle.nc_file.proofs.Totals.{total_of}
-use Rattle.nc_fields.specs.Lenient.{lenient}
+use Rattle.nc_fields.proofs.Prelude.{at, Vars, var_after, total_of, lenient}
 use Rattle.nc_fields.proofs.Elements.{ChecksOn}
 use Rattle.nc_fields.proofs.fields.Fields.vars.Given as goal
 

@@ -1,7 +1,5 @@
 use Rattle.std.proofs.Common.{◌≡◌, ◌∙◌, ap, sym, None, Some}
-use Rattle.std.specs.Option.{option_copied}
-use Rattle.nc_report.specs.NameRules.{is_index}
-use Rattle.nc_report.specs.code.FirstNames.{index_of}
+use Rattle.nc_report.proofs.Prelude.{option_copied, is_index, index_of}
 use Rattle.nc_report.proofs.NameKeys.{index-found}
 use Rattle.nc_report.proofs.names.FirstNames.is_first.Goals as goal
 

@@ -1,0 +1,36 @@
+-- The names that several files of proofs cite from elsewhere, passed on from one place.
+pub use Rattle.nc_base.specs.declared.{fault.FormatFault.FormatFault, header.Header.Header, version.Version.Version}
+pub use Rattle.nc_fields.specs.declared.{entry.Entry.Entry, header.Listing.Listing}
+pub use Rattle.nc_layout.specs.Blocks.{each_slot}
+pub use Rattle.nc_layout.specs.Findings.{IsSoundLayout, layout_findings}
+pub use Rattle.nc_layout.specs.HeaderLayout.{layout_of}
+pub use Rattle.nc_layout.specs.Slots.{padded_slab}
+pub use Rattle.nc_layout.specs.declared.{finding.LayoutFinding.LayoutFinding, finding.LayoutPlace.LayoutPlace, slot.Layout.Layout, slot.Slot.Slot}
+pub use Rattle.nc_report.specs.Ahead.{ahead_of, is_count, is_type, is_values, is_var_type, number_at, values_at, var_type_at}
+pub use Rattle.nc_report.specs.AttributeRules.{attribute_finding, finding_by_name}
+unfoldable pub use Rattle.nc_report.specs.AttributeRules.{attribute_findings}
+pub use Rattle.nc_report.specs.FieldRules.{findings_at, is_floating, is_not_nfc}
+unfoldable pub use Rattle.nc_report.specs.HeaderRules.{header_findings}
+pub use Rattle.nc_report.specs.Indexed.{Indexed, each_after, each_before, field_at, indexed, indexed_from}
+pub use Rattle.nc_report.specs.NameRules.{NameKey, duplicate_name, first_index, has_key, is_first, is_index, is_same_key, is_same_list, key_of}
+pub use Rattle.nc_report.specs.Reports.{IsInOrder, IsReport, finding_cmp}
+unfoldable pub use Rattle.nc_report.specs.Reports.{all_findings}
+pub use Rattle.nc_report.specs.WholeHeader.{found_at, is_begin, is_numrecs, is_vsize, located, named, vsize_finding}
+unfoldable pub use Rattle.nc_report.specs.WholeHeader.{vsize_findings, whole_findings}
+pub use Rattle.nc_report.specs.code.FirstNames.{HasFirst, hash, index_if, index_of, is_first_of, is_key_of}
+pub use Rattle.nc_report.specs.code.Passes.{ahead_with, each_backward}
+pub use Rattle.nc_report.specs.code.WholeHeaders.{HasSoundLayout, HoldsNumbers, found_at_number, located_number, number_field, vsize_fact, vsize_facts}
+pub use Rattle.nc_report.specs.declared.{ahead.Ahead.Ahead, ahead.NumberAt.NumberAt, ahead.ValuesAt.ValuesAt, finding.Fact.Fact, finding.Finding.Finding, kind.Kind.Kind, names.FirstNames.FirstNames, names.NameList.NameList, number_fields.NumberField.NumberField, number_fields.NumberFields.NumberFields}
+pub use Rattle.std.proofs.lemmas.Bool.{OnTrue_at, OnTrue_from, and_parts, false_from_ne_true}
+pub use Rattle.std.proofs.lemmas.Cmp.{nat_cmp_total, on_total, then_total, tied_itself}
+pub use Rattle.std.proofs.lemmas.List.{append-nil, at_drop_more, length-take-le, take_more}
+pub use Rattle.std.proofs.lemmas.List.Sorted.{IsPermutation-append, IsPermutation-append_comm, IsPermutation-append_left, IsPermutation-append_right, IsPermutation-map, IsPermutation-refl, IsPermutation-trans, answers_always, ranks_by, sorted_far, sum_by-IsPermutation}
+pub use Rattle.std.specs.Bool.{OnTrue, one_answer}
+pub use Rattle.std.specs.Cmp.{IsTotalOrder}
+pub use Rattle.std.specs.Cmp.Lexicographic.{bytes_decides, options_total, slice_cmp}
+pub use Rattle.std.specs.List.{All, AllPairs, sum_by}
+pub use Rattle.std.specs.Option.{option_and_then, option_copied, option_map, option_map_or, option_or, option_to_list}
+pub use Rattle.std.specs.Ordering.{is_eq, is_gt, is_lt, nat_cmp, ordering_reverse, ordering_then}
+pub use Rattle.std.specs.Prelude.{IsPermutation, find, flat_map}
+pub use Rattle.std.specs.Str.{IsUtf8, bytes_eq, chars, is_utf8}
+pub use Rattle.std.specs.declared.{cmp.Ordering.Ordering}

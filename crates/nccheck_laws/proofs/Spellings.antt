@@ -1,0 +1,174 @@
+-- What is found about the spelling at whole fields: that of what fills one up a byte isn't 0, and that a list has its own tag and no elements.
+use Rattle.std.proofs.Common.{◌≡◌, ℕ, ◌+◌, ◌==◌, ◌&&◌, ◌||◌, not, Bool, false, List, [], ◌∷◌, ◌++◌, length, map, replicate, Option, None, refl, ap, ◌∙◌, arith, length-take-le, option_to_list, if◌then◌else◌}
+use Rattle.nccheck_laws.proofs.Prelude.{list_any-append, nat_tests, ltb-false, option_map, Header, FormatFault, FloatingType, Bytes, Step, Padding, Tag, Vsize, Item, Content, Entry, FieldName, Owner, Field, seen_by, steps_of, name_steps, owner_steps, whole_content, seen, bytes_of, number_of, IsWritten, IsWrittenVsize, AreWritten, Fact, Finding, Indexed, field_at, indexed_from, indexed, finding, each_before, ahead_of, finding_by_name, attribute_finding, is_first, facts_with, field_findings, attribute_findings, floating_findings, name_findings, header_findings, is_of_spelling, has_any, is_field, next_number, number_in, empty_list, has_nonzero, content_facts, Ahead, type_finding, name_finding, fact_if, IsWrittenTag}
+use Rattle.nc_fields.specs.declared.entry.Content.TheVariants as content
+use Rattle.nc_fields.specs.declared.place.FieldName.TheVariants as name
+use Rattle.nc_report.specs.declared.finding.Fact.TheVariants as fact
+use Rattle.nccheck_laws.proofs.QuietRules.{names-fail}
+use Rattle.nccheck_laws.proofs.Vsizes.{IsWhole, AreWhole}
+
+-- one of these findings is about the spelling
+abbrev pub any_spelling : List Finding → Bool
+any_spelling findings = has_any is_of_spelling findings
+
+-- ---- entries of whole fields
+
+-- an entry that shows this field
+pub record IsOf (e : Entry) (f : Field) : Type 0 where
+  pub steps : steps_of e.place ≡ f.steps
+  pub content : e.content ≡ whole_content (steps_of e.place) f.size f.start
+  pub sound : e.fault ≡ None
+
+pub data AreOf : List Entry → List Field → Type 0 where
+  none : AreOf [] []
+  more : {e : Entry} {f : Field} {es : List Entry} {fs : List Field} → IsOf e f → AreOf es fs → AreOf (e ∷ es) (f ∷ fs)
+
+is-of : (len : ℕ) (e : Entry) (f : Field) → IsWhole f → seen_by e ≡ seen len f → IsOf e f
+unfolding seen
+is-of len e f whole same = grind arith
+
+pub are-of : (len : ℕ) (es : List Entry) (fs : List Field) → map seen_by es ≡ map (seen len) fs → AreWhole fs → AreOf es fs
+are-of len [] [] same whole = none
+are-of len [] (f ∷ fs) same whole = absurd cc
+are-of len (e ∷ es) [] same whole = absurd cc
+are-of len (e ∷ es) (f ∷ fs) same whole = more (is-of len e f whole.0 (cc)) (are-of len es fs (cc) whole.1)
+
+-- ---- what is odd
+
+-- a byte of what fills a field up isn't 0
+abbrev pub odd_padding : List Step → Field → Bool
+odd_padding (Padding ∷ steps) f = has_nonzero (bytes_of f)
+odd_padding steps f = false
+
+-- before the number of a list's elements: they are none, and the list's tag isn't 0
+abbrev pub odd_count : ℕ → Content → Bool
+odd_count tag (content.Number n) = not (tag == 0) && (n == 0)
+odd_count tag c = false
+
+abbrev pub odd_tag : ℕ → List Field → Bool
+odd_tag tag [] = false
+odd_tag tag (f ∷ after) = odd_count tag (whole_content f.steps f.size f.start)
+
+abbrev pub odd_list : List Step → Field → List Field → Bool
+odd_list (Tag ∷ steps) f after = odd_tag (number_of f) after
+odd_list steps f after = false
+
+abbrev pub any_odd : List Field → Bool
+any_odd [] = false
+any_odd (f ∷ after) = odd_padding f.steps f || odd_list f.steps f after || any_odd after
+
+-- ---- what is found at a field
+
+fact-none : (g : Indexed) (b : Bool) (x : Fact) (others : List Fact) → is_of_spelling x ≡ false
+    → any_spelling (map (finding g) (option_to_list (fact_if b x) ++ others)) ≡ any_spelling (map (finding g) others)
+fact-none g v1 x others is = grind arith
+
+last-none : (g : Indexed) (b : Bool) (x : Fact) → is_of_spelling x ≡ false
+    → any_spelling (map (finding g) (option_to_list (fact_if b x))) ≡ false
+last-none g v1 x is = grind arith
+
+padding-found : (g : Indexed) (b : Bool) → any_spelling (map (finding g) (option_to_list (fact_if b fact.Padding) ++ [])) ≡ b
+padding-found g v1 = grind arith
+
+facts-odd : (place : FieldName) (o : Owner) (size : ℕ) (g : Indexed) (f : Field)
+    → any_spelling (map (finding g) (content_facts place size (whole_content (name_steps place ++ owner_steps o) f.size f.start)))
+    ≡ odd_padding (name_steps place ++ owner_steps o) f
+facts-odd name.NumRecs o size g f = last-none g _ fact.LargeCount refl
+facts-odd name.Length o size g f = last-none g _ fact.LargeCount refl
+facts-odd name.NameLength o size g f = last-none g _ fact.LongName refl
+facts-odd name.Rank o size g f = last-none g _ fact.HighRank refl
+facts-odd name.Name o size g f = grind (arith, fact-none, last-none)
+facts-odd name.NamePadding o size g f = padding-found g (has_nonzero (bytes_of f))
+facts-odd name.Padding o size g f = padding-found g (has_nonzero (bytes_of f))
+facts-odd place o size g f = refl
+
+found-odd : (place : FieldName) (o : Owner) (size : ℕ) (g : Indexed) (f : Field) (fault : Option FormatFault) (c : Content) → fault ≡ None
+    → c ≡ whole_content (name_steps place ++ owner_steps o) f.size f.start
+    → any_spelling (map (finding g) (facts_with fault place size c)) ≡ odd_padding (name_steps place ++ owner_steps o) f
+found-odd place o size g f fault c sound is = rw (sound, is) (facts-odd place o size g f)
+
+choice-none : (b : Bool) (o : Option Finding) → any_spelling (option_to_list o) ≡ false
+    → any_spelling (option_to_list (if b then o else None)) ≡ false
+choice-none v0 o is = grind arith
+
+type-none : (c : Content) (ahead : Ahead) → any_spelling (option_to_list (type_finding c ahead)) ≡ false
+type-none v0 ahead = grind arith
+
+name-none : (first : Bool) (c : Content) (ahead : Ahead) → any_spelling (option_to_list (name_finding first c ahead)) ≡ false
+name-none first c ahead = grind arith
+
+count-odd : (tag : ℕ) (g : Indexed) (i offset : ℕ) (c : Content)
+    → any_spelling (option_to_list (empty_list g (content.Number tag) (number_in i offset c))) ≡ odd_count tag c
+count-odd tag g i offset v4 = grind arith
+
+tag-odd : (tag : ℕ) (g : Indexed) (k : ℕ) {es : List Entry} {fs : List Field} → AreOf es fs
+    → any_spelling (option_to_list (empty_list g (content.Number tag) (next_number is_field (indexed_from k es)))) ≡ odd_tag tag fs
+tag-odd tag g k none = refl
+tag-odd tag g k (more {e = e} {f = f} is rest) =
+    count-odd tag g k e.offset e.content
+    ∙ ap (odd_count tag) (is.content ∙ ap (λ steps. whole_content steps f.size f.start) is.steps)
+
+list-odd : (first : Bool) (place : FieldName) (o : Owner) (g : Indexed) (k : ℕ) (es : List Entry) (f : Field) (fs : List Field)
+    → AreOf es fs → g.entry.content ≡ whole_content (name_steps place ++ owner_steps o) f.size f.start
+    → any_spelling (option_to_list (finding_by_name first place g (ahead_of (indexed_from k es))))
+    ≡ odd_list (name_steps place ++ owner_steps o) f fs
+list-odd first place o g k es f fs are is = grind (arith, tag-odd, choice-none, type-none, name-none)
+
+-- ---- what is found at all of them
+
+fields-odd : (all : List Indexed) (k : ℕ) {es : List Entry} {fs : List Field} → AreOf es fs
+    → (any_spelling (field_findings (indexed_from k es)) || any_spelling (each_before (attribute_finding all) (indexed_from k es)))
+    ≡ any_odd fs
+unfolding field_findings
+fields-odd all k none = refl
+fields-odd all k (more {e = e} {f = f} {es = es} {fs = fs} is rest) =
+    let g = field_at k e in
+    let alone = found-odd e.place.name e.place.owner e.size g f e.fault e.content is.sound is.content
+    ∙ ap (λ steps. odd_padding steps f) is.steps in
+    let lists = list-odd (is_first all g) e.place.name e.place.owner g (k + 1) es f fs rest is.content
+    ∙ ap (λ steps. odd_list steps f fs) is.steps in
+    grind (arith, list_any-append, fields-odd all (k + 1) rest)
+
+floating-none : (o : Option Indexed) → any_spelling (option_to_list (option_map (λ f. finding f (fact.Fault FloatingType)) o)) ≡ false
+floating-none v0 = grind arith
+
+pub header-odd : (es : List Entry) (fs : List Field) → AreOf es fs → any_spelling (header_findings es) ≡ any_odd fs
+unfolding header_findings floating_findings name_findings attribute_findings
+header-odd es fs are = grind (arith, list_any-append, fields-odd (indexed es) 0 are, names-fail is_of_spelling (λ n. refl) [] (indexed es), floating-none)
+
+-- ---- fields that are as they are written
+
+abbrev pub IsSized : Header → List Step → Field → Type 0
+IsSized h (Vsize ∷ Item i ∷ steps) f = IsWrittenVsize h i (number_of f)
+IsSized h steps f = Unit {0}
+
+-- each size of a variable among these fields is the one that is written for it
+abbrev pub AreSized : Header → List Field → Type 0
+AreSized h [] = Unit {0}
+AreSized h (f ∷ fs) = IsSized h f.steps f × AreSized h fs
+
+all-zeros : (bs : Bytes) → has_nonzero bs ≡ false → bs ≡ replicate (length bs) 0
+all-zeros [] e = refl
+all-zeros (b ∷ bs) e =
+    let zero : b ≡ 0 = grind (arith, nat_tests) in
+    let others = all-zeros bs (grind arith) in rw zero (ap (λ (bs : Bytes). 0 ∷ bs) others)
+
+tag-written : (tag : ℕ) (fs : List Field) → odd_tag tag fs ≡ false → IsWrittenTag tag fs
+tag-written tag v1 e = grind arith
+
+is-written : (h : Header) (steps : List Step) (f : Field) (fs : List Field) → IsWhole f → odd_padding steps f ≡ false
+    → odd_list steps f fs ≡ false → IsSized h steps f → IsWritten h steps f fs
+is-written h (Padding ∷ steps) f fs w zeros list sized =
+    all-zeros (bytes_of f) zeros ∙ ap (λ n. replicate n 0) (length-take-le f.size f.start (ltb-false _ _ w.whole))
+is-written h (Tag ∷ steps) f fs w zeros list sized = tag-written (number_of f) fs list
+is-written h (Vsize ∷ Item i ∷ steps) f fs w zeros list sized = sized
+is-written h steps f fs w zeros list sized = tt
+
+neither : (a b c : Bool) → (a || b || c) ≡ false → (a ≡ false) × (b ≡ false) × (c ≡ false)
+neither v0 v1 v2 e = (grind arith, grind arith, grind arith)
+
+pub are-written : (h : Header) (fs : List Field) → AreWhole fs → any_odd fs ≡ false → AreSized h fs → AreWritten h fs
+are-written h [] whole even sized = tt
+are-written h (f ∷ fs) whole even sized =
+    let parts = neither (odd_padding f.steps f) (odd_list f.steps f fs) (any_odd fs) even in
+    (is-written h f.steps f fs whole.0 parts.0 parts.1 sized.0, are-written h fs whole.1 parts.2 sized.1)
