@@ -87,10 +87,6 @@ module _ (is_transparent : Bool) (l : Slabs) (done capacity : ℕ) (buf : List �
 
 -- ---- how many of them are whole
 
-abbrev truncated_at : WalkFault → ℕ
-truncated_at (DataTruncated k) = k
-truncated_at ReadFailed = 0
-
 -- of n values that were requested from a cursor on, `got` bytes came, which have some whole values, or not one
 module _ (is_transparent : Bool) (l : Slabs) (cursor : Cursor) (capacity : ℕ) (had : List ℕ) (before now : SourceView) (ys rest : List ℕ) (n got : ℕ)
     (sized : IsSized l) (is_cursor : IsCursor l cursor) (more : number_at l cursor < total l) (fits : capacity ≤ length had)
@@ -112,8 +108,9 @@ module _ (is_transparent : Bool) (l : Slabs) (cursor : Cursor) (capacity : ℕ) 
       (came is_transparent l i capacity had before now ys rest n got sized more fits ready some len f (subst (λ (k : ℕ). 0 < k) whole some_came))
   answered (Err ReadFailed) whole some_came none = absurd (let e = none.0 in cc)
   answered (Err (DataTruncated k)) whole some_came none =
-      subst (λ (j : ℕ). Truncated is_transparent (standing l i had) before now j) (sym (ap truncated_at none.0))
-      (came_none is_transparent l i capacity had before now ys rest n got sized more fits ready some len f none.1)
+      let e = none.0 in
+      let same : i ≡ k = cc in
+      subst (λ (j : ℕ). Truncated is_transparent (standing l i had) before now j) same (came_none is_transparent l i capacity had before now ys rest n got sized more fits ready some len f none.1)
 
   pub ends_in_slab : (result : Result ℕ WalkFault) → IfOk result (λ m. m ≡ got / l.size) → IfOk result (λ m. cursor.within + m ≤ l.values_per_slab)
   ends_in_slab (Ok m) whole = omega (arith, in_slab, most, whole)
