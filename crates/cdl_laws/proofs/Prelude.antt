@@ -9,7 +9,7 @@ pub use Rattle.cdl_laws.specs.Trims.{FillValueSurvivesTrim, TrimmedIsSayable, Tr
 pub use Rattle.cdl_statements.specs.Meaning.{array_of, closing_line, dataset_of, empty, has_small_array, header_of, meaning, records_in, listed_values}
 unfoldable pub use Rattle.cdl_statements.specs.SoundHeaders.{is_sound}
 unfoldable pub use Rattle.cdl_statements.specs.Meaning.{finished, are_within_limits, piece_read, run}
-pub use Rattle.cdl_statements.specs.State.{Draft, Joined, Numbers, Rows, State, Takes, add_constant, add_value, change_named, has_room, int_within, filled, first_type, in_turn, room_of, values_listed, with_att, with_values, ◌>>=◌}
+pub use Rattle.cdl_statements.specs.State.{Draft, Joined, Numbers, Rows, State, Takes, add_constant, add_value, change_named, int_within, filled, first_type, in_turn, room_of, values_listed, with_att, with_values, ◌>>=◌}
 unfoldable pub use Rattle.cdl_statements.specs.State.{act, add_att, add_dim, add_dimid, add_var, change_variable, has_number, takes_of, type_of}
 pub use Rattle.cdl_statements.specs.Lexemes.{Lexeme, is_end_kind, is_mark, is_opening_kind, is_word, is_word_kind, lexeme}
 unfoldable pub use Rattle.cdl_statements.specs.Lexemes.{name_of}
@@ -45,7 +45,7 @@ unfoldable pub use Rattle.nc_base.specs.Fill.{fill_value}
 unfoldable pub use Rattle.nc_base.specs.GeneratedFile.{file_of, with_begins}
 pub use Rattle.nc_base.specs.HeadText.{att_text, broken_text, dim_name, joined, without_trailing_nuls}
 unfoldable pub use Rattle.nc_base.specs.HeadText.{att_line, att_lines, chars_text, currently_word, dim_len_text, dim_line, dim_lines, dimensions_word, dims_text, gatts_text, global_word, head_text, netcdf_word, numbers_text, shape_text, string_break, unlimited_word, var_lines, variables_word, vars_text}
-pub use Rattle.nc_base.specs.Headers.{AreArrays, AreDimids, IsArray, IsDimid, IsGood, IsSoundAtt, IsSoundDim, IsSoundVar, bare, bare_var}
+pub use Rattle.nc_base.specs.Headers.{AreArrays, AreDimids, IsArray, IsDimid, IsGood, IsSoundAtt, IsSoundDim, IsSoundVar, bare_var}
 pub use Rattle.nc_base.specs.Sizes.{has_record_dim, value_count, is_record_var, padded_size, product, record_size_of, record_vars, slab_count, slab_lens}
 pub use Rattle.nc_base.specs.Names.{IsName, ends_with_space, has_name_bytes, may_begin_name, may_follow_in_name}
 pub use Rattle.nc_base.specs.NumberLaws.{IsInRange}
@@ -62,7 +62,7 @@ pub use Rattle.nc_base.specs.declared.{dataset.Dataset.Dataset, header.Att.Att, 
 pub use Rattle.nc_base.specs.declared.header.NumRecs.TheVariants.{Known, Streaming}
 pub use Rattle.nc_base.specs.declared.nc_type.NcType.TheVariants.{Byte, Char, Int, Int64, Short, Ubyte, Uint, Uint64, Ushort}
 pub use Rattle.nc_base.specs.declared.version.Version.TheVariants.{Cdf1, Cdf2, Cdf5}
-pub use Rattle.std.proofs.Math.Nat.{div-eq_of_lt, lt_of_mul-lt-mul_right, mod-eq_of_lt, mul-add-div, mul-div_cancel}
+pub use Rattle.std.proofs.Math.Nat.{div-eq_of_lt, mod-eq_of_lt, mul-add-div, mul-div_cancel}
 pub use Rattle.std.proofs.Math.Seq.{drop-append_seam, take-append_seam, take-length}
 pub use Rattle.std.proofs.lemmas.Bool.{eqb-true, false≢true, le-leb, lt-ltb}
 pub use Rattle.std.proofs.lemmas.Bool.Decides.{Decides-int_eq}

@@ -108,13 +108,7 @@ valid_names dims before (k ∷ ids) names are = (name_valid dims k names are.0.k
 
 pub declared : (v : Version) (dims : List Dim) (var : Var) → IsName var.name → AreDimids dims [] var.dimids → HaveNames dims → AreDistinctDims dims → has_type v var.ty ≡ true → DeclarationReadsBack v dims var
 unfolding type_of var_lines concat_parts
-declared v dims var name are names distinct known = record {
-  lines = simp (append_assoc, append-nil);
-  names = map (name_at dims) var.dimids;
-  statement = declaration_says v dims var (map (name_at dims) var.dimids) (known_names dims [] var.dimids are) name (valid_names dims [] var.dimids names are);
-  ty = grind arith;
-  dimids = ids_added dims [] var.dimids distinct names are;
-}
+declared v dims var name are names distinct known = grind (arith, append_assoc, append-nil, declaration_says, known_names, name, valid_names, ids_added)
 
 pub var_taken : (v : Version) (dims : List Dim) (gatts : List Att) (before : List Draft) (var : Var) → IsFit v dims before var → AreDistinctDims dims → HaveNames dims →
     Takes v (var_lines dims var) (state Variables dims gatts before) (state Variables dims gatts (before ++ draft_of var ∷ []))

@@ -56,11 +56,11 @@ refused after r e read h h2 = grind arith
 -- the same, as a cutter reads it
 pub read_as : (start equals first : Cutter) (a b : Bool) (n l : Lexeme) (ty : NcType) (v : Version) (atts : List Att) (name : List ℕ) →
     words start ≡ lexeme (text_of start) (next_token start) ∷ (if a then [] else words equals) → words equals ≡ lexeme (text_of equals) (next_token equals) ∷ (if b then [] else words first) →
-    is_done first ≡ false → completes AttributeName (words start) ≡ true → n ≡ lexeme (text_of start) (next_token start) → l ≡ lexeme (text_of first) (next_token first) →
+    (b ≡ false → is_done first ≡ false) → completes AttributeName (words start) ≡ true → n ≡ lexeme (text_of start) (next_token start) → l ≡ lexeme (text_of first) (next_token first) →
     v ≡ version_of first → version_of first ≡ version_of start → ty ≡ type_said (value_of v l l.kind) → name ≡ word_value n.bytes → is_format_name (word_value n.bytes) ≡ true →
     att_read start atts ≡ (when (has_attribute name atts) DuplicateName >>= (λ w. with_values atts name ty (in_turn (add_constant ty) [] (values (version_of first) (words first)))))
 read_as start equals first a b n l ty v atts name one two more on n-is l-is v-is same ty-is name-is allowed =
-    let begun = begins first more in
+    let begun = begins first (more (goes_equals _ b (words first) (words equals) two (goes_name _ a (words equals) (words start) one on).2).0) in
     let typed : ty ≡ type_said (value_of (version_of start) (lexeme (text_of first) (next_token first)) (lexeme (text_of first) (next_token first)).kind) =
     ty-is ∙ ap (λ w. type_said (value_of w l l.kind)) (v-is ∙ same) ∙ ap (λ (m : Lexeme). type_said (value_of (version_of start) m m.kind)) l-is in
     let read = in_turn (add_constant ty) [] (values (version_of start) (words first)) in

@@ -18,23 +18,19 @@ leaves_as after r read other is h = subst (λ x. Leaves after r x) (sym is) h
 
 -- ---- its tokens
 
-module _ (n e l s : Lexeme) (ws es ls ss rest : List Lexeme) (shaped : completes DimensionName ws ≡ true) where
-  pub name_goes : (a : Bool) → ws ≡ n ∷ (if a then [] else es) → a ≡ false
-  name_goes a first = first_goes n ws es a shaped first
+-- no dimension ends after its second or third token
+pub equals_goes : (n e : Lexeme) (ws es ls : List Lexeme) (a b : Bool) → completes DimensionName ws ≡ true → ws ≡ n ∷ (if a then [] else es) → es ≡ e ∷ (if b then [] else ls) → b ≡ false
+equals_goes n e ws es ls a b shaped first second = second_goes n e ws es ls b shaped (on n ws es a first (first_goes n ws es a shaped first)) second
 
-  name_on : (a : Bool) → ws ≡ n ∷ (if a then [] else es) → ws ≡ n ∷ es
-  name_on a first = on n ws es a first (name_goes a first)
+two_on : (n e : Lexeme) (ws es ls : List Lexeme) (a b : Bool) → completes DimensionName ws ≡ true → ws ≡ n ∷ (if a then [] else es) → es ≡ e ∷ (if b then [] else ls) → ws ≡ n ∷ e ∷ ls
+two_on n e ws es ls a b shaped first second =
+    on n ws es a first (first_goes n ws es a shaped first) ∙ ap (λ xs. n ∷ xs) (on e es ls b second (equals_goes n e ws es ls a b shaped first second))
 
-  pub equals_goes : (a b : Bool) → ws ≡ n ∷ (if a then [] else es) → es ≡ e ∷ (if b then [] else ls) → b ≡ false
-  equals_goes a b first second = second_goes n e ws es ls b shaped (name_on a first) second
+pub length_goes : (n e l : Lexeme) (ws es ls ss : List Lexeme) (a b c : Bool) → completes DimensionName ws ≡ true → ws ≡ n ∷ (if a then [] else es) → es ≡ e ∷ (if b then [] else ls) → ls ≡ l ∷ (if c then [] else ss) → c ≡ false
+length_goes n e l ws es ls ss a b c shaped first second third = third_goes n e l ws ls ss c shaped (two_on n e ws es ls a b shaped first second) third
 
-  equals_on : (a b : Bool) → ws ≡ n ∷ (if a then [] else es) → es ≡ e ∷ (if b then [] else ls) → ws ≡ n ∷ e ∷ ls
-  equals_on a b first second = name_on a first ∙ ap (λ xs. n ∷ xs) (on e es ls b second (equals_goes a b first second))
-
-  pub length_goes : (a b c : Bool) → ws ≡ n ∷ (if a then [] else es) → es ≡ e ∷ (if b then [] else ls) → ls ≡ l ∷ (if c then [] else ss) → c ≡ false
-  length_goes a b c first second third = third_goes n e l ws ls ss c shaped (equals_on a b first second) third
-
-  pub four_on : (a b c d : Bool) → ws ≡ n ∷ (if a then [] else es) → es ≡ e ∷ (if b then [] else ls) → ls ≡ l ∷ (if c then [] else ss) → ss ≡ s ∷ (if d then [] else rest) →
-      ws ≡ n ∷ e ∷ l ∷ s ∷ (if d then [] else rest)
-  four_on a b c d first second third fourth =
-      equals_on a b first second ∙ ap (λ xs. n ∷ e ∷ xs) (on l ls ss c third (length_goes a b c first second third) ∙ ap (λ xs. l ∷ xs) fourth)
+-- all four
+pub four_on : (n e l s : Lexeme) (ws es ls ss rest : List Lexeme) (a b c d : Bool) → completes DimensionName ws ≡ true → ws ≡ n ∷ (if a then [] else es) → es ≡ e ∷ (if b then [] else ls) → ls ≡ l ∷ (if c then [] else ss) → ss ≡ s ∷ (if d then [] else rest) →
+    ws ≡ n ∷ e ∷ l ∷ s ∷ (if d then [] else rest)
+four_on n e l s ws es ls ss rest a b c d shaped first second third fourth =
+    two_on n e ws es ls a b shaped first second ∙ ap (λ xs. n ∷ e ∷ xs) (on l ls ss c third (length_goes n e l ws es ls ss a b c shaped first second third) ∙ ap (λ xs. l ∷ xs) fourth)

@@ -43,10 +43,13 @@ unfolding finished
 answer v s line true is = rw (is) (ap Ok (dataset_is v s))
 answer v s line false is = rw (is) refl
 
-enough_is : (v : Version) (s : State) (sound small : Bool) → is_sound (header_of v s) ≡ sound → list_all (is_within_limits s.dims (records_in s.dims s.drafts)) s.drafts ≡ small → are_within_limits v s ≡ (sound && small)
+enough_is : (v : Version) (s : State) (small : Bool) → list_all (is_within_limits s.dims (records_in s.dims s.drafts)) s.drafts ≡ small → are_within_limits v s ≡ (small && is_sound (header_of v s))
 unfolding are_within_limits
-enough_is v s true small a b = rw (a) (sym (slabs_small v s.dims (records_in s.dims s.drafts) s.drafts ((sound_is_tested (header_of v s)).0 a).vars) ∙ b)
-enough_is v s false small a b = rw (a) refl
+enough_is v s small is = by (is_sound (header_of v s)) refl
+  where
+    by : (sound : Bool) → is_sound (header_of v s) ≡ sound → are_within_limits v s ≡ (small && sound)
+    by true a = rw (a) (sym (slabs_small v s.dims (records_in s.dims s.drafts) s.drafts ((sound_is_tested (header_of v s)).0 a).vars) ∙ is ∙ grind arith)
+    by false a = rw (a) (sym (and_false small))
 
 some_of : {A : Type 0} (b : Bool) (n m : A) → (if b then Some n else None) ≡ Some m → (b ≡ true) × (n ≡ m)
 some_of b n m h = grind arith
@@ -57,15 +60,11 @@ none_of b n h = grind arith
 -- no number of records is kept
 pub array_too_large : (v : Version) (s : State) (line : ℕ) → records_kept s.dims s.drafts ≡ None → finished v line (Ok s) ≡ or_too_large line None
 array_too_large v s line none =
-    let small = none_of (list_all (is_within_limits s.dims (records_in s.dims s.drafts)) s.drafts) (records_in s.dims s.drafts) none in
-    answer v s line false (enough_is v s (is_sound (header_of v s)) false refl small ∙ and_false (is_sound (header_of v s)))
+    answer v s line false (enough_is v s false (none_of (list_all (is_within_limits s.dims (records_in s.dims s.drafts)) s.drafts) (records_in s.dims s.drafts) none))
 
 -- the header that these make
 abbrev pub header_with : Version → ℕ → State → Header
 header_with v n s = record { version = v; numrecs = Known n; dims = s.dims; gatts = s.gatts; vars = map var_of s.drafts }
-
-same_header : (v : Version) (s : State) (n : ℕ) → records_in s.dims s.drafts ≡ n → header_with v n s ≡ header_of v s
-same_header v s n is = ap (λ m. header_with v m s) (sym is)
 
 -- ---- by what the code has
 
@@ -77,22 +76,7 @@ pub header_at : (v : Version) (n : ℕ) (s : State) (dims : List Dim) (gatts : L
     header_with v n s ≡ record { version = v; numrecs = Known n; dims = dims; gatts = gatts; vars = vars }
 header_at v n s dims gatts vars listed is att-is lists = search (rules, all_are)
 
-unsound : (v : Version) (s : State) (line n : ℕ) → records_kept s.dims s.drafts ≡ Some n → is_sound (header_with v n s) ≡ false → finished v line (Ok s) ≡ or_too_large line None
-unsound v s line n kept bad =
-    let some = some_of (list_all (is_within_limits s.dims (records_in s.dims s.drafts)) s.drafts) (records_in s.dims s.drafts) n kept in
-    answer v s line false (enough_is v s false true (ap is_sound (sym (same_header v s n some.1)) ∙ bad) some.0)
-
-is_declared : (v : Version) (s : State) (line n : ℕ) → records_kept s.dims s.drafts ≡ Some n → is_sound (header_with v n s) ≡ true →
-    finished v line (Ok s) ≡ or_too_large line (Some (record { header = header_with v n s; listed = map listed_of s.drafts }))
-is_declared v s line n kept sound =
-    let some = some_of (list_all (is_within_limits s.dims (records_in s.dims s.drafts)) s.drafts) (records_in s.dims s.drafts) n kept in
-    let same = same_header v s n some.1 in
-    answer v s line true (enough_is v s true true (ap is_sound (sym same) ∙ sound) some.0) ∙
-    ap (λ (h : Header). or_too_large line (Some (record { header = h; listed = map listed_of s.drafts }))) (sym same)
-
 pub finished_as : (v : Version) (s : State) (line n : ℕ) → records_kept s.dims s.drafts ≡ Some n → finished v line (Ok s) ≡ or_too_large line (if_sound (header_with v n s) (map listed_of s.drafts))
-finished_as v s line n kept = by (is_sound (header_with v n s)) refl
-  where
-    by : (sound : Bool) → is_sound (header_with v n s) ≡ sound → finished v line (Ok s) ≡ or_too_large line (if sound then Some (record { header = header_with v n s; listed = map listed_of s.drafts }) else None)
-    by true is = is_declared v s line n kept is
-    by false is = unsound v s line n kept is
+finished_as v s line n kept =
+    let some = some_of (list_all (is_within_limits s.dims (records_in s.dims s.drafts)) s.drafts) (records_in s.dims s.drafts) n kept in
+    answer v s line (is_sound (header_of v s)) (enough_is v s true some.0) ∙ ap (λ m. or_too_large line (if_sound (header_with v m s) (map listed_of s.drafts))) some.1

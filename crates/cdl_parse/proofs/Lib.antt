@@ -5,7 +5,6 @@ pub mod VariableNames
 pub mod Runs
 pub mod Defining
 pub mod RunSteps
-pub mod ShapesKept
 pub mod DimensionPositions
 pub mod DimensionReads
 pub mod Extents
@@ -17,7 +16,6 @@ pub mod DataRuns
 pub mod DraftNames
 pub mod VariableAttributes
 pub mod DeclarationReads
-pub mod Shapes
 pub mod Closings
 pub mod Copies
 pub mod WholeTexts

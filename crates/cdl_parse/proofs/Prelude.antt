@@ -3,17 +3,17 @@ pub use Rattle.cdl_statements.specs.Meaning.{array_of, closing_line, dataset_of,
 pub use Rattle.cdl_statements.proofs.Readings.{checked, shaped}
 unfoldable pub use Rattle.cdl_statements.specs.Meaning.{finished, are_within_limits, piece_read, run}
 pub use Rattle.std.specs.Option.{ok_or}
-pub use Rattle.cdl_statements.specs.State.{Draft, State, add_constant, change_named, dim_len_of, first_type, in_turn, type_said, unless, when, with_att, with_values, ◌>>=◌}
+pub use Rattle.cdl_statements.specs.State.{Draft, State, add_constant, change_named, dim_len_of, first_type, in_turn, type_said, unless, when, with_att, ◌>>=◌}
 unfoldable pub use Rattle.cdl_statements.specs.State.{act, add_att, add_dim, add_dimid, add_var, change_variable, type_of}
 pub use Rattle.cdl_parse.specs.code.AttributeNames.{att_names, has_attribute}
 pub use Rattle.cdl_parse.specs.code.AttributeRead.{att_read, att_said, constants_said}
 pub use Rattle.cdl_parse.specs.code.ClosingLines.{closing_after, closing_of, with_line}
 pub use Rattle.cdl_parse.specs.code.DataSections.{BeginsData, Closes, IsInDataSection, ReadsOne, TakesStatement, given_at}
-pub use Rattle.cdl_parse.specs.code.Declarations.{ReadsDimension, added, continued, declared, is_open_after, next_dimid, read_on, type_first, with_begun}
+pub use Rattle.cdl_parse.specs.code.Declarations.{ReadsDimension, added, continued, declared, is_open_after, next_dimid, read_on, with_begun}
 pub use Rattle.cdl_parse.specs.code.DeclaredDatasets.{dataset_of_declared, if_sound, or_too_large}
 pub use Rattle.cdl_parse.specs.code.Defined.{Makes, after_mark, is_defining, is_early, is_over, state_of}
 pub use Rattle.cdl_parse.specs.code.DimensionNames.{dim_names, is_dimension_name, with_new_dim}
-pub use Rattle.cdl_parse.specs.code.Drafts.{draft, draft_of, drafts_of, is_variable_name, var_of, variable_names, with_new_draft}
+pub use Rattle.cdl_parse.specs.code.Drafts.{draft_of, drafts_of, is_variable_name, var_of, variable_names, with_new_draft}
 pub use Rattle.cdl_parse.specs.code.Extents.{is_within_limits, records_for, records_kept, records_within, with_all}
 pub use Rattle.cdl_parse.specs.code.Runs.{FailsAt, ReadsOn, at_line, run_after}
 pub use Rattle.cdl_parse.specs.code.TakenNames.{duplicate_name_or}
@@ -23,7 +23,7 @@ pub use Rattle.cdl_statements.proofs.DimensionSteps.{first_goes, on, said_on, se
 pub use Rattle.cdl_statements.proofs.Dues.{only_completes}
 pub use Rattle.cdl_statements.proofs.Listing.{value_first}
 pub use Rattle.cdl_statements.specs.Lexemes.{Lexeme, is_mark, is_mark_kind, is_word_kind, lexeme}
-pub use Rattle.cdl_statements.specs.Shapes.{Attribute, Close, Dimension, End, Listed, Enter, Open, Statement, DeclareVariables, Value, first_bad}
+pub use Rattle.cdl_statements.specs.Shapes.{Close, Dimension, End, Statement, Value, first_bad}
 pub use Rattle.cdl_statements.specs.Pieces.{section_of, statements, step}
 unfoldable pub use Rattle.cdl_statements.specs.Shapes.{shape}
 pub use Rattle.cdl_statements.specs.code.Contents.{Declaration, attribute_said, dimension_said, is_unlimited, mark_said, other_said, parts_or_zero, variable_said, with_name}
@@ -36,7 +36,7 @@ unfoldable pub use Rattle.cdl_statements.specs.code.DueTokens.{completes, next}
 pub use Rattle.cdl_statements.specs.code.Views.{lexeme_of}
 pub use Rattle.cdl_statements.specs.declared.{cutter.Cutter.Cutter, due.Due.Due, fault.CdlKind.CdlKind, section.Section.Section}
 pub use Rattle.cdl_statements.specs.declared.due.Due.TheVariants.{AfterVariable, AttributeName, DimensionName, Equals, Separator, VariableName}
-pub use Rattle.cdl_statements.specs.declared.fault.CdlKind.TheVariants.{BadName, BadShape, DuplicateData, DuplicateName, NumberRange, Syntax, UnknownDimension, UnknownVariable}
+pub use Rattle.cdl_statements.specs.declared.fault.CdlKind.TheVariants.{BadName, DuplicateName, Syntax, UnknownVariable}
 pub use Rattle.cdl_statements.specs.declared.section.Section.TheVariants.{Closed, Dimensions, Ended, Globals, Unopened, Values, Variables}
 unfoldable pub use Rattle.cdl_tokens.specs.Escapes.{word_value}
 pub use Rattle.cdl_tokens.specs.Numerals.{Parts, number, signed}
@@ -50,23 +50,21 @@ pub use Rattle.cdl_values.specs.declared.{data.Target.Target, read_error.ReadErr
 pub use Rattle.cdl_values.specs.declared.read_error.ReadError.TheVariants.{Fault, OutOfMemory}
 unfoldable pub use Rattle.nc_base.specs.Fill.{fill_value}
 pub use Rattle.nc_base.specs.Headers.{AreDimids}
-pub use Rattle.nc_base.specs.Headers.{IsDimid}
-pub use Rattle.nc_base.specs.Sizes.{value_count, array_limit, dim_len, is_record_dim, is_record_var, product, slab_count, slab_lens, slab_limit, slab_size}
+pub use Rattle.nc_base.specs.Sizes.{array_limit, is_record_var, slab_count, slab_limit, slab_size}
 pub use Rattle.nc_base.specs.Names.{is_name}
 pub use Rattle.nc_base.specs.Numbers.{bytes_of_number}
-pub use Rattle.nc_base.specs.code.OwedValues.{fills, whole_array, whole_arrays}
+pub use Rattle.nc_base.specs.code.OwedValues.{whole_array, whole_arrays}
 pub use Rattle.nc_base.specs.declared.{header.Att.Att, header.Dim.Dim, header.Header.Header, header.NumRecs.TheVariants.Known, header.Var.Var, nc_type.NcType.NcType, version.Version.Version}
-pub use Rattle.std.proofs.lemmas.Bool.{cases_Bool, cond-false, cond-true, false≢true, le-leb}
-pub use Rattle.std.proofs.lemmas.List.{append-nil, get_or_append_left, length-append, length-map, map-append, set-get_or}
-pub use Rattle.std.proofs.lemmas.List.Elements.{All-cons, All-head, All-nil, All-push, All-tail}
-pub use Rattle.std.specs.List.{concat, flat_map, list_all, list_any, position, position_from, position_or_len}
-pub use Rattle.std.specs.Ordering.{int_eq, is_eq, nat_cmp}
+pub use Rattle.std.proofs.lemmas.Bool.{false≢true, le-leb}
+pub use Rattle.std.proofs.lemmas.List.{length-map, set-get_or}
+pub use Rattle.std.proofs.lemmas.List.Elements.{All-cons, All-head, All-nil, All-tail}
+pub use Rattle.std.specs.List.{concat, flat_map, list_all, position, position_from}
 pub use Rattle.std.specs.Str.{bytes_eq}
 pub use Rattle.std.specs.Vec.Iter.{into_iter_items}
-pub use Rattle.std.specs.declared.alloc.AllocError.{AllocError}
-pub use Rattle.nc_base.proofs.Tests.{none_before}
 pub use Rattle.nc_base.proofs.SoundLaws.{some_count, some_product}
 pub use Rattle.cdl_values.proofs.NamePositions.{any_is, new_is}
 pub use Rattle.cdl_values.proofs.AllowedNames.{stopped}
 pub use Rattle.nc_base.proofs.FilePlaces.{length-numbers}
 pub use Rattle.std.specs.Prelude.{⊤}
+pub use Rattle.cdl_statements.proofs.ListedValues.{AreFit, piece_fit}
+pub use Rattle.cdl_statements.proofs.Results.{OkIs}

@@ -12,6 +12,12 @@ pub past_colon : (l : Lexeme) (ends : Bool) (ws all : List Lexeme) → all ≡ l
 unfolding completes
 past_colon l ends ws all h h2 = grind (arith, false≢true)
 
+pub past_both : (l c : Lexeme) (a b : Bool) (ns ws all : List Lexeme) → completes AttributeName (drop 2 all) ≡ true → all ≡ l ∷ (if a then [] else ws) → ws ≡ c ∷ (if b then [] else ns) → (b ≡ false) × (drop 2 all ≡ ns)
+past_both l c a b ns ws all on first second =
+    let one = past_name l a ws all first on in
+    let two = past_colon c b ns ws second (ap (completes AttributeName) (sym one.1) ∙ on) in
+    (two.0, one.1 ∙ two.1)
+
 pub name_is : (l : Lexeme) (ws all : List Lexeme) → all ≡ l ∷ ws → name_first all ≡ word_value l.bytes
 name_is l ws all first = ap name_first first
 

@@ -12,10 +12,6 @@ comma_on text c h = search rules
 pub is_comma : (text : List ℕ) (c : Token) → c.kind ≡ kinds.Mark → slice_index (raw text c) 0 ≡ 0x2c → is_mark 0x2c (lexeme text c) ≡ true
 is_comma text c mark byte = rw (mark) (rw (byte) refl)
 
--- a comma ends no piece
-pub comma_role : (text text' : List ℕ) (c : Token) → text' ≡ text → IsComma text c → role_in text' c ≡ Other
-comma_role text text' c same comma = ap (λ (t : List ℕ). role_in t c) same ∙ (comma_on text c (is_comma text c comma.mark comma.comma)).1
-
 -- the pieces, a token and a comma on
 pieces_past : (text text' : List ℕ) (state : CutState) (done : Bool) (c t d : Token) (before after : List Token) → text' ≡ text → state ≡ Inside → done ≡ false → before ≡ t ∷ d ∷ after →
     is_mark 0x2c (lexeme text c) ≡ true → role_in text t ≡ Other → is_mark 0x2c (lexeme text d) ≡ true →

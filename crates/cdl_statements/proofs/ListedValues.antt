@@ -1,7 +1,10 @@
--- No more is listed of a variable than it has values, unless it has records.
-use Rattle.std.proofs.Common.{◌≡◌, ℕ, ◌-◌, ◌<◌, ◌≤◌, false, List, [], ◌∷◌, ◌++◌, length, map, refl, sym, ap, ◌∙◌, arith, ℤ, Some, None, Result, Ok, replicate, drop, slice_index}
-use Rattle.std.proofs.lemmas.List.{length-append, length-replicate, length-map, map-append, get_or_append_left}
+-- Shapes are sound, and no more is listed of a variable than it has values, unless it has records.
+use Rattle.std.proofs.Common.{◌≡◌, ℕ, ◌-◌, ◌<◌, ◌≤◌, Bool, false, List, [], ◌∷◌, ◌++◌, length, map, refl, sym, subst, ap, ◌∙◌, append_assoc, arith, rules, ℤ, IfSome, position, Some, None, Result, Ok, replicate, drop, slice_index}
+use Rattle.std.proofs.lemmas.List.{append-nil, length-append, length-replicate, length-map, map-append, get_or_append_left}
 use Rattle.nc_base.specs.declared.{header.Att.Att, header.Dim.Dim, header.Var.Var, nc_type.NcType.NcType, version.Version.Version}
+use Rattle.std.specs.Option.{ok_or}
+use Rattle.nc_base.proofs.Tests.{none_before}
+use Rattle.nc_base.specs.Headers.{AreDimids, IsDimid}
 use Rattle.nc_base.specs.Names.{is_name}
 use Rattle.nc_base.specs.Sizes.{dim_len, is_record_shape, is_record_var, slab_count}
 use Rattle.cdl_statements.specs.declared.{fault.CdlKind.CdlKind, fault.CdlKind.TheVariants.BadName}
@@ -9,7 +12,7 @@ use Rattle.cdl_statements.specs.Meaning.{listed_values, piece_read, run}
 use Rattle.cdl_statements.specs.State.{Draft, State, Takes, act, add_att, add_dim, add_dimid, add_value, add_var, change_named, change_variable, filled, takes_of, unless, values_listed, with_att, with_values}
 use Rattle.cdl_statements.proofs.Prelude.{Attribute, DeclareDimensions, DeclareVariables, Dimension, Lexeme, Listed, Statement, Value, Variable, Token}
 use Rattle.cdl_statements.proofs.Each.{Each, each_drop, each_map, each_more}
-use Rattle.cdl_statements.proofs.Results.{OkIs, any_each, ok_next, ok_then, ok_unless, ok_when, turns}
+use Rattle.cdl_statements.proofs.Results.{OkIs, any_each, ok_found, ok_next, ok_then, ok_unless, ok_when, turns}
 
 -- ---- what a statement lists
 
@@ -51,9 +54,13 @@ dim_step v first dims d e u = grind (arith, ok_unless, ok_when, ok_next, (λ (n 
 abbrev pub IsKnown : List Dim → ℕ → Type 0
 IsKnown dims id = id < length dims
 
--- its dimensions are there, and no more is listed of it than a slab has, if it is no record variable
+known_in : (dims : List Dim) (before ids : List ℕ) → AreDimids dims before ids → Each (IsKnown dims) ids
+known_in dims before [] are = tt
+known_in dims before (id ∷ ids) are = (are.0.known, known_in dims (before ++ id ∷ []) ids are.1)
+
+-- its shape is sound, and no more is listed of it than a slab has, if it is no record variable
 pub record IsFit (dims : List Dim) (d : Draft) : Type 0 where
-  pub known : Each (IsKnown dims) d.var.dimids
+  pub shape : AreDimids dims [] d.var.dimids
   pub within : is_record_var dims d.var ≡ false → length (listed_values d) ≤ slab_count dims d.var
 
 module _ (dims more : List Dim) (e : Extends dims more) where
@@ -68,22 +75,35 @@ module _ (dims more : List Dim) (e : Extends dims more) where
   same_slab : (var : Var) → Each (IsKnown dims) var.dimids → slab_count more var ≡ slab_count dims var
   same_slab var known = grind (arith, same_shape var.dimids known, same_lens var.dimids known, same_lens (drop 1 var.dimids) (each_drop (IsKnown dims) 1 var.dimids known))
 
+  still_shaped : (before ids : List ℕ) → AreDimids dims before ids → AreDimids more before ids
+  still_shaped before [] are = tt
+  still_shaped before (id ∷ ids) are = grind (arith, still_shaped (before ++ id ∷ []) ids are.1, e.same id are.0.known, e.longer)
+
   still_fit : (d : Draft) → IsFit dims d → IsFit more d
-  still_fit d fit = record {
-    known = each_map (IsKnown dims) (IsKnown more) d.var.dimids (λ id h. omega (arith, h, e.longer)) fit.known;
-    within = λ closed. let slab = same_slab d.var fit.known in let small = fit.within (sym (same_shape d.var.dimids fit.known) ∙ closed) in omega (arith, slab, small);
-  }
+  still_fit d fit =
+      let known = known_in dims [] d.var.dimids fit.shape in
+      record {
+        shape = still_shaped [] d.var.dimids fit.shape;
+        within = λ closed. let slab = same_slab d.var known in let small = fit.within (sym (same_shape d.var.dimids known) ∙ closed) in omega (arith, slab, small);
+      }
 
 -- ---- statements
 
-id_step : (dims : List Dim) (ids name : List ℕ) → Each (IsKnown dims) ids → Unit {0} → OkIs (Each (IsKnown dims)) (add_dimid dims ids name)
+dimids_more : (dims : List Dim) (before ids : List ℕ) (k : ℕ) → AreDimids dims before ids → IsDimid dims (before ++ ids) k → AreDimids dims before (ids ++ k ∷ [])
+dimids_more dims before [] k are is = (subst (λ b. IsDimid dims b k) (append-nil before) is, tt)
+dimids_more dims before (i ∷ ids) k are is = (are.0, dimids_more dims (before ++ i ∷ []) ids k are.1 (subst (λ b. IsDimid dims b k) (sym (append_assoc before (i ∷ []) ids)) is))
+
+position_under : {X : Type 0} (p : X → Bool) (xs : List X) → IfSome (position p xs) (λ k. k < length xs)
+position_under p xs = search rules
+
+id_step : (dims : List Dim) (ids name : List ℕ) → AreDimids dims [] ids → Unit {0} → OkIs (AreDimids dims []) (add_dimid dims ids name)
 unfolding add_dimid
-id_step dims ids name known u = grind (arith, each_more)
+id_step dims ids name are u = search (rules, ok_unless, ok_or, ok_found, position_under, ok_when, dimids_more, none_before)
 
 var_step : (dims : List Dim) (ty : NcType) (drafts : List Draft) (x : Variable) → Each (IsFit dims) drafts → Unit {0} → OkIs (Each (IsFit dims)) (add_var dims ty drafts x)
 unfolding add_var
 var_step dims ty drafts x fit u =
-    let ids = turns (add_dimid dims) (Each (IsKnown dims)) (λ name. Unit {0}) (id_step dims) [] x.dimensions tt (any_each x.dimensions) in
+    let ids = turns (add_dimid dims) (AreDimids dims []) (λ name. Unit {0}) (id_step dims) [] x.dimensions tt (any_each x.dimensions) in
     grind (arith, ids, ok_unless, ok_when, ok_then, each_more)
 
 named_keeps : (P : Draft → Type 0) (name : List ℕ) (f : Draft → Result Draft CdlKind) → ((d : Draft) → P d → OkIs P (f d)) → (ds : List Draft) → Each P ds → OkIs (Each P) (change_named name f ds)
@@ -96,7 +116,7 @@ changed_fit dims name f step ds fit = ok_next (Each (IsFit dims)) (unless (is_na
 
 att_fit : (dims : List Dim) (name : List ℕ) (cs : List Value) (d : Draft) → IsFit dims d → OkIs (IsFit dims) (with_att name cs d)
 att_fit dims name cs d fit =
-    ok_next (IsFit dims) (add_att name cs d.var.atts) (λ (atts : List Att). Ok (record d { var = record d.var { atts = atts } })) (λ atts. record { known = fit.known; within = fit.within })
+    ok_next (IsFit dims) (add_att name cs d.var.atts) (λ (atts : List Att). Ok (record d { var = record d.var { atts = atts } })) (λ atts. record { shape = fit.shape; within = fit.within })
 
 listing_fit : (dims : List Dim) (xs : List Value) (d : Draft) → IsFit dims d → OkIs (IsFit dims) (with_values dims xs d)
 listing_fit dims xs d fit = grind (arith, values_fit dims d.var xs, ok_when, ok_then)
@@ -118,7 +138,7 @@ act_fit v s (Listed variable xs) fit =
     grind (arith, ok_then, changed_fit s.dims variable (with_values s.dims xs) (listing_fit s.dims xs) s.drafts fit)
 act_fit v s _ fit = fit
 
-piece_fit : (v : Version) (s : State) (piece : List Lexeme) → AreFit s → OkIs AreFit (piece_read v s piece)
+pub piece_fit : (v : Version) (s : State) (piece : List Lexeme) → AreFit s → OkIs AreFit (piece_read v s piece)
 unfolding piece_read
 piece_fit v s piece fit = grind (arith, act_fit v s)
 

@@ -1,5 +1,5 @@
 -- Lists of constants: the table of due tokens says whether one has its shape, and its values are those of its tokens.
-use Rattle.std.proofs.Common.{◌≡◌, ℕ, Bool, true, false, List, [], ◌∷◌, refl, sym, ap, ◌∙◌, arith, None, Some, if◌then◌else◌, is_none, rules}
+use Rattle.std.proofs.Common.{◌≡◌, ℕ, Bool, true, false, List, [], ◌∷◌, refl, sym, ap, ◌∙◌, arith, None, Some, if◌then◌else◌, is_none}
 use Rattle.cdl_statements.proofs.Prelude.{Version, value_of, values, is_value_of, next, completes, Lexeme, is_mark_kind, parts, number, numeral, token_fault, first_bad, constant_of, constant, constants, after_member, TokenKind, and_false}
 use Rattle.cdl_statements.specs.declared.due.Due.TheVariants as dues
 use Rattle.cdl_statements.proofs.Dues.{fine, fine_on, kind_of_mark, due_for, both_due, member_due}
@@ -24,10 +24,6 @@ value_first v takes_fill l ls h = rw (no_mark_value takes_fill l h) refl
 pub past_mark : (v : Version) (l : Lexeme) (ls : List Lexeme) → is_mark_kind l.kind ≡ true → values v (l ∷ ls) ≡ values v ls
 unfolding values
 past_mark v l ls h = rw (h) refl
-
-lone_value : (v : Version) (takes_fill : Bool) (l : Lexeme) → None ≡ due_for (dues.Value takes_fill) (l ∷ []) (values v (l ∷ []))
-unfolding completes next
-lone_value v takes_fill l = search rules
 
 pub constants_due : (v : Version) (takes_fill : Bool) (ls : List Lexeme) → first_bad v ls ≡ None → constants v takes_fill ls ≡ due_for (dues.Value takes_fill) ls (values v ls)
 unfolding completes next values

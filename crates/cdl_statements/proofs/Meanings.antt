@@ -1,13 +1,12 @@
 -- What a text means has a sound header, and arrays that are whole.
-use Rattle.std.proofs.Common.{◌≡◌, ℕ, ◌*◌, ◌≤◌, ◌<◌, true, false, List, [], ◌∷◌, length, map, refl, subst, arith, suc, Bool, ℤ, Result, Ok, All, rules, if◌then◌else◌}
+use Rattle.std.proofs.Common.{◌≡◌, ℕ, ◌*◌, ◌≤◌, ◌<◌, true, false, List, [], ◌∷◌, length, map, refl, subst, arith, suc, Bool, ℤ, Result, Ok, rules, if◌then◌else◌}
 use Rattle.std.proofs.lemmas.Bool.{leb-true}
-use Rattle.std.proofs.lemmas.List.Elements.{All-head, All-tail}
 use Rattle.std.proofs.Math.Nat.{lt-div-mul-add, mul-le-mul_left, mul_comm}
 use Rattle.std.specs.List.{flat_map, list_all}
 use Rattle.nc_base.specs.Bytes.{AreBytes}
 use Rattle.nc_base.specs.declared.{dataset.Dataset.Dataset, header.Dim.Dim, nc_type.NcType.NcType, version.Version.Version}
 use Rattle.nc_base.specs.GeneratedFile.{known_records}
-use Rattle.nc_base.specs.Headers.{AreArrays, AreDimids, IsArray, IsSound, IsSoundVar}
+use Rattle.nc_base.specs.Headers.{AreArrays, IsArray, IsSound}
 use Rattle.nc_base.specs.Numbers.{bytes_of_number}
 use Rattle.nc_base.specs.Sizes.{array_limit, is_record_var, slab_count, value_count}
 use Rattle.nc_base.specs.Types.{size_of}
@@ -43,25 +42,23 @@ are_bytes _ h _ = grind arith
 -- ---- arrays
 
 -- what is listed has room over the records
-listed_fits : (dims : List Dim) (r : ℕ) (d : Draft) → AreDimids dims [] d.var.dimids → IsFit dims d → records_of dims d ≤ r → length (listed_values d) ≤ value_count dims d.var r
-listed_fits dims r d shape fit h = by (is_record_var dims d.var) refl
+listed_fits : (dims : List Dim) (r : ℕ) (d : Draft) → IsFit dims d → records_of dims d ≤ r → length (listed_values d) ≤ value_count dims d.var r
+listed_fits dims r d fit h = by (is_record_var dims d.var) refl
   where
     by : (growing : Bool) → is_record_var dims d.var ≡ growing → length (listed_values d) ≤ slab_count dims d.var * (if growing then r else 1)
-    by true is = grind (arith, some_count dims d.var.dimids shape, lt-div-mul-add, mul-le-mul_left, mul_comm)
+    by true is = grind (arith, some_count dims d.var.dimids fit.shape, lt-div-mul-add, mul-le-mul_left, mul_comm)
     by false is = let few = fit.within is in omega (arith, few)
 
-array_is : (dims : List Dim) (r : ℕ) (d : Draft) → AreDimids dims [] d.var.dimids → IsFit dims d → value_count dims d.var r * size_of d.var.ty ≤ array_limit → records_of dims d ≤ r → IsArray dims r d.var (array_of dims r d)
-array_is dims r d shape fit small h = search (rules, filled, length-numbers, filled_len, listed_fits, are_bytes, numbers_bytes)
+array_is : (dims : List Dim) (r : ℕ) (d : Draft) → IsFit dims d → value_count dims d.var r * size_of d.var.ty ≤ array_limit → records_of dims d ≤ r → IsArray dims r d.var (array_of dims r d)
+array_is dims r d fit small h = search (rules, filled, length-numbers, filled_len, listed_fits, are_bytes, numbers_bytes)
 
-arrays_are : (v : Version) (dims : List Dim) (r : ℕ) (ds : List Draft) → All (IsSoundVar v dims) (map (λ (d : Draft). d.var) ds) → Each (IsFit dims) ds → list_all (has_small_array dims r) ds ≡ true → records_in dims ds ≤ r →
+arrays_are : (dims : List Dim) (r : ℕ) (ds : List Draft) → Each (IsFit dims) ds → list_all (has_small_array dims r) ds ≡ true → records_in dims ds ≤ r →
     AreArrays dims r (map (λ (d : Draft). d.var) ds) (map (array_of dims r) ds)
-arrays_are v dims r [] sound fit small h = tt
-arrays_are v dims r (d ∷ ds) sound fit small h =
-    let vars = map (λ (d : Draft). d.var) ds in
-    let first = All-head (IsSoundVar v dims) d.var vars sound in (
-      array_is dims r d first.shape fit.0 (leb-true _ _ (and_left (has_small_array dims r d) (list_all (has_small_array dims r) ds) small)) (omega (arith, h)),
-      arrays_are v dims r ds (All-tail (IsSoundVar v dims) d.var vars sound) fit.1 (and_right (has_small_array dims r d) (list_all (has_small_array dims r) ds) small) (omega (arith, h)),
-    )
+arrays_are dims r [] fit small h = tt
+arrays_are dims r (d ∷ ds) fit small h = (
+  array_is dims r d fit.0 (leb-true _ _ (and_left (has_small_array dims r d) (list_all (has_small_array dims r) ds) small)) (omega (arith, h)),
+  arrays_are dims r ds fit.1 (and_right (has_small_array dims r d) (list_all (has_small_array dims r) ds) small) (omega (arith, h)),
+)
 
 -- ---- the dataset
 
@@ -78,7 +75,7 @@ dataset_whole v s fit within =
     record {
       version = refl;
       sound = sound;
-      arrays = arrays_are v s.dims r s.drafts sound.vars fit (and_right (is_sound (header_of v s)) (list_all (has_small_array s.dims r) s.drafts) within) (omega arith);
+      arrays = arrays_are s.dims r s.drafts fit (and_right (is_sound (header_of v s)) (list_all (has_small_array s.dims r) s.drafts) within) (omega arith);
     }
 
 finished_whole : (v : Version) (line : ℕ) (r : Result State CdlFault) → OkIs AreFit r → OkIs (IsWhole v) (finished v line r)

@@ -1,5 +1,6 @@
 -- What holds of what a result has.
-use Rattle.std.proofs.Common.{◌≡◌, Bool, true, false, List, [], ◌∷◌, arith, Result, Ok, Err}
+use Rattle.std.proofs.Common.{◌≡◌, Bool, true, false, List, [], ◌∷◌, arith, IfSome, Option, Result, Ok, Err}
+use Rattle.std.specs.Option.{ok_or}
 use Rattle.std.specs.Prelude.{⊤}
 use Rattle.cdl_statements.specs.declared.fault.CdlKind.{CdlKind}
 use Rattle.cdl_statements.specs.State.{in_turn, unless, when, ◌>>=◌}
@@ -20,6 +21,9 @@ ok_unless Q b e f h = grind arith
 
 pub ok_when : {B : Type 0} (Q : B → Type 0) (b : Bool) (e : CdlKind) (f : ⊤ → Result B CdlKind) → (b ≡ false → OkIs Q (f tt)) → OkIs Q (when b e >>= f)
 ok_when Q b e f h = grind arith
+
+pub ok_found : {A B : Type 0} (P : A → Type 0) (Q : B → Type 0) (o : Option A) (e : CdlKind) (f : A → Result B CdlKind) → IfSome o P → ((a : A) → P a → OkIs Q (f a)) → OkIs Q (ok_or o e >>= f)
+ok_found P Q o e f h h2 = grind arith
 
 -- what keeps P at each step keeps it over all
 pub turns : {S A : Type 0} (f : S → A → Result S CdlKind) (P : S → Type 0) (Q : A → Type 0) → ((s : S) (x : A) → P s → Q x → OkIs P (f s x)) →

@@ -2,14 +2,7 @@
 use Rattle.std.proofs.Common.{◌≡◌, ℕ, true, false, List, [], ◌∷◌, refl, ap, ◌∙◌, Bool, Option, None, if◌then◌else◌, is_none, option_map, arith}
 use Rattle.cdl_tokens.specs.code.Magnitudes.{held}
 use Rattle.cdl_tokens.specs.declared.numeral.Numeral.{Numeral}
-use Rattle.cdl_statements.proofs.Prelude.{Version, Lexeme, parts, number, numeral, first_bad, option_or, token_fault, CdlKind}
-
-pub bad_on : (version : Version) (bad : Option CdlKind) (l : Lexeme) (ls : List Lexeme) →
-    option_or bad (first_bad version (l ∷ ls)) ≡ option_or (option_or bad (token_fault version l.kind l.bytes)) (first_bad version ls)
-bad_on version bad l ls = grind arith
-
-pub none_bad : (version : Version) (bad : Option CdlKind) → option_or bad (first_bad version []) ≡ bad
-none_bad version bad = grind arith
+use Rattle.cdl_statements.proofs.Prelude.{Version, Lexeme, parts, number, numeral, first_bad, option_or, token_fault}
 
 -- a token's words, where the piece goes on and where it ends
 pub going : (ws rest : List Lexeme) (l m : Lexeme) (ends : Bool) → ws ≡ l ∷ (if ends then [] else rest) → l ≡ m → ends ≡ false → ws ≡ m ∷ rest

@@ -1,6 +1,6 @@
 -- Values of one slab, and then more of the next ones.
-use Rattle.std.proofs.Common.{◌≡◌, ℕ, ◌+◌, ◌-◌, ◌*◌, ◌^◌, ◌<◌, ◌≤◌, min, Bool, List, ◌++◌, length, take, map, sym, ◌∙◌, ap, subst, arith, length-append, length-take, All}
-use Rattle.nc_walk.proofs.Prelude.{concat, map-append, All-append, concat-append, mod-mul-add, mul-le-mul_right, lt_of_mul-lt-mul_right, take-add, bytes_at, HasFailed, SourceView, having_read, Slabs, Cursor, total, number_at, offset, offsets_after, offsets_from, IsSized, IsOffset, Ready, Use, between, WalkView, IsWhole, Exactly, ReturnsValues, Failing, Truncated, ReadValues, Reading, reading, standing}
+use Rattle.std.proofs.Common.{◌≡◌, ℕ, ◌+◌, ◌-◌, ◌*◌, ◌^◌, ◌<◌, ◌≤◌, min, Bool, List, ◌++◌, length, take, sym, ◌∙◌, ap, subst, arith, length-append, length-take, All}
+use Rattle.nc_walk.proofs.Prelude.{map-append, All-append, concat-append, mod-mul-add, mul-le-mul_right, lt_of_mul-lt-mul_right, take-add, HasFailed, SourceView, having_read, Slabs, Cursor, total, number_at, offset, offsets_after, IsSized, IsOffset, Ready, Use, between, WalkView, IsWhole, Exactly, ReturnsValues, Failing, Truncated, ReadValues, Reading, reading, standing}
 use borrow.Rule.Slice.PartMut.{put_mid}
 use Rattle.nc_walk.specs.declared.chunk.Chunk.{Chunk}
 use Rattle.nc_walk.specs.code.Chunks.{Collected}
@@ -23,11 +23,7 @@ module _ (is_transparent : Bool) (l : Slabs) (i n : ℕ) (had part : List ℕ) (
   count_for m le = omega (arith, le, within, length-offsets l i (total l - i), length-offsets l (i + n) (total l - (i + n)))
 
   left_then : (m : ℕ) → take (n + m) (offsets_after l i) ≡ take n (offsets_after l i) ++ take m (offsets_after l (i + n))
-  left_then m =
-      let e : total l - i - n ≡ total l - (i + n) = omega arith in
-      take-add n m (offsets_after l i)
-      ∙ ap (λ (xs : List ℕ). take n (offsets_after l i) ++ take m xs)
-      (drop-offsets l i (total l - i) n (omega (arith, within, length-offsets l i (total l - i))) ∙ ap (offsets_from l (i + n)) e)
+  left_then m = grind (arith, take-add, drop-offsets, length-offsets)
 
   whole_then : (m : ℕ) → mid.bytes ≡ before.bytes → All (IsWhole l.size before.bytes) (take n (offsets_after l i))
       → All (IsWhole l.size mid.bytes) (take m (offsets_after l (i + n))) → All (IsWhole l.size before.bytes) (take (n + m) (offsets_after l i))
@@ -40,19 +36,7 @@ module _ (is_transparent : Bool) (l : Slabs) (i n : ℕ) (had part : List ℕ) (
   handed_then a b e f = f ∙ ap (λ (s : SourceView). having_read s b) e ∙ after_after before a b
 
   exactly_then : (xs ys : List ℕ) (m : ℕ) → Exactly w before mid xs n → Exactly next mid now ys m → Exactly w before now (xs ++ ys) (n + m)
-  exactly_then xs ys m e f =
-      let first = take n (offsets_after l i) in
-      let more = take m (offsets_after l (i + n)) in
-      let same : mid.bytes ≡ before.bytes = ap (λ (s : SourceView). s.bytes) e.handed in
-      let read = bytes_at l.size before.bytes in record {
-        whole = whole_then m same e.whole f.whole;
-        bytes = ap (λ (zs : List ℕ). zs ++ ys) e.bytes
-            ∙ ap (λ (zs : List ℕ). concat (map read first) ++ zs) (f.bytes ∙ ap (λ (bytes : List ℕ). concat (map (bytes_at l.size bytes) more)) same)
-            ∙ sym (concat-append (map read first) (map read more))
-            ∙ ap concat (sym (map-append read first more))
-            ∙ ap (λ (offsets : List ℕ). concat (map read offsets)) (sym (left_then m));
-        handed = handed_then (length xs) (length ys) e.handed f.handed ∙ ap (having_read before) (sym (length-append xs ys));
-      }
+  exactly_then xs ys m e f = grind (arith, whole_then, concat-append, map-append, left_then, handed_then, length-append)
 
   pub hands_then : (xs ys : List ℕ) (m : ℕ) → ReturnsValues is_transparent w before mid xs n → ReturnsValues is_transparent next mid now ys m → ReturnsValues is_transparent w before now (xs ++ ys) (n + m)
   hands_then xs ys m h k = record {
@@ -66,11 +50,7 @@ module _ (is_transparent : Bool) (l : Slabs) (i n : ℕ) (had part : List ℕ) (
   }
 
   pub ran_then : (m : ℕ) → ReadValues l i before mid n → ReadValues l (i + n) mid now m → ReadValues l i before now (n + m)
-  ran_then m r s =
-      let e : n * l.size + m * l.size ≡ (n + m) * l.size = omega arith in record {
-        whole = whole_then m (ap (λ (s : SourceView). s.bytes) r.handed) r.whole s.whole;
-        handed = handed_then (n * l.size) (m * l.size) r.handed s.handed ∙ ap (having_read before) e;
-      }
+  ran_then m r s = grind (arith, whole_then, handed_then)
 
   pub failing_then : (m : ℕ) → ReadValues l i before mid n → Failing next mid now m → Failing w before now (n + m)
   failing_then m r f =
@@ -92,15 +72,7 @@ module _ (is_transparent : Bool) (l : Slabs) (i n : ℕ) (had part : List ℕ) (
       }
 
   pub hands_still : (xs : List ℕ) (k : ℕ) → ReturnsValues is_transparent w before mid xs n → Truncated is_transparent next mid now k → ReturnsValues is_transparent w before now xs n
-  hands_still xs k h t = record {
-    some = h.some;
-    len = h.len;
-    within = h.within;
-    capacity = h.capacity;
-    failures = t.failures ∙ h.failures;
-    handed = omega (arith, h.handed, t.kept);
-    exactly = transparent_both is_transparent (λ e f. record { whole = e.whole; bytes = e.bytes; handed = f.1 ∙ e.handed }) h.exactly t.missing;
-  }
+  hands_still xs k h t = grind (arith, transparent_both)
 
 -- ---- the cursor after the values
 

@@ -1,15 +1,12 @@
 -- The runs of a listed array, one after the other.
-use Rattle.std.proofs.Common.{◌≡◌, ℕ, zero, suc, ◌+◌, ◌-◌, ◌*◌, inl, inr, List, ◌++◌, length, take, drop, replicate, refl, sym, ◌∙◌, ap, arith, length-append, append_assoc, min}
+use Rattle.std.proofs.Common.{◌≡◌, ℕ, zero, suc, ◌+◌, ◌-◌, ◌*◌, List, ◌++◌, length, take, drop, replicate, refl, sym, ◌∙◌, ap, arith, length-append, append_assoc, min}
 use Rattle.nc_walk.proofs.Prelude.{concat, take-append-add, cases_lt, take-append-le, take_all, take-replicate, drop_at, drop-drop, append-nil, length-drop, length-replicate, replicate-append-replicate, repeated}
+use Rattle.nc_walk.proofs.Repeats.{take-both}
 use Rattle.nc_base.specs.code.ListedRows.{StandAt}
 
 copies-of-byte : (fill n : ℕ) → concat (replicate n (replicate 8 fill)) ≡ replicate (n * 8) fill
 copies-of-byte fill zero = refl
-copies-of-byte fill (suc n) =
-    let e : 8 + n * 8 ≡ suc n * 8 = omega arith in
-    ap (λ (xs : List ℕ). replicate 8 fill ++ xs) (copies-of-byte fill n)
-    ∙ replicate-append-replicate 8 (n * 8) fill
-    ∙ ap (λ (k : ℕ). replicate k fill) e
+copies-of-byte fill (suc n) = grind (arith, replicate-append-replicate 8 (n * 8) fill, copies-of-byte fill n)
 
 first-copies : (count n fill : ℕ) → take n (replicate count fill) ≡ replicate (min count n) fill
 first-copies count n fill = grind (arith, take_all, length-replicate, take-replicate)
@@ -25,30 +22,19 @@ pub run-pieces : (bytes : List ℕ) (count fill n listed filling : ℕ) → list
 unfolding repeated
 run-pieces bytes count fill n listed filling is padded = grind (arith, first-of-run, copies-of-byte, take-replicate)
 
+-- k of the first n: what is left of them after a run and its rest
+left-after : (run rest : List ℕ) (n k : ℕ) → k ≡ min n (length run) → take (n - k) (drop k (run ++ rest)) ≡ take (n - length run) rest
+left-after run rest n k is = grind (arith, cases_lt n (length run), drop_at run rest k)
+
 -- what is left from a place on is the rest of a run, and what comes after it
 pub next-run : (filled bytes : List ℕ) (at end count fill k : ℕ) → StandAt filled at bytes count fill → k ≡ min (end - at) (length bytes + count)
     → take (end - at) (drop at filled) ≡ take (end - at) (bytes ++ replicate count fill) ++ take (end - (at + k)) (drop (at + k) filled)
 next-run filled bytes at end count fill k stands is =
-    let n : ℕ = end - at in
     let run : List ℕ = bytes ++ replicate count fill in
-    let long : length run ≡ length bytes + count = omega (arith, length-append bytes (replicate count fill), length-replicate count fill) in
     let here : drop at filled ≡ run ++ stands.rest = stands.split ∙ sym (append_assoc bytes (replicate count fill) stands.rest) in
-    let further : drop (at + k) filled ≡ drop k (run ++ stands.rest) = sym (drop-drop k at filled) ∙ ap (drop k) here in
-    ap (take n) here
-    ∙ elim (cases_lt (length run) n) [
-      | inl past ↦
-          let all : length run ≡ k = omega (arith, past, long, is) in
-          let split : n ≡ length run + (end - (at + k)) = omega (arith, past, all) in
-          ap (λ (j : ℕ). take j (run ++ stands.rest)) split
-          ∙ take-append-add run stands.rest (end - (at + k))
-          ∙ ap (λ (b : List ℕ). b ++ take (end - (at + k)) stands.rest) (sym (take_all n run (omega (arith, past))))
-          ∙ ap (λ (b : List ℕ). take n run ++ take (end - (at + k)) b) (sym (further ∙ drop_at run stands.rest k all))
-      | inr within ↦
-          let none : 0 ≡ end - (at + k) = omega (arith, within, long, is) in
-          take-append-le n run stands.rest within
-          ∙ sym (append-nil (take n run))
-          ∙ ap (λ (j : ℕ). take n run ++ take j (drop (at + k) filled)) none
-    ]
+    let left : end - (at + k) ≡ end - at - k = omega arith in
+    let k_is : k ≡ min (end - at) (length run) = omega (arith, is, length-append bytes (replicate count fill), length-replicate count fill) in
+    rw (left, sym (drop-drop k at filled), here) (take-both (end - at) run stands.rest ∙ ap (λ (b : List ℕ). take (end - at) run ++ b) (sym (left-after run stands.rest (end - at) k k_is)))
 
 -- up to the end of the array
 pub part-whole : (filled : List ℕ) (start len end : ℕ) → end ≡ min (start + len) (length filled) → take len (drop start filled) ≡ take (end - start) (drop start filled)

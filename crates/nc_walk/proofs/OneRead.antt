@@ -1,5 +1,5 @@
 -- One read of a walk, and what the walk is afterwards.
-use Rattle.std.proofs.Common.{◌≡◌, ℕ, ◌+◌, ◌-◌, ◌*◌, ◌/◌, ◌<◌, ◌≤◌, Bool, List, ◌++◌, length, take, drop, map, sym, ◌∙◌, ap, refl, subst, arith, length-append, length-take, Option, None, Some, Result, Ok, Err, IfOk, IfErr, All}
+use Rattle.std.proofs.Common.{◌≡◌, ℕ, ◌+◌, ◌-◌, ◌*◌, ◌/◌, ◌<◌, ◌≤◌, Bool, List, ◌++◌, length, take, drop, map, sym, ◌∙◌, ap, subst, arith, length-append, length-take, Option, None, Some, Result, Ok, Err, IfOk, IfErr, All}
 use Rattle.std.proofs.Math.Nat.{mod-lt}
 use Rattle.nc_walk.proofs.Prelude.{concat, take-append-le, div-add-mod', mod-mul-add, mul-div_cancel, mul-le-mul_right, le_of_mul-le-mul_right, div-mul-le_self, bytes_at, SourceView, having_read, Slabs, Cursor, ReadInFull, FailedReadInFull, total, number_at, offset, offsets_from, offsets_after, Ready, IsSized, IsCursor, IsWhole, Exactly, ReturnsValues, Failing, Truncated, ReadValues, Steps, Advanced, reading, between, standing, stopped, as_answer, count}
 use Rattle.nc_walk.specs.declared.fault.WalkFault.{WalkFault}
@@ -21,9 +21,7 @@ not_ready is_transparent l done capacity buf before n sized more ready none = gr
 
 -- bytes of no whole value
 below : (got size : ℕ) → 0 < size → got / size ≡ 0 → got < size
-below got size some none =
-    let e : got / size * size ≡ 0 * size = ap (λ (k : ℕ). k * size) none in
-    omega (arith, e, div-add-mod' got size, mod-lt got {m = size} some)
+below got size some none = grind (arith, div-add-mod', mod-lt)
 
 -- what one read handed over
 grown : (before now : SourceView) (got : ℕ) → now ≡ having_read before got → now.handed ≡ before.handed + got
@@ -63,43 +61,17 @@ module _ (is_transparent : Bool) (l : Slabs) (done capacity : ℕ) (buf : List �
 
   pub came : ReadInFull is_transparent before now (offset l done) ys got → 0 < got / l.size
       → (got / l.size * l.size ≤ length (ys ++ rest)) × ReturnsValues is_transparent (standing l done buf) before now (take (got / l.size * l.size) (ys ++ rest)) (got / l.size)
-  came f some_came =
-      let w = got / l.size in
-      let most : w * l.size ≤ got = div-mul-le_self got l.size in
-      let le : w * l.size ≤ length (ys ++ rest) = omega (arith, most, f.within, length-append ys rest) in (
-        le,
-        record {
-          some = some_came;
-          len = (let h : length (take (w * l.size) (ys ++ rest)) ≡ w * l.size = omega (arith, le, length-take (w * l.size) (ys ++ rest)) in h);
-          within = omega (arith, end, few f.within, length-offsets l done (total l - done));
-          capacity = omega (arith, most, f.within, len, ready.in_capacity, fits);
-          failures = ap (λ (v : SourceView). v.failures) f.same;
-          handed = omega (arith, most, le, length-take (w * l.size) (ys ++ rest), grown before now got f.same);
-          exactly = transparent_both is_transparent (λ e b. all_of e b f.same) f.all f.bytes;
-        },
-      )
+  came f some_came = grind (arith, div-mul-le_self, length-append, length-take, end, few, length-offsets, grown, transparent_both, all_of)
 
   -- where all came, these bytes alone were read
   ran_all : ReadInFull is_transparent before now (offset l done) ys got → got ≡ n * l.size → ReadValues l done before now n
   ran_all f all = record { whole = whole; handed = f.same ∙ ap (having_read before) all }
 
   pub values_read : ReadInFull is_transparent before now (offset l done) ys got → n ≤ got / l.size → ReadValues l done before now (got / l.size)
-  values_read f all =
-      let e : got / l.size ≡ n = omega (arith, few f.within, all) in
-      let up : n * l.size ≤ got / l.size * l.size = mul-le-mul_right l.size all in
-      subst (ReadValues l done before now) (sym e) (ran_all f (omega (arith, up, div-mul-le_self got l.size, f.within, len)))
+  values_read f all = grind (arith, few, mul-le-mul_right, ran_all, div-mul-le_self)
 
   pub came_none : ReadInFull is_transparent before now (offset l done) ys got → got / l.size ≡ 0 → Truncated is_transparent (standing l done buf) before now done
-  came_none f none = record {
-    value = refl;
-    some = some_left l done more;
-    failures = ap (λ (v : SourceView). v.failures) f.same;
-    kept = omega (arith, grown before now got f.same);
-    part = omega (arith, grown before now got f.same, below got l.size sized.some none);
-    missing = transparent_map is_transparent (λ full.
-        let k : got / l.size ≡ n = ap (λ (m : ℕ). m / l.size) (full ∙ len) ∙ mul-div_cancel n sized.some in
-        absurd (omega arith)) f.all;
-  }
+  came_none f none = grind (arith, some_left, grown, below, transparent_map, mul-div_cancel)
 
   pub partway : FailedReadInFull before now (length ys) → (k : ℕ) × Failing (standing l done buf) before now k
   partway b = (
@@ -114,10 +86,6 @@ module _ (is_transparent : Bool) (l : Slabs) (done capacity : ℕ) (buf : List �
   )
 
 -- ---- how many of them are whole
-
-abbrev truncated_at : WalkFault → ℕ
-truncated_at (DataTruncated k) = k
-truncated_at ReadFailed = 0
 
 -- of n values that were requested from a cursor on, `got` bytes came, which have some whole values, or not one
 module _ (is_transparent : Bool) (l : Slabs) (cursor : Cursor) (capacity : ℕ) (had : List ℕ) (before now : SourceView) (ys rest : List ℕ) (n got : ℕ)
@@ -140,8 +108,9 @@ module _ (is_transparent : Bool) (l : Slabs) (cursor : Cursor) (capacity : ℕ) 
       (came is_transparent l i capacity had before now ys rest n got sized more fits ready some len f (subst (λ (k : ℕ). 0 < k) whole some_came))
   answered (Err ReadFailed) whole some_came none = absurd (let e = none.0 in cc)
   answered (Err (DataTruncated k)) whole some_came none =
-      subst (λ (j : ℕ). Truncated is_transparent (standing l i had) before now j) (sym (ap truncated_at none.0))
-      (came_none is_transparent l i capacity had before now ys rest n got sized more fits ready some len f none.1)
+      let e = none.0 in
+      let same : i ≡ k = cc in
+      subst (λ (j : ℕ). Truncated is_transparent (standing l i had) before now j) same (came_none is_transparent l i capacity had before now ys rest n got sized more fits ready some len f none.1)
 
   pub ends_in_slab : (result : Result ℕ WalkFault) → IfOk result (λ m. m ≡ got / l.size) → IfOk result (λ m. cursor.within + m ≤ l.values_per_slab)
   ends_in_slab (Ok m) whole = omega (arith, in_slab, most, whole)
@@ -171,24 +140,7 @@ module _ (is_transparent : Bool) (l : Slabs) (done : ℕ) (had buf : List ℕ) (
   reached = omega (arith, h.1.within, length-offsets l done (total l - done))
 
   pub steps : (fault : Option WalkFault) → Steps is_transparent (stopped l done fault had) before now (as_answer buf (Ok (n * l.size)))
-  steps fault = subst (Steps is_transparent (stopped l done fault had) before now) (sym answer)
-      (subst (ReturnsValues is_transparent (stopped l done fault had) before now (take (n * l.size) buf)) (sym number) (record {
-        some = h.1.some;
-        len = h.1.len;
-        within = h.1.within;
-        capacity = h.1.capacity;
-        failures = h.1.failures;
-        handed = h.1.handed;
-        exactly = transparent_map is_transparent (λ e. record { whole = e.whole; bytes = e.bytes; handed = e.handed }) h.1.exactly;
-      }))
+  steps fault = grind (arith, answer, number, transparent_map, whole)
 
   pub advanced : (old new : Option WalkFault) → new ≡ None → length buf ≡ length had → Advanced (stopped l done old had) (stopped l (done + n) new buf) (as_answer buf (Ok (n * l.size)))
-  advanced old new none capacity = subst (Advanced (stopped l done old had) (stopped l (done + n) new buf)) (sym answer) (record {
-    size = refl;
-    left = ap (offsets_from l (done + n)) (let e : total l - (done + n) ≡ total l - done - n = omega arith in e)
-        ∙ sym (drop-offsets l done (total l - done) n (omega (arith, reached)))
-        ∙ ap (λ (k : ℕ). drop k (offsets_after l done)) (sym number);
-    done = ap (λ (k : ℕ). done + k) (sym number);
-    fault = none;
-    buf = capacity;
-  })
+  advanced old new none capacity = grind (arith, answer, drop-offsets, reached, number)

@@ -21,7 +21,6 @@ unfoldable pub use Rattle.nc_base.specs.Places.{value_offsets}
 pub use Rattle.nc_base.specs.Types.{size_of}
 pub use Rattle.nc_base.specs.code.OwedValues.{AreListed, IsListed, fills, owed_count, whole_array, whole_arrays}
 pub use Rattle.nc_base.specs.declared.{header.Dim.Dim, header.Header.Header, header.Var.Var, nc_type.NcType.NcType}
-pub use Rattle.nc_base.specs.declared.nc_type.NcType.TheVariants.{Byte, Char, Int, Int64, Short, Ubyte, Uint, Uint64, Ushort}
 pub use Rattle.nc_walk.specs.code.Filled.{ArrayView, array_view, filled_blocks, filled_record, filled_records, filled_slab, filled_slabs, record_arrays}
 unfoldable pub use Rattle.nc_walk.specs.code.Filled.{repeated}
 pub use Rattle.nc_walk.specs.code.FullReads.{FailedReadInFull, ReadInFull}
@@ -29,18 +28,18 @@ pub use Rattle.nc_walk.specs.code.RecordSlabs.{array_of, record_slab, record_sla
 pub use Rattle.nc_walk.specs.code.Slabs.{AreSlabsOf, IsCursor, IsOffset, IsSized, Ready, number_at, offset, offsets_after, slabs_of, total}
 unfoldable pub use Rattle.nc_walk.specs.code.Slabs.{offsets_from}
 pub use Rattle.devices.specs.Uses.{Use, between, use_of}
-pub use Rattle.nc_walk.specs.code.Walked.{Gives, GivesChunk, GivesCut, GivesEnd, GivesFailure, HasRead, IsChunk, Pass, StoredNumbers, Walked, going_on, offsets_in, stored_in, total_in, whole_count, whole_in}
+pub use Rattle.nc_walk.specs.code.Walked.{Gives, GivesChunk, GivesCut, GivesEnd, GivesFailure, HasRead, IsChunk, Pass, StoredNumbers, Walked, going_on, offsets_in, total_in, whole_count, whole_in}
 pub use Rattle.nc_walk.specs.code.Walks.{Advanced, Answer, Exactly, Failing, IsWhole, ReadValues, Reading, ReturnsValues, Starts, Steps, Truncated, WalkView, as_answer, count, reading, standing, stopped}
 pub use Rattle.nc_walk.specs.declared.{cursor.Cursor.Cursor, slabs.Slabs.Slabs, write.record_slab.RecordSlab.RecordSlab}
-pub use Rattle.std.proofs.Math.Nat.{div-mul-le_self, le_of_mul-le-mul_right, lt_of_mul-lt-mul_right, mul-div_cancel, mul-le-mul_left, mul-le-mul_right}
-pub use Rattle.std.proofs.Math.Seq.{take-add, take-append-add, take-append_seam}
+pub use Rattle.std.proofs.Math.Nat.{div-mul-le_self, le_of_mul-le-mul_right, lt_of_mul-lt-mul_right, mul-div_cancel, mul-le-mul_left, mul-le-mul_right, mul-sub}
+pub use Rattle.std.proofs.Math.Seq.{drop-nil, take-add, take-append-add, take-append_seam, take-nil}
 pub use Rattle.std.proofs.lemmas.Bool.{cases_lt, le-ltb, lt-ltb, ltb-false}
-pub use Rattle.std.proofs.lemmas.List.{append-nil, drop-append-le, drop-drop, drop-map, drop_all, drop_at, drop_more, get_or-drop, get_or-take, length-drop, length-map, length-replicate, length-take, map-append, nil_from_length, replicate-append-replicate, take-append-le, take-map, take-replicate, take_all}
-pub use Rattle.std.proofs.lemmas.List.Elements.{All-append, All-cons, All-from_get_or, All-get_or, All-map, All-nil, All-weaker}
+pub use Rattle.std.proofs.lemmas.List.{append-nil, drop-drop, drop-map, drop_all, drop_at, drop_more, get_or-drop, get_or-take, length-drop, length-map, length-replicate, length-take, map-append, nil_from_length, replicate-append-replicate, take-append-le, take-map, take-replicate, take_all, take_at, take_min}
+pub use Rattle.std.proofs.lemmas.List.Elements.{All-append, All-from_get_or, All-get_or, All-map, All-nil, All-weaker}
 pub use Rattle.std.proofs.lemmas.List.Folds.{concat-append}
 pub use Rattle.std.proofs.lemmas.List.FromFn.{get_or-map-range_with_len, length-map-range_with_len, take-map-range_with_len}
 pub use Rattle.std.proofs.lemmas.Nat.{div-add-mod', div-mul-add, div_below, mod-mul-add, mod_below}
 pub use Rattle.std.proofs.lemmas.Result.{err_from_is_err_and}
 pub use Rattle.std.specs.Bool.{OnTrue}
-pub use Rattle.std.specs.List.{concat, flat_map, position, position_or_len, range_with_len}
+pub use Rattle.std.specs.List.{concat, flat_map, position_or_len, range_with_len}
 pub use Rattle.nc_base.proofs.Tests.{some_right}

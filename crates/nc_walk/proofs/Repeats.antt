@@ -1,12 +1,25 @@
 -- A unit of eight bytes that is repeated.
-use Rattle.std.proofs.Common.{◌≡◌, ℕ, zero, suc, ◌+◌, ◌-◌, ◌*◌, ◌<◌, ◌≤◌, inl, inr, List, [], ◌∷◌, ◌++◌, length, take, replicate, refl, sym, ◌∙◌, ap, arith, append_assoc, min}
-use Rattle.nc_walk.proofs.Prelude.{concat, flat_map, mul-le-mul_left, take-append-add, cases_lt, take-append-le, take_all, append-nil, repeated, length-replicated}
+use Rattle.std.proofs.Common.{◌≡◌, ℕ, zero, suc, ◌+◌, ◌-◌, ◌*◌, ◌<◌, ◌≤◌, inl, inr, List, [], ◌∷◌, ◌++◌, length, take, drop, replicate, refl, sym, ◌∙◌, ap, arith, append_assoc, min}
+use Rattle.nc_walk.proofs.Prelude.{concat, flat_map, mul-le-mul_left, cases_lt, take-append-le, repeated, length-replicated, take-nil, drop-nil, take_min}
+
+-- ---- joined lists
+
+-- the first n of two lists, and what is left after the first n
+pub take-both : (n : ℕ) (xs ys : List ℕ) → take n (xs ++ ys) ≡ take n xs ++ take (n - length xs) ys
+take-both n [] ys = grind (arith, take-nil {A = ℕ})
+take-both zero (x ∷ xs) ys = grind arith
+take-both (suc n) (x ∷ xs) ys = grind (arith, take-both n xs ys)
+
+pub drop-both : (n : ℕ) (xs ys : List ℕ) → drop n (xs ++ ys) ≡ drop n xs ++ drop (n - length xs) ys
+drop-both n [] ys = grind (arith, drop-nil {A = ℕ})
+drop-both zero (x ∷ xs) ys = grind arith
+drop-both (suc n) (x ∷ xs) ys = grind (arith, drop-both n xs ys)
+
+-- ---- copies
 
 pub copies-add : (unit : List ℕ) (m n : ℕ) → concat (replicate (m + n) unit) ≡ concat (replicate m unit) ++ concat (replicate n unit)
-copies-add unit zero n = let e : zero + n ≡ n = omega arith in ap (λ (k : ℕ). concat (replicate k unit)) e
-copies-add unit (suc m) n =
-    let e : suc m + n ≡ suc (m + n) = omega arith in
-    ap (λ (k : ℕ). concat (replicate k unit)) e ∙ ap (λ (x : List ℕ). unit ++ x) (copies-add unit m n) ∙ sym (append_assoc unit (concat (replicate m unit)) (concat (replicate n unit)))
+copies-add unit zero n = grind arith
+copies-add unit (suc m) n = let e : suc m + n ≡ suc (m + n) = omega arith in rw (e, copies-add unit m n) (sym (append_assoc unit (concat (replicate m unit)) (concat (replicate n unit))))
 
 -- more copies begin as fewer
 fewer-copies : (unit : List ℕ) (n k m : ℕ) → n ≤ k * length unit → k ≤ m → take n (concat (replicate k unit)) ≡ take n (concat (replicate m unit))
@@ -43,26 +56,13 @@ few-copies unit buffer k n some within copies = grind (arith, repeated-by, flat-
 -- one piece of it, out of k copies, and the rest
 pub next-piece : (unit buffer : List ℕ) (k n piece : ℕ) → 0 < length unit → buffer ≡ flat_map (λ (x : List ℕ). x) (replicate k unit) → piece ≡ min n (length buffer)
     → repeated unit n ≡ take piece buffer ++ repeated unit (n - piece)
+unfolding repeated
 next-piece unit buffer k n piece some copies piece_is =
     let is : buffer ≡ concat (replicate k unit) = copies ∙ flat-copies (replicate k unit) in
-    let len : length buffer ≡ k * length unit = ap length is ∙ length-replicated k unit in
-    elim (cases_lt n (length buffer)) [
-      | inl lt ↦
-          let e : piece ≡ n = omega arith in
-          let none : n - piece ≡ 0 = omega arith in
-          sym (append-nil (repeated unit n))
-          ∙ ap (λ (x : List ℕ). x ++ []) (sym (repeated-by unit n k some (omega (arith, len))) ∙ ap (λ (j : ℕ). take j (concat (replicate k unit))) (sym e) ∙ ap (take piece) (sym is))
-          ∙ ap (λ (x : List ℕ). take piece buffer ++ x) (sym (repeated-none unit) ∙ ap (repeated unit) (sym none))
-      | inr ge ↦
-          let e : piece ≡ length buffer = omega arith in
-          let whole : take piece buffer ≡ buffer = take_all piece buffer (omega arith) in
-          let rest : ℕ = n - piece in
-          let sum : n ≡ length (concat (replicate k unit)) + rest = omega (arith, len, length-replicated k unit) in
-          let up : rest * 1 ≤ rest * length unit = mul-le-mul_left rest some in
-          sym (repeated-by unit n (k + rest) some (let f : (k + rest) * length unit ≡ k * length unit + rest * length unit = omega arith in omega (arith, f, len, up)))
-          ∙ ap (take n) (copies-add unit k rest)
-          ∙ ap (λ (j : ℕ). take j (concat (replicate k unit) ++ concat (replicate rest unit))) sum
-          ∙ take-append-add (concat (replicate k unit)) (concat (replicate rest unit)) rest
-          ∙ ap (λ (x : List ℕ). concat (replicate k unit) ++ x) (repeated-by unit rest rest some (omega (arith, up)))
-          ∙ ap (λ (x : List ℕ). x ++ repeated unit rest) (sym is ∙ sym whole)
-    ]
+    let few : (n - piece) * 1 ≤ (n - piece) * length unit = mul-le-mul_left (n - piece) some in
+    let enough : n ≤ (k + (n - piece)) * length unit = omega (arith, few, ap length is, length-replicated k unit) in
+    let over : n - length buffer ≡ n - piece = omega arith in
+    sym (repeated-by unit n (k + (n - piece)) some enough)
+    ∙ ap (take n) (copies-add unit k (n - piece) ∙ ap (λ (x : List ℕ). x ++ concat (replicate (n - piece) unit)) (sym is))
+    ∙ take-both n buffer (concat (replicate (n - piece) unit))
+    ∙ rw (over, piece_is, take_min n buffer) refl

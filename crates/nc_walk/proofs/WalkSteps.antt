@@ -44,14 +44,15 @@ module _ (p : Pass) (w : WalkView) (c : SourceView) (k : ℕ) (s : Walked p w k)
   left_here : length (drop k xs) ≡ total_in p - k
   left_here = left_over p.header p.var p.records k
 
+  -- the next m values are whole too
+  whole_on : (m : ℕ) → HasRead p k → All (IsWhole size b.bytes) (take m (drop k xs)) → All (IsWhole size a.bytes) (take (k + m) xs)
+  whole_on m r whole = rw take-add (All-append (IsWhole size a.bytes) (take k xs) (take m (drop k xs)) r.whole (subst (λ (v : SourceView). All (IsWhole size v.bytes) (take m (drop k xs))) r.handed whole))
+
   read_on : (chunk : List ℕ) (j : ℕ) → length chunk ≡ j * size → HasRead p k → Exactly (there p w k) b c chunk j → HasRead (going_on p c) (k + j)
   read_on chunk j long r e =
-      let all : take (k + j) xs ≡ take k xs ++ take j (drop k xs) = take-add k j xs in
       let sum : k * size + length chunk ≡ (k + j) * size = omega (arith, long) in
       record {
-        whole = subst (All (IsWhole size a.bytes)) (sym all)
-            (All-append (IsWhole size a.bytes) (take k xs) (take j (drop k xs)) r.whole
-            (subst (λ (v : SourceView). All (IsWhole size v.bytes) (take j (drop k xs))) r.handed e.whole));
+        whole = whole_on j r e.whole;
         handed = e.handed ∙ ap (λ (v : SourceView). having_read v (length chunk)) r.handed ∙ after_after a (k * size) (length chunk) ∙ ap (having_read a) sum;
       }
 
@@ -73,11 +74,7 @@ module _ (p : Pass) (w : WalkView) (c : SourceView) (k : ℕ) (s : Walked p w k)
     failed = subst (λ (q : ℕ). HasFailed q c.failures) s.failures x.partway.failed.failures;
     bytes = transparent_map is_transparent (λ r. x.partway.failed.bytes ∙ ap (λ (v : SourceView). v.bytes) r.handed) s.read;
     whole = transparent_map is_transparent (λ r.
-        let all : take (k + m) xs ≡ take k xs ++ take m (drop k xs) = take-add k m xs in
-        let whole = subst (All (IsWhole size a.bytes)) (sym all)
-        (All-append (IsWhole size a.bytes) (take k xs) (take m (drop k xs)) r.whole
-        (subst (λ (v : SourceView). All (IsWhole size v.bytes) (take m (drop k xs))) r.handed x.whole)) in
-        let most : k + m ≤ whole_in p = whole_count-ge p.header p.var p.records a.bytes (k + m) (omega (arith, x.within, left_here, s.within)) whole in
+        let most : k + m ≤ whole_in p = whole_count-ge p.header p.var p.records a.bytes (k + m) (omega (arith, x.within, left_here, s.within)) (whole_on m r x.whole) in
         let up : (k + m) * size ≤ whole_in p * size = mul-le-mul_right size most in
         omega (arith, up, x.partway.failed.handed, x.partway.within, ap (λ (v : SourceView). v.handed) r.handed)) s.read;
     capacity = transparent_map is_transparent (λ r. omega (arith, x.partway.failed.handed, x.partway.within, x.capacity, s.buf, ap (λ (v : SourceView). v.handed) r.handed)) s.read;

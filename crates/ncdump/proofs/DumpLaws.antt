@@ -49,10 +49,7 @@ prefix-of-all d selection buffer_len a b Taken k =
     let more = more-and _ _ _ k.v (values_from d selection (k.v + 1)) in
     let prefix = prefix-in-text d k.v k.var k.keeps_up.k k.keeps_up.few in (
       prefix.0 ++ more.0,
-      k.is_before.text_is ∙ ap (λ (s : DataText). k.prefix ++ s.text) here ∙ ap (λ (t : List ℕ). k.prefix ++ t) more.1
-          ∙ ap (λ (t : List ℕ). k.prefix ++ (t ++ more.0)) prefix.1
-          ∙ ap (λ (t : List ℕ). k.prefix ++ t) (append_assoc (prefix_text d k.var k.keeps_up.k) prefix.0 more.0)
-          ∙ sym (append_assoc k.prefix (prefix_text d k.var k.keeps_up.k) (prefix.0 ++ more.0)),
+      k.is_before.text_is ∙ ap (λ (s : DataText). k.prefix ++ s.text) here ∙ ap (λ (t : List ℕ). k.prefix ++ t) more.1 ∙ rw prefix.1 (simp append_assoc),
     )
 
 module _ (o : Options) (bytes : List ℕ) (h : Header) (rest : List ℕ) (buffer_len : ℕ) (b c : SourceView) (old new : SinkView)
@@ -76,10 +73,7 @@ module _ (o : Options) (bytes : List ℕ) (h : Header) (rest : List ℕ) (buffer
       let before = text_before o h (record_count h (length bytes)) in
       let values = s.keeps_up.prefix ++ prefix_text _ s.keeps_up.var s.keeps_up.keeps_up.k in
       let text : dump_text h o (record_count h (length bytes)) section ≡ (before ++ values) ++ (prefix.0 ++ closing_word section.ending) =
-      parts h o (record_count h (length bytes)) section
-      ∙ ap (λ (t : List ℕ). before ++ (t ++ closing_word section.ending)) prefix.1
-      ∙ ap (λ (t : List ℕ). before ++ t) (append_assoc values prefix.0 (closing_word section.ending))
-      ∙ sym (append_assoc before values (prefix.0 ++ closing_word section.ending)) in
+      parts h o (record_count h (length bytes)) section ∙ rw prefix.1 (simp append_assoc) in
       inr (record {
         prefix = before ++ values;
         rest = prefix.0 ++ closing_word section.ending;
@@ -106,9 +100,7 @@ pub transparent-shown : (is_transparent : Bool) (o : Options) (a b c : SourceVie
     → OnTrue is_transparent (Dumps a.bytes o old new result × ReadsForward o (call buffer_len a c old new) result)
 transparent-shown is_transparent o a b c buffer_len buf old new h selection result answered knows is same wide shows = transparent_both is_transparent (λ x s0.
     let read = x.answer in
-    let s1 = subst (λ (ms : List Bool). Shows o h (record_count h (length b.bytes)) ms (call buf b c old new) result) is s0 in
-    let s2 = subst (λ (n : ℕ). Shows o h (record_count h (length b.bytes)) (selection_of h o) (call n b c old new) result) wide s1 in
-    let s = subst (λ (bs : List ℕ). Shows o h (record_count h (length bs)) (selection_of h o) (call buffer_len b c old new) result) same s2 in (
+    let s = subst (λ (bs : List ℕ). Shows o h (record_count h (length bs)) (selection_of h o) (call buffer_len b c old new) result) same (rw (is, wide) at s0) in (
       written o a.bytes h read.rest buffer_len b c old new read.spelled knows same result s,
       forward o buffer_len a c old new result (record {
         h = h;

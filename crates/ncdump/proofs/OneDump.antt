@@ -1,6 +1,6 @@
 -- There is one dump of a file.
-use Rattle.std.proofs.Common.{◌≡◌, ℕ, List, [], length, refl, sym, ap, ◌∙◌, arith, inl, inr, Option, Some, None, Result, Ok, Err, ◌⊎◌}
-use Rattle.ncdump.proofs.Prelude.{Header, record_count, SpellsHeader, Options, Ending, whole, wrong_field, no_such_variable, data_truncated, first_unknown, DataText, values_in_file, shown_data_text, selection_of, dump_text, IsDump, stopped, unknown, shown, SinkView, Appended, DumpFault, Format, NoSuchVariable, DataTruncated}
+use Rattle.std.proofs.Common.{◌≡◌, ℕ, List, [], length, refl, ap, arith, rules, inl, inr, Option, Some, None, Result, Ok, Err, ◌⊎◌}
+use Rattle.ncdump.proofs.Prelude.{Header, record_count, SpellsHeader, Options, Ending, whole, wrong_field, no_such_variable, data_truncated, first_unknown, values_in_file, shown_data_text, selection_of, dump_text, IsDump, stopped, unknown, shown, SinkView, Appended, DumpFault, Format, NoSuchVariable, DataTruncated}
 use Rattle.nc_file.specs.OneOutcome.{BeginsWithHeader, HasFirstFault, HasOneOutcome}
 use Rattle.nc_file.proofs.Outcomes.{one-outcome}
 use Rattle.ncdump.specs.OneDump.{HasDumped, BytesHaveOneDump, DumpsAgree}
@@ -36,28 +36,14 @@ same-dump bytes o t u e f one (stopped fault end s) (stopped other last r) = (re
 same-dump bytes o t u e f one (stopped fault end s) (unknown h rest index r w) = absurd (one.not_both (h, rest, r) (fault, end, s))
 same-dump bytes o t u e f one (stopped fault end s) (shown h rest n section r knows counted is) = absurd (one.not_both (h, rest, r) (fault, end, s))
 same-dump bytes o t u e f one (unknown h rest index s w) (stopped fault end r) = absurd (one.not_both (h, rest, s) (fault, end, r))
-same-dump bytes o t u e f one (unknown h rest i s w) (unknown k more j r x) =
-    let same = (one.one_header h k rest more s r).0 in
-    (refl, ap no_such_variable (same-index i j (sym w ∙ ap (λ (y : Header). first_unknown y.vars o.chosen) same ∙ x)))
-same-dump bytes o t u e f one (unknown h rest i s w) (shown k more n section r knows counted is) =
-    let same = (one.one_header h k rest more s r).0 in
-    absurd (some-none i (sym w ∙ ap (λ (y : Header). first_unknown y.vars o.chosen) same ∙ knows))
+same-dump bytes o t u e f one (unknown h rest i s w) (unknown k more j r x) = search (rules, same-index)
+same-dump bytes o t u e f one (unknown h rest i s w) (shown k more n section r knows counted is) = search (rules, some-none)
 same-dump bytes o t u e f one (shown h rest n section s knows counted is) (stopped fault end r) = absurd (one.not_both (h, rest, s) (fault, end, r))
-same-dump bytes o t u e f one (shown h rest n section s knows counted is) (unknown k more j r x) =
-    let same = (one.one_header h k rest more s r).0 in
-    absurd (some-none j (sym x ∙ ap (λ (y : Header). first_unknown y.vars o.chosen) (sym same) ∙ knows))
-same-dump bytes o t u e f one (shown h rest n section s knows counted is) (shown k more m other r knew number are) =
-    let same : h ≡ k = (one.one_header h k rest more s r).0 in
-    let count : n ≡ m = counted ∙ ap (λ (x : Header). record_count x (length bytes)) same ∙ sym number in
-    let values : section ≡ other =
-    is ∙ ap (λ (x : Header). shown_data_text x o (values_in_file x bytes n) n (selection_of x o)) same
-    ∙ ap (λ (i : ℕ). shown_data_text k o (values_in_file k bytes i) i (selection_of k o)) count ∙ sym are in (
-      ap (λ (x : Header). dump_text x o n section) same ∙ ap (λ (i : ℕ). dump_text k o i section) count ∙ ap (λ (x : DataText). dump_text k o m x) values,
-      ap (λ (x : DataText). x.ending) values,
-    )
+same-dump bytes o t u e f one (shown h rest n section s knows counted is) (unknown k more j r x) = search (rules, some-none)
+same-dump bytes o t u e f one (shown h rest n section s knows counted is) (shown k more m other r knew number are) = search rules
 
-pub one-dump : BytesHaveOneDump
-one-dump bytes o = grind (arith, one-outcome bytes, some-dump bytes o, same-dump bytes o)
+pub one_dump : BytesHaveOneDump
+one_dump bytes o = grind (arith, one-outcome bytes, some-dump bytes o, same-dump bytes o)
 
 -- ---- calls that meet no failure
 
@@ -79,6 +65,6 @@ record Ends (bytes : List ℕ) (o : Options) (old new : SinkView) (answer : Resu
 ended : (bytes : List ℕ) (o : Options) (old new : SinkView) (answer : Result (Unit {0}) DumpFault) → HasDumped bytes o old new answer → Ends bytes o old new answer
 ended bytes o old new answer h = grind (arith, whole)
 
-pub dumps-agree : DumpsAgree
-dumps-agree bytes o a b c d answer other first second =
+pub dumps_agree : DumpsAgree
+dumps_agree bytes o a b c d answer other first second =
     grind (arith, ended bytes o a b answer first, ended bytes o c d other second, same-dump bytes o, one-outcome bytes)

@@ -76,17 +76,7 @@ module _ (is_transparent : Bool) (h : Header) (v n width buffer_len : ℕ) (w : 
 
     -- the printer can take the chunk
     pub takes-chunk : Takes p chunk
-    takes-chunk = record {
-      whole = given.length_is ∙ ap (λ (i : ℕ). i * size) (sym ys-count) ∙ ap (λ t. length ys * size_of t) (sym type-in);
-      within = omega (
-        arith,
-        given.within,
-        ys-count,
-        s.has_printed.following.position,
-        ap (λ (l : Look). l.total) s.has_printed.same_look,
-        total-of h s.var n width,
-      );
-    }
+    takes-chunk = search (rules, given, ys-count, type-in, total-of)
 
     counted : length s.xs + j ≡ length (s.xs ++ ys)
     counted = omega (arith, length-append s.xs ys, ys-count)
@@ -149,16 +139,7 @@ module _ (is_transparent : Bool) (h : Header) (v n width buffer_len : ℕ) (w : 
 
     pub shown-whole : (newer : SinkView) → Appended new newer (variable_closing (look_in p)) → OnTrue is_transparent (IsShown d v s.var whole (call buffer_len a c old newer))
     unfolding variable_text
-    shown-whole newer appended = transparent_both is_transparent (λ e (ng : (first_missing h a.bytes s.var n ≡ None) × HasRead (walk_to c) (length s.xs)).
-        let none : first_missing h a.bytes s.var n ≡ None = ng.0 in
-        let text : variable_prefix look s.xs ++ variable_closing (look_in p) ≡ (with_variable look stored None v no_data_text).text =
-        ap (λ (zs : List ℤ). variable_prefix look zs ++ variable_closing (look_in p)) e ∙ ap (λ (t : List ℕ). variable_prefix look stored ++ t) closing-of ∙ sym (append-nil (variable_text look stored)) in
-        record {
-          ends = ap (λ (m : Option ℕ). (with_variable look stored m v no_data_text).ending) none;
-          appended = subst (Appended old newer) (text ∙ ap (λ (m : Option ℕ). (with_variable look stored m v no_data_text).text) (sym none))
-              (appended_then old new newer (variable_prefix look s.xs) (variable_closing (look_in p)) s.appended appended);
-          handed = ng.1.handed ∙ ap (λ (i : ℕ). having_read a (i * size_of s.var.ty)) (ended.all ∙ sym (ap (λ (m : Option ℕ). unwrap_or m (value_count h.dims s.var n)) none));
-        }) all-stored (transparent_both is_transparent (λ none read. (none, read)) ended.none_missing ended.read)
+    shown-whole newer appended = search (rules, transparent_both, closing-of, append-nil, appended_then, ended, all-stored)
 
     pub unwritten-closing : (newer : SinkView) → FailedPartway new newer (variable_closing (look_in p)) → OnTrue is_transparent (IsUnwritten d v s.var (call buffer_len a c old newer))
     unfolding variable_text

@@ -1,7 +1,6 @@
 pub mod Blame
 pub mod Placing
 pub mod Preparing
-pub mod CommandLines
 pub mod TextParts
 pub mod CutOutputs
 pub mod Prelude

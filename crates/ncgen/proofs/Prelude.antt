@@ -3,8 +3,8 @@ pub use Rattle.cdl_statements.specs.Meaning.{meaning}
 pub use Rattle.cdl_statements.proofs.Meanings.{IsWhole, meanings_are_whole}
 pub use Rattle.cdl_statements.specs.Bounds.{out_of_memory}
 pub use Rattle.cdl_statements.specs.declared.fault.CdlFault.{CdlFault}
-pub use Rattle.clap.specs.Words.{App, HasKind, Row, app_of, fault_of, found_of, is_simple, is_simple_and_free, kind_of, matches_of, new_app, new_rule, rows_of, rule_of, with_rule}
-pub use Rattle.cli_base.specs.Arguments.{flag, option, quiet, texts_of}
+pub use Rattle.clap.specs.Words.{app_of, is_simple, is_simple_and_free, new_app, new_rule, rule_of, with_rule}
+pub use Rattle.cli_base.specs.Arguments.{flag, option, quiet}
 unfoldable pub use Rattle.devices.specs.Failures.{HasFailed}
 pub use Rattle.devices.specs.Readers.{ReaderView, view_of}
 pub use Rattle.devices.specs.Sinks.{FailedPartway, IsPrefix, IsPrefixIf, SinkView, StoppedShort}
@@ -14,11 +14,9 @@ pub use Rattle.nc_base.specs.GeneratedFile.{block, fits, is_sole_narrow, known_r
 unfoldable pub use Rattle.nc_base.specs.GeneratedFile.{data_of, file_of, fill_bytes, padded_slab, with_begins}
 pub use Rattle.nc_base.specs.Grammar.{header_spelling}
 pub use Rattle.nc_base.specs.Headers.{IsSound, bare_var}
-pub use Rattle.nc_base.specs.code.OwedValues.{AreListed, whole_array, whole_arrays}
+pub use Rattle.nc_base.specs.code.OwedValues.{AreListed, whole_arrays}
 pub use Rattle.nc_base.specs.declared.{dataset.Dataset.Dataset, header.Header.Header, version.Version.Version}
 pub use Rattle.nc_walk.specs.code.RecordSlabs.{record_slabs}
-pub use Rattle.cli_base.specs.code.Answers.{AnswersBy}
-pub use Rattle.ncgen.specs.CommandLine.{Asked}
 pub use Rattle.ncgen.specs.code.Options.{asked_for}
 unfoldable pub use Rattle.ncgen.specs.CommandLine.{asked_by, asked_in, ncgen}
 pub use Rattle.ncgen.specs.Generated.{file_or_fault}

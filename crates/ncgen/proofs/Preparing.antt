@@ -1,6 +1,6 @@
 -- A text's file stands ready to be written.
-use Rattle.std.proofs.Common.{◌≡◌, inl, inr, ◌∙◌, ℕ, List, [], ◌++◌, length, Bool, true, false, if◌then◌else◌, Result, Ok, Err, refl, sym, ap, subst}
-use Rattle.ncgen.proofs.Prelude.{Dataset, Header, Version, file_of, fits, header_spelling, known_records, with_begins, IsSound, IsWhole, SinkView, record_slabs, IsSound-with_begins, begins-below, CdlFault, meaning, out_of_memory, meanings_are_whole, Generates, Refuses, file_or_fault, generated, IsReady, Prepares, file_of_prepared, GenFault, Cdl, OffsetTooLarge, WriteFailed}
+use Rattle.std.proofs.Common.{◌≡◌, inl, inr, ◌∙◌, ℕ, List, [], ◌++◌, length, Bool, true, false, if◌then◌else◌, Ok, Err, refl, sym, ap, arith}
+use Rattle.ncgen.proofs.Prelude.{Header, Version, file_of, fits, header_spelling, known_records, with_begins, IsSound, IsWhole, SinkView, record_slabs, IsSound-with_begins, begins-below, CdlFault, meaning, meanings_are_whole, Generates, Refuses, file_or_fault, generated, IsReady, Prepares, file_of_prepared, GenFault, Cdl, OffsetTooLarge, WriteFailed}
 use Rattle.nc_file.specs.code.Begins.{offset_too_large}
 use Rattle.nc_walk.specs.declared.write.record_slab.RecordSlab.{RecordSlab}
 use Rattle.nc_file.specs.declared.write.begins.OffsetTooLarge.{OffsetTooLarge as NoRoom}
@@ -16,28 +16,13 @@ use Rattle.ncgen.proofs.Placing.{data-after, listed-after}
 pub text-fault : (text : List ℕ) (v : Version) (fault : CdlFault) → MeansOrOutOfMemory (as_dataset (Err fault)) (meaning text v) → Refuses (generated text v) (Cdl fault)
 unfolding generated
 text-fault text v fault (inl stated) = inl (ap file_or_fault (sym stated))
-text-fault text v fault (inr memory) = inr (ap (λ (r : Result Dataset CdlFault). Cdl (fault-or out_of_memory r)) memory)
-  where
-    fault-or : CdlFault → Result Dataset CdlFault → CdlFault
-    fault-or other (Ok d) = other
-    fault-or other (Err fault) = fault
+text-fault text v fault (inr memory) = inr cc
 
 -- ---- what a text declares
 
-means : (text : List ℕ) (v : Version) (d : Declared) → MeansOrOutOfMemory (as_dataset (Ok d)) (meaning text v) → meaning text v ≡ Ok (dataset_of_declared d)
-means text v d (inl stated) = sym stated
-means text v d (inr memory) = absurd (ok-is-no-err (dataset_of_declared d) out_of_memory memory)
-  where
-    is-ok : Result Dataset CdlFault → Type 0
-    is-ok (Ok d) = Unit {0}
-    is-ok (Err fault) = ⊥
-
-    ok-is-no-err : (d : Dataset) (fault : CdlFault) → (Ok d ≡ Err fault) → ⊥
-    ok-is-no-err d fault e = subst is-ok e tt
-
 module _ (text : List ℕ) (v : Version) (d : Declared) (answers : MeansOrOutOfMemory (as_dataset (Ok d)) (meaning text v)) where
   is-meaning : meaning text v ≡ Ok (dataset_of_declared d)
-  is-meaning = means text v d answers
+  is-meaning = grind arith
 
   pub whole : IsWhole v (dataset_of_declared d)
   whole = meanings_are_whole text v (dataset_of_declared d) is-meaning
@@ -86,50 +71,16 @@ pub record Fitting (h placed : Header) : Type 0 where
   pub fit : fits h ≡ true
   pub same : placed ≡ with_begins h
 
-abbrev Answer : Type 0
-Answer = Result Header NoRoom
-
-abbrev IsPlaced : Answer → Type 0
-IsPlaced (Ok h) = Unit {0}
-IsPlaced (Err e) = ⊥
-
-abbrev or-placed : Header → Answer → Header
-or-placed other (Ok h) = h
-or-placed other (Err e) = other
-
 pub placed : (h : Header) (b : Bool) (h' : Header) → fits h ≡ b → Ok h' ≡ (if b then Ok (with_begins h) else Err offset_too_large) → Fitting h h'
-placed h true h' fit e = record { fit = fit; same = ap (or-placed h') e }
-placed h false h' fit e = absurd (subst IsPlaced e tt)
+placed h b h' fit e = grind arith
 
 pub not-placed : (h : Header) (b : Bool) (fault : NoRoom) → fits h ≡ b → Err fault ≡ (if b then Ok (with_begins h) else Err offset_too_large) → fits h ≡ false
-not-placed h true fault fit e = absurd (subst IsPlaced (sym e) tt)
-not-placed h false fault fit e = fit
+not-placed h b fault fit e = grind arith
 
 -- ---- a refusal writes nothing
 
-abbrev IsOfText : GenFault → Type 0
-IsOfText (Cdl fault) = Unit {0}
-IsOfText OffsetTooLarge = Unit {0}
-IsOfText WriteFailed = ⊥
-
-abbrev StatesText : Result (List ℕ) GenFault → Type 0
-StatesText (Ok file) = Unit {0}
-StatesText (Err fault) = IsOfText fault
-
-fitting-states : (d : Dataset) (b : Bool) → StatesText (if b then Ok (file_of d) else Err OffsetTooLarge)
-fitting-states d true = tt
-fitting-states d false = tt
-
-states : (m : Result Dataset CdlFault) → StatesText (file_or_fault m)
-states (Ok d) = fitting-states d (fits d.header)
-states (Err fault) = tt
-
-of-text : (text : List ℕ) (v : Version) (fault : GenFault) → Refuses (generated text v) fault → IsOfText fault
-unfolding generated
-of-text text v fault (inl stated) = subst StatesText stated (states (meaning text v))
-of-text text v fault (inr memory) = subst IsOfText (sym memory) tt
-
 pub refused-text : (text : List ℕ) (v : Version) (sink : SinkView) (fault : GenFault) → Refuses (generated text v) fault → Generates {A = Unit {0}} (generated text v) sink sink (Err fault)
+unfolding generated
 refused-text text v sink (Cdl fault) refuses = (refl, refuses)
 refused-text text v sink OffsetTooLarge refuses = (refl, refuses)
-refused-text text v sink WriteFailed refuses = absurd (of-text text v WriteFailed refuses)
+refused-text text v sink WriteFailed refuses = grind arith

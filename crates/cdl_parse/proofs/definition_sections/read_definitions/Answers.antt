@@ -1,8 +1,7 @@
 use Rattle.std.proofs.Common.{◌≡◌, false, ap, sym, ◌∙◌, subst}
-use Rattle.cdl_parse.proofs.Prelude.{is_done, pieces_left, text_of, version_of, words, closing_of, empty, run, state_of, FailsAt, at_line}
+use Rattle.cdl_parse.proofs.Prelude.{is_done, pieces_left, text_of, version_of, words, closing_of, empty, run, AreFit, OkIs, piece_fit, state_of, FailsAt, at_line}
 use Rattle.cdl_parse.proofs.Closings.{closing_on}
 use Rattle.cdl_parse.proofs.RunSteps.{fewer, goes_on, stops}
-use Rattle.cdl_parse.proofs.ShapesKept.{kept}
 use Rattle.cdl_parse.proofs.definition_sections.read_definitions.Goals as goal
 
 pub statements-smaller : goal.statements-smaller
@@ -16,7 +15,7 @@ statements-preserved c =
     record {
       text = c.in-Ok.ensures.rest.same.text ∙ t.invariant.text;
       version = c.in-Ok.ensures.rest.same.version ∙ t.invariant.version;
-      shaped = kept (version_of t.cutter) (state_of t.definitions) (state_of c.read_statement.new.self) (words t.cutter) c.in-Ok.ensures.makes t.invariant.shaped;
+      fit = subst (OkIs AreFit) c.in-Ok.ensures.makes (piece_fit (version_of t.cutter) (state_of t.definitions) (words t.cutter) t.invariant.fit);
       runs = t.invariant.runs ∙ goes_on start t.cutter t.invariant.text t.invariant.version more (state_of t.definitions) (state_of c.read_statement.new.self) c.in-Ok.rest c.in-Ok.ensures.makes c.in-Ok.ensures.rest.pieces;
       lines = ap (closing_of c.in-Ok.rest) c.and-lines.ensures ∙ closing_on t.lines t.cutter c.in-Ok.rest c.line.result more (c.line.ensures more) c.in-Ok.ensures.rest.pieces ∙ t.invariant.lines;
     }

@@ -1,12 +1,12 @@
 use Rattle.std.proofs.Common.{◌≡◌, length}
-use Rattle.cdl_parse.proofs.Prelude.{pieces_left, text_of, version_of, closing_line, closing_of, empty, run, AreShaped, state_of}
+use Rattle.cdl_parse.proofs.Prelude.{pieces_left, text_of, version_of, closing_line, closing_of, empty, run, AreFit, state_of}
 use Rattle.cdl_parse.proofs.definition_sections.read_definitions.Given as goal
 
 abbrev pub invariant-statements : goal.invariant-statements
 invariant-statements l = record {
   text : text_of l.cutter ≡ text_of l.fn.start;
   version : version_of l.cutter ≡ version_of l.fn.start;
-  shaped : AreShaped l.definitions.dims l.definitions.variables;
+  fit : AreFit (state_of l.definitions);
   runs : run (text_of l.fn.start) (version_of l.fn.start) empty (pieces_left l.fn.start) ≡ run (text_of l.fn.start) (version_of l.fn.start) (state_of l.definitions) (pieces_left l.cutter);
   lines : closing_of l.cutter l.lines ≡ closing_line (pieces_left l.fn.start);
 }

@@ -1,20 +1,22 @@
-use Rattle.std.proofs.Common.{◌∙◌, ap, subst, sym, Option}
-use Rattle.ncdump.proofs.Prelude.{texts_of, App, HasKind, fault_of, kind_of, found_of, is_simple, is_simple_and_free, matches_of, rows_of, AnswersBy, Asked, asked_for}
-use Rattle.ncdump.proofs.CommandLines.{asked_by_taken, is_exact, is_plain, refused_words}
+use Rattle.std.proofs.Common.{true, ◌≡◌, refl}
+use Rattle.clap.proofs.OnLiterals.{clap_on_literals}
+use Rattle.cli_base.proofs.Refusals.{refused_answers, taken_answers}
+use Rattle.ncdump.proofs.Prelude.{is_simple, is_simple_and_free, asked_by, asked_for, asked_in, ncdump}
 use Rattle.ncdump.proofs.command_line.options_of_words.Goals as goal
 
+-- the parse says all of the command's matches
+is_plain : is_simple_and_free ncdump ≡ true
+unfolding clap_on_literals ncdump
+is_plain = refl
+
+is_exact : is_simple ncdump ≡ true
+unfolding clap_on_literals ncdump
+is_exact = refl
+
 pub returns-in_err-matches : goal.returns-in_err-matches
-returns-in_err-matches c =
-    let words = texts_of c.args.words.now in
-    let is = c.in_ok-command.ensures in
-    let has = subst (λ (app : App). HasKind (fault_of app words) c.in_err-matches.field-0.0) is (c.in_err-matches.ensures.kinds (ap is_simple_and_free is ∙ is_plain)) in
-    refused_words words (kind_of c.in_err-matches.field-0.0) c.from_residual-in_err-matches.result c.from_residual-in_err-matches.ensures.1 has
+unfolding asked_by
+returns-in_err-matches c = refused_answers asked_for asked_in ncdump _ _ _ c.in_ok-command.ensures is_plain c.in_err-matches.field-0.0 c.in_err-matches.ensures.kinds c.from_residual-in_err-matches.ensures.1
 
 pub returns : goal.returns
-returns c =
-    let words = texts_of c.args.words.now in
-    let is = c.in_ok-command.ensures in
-    let none = ap (λ (app : App). fault_of app words) (sym is) ∙ c.in_ok-matches.ensures.kinds (ap is_simple_and_free is ∙ is_plain) in
-    let rows = (c.in_ok-matches.ensures.matches (ap is_simple is ∙ is_exact)).0 ∙ ap (λ (app : App). matches_of app words) is in
-    subst (λ (asked : Option Asked). AnswersBy asked_for asked c.options_of.result)
-    (asked_by_taken words (rows_of (found_of c.in_ok-matches.matches)) none rows) c.options_of.ensures
+unfolding asked_by
+returns c = taken_answers asked_for asked_in ncdump _ _ _ c.in_ok-command.ensures is_plain c.in_ok-matches.matches is_exact c.in_ok-matches.ensures.kinds c.in_ok-matches.ensures.matches c.options_of.ensures

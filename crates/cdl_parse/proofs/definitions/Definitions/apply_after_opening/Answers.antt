@@ -1,48 +1,39 @@
-use Rattle.std.proofs.Common.{◌≡◌, true, false, Ok, ap, sym, ◌∙◌, subst}
-use Rattle.cdl_parse.proofs.Prelude.{next_token, text_of, version_of, words, is_mark, lexeme, section_of, add_att, Leaves, name_first, constants_said, after_mark, state_of}
+use Rattle.std.proofs.Common.{Ok, ap, sym, ◌∙◌, subst}
+use Rattle.cdl_parse.proofs.Prelude.{next_token, text_of, words, is_mark, lexeme, section_of, add_att, Leaves, name_first, constants_said, after_mark, state_of}
 use Rattle.cdl_parse.proofs.Defining.{closes, goes_global, gone, makes_first_mark, makes_global, only_globals}
 use Rattle.cdl_parse.proofs.StatementWords.{begins}
 use Rattle.cdl_parse.proofs.definitions.Definitions.apply_after_opening.Goals as goal
 
 pub returns-then-is_mark : goal.returns-then-is_mark
 returns-then-is_mark c =
-    let start = c.args.start in
-    let begun = begins start c.requires.more in
-    let l = lexeme (text_of start) (next_token start) in
-    let on : is_mark 0x7d l ≡ true = ap (is_mark 0x7d) (sym c.lexeme-first.ensures.lexeme) ∙ sym c.is_mark.ensures ∙ c.if-is_mark.true in
-    closes (version_of start) (state_of c.args.self.now) l begun.0 (words start) c.requires.defining on begun.1
+    let begun = begins c.args.start c.requires.more in
+    let on = ap (is_mark 0x7d) (sym c.lexeme-first.ensures.lexeme) ∙ sym c.is_mark.ensures ∙ c.if-is_mark.true in
+    closes _ (state_of c.args.self.now) _ begun.0 (words c.args.start) c.requires.defining on begun.1
 
 pub read_attribute-requires-clause-more : goal.read_attribute-requires-clause-more
 read_attribute-requires-clause-more c =
-    let start = c.args.start in
-    let l = lexeme (text_of start) (next_token start) in
-    let off : is_mark 0x7d l ≡ false = ap (is_mark 0x7d) (sym c.lexeme-first.ensures.lexeme) ∙ sym c.is_mark.ensures ∙ c.if-is_mark.false in
-    let on : is_mark 0x3a l ≡ true = ap (is_mark 0x3a) (sym c.lexeme-first.ensures.lexeme) ∙ sym c.is_mark-2.ensures ∙ c.if-is_mark-2.true in
-    c.advanced.ensures.goes (goes_global c.args.self.now.section l c.advanced.result.1 (words c.advanced.result.0) (words start) c.requires.defining off on c.advanced.ensures.words c.requires.whole).0
+    let off = ap (is_mark 0x7d) (sym c.lexeme-first.ensures.lexeme) ∙ sym c.is_mark.ensures ∙ c.if-is_mark.false in
+    let on = ap (is_mark 0x3a) (sym c.lexeme-first.ensures.lexeme) ∙ sym c.is_mark-2.ensures ∙ c.if-is_mark-2.true in
+    c.advanced.ensures.goes (goes_global _ _ _ _ _ c.requires.defining off on c.advanced.ensures.words c.requires.whole).0
 
 pub read_attribute-requires-clause-shaped : goal.read_attribute-requires-clause-shaped
 read_attribute-requires-clause-shaped c =
-    let start = c.args.start in
-    let l = lexeme (text_of start) (next_token start) in
-    let off : is_mark 0x7d l ≡ false = ap (is_mark 0x7d) (sym c.lexeme-first.ensures.lexeme) ∙ sym c.is_mark.ensures ∙ c.if-is_mark.false in
-    let on : is_mark 0x3a l ≡ true = ap (is_mark 0x3a) (sym c.lexeme-first.ensures.lexeme) ∙ sym c.is_mark-2.ensures ∙ c.if-is_mark-2.true in
-    (goes_global c.args.self.now.section l c.advanced.result.1 (words c.advanced.result.0) (words start) c.requires.defining off on c.advanced.ensures.words c.requires.whole).1
+    let off = ap (is_mark 0x7d) (sym c.lexeme-first.ensures.lexeme) ∙ sym c.is_mark.ensures ∙ c.if-is_mark.false in
+    let on = ap (is_mark 0x3a) (sym c.lexeme-first.ensures.lexeme) ∙ sym c.is_mark-2.ensures ∙ c.if-is_mark-2.true in
+    (goes_global _ _ _ _ _ c.requires.defining off on c.advanced.ensures.words c.requires.whole).1
 
 pub returns-then-is_mark-2 : goal.returns-then-is_mark-2
 returns-then-is_mark-2 c =
-    let start = c.args.start in
-    let l = lexeme (text_of start) (next_token start) in
-    let off : is_mark 0x7d l ≡ false = ap (is_mark 0x7d) (sym c.lexeme-first.ensures.lexeme) ∙ sym c.is_mark.ensures ∙ c.if-is_mark.false in
-    let on : is_mark 0x3a l ≡ true = ap (is_mark 0x3a) (sym c.lexeme-first.ensures.lexeme) ∙ sym c.is_mark-2.ensures ∙ c.if-is_mark-2.true in
-    makes_global (version_of start) (state_of c.args.self.now) l c.advanced.result.1 (words c.advanced.result.0) (words start) c.read_attribute.new.attributes c.read_attribute.result c.requires.defining off on c.advanced.ensures.words c.requires.whole
+    let off = ap (is_mark 0x7d) (sym c.lexeme-first.ensures.lexeme) ∙ sym c.is_mark.ensures ∙ c.if-is_mark.false in
+    let on = ap (is_mark 0x3a) (sym c.lexeme-first.ensures.lexeme) ∙ sym c.is_mark-2.ensures ∙ c.if-is_mark-2.true in
+    makes_global _ (state_of c.args.self.now) _ _ _ (words c.args.start) c.read_attribute.new.attributes c.read_attribute.result c.requires.defining off on c.advanced.ensures.words c.requires.whole
     (subst (λ v. Leaves c.read_attribute.new.attributes c.read_attribute.result (add_att (name_first (words c.advanced.result.0)) (constants_said v (words c.advanced.result.0)) c.args.self.now.gatts)) c.advanced.ensures.same.version c.read_attribute.ensures.reads)
 
 pub returns-in_default : goal.returns-in_default
 returns-in_default c =
-    let start = c.args.start in
-    let begun = begins start c.requires.more in
-    let l = lexeme (text_of start) (next_token start) in
-    let off : is_mark 0x7d l ≡ false = ap (is_mark 0x7d) (sym c.lexeme-first.ensures.lexeme) ∙ sym c.is_mark.ensures ∙ c.if-is_mark.false in
-    let other : is_mark 0x3a l ≡ false = ap (is_mark 0x3a) (sym c.lexeme-first.ensures.lexeme) ∙ sym c.is_mark-2.ensures ∙ c.if-is_mark-2.false in
-    makes_first_mark (version_of start) (state_of c.args.self.now) l begun.0 (words start) (only_globals c.args.self.now.section c.requires.defining c.in_default.not-Dimensions c.in_default.not-Variables) off other begun.1 ∙
-    ap Ok (gone c.args.self.now c.enter_section.new.self (section_of l) (c.enter_section.ensures.section ∙ ap (λ w. after_mark (section_of w)) c.lexeme-first.ensures.lexeme) c.enter_section.ensures.dims c.enter_section.ensures.gatts c.enter_section.ensures.variables)
+    let begun = begins c.args.start c.requires.more in
+    let off = ap (is_mark 0x7d) (sym c.lexeme-first.ensures.lexeme) ∙ sym c.is_mark.ensures ∙ c.if-is_mark.false in
+    let other = ap (is_mark 0x3a) (sym c.lexeme-first.ensures.lexeme) ∙ sym c.is_mark-2.ensures ∙ c.if-is_mark-2.false in
+    makes_first_mark _ (state_of c.args.self.now) _ begun.0 (words c.args.start) (only_globals c.args.self.now.section c.requires.defining c.in_default.not-Dimensions c.in_default.not-Variables) off other begun.1 ∙
+    ap Ok (gone c.args.self.now c.enter_section.new.self (section_of (lexeme (text_of c.args.start) (next_token c.args.start))) (c.enter_section.ensures.section ∙ ap (λ w. after_mark (section_of w)) c.lexeme-first.ensures.lexeme)
+    c.enter_section.ensures.dims c.enter_section.ensures.gatts c.enter_section.ensures.variables)

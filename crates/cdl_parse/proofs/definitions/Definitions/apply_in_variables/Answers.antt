@@ -1,60 +1,40 @@
-use Rattle.std.proofs.Common.{◌≡◌, true, false, Ok, drop, ap, sym, ◌∙◌}
-use Rattle.cdl_parse.proofs.Prelude.{next_token, text_of, version_of, words, completes, opens_section_after, is_mark, lexeme, section_of, AttributeName, VariableName, Variables, after_mark, state_of}
+use Rattle.std.proofs.Common.{Ok, drop, ap, sym, ◌∙◌}
+use Rattle.cdl_parse.proofs.Prelude.{next_token, text_of, words, completes, is_mark, lexeme, section_of, AttributeName, VariableName, after_mark, state_of}
 use Rattle.cdl_statements.specs.code.DueTokens.{is_name}
 use Rattle.cdl_parse.proofs.Defining.{goes_attribute, goes_declaration, gone, makes_attribute, makes_declaration, makes_variable_mark, second_on}
 use Rattle.cdl_parse.proofs.definitions.Definitions.apply_in_variables.Goals as goal
 
 pub read_declaration-requires-clause-shaped : goal.read_declaration-requires-clause-shaped
 read_declaration-requires-clause-shaped c =
-    let start = c.args.start in
-    let next = c.advanced.result.0 in
-    let on = second_on start next c.advanced.result.1 c.requires.brace c.requires.colon c.requires.whole c.advanced.ensures.words c.advanced.ensures.goes in
-    let off : is_mark 0x3a (lexeme (text_of next) (next_token next)) ≡ false = ap (is_mark 0x3a) (sym c.lexeme.ensures.lexeme) ∙ sym c.is_mark.ensures ∙ c.if-not-is_mark.true in
-    ap (λ ws. completes VariableName (drop 1 ws)) on.first ∙
-    goes_declaration (is_name (lexeme (text_of start) (next_token start))) (opens_section_after Variables (lexeme (text_of start) (next_token start))) (lexeme (text_of next) (next_token next)) on.rest (words next) off on.second on.due
+    let on = second_on _ _ _ c.requires.brace c.requires.colon c.requires.whole c.advanced.ensures.words c.advanced.ensures.goes in
+    let off = ap (is_mark 0x3a) (sym c.lexeme.ensures.lexeme) ∙ sym c.is_mark.ensures ∙ c.if-not-is_mark.true in
+    ap (λ ws. completes VariableName (drop 1 ws)) on.first ∙ goes_declaration _ _ _ on.rest _ off on.second on.due
 
 pub returns-then-not-is_mark : goal.returns-then-not-is_mark
 returns-then-not-is_mark c =
-    let start = c.args.start in
-    let next = c.advanced.result.0 in
-    let l = lexeme (text_of start) (next_token start) in
-    let second = lexeme (text_of next) (next_token next) in
-    let on = second_on start next c.advanced.result.1 c.requires.brace c.requires.colon c.requires.whole c.advanced.ensures.words c.advanced.ensures.goes in
-    let off : is_mark 0x3a second ≡ false = ap (is_mark 0x3a) (sym c.lexeme.ensures.lexeme) ∙ sym c.is_mark.ensures ∙ c.if-not-is_mark.true in
-    let s = state_of c.args.self.now in
-    makes_declaration (version_of start) s l second on.rest (words next) (words start) c.read_declaration.new.variables c.read_declaration.result c.requires.brace c.requires.colon off on.second on.first
-    c.read_declaration.ensures
+    let on = second_on _ _ _ c.requires.brace c.requires.colon c.requires.whole c.advanced.ensures.words c.advanced.ensures.goes in
+    let off = ap (is_mark 0x3a) (sym c.lexeme.ensures.lexeme) ∙ sym c.is_mark.ensures ∙ c.if-not-is_mark.true in
+    makes_declaration _ (state_of c.args.self.now) _ _ on.rest _ (words c.args.start) c.read_declaration.new.variables c.read_declaration.result c.requires.brace c.requires.colon off on.second on.first c.read_declaration.ensures
 
 pub returns-then-is_name : goal.returns-then-is_name
 returns-then-is_name c =
-    let start = c.args.start in
-    let next = c.advanced.result.0 in
-    let l = lexeme (text_of start) (next_token start) in
-    let second = lexeme (text_of next) (next_token next) in
-    let on = second_on start next c.advanced.result.1 c.requires.brace c.requires.colon c.requires.whole c.advanced.ensures.words c.advanced.ensures.goes in
-    let colon : is_mark 0x3a second ≡ true = ap (is_mark 0x3a) (sym c.lexeme.ensures.lexeme) ∙ sym c.is_mark.ensures ∙ c.if-not-is_mark.false in
-    let named : is_name l ≡ true = ap is_name (sym c.lexeme-word.ensures.lexeme) ∙ sym c.is_name.ensures ∙ c.if-is_name.true in
-    makes_attribute (version_of start) (state_of c.args.self.now) l second on.rest (words next) (words start) c.read_attribute.new.self c.read_attribute.result c.requires.brace c.requires.colon colon named on.second on.first on.due c.read_attribute.ensures.reads
+    let on = second_on _ _ _ c.requires.brace c.requires.colon c.requires.whole c.advanced.ensures.words c.advanced.ensures.goes in
+    let colon = ap (is_mark 0x3a) (sym c.lexeme.ensures.lexeme) ∙ sym c.is_mark.ensures ∙ c.if-not-is_mark.false in
+    let named = ap is_name (sym c.lexeme-word.ensures.lexeme) ∙ sym c.is_name.ensures ∙ c.if-is_name.true in
+    makes_attribute _ (state_of c.args.self.now) _ _ on.rest _ (words c.args.start) c.read_attribute.new.self c.read_attribute.result c.requires.brace c.requires.colon colon named on.second on.first on.due c.read_attribute.ensures.reads
 
 pub returns : goal.returns
 returns c =
-    let start = c.args.start in
-    let next = c.advanced.result.0 in
-    let l = lexeme (text_of start) (next_token start) in
-    let second = lexeme (text_of next) (next_token next) in
-    let on = second_on start next c.advanced.result.1 c.requires.brace c.requires.colon c.requires.whole c.advanced.ensures.words c.advanced.ensures.goes in
-    let colon : is_mark 0x3a second ≡ true = ap (is_mark 0x3a) (sym c.lexeme.ensures.lexeme) ∙ sym c.is_mark.ensures ∙ c.if-not-is_mark.false in
-    let nameless : is_name l ≡ false = ap is_name (sym c.lexeme-word.ensures.lexeme) ∙ sym c.is_name.ensures ∙ c.if-is_name.false in
-    makes_variable_mark (version_of start) (state_of c.args.self.now) l second on.rest (words next) (words start) c.requires.brace c.requires.colon colon nameless on.second on.first ∙
-    ap Ok (gone c.args.self.now c.enter_section.new.self (section_of l) (c.enter_section.ensures.section ∙ ap (λ w. after_mark (section_of w)) c.lexeme-word.ensures.lexeme) c.enter_section.ensures.dims c.enter_section.ensures.gatts c.enter_section.ensures.variables)
+    let on = second_on _ _ _ c.requires.brace c.requires.colon c.requires.whole c.advanced.ensures.words c.advanced.ensures.goes in
+    let colon = ap (is_mark 0x3a) (sym c.lexeme.ensures.lexeme) ∙ sym c.is_mark.ensures ∙ c.if-not-is_mark.false in
+    let nameless = ap is_name (sym c.lexeme-word.ensures.lexeme) ∙ sym c.is_name.ensures ∙ c.if-is_name.false in
+    makes_variable_mark _ (state_of c.args.self.now) _ _ on.rest _ (words c.args.start) c.requires.brace c.requires.colon colon nameless on.second on.first ∙
+    ap Ok (gone c.args.self.now c.enter_section.new.self (section_of (lexeme (text_of c.args.start) (next_token c.args.start))) (c.enter_section.ensures.section ∙ ap (λ w. after_mark (section_of w)) c.lexeme-word.ensures.lexeme)
+    c.enter_section.ensures.dims c.enter_section.ensures.gatts c.enter_section.ensures.variables)
 
 pub read_attribute-requires-clause-shaped : goal.read_attribute-requires-clause-shaped
 read_attribute-requires-clause-shaped c =
-    let start = c.args.start in
-    let next = c.advanced.result.0 in
-    let l = lexeme (text_of start) (next_token start) in
-    let second = lexeme (text_of next) (next_token next) in
-    let on = second_on start next c.advanced.result.1 c.requires.brace c.requires.colon c.requires.whole c.advanced.ensures.words c.advanced.ensures.goes in
-    let colon : is_mark 0x3a second ≡ true = ap (is_mark 0x3a) (sym c.lexeme.ensures.lexeme) ∙ sym c.is_mark.ensures ∙ c.if-not-is_mark.false in
-    let named : is_name l ≡ true = ap is_name (sym c.lexeme-word.ensures.lexeme) ∙ sym c.is_name.ensures ∙ c.if-is_name.true in
-    ap (λ ws. completes AttributeName (drop 2 ws)) on.first ∙ ap (λ ws. completes AttributeName (drop 1 ws)) on.second ∙ goes_attribute l second (words next) on.rest colon named on.second on.due
+    let on = second_on _ _ _ c.requires.brace c.requires.colon c.requires.whole c.advanced.ensures.words c.advanced.ensures.goes in
+    let colon = ap (is_mark 0x3a) (sym c.lexeme.ensures.lexeme) ∙ sym c.is_mark.ensures ∙ c.if-not-is_mark.false in
+    let named = ap is_name (sym c.lexeme-word.ensures.lexeme) ∙ sym c.is_name.ensures ∙ c.if-is_name.true in
+    ap (λ ws. completes AttributeName (drop 2 ws)) on.first ∙ ap (λ ws. completes AttributeName (drop 1 ws)) on.second ∙ goes_attribute _ _ _ on.rest colon named on.second on.due

@@ -1,13 +1,11 @@
-use Rattle.std.proofs.Common.{rules, Result, Err, ◌≡◌, ◌<◌, List, drop, true, ap, sym, subst, ◌∙◌, length, set, arith}
-use Rattle.cdl_parse.proofs.Prelude.{FailsRead, ReadError, next_token, text_of, version_of, words, completes, word_value, lexeme, lexeme_of, AttributeName, change_variable, with_att, Leaves, name_first, constants_said, drafts_of, at_position, IsIndex, Variable, variable_names, ⊤}
+use Rattle.std.proofs.Common.{rules, Result, Err, ◌≡◌, ◌<◌, List, drop, ap, sym, subst, ◌∙◌, length, set, arith}
+use Rattle.cdl_parse.proofs.Prelude.{FailsRead, ReadError, version_of, words, completes, word_value, lexeme_of, AttributeName, change_variable, with_att, Leaves, name_first, constants_said, drafts_of, at_position, IsIndex, Variable, variable_names, ⊤}
 use Rattle.cdl_parse.proofs.DraftNames.{names_are}
-use Rattle.cdl_parse.proofs.VariableAttributes.{changed_at, name_is, names_kept, past_colon, past_name, unchanged_at, with_atts}
+use Rattle.cdl_parse.proofs.VariableAttributes.{changed_at, name_is, names_kept, past_both, past_name, unchanged_at, with_atts}
 use Rattle.cdl_parse.proofs.variables.Variables.read_attribute.Goals as goal
 
 pub advanced-requires-2 : goal.advanced-requires-2
-advanced-requires-2 c =
-    let start = c.args.start in
-    c.advanced.ensures.goes (past_name (lexeme (text_of start) (next_token start)) c.advanced.result.1 (words c.advanced.result.0) (words start) c.advanced.ensures.words c.requires.shaped).0
+advanced-requires-2 c = c.advanced.ensures.goes (past_name _ _ _ _ c.advanced.ensures.words c.requires.shaped).0
 
 pub index_mut-variable-requires : goal.index_mut-variable-requires
 index_mut-variable-requires c =
@@ -16,20 +14,10 @@ index_mut-variable-requires c =
     omega (arith, h, count, c.self.inside.list.ok.0)
 
 pub read_attribute-requires-clause-more : goal.read_attribute-requires-clause-more
-read_attribute-requires-clause-more c =
-    let start = c.args.start in
-    let colon = c.advanced.result.0 in
-    let one = past_name (lexeme (text_of start) (next_token start)) c.advanced.result.1 (words colon) (words start) c.advanced.ensures.words c.requires.shaped in
-    let on : completes AttributeName (drop 1 (words colon)) ≡ true = ap (completes AttributeName) (sym one.1) ∙ c.requires.shaped in
-    c.advanced-2.ensures.goes (past_colon (lexeme (text_of colon) (next_token colon)) c.advanced-2.result.1 (words c.advanced-2.result.0) (words colon) c.advanced-2.ensures.words on).0
+read_attribute-requires-clause-more c = c.advanced-2.ensures.goes (past_both _ _ _ _ _ _ _ c.requires.shaped c.advanced.ensures.words c.advanced-2.ensures.words).0
 
 pub read_attribute-requires-clause-shaped : goal.read_attribute-requires-clause-shaped
-read_attribute-requires-clause-shaped c =
-    let start = c.args.start in
-    let colon = c.advanced.result.0 in
-    let one = past_name (lexeme (text_of start) (next_token start)) c.advanced.result.1 (words colon) (words start) c.advanced.ensures.words c.requires.shaped in
-    let on : completes AttributeName (drop 1 (words colon)) ≡ true = ap (completes AttributeName) (sym one.1) ∙ c.requires.shaped in
-    ap (completes AttributeName) (sym (past_colon (lexeme (text_of colon) (next_token colon)) c.advanced-2.result.1 (words c.advanced-2.result.0) (words colon) c.advanced-2.ensures.words on).1) ∙ on
+read_attribute-requires-clause-shaped c = ap (completes AttributeName) (sym (past_both _ _ _ _ _ _ _ c.requires.shaped c.advanced.ensures.words c.advanced-2.ensures.words).1) ∙ c.requires.shaped
 
 pub invariant_of-self : goal.invariant_of-self
 invariant_of-self c =
@@ -39,7 +27,6 @@ invariant_of-self c =
 pub returns-clause-reads : goal.returns-clause-reads
 returns-clause-reads c =
     let start = c.args.start in
-    let colon = c.advanced.result.0 in
     let name = c.advanced-2.result.0 in
     let items = c.self.inside.list.items in
     let drafts = drafts_of items in
@@ -47,16 +34,13 @@ returns-clause-reads c =
     let variable = c.index_mut-variable.result.now in
     let atts = c.read_attribute.new.attributes in
     let change = with_att (name_first (words name)) (constants_said (version_of name) (words name)) in
-    let one = past_name (lexeme (text_of start) (next_token start)) c.advanced.result.1 (words colon) (words start) c.advanced.ensures.words c.requires.shaped in
-    let on : completes AttributeName (drop 1 (words colon)) ≡ true = ap (completes AttributeName) (sym one.1) ∙ c.requires.shaped in
-    let two = past_colon (lexeme (text_of colon) (next_token colon)) c.advanced-2.result.1 (words name) (words colon) c.advanced-2.ensures.words on in
     let within : at < length items = subst (λ (variables : List Variable). at < length variables) c.as_slice.ensures.value c.in_ok-position.ensures.within in
     let put = changed_at (name_first (words name)) (constants_said (version_of name) (words name)) items at variable atts c.read_attribute.result within c.index_mut-variable.ensures.value c.read_attribute.ensures.reads in
     let word = word_value c.lexeme.result.bytes.now in
     let same : change_variable (name_first (words start)) (with_att (name_first (drop 2 (words start))) (constants_said (version_of start) (drop 2 (words start)))) c.args.self.now ≡ at_position at change drafts =
     ap (change_variable (name_first (words start)) (with_att (name_first (drop 2 (words start))) (constants_said (version_of start) (drop 2 (words start))))) (sym c.self.view_is) ∙
     ap (λ n. change_variable n (with_att (name_first (drop 2 (words start))) (constants_said (version_of start) (drop 2 (words start)))) drafts) (name_is (lexeme_of c.lexeme.result) (drop 1 (words start)) (words start) (c.lexeme.ensures.first c.requires.more)) ∙
-    ap (λ ws. change_variable word (with_att (name_first ws) (constants_said (version_of start) ws)) drafts) (one.1 ∙ two.1) ∙
+    ap (λ ws. change_variable word (with_att (name_first ws) (constants_said (version_of start) ws)) drafts) (past_both _ _ _ _ _ _ _ c.requires.shaped c.advanced.ensures.words c.advanced-2.ensures.words).1 ∙
     ap (λ v. change_variable word (with_att (name_first (words name)) (constants_said v (words name))) drafts) (sym (c.advanced-2.ensures.same.version ∙ c.advanced.ensures.same.version)) ∙
     c.in_ok-position.ensures.finds drafts (ap variable_names c.as_slice.ensures.value ∙ names_are items) change in
     subst (Leaves (drafts_of (set items at (with_atts atts variable))) c.read_attribute.result) (sym same) put
