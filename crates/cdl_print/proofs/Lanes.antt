@@ -1,10 +1,10 @@
 -- Vectors of 16 bytes, and which of them need an escape.
 use Rattle.std.proofs.Common.{◌≡◌, ℕ, ◌+◌, ◌*◌, ◌/◌, ◌%◌, ◌^◌, ◌<◌, ◌≤◌, zero, suc, Bool, true, false, ◌&&◌, cond, eqb, List, [], ◌∷◌, ◌++◌, map, length, take, drop, get_or, replicate, bit_and, refl, sym, ap, ap₂, ◌∙◌, arith, w8, Fits}
 use Rattle.std.proofs.lemmas.Bool.{agree_below, agree_below_at}
-use Rattle.std.proofs.lemmas.List.{get_or-map, ext_get_or}
+use Rattle.std.proofs.lemmas.List.Folds.{list_all-append}
 use Rattle.std.proofs.lemmas.Nat.{and_le_r}
-use Rattle.std.proofs.lemmas.Simd.{Each1-all, Each1-zip2, Each2-splat, length-zip2, SwzOk, SwzOk-from_below, swz_l, length-swz_l, get_or-swz_l_below, zip2_splat, mask_l-mod}
-use Rattle.std.proofs.Math.Seq.{take-append-add, drop-append_seam}
+use Rattle.std.proofs.lemmas.Simd.{Each1-all, Each1-zip2, Each2-splat, length-zip2, SwzOk, SwzOk-from_below, swz_l, get_or-swz_l_below, zip2_splat, mask_l-mod}
+use Rattle.std.proofs.Math.Seq.{take-add, take-append-add, drop-append_seam}
 use Rattle.cdl_print.proofs.Prelude.{list_all, prefix_len, drop-take, length-map, length-take-le, take-take}
 use lib.Lanes.{mask_l, top, zip2, Each1}
 
@@ -24,28 +24,29 @@ hit a b = cond (eqb a b) 255 0
 
 -- ---- a table of 16 bytes that is read at the lower four bits of each lane
 
+abbrev low : ℕ → ℕ
+low x = bit_and x 15
+
+low_below : (x : ℕ) → low x < 16
+low_below x = omega (arith, and_le_r x 15)
+
 pub low_ok : (v : List ℕ) → length v ≡ 16 → SwzOk w8 16 16 0 (zip2 bit_and v (replicate 16 15))
 low_ok v long =
-    let small = Each1-all (λ a. bit_and a 15 < 16) (λ a. omega (arith, and_le_r a 15)) v in
     SwzOk-from_below w8 16 1 16 0 (zip2 bit_and v (replicate 16 15)) refl (omega (arith, length-zip2 bit_and v (replicate 16 15) long))
-    (Each1-zip2 bit_and (λ j. j < 16) v (replicate 16 15) (Each2-splat (λ a b. bit_and a b < 16) v 16 15 small))
+    (Each1-zip2 bit_and (λ j. j < 16) v (replicate 16 15) (Each2-splat (λ a b. bit_and a b < 16) v 16 15 (Each1-all (λ a. low a < 16) low_below v)))
 
 pub itself : (v : List ℕ) → v ≡ map (λ x. x) v
 itself [] = refl
 itself (x ∷ xs) = ap (λ l. x ∷ l) (itself xs)
 
-pub looked_up : (t v : List ℕ) → length v ≡ 16 → swz_l w8 16 t 0 (zip2 bit_and v (replicate 16 15)) ≡ map (λ x. get_or t (bit_and x 15) 0) v
-looked_up t v long =
-    let low : ℕ → ℕ = λ x. bit_and x 15 in
-    let js = map low v in
-    let is : zip2 bit_and v (replicate 16 15) ≡ js = zip2_splat bit_and v 16 15 long in
-    ap (swz_l w8 16 t 0) is ∙ ext_get_or 0 _ _ (length-swz_l w8 16 t 0 js ∙ length-map v low ∙ sym (length-map v (λ x. get_or t (low x) 0))) (λ i h.
-    let within : i < length v = omega (arith, length-swz_l w8 16 t 0 js, length-map v low) in
-    let at : get_or js i 0 ≡ low (get_or v i 0) = get_or-map low v i 0 0 within in
-    let below : get_or js i 0 < 16 = omega (arith, at, and_le_r (get_or v i 0) 15) in
-    let place : 16 * ((0 + i) / 16) + get_or js i 0 ≡ low (get_or v i 0) = omega (arith, at) in
-    get_or-swz_l_below w8 16 t 0 js i (omega (arith, length-map v low)) below
-    ∙ ap (λ k. get_or t k 0) place ∙ sym (get_or-map (λ x. get_or t (low x) 0) v i 0 0 within))
+reads : (t v : List ℕ) (i : ℕ) → i + length v ≤ 16 → swz_l w8 16 t i (map low v) ≡ map (λ x. get_or t (low x) 0) v
+reads t [] i few = refl
+reads t (x ∷ xs) i few =
+    let place : 16 * ((i + 0) / 16) + low x ≡ low x = omega arith in
+    ap₂ (λ a b. a ∷ b) (get_or-swz_l_below w8 16 t i (low x ∷ map low xs) 0 (omega arith) (low_below x) ∙ ap (λ k. get_or t k 0) place) (reads t xs (suc i) (omega arith))
+
+pub looked_up : (t v : List ℕ) → length v ≡ 16 → swz_l w8 16 t 0 (zip2 bit_and v (replicate 16 15)) ≡ map (λ x. get_or t (low x) 0) v
+looked_up t v long = let lows : zip2 bit_and v (replicate 16 15) ≡ map low v = zip2_splat bit_and v 16 15 long in ap (swz_l w8 16 t 0) lows ∙ reads t v 0 (omega arith)
 
 -- ---- bytes that pass a test
 
@@ -62,6 +63,14 @@ all_in_run p (b ∷ bytes) (suc run) within = one_more p b bytes run (p b) refl 
 -- those of a vector that is read at an offset
 pub run_at : (p : ℕ → Bool) (bytes : List ℕ) (i n run : ℕ) → run ≤ prefix_len p (take n (drop i bytes)) → run ≤ n → list_all p (take run (drop i bytes)) ≡ true
 run_at p bytes i n run within few = ap (list_all p) (sym (take-take run n (drop i bytes) few)) ∙ all_in_run p (take n (drop i bytes)) run within
+
+-- vectors one after the other
+pub more_pass : (p : ℕ → Bool) (bytes : List ℕ) (n m : ℕ) → list_all p (take n bytes) ≡ true → list_all p (take m (drop n bytes)) ≡ true → list_all p (take (n + m) bytes) ≡ true
+more_pass p bytes n m before here = ap (list_all p) (take-add n m bytes) ∙ list_all-append p (take n bytes) (take m (drop n bytes)) ∙ ap₂ (λ a b. a && b) before here
+
+pub block_passes : (p : ℕ → Bool) (bytes : List ℕ) → list_all p (take 16 bytes) ≡ true → list_all p (take 16 (drop 16 bytes)) ≡ true → list_all p (take 16 (drop 32 bytes)) ≡ true
+    → list_all p (take 16 (drop 48 bytes)) ≡ true → list_all p (take 64 bytes) ≡ true
+block_passes p bytes first second third fourth = more_pass p bytes 48 16 (more_pass p bytes 32 16 (more_pass p bytes 16 16 first second) third) fourth
 
 -- a run of bytes that were copied
 pub copied_part : (old new bytes : List ℕ) (at n run : ℕ) → take (at + n) new ≡ take at old ++ take n bytes → at ≤ length old → run ≤ n → take (at + run) new ≡ take at old ++ take run bytes

@@ -5,7 +5,7 @@ ghost use Rattle.std.specs.List.{flat_map, list_all};
 ghost use Rattle.nc_base.specs.code.Quoted.{escaped_in, is_literal, stands_for_itself, written};
 ghost use Rattle.devices.specs.code.SinkWrites.{Wrote};
 
-use crate::literal::{LANES, literal_run};
+use crate::literal::{BLOCK, LANES, is_literal_block, literal_run};
 use cdl_number_text::{put_byte, put_bytes};
 use devices::{Sink, WriteFailed, put};
 use nc_base::{Escape, Quoting};
@@ -108,11 +108,11 @@ pub fn gather_escaped(text: &mut [u8], at: usize, quoting: Quoting, bytes: &[u8]
 }
 
 /// Puts some of the first bytes of a name or of a string (`quoting`), of which none needs an escape, at the offset `at` of `text`, and
-/// returns how many: none in a name, and in a string those before the first one that needs an escape, but at most 16. What stands after
-/// them in `text` may be anything then. Needs room for 16 bytes.
+/// returns how many: none in a name, and in a string what [`put_literal_run`] puts. What stands after them in `text` may be anything then.
+/// Needs room for the bytes, and for 16 more.
 #[inline(always)]
 fn put_plain_run(text: &mut [u8], at: usize, quoting: Quoting, bytes: &[u8]) -> usize
-    requires { at + 16 ≤ length text.old }
+    requires { at + length bytes.now + 16 ≤ length text.old }
     ensures within { result ≤ length bytes.now }
     ensures plain { list_all (stands_for_itself quoting) (take result bytes.now) ≡ true }
     ensures text { take (at + result) text.new ≡ take at text.old ++ take result bytes.now }
@@ -124,10 +124,11 @@ fn put_plain_run(text: &mut [u8], at: usize, quoting: Quoting, bytes: &[u8]) -> 
 }
 
 /// Puts the bytes of a string that come before the first one that needs an escape, but at most 16, at the offset `at` of `text`, and returns
-/// how many. It copies the next 16 bytes, or all if they are fewer, before it tests them. Needs room for 16 bytes.
+/// how many. It copies the next 16 bytes, or all if they are fewer, before it tests them. If none of the 16 needs an escape, and none of the
+/// next [`BLOCK`] bytes does, it puts these too. Needs room for the bytes, and for 16 more.
 #[inline(always)]
 fn put_literal_run(text: &mut [u8], at: usize, bytes: &[u8]) -> usize
-    requires { at + 16 ≤ length text.old }
+    requires { at + length bytes.now + 16 ≤ length text.old }
     ensures within { result ≤ length bytes.now }
     ensures literal { list_all is_literal (take result bytes.now) ≡ true }
     ensures text { take (at + result) text.new ≡ take at text.old ++ take result bytes.now }
@@ -138,7 +139,12 @@ fn put_literal_run(text: &mut [u8], at: usize, bytes: &[u8]) -> usize
     }
     let vector = u8x16::from_slice(bytes);
     vector.copy_to_slice(&mut text[at..]);
-    literal_run(vector)
+    let run = literal_run(vector);
+    if run == LANES && bytes.len() >= LANES + BLOCK && is_literal_block(&bytes[LANES..]) {
+        u8x64::from_slice(&bytes[LANES..]).copy_to_slice(&mut text[at + LANES..]);
+        return LANES + BLOCK;
+    }
+    run
 }
 
 /// Puts the byte `b` at the offset `at` of `text`, written as `escape` says, and returns the offset at which it ends. Needs room for four

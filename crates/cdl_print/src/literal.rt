@@ -1,7 +1,7 @@
 //! Searches for bytes that need an escape in a string, by vectors.
 
-ghost use Rattle.std.specs.Prelude.{◌≡◌, ◌≤◌, map};
-ghost use Rattle.std.specs.List.{prefix_len};
+ghost use Rattle.std.specs.Prelude.{◌≡◌, ◌≤◌, length, map, take, true};
+ghost use Rattle.std.specs.List.{list_all, prefix_len};
 ghost use Rattle.std.specs.Simd.Lanes.{mask_l};
 ghost use Rattle.nc_base.specs.code.Quoted.{is_literal};
 ghost use Rattle.cdl_print.specs.code.Pieces.{needs_escape};
@@ -10,6 +10,9 @@ use std::simd::prelude::*;
 
 /// The number of bytes that are tested at once.
 pub const LANES: usize = 16;
+
+/// The number of bytes that [`is_literal_block`] tests.
+pub const BLOCK: usize = 64;
 
 /// The bytes from 0x20 on that need an escape, each at the index that its lower four bits give. Any other index holds a byte whose lower four
 /// bits give another index, so that no byte equals what it finds there.
@@ -27,6 +30,19 @@ pub fn literal_run(vector: u8x16) -> usize
     } else {
         found.trailing_zeros() as usize
     }
+}
+
+/// Returns true if none of the first [`BLOCK`] bytes needs an escape in a string.
+#[inline(always)]
+pub fn is_literal_block(bytes: &[u8]) -> bool
+    requires { 64 ≤ length bytes.now }
+    ensures { result ≡ true → list_all is_literal (take 64 bytes.now) ≡ true }
+{
+    let first = escape_mask(u8x16::from_slice(bytes));
+    let second = escape_mask(u8x16::from_slice(&bytes[16..]));
+    let third = escape_mask(u8x16::from_slice(&bytes[32..]));
+    let fourth = escape_mask(u8x16::from_slice(&bytes[48..]));
+    (first == 0) & (second == 0) & (third == 0) & (fourth == 0)
 }
 
 /// Returns a mask with a bit for each byte of the vector, set if the byte needs an escape in a string. A byte from 0x20 on needs one if

@@ -1,28 +1,66 @@
 -- From the mask of a block of bytes to the run of bytes at which no lane stops.
-use Rattle.std.proofs.Common.{◌≡◌, ℕ, ◌+◌, ◌%◌, ◌^◌, ◌<◌, ◌≤◌, Bool, not, ◌||◌, cond, eqb, List, [], ◌∷◌, map, rules, length, ◌++◌, take, drop, replicate, count_by, ap, ◌∙◌, arith}
-use Rattle.std.proofs.lemmas.Simd.{map-map, zip2_of_maps, zip2_splat, mask_l-mod, chunk-drop, length-chunk, first_set_mask_l}
+use Rattle.std.proofs.Common.{◌≡◌, ℕ, suc, ◌+◌, ◌*◌, ◌/◌, ◌%◌, ◌^◌, ◌<◌, ◌≤◌, Bool, true, not, ◌||◌, cond, eqb, List, [], ◌∷◌, map, rules, length, ◌++◌, take, drop, get_or, replicate, bit_and, count_by, refl, ap, ap₂, ◌∙◌, arith, w8, Fits}
+use Rattle.std.proofs.lemmas.Simd.{zip2_of_maps, zip2_splat, mask_l-mod, chunk-drop, length-chunk, first_set_mask_l, Each1-all, Each1-zip2, Each2-splat, length-zip2, SwzOk, SwzOk-from_below, swz_l, get_or-swz_l_below}
+use Rattle.std.proofs.lemmas.Bool.{agree_below, agree_below_at}
+use Rattle.std.proofs.lemmas.Nat.{and_le_r}
 use Rattle.std.proofs.lemmas.List.{length-map}
 use Rattle.std.proofs.lemmas.List.Sums.{prefix_len-le-length, sum_by-append}
 use Rattle.std.proofs.lemmas.Bool.Decides.{nat_tests}
 use Rattle.std.specs.List.{prefix_len}
-use lib.Lanes.{chunk, mask_l, top, zip2}
+use lib.Lanes.{chunk, mask_l, top, zip2, Each1}
 use lib.Bits.{bit_or}
-use Rattle.cdl_tokens.specs.code.Scanners.{is_any_of}
 use Rattle.cdl_tokens.proofs.Scans.{take_more}
 use lib.Count.{count_trailing_zeros}
-
-top_of_three : (a b c : Bool) → top 7 (bit_or (bit_or (cond a 255 0) (cond b 255 0)) (cond c 255 0)) ≡ (a || b || c)
-top_of_three a b c = search rules
 
 abbrev hit : ℕ → ℕ → ℕ
 hit a b = cond (eqb a b) 255 0
 
--- lanes that are compared with three bytes
-pub three : (a b c n : ℕ) (v : List ℕ) → length v ≡ n → n ≤ 64
-    → mask_l (map (top 7) (zip2 bit_or (zip2 bit_or (zip2 hit v (replicate n a)) (zip2 hit v (replicate n b))) (zip2 hit v (replicate n c)))) % 2 ^ 64 ≡ mask_l (map (is_any_of a b c) v)
-three a b c n v long few =
-    let lanes = zip2_of_maps bit_or _ _ v (zip2_of_maps bit_or _ _ v (zip2_splat hit v n a long) (zip2_splat hit v n b long)) (zip2_splat hit v n c long) in
-    ap (λ l. mask_l (map (top 7) l) % 2 ^ 64) lanes ∙ ap (λ l. mask_l l % 2 ^ 64) (map-map _ _ v ∙ (λ i. map (λ x. top_of_three (eqb x a) (eqb x b) (eqb x c) i) v)) ∙ mask_l-mod (map (is_any_of a b c) v) 64 (omega (arith, length-map v (is_any_of a b c)))
+each_byte : (f : ℕ → ℕ) (p : ℕ → Bool) → ((x : ℕ) → x < 256 → top 7 (f x) ≡ p x) → (v : List ℕ) → Each1 (Fits w8) v → map (top 7) (map f v) ≡ map p v
+each_byte f p all [] fits = refl
+each_byte f p all (x ∷ xs) fits = ap₂ (λ a b. a ∷ b) (all x fits.0.fits) (each_byte f p all xs fits.1)
+
+-- lanes that are computed one by one, and that are set just where p holds
+masked : (f : ℕ → ℕ) (p : ℕ → Bool) (v z : List ℕ) → length v ≡ 16 → Each1 (Fits w8) v → z ≡ map f v → ((x : ℕ) → x < 256 → top 7 (f x) ≡ p x)
+    → mask_l (map (top 7) z) % 2 ^ 64 ≡ mask_l (map p v)
+masked f p v z long fits e all = ap (λ l. mask_l l % 2 ^ 64) (ap (map (top 7)) e ∙ each_byte f p all v fits) ∙ mask_l-mod (map p v) 64 (omega (arith, length-map v p))
+
+top_of_two : (a b : Bool) → top 7 (bit_or (cond a 255 0) (cond b 255 0)) ≡ (a || b)
+top_of_two a b = search rules
+
+-- lanes that are compared with two bytes
+pub two : (a b : ℕ) (v : List ℕ) → length v ≡ 16 → Each1 (Fits w8) v
+    → mask_l (map (top 7) (zip2 bit_or (zip2 hit v (replicate 16 a)) (zip2 hit v (replicate 16 b)))) % 2 ^ 64 ≡ mask_l (map (λ x. eqb x a || eqb x b) v)
+two a b v long fits = masked _ (λ x. eqb x a || eqb x b) v _ long fits (zip2_of_maps bit_or _ _ v (zip2_splat hit v 16 a long) (zip2_splat hit v 16 b long)) (λ x _. top_of_two (eqb x a) (eqb x b))
+
+-- ---- a table of 16 bytes that is read at the lower four bits of each lane
+
+abbrev low : ℕ → ℕ
+low x = bit_and x 15
+
+low_below : (x : ℕ) → low x < 16
+low_below x = omega (arith, and_le_r x 15)
+
+pub low_ok : (v : List ℕ) → length v ≡ 16 → SwzOk w8 16 16 0 (zip2 bit_and v (replicate 16 15))
+low_ok v long =
+    SwzOk-from_below w8 16 1 16 0 (zip2 bit_and v (replicate 16 15)) refl (omega (arith, length-zip2 bit_and v (replicate 16 15) long))
+    (Each1-zip2 bit_and (λ j. j < 16) v (replicate 16 15) (Each2-splat (λ a b. bit_and a b < 16) v 16 15 (Each1-all (λ a. low a < 16) low_below v)))
+
+looked_up : (t v : List ℕ) (i : ℕ) → i + length v ≤ 16 → swz_l w8 16 t i (map low v) ≡ map (λ x. get_or t (low x) 0) v
+looked_up t [] i few = refl
+looked_up t (x ∷ xs) i few =
+    let place : 16 * ((i + 0) / 16) + low x ≡ low x = omega arith in
+    ap₂ (λ a b. a ∷ b) (get_or-swz_l_below w8 16 t i (low x ∷ map low xs) 0 (omega arith) (low_below x) ∙ ap (λ k. get_or t k 0) place) (looked_up t xs (suc i) (omega arith))
+
+itself : (v : List ℕ) → v ≡ map (λ x. x) v
+itself [] = refl
+itself (x ∷ xs) = ap (λ l. x ∷ l) (itself xs)
+
+pub listed : (t v : List ℕ) (p : ℕ → Bool) → length v ≡ 16 → Each1 (Fits w8) v → agree_below (λ x. top 7 (hit (get_or t (low x) 0) x)) p 256 ≡ true
+    → mask_l (map (top 7) (zip2 hit (swz_l w8 16 t 0 (zip2 bit_and v (replicate 16 15))) v)) % 2 ^ 64 ≡ mask_l (map p v)
+listed t v p long fits all =
+    let lows : zip2 bit_and v (replicate 16 15) ≡ map low v = zip2_splat bit_and v 16 15 long in
+    masked (λ x. hit (get_or t (low x) 0) x) p v _ long fits (zip2_of_maps hit _ _ v (ap (swz_l w8 16 t 0) lows ∙ looked_up t v 0 (omega arith)) (itself v))
+    (λ x below. agree_below_at (λ y. top 7 (hit (get_or t (low y) 0) y)) p 256 x all below)
 
 module _ (p : ℕ → Bool) where
   -- the first byte that passes p lies after a block with no bit set, otherwise in it

@@ -6,22 +6,14 @@ use Rattle.cdl_tokens.specs.declared.plain_number.Unsigned.{Unsigned}
 use Rattle.std.proofs.lemmas.List.{take-take, drop-take}
 use Rattle.cdl_tokens.proofs.Decimals.{all_read, said}
 use Rattle.cdl_tokens.proofs.PlainTokens.{digit_number, ended_low}
+use Rattle.cdl_tokens.proofs.Steps.{drop_one_more}
 use Rattle.cdl_tokens.proofs.Suffixes.{no_suffix}
 use mir.Val.{bool_byte}
 
 -- the number token goes on after its digits as far as what follows them does
 digits_go_on : (bs : List ℕ) → prefix_len goes_on_number bs ≡ prefix_len is_digit bs + prefix_len goes_on_number (drop (prefix_len is_digit bs) bs)
 digits_go_on [] = refl
-digits_go_on (b ∷ bs) = by (is_digit b) refl (digits_go_on bs)
-  where
-    by : (d : Bool) → is_digit b ≡ d → prefix_len goes_on_number bs ≡ prefix_len is_digit bs + prefix_len goes_on_number (drop (prefix_len is_digit bs) bs) →
-        prefix_len goes_on_number (b ∷ bs) ≡ cond d (1 + prefix_len is_digit bs) 0 + prefix_len goes_on_number (drop (cond d (1 + prefix_len is_digit bs) 0) (b ∷ bs))
-    by true is again =
-        let on : goes_on_number b ≡ true = grind (arith, is) in
-        let k = prefix_len is_digit bs in
-        let step : drop (1 + k) (b ∷ bs) ≡ drop k bs = ap (λ m. drop m (b ∷ bs)) (let e : 1 + k ≡ suc k = omega arith in e) in
-        rw (on) (rw (step) (omega (arith, again)))
-    by false is again = omega arith
+digits_go_on (b ∷ bs) = grind (arith, digits_go_on bs, drop_one_more b (prefix_len is_digit bs) bs)
 
 -- what a number says
 abbrev pub numeral : Bool → Unsigned → Numeral

@@ -1,6 +1,7 @@
 -- What plain strings are.
 use Rattle.std.proofs.Common.{◌≡◌, ℕ, zero, suc, ◌+◌, ◌<◌, Bool, true, List, [], ◌∷◌, length, take, drop, refl, ap, ◌∙◌, arith, count_by, ⊎_elim, ◌==◌, slice_index, is_some, rules}
-use Rattle.cdl_tokens.proofs.Prelude.{list_all, prefix_len, cases_lt, get_or_past, length-take-le, inner, string_value, unescape, BeginsString, scan, scan_text, token, len_until, is_none_of, is_unescaped, Text}
+use Rattle.cdl_tokens.proofs.Prelude.{list_all, prefix_len, cases_lt, get_or_past, length-take-le, take-take, inner, string_value, unescape, BeginsString, scan, scan_text, token, len_until, goes_on, is_unescaped, Text}
+use Rattle.cdl_tokens.specs.declared.search.Stops.TheVariants.{AtStringEnd}
 use Rattle.cdl_tokens.proofs.PlainTokens.{feeds_on, no_opening}
 use Rattle.cdl_tokens.proofs.Steps.{take_one_more}
 use Rattle.cdl_tokens.proofs.Strings.{plain_string, plain_unescaped, stands_for}
@@ -8,7 +9,7 @@ use Rattle.cdl_tokens.proofs.Words.{and_false, until_at_start}
 
 -- neither a backslash nor a quote nor a line feed
 abbrev is_plain : ℕ → Bool
-is_plain = is_none_of 0x5c 0x22 0x0a
+is_plain = goes_on AtStringEnd
 
 -- how many of the first bytes are plain
 abbrev plain_len : List ℕ → ℕ
@@ -36,14 +37,9 @@ no_backslash : (bytes : List ℕ) → prefix_len is_unescaped (take (plain_len b
 no_backslash [] = refl
 no_backslash (b ∷ bytes) = search (rules, is_plain, plain_len, take_one_more, no_backslash bytes)
 
-taken_within : (n : ℕ) (bytes : List ℕ) → take n (take (1 + n) bytes) ≡ take n bytes
-taken_within zero bytes = refl
-taken_within (suc n) [] = ap (take (suc n)) (let e : take {A = ℕ} (1 + suc n) [] ≡ [] = ap (λ m. take {A = ℕ} m []) (let e : 1 + suc n ≡ suc (suc n) = omega arith in e) in e)
-taken_within (suc n) (b ∷ bytes) = ap (take (suc n)) (take_one_more b (suc n) bytes) ∙ ap (λ xs. b ∷ xs) (ap (λ m. take n (take m bytes)) (let e : suc n ≡ 1 + n = omega arith in e) ∙ taken_within n bytes)
-
 -- what stands between the quotes
 pub inner_of : (b n : ℕ) (bytes : List ℕ) → n < length bytes → inner (take (n + 2) (b ∷ bytes)) ≡ take n bytes
-inner_of b n bytes within = grind (arith, length-take-le (1 + n) bytes, taken_within n bytes)
+inner_of b n bytes within = grind (arith, length-take-le (1 + n) bytes, take-take n (1 + n) bytes)
 
 -- a quote begins a string
 scan_quote : (at_start : Bool) (bytes : List ℕ) → scan at_start (0x22 ∷ bytes) ≡ scan_text bytes (len_until 0x22 bytes)

@@ -2,6 +2,7 @@
 use Rattle.std.proofs.Common.{◌≡◌, ℕ, zero, suc, ◌+◌, ◌<◌, ◌≤◌, Bool, true, false, cond, List, [], ◌∷◌, length, get_or, drop, take, sym, ◌∙◌, ap, refl, arith, subst, ◌==◌, ◌||◌, count_by, Some, length-drop, rules}
 use Rattle.cdl_tokens.proofs.Prelude.{prefix_len, Number, Mark, may_begin_word, goes_on_number, is_mark_byte, is_blank, is_digit, is_sign, scan, token, gap, begins_number, begins_opening, ends_value, get_or-drop, sum_by-append, false≢true, TokenKind, is_token, followed, tokens_at, line_at}
 use Rattle.cdl_tokens.proofs.Scans.{step_gap, step_token, line_more}
+use Rattle.cdl_tokens.proofs.Steps.{take_one_more}
 use Rattle.cdl_tokens.proofs.Words.{and_false}
 
 pub no_opening : (bs : List ℕ) → (get_or bs 0 0 == 0x6e) ≡ false → begins_opening bs ≡ false
@@ -71,13 +72,7 @@ feeds_on b xs h = sum_by-append (λ b. cond (b == 0x0a) 1 0) (b ∷ []) xs ∙ a
 -- a run of bytes of a class that it is not in has none
 pub run_flat : (p : ℕ → Bool) → ((b : ℕ) → p b ≡ true → (b == 0x0a) ≡ false) → (bs : List ℕ) → count_by (λ b. b == 0x0a) (take (prefix_len p bs) bs) ≡ 0
 run_flat p other [] = refl
-run_flat p other (b ∷ bs) = by (p b) refl (run_flat p other bs)
-  where
-    by : (c : Bool) → p b ≡ c → count_by (λ b. b == 0x0a) (take (prefix_len p bs) bs) ≡ 0 → count_by (λ b. b == 0x0a) (take (cond c (1 + prefix_len p bs) 0) (b ∷ bs)) ≡ 0
-    by true h on =
-        ap (λ n. count_by (λ b. b == 0x0a) (take n (b ∷ bs))) (let e : 1 + prefix_len p bs ≡ suc (prefix_len p bs) = omega arith in e) ∙
-        feeds_on b (take (prefix_len p bs) bs) (other b h) ∙ on
-    by false h on = refl
+run_flat p other (b ∷ bs) = grind (arith, run_flat p other bs, other b, take_one_more b (prefix_len p bs) bs, feeds_on b)
 
 digits_flat : (bs : List ℕ) → count_by (λ b. b == 0x0a) (take (prefix_len goes_on_number bs) bs) ≡ 0
 digits_flat bs = run_flat goes_on_number (λ b h. grind (arith, h)) bs

@@ -10,12 +10,12 @@ pub use Rattle.cdl_tokens.specs.Tokens.{line_at, raw, token_at, with_token}
 unfoldable pub use Rattle.cdl_tokens.specs.Tokens.{tokens_at}
 pub use Rattle.cdl_tokens.specs.code.Magnitudes.{ReadsDigits, held, in_decimal, word}
 pub use Rattle.cdl_tokens.specs.code.PlainTokens.{Begins, BeginsDecimal, BeginsString, BeginsUnderscore, BeginsUnsigned, IsComma, IsLetterOf, IsSuffix, ends_value}
-pub use Rattle.cdl_tokens.specs.code.Scanners.{followed, is_end, is_none_of, is_ordinary, is_token, is_unescaped, left}
+pub use Rattle.cdl_tokens.specs.code.Scanners.{followed, goes_on, is_end, is_ordinary, is_token, is_unescaped, left}
 pub use Rattle.cdl_tokens.specs.declared.{scan.Scanned.Scanned, token.Token.Token, token.TokenKind.TokenKind}
 pub use Rattle.cdl_tokens.specs.declared.token.TokenKind.TheVariants.{Bad, End, Mark, Number, Opening, Text, Word}
 pub use Rattle.nc_base.specs.declared.{nc_type.NcType.NcType, nc_type.NcType.TheVariants.Int, version.Version.Version}
 pub use Rattle.std.proofs.lemmas.Bool.{cases_lt, false≢true, ne_eqb}
 pub use Rattle.std.proofs.lemmas.Grind.{common_steps, pow_more}
-pub use Rattle.std.proofs.lemmas.List.{append-nil, at_drop_all, at_drop_more, drop-drop, get_or-drop, get_or_past, length-drop, length-take-le, take-append-drop, take_all}
+pub use Rattle.std.proofs.lemmas.List.{append-nil, at_drop_all, at_drop_more, drop-drop, get_or-drop, get_or_past, length-drop, length-take-le, take-append-drop, take-take, take_all}
 pub use Rattle.std.proofs.lemmas.List.Sums.{prefix_len-le-length, sum_by-append}
 pub use Rattle.std.specs.List.{list_all, list_any, prefix_len, take_while}

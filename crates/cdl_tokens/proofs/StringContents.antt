@@ -1,5 +1,5 @@
 -- What a string has between its quotes, one escape on.
-use Rattle.std.proofs.Common.{◌≡◌, ℕ, zero, suc, ◌+◌, ◌<◌, Bool, true, false, cond, List, [], ◌∷◌, length, take, drop, min, refl, sym, ap, ◌∙◌, subst, arith, ◌==◌, ◌&&◌, Some, is_some, slice_index, if◌then◌else◌}
+use Rattle.std.proofs.Common.{◌≡◌, ℕ, zero, suc, ◌+◌, ◌<◌, Bool, true, false, cond, List, [], ◌∷◌, length, take, drop, min, refl, sym, ap, ◌∙◌, subst, arith, ◌==◌, ◌&&◌, Some, is_some, slice_index, if◌then◌else◌, rules}
 use Rattle.cdl_tokens.proofs.Prelude.{list_all, prefix_len, take_while, character, unescape, unescape_at, is_octal, is_hex, is_ordinary, len_until, number_escape, plain_escape}
 use Rattle.cdl_tokens.specs.declared.scan.Character.{Character}
 use Rattle.std.proofs.lemmas.List.Sums.{take_while-cons}
@@ -30,11 +30,7 @@ ordinary_good b bs h =
 
 run_good : (bs : List ℕ) → are_good (contents bs) ≡ are_good (contents (drop (prefix_len (is_ordinary 0x22) bs) bs))
 run_good [] = refl
-run_good (b ∷ bs) = by (run_good bs) (is_ordinary 0x22 b) refl
-  where
-    by : are_good (contents bs) ≡ are_good (contents (drop (prefix_len (is_ordinary 0x22) bs) bs)) → (c : Bool) → is_ordinary 0x22 b ≡ c → are_good (contents (b ∷ bs)) ≡ are_good (contents (drop (cond c (1 + prefix_len (is_ordinary 0x22) bs) 0) (b ∷ bs)))
-    by on true h = ordinary_good b bs h ∙ on ∙ ap (λ xs. are_good (contents xs)) (sym (drop_one_more b (prefix_len (is_ordinary 0x22) bs) bs))
-    by on false h = refl
+run_good (b ∷ bs) = grind (arith, run_good bs, ordinary_good b bs, drop_one_more b (prefix_len (is_ordinary 0x22) bs) bs)
 
 -- ---- an escape
 
@@ -60,11 +56,7 @@ digits_inside p (suc k) (b ∷ bs) h = by (digits_inside p k bs h) (p b) refl �
 digits_good : (p : ℕ → Bool) (k : ℕ) (bs : List ℕ) → ((b : ℕ) → p b ≡ true → (b == 0x5c) ≡ false) → are_good (drop (length (take_while p (take k bs))) bs) ≡ are_good bs
 digits_good p zero bs h = refl
 digits_good p (suc k) [] h = refl
-digits_good p (suc k) (b ∷ bs) h = ap (λ ds. are_good (drop (length ds) (b ∷ bs))) (take_while-cons p b (take k bs)) ∙ by (digits_good p k bs h) (p b) refl
-  where
-    by : are_good (drop (length (take_while p (take k bs))) bs) ≡ are_good bs → (c : Bool) → p b ≡ c → are_good (drop (length (cond c (b ∷ take_while p (take k bs)) [])) (b ∷ bs)) ≡ are_good (b ∷ bs)
-    by same true on = same ∙ sym (ap (list_all is_some) (unescape_unescaped b bs (h b on)))
-    by same false off = refl
+digits_good p (suc k) (b ∷ bs) h = grind (arith, take_while-cons p b (take k bs), digits_good p k bs h, h b, unescape_unescaped b bs)
 
 -- the escape that a byte and these digits make
 abbrev escape_of : ℕ → List ℕ → List ℕ → Character
@@ -103,20 +95,12 @@ two_past : (n k a c : ℕ) (xs : List ℕ) → n ≡ 2 + k → drop n (a ∷ c �
 two_past n k a c xs is = ap (λ m. drop m (a ∷ c ∷ xs)) (let e : n ≡ suc (suc k) = omega (arith, is) in e)
 
 digits_past : (c : ℕ) (octal hex xs : List ℕ) → are_good (drop (length octal) xs) ≡ are_good xs → are_good (drop (length hex) xs) ≡ are_good xs → are_good (drop (escape_of c octal hex).len (0x5c ∷ c ∷ xs)) ≡ are_good xs
-digits_past c octal hex xs o h = by (is_octal c) refl (c == 0x78) refl
-  where
-    by : (a : Bool) → is_octal c ≡ a → (x : Bool) → (c == 0x78) ≡ x → are_good (drop (escape_of c octal hex).len (0x5c ∷ c ∷ xs)) ≡ are_good xs
-    by true on x is = ap are_good (two_past (escape_of c octal hex).len (length octal) 0x5c c xs (octal_len c octal hex on)) ∙ o
-    by false off true on = ap are_good (two_past (escape_of c octal hex).len (length hex) 0x5c c xs (hex_len c octal hex off on)) ∙ h
-    by false off false other = ap are_good (two_past (escape_of c octal hex).len 0 0x5c c xs (other_len c octal hex off other))
+digits_past c octal hex xs o h =
+    let past = λ (k : ℕ). two_past (escape_of c octal hex).len k 0x5c c xs in
+    grind (arith, o, h, octal_len c octal hex, hex_len c octal hex, other_len c octal hex, past (length octal), past (length hex), past 0)
 
 some_bytes : (c : ℕ) (octal hex : List ℕ) → 0 < (escape_of c octal hex).len
-some_bytes c octal hex = by (is_octal c) refl (c == 0x78) refl
-  where
-    by : (o : Bool) → is_octal c ≡ o → (x : Bool) → (c == 0x78) ≡ x → 0 < (escape_of c octal hex).len
-    by true on x is = omega (arith, octal_len c octal hex on)
-    by false off true on = omega (arith, hex_len c octal hex off on)
-    by false off false other = omega (arith, other_len c octal hex off other)
+some_bytes c octal hex = search (rules, octal_len, hex_len, other_len)
 
 escaped_good : (c : ℕ) (xs : List ℕ) → are_good (0x5c ∷ c ∷ xs) ≡ (is_some (character (0x5c ∷ c ∷ xs)).value && are_good xs)
 escaped_good c xs =
@@ -160,11 +144,7 @@ past_two (b ∷ c ∷ xs) = ap (λ n. drop n (b ∷ c ∷ xs)) (let e : min (len
 
 stopped : (p : ℕ → Bool) (bs : List ℕ) → prefix_len p (drop (prefix_len p bs) bs) ≡ 0
 stopped p [] = refl
-stopped p (b ∷ bs) = by (stopped p bs) (p b) refl
-  where
-    by : prefix_len p (drop (prefix_len p bs) bs) ≡ 0 → (c : Bool) → p b ≡ c → prefix_len p (drop (cond c (1 + prefix_len p bs) 0) (b ∷ bs)) ≡ 0
-    by none true on = ap (prefix_len p) (drop_one_more b (prefix_len p bs) bs) ∙ none
-    by none false off = rw (off) refl
+stopped p (b ∷ bs) = grind (arith, stopped p bs, drop_one_more b (prefix_len p bs) bs)
 
 -- n bytes on, all is as before but for a test of what was passed
 pub record Goes (test : Bool) (n : ℕ) (bs rest : List ℕ) : Type 0 where

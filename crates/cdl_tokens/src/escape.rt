@@ -9,7 +9,7 @@ ghost use Rattle.cdl_tokens.specs.code.Scanners.{is_unescaped};
 use crate::bytes::{byte_at, first_bytes, is_octal};
 use crate::digits::{hex_len, number_in, octal_len};
 use crate::scan::Character;
-use crate::search::far_len_before_any;
+use crate::search::{Stops, far_len};
 
 /// Returns the number as a byte, or `None` if it is greater than 255.
 fn byte(n: u64) -> Option<u8>
@@ -108,10 +108,9 @@ pub fn character(bytes: &[u8]) -> Character
 }
 
 /// Returns how many bytes come before the first backslash. If there is none, returns the number of all bytes.
-#[tactic(auto, using(crate::proofs::Searches::before_one))]
 pub fn len_before_escape(bytes: &[u8]) -> usize
     ensures len { result ≡ prefix_len is_unescaped bytes.now }
     ensures within { result ≤ length bytes.now }
 {
-    far_len_before_any(bytes, b'\\', b'\\', b'\\')
+    far_len(bytes, Stops::At(b'\\'))
 }

@@ -10,7 +10,7 @@ use crate::bytes::{
     begins_word, byte_at, goes_on_number, goes_on_word, is_blank, is_digit, is_escape, is_mark,
     is_sign,
 };
-use crate::search::far_len_before_any;
+use crate::search::{Stops, far_len};
 use crate::string::string_contents;
 use crate::token::TokenKind;
 
@@ -173,12 +173,11 @@ fn continuation_len(bytes: &[u8]) -> usize
 }
 
 /// Returns how many bytes come before the first line feed. If there is none, returns the number of all bytes.
-#[tactic(auto, using(crate::proofs::Searches::before_one))]
 fn line_len(bytes: &[u8]) -> usize
     ensures len { result ≡ prefix_len (λ b. not (b == 0x0a)) bytes.now }
     ensures within { result ≤ length bytes.now }
 {
-    far_len_before_any(bytes, b'\n', b'\n', b'\n')
+    far_len(bytes, Stops::At(b'\n'))
 }
 
 /// Returns how many bytes at the start belong to a word: escapes, letters, digits, `_`, `.`, `@`, `+`, `-` and bytes from 0x80.
@@ -217,7 +216,7 @@ pub fn ordinary_len(bytes: &[u8], close: u8) -> usize
     ensures len { result ≡ prefix_len (is_ordinary close) bytes.now }
     ensures within { result ≤ length bytes.now }
 {
-    far_len_before_any(bytes, b'\\', close, close)
+    far_len(bytes, Stops::AtEscapeOr(close))
 }
 
 /// Returns how many bytes come before the first `close` that isn't escaped. If there is none, returns the number of all bytes.

@@ -70,7 +70,7 @@ impl<'a> Scanner<'a> {
 
     /// Skips white space and comments, and reads the next token. At the end of the text it returns a token of the kind `End`, each time.
     ///
-    /// White space, marks and numbers, which long lists consist of, are read here; [`scan`] reads every other token.
+    /// White space, marks and numbers, which long lists consist of, are read here; [`other_token`](Scanner::other_token) reads the others.
     #[inline(always)]
     pub fn token(&mut self) -> Token
         ensures token { left self.old ≡ followed result result.kind (left self.new) }
@@ -88,7 +88,7 @@ impl<'a> Scanner<'a> {
         } else if begins_number(rest) {
             self.take(TokenKind::Number, number_len(rest))
         } else {
-            self.scanned_token()
+            self.other_token()
         }
     }
 
@@ -131,9 +131,7 @@ impl<'a> Scanner<'a> {
     {
         let mut scanner = *self;
         scanner.skip_blanks();
-        let (_, rest) = scanner.text.split_at(scanner.at);
-        let len = plain_string_len(rest)?;
-        let token = scanner.take(TokenKind::Text, len);
+        let token = scanner.plain_string(false)?;
         let comma = scanner.comma()?;
         *self = scanner;
         Some(ListedToken { token, comma })
@@ -254,12 +252,22 @@ impl<'a> Scanner<'a> {
         ensures text { text_of self.new ≡ text_of self.old }
         ensures on { offset_of self.old ≤ offset_of self.new }
     {
-        while self.at < self.text.len() {
-            if !is_blank(self.text[self.at]) {
-                return;
-            }
+        while self.skip_space() || self.skip_blank() {}
+    }
+
+    /// Skips the next byte if it is white space, and returns true if it was.
+    #[inline(always)]
+    fn skip_blank(&mut self) -> bool
+        ensures left { left self.new ≡ left self.old }
+        ensures text { text_of self.new ≡ text_of self.old }
+        ensures on { offset_of self.old ≤ offset_of self.new }
+        ensures moves { result ≡ true → offset_of self.old < offset_of self.new }
+    {
+        if self.at < self.text.len() && is_blank(self.text[self.at]) {
             *self = self.after_gap(1);
+            return true;
         }
+        false
     }
 
     /// Skips white space as [`skip_blanks`](Scanner::skip_blanks) does. It is made for the white space before a number, which
@@ -291,6 +299,7 @@ impl<'a> Scanner<'a> {
         ensures left { left self.new ≡ left self.old }
         ensures text { text_of self.new ≡ text_of self.old }
         ensures on { offset_of self.old ≤ offset_of self.new }
+        ensures moves { result ≡ true → offset_of self.old < offset_of self.new }
     {
         if self.at < self.text.len() && self.text[self.at] == b' ' {
             *self = self.after_gap(1);
@@ -362,9 +371,37 @@ impl<'a> Scanner<'a> {
         }
     }
 
-    /// Reads the next token, of any kind, by [`scan`], and skips the white space and comments before it. [`token`](Scanner::token)
-    /// calls it for each token that it doesn't read itself. At the end of the text it returns a token of the kind `End`.
+    /// Reads the next token, of any kind, and skips the white space and comments before it. [`token`](Scanner::token) calls it for each token
+    /// that it doesn't read itself. At the end of the text it returns a token of the kind `End`.
     #[inline(never)]
+    fn other_token(&mut self) -> Token
+        ensures token { left self.old ≡ followed result result.kind (left self.new) }
+        ensures text { text_of self.new ≡ text_of self.old }
+        ensures moves { is_end result.kind ≡ false → offset_of self.old < offset_of self.new }
+        ensures stays { is_end result.kind ≡ true → left self.new ≡ left self.old }
+    {
+        match self.plain_string(true) {
+            Some(token) => token,
+            None => self.scanned_token(),
+        }
+    }
+
+    /// Reads a string without an escape or a line feed, if it begins at the next byte. Otherwise returns `None`, and the scanner stays where
+    /// it is. `is_long` is true if the string may have thousands of bytes.
+    #[inline(always)]
+    fn plain_string(&mut self, is_long: bool) -> Option<Token>
+        ensures token { IfSome result (λ t. left self.old ≡ t ∷ left self.new) }
+        ensures plain { IfSome result (λ t. IsPlainString (text_of self.old) t) }
+        ensures text { text_of self.new ≡ text_of self.old }
+        ensures moves { IfSome result (λ t. offset_of self.old < offset_of self.new) }
+        ensures stays { result ≡ None → self.new ≡ self.old }
+    {
+        let (_, rest) = self.text.split_at(self.at);
+        let len = plain_string_len(rest, is_long)?;
+        Some(self.take(TokenKind::Text, len))
+    }
+
+    /// Reads the next token, as [`other_token`](Scanner::other_token) does, by [`scan`].
     fn scanned_token(&mut self) -> Token
         ensures token { left self.old ≡ followed result result.kind (left self.new) }
         ensures text { text_of self.new ≡ text_of self.old }

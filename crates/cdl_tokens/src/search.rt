@@ -1,90 +1,125 @@
 //! Searches that look at many bytes at once, by vectors.
 
-ghost use Rattle.std.specs.Prelude.{◌≡◌, ◌≤◌, ◌==◌, count_by, length, map, not};
+ghost use Rattle.std.specs.Prelude.{◌≡◌, ◌+◌, ◌≤◌, ◌==◌, count_by, drop, length, map, true};
 ghost use Rattle.std.specs.List.{prefix_len};
 ghost use Rattle.std.specs.Simd.Lanes.{mask_l};
-ghost use Rattle.cdl_tokens.specs.code.Scanners.{is_any_of, is_none_of};
+ghost use Rattle.cdl_tokens.specs.code.Scanners.{goes_on, is_stop};
 
 use std::simd::prelude::*;
 
-/// The number of bytes that [`len_before_any`] tests at once.
+/// The number of bytes that [`near_len`] tests at once.
 const LANES: usize = 16;
 
-/// The number of bytes that [`far_len_before_any`] and [`count_of`] test at once.
+/// The number of bytes that [`far_len`] and [`count_of`] test at once.
 const BLOCK: usize = 64;
 
-/// Returns how many bytes come before the first one that equals the argument `a`, `b` or `c`. If there is none, returns the number of all
-/// bytes. It suits a match that is likely to be less than a hundred bytes away, such as the end of a row. It is inlined, so that arguments
-/// that are the same byte are tested once.
+/// The bytes that end a plain string, each at the index that its lower four bits give. Any other index holds a byte whose lower four bits
+/// give another index, so that no byte equals what it finds there.
+const STRING_ENDS: [u8; 16] = [1, 0, b'"', 0, 0, 0, 0, 0, 0, 0, b'\n', 0, b'\\', 0, 0, 0];
+
+/// The bytes at which a search stops.
+#[derive(Clone, Copy)]
+pub enum Stops {
+    /// This byte.
+    At(u8),
+    /// A backslash, and this byte.
+    AtEscapeOr(u8),
+    /// The bytes of [`STRING_ENDS`]: a backslash, a double quote, and a line feed.
+    AtStringEnd,
+}
+
+/// Returns how many bytes come before the first one at which the search stops. If there is none, returns the number of all bytes. It suits
+/// a stop that is likely to be less than a hundred bytes away, such as the end of a row. It is inlined, so that `stops` costs no branch.
 #[inline(always)]
-pub fn len_before_any(bytes: &[u8], a: u8, b: u8, c: u8) -> usize
-    ensures len { result ≡ prefix_len (is_none_of a b c) bytes.now }
+pub fn near_len(bytes: &[u8], stops: Stops) -> usize
+    ensures len { result ≡ prefix_len (goes_on stops) bytes.now }
     ensures within { result ≤ length bytes.now }
 {
     let mut at = 0;
     while bytes.len() - at >= LANES {
-        let found = any_of(u8x16::from_slice(&bytes[at..]), a, b, c);
+        let found = stops_in(u8x16::from_slice(&bytes[at..]), stops);
         if found != 0 {
             return at + found.trailing_zeros() as usize;
         }
         at += LANES;
     }
-    at + near_len(&bytes[at..], a, b, c)
+    at + len_one_by_one(&bytes[at..], stops)
 }
 
-/// Returns the same as [`len_before_any`]. It suits a match that may be far away, such as the end of a comment: after the first [`LANES`]
-/// bytes, in which escapes often follow one another, it tests [`BLOCK`] bytes at once.
+/// Returns the same as [`near_len`]. It suits a stop that may be far away, such as the end of a comment: after the first [`LANES`] bytes, in
+/// which escapes often follow one another, it tests [`BLOCK`] bytes at once.
 #[inline(always)]
-pub fn far_len_before_any(bytes: &[u8], a: u8, b: u8, c: u8) -> usize
-    ensures len { result ≡ prefix_len (is_none_of a b c) bytes.now }
+pub fn far_len(bytes: &[u8], stops: Stops) -> usize
+    ensures len { result ≡ prefix_len (goes_on stops) bytes.now }
     ensures within { result ≤ length bytes.now }
 {
     if bytes.len() >= LANES {
-        let found = any_of(u8x16::from_slice(bytes), a, b, c);
+        let found = stops_in(u8x16::from_slice(bytes), stops);
         if found != 0 {
             return found.trailing_zeros() as usize;
         }
     }
     let mut at = 0;
     while bytes.len() - at >= BLOCK {
-        if has_any(u8x64::from_slice(&bytes[at..]), a, b, c) {
+        if !is_passed(bytes, at, stops) {
             break;
         }
         at += BLOCK;
     }
-    at + len_before_any(&bytes[at..], a, b, c)
+    at + near_len(&bytes[at..], stops)
 }
 
-/// Returns a mask with a bit for each byte of the vector, set if the byte equals `a`, `b` or `c`.
+/// Returns true if the search doesn't stop at any of the [`BLOCK`] bytes from the offset `at` on.
 #[inline(always)]
-fn any_of(vector: u8x16, a: u8, b: u8, c: u8) -> u64
-    ensures { result ≡ mask_l (map (is_any_of a b c) vector) }
+fn is_passed(bytes: &[u8], at: usize, stops: Stops) -> bool
+    requires { at + 64 ≤ length bytes.now }
+    ensures { result ≡ true → prefix_len (goes_on stops) (drop at bytes.now)
+        ≡ 64 + prefix_len (goes_on stops) (drop (at + 64) bytes.now) }
 {
-    (vector.simd_eq(u8x16::splat(a))
-        | vector.simd_eq(u8x16::splat(b))
-        | vector.simd_eq(u8x16::splat(c))).to_bitmask()
+    let first = stops_in(u8x16::from_slice(&bytes[at..]), stops);
+    let second = stops_in(u8x16::from_slice(&bytes[at + 16..]), stops);
+    let third = stops_in(u8x16::from_slice(&bytes[at + 32..]), stops);
+    let fourth = stops_in(u8x16::from_slice(&bytes[at + 48..]), stops);
+    (first == 0) & (second == 0) & (third == 0) & (fourth == 0)
 }
 
-/// Returns true if a byte of the vector equals `a`, `b` or `c`.
+/// Returns a mask with a bit for each byte of the vector, set if the search stops at the byte.
 #[inline(always)]
-fn has_any(vector: u8x64, a: u8, b: u8, c: u8) -> bool
-    ensures { result ≡ not (mask_l (map (is_any_of a b c) vector) == 0) }
+fn stops_in(vector: u8x16, stops: Stops) -> u64
+    ensures { result ≡ mask_l (map (is_stop stops) vector) }
 {
-    (vector.simd_eq(u8x64::splat(a))
-        | vector.simd_eq(u8x64::splat(b))
-        | vector.simd_eq(u8x64::splat(c))).any()
+    match stops {
+        Stops::At(b) => vector.simd_eq(u8x16::splat(b)).to_bitmask(),
+        Stops::AtEscapeOr(b) => {
+            (vector.simd_eq(u8x16::splat(b'\\')) | vector.simd_eq(u8x16::splat(b))).to_bitmask()
+        }
+        Stops::AtStringEnd => {
+            let low = vector & u8x16::splat(15);
+            let listed = u8x16::from_array(STRING_ENDS).swizzle_dyn_within::<16>(low);
+            listed.simd_eq(vector).to_bitmask()
+        }
+    }
 }
 
-/// Returns the same as [`len_before_any`], which calls it for the bytes that fill no vector. It tests one byte after the other.
+/// Returns the same as [`near_len`], which calls it for the bytes that fill no vector. It tests one byte after the other.
 #[inline(always)]
-fn near_len(bytes: &[u8], a: u8, b: u8, c: u8) -> usize
-    ensures len { result ≡ prefix_len (is_none_of a b c) bytes.now }
+fn len_one_by_one(bytes: &[u8], stops: Stops) -> usize
+    ensures len { result ≡ prefix_len (goes_on stops) bytes.now }
     ensures within { result ≤ length bytes.now }
 {
-    bytes
-        .iter()
-        .take_while(|x| !(**x == a || **x == b || **x == c))
-        .count()
+    bytes.iter().take_while(|b| goes_on(stops, **b)).count()
+}
+
+/// Returns true if the search doesn't stop at the byte.
+#[inline(always)]
+fn goes_on(stops: Stops, b: u8) -> bool
+    ensures { result ≡ goes_on stops b }
+{
+    match stops {
+        Stops::At(stop) => b != stop,
+        Stops::AtEscapeOr(stop) => b != b'\\' && b != stop,
+        Stops::AtStringEnd => b != b'\\' && b != b'"' && b != b'\n',
+    }
 }
 
 /// Returns how many of the bytes are `byte`.

@@ -1,7 +1,8 @@
 -- For contracts. What a scanner has before it.
 use Rattle.std.specs.Prelude.{ℕ, ◌-◌, Bool, not, ◌&&◌, ◌||◌, ◌==◌, true, false, List, ◌∷◌, [], drop, Option, Some}
 use Rattle.cdl_tokens.specs.Tokens.{tokens_at}
-use Rattle.cdl_tokens.specs.declared.{token.Token.Token, token.TokenKind.TokenKind, scanner.Scanner.Scanner}
+use Rattle.cdl_tokens.specs.declared.{search.Stops.Stops, token.Token.Token, token.TokenKind.TokenKind, scanner.Scanner.Scanner}
+use Rattle.cdl_tokens.specs.declared.search.Stops.TheVariants.{At, AtEscapeOr, AtStringEnd}
 use Rattle.cdl_tokens.specs.declared.token.TokenKind.TheVariants.{End, Mark}
 
 abbrev pub text_of : Scanner → List ℕ
@@ -18,13 +19,15 @@ token_before kind len s = record { kind = kind; line = s.line; first = s.at - le
 abbrev pub comma_before : Scanner → Token
 comma_before = token_before Mark 1
 
--- a byte that is one of the three
-abbrev pub is_any_of : ℕ → ℕ → ℕ → ℕ → Bool
-is_any_of first second third b = (b == first) || (b == second) || (b == third)
+-- a byte at which a search stops
+abbrev pub is_stop : Stops → ℕ → Bool
+is_stop (At stop) b = b == stop
+is_stop (AtEscapeOr stop) b = (b == 0x5c) || (b == stop)
+is_stop AtStringEnd b = (b == 0x5c) || (b == 0x22) || (b == 0x0a)
 
--- a byte that is none of the three
-abbrev pub is_none_of : ℕ → ℕ → ℕ → ℕ → Bool
-is_none_of first second third b = not (is_any_of first second third b)
+-- a byte at which it doesn't
+abbrev pub goes_on : Stops → ℕ → Bool
+goes_on stops b = not (is_stop stops b)
 
 -- a byte that stands for itself in a string: any but a backslash
 abbrev pub is_unescaped : ℕ → Bool

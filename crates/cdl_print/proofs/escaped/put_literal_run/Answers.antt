@@ -1,8 +1,10 @@
-use Rattle.std.proofs.Common.{◌+◌, ◌++◌, List, ℕ, arith, sym, ap, ◌∙◌, take}
-use Rattle.std.proofs.lemmas.Simd.{take_more_put_chunk}
+use Rattle.std.proofs.Common.{◌+◌, ◌++◌, List, ℕ, arith, sym, ap, ◌∙◌, take, drop, length, ◌-◌, append_assoc}
+use Rattle.std.proofs.Math.Seq.{take-add}
+use Rattle.std.proofs.lemmas.Simd.{length-put_chunk, take_more_put_chunk}
 use Rattle.devices.proofs.Writes.{take_all_of}
-use Rattle.cdl_print.proofs.Prelude.{is_literal, length-take-le, list_all}
-use Rattle.cdl_print.proofs.Lanes.{copied_part, read_again, run_at}
+use Rattle.cdl_print.proofs.Prelude.{is_literal, length-drop, length-take-le, list_all, take_all}
+use Rattle.cdl_print.proofs.Lanes.{copied_part, more_pass, read_again, run_at}
+use lib.Lanes.{put_chunk}
 use Rattle.cdl_print.proofs.escaped.put_literal_run.Goals as goal
 
 pub returns-then-bytes-lt-LANES : goal.returns-then-bytes-lt-LANES
@@ -19,12 +21,27 @@ returns-then-bytes-lt-LANES c =
       text = text;
     }
 
+pub returns-then-is_literal_block : goal.returns-then-is_literal_block
+returns-then-is_literal_block c =
+    let at = c.args.at in
+    let bytes = c.args.bytes.now in
+    let old = c.args.text.now in
+    let run = c.literal_run-run.ensures in
+    let first = take_more_put_chunk at old (take 16 bytes) (at + 16) (omega (arith, length-take-le 16 bytes (omega arith))) (omega arith) in
+    let then = take_more_put_chunk (at + 16) (put_chunk at old (take 16 bytes)) (take 64 (drop 16 bytes)) (at + 80) (omega (arith, length-take-le 64 (drop 16 bytes) (omega (arith, length-drop 16 bytes)), length-drop 16 bytes)) (omega (arith, length-put_chunk at old (take 16 bytes))) in
+    let whole = take_all (length bytes - 16) (drop 16 bytes) (omega (arith, length-drop 16 bytes)) in
+    record {
+      within = omega arith;
+      literal = more_pass is_literal bytes 16 64 (run_at is_literal bytes 0 16 16 (omega (arith, run.len)) (omega arith)) (ap (λ (xs : List ℕ). list_all is_literal (take 64 xs)) (sym whole) ∙ c.is_literal_block.ensures c.if-is_literal_block.true);
+      text = then ∙ ap (λ (xs : List ℕ). xs ++ take 64 (drop 16 bytes)) first ∙ append_assoc (take at old) (take 16 bytes) (take 64 (drop 16 bytes)) ∙ ap (λ (xs : List ℕ). take at old ++ xs) (sym (take-add 16 64 bytes));
+    }
+
 pub returns : goal.returns
 returns c =
     let at = c.args.at in
     let bytes = c.args.bytes.now in
     let old = c.args.text.now in
-    let run = c.literal_run-2.ensures in
+    let run = c.literal_run-run.ensures in
     let copied = take_more_put_chunk at old (take 16 bytes) (at + 16) (omega (arith, length-take-le 16 bytes (omega arith))) (omega arith) in
     record {
       within = omega (arith, run.within);
