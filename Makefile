@@ -50,8 +50,8 @@ sources = test -e build.sh || \
 	{ echo 'This needs the sources and the Rattle kit: this folder is a release, which has the built programs in bin/.' >&2; exit 1; }
 
 # The merge gate, in parts that run side by side where none waits for another.
-test: $(if $(wildcard tests),test-proofs test-definitions test-named test-bodies test-programs test-growth,kit)
-test-bodies test-programs test-growth: test-proofs
+test: $(if $(wildcard tests),test-proofs test-definitions test-named test-bodies test-programs test-scale,kit)
+test-bodies test-programs test-scale: test-proofs
 test-proofs test-definitions test-named: kit
 ifeq ($(MAKECMDGOALS),test)
 MAKEFLAGS += --jobs=3
@@ -100,7 +100,7 @@ test-programs:
 
 # The built programs on many files and texts: how much memory they ask for; files of many lengths; texts and files of many parts, whose time
 # may not grow with a square, nor be that of a slower way; random datasets; and mangled files and texts.
-test-growth:
+test-scale:
 	tests/memory.py
 	tests/lengths.py 8
 	tests/squares.py
@@ -182,4 +182,4 @@ clean:
 	@$(sources)
 	rm -rf bin dist crates/*/out
 
-.PHONY: all try kit test test-proofs test-definitions test-named test-bodies test-programs test-growth install uninstall names dist check clean
+.PHONY: all try kit test test-proofs test-definitions test-named test-bodies test-programs test-scale install uninstall names dist check clean
