@@ -1,6 +1,6 @@
 -- What the statements before the data section make of the state.
 use Rattle.std.proofs.Common.{◌≡◌, Bool, true, false, List, [], ◌∷◌, drop, refl, sym, ap, ◌∙◌, Option, None, Some, is_some, Result, Ok, Err, if◌then◌else◌, arith, rules}
-use Rattle.cdl_parse.proofs.Prelude.{false≢true, Att, Dim, Version, attribute_said, dimensions_said, mark_said, other_said, statement_said, variable_said, is_done, next_token, text_of, words, Cutter, completes, opens_section_after, is_whole, next, only, word_value, Lexeme, lexeme, is_mark, is_word_kind, Close, End, Statement, first_bad, section_of, shape, Due, CdlKind, Syntax, Section, Unopened, Globals, Dimensions, Variables, Closed, Ended, piece_read, checked, shaped, State, Draft, act, add_att, add_dim, change_variable, in_turn, with_att, Leaves, name_first, ReadError, OutOfMemory, Fault, constants_said, declared, Makes, after_mark, is_defining, is_over, state_of, ◌>>=◌, ⊤}
+use Rattle.cdl_parse.proofs.Prelude.{false≢true, Att, Dim, Version, attribute_said, dimensions_said, mark_said, other_said, statement_said, variable_said, is_done, next_token, text_of, words, Cutter, completes, opens_section_after, is_whole, next, next_if, word_value, Lexeme, lexeme, is_mark, is_word_kind, Close, End, Statement, first_bad, section_of, shape, Due, CdlKind, Syntax, Section, Unopened, Globals, Dimensions, Variables, Closed, Ended, piece_read, checked, shaped, State, Draft, act, add_att, add_dim, change_variable, in_turn, with_att, Leaves, name_first, ReadError, OutOfMemory, Fault, constants_said, declared, Makes, after_mark, is_defining, is_over, state_of, ◌>>=◌, ⊤}
 use Rattle.cdl_statements.specs.code.DueTokens.{is_name}
 use Rattle.cdl_statements.specs.declared.due.Due.TheVariants as dues
 use Rattle.cdl_statements.proofs.Options.{none_of}
@@ -82,7 +82,7 @@ makes_dimensions v s l ls ws dims r off other no-mark is h = search (rules, said
 
 -- ---- the section of the variables
 
-next_variables : (l : Lexeme) → is_mark 0x7d l ≡ false → is_mark 0x3a l ≡ false → next (dues.First Variables) l ≡ only (is_word_kind l.kind) (dues.AfterWord (is_name l) (opens_section_after Variables l))
+next_variables : (l : Lexeme) → is_mark 0x7d l ≡ false → is_mark 0x3a l ≡ false → next (dues.First Variables) l ≡ next_if (is_word_kind l.kind) (dues.AfterWord (is_name l) (opens_section_after Variables l))
 unfolding next
 next_variables l off other = rw (off) (rw (other) refl)
 

@@ -1,13 +1,13 @@
 -- How far what is listed reaches: over all variables, and in records.
 use Rattle.std.proofs.Common.{◌≡◌, ℕ, zero, suc, ◌≤◌, List, [], ◌∷◌, length, drop, refl, arith, min, Some}
-use Rattle.cdl_parse.proofs.Prelude.{Dim, Var, with_all, Extent}
+use Rattle.cdl_parse.proofs.Prelude.{Dim, Var, with_all, RecordNeeds}
 
 -- ---- no variable is left
 
-none_listed : (dims : List Dim) (e : Extent) (vars : List Var) → with_all dims (Some e) vars [] ≡ Some e
+none_listed : (dims : List Dim) (e : RecordNeeds) (vars : List Var) → with_all dims (Some e) vars [] ≡ Some e
 none_listed dims e vars = grind arith
 
-pub all_done : (dims : List Dim) (e : Extent) (vars : List Var) (listed : List (List ℕ)) (n : ℕ) → min (length vars) (length listed) ≤ n → with_all dims (Some e) (drop n vars) (drop n listed) ≡ Some e
+pub all_done : (dims : List Dim) (e : RecordNeeds) (vars : List Var) (listed : List (List ℕ)) (n : ℕ) → min (length vars) (length listed) ≤ n → with_all dims (Some e) (drop n vars) (drop n listed) ≡ Some e
 all_done dims e [] listed zero h = refl
 all_done dims e [] listed (suc n) h = refl
 all_done dims e (var ∷ vars) [] zero h = refl

@@ -11,14 +11,14 @@ pub use Rattle.cdl_parse.specs.code.ClosingLines.{closing_after, closing_of, wit
 pub use Rattle.cdl_parse.specs.code.DataSections.{BeginsData, Closes, IsInDataSection, ReadsOne, TakesStatement, given_at}
 pub use Rattle.cdl_parse.specs.code.Declarations.{ReadsDimension, added, continued, declared, is_open_after, next_dimid, read_on, with_begun}
 pub use Rattle.cdl_parse.specs.code.DeclaredDatasets.{dataset_of_declared, if_sound, or_too_large}
-pub use Rattle.cdl_parse.specs.code.Defined.{Makes, after_mark, is_defining, is_early, is_over, state_of}
+pub use Rattle.cdl_parse.specs.code.Defined.{Makes, after_mark, is_defining, is_before_data, is_over, state_of}
 pub use Rattle.cdl_parse.specs.code.DimensionNames.{dim_names, is_dimension_name, with_new_dim}
 pub use Rattle.cdl_parse.specs.code.Drafts.{draft_of, drafts_of, is_variable_name, var_of, variable_names, with_new_draft}
 pub use Rattle.cdl_parse.specs.code.Extents.{is_within_limits, records_for, records_kept, records_within, with_all}
-pub use Rattle.cdl_parse.specs.code.Runs.{FailsAt, ReadsOn, at_line, run_after}
+pub use Rattle.cdl_parse.specs.code.Runs.{FailsAt, GivesOrOutOfMemory, at_line, run_after}
 pub use Rattle.cdl_parse.specs.code.TakenNames.{duplicate_name_or}
 pub use Rattle.cdl_parse.specs.code.VariablePositions.{at_position}
-pub use Rattle.cdl_parse.specs.declared.{closing.PassedLines.PassedLines, declaration.PartialVariable.PartialVariable, declared_values.Declared.Declared, parse_error.ParseError.ParseError, records.Extent.Extent, variables.Variable.Variable}
+pub use Rattle.cdl_parse.specs.declared.{closing.PassedLines.PassedLines, declaration.PartialVariable.PartialVariable, declared_values.Declared.Declared, parse_error.ParseError.ParseError, records.RecordNeeds.RecordNeeds, variables.Variable.Variable}
 pub use Rattle.cdl_statements.proofs.DimensionSteps.{first_goes, on, said_on, second_goes, shaped_on, third_goes}
 pub use Rattle.cdl_statements.proofs.Dues.{only_completes}
 pub use Rattle.cdl_statements.proofs.Listing.{value_first}
@@ -31,7 +31,7 @@ unfoldable pub use Rattle.cdl_statements.specs.code.Contents.{declaration_said, 
 unfoldable pub use Rattle.cdl_statements.specs.Pieces.{pieces_after}
 pub use Rattle.cdl_statements.specs.code.Cutters.{first_line, first_piece, is_done, next_token, offset_of, other_pieces, text_of, tokens_left, version_of}
 unfoldable pub use Rattle.cdl_statements.specs.code.Cutters.{after, pieces_left, words}
-pub use Rattle.cdl_statements.specs.code.DueTokens.{opens_section_after, is_value_of, is_whole, only}
+pub use Rattle.cdl_statements.specs.code.DueTokens.{opens_section_after, is_value_of, is_whole, next_if}
 unfoldable pub use Rattle.cdl_statements.specs.code.DueTokens.{completes, next}
 pub use Rattle.cdl_statements.specs.code.Views.{lexeme_of}
 pub use Rattle.cdl_statements.specs.declared.{cutter.Cutter.Cutter, due.Due.Due, fault.CdlKind.CdlKind, section.Section.Section}

@@ -1,6 +1,6 @@
 -- What is listed keeps its limits where its slabs, its records and the header do.
 use Rattle.std.proofs.Common.{◌≡◌, ℕ, suc, ◌*◌, ◌/◌, ◌<◌, ◌≤◌, Bool, true, false, List, [], ◌∷◌, length, map, refl, sym, ap, ◌∙◌, arith, All, ◌&&◌, if◌then◌else◌, max, nat_le, Option, None, Some, rules}
-use Rattle.cdl_parse.proofs.Prelude.{flat_map, list_all, All-cons, All-head, All-nil, All-tail, Dim, Var, AreDimids, bytes_of_number, is_record_var, slab_count, slab_size, slab_limit, array_limit, is_within_limits, records_in, listed_values, Draft, AllList, AreShaped, records_for, records_kept, records_within, with_all, Extent, le-leb, some_count, some_product, length-numbers}
+use Rattle.cdl_parse.proofs.Prelude.{flat_map, list_all, All-cons, All-head, All-nil, All-tail, Dim, Var, AreDimids, bytes_of_number, is_record_var, slab_count, slab_size, slab_limit, array_limit, is_within_limits, records_in, listed_values, Draft, AllList, AreShaped, records_for, records_kept, records_within, with_all, RecordNeeds, le-leb, some_count, some_product, length-numbers}
 use Rattle.std.proofs.Math.Nat.{mul-div_cancel, mul-le-mul_left, mul_comm, mul_right_comm}
 use Rattle.nc_base.specs.Types.{size_of}
 use Rattle.nc_base.proofs.SoundLaws.{some_size}
@@ -41,7 +41,7 @@ abbrev pub widest_in : List Dim → List Draft → ℕ
 widest_in dims [] = 0
 widest_in dims (d ∷ ds) = max (wide dims d) (widest_in dims ds)
 
-abbrev reached : Bool → ℕ → ℕ → Option Extent
+abbrev reached : Bool → ℕ → ℕ → Option RecordNeeds
 reached small records widest = if small then Some (record { records = records; widest = widest }) else None
 
 max_assoc : (a b c : ℕ) → max (max a b) c ≡ max a (max b c)
@@ -50,7 +50,7 @@ max_assoc a b c = omega arith
 max_zero : (a b : ℕ) → max a b ≡ max a (max 0 b)
 max_zero a b = omega arith
 
-pub with_all_is : (dims : List Dim) (drafts : List Draft) (e : Extent) →
+pub with_all_is : (dims : List Dim) (drafts : List Draft) (e : RecordNeeds) →
     with_all dims (Some e) (map var_of drafts) (map listed_of drafts) ≡ reached (list_all (has_small dims) drafts) (max e.records (records_in dims drafts)) (max e.widest (widest_in dims drafts))
 with_all_is dims [] e = search rules
 with_all_is dims (d ∷ drafts) e =
@@ -66,10 +66,10 @@ with_all_is dims (d ∷ drafts) e =
     w : ℕ
     w = slab_size dims d.var
 
-    rest : Extent → Option Extent
+    rest : RecordNeeds → Option RecordNeeds
     rest f = reached (list_all (has_small dims) drafts) (max f.records (records_in dims drafts)) (max f.widest (widest_in dims drafts))
 
-    by : (small growing : Bool) → ((f : Extent) → with_all dims (Some f) (map var_of drafts) (map listed_of drafts) ≡ rest f) →
+    by : (small growing : Bool) → ((f : RecordNeeds) → with_all dims (Some f) (map var_of drafts) (map listed_of drafts) ≡ rest f) →
         with_all dims (if small then Some (if growing then record { records = max e.records n; widest = max e.widest w } else e) else None) (map var_of drafts) (map listed_of drafts) ≡
         reached (small && list_all (has_small dims) drafts) (max e.records (max (if growing then n else 0) (records_in dims drafts))) (max e.widest (max (if growing then w else 0) (widest_in dims drafts)))
     by false growing more = refl
@@ -107,7 +107,7 @@ within_wide : (n w : ℕ) → (0 < n → 0 < w) → n ≤ n * w
 within_wide n w h = grind arith
 
 -- how far all values reach
-abbrev pub reach : List Dim → List Draft → Extent
+abbrev pub reach : List Dim → List Draft → RecordNeeds
 reach dims drafts = record { records = records_in dims drafts; widest = widest_in dims drafts }
 
 pub records_are : (dims : List Dim) (drafts : List Draft) → AreShaped dims drafts →
@@ -116,7 +116,7 @@ records_are dims drafts shaped = search (rules, within_wide, some_wide)
 
 -- ---- what the code finds
 
-abbrev pub nothing : Extent
+abbrev pub nothing : RecordNeeds
 nothing = record { records = 0; widest = 0 }
 
 from_nothing : (dims : List Dim) (vars : List Var) (arrays : List (List ℕ)) (drafts : List Draft) → AllList vars arrays drafts →
@@ -131,7 +131,7 @@ kept_is dims drafts = grind (arith, all_small dims (records_in dims drafts) draf
 pub none_kept : (dims : List Dim) (vars : List Var) (arrays : List (List ℕ)) (drafts : List Draft) → AllList vars arrays drafts → with_all dims (Some nothing) vars arrays ≡ None → records_kept dims drafts ≡ None
 none_kept dims vars arrays drafts lists none = search (rules, all_small, all_are, with_all_is, reached)
 
-pub some_kept : (dims : List Dim) (vars : List Var) (arrays : List (List ℕ)) (drafts : List Draft) (e : Extent) → AllList vars arrays drafts → AreShaped dims drafts → with_all dims (Some nothing) vars arrays ≡ Some e →
+pub some_kept : (dims : List Dim) (vars : List Var) (arrays : List (List ℕ)) (drafts : List Draft) (e : RecordNeeds) → AllList vars arrays drafts → AreShaped dims drafts → with_all dims (Some nothing) vars arrays ≡ Some e →
     records_within e ≡ records_kept dims drafts
 some_kept dims vars arrays drafts e lists shaped is =
     by (list_all (has_small dims) drafts) (sym (from_nothing dims vars arrays drafts lists) ∙ is) ∙ sym (kept_is dims drafts)

@@ -1,6 +1,6 @@
 -- The tokens of a statement, one at a time.
 use Rattle.std.proofs.Common.{◌≡◌, Bool, true, false, List, [], ◌∷◌, refl, ap, ◌∙◌, if◌then◌else◌, map, rules}
-use Rattle.cdl_parse.proofs.Prelude.{false≢true, first_piece, is_done, next_token, pieces_left, text_of, tokens_left, words, completes, is_whole, next, only, Lexeme, lexeme, pieces_after, step, Cutter, Due, Token, only_completes}
+use Rattle.cdl_parse.proofs.Prelude.{false≢true, first_piece, is_done, next_token, pieces_left, text_of, tokens_left, words, completes, is_whole, next, next_if, Lexeme, lexeme, pieces_after, step, Cutter, Due, Token, only_completes}
 use Rattle.cdl_statements.specs.Pieces.{first_role, role_in}
 use Rattle.cdl_tokens.specs.code.Scanners.{followed, left}
 use Rattle.cdl_tokens.specs.declared.token.TokenKind.{TokenKind}
@@ -25,7 +25,7 @@ begins c more =
     )
 
 -- a statement that has its shape goes on after a token that is not its last
-pub goes_past : (due following : Due) (l : Lexeme) (test ends : Bool) (ws all : List Lexeme) → next due l ≡ only test following → is_whole following ≡ false → all ≡ l ∷ (if ends then [] else ws) → completes due all ≡ true →
+pub goes_past : (due following : Due) (l : Lexeme) (test ends : Bool) (ws all : List Lexeme) → next due l ≡ next_if test following → is_whole following ≡ false → all ≡ l ∷ (if ends then [] else ws) → completes due all ≡ true →
     (ends ≡ false) × (test ≡ true) × (completes following ws ≡ true)
 unfolding completes
 goes_past due following l test ends ws all is unfinished first on = search (rules, only_completes, false≢true)

@@ -1,6 +1,6 @@
 -- A whole text: its sections one after the other.
 use Rattle.std.proofs.Common.{◌≡◌, ℕ, suc, true, false, List, [], ◌∷◌, length, refl, sym, ap, ◌∙◌, subst, arith, Result, replicate}
-use Rattle.cdl_parse.proofs.Prelude.{All-cons, AreDimids, Dim, Var, Version, Section, Values, Token, finished, run, State, Draft, AllList, AreShaped, unlisted_drafts, is_early, is_over, FailsAt, ParseError, names_of, var_names}
+use Rattle.cdl_parse.proofs.Prelude.{All-cons, AreDimids, Dim, Var, Version, Section, Values, Token, finished, run, State, Draft, AllList, AreShaped, unlisted_drafts, is_before_data, is_over, FailsAt, ParseError, names_of, var_names}
 use Rattle.cdl_parse.proofs.DraftNames.{unlisted_names}
 use Rattle.cdl_statements.specs.declared.fault.CdlFault.{CdlFault}
 
@@ -10,7 +10,7 @@ none_listed [] = tt
 none_listed (var ∷ vars) = (record { is = refl; bytes = refl }, none_listed vars)
 
 -- neither before the data section nor in it
-pub past_values : (section : Section) → is_early section ≡ false → (section ≡ Values → ⊥) → is_over section ≡ true
+pub past_values : (section : Section) → is_before_data section ≡ false → (section ≡ Values → ⊥) → is_over section ≡ true
 past_values section h h2 = grind arith
 
 -- what is listed changes no shape

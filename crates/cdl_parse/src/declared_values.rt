@@ -9,7 +9,7 @@ ghost use Rattle.nc_base.specs.code.OwedValues.{fills, whole_array, whole_arrays
 ghost use Rattle.cdl_parse.specs.code.OwedCounts.{CountsOwed, HasSmallSlab};
 
 use cdl_values::pack_number;
-use nc_base::{Dataset, Dim, Header, ListedArray, Sequence, Var, fill_of, is_record_var, slab_of};
+use nc_base::{Dataset, Dim, Header, ListedArray, Sequence, Var, fill_of, is_record_var, slab_len};
 use std::alloc::{AllocError, Global};
 
 /// What a text declares: the header, and the values that the data section lists of each variable. The values that a variable lacks
@@ -116,7 +116,7 @@ fn owed_count(dims: &[Dim], var: &Var, records: u64, len: u128) -> Option<u64>
 fn value_count(dims: &[Dim], var: &Var, records: u64) -> Option<u128>
     ensures { SomeIff result (HasSmallSlab dims.now var.now) (value_count dims.now var.now records) }
 {
-    let slab = slab_of(dims, var.dimids.as_slice(), var.ty)?;
+    let slab = slab_len(dims, var.dimids.as_slice(), var.ty)?;
     let count = (slab / var.ty.size()) as u128;
     if is_record_var(dims, var) {
         Some(count * records as u128)

@@ -5,8 +5,8 @@ ghost use Rattle.cdl_statements.specs.code.Cutters.{SameText, is_done, pieces_le
 ghost use Rattle.cdl_statements.specs.Meaning.{closing_line, empty};
 ghost use Rattle.cdl_values.specs.code.Listed.{AreShaped};
 ghost use Rattle.cdl_parse.specs.code.ClosingLines.{closing_of};
-ghost use Rattle.cdl_parse.specs.code.Defined.{is_early, run_past};
-ghost use Rattle.cdl_parse.specs.code.Runs.{ReadsOn, run_from};
+ghost use Rattle.cdl_parse.specs.code.Defined.{is_before_data, run_past};
+ghost use Rattle.cdl_parse.specs.code.Runs.{GivesOrOutOfMemory, run_from};
 
 use crate::closing::PassedLines;
 use crate::definitions::Definitions;
@@ -31,9 +31,9 @@ pub struct Defined<'a> {
 ///
 /// The fault of the first bad statement, with its line; or an allocation failed.
 pub fn read_definitions<'a>(alloc: Global, start: Cutter<'a>) -> Result<Defined<'a>, ParseError>
-    ensures reads { ReadsOn (run_past start.entry) result (run_from start.entry empty) }
+    ensures reads { GivesOrOutOfMemory (run_past start.entry) result (run_from start.entry empty) }
     ensures shaped { IfOk result (λ d. AreShaped d.definitions.dims d.definitions.variables) }
-    ensures ends { IfOk result (λ d. is_done d.rest ≡ false → is_early d.definitions.section ≡ false) }
+    ensures ends { IfOk result (λ d. is_done d.rest ≡ false → is_before_data d.definitions.section ≡ false) }
     ensures same { IfOk result (λ d. SameText start.entry d.rest) }
     ensures lines { IfOk result (λ d. closing_of d.rest d.lines
         ≡ closing_line (pieces_left start.entry)) }
@@ -42,7 +42,7 @@ pub fn read_definitions<'a>(alloc: Global, start: Cutter<'a>) -> Result<Defined<
     let mut cutter = start;
     let mut lines = PassedLines::none();
     'statements: loop {
-        if cutter.is_done() || !is_early(definitions.section) {
+        if cutter.is_done() || !is_before_data(definitions.section) {
             return Ok(Defined {
                 definitions,
                 rest: cutter,
@@ -60,8 +60,8 @@ pub fn read_definitions<'a>(alloc: Global, start: Cutter<'a>) -> Result<Defined<
 }
 
 /// Returns true if the section stands before the data section.
-fn is_early(section: Section) -> bool
-    ensures { result ≡ is_early section }
+fn is_before_data(section: Section) -> bool
+    ensures { result ≡ is_before_data section }
 {
     match section {
         Section::Unopened | Section::Globals | Section::Dimensions | Section::Variables => true,

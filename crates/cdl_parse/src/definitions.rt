@@ -32,7 +32,7 @@ pub struct Definitions {
 
 impl Definitions {
     ghost use Rattle.cdl_statements.specs.Meaning.{empty};
-    ghost use Rattle.cdl_parse.specs.code.Defined.{Makes, after_mark, after_statement, is_defining, is_early, said_by, state_of};
+    ghost use Rattle.cdl_parse.specs.code.Defined.{Makes, after_mark, after_statement, is_defining, is_before_data, said_by, state_of};
 
     /// Returns definitions without dimensions, attributes and variables, in the section before the first statement. Does not
     /// allocate.
@@ -59,7 +59,7 @@ impl Definitions {
         start: Cutter<'a>,
     ) -> Result<Cutter<'a>, ReadError>
         requires more { is_done start ≡ false }
-        requires early { is_early self.old.section ≡ true }
+        requires early { is_before_data self.old.section ≡ true }
         ensures makes { Makes (state_of self.new) result (after_statement start.entry (state_of self.old)) }
         ensures rest { IfOk result (λ c. Follows start.entry c) }
     {
@@ -73,7 +73,7 @@ impl Definitions {
     /// a part of what the statement declares may have been added.
     fn apply_statement(&mut self, alloc: Global, start: Cutter<'_>) -> Result<(), ReadError>
         requires more { is_done start ≡ false }
-        requires early { is_early self.old.section ≡ true }
+        requires early { is_before_data self.old.section ≡ true }
         requires whole { completes (First self.old.section) (words start) ≡ true }
         ensures { Makes (state_of self.new) result (said_by start.entry self.old.section self.old) }
     {

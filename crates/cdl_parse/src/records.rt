@@ -2,9 +2,9 @@
 
 ghost use Rattle.std.specs.Prelude.{◌≡◌, ◌<◌};
 ghost use Rattle.nc_base.specs.Sizes.{slab_count};
-ghost use Rattle.cdl_parse.specs.code.Extents.{CountsRecords, HaveValues, extent_of, records_for};
+ghost use Rattle.cdl_parse.specs.code.Extents.{CountsRecords, HaveValues, needs_of, records_for};
 
-use nc_base::{Dim, ListedArray, Var, is_record_var, slab_of};
+use nc_base::{Dim, ListedArray, Var, is_record_var, slab_len};
 
 /// The most bytes that the array of a variable may have, and the most records.
 const ARRAY_LIMIT: u128 = 1 << 48;
@@ -15,33 +15,33 @@ const ARRAY_LIMIT: u128 = 1 << 48;
 pub fn records_within_limits(dims: &[Dim], vars: &[Var], listed: &[ListedArray]) -> Option<u64>
     ensures { CountsRecords dims.now vars.now listed.now result }
 {
-    extent_of(dims, vars, listed)?.records()
+    needs_of(dims, vars, listed)?.records()
 }
 
 /// What some record variables need: the records for their listed values, and the bytes of the longest slab.
 #[derive(Clone, Copy)]
-struct Extent {
+struct RecordNeeds {
     /// How many records it takes to hold the listed values of each record variable.
     records: u128,
     /// The bytes of the longest slab of a record variable, or 0 if there is none.
     widest: u64,
 }
 
-impl Extent {
+impl RecordNeeds {
     ghost use Rattle.cdl_parse.specs.code.Extents.{records_within, with_listed};
 
     /// Returns this extent with the variable `var` and its listed values counted in. A variable that isn't a record variable
     /// changes nothing. Returns `None` if the variable's slab has more than 2^48 bytes.
-    fn with(self, dims: &[Dim], var: &Var, listed: &ListedArray) -> Option<Extent>
+    fn with(self, dims: &[Dim], var: &Var, listed: &ListedArray) -> Option<RecordNeeds>
         ensures { 0 < slab_count dims.now var.now → result ≡ with_listed dims.now self var.now listed.now }
     {
-        let slab = slab_of(dims, var.dimids.as_slice(), var.ty)?;
+        let slab = slab_len(dims, var.dimids.as_slice(), var.ty)?;
         if !is_record_var(dims, var) {
             return Some(self);
         }
         let size = var.ty.size();
         let records = records_for(slab / size, listed.len() / size as u128);
-        Some(Extent {
+        Some(RecordNeeds {
             records: self.records.max(records),
             widest: self.widest.max(slab),
         })
@@ -70,10 +70,10 @@ fn records_for(count: u64, n: u128) -> u128
 }
 
 /// Returns the extent of all variables and their listed values, or `None` if a slab has more than 2^48 bytes.
-fn extent_of(dims: &[Dim], vars: &[Var], listed: &[ListedArray]) -> Option<Extent>
-    ensures { HaveValues dims.now vars.now → result ≡ extent_of dims.now vars.now listed.now }
+fn needs_of(dims: &[Dim], vars: &[Var], listed: &[ListedArray]) -> Option<RecordNeeds>
+    ensures { HaveValues dims.now vars.now → result ≡ needs_of dims.now vars.now listed.now }
 {
-    let mut extent = Extent {
+    let mut extent = RecordNeeds {
         records: 0,
         widest: 0,
     };

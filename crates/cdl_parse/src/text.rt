@@ -4,10 +4,10 @@ ghost use Rattle.std.specs.Prelude.{if◌then◌else◌, ◌≡◌, ◌<◌, ◌
 ghost use Rattle.cdl_statements.specs.code.Cutters.{SameText, is_done, pieces_left, text_of};
 ghost use Rattle.cdl_statements.specs.Meaning.{closing_line, empty, meaning};
 ghost use Rattle.cdl_parse.specs.code.ClosingLines.{closing_of};
-ghost use Rattle.cdl_parse.specs.code.Defined.{is_early, is_over};
+ghost use Rattle.cdl_parse.specs.code.Defined.{is_before_data, is_over};
 ghost use Rattle.cdl_parse.specs.code.DeclaredDatasets.{dataset_of_declared};
 ghost use Rattle.cdl_parse.specs.code.Parsing.{MeansOrOutOfMemory, ReadsAll, ReadsAsDefined, as_dataset, fault_of};
-ghost use Rattle.cdl_parse.specs.code.Runs.{ReadsOn, run_from};
+ghost use Rattle.cdl_parse.specs.code.Runs.{GivesOrOutOfMemory, run_from};
 
 use crate::closing::PassedLines;
 use crate::data_section::{empty_arrays, read_data};
@@ -77,7 +77,7 @@ impl ParseError {
 /// Reads a text, and returns what it declares. [`declared`] only turns the error into a [`CdlFault`]. Errs with the fault of the first bad
 /// statement; with `TooLarge`, on the closing brace's line, if an array is too large or the header isn't sound; or if an allocation failed.
 fn read_declared(alloc: Global, text: &[u8], version: Version) -> Result<Declared, ParseError>
-    ensures reads { ReadsOn (λ d. Ok (dataset_of_declared d)) result (meaning text.now version) }
+    ensures reads { GivesOrOutOfMemory (λ d. Ok (dataset_of_declared d)) result (meaning text.now version) }
     ensures one_each { IfOk result (λ d. length d.listed ≡ length d.header.vars) }
 {
     let Contents {
@@ -174,7 +174,7 @@ fn read_values<'a>(
     section: Section,
     before: PassedLines,
 ) -> Result<Values<'a>, ParseError>
-    requires { is_done start ≡ false → is_early section ≡ false }
+    requires { is_done start ≡ false → is_before_data section ≡ false }
     ensures reads { ReadsAsDefined start.entry dims.now vars.now names.now section result }
     ensures past { IfOk result (λ values. is_done values.rest ≡ false → is_over values.section ≡ true) }
     ensures same { IfOk result (λ values. SameText start.entry values.rest) }

@@ -1,38 +1,38 @@
 -- The numbers of a variable, one after another.
 use Rattle.std.proofs.Common.{◌≡◌, ℕ, ℤ, pos, unsigned_abs, ◌+◌, ◌-◌, ◌<◌, ◌≤◌, Bool, true, false, cond, not, List, [], ◌∷◌, ◌++◌, length, sym, ◌∙◌, ap, refl, subst, arith, append_assoc, append-nil, length-append, nat_lt, Result, codes, ◌==◌, ◌&&◌, unwrap_or, rules}
-use Rattle.cdl_print.proofs.Prelude.{decimal, OnTrue_at, OnTrue_from, false≢true, cond-false, lt-ltb, nat_tests, Look, is_char, column, number_text, number_lead, line_break, number_piece, piece, variable_prefix, later_pieces, prefix-append, later_one, column-flat, column-broken, number_flat, place-add, SinkView, append, is_transparent, Appended, Written, IsFillOf, shows_below_100, gap_bytes, row_gap, gap_in_row, next_gap, columns_left_after, gathered, number_bytes, bytes_in_row, columns_left_in_row, text_in_row, columns_left_after_text, IsAfterNumber, IsAfter, values_after, NextValues, IsAfterNext, AppendedNext, WrittenNext, PrintedInRow, PutAt, PutInRow, Progress}
+use Rattle.cdl_print.proofs.Prelude.{decimal, OnTrue_at, OnTrue_from, false≢true, cond-false, lt-ltb, nat_tests, Look, is_char, column, number_text, number_lead, line_break, number_piece, piece, variable_prefix, later_pieces, prefix-append, later_one, column-flat, column-broken, number_flat, place-add, SinkView, append, is_transparent, Appended, Written, IsFillOf, shows_below_100, lead_bytes, row_lead, lead_in_row, next_number_lead, columns_left_after, gathered, number_bytes, bytes_in_row, columns_left_in_row, text_in_row, columns_left_after_text, IsAfterNumber, IsAfter, values_after, NextValues, IsAfterNext, AppendedNext, WrittenNext, PrintedInRow, PutAt, PutInRow, Progress}
 use Rattle.cdl_print.proofs.PrintingLaws.{after_then, next_appended, none_appended}
-use Rattle.cdl_print.specs.declared.{gap.Gap.Gap, number_line.LastLine.LastLine, printed_fill.PrintedFill.PrintedFill}
-use Rattle.cdl_print.specs.declared.gap.Gap.TheVariants.{Comma, NewLine}
+use Rattle.cdl_print.specs.declared.{lead.Lead.Lead, number_line.LastLine.LastLine, printed_fill.PrintedFill.PrintedFill}
+use Rattle.cdl_print.specs.declared.lead.Lead.TheVariants.{Comma, NewLine}
 
 -- a line that is full, by its columns left and by its columns
 columns_left_test : (width col columns_left len : ℕ) → columns_left ≡ width - col → nat_lt columns_left (len + 4) ≡ nat_lt width (col + 2 + len + 2)
 columns_left_test width col columns_left len is = search (rules, lt-ltb, nat_tests)
 
--- the columns left after a gap
-columns_left_is : (gap : Gap) (before : List ℕ) (columns_left width : ℕ) → columns_left ≡ width - column before → columns_left_after gap columns_left width ≡ width - column (before ++ gap_bytes gap)
-columns_left_is gap before columns_left width h = grind (arith, column-flat, codes, column-broken)
+-- the columns left after a lead
+columns_left_is : (lead : Lead) (before : List ℕ) (columns_left width : ℕ) → columns_left ≡ width - column before → columns_left_after lead columns_left width ≡ width - column (before ++ lead_bytes lead)
+columns_left_is lead before columns_left width h = grind (arith, column-flat, codes, column-broken)
 
 -- what stands before a row's first number, value i
-abbrev row_lead : Look → ℕ → List ℕ
-row_lead look i = cond look.in_rows (cond (i == 0) (codes "\n  ") (codes ",\n  ")) (codes " ")
+abbrev row_lead_bytes : Look → ℕ → List ℕ
+row_lead_bytes look i = cond look.in_rows (cond (i == 0) (codes "\n  ") (codes ",\n  ")) (codes " ")
 
-row_gap_is : (look : Look) (i : ℕ) → gap_bytes (row_gap look i) ≡ row_lead look i
+row_gap_is : (look : Look) (i : ℕ) → lead_bytes (row_lead look i) ≡ row_lead_bytes look i
 row_gap_is look i = grind (arith, codes "\n ", codes ",\n ", codes " ")
 
 -- what stands before a number that isn't its row's first
-comma_gap : (breaks : Bool) → gap_bytes (cond breaks NewLine Comma) ≡ codes ", " ++ cond breaks (codes "\n    ") []
+comma_gap : (breaks : Bool) → lead_bytes (cond breaks NewLine Comma) ≡ codes ", " ++ cond breaks (codes "\n    ") []
 comma_gap breaks = grind arith
 
--- the gap is what stands before the number
+-- the lead is what stands before the number
 gap_at : (look : Look) (prefix : List ℕ) (i columns_left len : ℕ) (first : Bool) → columns_left ≡ look.width - column prefix
-    → gap_bytes (cond first (row_gap look i) (cond (nat_lt columns_left (len + 4)) NewLine Comma))
-    ≡ cond first (row_lead look i) (codes ", ")
-    ++ cond (not first && nat_lt look.width (column (prefix ++ cond first (row_lead look i) (codes ", ")) + len + 2)) (codes "\n    ") []
+    → lead_bytes (cond first (row_lead look i) (cond (nat_lt columns_left (len + 4)) NewLine Comma))
+    ≡ cond first (row_lead_bytes look i) (codes ", ")
+    ++ cond (not first && nat_lt look.width (column (prefix ++ cond first (row_lead_bytes look i) (codes ", ")) + len + 2)) (codes "\n    ") []
 gap_at look prefix i columns_left len first h = grind (arith, row_gap_is, append-nil, column-flat, codes, comma_gap, columns_left_test, column)
 
 gap_is : (look : Look) (xs : List ℤ) (p : Progress) (len : ℕ) → is_char look.ty ≡ false → IsAfter look xs p
-    → gap_bytes (next_gap look p len) ≡ number_lead look (length xs) ++ line_break look (length xs) (column (variable_prefix look xs ++ number_lead look (length xs)) + len)
+    → lead_bytes (next_number_lead look p len) ≡ number_lead look (length xs) ++ line_break look (length xs) (column (variable_prefix look xs ++ number_lead look (length xs)) + len)
 gap_is look xs p len is following = search (rules, gap_at)
 
 -- the next number's text is the next value's piece
@@ -46,11 +46,11 @@ columns_left_next : (look : Look) (xs : List ℤ) (p q : Progress) (x : ℤ) →
 columns_left_next look xs p q x is following next =
     let prefix = variable_prefix look xs in
     let text = number_text look x in
-    let gap = next_gap look p (length text) in
-    let whole : variable_prefix look (xs ++ x ∷ []) ≡ (prefix ++ gap_bytes gap) ++ text
-    = prefix-append look xs (x ∷ []) (λ char some. absurd (false≢true (sym is ∙ char))) ∙ ap (λ (t : List ℕ). prefix ++ t) (sym (bytes_are look xs p x is following)) ∙ sym (append_assoc prefix (gap_bytes gap) text) in
-    let col = ap column whole ∙ column-flat (prefix ++ gap_bytes gap) text (number_flat look x) in
-    let columns_left = columns_left_is gap prefix p.columns_left look.width (following.columns_left is) in
+    let lead = next_number_lead look p (length text) in
+    let whole : variable_prefix look (xs ++ x ∷ []) ≡ (prefix ++ lead_bytes lead) ++ text
+    = prefix-append look xs (x ∷ []) (λ char some. absurd (false≢true (sym is ∙ char))) ∙ ap (λ (t : List ℕ). prefix ++ t) (sym (bytes_are look xs p x is following)) ∙ sym (append_assoc prefix (lead_bytes lead) text) in
+    let col = ap column whole ∙ column-flat (prefix ++ lead_bytes lead) text (number_flat look x) in
+    let columns_left = columns_left_is lead prefix p.columns_left look.width (following.columns_left is) in
     omega (arith, col, columns_left, next.columns_left)
 
 after_next : (look : Look) (xs : List ℤ) (p q : Progress) (x : ℤ) → is_char look.ty ≡ false → IsAfter look xs p → IsAfterNumber look p x q → IsAfter look (xs ++ x ∷ []) q
@@ -83,7 +83,7 @@ gathered_written n text old new r h h2 = grind (arith, gathered_is)
 -- ---- numbers of one row
 
 -- a comma stands before a text of one or two bytes where a line has room for it and two bytes more
-comma_before : (columns_left len : ℕ) → len ≤ 2 → 6 ≤ columns_left → gap_in_row columns_left len ≡ Comma
+comma_before : (columns_left len : ℕ) → len ≤ 2 → 6 ≤ columns_left → lead_in_row columns_left len ≡ Comma
 comma_before columns_left len short enough = let on_line : nat_lt columns_left (len + 4) ≡ false = grind (arith, nat_tests) in cond-false (nat_lt columns_left (len + 4)) NewLine Comma on_line
 
 text_after_comma : (columns_left : ℕ) (before now new text : List ℕ) → length text ≤ 2 → 6 ≤ columns_left → now ≡ before ++ codes ", " → new ≡ now ++ text
@@ -141,15 +141,15 @@ in_row_next look ys x first before after old now new printed text columns p is s
     let more : m.row_index + 1 ≡ p.row_index + length (ys ++ x ∷ []) = omega (arith, n) in
     let not_first : (m.row_index == 0) ≡ false = grind (arith, nat_tests) in
     let not_full : (p.row_index + length ys == look.row) ≡ false = let lt : p.row_index + length ys < look.row = omega (arith, n, fits) in grind (arith, nat_tests) in
-    let gap : next_gap look m (length (number_text look x)) ≡ gap_in_row before (length (number_text look x)) = cond-false (m.row_index == 0) _ _ not_first in
+    let lead : next_number_lead look m (length (number_text look x)) ≡ lead_in_row before (length (number_text look x)) = cond-false (m.row_index == 0) _ _ not_first in
     let first_ones = printed p is start some within (omega (arith, n, fits)) in
     let between = first_ones.1 m refl refl (sym (cond-false (p.row_index + length ys == look.row) 0 (p.row_index + length ys) not_full)) in (
       next_appended look ys (x ∷ []) p m (gathered old) (gathered now) (gathered new) between first_ones.0
-          (number_appended look x m now new is (text ∙ ap (λ g. now ++ (gap_bytes g ++ number_text look x)) (sym gap))),
+          (number_appended look x m now new is (text ∙ ap (λ g. now ++ (lead_bytes g ++ number_text look x)) (sym lead))),
       λ q finish position row_index. after_then look ys (x ∷ []) p m q between (after_number look x m q is (record {
         position = omega (arith, position, n);
         row_index = row_index ∙ ap (λ k. cond (k == look.row) 0 k) (sym more);
-        columns_left = finish ∙ columns ∙ ap (λ g. columns_left_after g before look.width - length (number_text look x)) (sym gap);
+        columns_left = finish ∙ columns ∙ ap (λ g. columns_left_after g before look.width - length (number_text look x)) (sym lead);
       })),
     )
 

@@ -1,6 +1,6 @@
 -- The names that proofs of this crate cite from elsewhere, passed on from one place.
 pub use Rattle.cdl_print.specs.code.Fills.{IsFillOf, shows_below_100}
-pub use Rattle.cdl_print.specs.code.Leads.{columns_left_after, gap_bytes, gap_in_row, look_at, next_char_lead, next_gap, row_gap}
+pub use Rattle.cdl_print.specs.code.Leads.{columns_left_after, lead_bytes, lead_in_row, look_at, next_char_lead, next_number_lead, row_lead}
 pub use Rattle.cdl_print.specs.code.Pieces.{line_len, opening_of}
 unfoldable pub use Rattle.cdl_print.specs.code.Pieces.{dim_text, line_text, prefix_escape, var_rows}
 pub use Rattle.cdl_print.specs.code.Printer.{HasPrinted, Takes, look_in, position_of}

@@ -33,7 +33,7 @@ fn put_att_line<W: Sink>(sink: &mut W, owner: &[u8], att: &Att) -> Result<(), Wr
 {
     put_owner_and_name(sink, owner, att.name.as_slice())?;
     put(sink, b" = ")?;
-    put_values(sink, att)?;
+    put_att_values(sink, att)?;
     put(sink, b" ;\n")
 }
 
@@ -50,7 +50,7 @@ fn put_owner_and_name<W: Sink>(sink: &mut W, owner: &[u8], name: &[u8]) -> Resul
 }
 
 /// Writes the values of an attribute: characters as strings, others as numbers with the suffix of their type, joined by `, `.
-fn put_values<W: Sink>(sink: &mut W, att: &Att) -> Result<(), WriteFailed>
+fn put_att_values<W: Sink>(sink: &mut W, att: &Att) -> Result<(), WriteFailed>
     ensures { Wrote W.view sink.old sink.new (att_text att.now.ty att.now.vals) result }
 {
     match att.ty {

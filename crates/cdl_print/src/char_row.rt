@@ -8,24 +8,24 @@ ghost use Rattle.cdl_print.specs.code.Leads.{look_at, next_char_lead};
 ghost use Rattle.cdl_print.specs.code.Printing.{next, next_part, part_text, IsAfterNext, IsAfterPart, WroteNext};
 
 use crate::escaped::{gather_escaped, put_escaped};
-use crate::layout::Layout;
-use crate::number_row::Gathered;
+use crate::layout::TextLayout;
+use crate::number_row::TextBuffer;
 use crate::progress::{Progress, row_index_after};
 use devices::{Sink, WriteFailed, put};
 use nc_base::Quoting;
 
 /// The most characters of a row that are gathered to be written at once. Each takes at most four bytes with its escape.
-const AT_ONCE: usize = 1000;
+const CHARS_AT_ONCE: usize = 1000;
 
 /// Writes the next characters of a variable, `bytes`, row by row, and moves `progress` past them. Before the first character of a row it
-/// writes what [`Layout::put_char_lead`] puts. In a trimmed layout it holds NULs back until a character other than NUL follows in the row.
+/// writes what [`TextLayout::put_char_lead`] puts. In a trimmed layout it holds NULs back until a character other than NUL follows in the row.
 /// `text` is a buffer in which the text of a row is gathered, and may hold anything. If the sink fails, `progress` stays before the part of
 /// a row that wasn't written whole.
 pub fn put_char_values<W: Sink>(
     sink: &mut W,
-    layout: &Layout<'_>,
+    layout: &TextLayout<'_>,
     progress: &mut Progress,
-    text: &mut Gathered,
+    text: &mut TextBuffer,
     bytes: &[u8],
 ) -> Result<(), WriteFailed>
     requires character { is_char layout.now.ty ≡ true }
@@ -55,13 +55,13 @@ fn len_in_row(row: u128, row_index: u128, len: usize) -> usize
 
 /// Writes the next characters of one row, `part`, with what stands before them, and moves `progress` past them. Needs at least one
 /// character, and no more than the row and the variable have left. Errs only if the sink failed; then `progress` is where it was. It does
-/// this by one call of [`put_part_with_lead`], and is there for its contract: what is written is the text of these values, whichever were
+/// this by one call of [`put_row_part`], and is there for its contract: what is written is the text of these values, whichever were
 /// printed before.
 fn put_next_part<W: Sink>(
     sink: &mut W,
-    layout: &Layout<'_>,
+    layout: &TextLayout<'_>,
     progress: &mut Progress,
-    text: &mut Gathered,
+    text: &mut TextBuffer,
     part: &[u8],
 ) -> Result<(), WriteFailed>
     requires character { is_char layout.now.ty ≡ true }
@@ -71,17 +71,17 @@ fn put_next_part<W: Sink>(
     ensures after { OnOk result (IsAfterNext (next layout.now progress.old part.now) progress.new) }
     ensures wrote { WroteNext W.view sink.old sink.new (next layout.now progress.old part.now) result }
 {
-    put_part_with_lead(sink, layout, progress, text, part)
+    put_row_part(sink, layout, progress, text, part)
 }
 
 /// Writes what stands before the row if `part` begins it, the NULs that were held back, and the characters of `part`
-/// ([`put_shown_with_lead`]). In a trimmed layout NULs at the end of `part` aren't written ([`Layout::shown_chars`]): they are held back,
+/// ([`put_shown_with_lead`]). In a trimmed layout NULs at the end of `part` aren't written ([`TextLayout::shown_chars`]): they are held back,
 /// or dropped if the row ends there. Moves `progress` past `part`.
-fn put_part_with_lead<W: Sink>(
+fn put_row_part<W: Sink>(
     sink: &mut W,
-    layout: &Layout<'_>,
+    layout: &TextLayout<'_>,
     progress: &mut Progress,
-    text: &mut Gathered,
+    text: &mut TextBuffer,
     part: &[u8],
 ) -> Result<(), WriteFailed>
     requires within { progress.old.position + length part.now ≤ layout.now.total }
@@ -120,22 +120,22 @@ fn held_nuls_after(held_nuls: u128, row_index: u128, count: u128, shown: u128) -
     }
 }
 
-/// Writes the lead, which is what [`Layout::put_char_lead`] puts, then the NULs that were held back, and then the characters of `shown`. If
-/// there are none of these, only the lead is written. Unless NULs were held back or there are more than [`AT_ONCE`] characters, all of it is
+/// Writes the lead, which is what [`TextLayout::put_char_lead`] puts, then the NULs that were held back, and then the characters of `shown`. If
+/// there are none of these, only the lead is written. Unless NULs were held back or there are more than [`CHARS_AT_ONCE`] characters, all of it is
 /// gathered in `text`, and written in one piece.
 #[tactic(auto, using(devices::proofs::Writes::writes, crate::proofs::CharRows::none_before))]
 fn put_shown_with_lead<W: Sink>(
     sink: &mut W,
-    layout: &Layout<'_>,
+    layout: &TextLayout<'_>,
     progress: &Progress,
-    text: &mut Gathered,
+    text: &mut TextBuffer,
     shown: &[u8],
 ) -> Result<(), WriteFailed>
     ensures { Wrote W.view sink.old sink.new
         (next_char_lead (look_at layout.now) progress.now ++ part_text progress.now.held_nuls shown.now) result }
 {
     let start = layout.put_char_lead(text, 0, progress);
-    if progress.held_nuls != 0 || shown.len() > AT_ONCE {
+    if progress.held_nuls != 0 || shown.len() > CHARS_AT_ONCE {
         put(sink, &text[..start])?;
         return put_shown(sink, progress.held_nuls, shown);
     }

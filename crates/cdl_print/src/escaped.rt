@@ -12,7 +12,7 @@ use nc_base::{Escape, Quoting};
 use std::simd::prelude::*;
 
 /// How many bytes are written at once. Each takes at most four bytes with its escape.
-const AT_ONCE: usize = 128;
+const BYTES_AT_ONCE: usize = 128;
 
 /// Writes bytes of a name or of a string, each with its escape if it needs one. `quoting` says which of the two they are in.
 pub fn put_escaped<W: Sink>(sink: &mut W, quoting: Quoting, bytes: &[u8]) -> Result<(), WriteFailed>
@@ -22,7 +22,7 @@ pub fn put_escaped<W: Sink>(sink: &mut W, quoting: Quoting, bytes: &[u8]) -> Res
     while !rest.is_empty() {
         let (plain, others) = rest.split_at(plain_len(quoting, rest));
         put(sink, plain)?;
-        let (few, more) = others.split_at(others.len().min(AT_ONCE));
+        let (few, more) = others.split_at(others.len().min(BYTES_AT_ONCE));
         put_few_escaped(sink, quoting, few)?;
         rest = more;
     }
@@ -30,7 +30,7 @@ pub fn put_escaped<W: Sink>(sink: &mut W, quoting: Quoting, bytes: &[u8]) -> Res
 }
 
 /// Returns a number of bytes at the start of a name or of a string (`quoting`) of which none needs an escape. They are tested by
-/// [`AT_ONCE`], up to the first of these pieces in which one needs one.
+/// [`BYTES_AT_ONCE`], up to the first of these pieces in which one needs one.
 fn plain_len(quoting: Quoting, bytes: &[u8]) -> usize
     ensures within { result ≤ length bytes.now }
     ensures plain { list_all (stands_for_itself quoting) (take result bytes.now) ≡ true }
@@ -38,7 +38,7 @@ fn plain_len(quoting: Quoting, bytes: &[u8]) -> usize
     let mut len = 0;
     while len < bytes.len() {
         let (_, others) = bytes.split_at(len);
-        let (few, _) = others.split_at(others.len().min(AT_ONCE));
+        let (few, _) = others.split_at(others.len().min(BYTES_AT_ONCE));
         if !are_plain(quoting, few) {
             break;
         }
@@ -73,7 +73,7 @@ fn is_plain(quoting: Quoting, b: u8) -> bool
     }
 }
 
-/// Writes at most [`AT_ONCE`] bytes of a name or of a string (`quoting`) in one piece, each with its escape if it needs one.
+/// Writes at most [`BYTES_AT_ONCE`] bytes of a name or of a string (`quoting`) in one piece, each with its escape if it needs one.
 fn put_few_escaped<W: Sink>(sink: &mut W, quoting: Quoting, bytes: &[u8]) -> Result<(), WriteFailed>
     requires { length bytes.now ≤ 128 }
     ensures { Wrote W.view sink.old sink.new (flat_map (escaped_in quoting) bytes.now) result }
@@ -81,7 +81,7 @@ fn put_few_escaped<W: Sink>(sink: &mut W, quoting: Quoting, bytes: &[u8]) -> Res
     if bytes.is_empty() {
         return Ok(());
     }
-    let mut text = [0; 4 * AT_ONCE + LANES];
+    let mut text = [0; 4 * BYTES_AT_ONCE + LANES];
     let end = gather_escaped(&mut text, 0, quoting, bytes);
     put(sink, &text[..end])
 }

@@ -7,9 +7,9 @@ ghost use Rattle.devices.specs.code.SinkWrites.{Wrote};
 ghost use Rattle.cdl_print.specs.code.Pieces.{dims_part, gatts_part};
 
 use crate::attribute::put_att_lines;
+use crate::fixed_text::FixedText;
 use crate::name::put_name;
 use crate::variable::put_vars;
-use crate::word::Word;
 use devices::{Sink, WriteFailed, put, put_decimal};
 use nc_base::{Att, Dim, Header};
 
@@ -29,7 +29,7 @@ pub fn put_head<W: Sink>(
 ) -> Result<(), WriteFailed>
     ensures { Wrote W.view sink.old sink.new (head_text name.now header.now records) result }
 {
-    put(sink, Word::Netcdf.bytes())?;
+    put(sink, FixedText::Netcdf.bytes())?;
     put_name(sink, name)?;
     put(sink, b" {\n")?;
     put_dims(sink, header.dims.as_slice(), records)?;
@@ -55,7 +55,7 @@ fn put_dims<W: Sink>(sink: &mut W, dims: &[Dim], records: u64) -> Result<(), Wri
 fn put_dims_section<W: Sink>(sink: &mut W, dims: &[Dim], records: u64) -> Result<(), WriteFailed>
     ensures { Wrote W.view sink.old sink.new (dims_part records dims.now) result }
 {
-    put(sink, Word::Dimensions.bytes())?;
+    put(sink, FixedText::Dimensions.bytes())?;
     put_dim_lines(sink, dims, records)
 }
 
@@ -100,9 +100,9 @@ fn put_dim_length<W: Sink>(sink: &mut W, len: u64, records: u64) -> Result<(), W
 fn put_unlimited<W: Sink>(sink: &mut W, records: u64) -> Result<(), WriteFailed>
     ensures { Wrote W.view sink.old sink.new (dim_len_text records 0) result }
 {
-    put(sink, Word::Unlimited.bytes())?;
+    put(sink, FixedText::Unlimited.bytes())?;
     put_decimal(sink, records as u128)?;
-    put(sink, Word::Currently.bytes())
+    put(sink, FixedText::Currently.bytes())
 }
 
 /// Writes `len`, the length of a dimension that isn't the record dimension, and the end of its line: ` ;` and a line feed.
@@ -130,6 +130,6 @@ fn put_gatts<W: Sink>(sink: &mut W, gatts: &[Att]) -> Result<(), WriteFailed>
 fn put_gatts_section<W: Sink>(sink: &mut W, gatts: &[Att]) -> Result<(), WriteFailed>
     ensures { Wrote W.view sink.old sink.new (gatts_part gatts.now) result }
 {
-    put(sink, Word::GlobalAttributes.bytes())?;
+    put(sink, FixedText::GlobalAttributes.bytes())?;
     put_att_lines(sink, b"", gatts)
 }

@@ -5,10 +5,10 @@ ghost use Rattle.std.specs.Ordering.{int_eq};
 ghost use Rattle.nc_base.specs.Headers.{IsSound};
 ghost use Rattle.nc_base.specs.Sizes.{is_record_var};
 ghost use Rattle.nc_base.specs.ValueText.{variable_closing, is_char, is_trimmed, row_len};
-ghost use Rattle.cdl_print.specs.code.Leads.{IfVariable, IsLayoutOf, look_at, next_char_lead, next_gap, row_gap};
+ghost use Rattle.cdl_print.specs.code.Leads.{IfVariable, IsLayoutOf, look_at, next_char_lead, next_number_lead, row_lead};
 ghost use Rattle.cdl_print.specs.code.Printing.{shown};
 
-use crate::gap::{Gap, gap_in_row};
+use crate::lead::{Lead, lead_in_row};
 use crate::progress::Progress;
 use crate::trailing_nuls::without_trailing_nuls;
 use cdl_number_text::put_bytes;
@@ -18,7 +18,7 @@ use nc_base::{
 
 /// All that the text of a variable's values depends on, but for the values.
 #[derive(Clone, Copy)]
-pub struct Layout<'a> {
+pub struct TextLayout<'a> {
     /// The variable's name, without escapes.
     pub name: &'a [u8],
     /// The type of its values.
@@ -41,7 +41,7 @@ pub struct Layout<'a> {
 
 /// Returns the layout of the variable at index `v` over `records` records. `width` is the width at which lines of numbers are broken. Needs
 /// a sound header (`nc_base::Header::sound`).
-pub fn layout_of(header: &Header, v: usize, records: u64, width: usize) -> Layout<'_>
+pub fn layout_of(header: &Header, v: usize, records: u64, width: usize) -> TextLayout<'_>
     requires sound { IsSound header.now }
     requires there { v < length header.now.vars }
     ensures { IfVariable header.now v records width (λ look. look_at result ≡ look) }
@@ -52,12 +52,12 @@ pub fn layout_of(header: &Header, v: usize, records: u64, width: usize) -> Layou
 
 /// Returns the layout of the variable `var` with `total` values. `width` is the width at which lines of numbers are broken.
 #[tactic(auto, unfolding(nc_base::specs::ValueText::look_of))]
-fn layout_of_var<'a>(header: &'a Header, var: &'a Var, total: u128, width: usize) -> Layout<'a>
+fn layout_of_var<'a>(header: &'a Header, var: &'a Var, total: u128, width: usize) -> TextLayout<'a>
     ensures total { result.total ≡ total }
     ensures layout { IsLayoutOf header.now var.now width result }
 {
     let dims = header.dims.as_slice();
-    Layout {
+    TextLayout {
         name: var.name.as_slice(),
         ty: var.ty,
         in_rows: var.dimids.len() >= 2,
@@ -89,7 +89,7 @@ fn is_trimmed(dims: &[Dim], var: &Var) -> bool
     fill_of(var) == 0 && !(is_record_var(dims, var) && var.dimids.len() == 1)
 }
 
-impl Layout<'_> {
+impl TextLayout<'_> {
     /// Returns true if the values are characters.
     pub fn is_char(&self) -> bool
         ensures { result ≡ is_char self.now.ty }
@@ -126,31 +126,31 @@ impl Layout<'_> {
         }
     }
 
-    /// Returns the gap before the next number, whose text has `len` bytes: what [`row_gap`](Layout::row_gap) returns if the number is its
+    /// Returns the lead before the next number, whose text has `len` bytes: what [`row_lead`](TextLayout::row_lead) returns if the number is its
     /// row's first, otherwise `, `, with a new line after it if the number doesn't fit. `progress` is how far the numbers before it are
     /// printed. Needs a `len` of at most 40, which is enough for any `i128`.
-    pub fn number_gap(&self, progress: &Progress, len: usize) -> Gap
+    pub fn number_lead(&self, progress: &Progress, len: usize) -> Lead
         requires { len ≤ 40 }
-        ensures { result ≡ next_gap (look_at self.now) progress.now len }
+        ensures { result ≡ next_number_lead (look_at self.now) progress.now len }
     {
         if progress.row_index == 0 {
-            self.row_gap(progress.position)
+            self.row_lead(progress.position)
         } else {
-            gap_in_row(progress.columns_left, len)
+            lead_in_row(progress.columns_left, len)
         }
     }
 
-    /// Returns the gap before a number that is its row's first: a space if the values don't stand in rows, otherwise a new line, with a
+    /// Returns the lead before a number that is its row's first: a space if the values don't stand in rows, otherwise a new line, with a
     /// comma before it unless `position` is 0. `position` is how many values the variable has before the number.
-    fn row_gap(&self, position: u128) -> Gap
-        ensures { result ≡ row_gap (look_at self.now) position }
+    fn row_lead(&self, position: u128) -> Lead
+        ensures { result ≡ row_lead (look_at self.now) position }
     {
         if !self.in_rows {
-            Gap::Space
+            Lead::Space
         } else if position == 0 {
-            Gap::FirstRow
+            Lead::FirstRow
         } else {
-            Gap::NextRow
+            Lead::NextRow
         }
     }
 

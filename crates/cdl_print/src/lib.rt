@@ -20,9 +20,10 @@
 mod attribute;
 mod char_row;
 mod escaped;
-mod gap;
+mod fixed_text;
 mod head;
 mod layout;
+mod lead;
 mod literal;
 mod name;
 mod number;
@@ -35,11 +36,10 @@ mod progress;
 mod string;
 mod trailing_nuls;
 mod variable;
-mod word;
 
 pub use escaped::put_escaped;
+pub use fixed_text::FixedText;
 pub use head::put_head;
 pub use name::put_name;
-pub use number_row::Gathered;
+pub use number_row::TextBuffer;
 pub use printer::ValuePrinter;
-pub use word::Word;

@@ -6,11 +6,11 @@ ghost use Rattle.nc_base.specs.Numbers.{number_of, numbers};
 ghost use Rattle.nc_base.specs.Types.{size_of};
 ghost use Rattle.cdl_number_text.specs.code.NumberTexts.{IsByteNumber};
 ghost use Rattle.cdl_print.specs.code.Fills.{IsFillOf};
-ghost use Rattle.cdl_print.specs.code.Leads.{gap_bytes, look_at, values};
+ghost use Rattle.cdl_print.specs.code.Leads.{lead_bytes, look_at, values};
 ghost use Rattle.cdl_print.specs.code.Printing.{columns_left_at_end, gap_at_end, PutAt, PutInRow, PutLine, PutNumber};
 
-use crate::gap::{gap_in_row, put_gap};
-use crate::layout::Layout;
+use crate::layout::TextLayout;
+use crate::lead::{lead_in_row, put_lead};
 use crate::printed_fill::PrintedFill;
 use cdl_number_text::{
     byte_number_len, decimal_len, put_byte, put_byte_number, put_comma, put_decimal, put_digits,
@@ -27,9 +27,14 @@ pub struct LastLine {
 }
 
 /// Puts numbers of one row, none of them the row's first, into `text` at the end of `line`, by the loop of their type. Each comes after
-/// `, `, and on a new line if it doesn't fit ([`gap_in_row`]). Returns the last line after them. `bytes` has the numbers, big-endian. Needs
+/// `, `, and on a new line if it doesn't fit ([`lead_in_row`]). Returns the last line after them. `bytes` has the numbers, big-endian. Needs
 /// room for 47 bytes a number in `text`: 40 of its own, and 7 before it.
-pub fn gather_at_end(text: &mut [u8], line: LastLine, layout: &Layout<'_>, bytes: &[u8]) -> LastLine
+pub fn gather_at_end(
+    text: &mut [u8],
+    line: LastLine,
+    layout: &TextLayout<'_>,
+    bytes: &[u8],
+) -> LastLine
     requires fits { line.end + 47 * length (values layout.now bytes.now) ≤ length text.old }
     ensures more { PutLine layout.now (values layout.now bytes.now) line text.old result text.new }
     ensures short { result.end ≤ line.end + 47 * length (values layout.now bytes.now) }
@@ -54,7 +59,7 @@ fn gather_typed(
     ty: NcType,
     text: &mut [u8],
     line: LastLine,
-    layout: &Layout<'_>,
+    layout: &TextLayout<'_>,
     bytes: &[u8],
 ) -> LastLine
     requires ty { ty ≡ layout.now.ty }
@@ -82,7 +87,7 @@ fn put_next_value(
     ty: NcType,
     text: &mut [u8],
     line: LastLine,
-    layout: &Layout<'_>,
+    layout: &TextLayout<'_>,
     fill: PrintedFill,
     value: &[u8],
 ) -> LastLine
@@ -94,7 +99,7 @@ fn put_next_value(
 {
     let number = number_of(ty, value);
     match ty {
-        NcType::Byte | NcType::Ubyte => put_next_byte(text, line, layout, fill, number),
+        NcType::Byte | NcType::Ubyte => put_next_byte_number(text, line, layout, fill, number),
         _ => put_next_number(text, line, layout, fill, number),
     }
 }
@@ -103,10 +108,10 @@ fn put_next_value(
 /// it doesn't fit. Returns the last line after it. No branch depends on the number, unless it prints as `_` or begins a line. Needs a
 /// `fill` made of `layout`, a number from -128 to 255, and room for 47 bytes in `text`, as for any number.
 #[inline(always)]
-fn put_next_byte(
+fn put_next_byte_number(
     text: &mut [u8],
     line: LastLine,
-    layout: &Layout<'_>,
+    layout: &TextLayout<'_>,
     fill: PrintedFill,
     number: i128,
 ) -> LastLine
@@ -120,7 +125,7 @@ fn put_next_byte(
         return put_fill(text, line, layout.width);
     }
     let len = byte_number_len(number);
-    let start = put_gap_in_row(text, line, layout.width, len);
+    let start = put_lead_in_row(text, line, layout.width, len);
     put_byte_number(text, start.offset, number);
     LastLine {
         end: start.offset + len,
@@ -136,7 +141,7 @@ fn put_next_byte(
 fn put_next_number(
     text: &mut [u8],
     line: LastLine,
-    layout: &Layout<'_>,
+    layout: &TextLayout<'_>,
     fill: PrintedFill,
     number: i128,
 ) -> LastLine
@@ -190,7 +195,7 @@ fn put_fill(text: &mut [u8], line: LastLine, width: usize) -> LastLine
     ensures put { PutInRow width (codes "_") line text.old result text.new }
     ensures short { result.end ≤ line.end + 8 }
 {
-    let start = put_gap_in_row(text, line, width, 1);
+    let start = put_lead_in_row(text, line, width, 1);
     LastLine {
         end: put_byte(text, start.offset, b'_'),
         columns_left: start.columns_left_after,
@@ -208,7 +213,7 @@ fn put_decimal_in_row(text: &mut [u8], line: LastLine, width: usize, number: i12
     ensures short { result.end ≤ line.end + 28 }
 {
     let len = decimal_len(number);
-    let start = put_gap_in_row(text, line, width, len);
+    let start = put_lead_in_row(text, line, width, len);
     put_decimal(text, start.offset, len, number);
     LastLine {
         end: start.offset + len,
@@ -229,17 +234,17 @@ struct NumberStart {
 /// Doesn't put the number. Returns where it begins, and how many columns are left after it.
 /// `width` is how many bytes a line may have. Needs a `len` of at most 40, and room for 7 bytes in `text`: `, `, LF and four spaces.
 #[inline(always)]
-fn put_gap_in_row(text: &mut [u8], line: LastLine, width: usize, len: usize) -> NumberStart
+fn put_lead_in_row(text: &mut [u8], line: LastLine, width: usize, len: usize) -> NumberStart
     requires short { len ≤ 40 }
     requires fits { line.end + 7 ≤ length text.old }
-    ensures text { PutAt line.end text.old result.offset text.new (gap_bytes (gap_at_end line len)) }
+    ensures text { PutAt line.end text.old result.offset text.new (lead_bytes (gap_at_end line len)) }
     ensures columns { result.columns_left_after ≡ columns_left_at_end width line len }
-    ensures start { result.offset ≡ line.end + length (gap_bytes (gap_at_end line len)) }
+    ensures start { result.offset ≡ line.end + length (lead_bytes (gap_at_end line len)) }
 {
-    let gap = gap_in_row(line.columns_left, len);
-    let columns_left = gap.columns_left_after(line.columns_left, width);
+    let lead = lead_in_row(line.columns_left, len);
+    let columns_left = lead.columns_left_after(line.columns_left, width);
     NumberStart {
-        offset: put_gap(text, line.end, gap),
+        offset: put_lead(text, line.end, lead),
         columns_left_after: columns_left.saturating_sub(len),
     }
 }

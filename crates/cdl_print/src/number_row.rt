@@ -6,8 +6,8 @@ ghost use Rattle.nc_base.specs.ValueText.{is_char};
 ghost use Rattle.cdl_print.specs.code.Leads.{values, AreWhole};
 ghost use Rattle.cdl_print.specs.code.Printing.{next, next_number, AreLeft, AreInRow, IsAfterNext, IsAfterNextNumber, PutAt, PutNext, WroteNext};
 
-use crate::gap::put_gap;
-use crate::layout::Layout;
+use crate::layout::TextLayout;
+use crate::lead::put_lead;
 use crate::number_line::{LastLine, gather_at_end};
 use crate::progress::{Progress, row_index_after};
 use cdl_number_text::{put_text, text_len};
@@ -15,19 +15,19 @@ use devices::{Sink, WriteFailed, put};
 use nc_base::number_of;
 
 /// How many numbers are written at once. Each takes at most 47 bytes: 40 of its own, and 7 that stand before it.
-const AT_ONCE: usize = 80;
+const NUMBERS_AT_ONCE: usize = 80;
 
 /// A buffer for the text of numbers that are written at once.
-pub type Gathered = [u8; 4096];
+pub type TextBuffer = [u8; 4096];
 
-/// Writes the next numbers of a variable, each after its gap ([`Layout::number_gap`]), and moves `progress` past them. `bytes` has the
+/// Writes the next numbers of a variable, each after its lead ([`TextLayout::number_lead`]), and moves `progress` past them. `bytes` has the
 /// numbers, big-endian. `text` is a buffer in which at most 80 of them at a time are gathered, and may hold anything. If the sink fails,
 /// `progress` may be past numbers that weren't written.
 pub fn put_number_values<W: Sink>(
     sink: &mut W,
-    layout: &Layout<'_>,
+    layout: &TextLayout<'_>,
     progress: &mut Progress,
-    text: &mut Gathered,
+    text: &mut TextBuffer,
     bytes: &[u8],
 ) -> Result<(), WriteFailed>
     requires number { is_char layout.now.ty ≡ false }
@@ -35,7 +35,7 @@ pub fn put_number_values<W: Sink>(
     ensures after { OnOk result (IsAfterNext (next layout.now progress.old bytes.now) progress.new) }
     ensures wrote { WroteNext W.view sink.old sink.new (next layout.now progress.old bytes.now) result }
 {
-    let most = AT_ONCE * layout.ty.size() as usize;
+    let most = NUMBERS_AT_ONCE * layout.ty.size() as usize;
     let mut rest = bytes;
     while !rest.is_empty() {
         let (prefix, others) = rest.split_at(most.min(rest.len()));
@@ -45,14 +45,14 @@ pub fn put_number_values<W: Sink>(
     Ok(())
 }
 
-/// Writes numbers in one piece, each after its gap ([`Layout::number_gap`]), and moves `progress` past them, even if the sink fails.
-/// `bytes` has the numbers, big-endian, and `text` is a buffer for their text. Needs at most 80 numbers ([`AT_ONCE`]), so that their text
+/// Writes numbers in one piece, each after its lead ([`TextLayout::number_lead`]), and moves `progress` past them, even if the sink fails.
+/// `bytes` has the numbers, big-endian, and `text` is a buffer for their text. Needs at most 80 numbers ([`NUMBERS_AT_ONCE`]), so that their text
 /// fits.
 fn put_few_numbers<W: Sink>(
     sink: &mut W,
-    layout: &Layout<'_>,
+    layout: &TextLayout<'_>,
     progress: &mut Progress,
-    text: &mut Gathered,
+    text: &mut TextBuffer,
     bytes: &[u8],
 ) -> Result<(), WriteFailed>
     requires number { is_char layout.now.ty ≡ false }
@@ -65,11 +65,11 @@ fn put_few_numbers<W: Sink>(
     put(sink, &text[..end])
 }
 
-/// Puts numbers at the start of `text`, each after its gap ([`Layout::number_gap`]), moves `progress` past them, and returns the offset at
-/// which they end. `bytes` has the numbers, big-endian. Needs room for 47 bytes a number in `text`: 40 of its own, and 7 of its gap.
+/// Puts numbers at the start of `text`, each after its lead ([`TextLayout::number_lead`]), moves `progress` past them, and returns the offset at
+/// which they end. `bytes` has the numbers, big-endian. Needs room for 47 bytes a number in `text`: 40 of its own, and 7 of its lead.
 fn gather_numbers(
     text: &mut [u8],
-    layout: &Layout<'_>,
+    layout: &TextLayout<'_>,
     progress: &mut Progress,
     bytes: &[u8],
 ) -> usize
@@ -97,7 +97,7 @@ fn gather_numbers(
 
 /// Returns how many bytes at the start of `bytes` are whole values of the row that has begun, as `progress` says. Returns 0 if the next
 /// value is its row's first.
-fn len_in_row(layout: &Layout<'_>, progress: &Progress, bytes: &[u8]) -> usize
+fn len_in_row(layout: &TextLayout<'_>, progress: &Progress, bytes: &[u8]) -> usize
     ensures whole { AreWhole layout.now (take result bytes.now) }
     ensures within { result ≤ length bytes.now }
     ensures in_row { AreInRow (next layout.now progress.now (take result bytes.now)) }
@@ -108,13 +108,13 @@ fn len_in_row(layout: &Layout<'_>, progress: &Progress, bytes: &[u8]) -> usize
     count * size
 }
 
-/// Puts the gap before the next number ([`Layout::number_gap`]) and the number, which may be its row's first, at the offset `at` of `text`.
+/// Puts the lead before the next number ([`TextLayout::number_lead`]) and the number, which may be its row's first, at the offset `at` of `text`.
 /// Moves `progress` past the number, and returns the offset at which it ends. `value` has its big-endian bytes. Needs room for 47 bytes in
-/// `text` ([`AT_ONCE`]).
+/// `text` ([`NUMBERS_AT_ONCE`]).
 fn gather_number(
     text: &mut [u8],
     at: usize,
-    layout: &Layout<'_>,
+    layout: &TextLayout<'_>,
     progress: &mut Progress,
     value: &[u8],
 ) -> usize
@@ -128,10 +128,10 @@ fn gather_number(
     let number = number_of(layout.ty, value);
     let is_fill = layout.prints_as_fill(number);
     let len = text_len(is_fill, number);
-    let gap = layout.number_gap(progress, len);
-    let start = put_gap(text, at, gap);
+    let lead = layout.number_lead(progress, len);
+    let start = put_lead(text, at, lead);
     put_text(text, start, len, is_fill, number);
-    let columns_left = gap.columns_left_after(progress.columns_left, layout.width);
+    let columns_left = lead.columns_left_after(progress.columns_left, layout.width);
     *progress = Progress {
         position: progress.position + 1,
         row_index: row_index_after(layout.row, progress.row_index, 1),
@@ -141,13 +141,13 @@ fn gather_number(
     start + len
 }
 
-/// Puts numbers of one row, none of them the row's first, at the offset `at` of `text`, one after the other, each after its gap
-/// ([`Layout::number_gap`]). Moves `progress` past them, and returns the offset at which they end. `bytes` must have whole numbers,
-/// big-endian, and no more than the row still has. Needs room for 47 bytes a number in `text`: 40 of its own, and 7 of its gap.
+/// Puts numbers of one row, none of them the row's first, at the offset `at` of `text`, one after the other, each after its lead
+/// ([`TextLayout::number_lead`]). Moves `progress` past them, and returns the offset at which they end. `bytes` must have whole numbers,
+/// big-endian, and no more than the row still has. Needs room for 47 bytes a number in `text`: 40 of its own, and 7 of its lead.
 fn gather_in_row(
     text: &mut [u8],
     at: usize,
-    layout: &Layout<'_>,
+    layout: &TextLayout<'_>,
     progress: &mut Progress,
     bytes: &[u8],
 ) -> usize

@@ -5,7 +5,7 @@ ghost use Rattle.std.specs.Int.{w64};
 ghost use Rattle.cdl_print.specs.code.Fills.{IsFillBelow100, IsFillOf, IsNarrowFill, is_fill, prints_as_fill, shows_below_100};
 ghost use Rattle.cdl_print.specs.code.Leads.{look_at};
 
-use crate::layout::Layout;
+use crate::layout::TextLayout;
 
 /// The fill value of a variable, in the forms in which its numbers are compared with it.
 #[derive(Clone, Copy)]
@@ -18,7 +18,7 @@ pub struct PrintedFill {
 
 impl PrintedFill {
     /// Returns the fill value of a layout, in both forms in which numbers are compared with it.
-    pub fn of(layout: &Layout<'_>) -> PrintedFill
+    pub fn of(layout: &TextLayout<'_>) -> PrintedFill
         ensures { IsFillOf (look_at layout.now) result }
     {
         PrintedFill {
@@ -36,10 +36,10 @@ impl PrintedFill {
         number >= 0 && number < 100 && number as u64 != self.below_100
     }
 
-    /// Returns true if a number prints as `_`, as [`Layout::prints_as_fill`] does. It is faster, since it compares 64 bits if an `i64` can
+    /// Returns true if a number prints as `_`, as [`TextLayout::prints_as_fill`] does. It is faster, since it compares 64 bits if an `i64` can
     /// hold the number. Needs a `self` that [`PrintedFill::of`] made of `layout`.
     #[inline(always)]
-    pub fn prints(self, layout: &Layout<'_>, number: i128) -> bool
+    pub fn prints(self, layout: &TextLayout<'_>, number: i128) -> bool
         requires { IsFillOf (look_at layout.now) self }
         ensures { result ≡ prints_as_fill (look_at layout.now) number }
     {
@@ -63,7 +63,7 @@ impl PrintedFill {
 }
 
 /// Returns the fill value if it prints as `_` and is from 0 to 99, otherwise 100. Only numbers from 0 to 99 are compared with it.
-fn fill_below_100(layout: &Layout<'_>) -> u64
+fn fill_below_100(layout: &TextLayout<'_>) -> u64
     ensures { IsFillBelow100 (look_at layout.now) result }
 {
     if layout.prints_fill && layout.fill >= 0 && layout.fill < 100 {
@@ -74,7 +74,7 @@ fn fill_below_100(layout: &Layout<'_>) -> u64
 }
 
 /// Returns the fill value if it prints as `_` and an `i64` can hold it, otherwise `None`.
-fn narrow_fill(layout: &Layout<'_>) -> Option<i64>
+fn narrow_fill(layout: &TextLayout<'_>) -> Option<i64>
     ensures { IsNarrowFill (look_at layout.now) result }
 {
     if layout.prints_fill {

@@ -8,8 +8,8 @@ ghost use Rattle.cdl_print.specs.code.Printing.{next, AreLeft, IsAfterNext, Wrot
 ghost use Rattle.cdl_print.specs.code.Printer.{look_in, position_of, has_failed, HasPrinted, Takes, Prints, WrotePart};
 
 use crate::char_row::put_char_values;
-use crate::layout::{Layout, layout_of};
-use crate::number_row::{Gathered, put_number_values};
+use crate::layout::{TextLayout, layout_of};
+use crate::number_row::{TextBuffer, put_number_values};
 use crate::opening::{columns_left_after_opening, put_opening};
 use crate::progress::Progress;
 use devices::{Sink, WriteFailed, put};
@@ -24,7 +24,7 @@ use nc_base::Header;
 /// After a failed write each later call fails too, and writes nothing.
 #[derive(Drop)]
 pub struct ValuePrinter<'a> {
-    layout: Layout<'a>,
+    layout: TextLayout<'a>,
     progress: Progress,
     has_failed: bool,
 }
@@ -99,7 +99,7 @@ impl<'a> ValuePrinter<'a> {
     pub fn values<W: Sink>(
         &mut self,
         sink: &mut W,
-        text: &mut Gathered,
+        text: &mut TextBuffer,
         bytes: &[u8],
     ) -> Result<(), WriteFailed>
         requires { Takes self.old bytes.now }
@@ -149,9 +149,9 @@ impl<'a> ValuePrinter<'a> {
 /// `progress` may be anything.
 fn put_next_values<W: Sink>(
     sink: &mut W,
-    layout: &Layout<'_>,
+    layout: &TextLayout<'_>,
     progress: &mut Progress,
-    text: &mut Gathered,
+    text: &mut TextBuffer,
     bytes: &[u8],
 ) -> Result<(), WriteFailed>
     requires { AreLeft (next layout.now progress.old bytes.now) }

@@ -6,7 +6,7 @@ ghost use Rattle.devices.specs.code.SinkWrites.{Wrote};
 ghost use Rattle.cdl_print.specs.code.Pieces.{line_len, line_text};
 
 use crate::escaped::put_escaped;
-use crate::word::Word;
+use crate::fixed_text::FixedText;
 use devices::{Sink, WriteFailed, put};
 use nc_base::Quoting;
 
@@ -52,5 +52,5 @@ fn put_line<W: Sink>(sink: &mut W, line: &[u8], is_last: bool) -> Result<(), Wri
     if is_last {
         return Ok(());
     }
-    put(sink, Word::StringBreak.bytes())
+    put(sink, FixedText::StringBreak.bytes())
 }

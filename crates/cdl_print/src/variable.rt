@@ -6,8 +6,8 @@ ghost use Rattle.devices.specs.code.SinkWrites.{Wrote};
 ghost use Rattle.cdl_print.specs.code.Pieces.{dim_list, dim_text, type_and_name, var_rows, vars_part};
 
 use crate::attribute::put_att_lines;
+use crate::fixed_text::FixedText;
 use crate::name::put_name;
-use crate::word::Word;
 use devices::{Sink, WriteFailed, put};
 use nc_base::{Dim, NcType, Var};
 
@@ -29,7 +29,7 @@ pub fn put_vars<W: Sink>(sink: &mut W, dims: &[Dim], vars: &[Var]) -> Result<(),
 fn put_vars_section<W: Sink>(sink: &mut W, dims: &[Dim], vars: &[Var]) -> Result<(), WriteFailed>
     ensures { Wrote W.view sink.old sink.new (vars_part dims.now vars.now) result }
 {
-    put(sink, Word::Variables.bytes())?;
+    put(sink, FixedText::Variables.bytes())?;
     put_each_var(sink, dims, vars)
 }
 

@@ -1,6 +1,6 @@
 -- Declarations: the table of due tokens says whether one has its shape, and what it says stands in its tokens.
 use Rattle.std.proofs.Common.{◌≡◌, ℕ, Bool, true, false, List, [], ◌∷◌, refl, sym, ap, ◌∙◌, if◌then◌else◌, ◌&&◌, ◌||◌, not, arith, rules}
-use Rattle.cdl_statements.proofs.Prelude.{option_map, Declaration, with_name, declaration_said, only, separator, next, completes, is_name, word_value, Lexeme, is_mark, is_mark_kind, Variable, variables, in_parentheses, after_member, if_so}
+use Rattle.cdl_statements.proofs.Prelude.{option_map, Declaration, with_name, declaration_said, next_if, separator, next, completes, is_name, word_value, Lexeme, is_mark, is_mark_kind, Variable, variables, in_parentheses, after_member, if_so}
 use Rattle.cdl_statements.specs.declared.due.Due.TheVariants as dues
 use Rattle.cdl_statements.proofs.Dues.{never_completes, nothing_more, kind_of_mark, one_mark, due_for, map_due, only_due, either_due, name_due, member_due}
 
@@ -62,7 +62,7 @@ after_reference : (f : List (List ℕ) → Variable) (c l : Lexeme) (ls : List L
     due_for dues.AfterVariableDimension (c ∷ l ∷ ls) (onto f (said true (c ∷ l ∷ ls)))
 unfolding completes next
 after_reference f c l ls outer inner =
-    either_due (is_mark 0x2c c) _ _ dues.VariableDimension (only (is_mark 0x29 c) dues.AfterShape) (l ∷ ls) (onto f (said true (c ∷ l ∷ ls)))
+    either_due (is_mark 0x2c c) _ _ dues.VariableDimension (next_if (is_mark 0x29 c) dues.AfterShape) (l ∷ ls) (onto f (said true (c ∷ l ∷ ls)))
     (λ e. inner ∙ ap (λ d. due_for dues.VariableDimension (l ∷ ls) (onto f d)) (sym (comma_said true c (l ∷ ls) e)))
     (λ e. only_due (is_mark 0x29 c) dues.AfterShape (l ∷ ls) _ _ (λ g. map_due (λ vs. f [] ∷ vs) dues.AfterShape (l ∷ ls) (after_member (variables ls) l ls) _ _ (after_due l ls outer)
     (λ w. ap (λ ds. f ds ∷ (said false (l ∷ ls)).variables) (sym (none_named l ls w)) ∙

@@ -1,6 +1,6 @@
 -- What is said where the table of due tokens says that a statement is whole.
 use Rattle.std.proofs.Common.{◌≡◌, ℕ, Bool, true, false, List, [], ◌∷◌, refl, Option, None, Some, if◌then◌else◌, ◌&&◌, ◌==◌, arith, rules}
-use Rattle.cdl_statements.proofs.Prelude.{option_map, option_and_then, Version, token_fault, first_bad, completes, next, only, separator, is_name, word_value, Lexeme, is_mark, is_mark_kind, name_of, both, if_so, at_end, after_member, Due}
+use Rattle.cdl_statements.proofs.Prelude.{option_map, option_and_then, Version, token_fault, first_bad, completes, next, next_if, separator, is_name, word_value, Lexeme, is_mark, is_mark_kind, name_of, both, if_so, at_end, after_member, Due}
 use Rattle.cdl_statements.specs.declared.due.Due.TheVariants as dues
 
 -- ---- no bad token
@@ -31,7 +31,7 @@ pub nothing_more : (l : Lexeme) (ls : List Lexeme) → completes dues.Nothing (l
 unfolding completes next
 nothing_more l ls = never_completes ls
 
-pub only_completes : (b : Bool) (due : Due) (ls : List Lexeme) → completes (only b due) ls ≡ (b && completes due ls)
+pub only_completes : (b : Bool) (due : Due) (ls : List Lexeme) → completes (next_if b due) ls ≡ (b && completes due ls)
 only_completes b due ls = grind (arith, never_completes)
 
 -- ---- what is said where it says that the tokens are whole
@@ -49,7 +49,7 @@ end_due ls a = grind (arith, nothing_more)
 pub map_due : {A B : Type 0} (f : A → B) (due : Due) (ls : List Lexeme) (o : Option A) (a : A) (b : B) → o ≡ due_for due ls a → (completes due ls ≡ true → f a ≡ b) → option_map f o ≡ due_for due ls b
 map_due f due ls o a b h same = grind arith
 
-pub only_due : {A : Type 0} (b : Bool) (due : Due) (ls : List Lexeme) (x : Option A) (a : A) → (b ≡ true → x ≡ due_for due ls a) → if_so b x ≡ due_for (only b due) ls a
+pub only_due : {A : Type 0} (b : Bool) (due : Due) (ls : List Lexeme) (x : Option A) (a : A) → (b ≡ true → x ≡ due_for due ls a) → if_so b x ≡ due_for (next_if b due) ls a
 only_due b due ls x a h = grind (arith, never_due)
 
 pub both_ways : {A : Type 0} (b : Bool) (x y : Option A) (d e : Due) (ls : List Lexeme) (s t : A) → (b ≡ true → x ≡ due_for d ls s) → (b ≡ false → y ≡ due_for e ls t) →
@@ -65,12 +65,12 @@ unfolding name_of
 name_is n = refl
 
 pub name_due : {A : Type 0} (n : Lexeme) (f : List ℕ → Option A) (due : Due) (ls : List Lexeme) (a : A) → (is_name n ≡ true → f (word_value n.bytes) ≡ due_for due ls a) →
-    option_and_then f (name_of n) ≡ due_for (only (is_name n) due) ls a
+    option_and_then f (name_of n) ≡ due_for (next_if (is_name n) due) ls a
 name_due n f due ls a h = grind (arith, name_is n, never_due ls a)
 
 -- where a is there, what is said of both
 pub both_due : {A B C : Type 0} (f : A → B → C) (i : Bool) (x : Option A) (a : A) (due : Due) (ls : List Lexeme) (o : Option B) (b : B) (c : C) →
-    x ≡ (if i then Some a else None) → o ≡ due_for due ls b → (i ≡ true → completes due ls ≡ true → f a b ≡ c) → both f x o ≡ due_for (only i due) ls c
+    x ≡ (if i then Some a else None) → o ≡ due_for due ls b → (i ≡ true → completes due ls ≡ true → f a b ≡ c) → both f x o ≡ due_for (next_if i due) ls c
 both_due f i x a due ls o b c h k same = grind (arith, never_due ls c)
 
 -- after a member of a list

@@ -9,7 +9,7 @@ unfoldable pub use Rattle.cdl_statements.specs.code.Contents.{declaration_said, 
 unfoldable pub use Rattle.cdl_statements.specs.Pieces.{pieces_after}
 pub use Rattle.cdl_statements.specs.code.Cutters.{is_end_role, first_line, first_piece, is_done, offset_of, other_pieces, text_of, tokens_left, version_of}
 unfoldable pub use Rattle.cdl_statements.specs.code.Cutters.{after, pieces_left, words}
-pub use Rattle.cdl_statements.specs.code.DueTokens.{is_after, is_length, is_name, is_value_of, only, opens_section_after, separator}
+pub use Rattle.cdl_statements.specs.code.DueTokens.{is_after, is_length, is_name, is_value_of, next_if, opens_section_after, separator}
 unfoldable pub use Rattle.cdl_statements.specs.code.DueTokens.{completes, next}
 pub use Rattle.cdl_statements.specs.code.ListedTokens.{IsAtComma, Passes, PassesString}
 pub use Rattle.cdl_statements.specs.code.NumberLists.{SamePlace, reached}

@@ -48,25 +48,25 @@ first_role role (t ∷ ts) = role t
 
 -- ---- the cut
 
-abbrev pub ending : CutState → Step
-ending state = record { ends = true; state = state }
+abbrev pub step_at_end : CutState → Step
+step_at_end state = record { ends = true; state = state }
 
-abbrev pub going_on : CutState → Step
-going_on state = record { ends = false; state = state }
+abbrev pub step_within : CutState → Step
+step_within state = record { ends = false; state = state }
 
 -- whether a token ends its piece, by what comes before it, its role and the next token's role; and what then comes before the next token
 abbrev pub step : CutState → Role → Role → Step
-step Marked role next = ending Begins
-step state roles.End next = ending Begins
-step Inside roles.Semicolon next = ending Begins
-step Begins roles.Semicolon next = ending Begins
-step Begins roles.Opening next = ending Begins
-step Begins roles.Brace next = ending Closed
-step Begins roles.Section roles.Colon = going_on Marked
+step Marked role next = step_at_end Begins
+step state roles.End next = step_at_end Begins
+step Inside roles.Semicolon next = step_at_end Begins
+step Begins roles.Semicolon next = step_at_end Begins
+step Begins roles.Opening next = step_at_end Begins
+step Begins roles.Brace next = step_at_end Closed
+step Begins roles.Section roles.Colon = step_within Marked
 -- any other piece ends before End
-step state role roles.End = ending Begins
-step Closed role next = going_on Closed
-step state role next = going_on Inside
+step state role roles.End = step_at_end Begins
+step Closed role next = step_within Closed
+step state role next = step_within Inside
 
 -- a token before the pieces, as a piece or as the first piece's first
 abbrev pub with_first : {X : Type 0} → Bool → X → List (List X) → List (List X)

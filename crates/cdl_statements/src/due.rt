@@ -51,7 +51,7 @@ pub enum Due {
 }
 
 impl Due {
-    ghost use Rattle.cdl_statements.specs.code.DueTokens.{is_whole, next, next_first, only, separator};
+    ghost use Rattle.cdl_statements.specs.code.DueTokens.{is_whole, next, next_first, next_if, separator};
     ghost use Rattle.cdl_statements.specs.code.Views.{lexeme_of};
 
     /// Returns which token is due (has to come next) after `token`, in whose place `self` was due. Returns `Nothing` if the statement is
@@ -64,7 +64,7 @@ impl Due {
         match self {
             // A list of constants, which may be long, doesn't go through the table.
             Due::Value { takes_fill } => {
-                Due::only(token.is_value(takes_fill), Due::Separator { takes_fill })
+                Due::next_if(token.is_value(takes_fill), Due::Separator { takes_fill })
             }
             Due::Separator { takes_fill } => Due::separator(Due::Value { takes_fill }, token),
             _ => self.after_in_table(token),
@@ -81,25 +81,28 @@ impl Due {
     {
         match self {
             Due::First(section) => Due::after_first(section, token),
-            Due::DataName => Due::only(token.is_name(), Due::Equals { takes_fill: true }),
-            Due::Colon => Due::only(token.is_mark(b':'), Due::Nothing),
-            Due::AttributeName => Due::only(token.is_name(), Due::Equals { takes_fill: false }),
-            Due::Equals { takes_fill } => Due::only(token.is_mark(b'='), Due::Value { takes_fill }),
+            Due::DataName => Due::next_if(token.is_name(), Due::Equals { takes_fill: true }),
+            Due::Colon => Due::next_if(token.is_mark(b':'), Due::Nothing),
+            Due::AttributeName => Due::next_if(token.is_name(), Due::Equals { takes_fill: false }),
+            Due::Equals { takes_fill } => Due::next_if(
+                token.is_mark(b'='),
+                Due::Value { takes_fill },
+            ),
             Due::Value { takes_fill } => {
-                Due::only(token.is_value(takes_fill), Due::Separator { takes_fill })
+                Due::next_if(token.is_value(takes_fill), Due::Separator { takes_fill })
             }
             Due::Separator { takes_fill } => Due::separator(Due::Value { takes_fill }, token),
-            Due::DimensionName => Due::only(token.is_name(), Due::LengthEquals),
-            Due::LengthEquals => Due::only(token.is_mark(b'='), Due::Length),
-            Due::Length => Due::only(token.is_length(), Due::LengthSeparator),
+            Due::DimensionName => Due::next_if(token.is_name(), Due::LengthEquals),
+            Due::LengthEquals => Due::next_if(token.is_mark(b'='), Due::Length),
+            Due::Length => Due::next_if(token.is_length(), Due::LengthSeparator),
             Due::LengthSeparator => Due::separator(Due::DimensionName, token),
             Due::AfterWord {
                 is_name,
                 is_section,
             } => Due::after_second(is_name, is_section, token),
-            Due::VariableName => Due::only(token.is_name(), Due::AfterVariable),
+            Due::VariableName => Due::next_if(token.is_name(), Due::AfterVariable),
             Due::AfterVariable => Due::after_variable(token),
-            Due::VariableDimension => Due::only(token.is_name(), Due::AfterVariableDimension),
+            Due::VariableDimension => Due::next_if(token.is_name(), Due::AfterVariableDimension),
             Due::AfterVariableDimension => Due::after_variable_dimension(token),
             Due::AfterShape => Due::separator(Due::VariableName, token),
             Due::Nothing | Due::Never => Due::Never,
@@ -112,16 +115,16 @@ impl Due {
         ensures { result ≡ next_first section (lexeme_of token.entry) }
     {
         match section {
-            Section::Unopened => Due::only(is_opening(token.kind), Due::Nothing),
-            Section::Closed => Due::only(is_end(token.kind), Due::Nothing),
+            Section::Unopened => Due::next_if(is_opening(token.kind), Due::Nothing),
+            Section::Closed => Due::next_if(is_end(token.kind), Due::Nothing),
             Section::Ended => Due::Never,
             _ if token.is_mark(b'}') => Due::Nothing,
-            Section::Values => Due::only(token.is_name(), Due::Equals { takes_fill: true }),
+            Section::Values => Due::next_if(token.is_name(), Due::Equals { takes_fill: true }),
             _ if token.is_mark(b':') => Due::AttributeName,
-            Section::Globals => Due::only(token.opens_section_after(section), Due::Colon),
+            Section::Globals => Due::next_if(token.opens_section_after(section), Due::Colon),
             Section::Dimensions if token.opens_section_after(section) => Due::Colon,
-            Section::Dimensions => Due::only(token.is_name(), Due::LengthEquals),
-            Section::Variables => Due::only(
+            Section::Dimensions => Due::next_if(token.is_name(), Due::LengthEquals),
+            Section::Variables => Due::next_if(
                 token.is_any_word(),
                 Due::AfterWord {
                     is_name: token.is_name(),
@@ -139,11 +142,11 @@ impl Due {
         ensures { result ≡ next (Due.AfterWord is_name is_section) (lexeme_of token.entry) }
     {
         if !token.is_mark(b':') {
-            Due::only(token.is_name(), Due::AfterVariable)
+            Due::next_if(token.is_name(), Due::AfterVariable)
         } else if is_name {
             Due::AttributeName
         } else {
-            Due::only(is_section, Due::Nothing)
+            Due::next_if(is_section, Due::Nothing)
         }
     }
 
@@ -169,7 +172,7 @@ impl Due {
         if token.is_mark(b',') {
             Due::VariableDimension
         } else {
-            Due::only(token.is_mark(b')'), Due::AfterShape)
+            Due::next_if(token.is_mark(b')'), Due::AfterShape)
         }
     }
 
@@ -181,15 +184,15 @@ impl Due {
         if token.is_mark(b',') {
             due
         } else {
-            Due::only(token.is_mark(b';'), Due::Nothing)
+            Due::next_if(token.is_mark(b';'), Due::Nothing)
         }
     }
 
     /// Returns `due`, but only if `test` is true, that is, if a token is the one that was due. Otherwise returns `Never`.
-    fn only(test: bool, due: Due) -> Due
-        ensures { result ≡ only test due }
+    fn next_if(is_allowed: bool, due: Due) -> Due
+        ensures { result ≡ next_if is_allowed due }
     {
-        if test { due } else { Due::Never }
+        if is_allowed { due } else { Due::Never }
     }
 
     /// Returns true for `Nothing`: the statement is whole. Returns false for `Never`, although then no token is due either.

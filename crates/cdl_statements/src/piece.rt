@@ -1,7 +1,7 @@
 //! How a list of tokens is cut into statements.
 
 ghost use Rattle.std.specs.Prelude.{◌≡◌, true, if◌then◌else◌};
-ghost use Rattle.cdl_statements.specs.Pieces.{ending, going_on, is_section, mark_role};
+ghost use Rattle.cdl_statements.specs.Pieces.{step_at_end, step_within, is_section, mark_role};
 
 use cdl_tokens::{Token, TokenKind, byte_at};
 
@@ -100,28 +100,30 @@ impl CutState {
         ensures last { is_end_role role ≡ true → result.ends ≡ true }
     {
         match (self, role, next) {
-            (CutState::Marked, _, _) | (_, Role::End, _) => ending(CutState::Begins),
-            (CutState::Inside | CutState::Begins, Role::Semicolon, _) => ending(CutState::Begins),
-            (CutState::Begins, Role::Opening, _) => ending(CutState::Begins),
-            (CutState::Begins, Role::Brace, _) => ending(CutState::Closed),
-            (CutState::Begins, Role::Section, Role::Colon) => going_on(CutState::Marked),
-            (_, _, Role::End) => ending(CutState::Begins),
-            (CutState::Closed, _, _) => going_on(CutState::Closed),
-            _ => going_on(CutState::Inside),
+            (CutState::Marked, _, _) | (_, Role::End, _) => step_at_end(CutState::Begins),
+            (CutState::Inside | CutState::Begins, Role::Semicolon, _) => step_at_end(
+                CutState::Begins,
+            ),
+            (CutState::Begins, Role::Opening, _) => step_at_end(CutState::Begins),
+            (CutState::Begins, Role::Brace, _) => step_at_end(CutState::Closed),
+            (CutState::Begins, Role::Section, Role::Colon) => step_within(CutState::Marked),
+            (_, _, Role::End) => step_at_end(CutState::Begins),
+            (CutState::Closed, _, _) => step_within(CutState::Closed),
+            _ => step_within(CutState::Inside),
         }
     }
 }
 
 /// Returns the step of a token that is the last of its statement. `state` is the state before the token that comes next.
-fn ending(state: CutState) -> Step
-    ensures { result ≡ ending state }
+fn step_at_end(state: CutState) -> Step
+    ensures { result ≡ step_at_end state }
 {
     Step { ends: true, state }
 }
 
 /// Returns the step of a token after which its statement goes on. `state` is the state before the token that comes next.
-fn going_on(state: CutState) -> Step
-    ensures { result ≡ going_on state }
+fn step_within(state: CutState) -> Step
+    ensures { result ≡ step_within state }
 {
     Step { ends: false, state }
 }

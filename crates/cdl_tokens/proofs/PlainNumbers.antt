@@ -2,7 +2,7 @@
 use Rattle.std.proofs.Common.{◌≡◌, ℕ, zero, suc, ◌+◌, ◌<◌, ◌≤◌, Bool, true, false, List, [], ◌∷◌, length, take, drop, refl, sym, ap, ◌∙◌, arith, Some, ◌==◌, nat_lt, option_map, slice_index, cond, rules, subst}
 use Rattle.cdl_tokens.proofs.Prelude.{prefix_len, prefix_len-le-length, get_or-drop, length-drop, Int, NcType, Version, goes_on_number, is_digit, is_octal, is_sign, number_in, held, parts, with_sign, Begins, BeginsDecimal, BeginsUnsigned, IsLetterOf, IsSuffix, begins_number, ends_value}
 use Rattle.cdl_tokens.specs.declared.numeral.Numeral.{Numeral}
-use Rattle.cdl_tokens.specs.declared.plain_number.Unsigned.{Unsigned}
+use Rattle.cdl_tokens.specs.declared.plain_number.PlainMagnitude.{PlainMagnitude}
 use Rattle.std.proofs.lemmas.List.{take-take, drop-take}
 use Rattle.cdl_tokens.proofs.Decimals.{all_read, said}
 use Rattle.cdl_tokens.proofs.PlainTokens.{digit_number, ended_low}
@@ -16,7 +16,7 @@ digits_go_on [] = refl
 digits_go_on (b ∷ bs) = grind (arith, digits_go_on bs, drop_one_more b (prefix_len is_digit bs) bs)
 
 -- what a number says
-abbrev pub numeral : Bool → Unsigned → Numeral
+abbrev pub numeral : Bool → PlainMagnitude → Numeral
 numeral minus n = record { minus = minus; magnitude = Some n.value; ty = n.ty }
 
 -- the suffix of an int: none
@@ -131,7 +131,7 @@ with_letter bs n value ty at_comma d letter ends comma =
     begins_plain bs n 1 value ty at_comma (are_digits bs n value d letter.suffix.no_digit) (subst (λ (xs : List ℕ). IsSuffix xs ty) (sym one.0) letter.suffix) one.1 comma
 
 -- with a sign or without
-pub sign_said : (v : Version) (bs rest : List ℕ) (n : Unsigned) → is_sign (slice_index bs 0) ≡ true → drop 1 bs ≡ rest → BeginsUnsigned rest n →
+pub sign_said : (v : Version) (bs rest : List ℕ) (n : PlainMagnitude) → is_sign (slice_index bs 0) ≡ true → drop 1 bs ≡ rest → BeginsUnsigned rest n →
     Some (numeral (slice_index bs 0 == 0x2d) n) ≡ option_map held (parts v (take (1 + n.len) bs))
 unfolding parts
 sign_said v [] rest n sign is d = cc
@@ -139,11 +139,11 @@ sign_said v (b ∷ bs) rest n sign is d =
     let step : take (1 + n.len) (b ∷ bs) ≡ b ∷ take n.len bs = ap (λ m. take m (b ∷ bs)) (let e : 1 + n.len ≡ suc n.len = omega arith in e) in
     rw (step) (rw (sign) (rw (is) (d.says v (b == 0x2d))))
 
-pub plain_said : (v : Version) (bs : List ℕ) (n : Unsigned) → is_sign (slice_index bs 0) ≡ false → 0 < n.len → BeginsUnsigned bs n → Some (numeral false n) ≡ option_map held (parts v (take n.len bs))
+pub plain_said : (v : Version) (bs : List ℕ) (n : PlainMagnitude) → is_sign (slice_index bs 0) ≡ false → 0 < n.len → BeginsUnsigned bs n → Some (numeral false n) ≡ option_map held (parts v (take n.len bs))
 unfolding parts
 plain_said v bs n sign some d = grind (arith, d.says v false, first_taken n.len bs some, held)
 
-len_after_first : (bs : List ℕ) (n : Unsigned) → BeginsUnsigned bs n → n.len ≡ 1 + prefix_len goes_on_number (drop 1 bs)
+len_after_first : (bs : List ℕ) (n : PlainMagnitude) → BeginsUnsigned bs n → n.len ≡ 1 + prefix_len goes_on_number (drop 1 bs)
 len_after_first [] n d = absurd (let e : is_digit 0 ≡ true = d.digit in cc)
 len_after_first (b ∷ bs) n d = grind (arith, d.digit, d.len)
 
@@ -154,7 +154,7 @@ sign_begins bs rest h h2 h3 = grind arith
 sign_within : (bs rest : List ℕ) (n : ℕ) → is_sign (slice_index bs 0) ≡ true → drop 1 bs ≡ rest → n ≤ length rest → 1 + n ≤ length bs
 sign_within bs rest n h h2 h3 = grind arith
 
-begins_signed : (bs rest : List ℕ) (n : Unsigned) (b : ℕ) (m : Numeral) → b ≡ slice_index bs 0 → is_sign b ≡ true → m ≡ numeral (b == 0x2d) n → drop 1 bs ≡ rest → BeginsUnsigned rest n →
+begins_signed : (bs rest : List ℕ) (n : PlainMagnitude) (b : ℕ) (m : Numeral) → b ≡ slice_index bs 0 → is_sign b ≡ true → m ≡ numeral (b == 0x2d) n → drop 1 bs ≡ rest → BeginsUnsigned rest n →
     Begins bs (record { numeral = m; len = 1 + n.len; at_comma = n.at_comma })
 begins_signed bs rest n b m first sign says is d =
     let signed : is_sign (slice_index bs 0) ≡ true = ap is_sign (sym first) ∙ sign in
@@ -166,7 +166,7 @@ begins_signed bs rest n b m first sign says is d =
       says = λ v. ap Some (says ∙ ap (λ x. numeral (x == 0x2d) n) first) ∙ sign_said v bs rest n signed is d;
     }
 
-begins_unsigned : (bs : List ℕ) (n : Unsigned) (b : ℕ) (m : Numeral) → b ≡ slice_index bs 0 → is_sign b ≡ false → m ≡ numeral false n → BeginsUnsigned bs n →
+begins_unsigned : (bs : List ℕ) (n : PlainMagnitude) (b : ℕ) (m : Numeral) → b ≡ slice_index bs 0 → is_sign b ≡ false → m ≡ numeral false n → BeginsUnsigned bs n →
     Begins bs (record { numeral = m; len = n.len; at_comma = n.at_comma })
 begins_unsigned bs n b m first sign says d =
     let len = len_after_first bs n d in
@@ -179,7 +179,7 @@ begins_unsigned bs n b m first sign says d =
     }
 
 -- with a minus or no sign
-pub begins_either : (bs rest : List ℕ) (n : Unsigned) (b : ℕ) (minus : Bool) → b ≡ slice_index bs 0 → (b == 0x2d) ≡ minus → drop (bool_byte minus) bs ≡ rest → BeginsUnsigned rest n →
+pub begins_either : (bs rest : List ℕ) (n : PlainMagnitude) (b : ℕ) (minus : Bool) → b ≡ slice_index bs 0 → (b == 0x2d) ≡ minus → drop (bool_byte minus) bs ≡ rest → BeginsUnsigned rest n →
     Begins bs (record { numeral = numeral minus n; len = bool_byte minus + n.len; at_comma = n.at_comma })
 begins_either bs rest n b true first is others d = begins_signed bs rest n b _ first (grind (arith, is)) (ap (λ m. numeral m n) (sym is)) others d
 begins_either bs rest n b false first is others d =

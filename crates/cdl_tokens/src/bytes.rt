@@ -83,7 +83,7 @@ pub fn is_mark(b: u8) -> bool
 
 /// Returns true if a word may begin with the byte: a letter, `_` or a byte from 0x80. A word may also begin with an escape, for which
 /// `begins_a_word` of the module `scan` looks at two bytes.
-pub fn begins_word(b: u8) -> bool
+pub fn may_begin_word(b: u8) -> bool
     ensures { result ≡ may_begin_word b }
 {
     is_letter(b) || b == b'_' || b >= 0x80

@@ -19,7 +19,7 @@ pub struct PlainNumber {
 
 /// A plain number without its sign at the start of bytes.
 #[derive(Clone, Copy)]
-pub struct Unsigned {
+pub struct PlainMagnitude {
     /// The number of its bytes.
     len: usize,
     /// The value of its digits.
@@ -41,7 +41,7 @@ pub fn plain_number(bytes: &[u8]) -> Option<PlainNumber>
     // No branch depends on the minus, which in many lists is as often there as not.
     let minus = byte_at(bytes, 0) == b'-';
     let (_, rest) = bytes.split_at(minus as usize);
-    let n = without_sign(rest)?;
+    let n = unsigned_plain_number(rest)?;
     Some(PlainNumber {
         numeral: Numeral {
             minus,
@@ -56,7 +56,7 @@ pub fn plain_number(bytes: &[u8]) -> Option<PlainNumber>
 /// Returns the plain number without a sign that the bytes begin with. Returns `None` if there is none, if a zero before other digits makes
 /// it octal, or if neither a comma nor white space follows.
 #[inline(always)]
-fn without_sign(bytes: &[u8]) -> Option<Unsigned>
+fn unsigned_plain_number(bytes: &[u8]) -> Option<PlainMagnitude>
     ensures { IfSome result (λ n. BeginsUnsigned bytes.now n) }
 {
     let (len, value) = decimal_digits(bytes)?;
@@ -65,7 +65,7 @@ fn without_sign(bytes: &[u8]) -> Option<Unsigned>
     if !ends_value(next) {
         return with_suffix(bytes, len, value);
     }
-    Some(Unsigned {
+    Some(PlainMagnitude {
         len,
         value,
         ty: NcType::Int,
@@ -76,7 +76,7 @@ fn without_sign(bytes: &[u8]) -> Option<Unsigned>
 /// Returns the plain number that the bytes begin with, if a suffix of one letter follows its digits. Returns `None` if no such suffix
 /// follows them, or neither a comma nor white space follows the suffix. `len` is how many digits there are, and `value` is their value.
 #[inline(always)]
-fn with_suffix(bytes: &[u8], len: usize, value: u64) -> Option<Unsigned>
+fn with_suffix(bytes: &[u8], len: usize, value: u64) -> Option<PlainMagnitude>
     requires { BeginsDecimal bytes.now len value }
     ensures { IfSome result (λ n. BeginsUnsigned bytes.now n) }
 {
@@ -86,7 +86,7 @@ fn with_suffix(bytes: &[u8], len: usize, value: u64) -> Option<Unsigned>
     if !ends_value(after) {
         return None;
     }
-    Some(Unsigned {
+    Some(PlainMagnitude {
         len: len + 1,
         value,
         ty,

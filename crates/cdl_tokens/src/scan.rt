@@ -7,8 +7,8 @@ ghost use Rattle.cdl_tokens.specs.Scan.{begins_a_word, begins_comment, begins_nu
 ghost use Rattle.cdl_tokens.specs.code.Scanners.{is_ordinary, is_token};
 
 use crate::bytes::{
-    begins_word, byte_at, goes_on_number, goes_on_word, is_blank, is_digit, is_escape, is_mark,
-    is_sign,
+    byte_at, goes_on_number, goes_on_word, is_blank, is_digit, is_escape, is_mark, is_sign,
+    may_begin_word,
 };
 use crate::search::{Stops, far_len};
 use crate::string::string_contents;
@@ -111,7 +111,7 @@ fn scan_text(bytes: &[u8]) -> Scanned
     let found = string_contents(bytes);
     if found.len == bytes.len() {
         token(TokenKind::Bad, 1 + found.len)
-    } else if found.is_good {
+    } else if found.has_valid_escapes {
         token(TokenKind::Text, found.len + 2)
     } else {
         token(TokenKind::Bad, found.len + 2)
@@ -123,7 +123,7 @@ fn begins_a_word(bytes: &[u8]) -> bool
     ensures { result ≡ begins_a_word bytes.now }
 {
     let b = byte_at(bytes, 0);
-    begins_word(b) || is_escape(b, byte_at(bytes, 1))
+    may_begin_word(b) || is_escape(b, byte_at(bytes, 1))
 }
 
 /// Returns true if the bytes begin as a number does: with a digit, which may have a sign, a point, or a sign and then a point before it.

@@ -15,7 +15,7 @@ pub struct StringContents {
     /// The number of bytes before the closing quote, which is the first that isn't escaped, or of all bytes if there is none.
     pub len: usize,
     /// True if each character among these bytes stands for a byte.
-    pub is_good: bool,
+    pub has_valid_escapes: bool,
 }
 
 /// Returns what a string has between its quotes; `bytes` is what comes after the first of them. It goes over the string once: from one
@@ -24,19 +24,22 @@ pub struct StringContents {
 pub fn string_contents(bytes: &[u8]) -> StringContents
     ensures len { result.len ≡ len_until 0x22 bytes.now }
     ensures within { result.len ≤ length bytes.now }
-    ensures good { result.is_good ≡ list_all is_some (unescape (take result.len bytes.now)) }
+    ensures good { result.has_valid_escapes ≡ list_all is_some (unescape (take result.len bytes.now)) }
 {
     let mut rest = bytes;
     let mut len = 0;
-    let mut is_good = true;
+    let mut has_valid_escapes = true;
     'escapes: loop {
         let n = ordinary_len(rest, b'"');
         let (_, escape) = rest.split_at(n);
         len += n;
         if byte_at(escape, 0) != b'\\' {
-            return StringContents { len, is_good };
+            return StringContents {
+                len,
+                has_valid_escapes,
+            };
         }
-        is_good = is_good & character(escape).value.is_some();
+        has_valid_escapes = has_valid_escapes & character(escape).value.is_some();
         // The byte after the backslash is no closing quote, and neither is any digit of an escape by number.
         let (escaped, after) = escape.split_at(escape.len().min(2));
         len += escaped.len();

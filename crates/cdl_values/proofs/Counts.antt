@@ -1,6 +1,6 @@
 -- A statement has fewer values than the greatest capacity, so that stands for all from there on.
 use Rattle.std.proofs.Common.{◌≡◌, ℕ, zero, suc, ◌+◌, ◌-◌, ◌≤◌, Bool, List, [], ◌∷◌, length, map, drop, refl, sym, ap, ◌∙◌, arith, Option, Result, ◌&&◌, is_none, min, rules}
-use Rattle.cdl_values.proofs.Prelude.{Version, values, words, pieces_left, text_of, first_piece, Lexeme, followed, Value, Cutter, CdlKind, TokenKind, Capacity, AtMost, Unlimited, Dim, room_of, takes_of, values_listed, positions_in, taken_type, Fills, HasCapacity, as_bytes, capacity_for, most, packed, Fill, Filling, Numbers, Rows}
+use Rattle.cdl_values.proofs.Prelude.{Version, values, words, pieces_left, text_of, first_piece, Lexeme, followed, Value, Cutter, CdlKind, TokenKind, Capacity, AtMost, Unlimited, Dim, room_of, takes_of, values_listed, positions_in, taken_type, Fills, HasCapacity, as_bytes, capacity_for, most, packed, Fill, ValueForm, Numbers, Rows}
 use Rattle.cdl_statements.specs.Pieces.{first_role, pieces_after, step, with_first}
 use Rattle.cdl_tokens.specs.Scan.{scan}
 use Rattle.cdl_tokens.specs.Tokens.{tokens_at, with_token}
@@ -71,11 +71,11 @@ rows_same len fill n m (x ∷ xs) a b = grind (arith, rows_same len fill (n - 1)
 capped : (n : ℕ) (packs : ℕ → Result (List ℕ) CdlKind) (m : ℕ) → ((k : ℕ) → n ≤ m → n ≤ k → packs m ≡ packs k) → n ≤ most → packs m ≡ packs (min m most)
 capped n packs m even few = search rules
 
-same : (f : Filling) (m : ℕ) (xs : List Value) → length xs ≤ most → packed f (AtMost m) xs ≡ packed f (AtMost (capacity_for f m)) xs
+same : (f : ValueForm) (m : ℕ) (xs : List Value) → length xs ≤ most → packed f (AtMost m) xs ≡ packed f (AtMost (capacity_for f m)) xs
 same f m xs h = grind (arith, capped, numbers_same, rows_same)
 
 -- the values of a variable with this capacity
-pub all_taken : (f : Filling) (capacity : Capacity) (dims : List Dim) (var : Var) (xs : List Value) → Fills f (takes_of dims var) → HasCapacity f capacity dims var → length xs ≤ most →
+pub all_taken : (f : ValueForm) (capacity : Capacity) (dims : List Dim) (var : Var) (xs : List Value) → Fills f (takes_of dims var) → HasCapacity f capacity dims var → length xs ≤ most →
     as_bytes (taken_type f) (values_listed dims var xs) ≡ packed f capacity xs
 all_taken f Unlimited dims var xs h is few = all_turns f (takes_of dims var) h Unlimited (room_of dims var) xs (grind (arith, is))
 all_taken f (AtMost n) dims var xs h has few =

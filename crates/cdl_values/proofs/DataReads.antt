@@ -1,6 +1,6 @@
 -- What a statement of the data section means, case by case.
 use Rattle.std.proofs.Common.{◌≡◌, ℕ, true, false, List, [], ◌∷◌, refl, sym, ◌∙◌, Bool, Option, None, Some, Result, Ok, Err, ◌==◌, not, slice_index, if◌then◌else◌, arith}
-use Rattle.cdl_values.proofs.Prelude.{false≢true, Version, word_value, Lexeme, is_mark, is_word_kind, is_mark_kind, first_bad, token_fault, completes, next, only, is_whole, only_completes, values, Due, DataName, Equals, CdlKind, Syntax, good_on, TokenKind, packed, FailsRead, data_read, bytes_assigned, packed_for, target_of, Target, ReadError, and_left, and_right}
+use Rattle.cdl_values.proofs.Prelude.{false≢true, Version, word_value, Lexeme, is_mark, is_word_kind, is_mark_kind, first_bad, token_fault, completes, next, next_if, is_whole, only_completes, values, Due, DataName, Equals, CdlKind, Syntax, good_on, TokenKind, packed, FailsRead, data_read, bytes_assigned, packed_for, target_of, Target, ReadError, and_left, and_right}
 use Rattle.cdl_statements.specs.code.DueTokens.{is_name}
 use Rattle.nc_base.specs.Escapes.{is_reserved}
 use Rattle.cdl_statements.specs.declared.due.Due.TheVariants.{Value}
@@ -20,7 +20,7 @@ good_read : (version : Version) (names : List (List ℕ)) (targets : List Target
 unfolding data_read
 good_read version names targets ws bad on = rw (bad) (rw (on) refl)
 
-lone : (b : Bool) (due : Due) → is_whole due ≡ false → completes (only b due) [] ≡ true → ⊥
+lone : (b : Bool) (due : Due) → is_whole due ≡ false → completes (next_if b due) [] ≡ true → ⊥
 unfolding completes
 lone b due h h2 = grind (arith, false≢true)
 
@@ -44,7 +44,7 @@ pub read_on : (version : Version) (names : List (List ℕ)) (targets : List Targ
 read_on version names targets ws es vs n e a b first second bad on =
     grind (arith, name_goes n es ws a first on, equals_goes e vs es b second (name_on n es ws a first on), name_on n es ws a first on, good_read version names targets ws bad on)
 
-pub filled_ok : (version : Version) (vs : List Lexeme) (r : Result Target CdlKind) (t : Target) → r ≡ Ok t → packed_for version vs r ≡ packed t.filling t.capacity (values version vs)
+pub filled_ok : (version : Version) (vs : List Lexeme) (r : Result Target CdlKind) (t : Target) → r ≡ Ok t → packed_for version vs r ≡ packed t.form t.capacity (values version vs)
 filled_ok version vs r t is = rw (is) refl
 
 pub filled_err : (version : Version) (vs : List Lexeme) (r : Result Target CdlKind) (e : ReadError) → FailsRead e r → FailsRead e (packed_for version vs r)

@@ -1,6 +1,6 @@
 -- The values of a statement, one token on.
 use Rattle.std.proofs.Common.{◌≡◌, ℕ, suc, ◌<◌, false, List, [], ◌∷◌, ◌++◌, refl, ap, append_assoc, rules, append-nil, drop, length, Result, Ok, Err, pos, arith}
-use Rattle.cdl_values.proofs.Prelude.{Char, Version, bytes_of_number, Lexeme, is_mark_kind, values, value_of, Value, CdlKind, Capacity, Filling, char_bytes, bytes_of, capacity_after, joined, followed_by, packed, ReadError, OutOfMemory, Fault, FailsRead, drop-append_seam, TokenKind}
+use Rattle.cdl_values.proofs.Prelude.{Char, Version, bytes_of_number, Lexeme, is_mark_kind, values, value_of, Value, CdlKind, Capacity, ValueForm, char_bytes, bytes_of, capacity_after, joined, followed_by, packed, ReadError, OutOfMemory, Fault, FailsRead, drop-append_seam, TokenKind}
 use Rattle.cdl_tokens.specs.declared.token.TokenKind.TheVariants as kinds
 
 -- what stands before a fault is given up
@@ -15,30 +15,30 @@ unfolding values
 over_value version l ls other = rw (other) refl
 
 -- a value more is packed
-pub one_packed : (filling : Filling) (capacity : Capacity) (v : Value) (vs : List Value) (bs cs ds : List ℕ) →
-    bytes_of filling capacity v ≡ Ok ds → cs ≡ bs ++ ds →
-    joined (Ok bs) (packed filling capacity (v ∷ vs)) ≡ joined (Ok cs) (packed filling (capacity_after filling ds capacity) vs)
+pub one_packed : (form : ValueForm) (capacity : Capacity) (v : Value) (vs : List Value) (bs cs ds : List ℕ) →
+    bytes_of form capacity v ≡ Ok ds → cs ≡ bs ++ ds →
+    joined (Ok bs) (packed form capacity (v ∷ vs)) ≡ joined (Ok cs) (packed form (capacity_after form ds capacity) vs)
 unfolding packed
-one_packed filling capacity v vs bs cs ds is e = search (rules, joined, append_assoc)
+one_packed form capacity v vs bs cs ds is e = search (rules, joined, append_assoc)
 
 -- a fault decides
-pub one_wrong : (filling : Filling) (capacity : Capacity) (v : Value) (vs : List Value) (e : CdlKind) (bs : List ℕ) →
-    bytes_of filling capacity v ≡ Err e → joined (Ok bs) (packed filling capacity (v ∷ vs)) ≡ Err e
+pub one_wrong : (form : ValueForm) (capacity : Capacity) (v : Value) (vs : List Value) (e : CdlKind) (bs : List ℕ) →
+    bytes_of form capacity v ≡ Err e → joined (Ok bs) (packed form capacity (v ∷ vs)) ≡ Err e
 unfolding packed
-one_wrong filling capacity v vs e bs is = ap (λ r. joined (Ok bs) (followed_by r (λ bytes. packed filling (capacity_after filling bytes capacity) vs))) is
+one_wrong form capacity v vs e bs is = ap (λ r. joined (Ok bs) (followed_by r (λ bytes. packed form (capacity_after form bytes capacity) vs))) is
 
-pub none_packed : (filling : Filling) (capacity : Capacity) (version : Version) (bs : List ℕ) → joined (Ok bs) (packed filling capacity (values version [])) ≡ Ok bs
+pub none_packed : (form : ValueForm) (capacity : Capacity) (version : Version) (bs : List ℕ) → joined (Ok bs) (packed form capacity (values version [])) ≡ Ok bs
 unfolding packed values
-none_packed filling capacity version bs = ap Ok (append-nil bs)
+none_packed form capacity version bs = ap Ok (append-nil bs)
 
 pub no_mark : (kind : TokenKind) → (kind ≡ kinds.Mark → ⊥) → is_mark_kind kind ≡ false
 no_mark kind h = grind arith
 
 -- a refused value is a refused list
-pub refused : (filling : Filling) (capacity : Capacity) (v : Value) (vs : List Value) (e : ReadError) (bs : List ℕ) →
-    FailsRead e (bytes_of filling capacity v) → FailsRead e (joined (Ok bs) (packed filling capacity (v ∷ vs)))
-refused filling capacity v vs OutOfMemory bs h = h
-refused filling capacity v vs (Fault k) bs h = one_wrong filling capacity v vs k bs h
+pub refused : (form : ValueForm) (capacity : Capacity) (v : Value) (vs : List Value) (e : ReadError) (bs : List ℕ) →
+    FailsRead e (bytes_of form capacity v) → FailsRead e (joined (Ok bs) (packed form capacity (v ∷ vs)))
+refused form capacity v vs OutOfMemory bs h = h
+refused form capacity v vs (Fault k) bs h = one_wrong form capacity v vs k bs h
 
 -- bytes that were added are after those before
 pub added : (bs cs : List ℕ) (r : Result (List ℕ) CdlKind) → joined (Ok bs) r ≡ Ok cs → r ≡ Ok (drop (length bs) cs)
@@ -48,10 +48,10 @@ pub is_after : (bs cs : List ℕ) (r : Result (List ℕ) CdlKind) → joined (Ok
 is_after bs cs r h = grind (arith, drop-append_seam)
 
 -- the value of a token is packed, where these are the bytes with its own
-pub token_packed : (version : Version) (filling : Filling) (capacity left : Capacity) (l : Lexeme) (ls : List Lexeme) (bs cs : List ℕ) → is_mark_kind l.kind ≡ false →
-    joined (Ok bs) (bytes_of filling capacity (value_of version l l.kind)) ≡ Ok cs → left ≡ capacity_after filling (drop (length bs) cs) capacity →
-    joined (Ok bs) (packed filling capacity (values version (l ∷ ls))) ≡ joined (Ok cs) (packed filling left (values version ls))
-token_packed version filling capacity left l ls bs cs other adds counts = search (rules, over_value, one_packed, added, is_after)
+pub token_packed : (version : Version) (form : ValueForm) (capacity left : Capacity) (l : Lexeme) (ls : List Lexeme) (bs cs : List ℕ) → is_mark_kind l.kind ≡ false →
+    joined (Ok bs) (bytes_of form capacity (value_of version l l.kind)) ≡ Ok cs → left ≡ capacity_after form (drop (length bs) cs) capacity →
+    joined (Ok bs) (packed form capacity (values version (l ∷ ls))) ≡ joined (Ok cs) (packed form left (values version ls))
+token_packed version form capacity left l ls bs cs other adds counts = search (rules, over_value, one_packed, added, is_after)
 
 -- characters
 pub one_byte : (b : ℕ) → b < 256 → bytes_of_number Char (pos b) ≡ b ∷ []

@@ -4,15 +4,15 @@ use Rattle.cdl_statements.specs.State as states
 use Rattle.cdl_statements.proofs.Rows.{slab_rows}
 use Rattle.nc_base.proofs.SoundLaws.{some_count}
 use Rattle.nc_base.specs.Fill.{fill_value}
-use Rattle.cdl_values.proofs.Prelude.{get_or-map, length-map, take-suc, map-append, IsInRange, is_char, dim_len, is_record_var, room_of, takes_of, Filling, Fills, Numbers, Joined, Rows, positions_in, Dim, Draft, AreShaped, unlisted_drafts, unlisted_draft, AllSuit, Suits, Target, NcType, Char}
+use Rattle.cdl_values.proofs.Prelude.{get_or-map, length-map, take-suc, map-append, IsInRange, is_char, dim_len, is_record_var, room_of, takes_of, ValueForm, Fills, Numbers, Joined, Rows, positions_in, Dim, Draft, AreShaped, unlisted_drafts, unlisted_draft, AllSuit, Suits, Target, NcType, Char}
 use Rattle.std.proofs.lemmas.List.Elements.{All-get_or}
 use Rattle.nc_base.specs.Headers.{AreDimids}
 use Rattle.nc_base.specs.declared.header.Var.{Var}
 
 -- how many values a position has
-abbrev pub values_at : Filling → ℕ
+abbrev pub values_at : ValueForm → ℕ
 values_at (Rows len fill) = len
-values_at filling = 1
+values_at form = 1
 
 pub no_char : (ty : NcType) → (ty ≡ Char → ⊥) → is_char ty ≡ false
 no_char ty h = grind arith
@@ -39,7 +39,7 @@ unfolding takes_of
 takes_rows dims var len x char many is fill = grind arith
 
 -- the room of its positions, where it isn't a record variable
-pub positions_room : (f : Filling) (dims : List Dim) (var : Var) → Fills f (takes_of dims var) → is_record_var dims var ≡ false → room_of dims var ≡ Some (0 + positions_in f dims var * values_at f)
+pub positions_room : (f : ValueForm) (dims : List Dim) (var : Var) → Fills f (takes_of dims var) → is_record_var dims var ≡ false → room_of dims var ≡ Some (0 + positions_in f dims var * values_at f)
 unfolding takes_of
 positions_room (Numbers fill) dims var h closed = grind arith
 positions_room Joined dims var h closed = grind arith

@@ -12,7 +12,7 @@ pub use Rattle.cdl_statements.specs.code.Contents.{parts_or_zero}
 unfoldable pub use Rattle.cdl_statements.specs.code.Contents.{value_of, values}
 pub use Rattle.cdl_statements.specs.code.Cutters.{first_piece, is_done, next_token, offset_of, text_of, tokens_left, version_of}
 unfoldable pub use Rattle.cdl_statements.specs.code.Cutters.{after, pieces_left, words}
-pub use Rattle.cdl_statements.specs.code.DueTokens.{is_value_of, is_whole, only, separator}
+pub use Rattle.cdl_statements.specs.code.DueTokens.{is_value_of, is_whole, next_if, separator}
 unfoldable pub use Rattle.cdl_statements.specs.code.DueTokens.{completes, next}
 pub use Rattle.cdl_statements.specs.code.ListedTokens.{IsAtComma, Passes, PassesNumber, PassesString, PassesUnderscore}
 pub use Rattle.cdl_statements.specs.code.Views.{lexeme_of, lexeme_with}
@@ -36,12 +36,12 @@ pub use Rattle.cdl_values.specs.code.Listed.{AreShaped, unlisted_draft, unlisted
 pub use Rattle.cdl_values.specs.code.Meant.{AllSuit, HasListed, Means, ReadsStatement, Suits, begins_brace, listed_bytes, names_of, result_array, with_listed}
 pub use Rattle.cdl_values.specs.code.NameIndices.{IsIndex, first_with_hash, hash_of, is_new, later_position, position_of, unless_first}
 unfoldable pub use Rattle.cdl_values.specs.code.NameIndices.{hash_on}
-pub use Rattle.cdl_values.specs.declared.{capacity.Capacity.Capacity, name_index.NameIndex.NameIndex, data.Given.Given, data.Target.Target, fill.Fill.Fill, filling.Filling.Filling, read_error.ReadError.ReadError}
+pub use Rattle.cdl_values.specs.declared.{capacity.Capacity.Capacity, name_index.NameIndex.NameIndex, data.StatementValues.StatementValues, data.Target.Target, fill.Fill.Fill, form.ValueForm.ValueForm, read_error.ReadError.ReadError}
 pub use Rattle.cdl_values.specs.code.PackedValues.{bytes_of, capacity_after, char_bytes, followed_by, greatest, held_bytes, is_full, is_exceeded_by, joined, capacity_minus, number_bytes, row_bytes, text_bytes, value_bytes}
 unfoldable pub use Rattle.cdl_values.specs.code.PackedValues.{packed}
 pub use Rattle.cdl_values.specs.code.ValueRuns.{GoesOn, Place, TakesOne, TakesValues, place}
 pub use Rattle.cdl_values.specs.declared.capacity.Capacity.TheVariants.{AtMost, Unlimited}
-pub use Rattle.cdl_values.specs.declared.filling.Filling.TheVariants.{Joined, Numbers, Rows}
+pub use Rattle.cdl_values.specs.declared.form.ValueForm.TheVariants.{Joined, Numbers, Rows}
 pub use Rattle.cdl_values.specs.declared.read_error.ReadError.TheVariants.{Fault, OutOfMemory}
 pub use Rattle.nc_base.specs.Names.{is_name}
 pub use Rattle.nc_base.specs.NumberLaws.{IsInRange}

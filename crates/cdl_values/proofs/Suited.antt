@@ -20,9 +20,9 @@ int_fill = record { ty = Int; value = neg_ℤ (pos 2147483647); in_range = searc
 
 targets : List Target
 targets =
-    record { filling = Numbers int_fill; capacity = AtMost 2; given = false } ∷
-    record { filling = Rows 3 0; capacity = AtMost 2; given = false } ∷ record { filling = Joined; capacity = AtMost 3; given = false } ∷
-    record { filling = Numbers int_fill; capacity = AtMost (2 ^ 64 - 1); given = false } ∷ []
+    record { form = Numbers int_fill; capacity = AtMost 2; given = false } ∷
+    record { form = Rows 3 0; capacity = AtMost 2; given = false } ∷ record { form = Joined; capacity = AtMost 3; given = false } ∷
+    record { form = Numbers int_fill; capacity = AtMost (2 ^ 64 - 1); given = false } ∷ []
 
 suited : AllSuit dims targets drafts
 unfolding dims drafts int_fill targets takes_of fill_value

@@ -1,34 +1,34 @@
 -- The values of a statement one by one: their bytes are the bytes of what the state lists.
 use Rattle.std.proofs.Common.{◌≡◌, ◌<◌, ◌≤◌, ℕ, zero, suc, ◌+◌, ◌-◌, ◌*◌, ℤ, false, List, [], ◌∷◌, ◌++◌, length, map, refl, sym, ap, ◌∙◌, arith, append-nil, length-append, rules, pos, Option, None, Some, Result, Ok, Err, not, replicate}
-use Rattle.cdl_values.proofs.Prelude.{flat_map, flat_map-append, Char, bytes_of_number, Value, Number, Characters, Underscore, CdlKind, Capacity, AtMost, Unlimited, add_value, in_turn, has_room, filled, Fills, taken_type, as_bytes, packed, followed_by, joined, bytes_of, capacity_after, is_full, is_exceeded_by, capacity_minus, char_bytes, Fill, Filling, length-map}
+use Rattle.cdl_values.proofs.Prelude.{flat_map, flat_map-append, Char, bytes_of_number, Value, Number, Characters, Underscore, CdlKind, Capacity, AtMost, Unlimited, add_value, in_turn, has_room, filled, Fills, taken_type, as_bytes, packed, followed_by, joined, bytes_of, capacity_after, is_full, is_exceeded_by, capacity_minus, char_bytes, Fill, ValueForm, length-map}
 use Rattle.cdl_statements.specs.State.{Takes}
 use Rattle.cdl_statements.specs.State as states
-use Rattle.cdl_values.specs.declared.filling.Filling.TheVariants as fillings
+use Rattle.cdl_values.specs.declared.form.ValueForm.TheVariants as fillings
 use Rattle.cdl_statements.proofs.ListedValues.{filled_len}
 use Rattle.cdl_values.proofs.Places.{values_at}
 use Rattle.cdl_values.proofs.PackedTokens.{joined_assoc, joined_none, chars_len, one_byte}
 
-abbrev bytes : Filling → List ℤ → List ℕ
+abbrev bytes : ValueForm → List ℤ → List ℕ
 bytes f values = flat_map (bytes_of_number (taken_type f)) values
 
 -- of this room this capacity is left after n values
-abbrev Left : Filling → Capacity → Option ℕ → ℕ → Type 0
+abbrev Left : ValueForm → Capacity → Option ℕ → ℕ → Type 0
 Left f Unlimited room n = room ≡ None
 Left f (AtMost left) room n = room ≡ Some (n + left * values_at f)
 
 -- a value has the same fault, or lists the same bytes
-abbrev Agree : Filling → Capacity → Option ℕ → List ℤ → Result (List ℤ) CdlKind → Result (List ℕ) CdlKind → Type 0
+abbrev Agree : ValueForm → Capacity → Option ℕ → List ℤ → Result (List ℤ) CdlKind → Result (List ℕ) CdlKind → Type 0
 Agree f capacity room before (Ok after) (Ok bs) = (bytes f after ≡ bytes f before ++ bs) × Left f (capacity_after f bs capacity) room (length after)
 Agree f capacity room before (Err e) (Err g) = e ≡ g
 Agree f capacity room before _ _ = ⊥
 
-room_is : (f : Filling) (capacity : Capacity) (room : Option ℕ) (before : List ℤ) → 0 < values_at f → Left f capacity room (length before) → has_room room before (values_at f) ≡ not (is_full capacity)
+room_is : (f : ValueForm) (capacity : Capacity) (room : Option ℕ) (before : List ℤ) → 0 < values_at f → Left f capacity room (length before) → has_room room before (values_at f) ≡ not (is_full capacity)
 room_is f Unlimited room before some left = rw (left) refl
 room_is f (AtMost zero) room before some left = rw (left) (grind (arith, some))
 room_is f (AtMost (suc k)) room before some left = rw (left) (grind arith)
 
 -- one position less
-one_less : (f : Filling) (capacity : Capacity) (room : Option ℕ) (n m : ℕ) → is_full capacity ≡ false → Left f capacity room n → m ≡ n + values_at f → Left f (capacity_minus 1 capacity) room m
+one_less : (f : ValueForm) (capacity : Capacity) (room : Option ℕ) (n m : ℕ) → is_full capacity ≡ false → Left f capacity room n → m ≡ n + values_at f → Left f (capacity_minus 1 capacity) room m
 one_less f Unlimited room n m off left is = left
 one_less f (AtMost zero) room n m off left is = cc
 one_less f (AtMost (suc k)) room n m off left is = left ∙ ap Some (grind (arith, is))
@@ -73,7 +73,7 @@ row_agrees : (len b : ℕ) (capacity : Capacity) (room : Option ℕ) (before : L
 row_agrees len b capacity room before (Characters bs) small left free = grind (arith, row_put len b capacity room before bs small left, free)
 row_agrees len b capacity room before _ small left free = refl
 
-agrees : (f : Filling) (takes : Takes) → Fills f takes → (capacity : Capacity) (room : Option ℕ) (before : List ℤ) (x : Value) → Left f capacity room (length before) →
+agrees : (f : ValueForm) (takes : Takes) → Fills f takes → (capacity : Capacity) (room : Option ℕ) (before : List ℤ) (x : Value) → Left f capacity room (length before) →
     Agree f capacity room before (add_value takes room before x) (bytes_of f capacity x)
 agrees (fillings.Numbers fill) takes h capacity room before x left =
     rw (h) (number_agrees fill capacity room before x left (room_is (fillings.Numbers fill) capacity room before (omega arith) left))
@@ -83,7 +83,7 @@ agrees (fillings.Rows len fill) takes h capacity room before x left =
     rw (h.0) (row_agrees len fill capacity room before x h.2 left (room_is (fillings.Rows len fill) capacity room before h.1 left))
 
 -- the bytes of the values one by one are the values packed
-turns : (f : Filling) (takes : Takes) → Fills f takes → (capacity : Capacity) (room : Option ℕ) (before : List ℤ) (xs : List Value) → Left f capacity room (length before) →
+turns : (f : ValueForm) (takes : Takes) → Fills f takes → (capacity : Capacity) (room : Option ℕ) (before : List ℤ) (xs : List Value) → Left f capacity room (length before) →
     as_bytes (taken_type f) (in_turn (add_value takes room) before xs) ≡ joined (Ok (bytes f before)) (packed f capacity xs)
 unfolding packed
 turns f takes h capacity room before [] left = ap Ok (sym (append-nil (bytes f before)))
@@ -99,6 +99,6 @@ turns f takes h capacity room before (x ∷ xs) left =
     by _ _ is more = absurd is
 
 -- all values of a variable
-pub all_turns : (f : Filling) (takes : Takes) → Fills f takes → (capacity : Capacity) (room : Option ℕ) (xs : List Value) → Left f capacity room 0 →
+pub all_turns : (f : ValueForm) (takes : Takes) → Fills f takes → (capacity : Capacity) (room : Option ℕ) (xs : List Value) → Left f capacity room 0 →
     as_bytes (taken_type f) (in_turn (add_value takes room) [] xs) ≡ packed f capacity xs
 all_turns f takes h capacity room xs left = turns f takes h capacity room [] xs left ∙ joined_none (packed f capacity xs)

@@ -1,6 +1,6 @@
 -- A run of values, one value on.
 use Rattle.std.proofs.Common.{◌≡◌, ℕ, Bool, true, false, List, [], ◌∷◌, ◌++◌, sym, ap, ◌∙◌, refl, subst, None, Ok, rules}
-use Rattle.cdl_values.proofs.Prelude.{Version, inner, string_value, value_of, values, is_done, version_of, words, completes, is_value_of, next, Lexeme, IsAtComma, Passes, PassesNumber, PassesString, PassesUnderscore, Characters, token_fault, lexeme_with, Cutter, Due, Separator, at_same_comma, same_after, same_words, good_on, Capacity, bytes_of, bytes_of_number, held_bytes, is_full, joined, capacity_minus, packed, row_bytes, GoesOn, Place, TakesValues, Fill, Filling, Numbers, Rows, past_mark}
+use Rattle.cdl_values.proofs.Prelude.{Version, inner, string_value, value_of, values, is_done, version_of, words, completes, is_value_of, next, Lexeme, IsAtComma, Passes, PassesNumber, PassesString, PassesUnderscore, Characters, token_fault, lexeme_with, Cutter, Due, Separator, at_same_comma, same_after, same_words, good_on, Capacity, bytes_of, bytes_of_number, held_bytes, is_full, joined, capacity_minus, packed, row_bytes, GoesOn, Place, TakesValues, Fill, ValueForm, Numbers, Rows, past_mark}
 use Rattle.cdl_tokens.specs.declared.numeral.Numeral.{Numeral}
 use Rattle.cdl_tokens.specs.declared.token.TokenKind.TheVariants as kinds
 use Rattle.cdl_statements.specs.code.NumberLists as lists
@@ -13,36 +13,36 @@ abbrev pub reached : Cutter → List ℕ → Capacity → Place
 reached cutter bytes left = record { cutter = cutter; bytes = bytes; left = left }
 
 -- nothing is passed
-pub unmoved : (due : Due) (filling : Filling) (start : Place) → is_done start.cutter ≡ false → GoesOn due filling start start
-unmoved due filling start goes = search rules
+pub unmoved : (due : Due) (form : ValueForm) (start : Place) → is_done start.cutter ≡ false → GoesOn due form start start
+unmoved due form start goes = search rules
 
-pub stays : (takes_fill : Bool) (filling : Filling) (start : Place) → IsAtComma start.cutter → TakesValues takes_fill filling start start
-stays takes_fill filling start at = record { at = at; on = unmoved (Separator takes_fill) filling start at.goes }
+pub stays : (takes_fill : Bool) (form : ValueForm) (start : Place) → IsAtComma start.cutter → TakesValues takes_fill form start start
+stays takes_fill form start at = record { at = at; on = unmoved (Separator takes_fill) form start at.goes }
 
 -- one run after the other
-further : (due : Due) (filling : Filling) (start between rest : Place) → GoesOn due filling start between → GoesOn due filling between rest → GoesOn due filling start rest
-further due filling start between rest so next = search (rules, words, joined, values)
+further : (due : Due) (form : ValueForm) (start between rest : Place) → GoesOn due form start between → GoesOn due form between rest → GoesOn due form start rest
+further due form start between rest so next = search (rules, words, joined, values)
 
-pub takes_further : (takes_fill : Bool) (filling : Filling) (start between rest : Place) → TakesValues takes_fill filling start between → TakesValues takes_fill filling between rest → TakesValues takes_fill filling start rest
-takes_further takes_fill filling start between rest so next = record { at = next.at; on = further (Separator takes_fill) filling start between rest so.on next.on }
+pub takes_further : (takes_fill : Bool) (form : ValueForm) (start between rest : Place) → TakesValues takes_fill form start between → TakesValues takes_fill form between rest → TakesValues takes_fill form start rest
+takes_further takes_fill form start between rest so next = record { at = next.at; on = further (Separator takes_fill) form start between rest so.on next.on }
 
 -- a comma and a good value more, whose bytes are added
-pub value_on : (takes_fill : Bool) (filling : Filling) (start rest : Place) (l : Lexeme) → IsAtComma start.cutter → Passes start.cutter rest.cutter l →
+pub value_on : (takes_fill : Bool) (form : ValueForm) (start rest : Place) (l : Lexeme) → IsAtComma start.cutter → Passes start.cutter rest.cutter l →
     token_fault (version_of start.cutter) l.kind l.bytes ≡ None → is_value_of takes_fill l l.kind ≡ true →
-    ((ls : List Lexeme) → joined (Ok start.bytes) (packed filling start.left (values (version_of start.cutter) (l ∷ ls))) ≡ joined (Ok rest.bytes) (packed filling rest.left (values (version_of start.cutter) ls))) →
-    TakesValues takes_fill filling start rest
+    ((ls : List Lexeme) → joined (Ok start.bytes) (packed form start.left (values (version_of start.cutter) (l ∷ ls))) ≡ joined (Ok rest.bytes) (packed form rest.left (values (version_of start.cutter) ls))) →
+    TakesValues takes_fill form start rest
 unfolding completes next
-value_on takes_fill filling start rest l at passes good value packs = search (rules, words, good_on, next, joined, values, past_mark)
+value_on takes_fill form start rest l at passes good value packs = search (rules, words, good_on, next, joined, values, past_mark)
 
 -- the same where the version is known by another name
-pub token_on : (takes_fill : Bool) (filling : Filling) (v : Version) (start rest : Place) (l : Lexeme) → v ≡ version_of start.cutter → IsAtComma start.cutter → Passes start.cutter rest.cutter l →
+pub token_on : (takes_fill : Bool) (form : ValueForm) (v : Version) (start rest : Place) (l : Lexeme) → v ≡ version_of start.cutter → IsAtComma start.cutter → Passes start.cutter rest.cutter l →
     token_fault v l.kind l.bytes ≡ None → is_value_of takes_fill l l.kind ≡ true →
-    ((ls : List Lexeme) → joined (Ok start.bytes) (packed filling start.left (values v (l ∷ ls))) ≡ joined (Ok rest.bytes) (packed filling rest.left (values v ls))) →
-    TakesValues takes_fill filling start rest
-token_on takes_fill filling v start rest l version at passes good value packs =
+    ((ls : List Lexeme) → joined (Ok start.bytes) (packed form start.left (values v (l ∷ ls))) ≡ joined (Ok rest.bytes) (packed form rest.left (values v ls))) →
+    TakesValues takes_fill form start rest
+token_on takes_fill form v start rest l version at passes good value packs =
     let good_there = subst (λ (v : Version). token_fault v l.kind l.bytes ≡ None) version good in
-    let packs_there = subst (λ (v : Version). (ls : List Lexeme) → joined (Ok start.bytes) (packed filling start.left (values v (l ∷ ls))) ≡ joined (Ok rest.bytes) (packed filling rest.left (values v ls))) version packs in
-    value_on takes_fill filling start rest l at passes good_there value packs_there
+    let packs_there = subst (λ (v : Version). (ls : List Lexeme) → joined (Ok start.bytes) (packed form start.left (values v (l ∷ ls))) ≡ joined (Ok rest.bytes) (packed form rest.left (values v ls))) version packs in
+    value_on takes_fill form start rest l at passes good_there value packs_there
 
 -- a number more
 pub number_on : (takes_fill : Bool) (fill : Fill) (start rest : Place) (n : Numeral) → IsAtComma start.cutter → PassesNumber start.cutter rest.cutter n → is_full start.left ≡ false →
@@ -76,11 +76,11 @@ row_on takes_fill len fill start rest bytes at passes full adds left =
     value_on takes_fill (Rows len fill) start rest l at passes.passes refl refl (λ ls. token_packed v (Rows len fill) start.left rest.left l ls start.bytes rest.bytes refl sum left)
 
 -- the same place
-pub ended : (takes_fill : Bool) (filling : Filling) (start there : Place) (cutter : Cutter) (left : Capacity) → cutter ≡ there.cutter → left ≡ there.left → TakesValues takes_fill filling start there →
-    TakesValues takes_fill filling start (reached cutter there.bytes left)
-ended takes_fill filling start there cutter left same_place same_left so = search (rules, reached)
+pub ended : (takes_fill : Bool) (form : ValueForm) (start there : Place) (cutter : Cutter) (left : Capacity) → cutter ≡ there.cutter → left ≡ there.left → TakesValues takes_fill form start there →
+    TakesValues takes_fill form start (reached cutter there.bytes left)
+ended takes_fill form start there cutter left same_place same_left so = search (rules, reached)
 
 -- a cutter at the same place
-pub ended_at : (takes_fill : Bool) (filling : Filling) (start there : Place) (cutter : Cutter) (left : Capacity) → lists.SamePlace cutter there.cutter → left ≡ there.left → TakesValues takes_fill filling start there →
-    TakesValues takes_fill filling start (reached cutter there.bytes left)
-ended_at takes_fill filling start there cutter left same same_left so = search (rules, same_words, at_same_comma, joined, values, words, same_after)
+pub ended_at : (takes_fill : Bool) (form : ValueForm) (start there : Place) (cutter : Cutter) (left : Capacity) → lists.SamePlace cutter there.cutter → left ≡ there.left → TakesValues takes_fill form start there →
+    TakesValues takes_fill form start (reached cutter there.bytes left)
+ended_at takes_fill form start there cutter left same same_left so = search (rules, same_words, at_same_comma, joined, values, words, same_after)

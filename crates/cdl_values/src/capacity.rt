@@ -2,7 +2,7 @@
 
 ghost use Rattle.std.specs.Prelude.{◌≡◌, ◌<◌, ℕ, false};
 
-/// How many more values a variable takes. They are numbers, bytes or rows, as its [`Filling`](crate::Filling) counts them.
+/// How many more values a variable takes. They are numbers, bytes or rows, as its [`ValueForm`](crate::ValueForm) counts them.
 #[derive(Clone, Copy)]
 pub enum Capacity {
     /// Any number of values.

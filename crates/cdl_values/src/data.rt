@@ -9,11 +9,11 @@ ghost use Rattle.cdl_values.specs.code.Meant.{MeansWhatIsGiven, name_said};
 ghost use Rattle.cdl_values.specs.code.NameIndices.{IsPosition};
 
 use crate::capacity::Capacity;
-use crate::filling::Filling;
+use crate::form::ValueForm;
 use crate::name::read_name;
 use crate::packing::{pack, pack_and_check};
 use crate::read_error::ReadError;
-use crate::value::FastPathFault;
+use crate::value::QuickPassFault;
 use crate::variable_names::VariableNames;
 use cdl_statements::{CdlKind, Cutter, Due, check_shape_by_due};
 use nc_base::ListedArray;
@@ -23,8 +23,8 @@ use std::alloc::Global;
 #[derive(Clone, Copy)]
 pub struct Target {
     /// The form in which it takes values.
-    pub filling: Filling,
-    /// How many numbers, bytes or rows it takes, as `filling` counts them.
+    pub form: ValueForm,
+    /// How many numbers, bytes or rows it takes, as `form` counts them.
     pub capacity: Capacity,
     /// True if an earlier statement gave its values.
     pub given: bool,
@@ -40,7 +40,7 @@ struct FoundTarget {
 
 /// What a statement of the data section gives to its variable.
 #[derive(Drop)]
-pub struct Given<'a> {
+pub struct StatementValues<'a> {
     /// The variable's position among the names.
     pub position: u64,
     /// The bytes of the values that the statement lists.
@@ -63,7 +63,7 @@ pub fn read_data_statement<'a>(
     names: &VariableNames<'_>,
     targets: &[Target],
     start: Cutter<'a>,
-) -> Result<Given<'a>, ReadError>
+) -> Result<StatementValues<'a>, ReadError>
     requires { is_done start ≡ false }
     ensures means { MeansWhatIsGiven start.entry names.now targets.now result }
     ensures position { IfOk result (λ g. IsPosition names.now (name_said start.entry) g.position) }
@@ -80,7 +80,7 @@ fn read_quickly_or_slowly<'a>(
     names: &VariableNames<'_>,
     targets: &[Target],
     start: Cutter<'a>,
-) -> Result<Given<'a>, ReadError>
+) -> Result<StatementValues<'a>, ReadError>
     requires { is_done start ≡ false }
     ensures read { GivesRead (λ g. g.array) result (statement_read start.entry names.now targets.now) }
     ensures position { IfOk result (λ g. IsPosition names.now (name_said start.entry) g.position) }
@@ -88,8 +88,8 @@ fn read_quickly_or_slowly<'a>(
 {
     match read_quickly(alloc, names, targets, start) {
         Ok(given) => Ok(given),
-        Err(FastPathFault::OutOfMemory) => Err(ReadError::OutOfMemory),
-        Err(FastPathFault::Unnamed) => read_slowly(alloc, names, targets, start),
+        Err(QuickPassFault::OutOfMemory) => Err(ReadError::OutOfMemory),
+        Err(QuickPassFault::Unnamed) => read_slowly(alloc, names, targets, start),
     }
 }
 
@@ -100,7 +100,7 @@ fn read_quickly<'a>(
     names: &VariableNames<'_>,
     targets: &[Target],
     start: Cutter<'a>,
-) -> Result<Given<'a>, FastPathFault>
+) -> Result<StatementValues<'a>, QuickPassFault>
     requires { is_done start ≡ false }
     ensures read { IfOk result (λ g. statement_read start.entry names.now targets.now ≡ Ok g.array) }
     ensures position { IfOk result (λ g. IsPosition names.now (name_said start.entry) g.position) }
@@ -110,25 +110,25 @@ fn read_quickly<'a>(
     let equals_due = Due::DataName.after(name);
     let (equals, name_ends) = start.advanced();
     if name_ends {
-        return Err(FastPathFault::Unnamed);
+        return Err(QuickPassFault::Unnamed);
     }
     let sign = equals.lexeme();
     let value_due = equals_due.after(sign);
     let (value, sign_ends) = equals.advanced();
     if sign_ends {
-        return Err(FastPathFault::Unnamed);
+        return Err(QuickPassFault::Unnamed);
     }
     match value_due {
         Due::Value { takes_fill } => {
             if !takes_fill {
-                return Err(FastPathFault::Unnamed);
+                return Err(QuickPassFault::Unnamed);
             }
         }
-        _ => return Err(FastPathFault::Unnamed),
+        _ => return Err(QuickPassFault::Unnamed),
     }
     let FoundTarget { position, target } = target_of(alloc, names, targets, name.bytes)?;
-    let packed = pack_and_check(alloc, value, target.filling, target.capacity)?;
-    Ok(Given {
+    let packed = pack_and_check(alloc, value, target.form, target.capacity)?;
+    Ok(StatementValues {
         position,
         array: packed.array,
         rest: packed.rest,
@@ -143,7 +143,7 @@ fn read_slowly<'a>(
     names: &VariableNames<'_>,
     targets: &[Target],
     start: Cutter<'a>,
-) -> Result<Given<'a>, ReadError>
+) -> Result<StatementValues<'a>, ReadError>
     requires { is_done start ≡ false }
     ensures read { GivesRead (λ g. g.array) result (statement_read start.entry names.now targets.now) }
     ensures position { IfOk result (λ g. IsPosition names.now (name_said start.entry) g.position) }
@@ -160,8 +160,8 @@ fn read_slowly<'a>(
     let (equals, _) = start.advanced();
     let (value, _) = equals.advanced();
     let FoundTarget { position, target } = target_of(alloc, names, targets, name.bytes)?;
-    let array = pack(alloc, value, target.filling, target.capacity)?;
-    Ok(Given {
+    let array = pack(alloc, value, target.form, target.capacity)?;
+    Ok(StatementValues {
         position,
         array,
         rest: found.rest,

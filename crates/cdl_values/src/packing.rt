@@ -8,9 +8,9 @@ ghost use Rattle.cdl_values.specs.code.Answers.{GivesRead};
 ghost use Rattle.cdl_values.specs.code.TokenValues.{packed_from};
 
 use crate::capacity::Capacity;
-use crate::filling::Filling;
+use crate::form::ValueForm;
 use crate::read_error::ReadError;
-use crate::value::{FastPathFault, put_checked_token, put_token};
+use crate::value::{QuickPassFault, put_checked_token, put_token};
 use crate::value_run::{UnreadValues, take_run};
 use cdl_statements::{Cutter, Due};
 use nc_base::ListedArray;
@@ -26,7 +26,7 @@ pub struct Packed<'a> {
 }
 
 /// Packs the values from the next token of `start` to the end of the statement, and returns their bytes, big-endian and one after the
-/// other. `filling` is the form in which the variable takes values, and `capacity` is how many it takes. Unlike [`pack_and_check`], it
+/// other. `form` is the form in which the variable takes values, and `capacity` is how many it takes. Unlike [`pack_and_check`], it
 /// checks neither the tokens nor their shape.
 ///
 /// # Errors
@@ -36,11 +36,11 @@ pub struct Packed<'a> {
 pub fn pack(
     alloc: Global,
     start: Cutter<'_>,
-    filling: Filling,
+    form: ValueForm,
     capacity: Capacity,
 ) -> Result<ListedArray, ReadError>
     requires { is_done start ≡ false }
-    ensures { GivesRead (λ a. a) result (packed_from filling capacity start.entry) }
+    ensures { GivesRead (λ a. a) result (packed_from form capacity start.entry) }
 {
     let version = start.version();
     let mut cutter = start;
@@ -49,7 +49,7 @@ pub fn pack(
     'tokens: loop {
         let token = cutter.lexeme();
         let ends = cutter.advance();
-        left = put_token(&mut array, version, filling, left, token)?;
+        left = put_token(&mut array, version, form, left, token)?;
         if ends {
             return Ok(array);
         }
@@ -58,7 +58,7 @@ pub fn pack(
 
 /// Packs the values from the next token of `start` to the end of the statement, and checks the tokens and their shape in the same pass.
 /// Unlike [`pack`], it doesn't say which fault it finds: it belongs to the quick pass. Returns the bytes of the values, big-endian and one
-/// after the other, and the cutter after the statement. `filling` is the form in which the variable takes values, and `capacity` is how
+/// after the other, and the cutter after the statement. `form` is the form in which the variable takes values, and `capacity` is how
 /// many it takes.
 ///
 /// # Errors
@@ -69,13 +69,13 @@ pub fn pack(
 pub fn pack_and_check<'a>(
     alloc: Global,
     start: Cutter<'a>,
-    filling: Filling,
+    form: ValueForm,
     capacity: Capacity,
-) -> Result<Packed<'a>, FastPathFault>
+) -> Result<Packed<'a>, QuickPassFault>
     requires { is_done start ≡ false }
     ensures bad { OnOk result (first_bad (version_of start.entry) (words start.entry) ≡ None) }
     ensures shaped { OnOk result (completes (Due.Value true) (words start.entry) ≡ true) }
-    ensures packs { IfOk result (λ p. packed_from filling capacity start.entry ≡ Ok p.array) }
+    ensures packs { IfOk result (λ p. packed_from form capacity start.entry ≡ Ok p.array) }
     ensures rest { IfOk result (λ p. Follows start.entry p.rest) }
 {
     let version = start.version();
@@ -90,7 +90,7 @@ pub fn pack_and_check<'a>(
         let ends = unread.cutter.advance();
         let capacity = unread.capacity;
         (unread.capacity, due) = put_checked_token(
-            &mut array, version, &filling, capacity, due, token,
+            &mut array, version, &form, capacity, due, token,
         )?;
         if ends {
             if due.is_whole() {
@@ -99,8 +99,8 @@ pub fn pack_and_check<'a>(
                     rest: unread.cutter,
                 });
             }
-            return Err(FastPathFault::Unnamed);
+            return Err(QuickPassFault::Unnamed);
         }
-        unread = take_run(&mut array, unread, &filling, due)?;
+        unread = take_run(&mut array, unread, &form, due)?;
     }
 }

@@ -12,7 +12,7 @@ ghost use Rattle.cdl_values.specs.code.Meant.{SuitVariables, Suits};
 use crate::capacity::Capacity;
 use crate::data::Target;
 use crate::fill::Fill;
-use crate::filling::Filling;
+use crate::form::ValueForm;
 use nc_base::{Dim, NcType, Var, dim_len, fill_of, is_record_var};
 use std::alloc::{AllocError, Global};
 
@@ -40,54 +40,54 @@ pub fn targets_of(alloc: Global, dims: &[Dim], vars: &[Var]) -> Result<Vec<Targe
 fn target(dims: &[Dim], var: &Var) -> Target
     ensures { AreDimids dims.now [] var.now.dimids → Suits dims.now result (unlisted_draft var.now) }
 {
-    let filling = filling(dims, var);
+    let form = form(dims, var);
     Target {
-        filling,
-        capacity: capacity(dims, var, filling),
+        form,
+        capacity: capacity(dims, var, form),
         given: false,
     }
 }
 
-/// Returns the [`Filling`] of a variable, which is not its fill value but the form in which it takes the values that the data section lists
+/// Returns the [`ValueForm`] of a variable, which is not its fill value but the form in which it takes the values that the data section lists
 /// for it: strings if its type is char, otherwise numbers of its type.
-fn filling(dims: &[Dim], var: &Var) -> Filling
+fn form(dims: &[Dim], var: &Var) -> ValueForm
     ensures { AreDimids dims.now [] var.now.dimids → Fills result (takes_of dims.now var.now) }
 {
     match var.ty {
         NcType::Char => characters(dims, var),
-        ty => Filling::Numbers(Fill::new(ty, fill_of(var))),
+        ty => ValueForm::Numbers(Fill::new(ty, fill_of(var))),
     }
 }
 
-/// Returns the [`Filling`] of a variable of the type char: joined strings at rank 0 and 1, otherwise a string for each row.
-fn characters(dims: &[Dim], var: &Var) -> Filling
+/// Returns the [`ValueForm`] of a variable of the type char: joined strings at rank 0 and 1, otherwise a string for each row.
+fn characters(dims: &[Dim], var: &Var) -> ValueForm
     requires { var.now.ty ≡ Char }
     ensures { AreDimids dims.now [] var.now.dimids → Fills result (takes_of dims.now var.now) }
 {
     let dimids = var.dimids.as_slice();
     if dimids.len() < 2 {
-        return Filling::Joined;
+        return ValueForm::Joined;
     }
-    Filling::Rows {
+    ValueForm::Rows {
         len: dim_len(dims, dimids[dimids.len() - 1]),
         fill: fill_of(var) as u8,
     }
 }
 
-/// Returns how many values a variable takes from the data section: numbers, bytes or rows, as its form `filling` counts them. A record
+/// Returns how many values a variable takes from the data section: numbers, bytes or rows, as its form `form` counts them. A record
 /// variable has no limit.
 #[tactic(auto, unfolding(cdl_statements::specs::State::takes_of))]
-fn capacity(dims: &[Dim], var: &Var, filling: Filling) -> Capacity
-    ensures { HasCapacityAsFilled dims.now var.now filling result }
+fn capacity(dims: &[Dim], var: &Var, form: ValueForm) -> Capacity
+    ensures { HasCapacityAsFilled dims.now var.now form result }
 {
     let dimids = var.dimids.as_slice();
     if is_record_var(dims, var) {
         return Capacity::Unlimited;
     }
-    match filling {
-        Filling::Numbers(_) => Capacity::AtMost(place_count(dims, dimids)),
-        Filling::Joined => Capacity::AtMost(first_len(dims, dimids)),
-        Filling::Rows { .. } => Capacity::AtMost(place_count(dims, all_but_last(dimids))),
+    match form {
+        ValueForm::Numbers(_) => Capacity::AtMost(place_count(dims, dimids)),
+        ValueForm::Joined => Capacity::AtMost(first_len(dims, dimids)),
+        ValueForm::Rows { .. } => Capacity::AtMost(place_count(dims, all_but_last(dimids))),
     }
 }
 

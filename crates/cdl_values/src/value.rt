@@ -1,4 +1,4 @@
-//! The values of the data section, one at a time. `filling` is the form in which the variable takes values, and `capacity` is how many more
+//! The values of the data section, one at a time. `form` is the form in which the variable takes values, and `capacity` is how many more
 //! it takes.
 
 ghost use Rattle.std.specs.Prelude.{◌≡◌, None, OnOk, IfOk};
@@ -12,7 +12,7 @@ ghost use Rattle.cdl_values.specs.code.TokenValues.{at, number_token_bytes, toke
 
 use crate::capacity::Capacity;
 use crate::fill::Fill;
-use crate::filling::Filling;
+use crate::form::ValueForm;
 use crate::number::{number_or_zero, pack_number, put_numeral};
 use crate::read_error::ReadError;
 use crate::string::{put_joined_string, put_row};
@@ -22,24 +22,24 @@ use nc_base::{ListedArray, Version};
 
 /// Why the quick pass over a statement stops. It doesn't name the fault of the statement.
 #[derive(Clone, Copy)]
-pub enum FastPathFault {
+pub enum QuickPassFault {
     /// An allocation failed.
     OutOfMemory,
     /// The statement has some fault.
     Unnamed,
 }
 
-impl From<ReadError> for FastPathFault {
+impl From<ReadError> for QuickPassFault {
     ghost use Rattle.cdl_values.specs.declared.read_error.ReadError.{ReadError};
-    ghost use Rattle.cdl_values.specs.declared.value.FastPathFault.{FastPathFault};
+    ghost use Rattle.cdl_values.specs.declared.value.QuickPassFault.{QuickPassFault};
 
-    ghost from_gives = { λ error stop. (error ≡ ReadError.OutOfMemory → stop ≡ FastPathFault.OutOfMemory) × ((kind : CdlKind) → error ≡ ReadError.Fault kind → stop ≡ FastPathFault.Unnamed) };
+    ghost from_gives = { λ error stop. (error ≡ ReadError.OutOfMemory → stop ≡ QuickPassFault.OutOfMemory) × ((kind : CdlKind) → error ≡ ReadError.Fault kind → stop ≡ QuickPassFault.Unnamed) };
 
     /// Returns `OutOfMemory` for `OutOfMemory`, and `Unnamed` for a fault of any kind, for `?` in the quick pass over a statement.
-    fn from(error: ReadError) -> FastPathFault {
+    fn from(error: ReadError) -> QuickPassFault {
         match error {
-            ReadError::OutOfMemory => FastPathFault::OutOfMemory,
-            ReadError::Fault(_) => FastPathFault::Unnamed,
+            ReadError::OutOfMemory => QuickPassFault::OutOfMemory,
+            ReadError::Fault(_) => QuickPassFault::Unnamed,
         }
     }
 }
@@ -51,18 +51,18 @@ impl From<ReadError> for FastPathFault {
 pub fn put_token(
     array: &mut ListedArray,
     version: Version,
-    filling: Filling,
+    form: ValueForm,
     capacity: Capacity,
     token: Lexeme<'_>,
 ) -> Result<Capacity, ReadError>
-    ensures { PacksToken version filling token.entry (at array.old capacity) array.new result }
+    ensures { PacksToken version form token.entry (at array.old capacity) array.new result }
 {
     match token.kind {
         TokenKind::Mark => Ok(capacity),
         _ => {
             let before = array.len();
-            put_token_value(array, version, filling, capacity, token)?;
-            Ok(filling.capacity_after(array.len().saturating_sub(before), capacity))
+            put_token_value(array, version, form, capacity, token)?;
+            Ok(form.capacity_after(array.len().saturating_sub(before), capacity))
         }
     }
 }
@@ -75,20 +75,20 @@ pub fn put_token(
 pub fn put_checked_token(
     array: &mut ListedArray,
     version: Version,
-    filling: &Filling,
+    form: &ValueForm,
     capacity: Capacity,
     due: Due,
     token: Lexeme<'_>,
-) -> Result<(Capacity, Due), FastPathFault>
+) -> Result<(Capacity, Due), QuickPassFault>
     ensures good { OnOk result (token_fault version token.entry.kind token.entry.bytes.now ≡ None) }
     ensures shape { IfOk result (λ r. r.1 ≡ next due (lexeme_of token.entry)) }
-    ensures packs { TakesGood version filling.now token.entry (at array.old capacity) array.new result }
+    ensures packs { TakesGood version form.now token.entry (at array.old capacity) array.new result }
 {
     let then = due.after(token);
     match token.kind {
         TokenKind::Mark => Ok((capacity, then)),
         _ => {
-            let left = put_checked_value(array, version, filling, capacity, token)?;
+            let left = put_checked_value(array, version, form, capacity, token)?;
             Ok((left, then))
         }
     }
@@ -99,25 +99,25 @@ pub fn put_checked_token(
 pub fn put_checked_value(
     array: &mut ListedArray,
     version: Version,
-    filling: &Filling,
+    form: &ValueForm,
     capacity: Capacity,
     token: Lexeme<'_>,
-) -> Result<Capacity, FastPathFault>
+) -> Result<Capacity, QuickPassFault>
     requires { token.kind ≡ TokenKind.Mark → ⊥ }
     ensures good { OnOk result (token_fault version token.entry.kind token.entry.bytes.now ≡ None) }
-    ensures packs { PacksGood version filling.now token.entry (at array.old capacity) array.new result }
+    ensures packs { PacksGood version form.now token.entry (at array.old capacity) array.new result }
 {
     match token.kind {
         // A number is one value, so that its bytes needn't be counted.
         TokenKind::Number => {
-            put_checked_number(array, version, *filling, capacity, token.bytes)?;
+            put_checked_number(array, version, *form, capacity, token.bytes)?;
             Ok(capacity.minus(1))
         }
         _ => {
             let before = array.len();
-            put_non_number(array, version, filling, capacity, token)?;
+            put_non_number(array, version, form, capacity, token)?;
             let added = array.len().saturating_sub(before);
-            Ok(filling.capacity_after(added, capacity))
+            Ok(form.capacity_after(added, capacity))
         }
     }
 }
@@ -129,46 +129,46 @@ pub fn put_checked_value(
 fn put_non_number(
     array: &mut ListedArray,
     version: Version,
-    filling: &Filling,
+    form: &ValueForm,
     capacity: Capacity,
     token: Lexeme<'_>,
-) -> Result<(), FastPathFault>
+) -> Result<(), QuickPassFault>
     requires { token.kind ≡ TokenKind.Number → ⊥ }
     ensures good { OnOk result (token_fault version token.entry.kind token.entry.bytes.now ≡ None) }
-    ensures adds { Appends version filling.now token.entry (at array.old capacity) array.new result }
+    ensures adds { Appends version form.now token.entry (at array.old capacity) array.new result }
 {
     match token.kind {
-        TokenKind::Bad => Err(FastPathFault::Unnamed),
-        _ => Ok(put_token_value(array, version, *filling, capacity, token)?),
+        TokenKind::Bad => Err(QuickPassFault::Unnamed),
+        _ => Ok(put_token_value(array, version, *form, capacity, token)?),
     }
 }
 
-/// Appends to `array` the bytes of a number. `bytes` is its token. Errs with `Unnamed` if the filling isn't `Numbers`, if the capacity is
+/// Appends to `array` the bytes of a number. `bytes` is its token. Errs with `Unnamed` if the form isn't `Numbers`, if the capacity is
 /// 0, if the token is no number of the version, or if the number is out of the type's range. Errs with `OutOfMemory` if an allocation
 /// failed. Nothing is appended in any of these cases.
 #[tactic(auto, unfolding(cdl_statements::specs::code::Contents::value_of), using(crate::proofs::Ranges::number_added, cdl_statements::proofs::PassedValues::good_number))]
 fn put_checked_number(
     array: &mut ListedArray,
     version: Version,
-    filling: Filling,
+    form: ValueForm,
     capacity: Capacity,
     bytes: &[u8],
-) -> Result<(), FastPathFault>
+) -> Result<(), QuickPassFault>
     ensures good { OnOk result (token_fault version TokenKind.Number bytes.now ≡ None) }
-    ensures counts { OnOk result (CountsOne filling capacity) }
-    ensures adds { AppendsNumber version filling bytes.now (at array.old capacity) array.new result }
+    ensures counts { OnOk result (CountsOne form capacity) }
+    ensures adds { AppendsNumber version form bytes.now (at array.old capacity) array.new result }
 {
-    let Filling::Numbers(fill) = filling else {
-        return Err(FastPathFault::Unnamed);
+    let ValueForm::Numbers(fill) = form else {
+        return Err(QuickPassFault::Unnamed);
     };
     if capacity.is_full() {
-        return Err(FastPathFault::Unnamed);
+        return Err(QuickPassFault::Unnamed);
     }
-    let n = number_of_token(version, bytes).ok_or(FastPathFault::Unnamed)?;
+    let n = number_of_token(version, bytes).ok_or(QuickPassFault::Unnamed)?;
     Ok(put_numeral(array, fill.ty, n)?)
 }
 
-/// Appends to `array` the bytes of the value that `token` says, in the form `filling`. Don't call it for a mark: any token that is neither
+/// Appends to `array` the bytes of the value that `token` says, in the form `form`. Don't call it for a mark: any token that is neither
 /// a number nor a string counts as `_`. `version` decides which suffixes a number may have. Errs with `WrongKind`, `TooManyValues`,
 /// `NumberRange` or `StringTooLong` if the value has that fault, and with `OutOfMemory` if an allocation failed. After `StringTooLong` or
 /// `OutOfMemory`, bytes of a string may be appended.
@@ -176,20 +176,20 @@ fn put_checked_number(
 fn put_token_value(
     array: &mut ListedArray,
     version: Version,
-    filling: Filling,
+    form: ValueForm,
     capacity: Capacity,
     token: Lexeme<'_>,
 ) -> Result<(), ReadError>
-    ensures { Adds array.old array.new result (token_bytes filling capacity version token.entry) }
+    ensures { Adds array.old array.new result (token_bytes form capacity version token.entry) }
 {
     let full = capacity.is_full();
-    match filling {
-        Filling::Numbers(fill) => put_number_or_fill(array, version, fill, full, token),
-        Filling::Joined => match token.kind {
+    match form {
+        ValueForm::Numbers(fill) => put_number_or_fill(array, version, fill, full, token),
+        ValueForm::Joined => match token.kind {
             TokenKind::Text => put_joined_string(array, capacity, token.bytes),
             _ => Err(ReadError::Fault(CdlKind::WrongKind)),
         },
-        Filling::Rows { len, fill } => match token.kind {
+        ValueForm::Rows { len, fill } => match token.kind {
             TokenKind::Text => put_row(array, len, fill, full, token.bytes),
             _ => Err(ReadError::Fault(CdlKind::WrongKind)),
         },

@@ -9,11 +9,11 @@ ghost use Rattle.cdl_values.specs.code.ValueRuns.{GoesTo, IfTaken, TakesOne, Tak
 
 use crate::capacity::Capacity;
 use crate::fill::Fill;
-use crate::filling::Filling;
+use crate::form::ValueForm;
 use crate::number::{pack_number, put_numeral_inline};
 use crate::read_error::ReadError;
 use crate::string::put_plain_row;
-use crate::value::{FastPathFault, put_checked_value};
+use crate::value::{QuickPassFault, put_checked_value};
 use cdl_statements::{Cutter, Due, NumberList};
 use nc_base::{ListedArray, NcType};
 
@@ -37,15 +37,15 @@ pub struct UnreadValues<'a> {
 pub fn take_run<'a>(
     array: &mut ListedArray,
     start: UnreadValues<'a>,
-    filling: &Filling,
+    form: &ValueForm,
     due: Due,
-) -> Result<UnreadValues<'a>, FastPathFault>
+) -> Result<UnreadValues<'a>, QuickPassFault>
     requires { is_done start.cutter ≡ false }
-    ensures { GoesTo due filling.now (place start.entry array.old) array.new result }
+    ensures { GoesTo due form.now (place start.entry array.old) array.new result }
 {
     match due {
         Due::Separator { takes_fill } if start.cutter.is_at_comma() => {
-            take_values(array, start, filling, takes_fill)
+            take_values(array, start, form, takes_fill)
         }
         _ => Ok(start),
     }
@@ -58,11 +58,11 @@ pub fn take_run<'a>(
 fn take_values<'a>(
     array: &mut ListedArray,
     start: UnreadValues<'a>,
-    filling: &Filling,
+    form: &ValueForm,
     takes_fill: bool,
-) -> Result<UnreadValues<'a>, FastPathFault>
+) -> Result<UnreadValues<'a>, QuickPassFault>
     requires { IsAtComma start.cutter }
-    ensures { TakesTo takes_fill filling.now (place start.entry array.old) array.new result }
+    ensures { TakesTo takes_fill form.now (place start.entry array.old) array.new result }
 {
     let version = start.cutter.version();
     let mut unread = start;
@@ -71,32 +71,32 @@ fn take_values<'a>(
             return Ok(unread);
         };
         if !token.is_value(takes_fill) {
-            return Err(FastPathFault::Unnamed);
+            return Err(QuickPassFault::Unnamed);
         }
-        unread.capacity = put_checked_value(array, version, filling, unread.capacity, token)?;
+        unread.capacity = put_checked_value(array, version, form, unread.capacity, token)?;
         if token.may_precede_plain() {
-            unread = take_plain_values(array, unread, filling, takes_fill)?;
+            unread = take_plain_values(array, unread, form, takes_fill)?;
         }
     }
 }
 
 /// Appends to `array` the plain values that come next, and returns what is unread after them: plain numbers and `_`, or plain strings.
-/// Returns `start` if the filling is `Joined`, which has no loop for plain strings. Needs a cutter at a comma, with its scanner just after
+/// Returns `start` if the form is `Joined`, which has no loop for plain strings. Needs a cutter at a comma, with its scanner just after
 /// this comma. Errs with `Unnamed` if a value has a fault, and with `OutOfMemory` if an allocation failed; the values before stay appended.
 fn take_plain_values<'a>(
     array: &mut ListedArray,
     start: UnreadValues<'a>,
-    filling: &Filling,
+    form: &ValueForm,
     takes_fill: bool,
-) -> Result<UnreadValues<'a>, FastPathFault>
+) -> Result<UnreadValues<'a>, QuickPassFault>
     requires at { IsAtComma start.cutter }
     requires ends { EndsAtScanner start.cutter }
-    ensures { TakesTo takes_fill filling.now (place start.entry array.old) array.new result }
+    ensures { TakesTo takes_fill form.now (place start.entry array.old) array.new result }
 {
-    match filling {
-        Filling::Numbers(fill) => take_numbers(array, start, *fill, takes_fill),
-        Filling::Rows { len, fill } => take_rows(array, start, *len, *fill),
-        Filling::Joined => Ok(start),
+    match form {
+        ValueForm::Numbers(fill) => take_numbers(array, start, *fill, takes_fill),
+        ValueForm::Rows { len, fill } => take_rows(array, start, *len, *fill),
+        ValueForm::Joined => Ok(start),
     }
 }
 
@@ -110,10 +110,10 @@ fn take_numbers<'a>(
     start: UnreadValues<'a>,
     fill: Fill,
     takes_fill: bool,
-) -> Result<UnreadValues<'a>, FastPathFault>
+) -> Result<UnreadValues<'a>, QuickPassFault>
     requires at { IsAtComma start.cutter }
     requires ends { EndsAtScanner start.cutter }
-    ensures { TakesTo takes_fill (Filling.Numbers fill) (place start.entry array.old) array.new result }
+    ensures { TakesTo takes_fill (ValueForm.Numbers fill) (place start.entry array.old) array.new result }
 {
     // A loop for each type, so that the loop itself doesn't ask for it.
     match fill.ty {
@@ -138,11 +138,11 @@ fn take_numbers_of_type<'a>(
     fill: Fill,
     ty: NcType,
     takes_fill: bool,
-) -> Result<UnreadValues<'a>, FastPathFault>
+) -> Result<UnreadValues<'a>, QuickPassFault>
     requires at { IsAtComma start.cutter }
     requires ends { EndsAtScanner start.cutter }
     requires ty { ty ≡ fill.ty }
-    ensures { TakesTo takes_fill (Filling.Numbers fill) (place start.entry array.old) array.new result }
+    ensures { TakesTo takes_fill (ValueForm.Numbers fill) (place start.entry array.old) array.new result }
 {
     let room = start.capacity.limit();
     let mut list = NumberList::new(start.cutter);
@@ -195,9 +195,9 @@ fn take_rows<'a>(
     start: UnreadValues<'a>,
     len: u64,
     fill: u8,
-) -> Result<UnreadValues<'a>, FastPathFault>
+) -> Result<UnreadValues<'a>, QuickPassFault>
     requires { IsAtComma start.cutter }
-    ensures { TakesPlain (Filling.Rows len fill) (place start.entry array.old) array.new result }
+    ensures { TakesPlain (ValueForm.Rows len fill) (place start.entry array.old) array.new result }
 {
     let room = start.capacity.limit();
     let mut cutter = start.cutter;

@@ -36,8 +36,8 @@ tag_of name.VarsTag = variable_tag
 tag_of field = attribute_tag
 
 -- the numbers of this many bytes whose top bit is 0 are below this
-abbrev pub top_bit : ℕ → ℕ
-top_bit size = if size == 8 then 2 ^ 63 else 2 ^ 31
+abbrev pub top_bit_limit : ℕ → ℕ
+top_bit_limit size = if size == 8 then 2 ^ 63 else 2 ^ 31
 
 -- the field of this name is the number of a list's elements
 abbrev pub is_list_count : FieldName → Bool
@@ -60,7 +60,7 @@ fault_message l e (fault.UnknownVersion version) = says (codes ": found _, expec
 fault_message l e fault.HeaderTruncated = says (codes ": found _, expected _ bytes") (Number (l.file_len - e.offset) ∷ Long e.size ∷ [])
 fault_message l e fault.BadTag = says (codes ": found _, expected 0 or _") (FieldContent ∷ Number (tag_of e.place.name) ∷ [])
 fault_message l e fault.BadCount =
-    if is_after_zero_tag l.entries e.place.name then says (codes ": found _, expected 0") (FieldContent ∷ []) else below (top_bit e.size)
+    if is_after_zero_tag l.entries e.place.name then says (codes ": found _, expected 0") (FieldContent ∷ []) else below (top_bit_limit e.size)
 fault_message l e fault.BadName = says [] []
 fault_message l e fault.FloatingType = says (codes ": found _") (FieldType ∷ [])
 fault_message l e fault.BadType = says (codes ": found _, expected 1 to _") (FieldType ∷ Number (last_type l.entries) ∷ [])
@@ -70,7 +70,7 @@ fault_message l e fault.BadShape =
     then says (codes ": found _, expected no record dimension here") (FieldContent ∷ [])
     else below (number_at l.entries 4)
 fault_message l e fault.TwoRecordDims = says (codes ": found _, expected at least 1") (FieldContent ∷ [])
-fault_message l e fault.BadOffset = below (top_bit e.size)
+fault_message l e fault.BadOffset = below (top_bit_limit e.size)
 fault_message l e fault.TooLarge = says [] []
 
 -- ---- the layout

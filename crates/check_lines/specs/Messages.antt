@@ -83,9 +83,9 @@ abbrev pub is_blank : ℕ → Bool
 is_blank b = b == byte "_"
 
 -- a text with these parts in place of its first blanks
-unfoldable pub filled : Bytes → List Bytes → Bytes
-filled text [] = text
-filled text (part ∷ parts) = concat_parts (before_first is_blank text ∷ part ∷ filled (after_first is_blank text) parts ∷ [])
+unfoldable pub with_parts : Bytes → List Bytes → Bytes
+with_parts text [] = text
+with_parts text (part ∷ parts) = concat_parts (before_first is_blank text ∷ part ∷ with_parts (after_first is_blank text) parts ∷ [])
 
 abbrev pub message_text : Result Header FormatFault → Content → Message → Bytes
-message_text header c message = filled message.text (map (part_text header c) message.parts)
+message_text header c message = with_parts message.text (map (part_text header c) message.parts)

@@ -60,30 +60,30 @@ unfoldable pub element : Bytes → ℕ → Option Bytes → Bytes
 element word i name = concat_parts (word ∷ decimal i ∷ codes "]" ∷ quoted name ∷ [])
 
 -- a field, without what it belongs to
-unfoldable pub field_word : FieldName → Bytes
-field_word name.Magic = codes "magic"
-field_word name.Version = codes "version"
-field_word name.NumRecs = codes "numrecs"
-field_word name.DimsTag = codes "dims tag"
-field_word name.DimsCount = codes "dims count"
-field_word name.GlobalAttsTag = codes "gatts tag"
-field_word name.GlobalAttsCount = codes "gatts count"
-field_word name.VarsTag = codes "vars tag"
-field_word name.VarsCount = codes "vars count"
-field_word name.NameLength = codes "name length"
-field_word name.Name = codes "name"
-field_word name.NamePadding = codes "name padding"
-field_word name.Length = codes "length"
-field_word name.Type = codes "type"
-field_word name.Count = codes "count"
-field_word name.Values = codes "values"
-field_word name.Padding = codes "padding"
-field_word name.Rank = codes "rank"
-field_word (name.DimId k) = element (codes "dimid[") k None
-field_word name.AttsTag = codes "atts tag"
-field_word name.AttsCount = codes "atts count"
-field_word name.Vsize = codes "vsize"
-field_word name.Begin = codes "begin"
+unfoldable pub field_words : FieldName → Bytes
+field_words name.Magic = codes "magic"
+field_words name.Version = codes "version"
+field_words name.NumRecs = codes "numrecs"
+field_words name.DimsTag = codes "dims tag"
+field_words name.DimsCount = codes "dims count"
+field_words name.GlobalAttsTag = codes "gatts tag"
+field_words name.GlobalAttsCount = codes "gatts count"
+field_words name.VarsTag = codes "vars tag"
+field_words name.VarsCount = codes "vars count"
+field_words name.NameLength = codes "name length"
+field_words name.Name = codes "name"
+field_words name.NamePadding = codes "name padding"
+field_words name.Length = codes "length"
+field_words name.Type = codes "type"
+field_words name.Count = codes "count"
+field_words name.Values = codes "values"
+field_words name.Padding = codes "padding"
+field_words name.Rank = codes "rank"
+field_words (name.DimId k) = element (codes "dimid[") k None
+field_words name.AttsTag = codes "atts tag"
+field_words name.AttsCount = codes "atts count"
+field_words name.Vsize = codes "vsize"
+field_words name.Begin = codes "begin"
 
 -- with a space after it
 unfoldable pub element_part : Bytes → ℕ → Option Bytes → Bytes
@@ -99,7 +99,7 @@ owner_path names (owner.VarAtt i k) =
     concat_parts (element_part (codes "var[") i names.element ∷ element_part (codes "att[") k names.att ∷ [])
 
 unfoldable pub field_path : KnownNames → Place → Bytes
-field_path names place = concat_parts (owner_path names place.owner ∷ field_word place.name ∷ [])
+field_path names place = concat_parts (owner_path names place.owner ∷ field_words place.name ∷ [])
 
 -- the name of a variable, if the header is whole
 abbrev pub var_name : Result Header FormatFault → ℕ → Option Bytes

@@ -1,7 +1,7 @@
 //! What a line says of a field at which reading stops.
 
 ghost use Rattle.std.specs.Prelude.{◌≡◌};
-ghost use Rattle.check_lines.specs.Details.{below, fault_message, is_after_zero_tag, is_list_count, last_type, number_at, tag_of, top_bit};
+ghost use Rattle.check_lines.specs.Details.{below, fault_message, is_after_zero_tag, is_list_count, last_type, number_at, tag_of, top_bit_limit};
 ghost use Rattle.check_lines.specs.code.Written.{message_of};
 
 use crate::message::Part::{FieldContent, FieldType, Long, Nothing, Number};
@@ -36,7 +36,7 @@ pub(crate) fn fault_message(listing: &Listing, entry: &Entry, fault: FormatFault
             ": found _, expected no record dimension here",
             CONTENT,
         ),
-        FormatFault::BadCount | FormatFault::BadOffset => return below(top_bit(entry.size)),
+        FormatFault::BadCount | FormatFault::BadOffset => return below(top_bit_limit(entry.size)),
         FormatFault::BadShape => return below(number_at(entries, 4)),
         FormatFault::BadName | FormatFault::TooLarge => ("", NO_PARTS),
         FormatFault::FloatingType => (": found _", [FieldType, Nothing, Nothing]),
@@ -91,8 +91,8 @@ fn tag_of(name: FieldName) -> u64
 }
 
 /// Returns the number that a number of 8 bytes, otherwise one of 4, has to be below for its top bit to be 0.
-fn top_bit(size: u128) -> u64
-    ensures { result ≡ top_bit size }
+fn top_bit_limit(size: u128) -> u64
+    ensures { result ≡ top_bit_limit size }
 {
     if size == 8 { 1 << 63 } else { 1 << 31 }
 }

@@ -2,7 +2,7 @@
 
 ghost use Rattle.std.specs.Prelude.{◌≡◌};
 ghost use Rattle.devices.specs.code.SinkWrites.{Wrote};
-ghost use Rattle.check_lines.specs.Paths.{block_path, element, element_part, field_path, field_word, owner_path, quoted, slab_path, var_name, var_path};
+ghost use Rattle.check_lines.specs.Paths.{block_path, element, element_part, field_path, field_words, owner_path, quoted, slab_path, var_name, var_path};
 ghost use Rattle.check_lines.specs.code.Names.{bytes_of, known};
 
 use crate::known_names::Names;
@@ -22,7 +22,7 @@ pub(crate) fn put_field_path<W: Sink>(
     ensures { Wrote W.view sink.old sink.new (field_path (known names.entry) place) result }
 {
     put_owner(sink, names, place.owner)?;
-    put_field_word(sink, place.name)
+    put_field_words(sink, place.name)
 }
 
 /// Writes what a field belongs to.
@@ -85,9 +85,9 @@ fn put_quoted<W: Sink>(sink: &mut W, name: Option<&[u8]>) -> Result<(), WriteFai
 }
 
 /// Writes the words of a field, without what it belongs to.
-#[tactic(auto, unfolding(crate::specs::Paths::field_word))]
-fn put_field_word<W: Sink>(sink: &mut W, name: FieldName) -> Result<(), WriteFailed>
-    ensures { Wrote W.view sink.old sink.new (field_word name) result }
+#[tactic(auto, unfolding(crate::specs::Paths::field_words))]
+fn put_field_words<W: Sink>(sink: &mut W, name: FieldName) -> Result<(), WriteFailed>
+    ensures { Wrote W.view sink.old sink.new (field_words name) result }
 {
     match name {
         FieldName::Magic => put(sink, b"magic"),

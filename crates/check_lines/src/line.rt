@@ -8,7 +8,7 @@ ghost use Rattle.check_lines.specs.code.Names.{entry_in, known};
 use crate::details::put_details;
 use crate::field_path::{put_field_path, put_slab_path};
 use crate::known_names::Names;
-use crate::shown::put_file;
+use crate::shown::put_file_path;
 use crate::words::{kind_word, severity_word};
 use devices::{Sink, WriteFailed, put, put_decimal};
 use nc_fields::{Entry, Listing};
@@ -30,7 +30,7 @@ pub(crate) fn put_line<W: Sink>(
     let entry = entry_of(listing, finding);
     put_position(sink, file, finding.offset)?;
     put_kind(sink, finding.fact.kind())?;
-    put_path(sink, listing, names, entry, finding.fact)?;
+    put_finding_path(sink, listing, names, entry, finding.fact)?;
     put_details(sink, listing, entry, finding.fact)?;
     put(sink, b"\n")
 }
@@ -40,7 +40,7 @@ pub(crate) fn put_line<W: Sink>(
 fn put_position<W: Sink>(sink: &mut W, file: &[u8], offset: u64) -> Result<(), WriteFailed>
     ensures { Wrote W.view sink.old sink.new (position_text file.now offset) result }
 {
-    put_file(sink, file)?;
+    put_file_path(sink, file)?;
     put(sink, b":")?;
     put_decimal(sink, offset as u128)?;
     put(sink, b": ")
@@ -67,7 +67,7 @@ fn entry_of<'a>(listing: &'a Listing, finding: &Finding) -> Option<&'a Entry>
 
 /// Writes the path of a fact at a field, with the names that are known there, or in the data: that of a slab that isn't whole, or the data.
 #[tactic(auto, unfolding(crate::specs::Lines::path))]
-fn put_path<W: Sink>(
+fn put_finding_path<W: Sink>(
     sink: &mut W,
     listing: &Listing,
     names: Names<'_>,

@@ -3,7 +3,7 @@
 ghost use Rattle.std.specs.Prelude.{◌≡◌, map};
 ghost use Rattle.std.specs.List.{after_first, before_first};
 ghost use Rattle.devices.specs.code.SinkWrites.{Wrote};
-ghost use Rattle.check_lines.specs.Messages.{filled, is_blank, message_text, part_text};
+ghost use Rattle.check_lines.specs.Messages.{with_parts, is_blank, message_text, part_text};
 ghost use Rattle.check_lines.specs.code.Written.{message_of, parts_of};
 
 use crate::content::{put_content, put_type, put_zeros};
@@ -59,12 +59,12 @@ pub(crate) fn put_message<W: Sink>(
     ensures { Wrote W.view sink.old sink.new
         (message_text header.now content.now (message_of message)) result }
 {
-    put_filled(sink, header, content, message.text, &message.parts)
+    put_with_parts(sink, header, content, message.text, &message.parts)
 }
 
 /// Writes a text with these parts in place of its first blanks.
-#[tactic(auto, using(devices::proofs::Writes::writes), unfolding(crate::specs::Messages::filled))]
-fn put_filled<W: Sink>(
+#[tactic(auto, using(devices::proofs::Writes::writes), unfolding(crate::specs::Messages::with_parts))]
+fn put_with_parts<W: Sink>(
     sink: &mut W,
     header: &Result<Header, FormatFault>,
     content: &Content,
@@ -72,7 +72,7 @@ fn put_filled<W: Sink>(
     parts: &[Part],
 ) -> Result<(), WriteFailed>
     ensures { Wrote W.view sink.old sink.new
-        (filled text.now (map (part_text header.now content.now) (parts_of parts.now))) result }
+        (with_parts text.now (map (part_text header.now content.now) (parts_of parts.now))) result }
 {
     let Some((part, others)) = parts.split_first() else {
         return put(sink, text.as_bytes());
@@ -83,7 +83,7 @@ fn put_filled<W: Sink>(
     let (words, rest) = cut_at_blank(text);
     put(sink, words.as_bytes())?;
     put_part(sink, header, content, *part)?;
-    put_filled(sink, header, content, rest, others)
+    put_with_parts(sink, header, content, rest, others)
 }
 
 /// Returns what a text has before its first blank, and after it.

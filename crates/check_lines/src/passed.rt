@@ -31,7 +31,7 @@ pub(crate) fn nothing_passed<'a>() -> Passed<'a>
 /// Goes on to the field of this index, and returns what is known after it; without an index, what is known where no field was passed. A field
 /// that was passed is gone back to from the first field. (In a report that never happens: its findings are in the order of the fields that
 /// they lie at, and those in the data come last.)
-pub(crate) fn pass_to<'a>(
+pub(crate) fn passed_up_to<'a>(
     passed: Passed<'a>,
     entries: &'a [Entry],
     field: Option<u64>,
@@ -48,7 +48,7 @@ pub(crate) fn pass_to<'a>(
             } else {
                 nothing_passed()
             };
-            pass(before, entries, end)
+            pass_fields(before, entries, end)
         }
         None => nothing_passed(),
     }
@@ -66,7 +66,7 @@ fn end_after(entries: &[Entry], i: u64) -> usize
 
 /// Passes the fields up to this index, and returns what is known after them.
 #[tactic(auto, using(std::proofs::lemmas::List::Sums::fold_more))]
-fn pass<'a>(passed: Passed<'a>, entries: &'a [Entry], end: usize) -> Passed<'a>
+fn pass_fields<'a>(passed: Passed<'a>, entries: &'a [Entry], end: usize) -> Passed<'a>
     requires passed { IsPassed entries.now passed }
     requires before { passed.count ≤ end }
     requires within { end ≤ length entries.now }

@@ -9,7 +9,7 @@ ghost use Rattle.check_lines.specs.code.Names.{IsPassed};
 
 use crate::filter::FilterOptions;
 use crate::line::put_line;
-use crate::passed::{Passed, nothing_passed, pass_to};
+use crate::passed::{Passed, nothing_passed, passed_up_to};
 use crate::words::kind_word;
 use devices::{Sink, WriteFailed};
 use nc_fields::Listing;
@@ -57,7 +57,7 @@ fn put_line_if<'a, W: Sink>(
     if !is_reported(filter, finding) {
         return Ok(passed);
     }
-    let passed = pass_to(passed, listing.entries.as_slice(), finding.field);
+    let passed = passed_up_to(passed, listing.entries.as_slice(), finding.field);
     put_line(sink, file, listing, passed.names, finding)?;
     Ok(passed)
 }

@@ -47,7 +47,7 @@ pub(crate) fn put_name<W: Sink>(sink: &mut W, name: &[u8]) -> Result<(), WriteFa
 ///
 /// The sink failed. It took some prefix of the text.
 #[tactic(auto, using(devices::proofs::Writes::writes), unfolding(crate::specs::Shown::shown_path))]
-pub fn put_file<W: Sink>(sink: &mut W, file: &[u8]) -> Result<(), WriteFailed>
+pub fn put_file_path<W: Sink>(sink: &mut W, file: &[u8]) -> Result<(), WriteFailed>
     ensures { Wrote W.view sink.old sink.new (shown_path file.now) result }
 {
     put_shown(sink, Form::Bare, LONGEST_PATH, file)?;

@@ -11,7 +11,7 @@ use std::io::{BufWriter, ErrorKind, Write};
 use std::rt::Files;
 
 /// The capacity of the buffer that each output is written through, in bytes.
-const HELD_BACK: usize = 65536;
+const OUTPUT_BUFFER_LEN: usize = 65536;
 
 /// Outputs in the files of the system, which are opaque. Each is written through one buffer.
 #[derive(Drop)]
@@ -44,7 +44,7 @@ impl<'a, R: Files<File = File>> SystemOutputs<'a, R> {
         ensures { IfOk result (λ sink. sink.failures ≡ 0) }
     {
         let nothing = OutputFile { file: None };
-        let mut writer = BufWriter::with_capacity(self.alloc, HELD_BACK, nothing)?;
+        let mut writer = BufWriter::with_capacity(self.alloc, OUTPUT_BUFFER_LEN, nothing)?;
         let file = File::create(self.rt, path)?;
         writer.get_mut().file = Some(file);
         Ok(IoSink::new(writer))

@@ -10,7 +10,7 @@ pub use Rattle.nc_base.specs.GeneratedFile.{begin_after, block, fits, fixed_vars
 unfoldable pub use Rattle.nc_base.specs.GeneratedFile.{data_of, file_of, fill_bytes, padded_slab, with_begins}
 pub use Rattle.nc_base.specs.Grammar.{SpellsHeader, StopsAt, header_spelling, vsize_of}
 pub use Rattle.nc_base.specs.Headers.{AreArrays, AreDimids, IsDimid, HasValidNames, HasWholeValues, IsArray, IsGood, IsSound, IsSoundAtt, IsSoundDim, IsSoundNumRecs, IsSoundVar, bare, bare_var}
-pub use Rattle.nc_base.specs.Sizes.{has_record_dim, value_count, dim_len, is_narrow, is_record_dim, is_record_var, is_record_shape, least_begin, padded_size, padded_total, product, record_count, record_limit, record_size, record_size_of, record_vars, records_between, slab_count, slab_lens, slab_limit, slab_of, slab_size}
+pub use Rattle.nc_base.specs.Sizes.{has_record_dim, value_count, dim_len, is_narrow, is_record_dim, is_record_var, is_record_shape, least_begin, padded_size, padded_total, product, record_count, record_limit, record_size, record_size_of, record_vars, records_between, slab_count, slab_lens, slab_limit, slab_len, slab_size}
 pub use Rattle.nc_base.specs.Names.{IsName}
 pub use Rattle.nc_base.specs.Numbers.{bytes_of_number, number_of, numbers_from}
 unfoldable pub use Rattle.nc_base.specs.Numbers.{numbers}

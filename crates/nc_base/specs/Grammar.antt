@@ -12,7 +12,7 @@ use Rattle.nc_base.specs.Bytes.{Bytes, padding_len}
 use Rattle.nc_base.specs.Types.{code_of, size_of, type_of_code}
 use Rattle.nc_base.specs.Versions.{version_byte, version_of_byte, count_width, offset_width, count_limit, offset_limit, streaming_mark, has_type}
 use Rattle.nc_base.specs.Names.{is_name}
-use Rattle.nc_base.specs.Sizes.{has_record_dim, is_record_dim, is_record_shape, slab_of, padded_size, padded_total, record_vars, slab_limit, record_limit}
+use Rattle.nc_base.specs.Sizes.{has_record_dim, is_record_dim, is_record_shape, slab_len, padded_size, padded_total, record_vars, slab_limit, record_limit}
 use Rattle.nc_base.specs.Parts.{Step, Part, done, bytes, decoded, under, chain, Spells, Stops, print}
 use Rattle.nc_base.specs.Parts.{Magic, VersionByte, Records, Dims, Gatts, Vars, Tag, Count, Item, Name, Length, Text, Padding, TypeCode, Values, Shape, Atts, Vsize, Begin}
 
@@ -204,12 +204,12 @@ shape_part v dims = counted v (dimid_after v dims)
 
 -- the bytes that a variable of this shape and type adds to a record: 0 if it isn't a record variable
 abbrev pub record_bytes : List Dim → List ℕ → NcType → ℕ
-record_bytes dims ids ty = if is_record_shape dims ids then slab_of dims ids ty + padding_len (slab_of dims ids ty) else 0
+record_bytes dims ids ty = if is_record_shape dims ids then slab_len dims ids ty + padding_len (slab_len dims ids ty) else 0
 
 -- Project: a slab has at most `slab_limit` bytes, and the padded slabs in a record up to this variable have at most `record_limit`; those
 -- before it have `total` bytes.
 abbrev pub is_within_limits : List Dim → ℕ → List ℕ → NcType → Bool
-is_within_limits dims total ids ty = nat_le (slab_of dims ids ty) slab_limit && nat_le (total + record_bytes dims ids ty) record_limit
+is_within_limits dims total ids ty = nat_le (slab_len dims ids ty) slab_limit && nat_le (total + record_bytes dims ids ty) record_limit
 
 -- vsize as it is written: the bytes of the padded slab, or in CDF-1 and CDF-2 2^32 - 1 if there are 2^32 or more
 abbrev pub vsize_of : Version → ℕ → ℕ

@@ -42,11 +42,11 @@ abbrev pub value_count : List Dim → Var → ℕ → ℕ
 value_count dims var n = slab_count dims var * (if is_record_var dims var then n else 1)
 
 -- the bytes of a slab of this shape and type
-abbrev pub slab_of : List Dim → List ℕ → NcType → ℕ
-slab_of dims ids ty = product (slab_lens dims ids) * size_of ty
+abbrev pub slab_len : List Dim → List ℕ → NcType → ℕ
+slab_len dims ids ty = product (slab_lens dims ids) * size_of ty
 
 abbrev pub slab_size : List Dim → Var → ℕ
-slab_size dims var = slab_of dims var.dimids var.ty
+slab_size dims var = slab_len dims var.dimids var.ty
 
 -- with the padding up to the next multiple of four
 abbrev pub padded_size : List Dim → Var → ℕ

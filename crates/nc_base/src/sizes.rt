@@ -3,7 +3,7 @@
 ghost use Rattle.std.specs.Prelude.{◌≡◌, ◌+◌, ◌*◌, ◌/◌, ◌<◌, ◌≤◌, ◌^◌, ◌&&◌, IfSome, if◌then◌else◌, length, map, min, slice_get, SomeIff};
 ghost use Rattle.nc_base.specs.Types.{size_of};
 ghost use Rattle.nc_base.specs.Bytes.{padding_len};
-ghost use Rattle.nc_base.specs.Sizes.{slab_of, dim_len, is_record_dim, is_record_shape, is_record_var, is_narrow, product, slab_size, padded_size, slab_limit, record_size, record_limit, record_vars, record_count};
+ghost use Rattle.nc_base.specs.Sizes.{slab_len, dim_len, is_record_dim, is_record_shape, is_record_var, is_narrow, product, slab_size, padded_size, slab_limit, record_size, record_limit, record_vars, record_count};
 ghost use Rattle.nc_base.specs.code.SizeParts.{slab_at, checked_record_size, extent_sum, least_record_begin, min_begin, CountsValues, IsCappedSlab};
 ghost use Rattle.nc_base.specs.GeneratedFile.{known_records};
 ghost use Rattle.nc_base.specs.code.Extents.{extent_end};
@@ -27,7 +27,7 @@ pub fn slab_bytes(header: &Header, v: usize) -> Option<u64>
     ensures { SomeIff result (slab_at header.now v ≤ slab_limit) (slab_at header.now v) }
 {
     let var = &header.vars.as_slice()[v];
-    slab_of(header.dims.as_slice(), var.dimids.as_slice(), var.ty)
+    slab_len(header.dims.as_slice(), var.dimids.as_slice(), var.ty)
 }
 
 /// Returns the record size: the number of bytes from a record variable's values in one record to those in the next. It is the
@@ -43,7 +43,7 @@ pub fn rec_size(header: &Header) -> Option<u64>
     let mut is_first = true;
     for var in header.vars.as_slice() {
         if is_record_var(dims, var) {
-            let slab = slab_of(dims, var.dimids.as_slice(), var.ty)?;
+            let slab = slab_len(dims, var.dimids.as_slice(), var.ty)?;
             let with_padding = padded + padded_len(slab);
             size = record_size_up_to(is_first, var, slab, with_padding);
             padded = with_padding;
@@ -98,7 +98,7 @@ pub struct RecordLayout {
     pub record_size: u64,
 }
 
-/// Returns the number of records of a file of `len` bytes with this header ([`records`]), and the record size ([`sound_rec_size`]). Needs a
+/// Returns the number of records of a file of `len` bytes with this header ([`records`]), and the record size ([`sound_record_size`]). Needs a
 /// sound header ([`Header::sound`]). It takes time in proportion to the number of variables and their dimensions, so a caller that goes
 /// over the variables asks for it once.
 pub fn record_layout(header: &Header, len: u64) -> RecordLayout
@@ -108,7 +108,7 @@ pub fn record_layout(header: &Header, len: u64) -> RecordLayout
 {
     RecordLayout {
         records: records(header, len),
-        record_size: sound_rec_size(header),
+        record_size: sound_record_size(header),
     }
 }
 
@@ -151,7 +151,7 @@ fn extent_sum(header: &Header, v: usize, records: u64) -> u128
     } else if records == 0 {
         begin
     } else {
-        begin + (records - 1) as u128 * sound_rec_size(header) as u128 + slab
+        begin + (records - 1) as u128 * sound_record_size(header) as u128 + slab
     }
 }
 
@@ -173,7 +173,7 @@ pub fn value_count(header: &Header, v: usize, records: u64) -> u128
 
 /// Returns the record size in bytes, as [`rec_size`] does, but not as an `Option`. Needs a sound header ([`Header::sound`]), whose record
 /// size is at most 2^62 bytes.
-pub fn sound_rec_size(header: &Header) -> u64
+pub fn sound_record_size(header: &Header) -> u64
     requires { IsSound header.now }
     ensures size { result ≡ record_size header.now }
     ensures small { result ≤ record_limit }
@@ -260,7 +260,7 @@ pub fn is_record_var(dims: &[Dim], var: &Var) -> bool
 /// Returns the number of bytes of a slab of this shape and type, without padding. It is the size of a value times the lengths
 /// of the dimensions, without the first one if that is the record dimension; one that isn't there counts as of length 0. Returns `None`
 /// above 2^48 bytes.
-pub fn slab_of(dims: &[Dim], dimids: &[u64], ty: NcType) -> Option<u64>
+pub fn slab_len(dims: &[Dim], dimids: &[u64], ty: NcType) -> Option<u64>
     ensures { IsCappedSlab dims.now dimids.now ty result }
 {
     let bytes = if is_record_shape(dims, dimids) {

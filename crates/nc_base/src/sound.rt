@@ -3,14 +3,14 @@
 ghost use Rattle.std.specs.Prelude.{◌≡◌, ◌<◌, ◌≤◌, ◌==◌, ◌↔◌, [], length, filter, IsTrue};
 ghost use Rattle.nc_base.specs.Versions.{count_limit};
 ghost use Rattle.std.specs.List.{list_all, count_by};
-ghost use Rattle.nc_base.specs.Sizes.{slab_of, slab_limit, record_size, record_limit};
+ghost use Rattle.nc_base.specs.Sizes.{slab_len, slab_limit, record_size, record_limit};
 ghost use Rattle.nc_base.specs.code.SizeParts.{is_fixed_dim};
 ghost use Rattle.nc_base.specs.code.SoundParts.{AreSoundAtts, AreSoundDims, AreSoundVars, HasSoundVars, IsSoundShape};
 ghost use Rattle.nc_base.specs.Headers.{IsSoundNumRecs, IsSoundDim, IsSoundAtt, IsSoundVar, AreDimids, HasWholeValues};
 
 use crate::header::{Att, Dim, Header, NumRecs, Var};
 use crate::nc_type::NcType;
-use crate::sizes::{is_record_dim, rec_size, slab_of};
+use crate::sizes::{is_record_dim, rec_size, slab_len};
 use crate::version::Version;
 
 impl Header {
@@ -141,7 +141,7 @@ fn is_sound_var(version: Version, dims: &[Dim], var: &Var) -> bool
 fn has_sound_slab(dims: &[Dim], dimids: &[u64], ty: NcType) -> bool
     ensures { IsTrue result ↔ IsSoundShape dims.now dimids.now ty }
 {
-    are_sound_dimids(dims, dimids) && slab_of(dims, dimids, ty).is_some()
+    are_sound_dimids(dims, dimids) && slab_len(dims, dimids, ty).is_some()
 }
 
 /// Returns true if each id of a shape names a dimension, and none after the first names the record dimension.

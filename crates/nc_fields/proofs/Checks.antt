@@ -1,6 +1,6 @@
 -- What readers of parts do that list their fields: for a part that is one field, and for parts that are made of others.
 use Rattle.std.proofs.Common.{◌≡◌, ℕ, ◌-◌, Bool, true, false, cond, leb, nat_lt, List, [], ◌∷◌, ◌++◌, length, map, take, drop, Option, Some, None, Result, Ok, Err, refl, sym, inl, inr, ap, ◌∙◌, subst, arith, append_assoc}
-use Rattle.nc_fields.proofs.Prelude.{Ghosts, Bytes, Step, Part, done, bytes, decoded, under, chain, Outcome, and_then, with_rest, run, left_after, number, FormatFault, HeaderTruncated, Read, Reads, Kept, FailsOnly, left, next_of, source_of, HeadFault, Window, Format, OutOfMemory, ReadFailed, Entry, Content, Place, Reader, Start, Cut, Field, judged, fields, Seen, seen_by, steps_of, whole_content, cut_content, seen, Checked, Lists, IsStart, ListsCut, entry_of, listed, with_fault, OnTrue_at, OnTrue_from, le-ltb, lt-ltb, leb-true, leb-false, append-nil, length-drop, map-append, Width, byte_len, from_be_bytes, to_be_bytes, run-done, run-under, run-decoded, run-chain, left_after-ok, left_after-err, after-decoded, after-chain, shorter}
+use Rattle.nc_fields.proofs.Prelude.{Ghosts, Bytes, Step, Part, done, bytes, decoded, under, chain, Outcome, and_then, with_rest, run, left_after, number, FormatFault, HeaderTruncated, Read, Reads, Kept, FailsOnly, left, next_of, source_of, HeadFault, Window, Format, OutOfMemory, ReadFailed, Entry, Content, Place, Reader, PendingField, Cut, Field, judged, fields, Seen, seen_by, steps_of, whole_content, cut_content, seen, Checked, Lists, IsStart, ListsCut, entry_of, listed, with_fault, OnTrue_at, OnTrue_from, le-ltb, lt-ltb, leb-true, leb-false, append-nil, length-drop, map-append, Width, byte_len, from_be_bytes, to_be_bytes, run-done, run-under, run-decoded, run-chain, left_after-ok, left_after-err, after-decoded, after-chain, shorter}
 
 -- ---- parts that are one field
 
@@ -189,7 +189,7 @@ module _ {S : Type 0} {g : Ghosts S} where
   offset-left w = omega (arith, length-drop (next_of w) (source_of w).bytes, w.within, w.used)
 
   -- the field that begins at the next byte was listed, with this content and without a fault
-  pub one-more : (old : Reader S g) (content : Content) {entries : List Entry} {place : Place} {n size : ℕ} {start : Start} → IsStart old.window place n start → n ≡ size
+  pub one-more : (old : Reader S g) (content : Content) {entries : List Entry} {place : Place} {n size : ℕ} {start : PendingField} → IsStart old.window place n start → n ≡ size
       → entries ≡ old.entries ++ entry_of start content ∷ []
       → map seen_by entries ≡ map seen_by old.entries ++ seen_at place (length (source_of old.window).bytes - length (left old.window)) size content None ∷ []
   one-more old content {start = start} s same is =
@@ -197,7 +197,7 @@ module _ {S : Type 0} {g : Ghosts S} where
       ∙ rw (s.same_place, s.same_size, s.offset, same, offset-left old.window) refl
 
   -- a field of which all was read was listed
-  pub listed-whole : {C : Type 0} {old : Reader S g} {window : Window S g} {cut entries : List Entry} {place : Place} {start : Start} {size n : ℕ} {q : Part C} {content : C → Content} {found : Content} {x : C}
+  pub listed-whole : {C : Type 0} {old : Reader S g} {window : Window S g} {cut entries : List Entry} {place : Place} {start : PendingField} {size n : ℕ} {q : Part C} {content : C → Content} {found : Content} {x : C}
       {read : Result C HeadFault}
       → IsFieldOf place size q content → IsStart old.window place n start → n ≡ size → Read old.window window q read → (read ≡ Ok x) × (cut ≡ old.entries)
       → found ≡ content x → entries ≡ cut ++ entry_of start found ∷ [] → Checked old (record { window = window; entries = entries }) (steps_of place) q (Ok x)
@@ -231,7 +231,7 @@ module _ {S : Type 0} {g : Ghosts S} where
     pub cause : FailsOnly {A = C} old now (Err e)
     pub reads : Reads {A = C} g.is_transparent (left old) (left now) q (Err e)
 
-  pub stopped : {C : Type 0} (old now : Window S g) (before after : List Entry) (start : Start) (q : Part C) (read : Result C HeadFault) (e : HeadFault)
+  pub stopped : {C : Type 0} (old now : Window S g) (before after : List Entry) (start : PendingField) (q : Part C) (read : Result C HeadFault) (e : HeadFault)
       → Read old now q read → ListsCut {A = C} before after start read (Err e) → Stopped old now q e
   stopped old now before after start q read (Format f) r (is, more) = let r = subst (λ a. Read old now q a) is r in record { kept = r.kept; cause = r.cause; reads = r.reads }
   stopped old now before after start q read OutOfMemory r (inl is) = let r = subst (λ a. Read old now q a) is r in record { kept = r.kept; cause = r.cause; reads = r.reads }
@@ -241,7 +241,7 @@ module _ {S : Type 0} {g : Ghosts S} where
   stopped old now before after start q read ReadFailed r is = let r = subst (λ a. Read old now q a) is r in record { kept = r.kept; cause = r.cause; reads = r.reads }
 
   -- the field was listed as cut then
-  pub listed-cut : {C : Type 0} {old : Reader S g} {window : Window S g} {entries : List Entry} {place : Place} {start : Start} {size n : ℕ} {q : Part C} {content : C → Content} {read : Result C HeadFault}
+  pub listed-cut : {C : Type 0} {old : Reader S g} {window : Window S g} {entries : List Entry} {place : Place} {start : PendingField} {size n : ℕ} {q : Part C} {content : C → Content} {read : Result C HeadFault}
       {e : HeadFault}
       → IsFieldOf place size q content → IsStart old.window place n start → n ≡ size → Read old.window window q read → ListsCut {A = C} old.entries entries start read (Err e)
       → Checked {A = C} old (record { window = window; entries = entries }) (steps_of place) q (Err e)

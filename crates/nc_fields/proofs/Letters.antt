@@ -1,6 +1,6 @@
 -- The letters at the start of a file, of which fewer than three may be there.
 use Rattle.std.proofs.Common.{◌≡◌, ℕ, ◌<◌, ◌≤◌, min, Bool, true, false, cond, leb, nat_lt, if◌then◌else◌, List, [], ◌∷◌, None, ◌-◌, length, take, drop, length-take, map, ◌++◌, Result, Ok, Err, subst, refl, sym, ap, ap₂, ◌∙◌, arith, take_all, codes}
-use Rattle.nc_fields.proofs.Prelude.{take_min, drop_min, bytes_eq, Magic, Caused, Reads, hdf5_signature, kept_letters, kept-then, Ghosts, Bytes, Part, bytes, checked, Outcome, and_then, with_rest, run, left_after, FormatFault, HeaderTruncated, NotNetcdf, Read, left, HeadFault, Window, Format, OutOfMemory, ReadFailed, Entry, Content, Place, Reader, Start, entry_of, Checked, IsStart, ListsCut, with_fault, OnTrue, OnTrue_at, OnTrue_from, leb-true, leb-false, Kept, Step, listed, next_of, source_of, seen_by, Lists, shorter, left_after-ok}
+use Rattle.nc_fields.proofs.Prelude.{take_min, drop_min, bytes_eq, Magic, Caused, Reads, hdf5_signature, kept_letters, kept-then, Ghosts, Bytes, Part, bytes, checked, Outcome, and_then, with_rest, run, left_after, FormatFault, HeaderTruncated, NotNetcdf, Read, left, HeadFault, Window, Format, OutOfMemory, ReadFailed, Entry, Content, Place, Reader, PendingField, entry_of, Checked, IsStart, ListsCut, with_fault, OnTrue, OnTrue_at, OnTrue_from, leb-true, leb-false, Kept, Step, listed, next_of, source_of, seen_by, Lists, shorter, left_after-ok}
 use Rattle.std.proofs.lemmas.Bool.Decides.{nat_tests}
 use Rattle.std.proofs.lemmas.Grind.{common_steps}
 use Rattle.std.specs.Cmp.Lexicographic.{bytes_decides}
@@ -69,7 +69,7 @@ along from same le = omega (arith, le, letters-left from, ap (λ k. left_after (
 
 module _ {S : Type 0} {g : Ghosts S} where
   -- the letters that are there were read, and listed with what they are judged to be
-  pub listed-letters : {old : Reader S g} {window : Window S g} {cut entries : List Entry} {start : Start} {n : ℕ} (is_hdf5 : Bool) {bs : Bytes} {found : Content}
+  pub listed-letters : {old : Reader S g} {window : Window S g} {cut entries : List Entry} {start : PendingField} {n : ℕ} (is_hdf5 : Bool) {bs : Bytes} {found : Content}
       {read : Result Bytes HeadFault}
       → OnTrue g.is_transparent (is_hdf5 ≡ bytes_eq hdf5_signature (take 8 (left old.window))) → IsStart old.window letters_place 3 start → n ≡ min 3 (length (left old.window)) → Read old.window window (bytes n HeaderTruncated) read
       → (read ≡ Ok bs) × (cut ≡ old.entries) → found ≡ content.Bytes (if is_hdf5 then hdf5_signature else bs) → entries ≡ cut ++ entry_of start found ∷ []
@@ -116,7 +116,7 @@ module _ {S : Type 0} {g : Ghosts S} where
       }
 
   -- no fewer were there; or the device or memory has failed
-  pub cut-letters : {old : Reader S g} {window : Window S g} {cut : List Entry} {n : ℕ} (start : Start) {read : Result Bytes HeadFault} {e : HeadFault}
+  pub cut-letters : {old : Reader S g} {window : Window S g} {cut : List Entry} {n : ℕ} (start : PendingField) {read : Result Bytes HeadFault} {e : HeadFault}
       → n ≡ min 3 (length (left old.window)) → Read old.window window (bytes n HeaderTruncated) read → ListsCut {A = Bytes} old.entries cut start read (Err e)
       → Checked {A = Bytes} old (record { window = window; entries = cut }) (Magic ∷ []) letters_part (Err e)
   cut-letters {old = old} {window = window} {cut = cut} {n = n} start {read = read} {e = e} same r of_cut = by-fault e (stopped old.window window old.entries cut start (bytes n HeaderTruncated) read e r of_cut)

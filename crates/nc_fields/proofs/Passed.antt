@@ -1,6 +1,6 @@
 -- Values that are passed over, piece by piece.
 use Rattle.std.proofs.Common.{◌≡◌, ℕ, ◌+◌, ◌≤◌, ◌<◌, Bool, false, List, [], ◌++◌, length, take, drop, Result, Ok, Err, IfOk, refl, sym, ap, subst, ◌∙◌, arith, rules, inl, inr, length-append}
-use Rattle.nc_fields.proofs.Prelude.{Ghosts, Window, HeadFault, Format, OutOfMemory, ReadFailed, Bytes, left, next_of, OnTrue, OnTrue_at, OnTrue_from, drop-drop, source_of, ends_with_nul, Entry, Start, ListsCut, get_or-append_right, Progress, IsAdvanced, Stopped, on-by, chunk-next, read-content, stop-bytes, Ready, in_place, PassesValues}
+use Rattle.nc_fields.proofs.Prelude.{Ghosts, Window, HeadFault, Format, OutOfMemory, ReadFailed, Bytes, left, next_of, OnTrue, OnTrue_at, OnTrue_from, drop-drop, source_of, ends_with_nul, Entry, PendingField, ListsCut, get_or-append_right, Progress, IsAdvanced, Stopped, on-by, chunk-next, read-content, stop-bytes, Ready, in_place, PassesValues}
 
 -- ---- pieces
 
@@ -56,7 +56,7 @@ module _ {S : Type 0} {g : Ghosts S} where
 -- ---- values in the listing
 
 -- bytes in place of what was answered
-pub cut-in-place : {A : Type 0} (vals : Bytes) (old new : List Entry) (start : Start) (answer : Result A HeadFault) (e : HeadFault) → ListsCut {A = A} old new start answer (Err e)
+pub cut-in-place : {A : Type 0} (vals : Bytes) (old new : List Entry) (start : PendingField) (answer : Result A HeadFault) (e : HeadFault) → ListsCut {A = A} old new start answer (Err e)
     → ListsCut {A = Bytes} old new start (in_place vals answer) (Err e)
 cut-in-place vals old new start answer (Format f) (is, lists) = (ap (in_place vals) is, lists)
 cut-in-place vals old new start answer OutOfMemory (inl is) = inl (ap (in_place vals) is)

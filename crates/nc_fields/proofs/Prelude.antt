@@ -17,7 +17,7 @@ pub use Rattle.nc_fields.specs.Lenient.{lenient}
 pub use Rattle.nc_fields.specs.code.Checks.{Checked, IsFilling, IsHeld, IsNumeric, IsStart, Lists, ListsCut, Reader, at, entry_of}
 unfoldable pub use Rattle.nc_fields.specs.code.Checks.{listed, with_fault}
 pub use Rattle.nc_fields.specs.code.PassedValues.{PassesValues, in_place}
-pub use Rattle.nc_fields.specs.declared.{entry.Content.Content, entry.Entry.Entry, fields.Start.Start, header.Listing.Listing, list_fault.ListFault.ListFault, number.NumberWidth.NumberWidth, place.Owner.Owner, place.Place.Place}
+pub use Rattle.nc_fields.specs.declared.{entry.Content.Content, entry.Entry.Entry, fields.PendingField.PendingField, header.Listing.Listing, list_fault.ListFault.ListFault, number.NumberWidth.NumberWidth, place.Owner.Owner, place.Place.Place}
 pub use Rattle.nc_fields.specs.declared.entry.Content.TheVariants.{Cut, Number}
 pub use Rattle.nc_file.proofs.Bytes.{IsAdvanced, Progress, Stopped, chunk-next, kept-then, on-by, read-content, stop-bytes}
 pub use Rattle.nc_file.proofs.PartRuns.{after-chain, after-decoded, has_record-next, left_after-err, left_after-ok, run-chain, run-decoded, run-done, run-under, shorter}

@@ -9,8 +9,8 @@ ghost use Rattle.nc_fields.specs.code.Lists.{list_steps};
 ghost use Rattle.nc_fields.specs.code.PassedValues.{ChecksValues, PassesValues};
 
 use crate::entry::Content;
-use crate::fields::{Fields, start_at};
-use crate::list_name::ListName;
+use crate::fields::{FieldReader, pending_field};
+use crate::list_name::HeaderList;
 use crate::place::{FieldName, Owner, Place};
 use devices::Source;
 use nc_base::{Att, Sequence, Version, padding_len};
@@ -20,7 +20,7 @@ use std::alloc::Global;
 /// The tag of a list of attributes (`NC_ATTRIBUTE`).
 const NC_ATTRIBUTE: u64 = 12;
 
-impl Fields {
+impl FieldReader {
     ghost use Rattle.nc_fields.specs.Entries.{owner_steps};
     ghost use Rattle.nc_fields.specs.code.Checks.{at, Checked};
 
@@ -38,9 +38,9 @@ impl Fields {
             owner,
             name: FieldName::Values,
         };
-        let start = start_at(window, place, len);
+        let start = pending_field(window, place, len);
         let passed = pass_values(window, len);
-        let ends_with_nul = start.unless_cut(&mut self.entries, passed)?;
+        let ends_with_nul = start.list_if_cut(&mut self.entries, passed)?;
         let content = Content::Values { ends_with_nul };
         start.list(&mut self.entries, content)?;
         Ok(())
@@ -85,7 +85,7 @@ impl Fields {
         window: &mut Window<'_, S>,
         alloc: Global,
         version: Version,
-        list: ListName,
+        list: HeaderList,
         n: u64,
     ) -> Result<Sequence<Att>, HeadFault>
         ensures { Checked (at window.old self.old) (at window.new self.new)
@@ -106,7 +106,7 @@ impl Fields {
         window: &mut Window<'_, S>,
         alloc: Global,
         version: Version,
-        list: ListName,
+        list: HeaderList,
     ) -> Result<Sequence<Att>, HeadFault>
         ensures { Checked (at window.old self.old) (at window.new self.new)
             (list_steps list) (att_list lenient version) result }

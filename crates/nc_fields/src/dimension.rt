@@ -5,8 +5,8 @@ ghost use Rattle.nc_base.specs.Grammar.{dim_after, dim_list, dim_part, each};
 ghost use Rattle.nc_base.specs.Parts.{Dims};
 ghost use Rattle.nc_fields.specs.Lenient.{lenient};
 
-use crate::fields::Fields;
-use crate::list_name::ListName;
+use crate::fields::FieldReader;
+use crate::list_name::HeaderList;
 use crate::place::Owner;
 use devices::Source;
 use nc_base::{Dim, Sequence, Version};
@@ -16,7 +16,7 @@ use std::alloc::Global;
 /// The tag of a list of dimensions (`NC_DIMENSION`).
 const NC_DIMENSION: u64 = 10;
 
-impl Fields {
+impl FieldReader {
     ghost use Rattle.nc_fields.specs.Entries.{owner_steps};
     ghost use Rattle.nc_fields.specs.code.Checks.{at, Checked};
 
@@ -70,7 +70,7 @@ impl Fields {
         ensures { Checked (at window.old self.old) (at window.new self.new)
             (Dims ∷ []) (dim_list lenient version) result }
     {
-        let n = self.list_len(window, version, ListName::Dims, NC_DIMENSION)?;
+        let n = self.list_len(window, version, HeaderList::Dims, NC_DIMENSION)?;
         self.dims(window, alloc, version, n)
     }
 }

@@ -16,19 +16,19 @@ use std::alloc::AllocError;
 /// its fault. Since reading stops there, the fault is that of the last field, and is put there at the end. It errs with `ReadFailed` if the
 /// source fails, and with `OutOfMemory` if an allocation fails; then the list means nothing.
 #[derive(Drop)]
-pub(crate) struct Fields {
+pub(crate) struct FieldReader {
     pub(crate) entries: Sequence<Entry>,
 }
 
 /// A field that is to be read: its place, its offset, and how many bytes it has to have.
 #[derive(Clone, Copy)]
-pub(crate) struct Start {
+pub(crate) struct PendingField {
     pub(crate) place: Place,
     pub(crate) offset: u64,
     pub(crate) size: u128,
 }
 
-impl Start {
+impl PendingField {
     ghost use Rattle.nc_fields.specs.code.Checks.{entry_of, ListsCut};
 
     /// Lists this field with its content, and without a fault.
@@ -50,7 +50,7 @@ impl Start {
 
     /// Lists this field as cut if the answer of the call that read it errs with a fault of the bytes, which is that the source has ended.
     /// Returns the answer.
-    pub(crate) fn unless_cut<T: Drop>(
+    pub(crate) fn list_if_cut<T: Drop>(
         self,
         entries: &mut Sequence<Entry>,
         answer: Result<T, HeadFault>,
@@ -65,10 +65,14 @@ impl Start {
 }
 
 /// Returns the field at the offset of the window's next byte, with its place and how many bytes it has to have.
-pub(crate) fn start_at<S: Source>(window: &Window<'_, S>, place: Place, size: u128) -> Start
+pub(crate) fn pending_field<S: Source>(
+    window: &Window<'_, S>,
+    place: Place,
+    size: u128,
+) -> PendingField
     ensures { IsStart window.now place size result }
 {
-    Start {
+    PendingField {
         place,
         offset: window.offset_of_next(),
         size,

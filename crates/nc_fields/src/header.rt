@@ -17,9 +17,9 @@ ghost use Rattle.nc_fields.specs.code.Checks.{with_fault};
 
 use crate::entry::{Content, Entry};
 use crate::field_bytes::FieldBytes;
-use crate::fields::{Fields, start_at};
+use crate::fields::{FieldReader, pending_field};
 use crate::list_fault::ListFault;
-use crate::list_name::ListName;
+use crate::list_name::HeaderList;
 use crate::name::filling_bytes;
 use crate::place::{FieldName, Owner, Place};
 use crate::signature::{HDF5_SIGNATURE, is_hdf5_next};
@@ -77,7 +77,7 @@ pub fn list_fields<S: Source>(
         filled: 0,
         pos: 0,
     };
-    let mut fields = Fields {
+    let mut fields = FieldReader {
         entries: Sequence::from_vec(Vec::with_capacity(alloc, FEW_FIELDS)?),
     };
     let answer = fields.header(&mut window, alloc);
@@ -86,14 +86,14 @@ pub fn list_fields<S: Source>(
 
 /// Returns the listing of these entries in a file of this length, with what reading the header has answered, and where it has ended.
 fn answered(
-    fields: Fields,
+    fields: FieldReader,
     end: u64,
     file_len: u64,
     answer: Result<Header, HeadFault>,
 ) -> Result<Listing, ListFault>
     ensures { Answers fields.entries end file_len answer result }
 {
-    let Fields { entries } = fields;
+    let FieldReader { entries } = fields;
     match answer {
         Ok(header) => Ok(Listing {
             entries,
@@ -126,7 +126,7 @@ fn with_fault(entries: Sequence<Entry>, fault: FormatFault) -> Result<Sequence<E
     Ok(Sequence::from_vec(entries))
 }
 
-impl Fields {
+impl FieldReader {
     ghost use Rattle.nc_fields.specs.code.Checks.{at, Checked};
 
     /// Reads the three bytes that should be `CDF`. Errs with `NotNetcdf` if they are others, or if there are fewer, which are listed too. If
@@ -147,16 +147,16 @@ impl Fields {
             owner: Owner::Header,
             name: FieldName::Magic,
         };
-        let start = start_at(window, place, 3);
+        let start = pending_field(window, place, 3);
         let there = letters_there(window);
-        let letters = start.unless_cut(&mut self.entries, filling_bytes(window, alloc, there))?;
+        let letters = start.list_if_cut(&mut self.entries, filling_bytes(window, alloc, there))?;
         let answer = letters_in(letters.as_slice());
         let kept = kept_letters(alloc, is_hdf5, letters)?;
         start.list(&mut self.entries, Content::Bytes(kept))?;
         answer
     }
 
-    /// Reads the three bytes that should be `CDF`, as [`listed_letters`](Fields::listed_letters) does.
+    /// Reads the three bytes that should be `CDF`, as [`listed_letters`](FieldReader::listed_letters) does.
     fn letters<S: Source>(
         &mut self,
         window: &mut Window<'_, S>,
@@ -180,8 +180,8 @@ impl Fields {
             owner: Owner::Header,
             name: FieldName::Version,
         };
-        let start = start_at(window, place, 1);
-        let byte: [u8; 1] = start.unless_cut(&mut self.entries, window.array())?;
+        let start = pending_field(window, place, 1);
+        let byte: [u8; 1] = start.list_if_cut(&mut self.entries, window.array())?;
         start.list(&mut self.entries, Content::Number(byte[0] as u64))?;
         Ok(byte)
     }
@@ -225,7 +225,7 @@ impl Fields {
         let version = self.magic(window, alloc)?;
         let numrecs = self.numrecs(window, version)?;
         let dims = self.dim_list(window, alloc, version)?;
-        let gatts = self.att_list(window, alloc, version, ListName::GlobalAtts)?;
+        let gatts = self.att_list(window, alloc, version, HeaderList::GlobalAtts)?;
         let vars = self.var_list(window, alloc, version, dims.as_slice())?;
         Ok(Header {
             version,

@@ -4,13 +4,13 @@ ghost use Rattle.std.specs.Prelude.{◌≡◌};
 ghost use Rattle.nc_base.specs.Grammar.{list_head};
 ghost use Rattle.nc_fields.specs.code.Lists.{list_steps};
 
-use crate::fields::Fields;
-use crate::list_name::ListName;
+use crate::fields::FieldReader;
+use crate::list_name::HeaderList;
 use devices::Source;
 use nc_base::Version;
 use nc_file::{HeadFault, Window};
 
-impl Fields {
+impl FieldReader {
     ghost use Rattle.nc_fields.specs.code.Checks.{at, Checked};
 
     /// Reads the tag of a list and the number of its elements, and returns the number. `tag` is the tag of lists of this kind. Errs with
@@ -20,7 +20,7 @@ impl Fields {
         &mut self,
         window: &mut Window<'_, S>,
         version: Version,
-        list: ListName,
+        list: HeaderList,
         tag: u64,
     ) -> Result<u64, HeadFault>
         ensures { Checked (at window.old self.old) (at window.new self.new)

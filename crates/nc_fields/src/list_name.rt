@@ -4,7 +4,7 @@ use crate::place::{FieldName, Owner, Place};
 
 /// A list of a header.
 #[derive(Clone, Copy)]
-pub(crate) enum ListName {
+pub(crate) enum HeaderList {
     /// The dimensions.
     Dims,
     /// The global attributes.
@@ -15,7 +15,7 @@ pub(crate) enum ListName {
     Atts(u64),
 }
 
-impl ListName {
+impl HeaderList {
     ghost use Rattle.std.specs.Prelude.{◌≡◌, ◌∷◌};
     ghost use Rattle.nc_base.specs.Parts.{Count, Item, Tag};
     ghost use Rattle.nc_fields.specs.Entries.{owner_steps, steps_of};
@@ -28,19 +28,19 @@ impl ListName {
         ensures numeric { IsNumeric result }
     {
         match self {
-            ListName::Dims => Place {
+            HeaderList::Dims => Place {
                 owner: Owner::Header,
                 name: FieldName::DimsTag,
             },
-            ListName::GlobalAtts => Place {
+            HeaderList::GlobalAtts => Place {
                 owner: Owner::Header,
                 name: FieldName::GlobalAttsTag,
             },
-            ListName::Vars => Place {
+            HeaderList::Vars => Place {
                 owner: Owner::Header,
                 name: FieldName::VarsTag,
             },
-            ListName::Atts(var) => Place {
+            HeaderList::Atts(var) => Place {
                 owner: Owner::Var(var),
                 name: FieldName::AttsTag,
             },
@@ -53,19 +53,19 @@ impl ListName {
         ensures numeric { IsNumeric result }
     {
         match self {
-            ListName::Dims => Place {
+            HeaderList::Dims => Place {
                 owner: Owner::Header,
                 name: FieldName::DimsCount,
             },
-            ListName::GlobalAtts => Place {
+            HeaderList::GlobalAtts => Place {
                 owner: Owner::Header,
                 name: FieldName::GlobalAttsCount,
             },
-            ListName::Vars => Place {
+            HeaderList::Vars => Place {
                 owner: Owner::Header,
                 name: FieldName::VarsCount,
             },
-            ListName::Atts(var) => Place {
+            HeaderList::Atts(var) => Place {
                 owner: Owner::Var(var),
                 name: FieldName::AttsCount,
             },
@@ -77,10 +77,10 @@ impl ListName {
         ensures { owner_steps result ≡ Item number ∷ list_steps self }
     {
         match self {
-            ListName::Dims => Owner::Dim(number),
-            ListName::GlobalAtts => Owner::GlobalAtt(number),
-            ListName::Vars => Owner::Var(number),
-            ListName::Atts(var) => Owner::VarAtt { var, att: number },
+            HeaderList::Dims => Owner::Dim(number),
+            HeaderList::GlobalAtts => Owner::GlobalAtt(number),
+            HeaderList::Vars => Owner::Var(number),
+            HeaderList::Atts(var) => Owner::VarAtt { var, att: number },
         }
     }
 }

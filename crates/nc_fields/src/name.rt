@@ -11,14 +11,14 @@ ghost use Rattle.nc_fields.specs.Lenient.{is_no_control, len_before_nul, lenient
 
 use crate::entry::Content;
 use crate::field_bytes::FieldBytes;
-use crate::fields::{Fields, start_at};
+use crate::fields::{FieldReader, pending_field};
 use crate::place::{FieldName, Owner, Place};
 use devices::Source;
 use nc_base::{FormatFault, Sequence, Version, padding_len};
 use nc_file::{HeadFault, Window};
 use std::alloc::Global;
 
-impl Fields {
+impl FieldReader {
     ghost use Rattle.nc_fields.specs.Entries.{owner_steps, steps_of};
     ghost use Rattle.nc_fields.specs.code.Checks.{at, Checked, IsFilling};
 
@@ -34,8 +34,8 @@ impl Fields {
         ensures { Checked (at window.old self.old) (at window.new self.new)
             (steps_of place) (bytes n HeaderTruncated) result }
     {
-        let start = start_at(window, place, n as u128);
-        let text = start.unless_cut(&mut self.entries, window.bytes(alloc, n as u128))?;
+        let start = pending_field(window, place, n as u128);
+        let text = start.list_if_cut(&mut self.entries, window.bytes(alloc, n as u128))?;
         let copy = FieldBytes::from_slice(alloc, text.as_slice())?;
         start.list(&mut self.entries, Content::Bytes(copy))?;
         Ok(text)
@@ -77,8 +77,8 @@ impl Fields {
         ensures { Checked (at window.old self.old) (at window.new self.new)
             (steps_of place) (ignored n) result }
     {
-        let start = start_at(window, place, n as u128);
-        let filling = start.unless_cut(&mut self.entries, filling_bytes(window, alloc, n))?;
+        let start = pending_field(window, place, n as u128);
+        let filling = start.list_if_cut(&mut self.entries, filling_bytes(window, alloc, n))?;
         start.list(&mut self.entries, Content::Bytes(filling))?;
         Ok(())
     }

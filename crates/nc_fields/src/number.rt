@@ -11,7 +11,7 @@ ghost use Rattle.nc_fields.specs.Lenient.{any_length_limit, lenient, sized_type_
 ghost use Rattle.nc_fields.specs.code.Numbers.{width_of};
 
 use crate::entry::Content;
-use crate::fields::{Fields, start_at};
+use crate::fields::{FieldReader, pending_field};
 use crate::place::{FieldName, Owner, Place};
 use devices::Source;
 use nc_base::{Dim, FormatFault, NcType, NumRecs, Version};
@@ -58,7 +58,7 @@ impl NumberWidth {
     }
 }
 
-impl Fields {
+impl FieldReader {
     ghost use Rattle.nc_fields.specs.Entries.{owner_steps, steps_of};
     ghost use Rattle.nc_fields.specs.code.Checks.{at, Checked, IsNumeric};
 
@@ -73,8 +73,8 @@ impl Fields {
         ensures { Checked (at window.old self.old) (at window.new self.new)
             (steps_of place) (number (width_of width)) result }
     {
-        let start = start_at(window, place, width.len());
-        let n = start.unless_cut(&mut self.entries, read_number(window, width))?;
+        let start = pending_field(window, place, width.len());
+        let n = start.list_if_cut(&mut self.entries, read_number(window, width))?;
         start.list(&mut self.entries, Content::Number(n))?;
         Ok(n)
     }

@@ -6,8 +6,8 @@ ghost use Rattle.nc_base.specs.Parts.{Shape, TypeCode, Vars};
 ghost use Rattle.nc_base.specs.declared.fault.FormatFault.TheVariants.{TooLarge};
 ghost use Rattle.nc_fields.specs.Lenient.{lenient};
 
-use crate::fields::Fields;
-use crate::list_name::ListName;
+use crate::fields::FieldReader;
+use crate::list_name::HeaderList;
 use crate::number::NumberWidth;
 use crate::place::{FieldName, Owner, Place};
 use devices::Source;
@@ -26,7 +26,7 @@ pub(crate) struct CountedVar {
     pub(crate) total: u64,
 }
 
-impl Fields {
+impl FieldReader {
     ghost use Rattle.nc_fields.specs.Entries.{owner_steps};
     ghost use Rattle.nc_fields.specs.code.Checks.{at, Checked};
     ghost use Rattle.nc_fields.specs.code.Lists.{var_of};
@@ -123,7 +123,7 @@ impl Fields {
         };
         let name = self.name(window, alloc, version, owner)?;
         let dimids = self.shape(window, alloc, version, owner, dims)?;
-        let atts = self.att_list(window, alloc, version, ListName::Atts(number))?;
+        let atts = self.att_list(window, alloc, version, HeaderList::Atts(number))?;
         let ids = dimids.as_slice();
         let ty = self.var_type(window, version, owner, dims, ids, total)?;
         let total = total_with(dims, ids, ty, total).unwrap();
@@ -173,7 +173,7 @@ impl Fields {
         ensures { Checked (at window.old self.old) (at window.new self.new)
             (Vars ∷ []) (var_list lenient version dims.now) result }
     {
-        let n = self.list_len(window, version, ListName::Vars, NC_VARIABLE)?;
+        let n = self.list_len(window, version, HeaderList::Vars, NC_VARIABLE)?;
         self.vars(window, alloc, version, dims, n)
     }
 }

@@ -7,7 +7,7 @@ pub use Rattle.nc_base.specs.GeneratedFile.{begin_after, fits, fixed_vars, vars_
 unfoldable pub use Rattle.nc_base.specs.GeneratedFile.{file_of, with_begins}
 pub use Rattle.nc_base.specs.Grammar.{SpellsHeader, StopsAt, header_spelling, record_bytes, vsize_of}
 pub use Rattle.nc_base.specs.Headers.{AreDimids, IsDimid}
-pub use Rattle.nc_base.specs.Sizes.{has_record_dim, is_record_dim, is_record_var, padded_size, padded_total, record_limit, record_vars, slab_limit, slab_of, slab_size}
+pub use Rattle.nc_base.specs.Sizes.{has_record_dim, is_record_dim, is_record_var, padded_size, padded_total, record_limit, record_vars, slab_limit, slab_len, slab_size}
 pub use Rattle.nc_base.specs.Types.{all_types, code_of, size_of}
 pub use Rattle.nc_base.specs.Versions.{count_limit, count_width, has_type, offset_limit, offset_width, streaming_mark, version_byte}
 pub use Rattle.nc_base.specs.declared.{fault.FormatFault.FormatFault, header.Att.Att, header.Dim.Dim, header.Header.Header, header.NumRecs.NumRecs, header.Var.Var, nc_type.NcType.NcType, version.Version.Version}

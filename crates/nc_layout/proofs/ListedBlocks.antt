@@ -1,6 +1,6 @@
 -- The blocks of a file are listed in the order of the header, the records last.
 use Rattle.std.proofs.Common.{◌≡◌, ℕ, ◌+◌, ◌<◌, true, List, [], ◌∷◌, ◌++◌, length, get_or, arith, Option, Some, None}
-use Rattle.nc_layout.proofs.Prelude.{Contains, AllPairs, option_map_or, nat_tests, Contains-get_or, AllPairs-cons, Slot, Layout, Extent, records_begin, record_count, is_listed_before, each_slot, slot_block, fixed_block, records_block, blocks}
+use Rattle.nc_layout.proofs.Prelude.{Contains, AllPairs, option_map_or, nat_tests, Contains-get_or, AllPairs-cons, Slot, FileLayout, Extent, records_begin, record_count, is_listed_before, each_slot, slot_block, fixed_block, records_block, blocks}
 use Rattle.std.proofs.lemmas.List.{append-nil}
 use Rattle.std.proofs.lemmas.List.Quantifiers.{all_pairs_push}
 use Rattle.nc_layout.specs.declared.finding.Block.TheVariants.{Var, Records}
@@ -28,6 +28,6 @@ with_records slots n (Some begin) =
     all_pairs_push Listed fixed (records_block slots n begin) (fixed-listed slots 0)
     (λ k d lt. (fixed_from slots 0 (get_or fixed k d) (Contains-get_or fixed k d lt)).1)
 
-pub blocks-listed : (layout : Layout) → AllPairs Listed (blocks layout)
+pub blocks-listed : (layout : FileLayout) → AllPairs Listed (blocks layout)
 unfolding blocks
 blocks-listed layout = with_records layout.slots (record_count layout) (records_begin layout.slots)

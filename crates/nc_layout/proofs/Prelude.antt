@@ -15,7 +15,7 @@ unfoldable pub use Rattle.nc_layout.specs.Slots.{record_size, records_begin}
 pub use Rattle.nc_layout.specs.code.PassedSlots.{HasPassed, is_record_slot, next_has_successor, order_after, passed_after}
 pub use Rattle.nc_layout.specs.code.Records.{least_with, slab_if}
 pub use Rattle.nc_layout.specs.code.Sweep.{end_of, findings_at, further, padding_end, reached_with, swept, value_end}
-pub use Rattle.nc_layout.specs.declared.{block_rules.Reached.Reached, blocks.Extent.Extent, file_end.SlabPlace.SlabPlace, finding.Block.Block, finding.LayoutFinding.LayoutFinding, slot.Layout.Layout, slot.Slot.Slot, slot_rules.PassedSlots.PassedSlots}
+pub use Rattle.nc_layout.specs.declared.{block_rules.Reached.Reached, blocks.Extent.Extent, file_end.SlabPlace.SlabPlace, finding.Block.Block, finding.LayoutFinding.LayoutFinding, slot.FileLayout.FileLayout, slot.Slot.Slot, slot_rules.PassedSlots.PassedSlots}
 pub use Rattle.std.proofs.Math.ListN.{take-append-drop}
 pub use Rattle.std.proofs.lemmas.Bool.{cases_lt, leb-true}
 pub use Rattle.std.proofs.lemmas.Bool.Decides.{nat_tests}

@@ -3,7 +3,7 @@
 -- ends where they would begin.
 use Rattle.std.specs.Prelude.{ℕ, ◌+◌, ◌-◌, ◌*◌, max, Bool, true, false, nat_lt, ◌==◌, ◌&&◌, ◌||◌, if◌then◌else◌, List, [], ◌∷◌, ◌++◌, filter, map, fold, position, unwrap_or}
 use Rattle.std.specs.Option.{option_map_or}
-use Rattle.nc_layout.specs.declared.{slot.Slot.Slot, slot.Layout.Layout, finding.Block.Block, blocks.Extent.Extent}
+use Rattle.nc_layout.specs.declared.{slot.Slot.Slot, slot.FileLayout.FileLayout, finding.Block.Block, blocks.Extent.Extent}
 use Rattle.nc_layout.specs.declared.finding.Block.TheVariants.{Var, Records}
 use Rattle.nc_layout.specs.Slots.{padded_slab, is_fixed, record_slots, slab_in_record, record_size, records_begin, record_count}
 
@@ -43,7 +43,7 @@ records_block slots n begin = record {
 }
 
 -- all blocks: those of slots in the order of the header, then the records, if there are record slots
-unfoldable pub blocks : Layout → List Extent
+unfoldable pub blocks : FileLayout → List Extent
 blocks layout = each_slot fixed_block 0 layout.slots
     ++ option_map_or (λ begin. records_block layout.slots (record_count layout) begin ∷ []) (records_begin layout.slots) []
 

@@ -5,7 +5,7 @@ use Rattle.std.specs.List.{range_with_len}
 use Rattle.std.specs.Option.{option_to_list, option_and_then}
 use Rattle.nc_base.specs.declared.header.NumRecs.{NumRecs}
 use Rattle.nc_base.specs.declared.header.NumRecs.TheVariants.{Known, Streaming}
-use Rattle.nc_layout.specs.declared.{slot.Slot.Slot, slot.Layout.Layout, finding.LayoutFinding.LayoutFinding, blocks.Extent.Extent, file_end.SlabPlace.SlabPlace}
+use Rattle.nc_layout.specs.declared.{slot.Slot.Slot, slot.FileLayout.FileLayout, finding.LayoutFinding.LayoutFinding, blocks.Extent.Extent, file_end.SlabPlace.SlabPlace}
 use Rattle.nc_layout.specs.declared.finding.Slab.TheVariants as slabs
 use Rattle.nc_layout.specs.declared.finding.LayoutPlace.TheVariants as places
 use Rattle.nc_layout.specs.declared.finding.LayoutFact.TheVariants as facts
@@ -16,15 +16,15 @@ use Rattle.nc_layout.specs.FindingIf.{finding_if}
 -- ---- ends
 
 -- the greatest end of the blocks that aren't empty, or the end of the header
-abbrev pub values_end : Layout → ℕ
+abbrev pub values_end : FileLayout → ℕ
 values_end layout = fold max layout.header_end (map (λ (b : Extent). b.end) (filter has_values (blocks layout)))
 
 -- the same with the padding of the blocks
-abbrev pub padding_end : Layout → ℕ
+abbrev pub padding_end : FileLayout → ℕ
 padding_end layout = fold max layout.header_end (map (λ (b : Extent). b.padded_end) (filter has_values (blocks layout)))
 
 -- the same, and not before the records begin (an empty block ends where it begins)
-abbrev pub used_end : Layout → ℕ
+abbrev pub used_end : FileLayout → ℕ
 used_end layout = fold max layout.header_end (map (λ (b : Extent). b.padded_end) (blocks layout))
 
 -- ---- slabs
@@ -42,7 +42,7 @@ slabs_of size n i slot =
     else record { slab = slabs.Var i; begin = slot.begin; end = slot.begin + slot.slab } ∷ []
 
 -- all slabs, in the order of the header
-unfoldable pub all_slabs : Layout → List SlabPlace
+unfoldable pub all_slabs : FileLayout → List SlabPlace
 all_slabs layout = each_slot (slabs_of (record_size layout.slots) (record_count layout)) 0 layout.slots
 
 -- of two slabs, if there are two, the one that begins first: the earlier one, if they begin at one offset
@@ -61,32 +61,32 @@ abbrev pub is_cut : ℕ → SlabPlace → Bool
 is_cut file_len slab = nat_lt file_len slab.end
 
 -- the first slab that isn't whole
-unfoldable pub first_cut_slab : Layout → Option SlabPlace
+unfoldable pub first_cut_slab : FileLayout → Option SlabPlace
 first_cut_slab layout = first_slab (filter (is_cut layout.file_len) (all_slabs layout))
 
 -- ---- findings
 
-abbrev pub missing : Layout → Option LayoutFinding
+abbrev pub missing : FileLayout → Option LayoutFinding
 missing layout =
     option_and_then (λ (cut : SlabPlace).
     finding_if (nat_lt layout.file_len (values_end layout)) (places.Data layout.file_len)
     (facts.Missing layout.file_len (values_end layout) cut.slab))
     (first_cut_slab layout)
 
-abbrev pub end_padding : Layout → Option LayoutFinding
+abbrev pub end_padding : FileLayout → Option LayoutFinding
 end_padding layout =
     finding_if (nat_le (values_end layout) layout.file_len && nat_lt layout.file_len (padding_end layout)) (places.Data layout.file_len)
     (facts.EndPadding layout.file_len (padding_end layout))
 
 -- how many whole records fit into the file, if the header counts fewer
-abbrev pub uncounted_records : Layout → NumRecs → Option ℕ
+abbrev pub uncounted_records : FileLayout → NumRecs → Option ℕ
 uncounted_records layout (Known n) = if nat_lt n (records_by_length layout) then Some (records_by_length layout) else None
 uncounted_records layout Streaming = None
 
-abbrev pub trailing : Layout → Option LayoutFinding
+abbrev pub trailing : FileLayout → Option LayoutFinding
 trailing layout =
     finding_if (nat_lt (used_end layout) layout.file_len) (places.Data (used_end layout))
     (facts.Trailing layout.file_len (used_end layout) (uncounted_records layout layout.numrecs))
 
-unfoldable pub end_findings : Layout → List LayoutFinding
+unfoldable pub end_findings : FileLayout → List LayoutFinding
 end_findings layout = option_to_list (missing layout) ++ option_to_list (end_padding layout) ++ option_to_list (trailing layout)

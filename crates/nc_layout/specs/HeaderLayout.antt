@@ -2,7 +2,7 @@
 use Rattle.std.specs.Prelude.{ℕ, List, map}
 use Rattle.nc_base.specs.declared.{header.Dim.Dim, header.Var.Var, header.Header.Header}
 use Rattle.nc_base.specs.Sizes.{slab_size, is_record_var, is_narrow}
-use Rattle.nc_layout.specs.declared.{slot.Slot.Slot, slot.Layout.Layout}
+use Rattle.nc_layout.specs.declared.{slot.Slot.Slot, slot.FileLayout.FileLayout}
 
 -- the slot of a variable
 abbrev pub slot_of : List Dim → Var → Slot
@@ -14,7 +14,7 @@ slot_of dims var = record {
 }
 
 -- the layout of a file of this length whose header ends at this offset
-abbrev pub layout_of : Header → ℕ → ℕ → Layout
+abbrev pub layout_of : Header → ℕ → ℕ → FileLayout
 layout_of h header_end file_len = record {
   version = h.version;
   numrecs = h.numrecs;

@@ -7,7 +7,7 @@ use Rattle.std.specs.List.{list_any}
 use Rattle.std.specs.Option.{option_to_list, option_and_then}
 use Rattle.nc_base.specs.declared.version.Version.{Version}
 use Rattle.nc_base.specs.declared.version.Version.TheVariants.{Cdf1, Cdf2, Cdf5}
-use Rattle.nc_layout.specs.declared.{slot.Slot.Slot, slot.Layout.Layout, finding.LayoutFinding.LayoutFinding}
+use Rattle.nc_layout.specs.declared.{slot.Slot.Slot, slot.FileLayout.FileLayout, finding.LayoutFinding.LayoutFinding}
 use Rattle.nc_layout.specs.declared.finding.LayoutPlace.TheVariants as places
 use Rattle.nc_layout.specs.declared.finding.LayoutFact.TheVariants as facts
 use Rattle.nc_layout.specs.Slots.{padded_slab, is_fixed, record_slots, records_begin}
@@ -36,7 +36,7 @@ large_variable version is_followed i slot =
 
 -- ---- begin
 
-abbrev pub begin_in_header : Layout → ℕ → Slot → Option LayoutFinding
+abbrev pub begin_in_header : FileLayout → ℕ → Slot → Option LayoutFinding
 begin_in_header layout i slot =
     finding_if (nat_lt slot.begin layout.header_end) (places.Begin i) (facts.BeginInHeader slot.begin layout.header_end)
 
@@ -72,7 +72,7 @@ record_place begin bytes i slot =
     begin
 
 -- all findings at the fields of one slot
-unfoldable pub slot_findings : Layout → ℕ → Slot → List LayoutFinding
+unfoldable pub slot_findings : FileLayout → ℕ → Slot → List LayoutFinding
 slot_findings layout i slot =
     option_to_list (large_variable layout.version (has_successor layout.slots i slot) i slot)
     ++ option_to_list (begin_in_header layout i slot)

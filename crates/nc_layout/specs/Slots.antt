@@ -5,7 +5,7 @@ use Rattle.std.specs.Option.{option_map_or}
 use Rattle.nc_base.specs.Bytes.{padding_len}
 use Rattle.nc_base.specs.declared.header.NumRecs.{NumRecs}
 use Rattle.nc_base.specs.declared.header.NumRecs.TheVariants.{Known, Streaming}
-use Rattle.nc_layout.specs.declared.{slot.Slot.Slot, slot.Layout.Layout}
+use Rattle.nc_layout.specs.declared.{slot.Slot.Slot, slot.FileLayout.FileLayout}
 
 -- with the padding up to the next multiple of four
 abbrev pub padded_slab : Slot → ℕ
@@ -40,11 +40,11 @@ unfoldable pub records_begin : List Slot → Option ℕ
 records_begin slots = least (map (λ (slot : Slot). slot.begin) (record_slots slots))
 
 -- how many whole records lie between the begin of the records and the end of the file
-unfoldable pub records_by_length : Layout → ℕ
+unfoldable pub records_by_length : FileLayout → ℕ
 records_by_length layout = option_map_or (λ begin. (layout.file_len - begin) / record_size layout.slots) (records_begin layout.slots) 0
 
 -- the number of records
-unfoldable pub record_count : Layout → ℕ
+unfoldable pub record_count : FileLayout → ℕ
 record_count layout = of_numrecs layout.numrecs
   where
     of_numrecs : NumRecs → ℕ

@@ -1,4 +1,4 @@
 pub mod Records
 pub mod PassedSlots
-pub mod FileEnds
+pub mod BlockEnds
 pub mod Sweep

@@ -8,7 +8,7 @@ ghost use Rattle.nc_layout.specs.code.Sweep.{value_end, padding_end, further, re
 
 use crate::blocks::Extent;
 use crate::finding::{LayoutFact, LayoutFinding, LayoutPlace, finding_if, push_some};
-use crate::slot::Layout;
+use crate::slot::FileLayout;
 use nc_base::Sequence;
 use std::alloc::AllocError;
 
@@ -24,7 +24,7 @@ pub(crate) struct Reached {
 /// Appends the findings at the begins of the blocks of the file, in no order that is promised. It leaves the blocks in their order.
 pub(crate) fn push_block_findings(
     found: &mut Sequence<LayoutFinding>,
-    layout: &Layout,
+    layout: &FileLayout,
     extents: &mut Vec<Extent>,
 ) -> Result<(), AllocError>
     requires { extents.old.items ≡ blocks layout.now }

@@ -8,7 +8,7 @@ ghost use Rattle.nc_layout.specs.code.Records.{slab_if, AreRecords};
 
 use crate::finding::Block;
 use crate::records::{FileRecords, padded_slab, slab_in_record};
-use crate::slot::{Layout, Slot};
+use crate::slot::{FileLayout, Slot};
 use std::alloc::{AllocError, Global};
 
 /// Where a block lies, beside its name.
@@ -30,7 +30,7 @@ pub struct Extent {
 #[tactic(auto, using(crate::proofs::SlotLists::record_size_le), unfolding(crate::specs::Blocks::blocks))]
 pub(crate) fn blocks(
     alloc: Global,
-    layout: &Layout,
+    layout: &FileLayout,
     records: FileRecords,
 ) -> Result<Vec<Extent>, AllocError>
     requires sound { IsSoundLayout layout.now }
@@ -106,11 +106,11 @@ fn record_slot_at(slots: &[Slot], begin: u64) -> u64
 fn position_of_record_slot(slots: &[Slot], begin: u64) -> Option<usize>
     ensures { result ≡ position (λ slot. slot.is_record && (slot.begin == begin)) slots.now }
 {
-    slots.iter().position(|slot| begins_records(slot, begin))
+    slots.iter().position(|slot| is_record_slot_at(slot, begin))
 }
 
 /// Returns true if it is a record slot that begins at this offset.
-fn begins_records(slot: &Slot, begin: u64) -> bool
+fn is_record_slot_at(slot: &Slot, begin: u64) -> bool
     ensures { result ≡ (slot.now.is_record && (slot.now.begin == begin)) }
 {
     slot.is_record && slot.begin == begin

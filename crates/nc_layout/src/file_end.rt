@@ -5,18 +5,18 @@ ghost use Rattle.nc_layout.specs.Blocks.{blocks};
 ghost use Rattle.nc_layout.specs.Findings.{IsSoundLayout, IsSoundSlot};
 ghost use Rattle.nc_layout.specs.FileEnd.{record_slab, slabs_of, first_of, first_slab, is_cut, first_cut_slab, missing, end_padding, uncounted_records, trailing, end_findings};
 ghost use Rattle.nc_layout.specs.code.Records.{AreRecords};
-ghost use Rattle.nc_layout.specs.code.FileEnds.{AreEnds};
+ghost use Rattle.nc_layout.specs.code.BlockEnds.{AreEnds};
 
 use crate::blocks::Extent;
 use crate::finding::{LayoutFact, LayoutFinding, LayoutPlace, Slab, finding_if, push_some};
 use crate::records::FileRecords;
-use crate::slot::{Layout, Slot};
+use crate::slot::{FileLayout, Slot};
 use nc_base::{NumRecs, Sequence};
 use std::alloc::AllocError;
 
 /// Where the blocks of a file end, or the header if that is later.
 #[derive(Clone, Copy)]
-pub(crate) struct FileEnds {
+pub(crate) struct BlockEnds {
     /// The greatest end of the blocks that aren't empty.
     pub values: u128,
     /// The same with the padding of the blocks.
@@ -40,7 +40,7 @@ pub struct SlabPlace {
 #[tactic(auto, unfolding(crate::specs::FileEnd::end_findings))]
 pub(crate) fn push_end_findings(
     found: &mut Sequence<LayoutFinding>,
-    layout: &Layout,
+    layout: &FileLayout,
     records: FileRecords,
     extents: &[Extent],
 ) -> Result<(), AllocError>
@@ -57,24 +57,24 @@ pub(crate) fn push_end_findings(
 }
 
 /// Returns where the blocks end.
-fn file_ends(layout: &Layout, extents: &[Extent]) -> FileEnds
+fn file_ends(layout: &FileLayout, extents: &[Extent]) -> BlockEnds
     requires { extents.now ≡ blocks layout.now }
     ensures { AreEnds layout.now result }
 {
     let header_end = layout.header_end as u128;
-    let mut ends = FileEnds {
+    let mut ends = BlockEnds {
         values: header_end,
         padding: header_end,
         used: header_end,
     };
     for block in extents {
-        ends = ends_with(ends, *block);
+        ends = ends_including(ends, *block);
     }
     ends
 }
 
 /// Returns the ends with those of one more block.
-fn ends_with(ends: FileEnds, block: Extent) -> FileEnds
+fn ends_including(ends: BlockEnds, block: Extent) -> BlockEnds
     ensures values { result.values
         ≡ (if nat_lt block.begin block.end then max ends.values block.end else ends.values) }
     ensures padding { result.padding
@@ -83,18 +83,18 @@ fn ends_with(ends: FileEnds, block: Extent) -> FileEnds
 {
     let used = ends.used.max(block.padded_end);
     if block.end > block.begin as u128 {
-        FileEnds {
+        BlockEnds {
             values: ends.values.max(block.end),
             padding: ends.padding.max(block.padded_end),
             used,
         }
     } else {
-        FileEnds { used, ..ends }
+        BlockEnds { used, ..ends }
     }
 }
 
 /// Returns the finding that the file ends before the values do.
-fn missing(layout: &Layout, records: FileRecords, ends: FileEnds) -> Option<LayoutFinding>
+fn missing(layout: &FileLayout, records: FileRecords, ends: BlockEnds) -> Option<LayoutFinding>
     requires sound { IsSoundLayout layout.now }
     requires records { AreRecords layout.now records }
     requires ends { AreEnds layout.now ends }
@@ -113,7 +113,7 @@ fn missing(layout: &Layout, records: FileRecords, ends: FileEnds) -> Option<Layo
 }
 
 /// Returns the finding that the file has all values, but ends before their padding does.
-fn end_padding(layout: &Layout, ends: FileEnds) -> Option<LayoutFinding>
+fn end_padding(layout: &FileLayout, ends: BlockEnds) -> Option<LayoutFinding>
     requires { AreEnds layout.now ends }
     ensures { result ≡ end_padding layout.now }
 {
@@ -129,7 +129,7 @@ fn end_padding(layout: &Layout, ends: FileEnds) -> Option<LayoutFinding>
 }
 
 /// Returns the finding that the file has bytes after the values and their padding.
-fn trailing(layout: &Layout, records: FileRecords, ends: FileEnds) -> Option<LayoutFinding>
+fn trailing(layout: &FileLayout, records: FileRecords, ends: BlockEnds) -> Option<LayoutFinding>
     requires records { AreRecords layout.now records }
     requires ends { AreEnds layout.now ends }
     ensures { result ≡ trailing layout.now }
@@ -150,7 +150,7 @@ fn trailing(layout: &Layout, records: FileRecords, ends: FileEnds) -> Option<Lay
 }
 
 /// Returns the number of whole records that fit into the file, if the header counts fewer.
-fn uncounted_records(layout: &Layout, records: FileRecords) -> Option<u64>
+fn uncounted_records(layout: &FileLayout, records: FileRecords) -> Option<u64>
     requires { AreRecords layout.now records }
     ensures { result ≡ uncounted_records layout.now layout.now.numrecs }
 {
@@ -161,7 +161,7 @@ fn uncounted_records(layout: &Layout, records: FileRecords) -> Option<u64>
 }
 
 /// Returns the first slab that the file doesn't have whole.
-fn first_cut_slab(layout: &Layout, records: FileRecords) -> Option<SlabPlace>
+fn first_cut_slab(layout: &FileLayout, records: FileRecords) -> Option<SlabPlace>
     requires sound { IsSoundLayout layout.now }
     requires records { AreRecords layout.now records }
     ensures { result ≡ first_cut_slab layout.now }

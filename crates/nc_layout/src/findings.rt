@@ -9,7 +9,7 @@ use crate::file_end::push_end_findings;
 use crate::finding::LayoutFinding;
 use crate::numrecs_rules::push_numrecs_findings;
 use crate::records::file_records;
-use crate::slot::Layout;
+use crate::slot::FileLayout;
 use crate::slot_rules::push_slot_findings;
 use nc_base::Sequence;
 use std::alloc::{AllocError, Global};
@@ -21,7 +21,7 @@ use std::alloc::{AllocError, Global};
 /// many records there are.
 pub fn layout_findings(
     alloc: Global,
-    layout: &Layout,
+    layout: &FileLayout,
 ) -> Result<Sequence<LayoutFinding>, AllocError>
     requires { IsSoundLayout layout.now }
     ensures { IfOk result (λ found. IsPermutation (layout_findings layout.now) found) }

@@ -5,12 +5,12 @@ ghost use Rattle.nc_base.specs.Sizes.{slab_size, slab_limit, is_narrow};
 ghost use Rattle.nc_layout.specs.Findings.{IsSoundLayout};
 ghost use Rattle.nc_layout.specs.HeaderLayout.{slot_of, layout_of};
 
-use crate::slot::{Layout, Slot};
-use nc_base::{Dim, Header, Sequence, Var, is_record_var, slab_of};
+use crate::slot::{FileLayout, Slot};
+use nc_base::{Dim, Header, Sequence, Var, is_record_var, slab_len};
 use std::alloc::{AllocError, Global};
 
 /// Returns the layout of a file of `file_len` bytes with this header, which ends at the offset `header_end`. Returns `None` if the layout
-/// isn't sound ([`Layout::is_sound`]), as the rules need it. Errs only if an allocation fails.
+/// isn't sound ([`FileLayout::is_sound`]), as the rules need it. Errs only if an allocation fails.
 ///
 /// If the bytes of the file spell the header, its layout is sound (`ncnccheck_laws::laws::spelled_headers_have_sound_layouts`).
 pub fn sound_layout(
@@ -18,13 +18,13 @@ pub fn sound_layout(
     header: &Header,
     header_end: u64,
     file_len: u64,
-) -> Result<Option<Layout>, AllocError>
+) -> Result<Option<FileLayout>, AllocError>
     ensures { let layout = layout_of header.now header_end file_len in
         IfOk result (λ found. SomeIff found (IsSoundLayout layout) layout) }
 {
     match slots_of(alloc, header)? {
         Some(slots) => {
-            let layout = Layout {
+            let layout = FileLayout {
                 version: header.version,
                 numrecs: header.numrecs,
                 slots,
@@ -38,7 +38,7 @@ pub fn sound_layout(
 }
 
 /// Returns the layout if it is sound.
-fn if_sound(layout: Layout) -> Option<Layout>
+fn if_sound(layout: FileLayout) -> Option<FileLayout>
     ensures { SomeIff result (IsSoundLayout layout) layout }
 {
     if layout.is_sound() {
@@ -68,7 +68,7 @@ fn slots_of(alloc: Global, header: &Header) -> Result<Option<Sequence<Slot>>, Al
 fn slot_of(dims: &[Dim], var: &Var) -> Option<Slot>
     ensures { SomeIff result (slab_size dims.now var.now ≤ slab_limit) (slot_of dims.now var.now) }
 {
-    let slab = slab_of(dims, var.dimids.as_slice(), var.ty)?;
+    let slab = slab_len(dims, var.dimids.as_slice(), var.ty)?;
     Some(Slot {
         begin: var.begin_at,
         slab,

@@ -23,4 +23,4 @@ pub use finding::{Block, LayoutFact, LayoutFinding, LayoutPlace, Slab};
 pub use findings::layout_findings;
 pub use header_layout::sound_layout;
 pub use records::padded_slab;
-pub use slot::{Layout, Slot};
+pub use slot::{FileLayout, Slot};

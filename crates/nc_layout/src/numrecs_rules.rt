@@ -6,7 +6,7 @@ ghost use Rattle.nc_layout.specs.code.Records.{AreRecords};
 
 use crate::finding::{LayoutFact, LayoutFinding, LayoutPlace, finding_if, push_some};
 use crate::records::FileRecords;
-use crate::slot::Layout;
+use crate::slot::FileLayout;
 use nc_base::{NumRecs, Sequence};
 use std::alloc::AllocError;
 
@@ -14,7 +14,7 @@ use std::alloc::AllocError;
 #[tactic(auto, unfolding(crate::specs::NumRecsRules::numrecs_findings))]
 pub(crate) fn push_numrecs_findings(
     found: &mut Sequence<LayoutFinding>,
-    layout: &Layout,
+    layout: &FileLayout,
     records: FileRecords,
 ) -> Result<(), AllocError>
     requires { AreRecords layout.now records }
@@ -26,7 +26,7 @@ pub(crate) fn push_numrecs_findings(
 }
 
 /// Returns the finding that the header has the streaming mark in place of a number.
-fn streaming(layout: &Layout, records: FileRecords) -> Option<LayoutFinding>
+fn streaming(layout: &FileLayout, records: FileRecords) -> Option<LayoutFinding>
     requires { AreRecords layout.now records }
     ensures { result ≡ streaming layout.now layout.now.numrecs }
 {
@@ -43,7 +43,7 @@ fn streaming(layout: &Layout, records: FileRecords) -> Option<LayoutFinding>
 }
 
 /// Returns the finding that there are records, but no record slot.
-fn unused_records(layout: &Layout, records: FileRecords) -> Option<LayoutFinding>
+fn unused_records(layout: &FileLayout, records: FileRecords) -> Option<LayoutFinding>
     requires { AreRecords layout.now records }
     ensures { result ≡ unused_records layout.now layout.now.numrecs }
 {

@@ -5,7 +5,7 @@ ghost use Rattle.nc_layout.specs.Slots.{padded_slab, record_slots, is_sole_narro
 ghost use Rattle.nc_layout.specs.Findings.{IsSoundSlot, IsSoundLayout};
 ghost use Rattle.nc_layout.specs.code.Records.{least_with, sole, slab_if, AreRecords};
 
-use crate::slot::{Layout, Slot};
+use crate::slot::{FileLayout, Slot};
 use nc_base::{NumRecs, padding_len};
 
 /// The records of a file.
@@ -25,7 +25,7 @@ pub(crate) struct FileRecords {
 
 /// Returns what the file has as records.
 #[tactic(auto, unfolding(crate::specs::Slots::record_count, crate::specs::Slots::records_by_length))]
-pub(crate) fn file_records(layout: &Layout) -> FileRecords
+pub(crate) fn file_records(layout: &FileLayout) -> FileRecords
     requires { IsSoundLayout layout.now }
     ensures { AreRecords layout.now result }
 {

@@ -17,7 +17,7 @@ pub struct Slot {
 
 /// What the rules on the layout of a file depend on.
 #[derive(Debug, Drop)]
-pub struct Layout {
+pub struct FileLayout {
     /// The version of the format.
     pub version: Version,
     /// The number of records, as the header has it.

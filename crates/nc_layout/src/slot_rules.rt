@@ -11,7 +11,7 @@ ghost use Rattle.nc_layout.specs.code.PassedSlots.{HasPassed, order_after, passe
 
 use crate::finding::{LayoutFact, LayoutFinding, LayoutPlace, finding_if, push_some};
 use crate::records::{FileRecords, padded_slab};
-use crate::slot::{Layout, Slot};
+use crate::slot::{FileLayout, Slot};
 use nc_base::{Sequence, Version};
 use std::alloc::AllocError;
 
@@ -33,7 +33,7 @@ pub(crate) struct PassedSlots {
 /// Appends the findings at the size or the begin of each variable.
 pub(crate) fn push_slot_findings(
     found: &mut Sequence<LayoutFinding>,
-    layout: &Layout,
+    layout: &FileLayout,
     records: FileRecords,
 ) -> Result<(), AllocError>
     requires sound { IsSoundLayout layout.now }
@@ -95,7 +95,7 @@ fn passed_after(passed: PassedSlots, i: u64, slot: Slot) -> PassedSlots
 #[tactic(auto, using(crate::proofs::PassedLists::begin_is_small, crate::proofs::PassedLists::bytes_are_small))]
 fn push_findings_of_slot(
     found: &mut Sequence<LayoutFinding>,
-    layout: &Layout,
+    layout: &FileLayout,
     records: FileRecords,
     passed: PassedSlots,
     i: u64,
@@ -157,7 +157,7 @@ fn large_variable(version: Version, is_followed: bool, i: u64, slot: Slot) -> Op
 }
 
 /// Returns the finding that the variable begins inside of the header.
-fn begin_in_header(layout: &Layout, i: u64, slot: Slot) -> Option<LayoutFinding>
+fn begin_in_header(layout: &FileLayout, i: u64, slot: Slot) -> Option<LayoutFinding>
     ensures { result ≡ begin_in_header layout.now i slot }
 {
     finding_if(

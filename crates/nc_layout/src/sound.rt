@@ -6,7 +6,7 @@ ghost use Rattle.nc_layout.specs.Slots.{padded_slab, record_slots};
 ghost use Rattle.nc_layout.specs.Findings.{IsSoundSlot};
 
 use crate::records::padded_slab;
-use crate::slot::{Layout, Slot};
+use crate::slot::{FileLayout, Slot};
 use nc_base::RECORD_LIMIT;
 
 /// The greatest slab in bytes: 2^48.
@@ -15,7 +15,7 @@ const SLAB_LIMIT: u64 = 1 << 48;
 /// What a begin is below: 2^63.
 const BEGIN_LIMIT: u64 = 1 << 63;
 
-impl Layout {
+impl FileLayout {
     ghost use Rattle.nc_layout.specs.Findings.{IsSoundLayout};
 
     /// Returns true if the layout is sound.

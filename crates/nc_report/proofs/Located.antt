@@ -1,6 +1,6 @@
 -- Findings at fields that are kept as numbers.
 use Rattle.std.proofs.Common.{◌≡◌, ℕ, ◌+◌, List, [], ◌∷◌, ◌++◌, map, slice_get, Option, Some, Result, Ok, Err, OnOk, SomeIff, append_assoc, arith, refl, sym, ap, ap₂, subst, ◌∙◌}
-use Rattle.nc_report.proofs.Prelude.{IsPermutation, IsPermutation-map, IsPermutation-append, IsPermutation-refl, option_map, option_to_list, Version, append-nil, Header, FormatFault, Listing, Entry, Slot, Layout, LayoutFinding, padded_slab, each_slot, layout_findings, IsSoundLayout, layout_of, Fact, Finding, NumberField, NumberFields, Indexed, indexed, vsize_findings, whole_findings, is_vsize, named, vsize_finding, found_at, located, number_field, HoldsNumbers, found_at_number, located_number, vsize_fact, vsize_facts}
+use Rattle.nc_report.proofs.Prelude.{IsPermutation, IsPermutation-map, IsPermutation-append, IsPermutation-refl, option_map, option_to_list, Version, append-nil, Header, FormatFault, Listing, Entry, Slot, FileLayout, LayoutFinding, padded_slab, each_slot, layout_findings, IsSoundLayout, layout_of, Fact, Finding, NumberField, NumberFields, Indexed, indexed, vsize_findings, whole_findings, is_vsize, named, vsize_finding, found_at, located, number_field, HoldsNumbers, found_at_number, located_number, vsize_fact, vsize_facts}
 use Rattle.std.proofs.lemmas.Option.{slice_get-map}
 
 -- at a field in this place of a list
@@ -18,7 +18,7 @@ sizes : (v : Version) (fs : List Indexed) (i : ℕ) (slots : List Slot)
 sizes v fs i [] = refl
 sizes v fs i (slot ∷ slots) = grind (arith, slice_get-map, sized, sizes v fs (i + 1) slots)
 
-pub vsizes-numbers : (fields : List Indexed) (ns : NumberFields) (layout : Layout) → HoldsNumbers fields ns → vsize_facts layout ns.vsizes ≡ vsize_findings layout fields
+pub vsizes-numbers : (fields : List Indexed) (ns : NumberFields) (layout : FileLayout) → HoldsNumbers fields ns → vsize_facts layout ns.vsizes ≡ vsize_findings layout fields
 unfolding vsize_findings
 vsizes-numbers fields ns layout h =
     ap (λ (xs : List NumberField). vsize_facts layout xs) h.vsizes ∙ sizes layout.version (named is_vsize fields) 0 layout.slots
@@ -28,18 +28,18 @@ map-same f g [] same = refl
 map-same f g (x ∷ xs) same = grind (arith, same x, map-same f g xs same)
 
 -- the findings at their fields, in whichever order they were found
-pub pushed-located : (ns : NumberFields) (layout : Layout) (of_layout slice : List LayoutFinding) (old new : List Finding) {A E : Type 0} (result : Result A E) → IsPermutation (layout_findings layout) of_layout
+pub pushed-located : (ns : NumberFields) (layout : FileLayout) (of_layout slice : List LayoutFinding) (old new : List Finding) {A E : Type 0} (result : Result A E) → IsPermutation (layout_findings layout) of_layout
     → slice ≡ of_layout → OnOk result (new ≡ old ++ map (located_number ns) slice) → OnOk result (IsPermutation (old ++ map (located_number ns) (layout_findings layout)) new)
 pushed-located ns layout of_layout slice old new (Ok x) p same is =
     subst (λ (xs : List Finding). IsPermutation (old ++ map (located_number ns) (layout_findings layout)) xs) (sym is)
     (IsPermutation-append old old _ _ (IsPermutation-refl old) (IsPermutation-map (located_number ns) _ _ (subst (λ (xs : List LayoutFinding). IsPermutation (layout_findings layout) xs) (sym same) p)))
 pushed-located ns layout of_layout slice old new (Err e) p same is = tt
 
-is-that : (answer : Option Layout) (P : Type 0) (that x : Layout) → SomeIff answer P that → answer ≡ Some x → x ≡ that
+is-that : (answer : Option FileLayout) (P : Type 0) (that x : FileLayout) → SomeIff answer P that → answer ≡ Some x → x ≡ that
 is-that answer P that x is some = grind arith
 
 -- what is found of a whole header
-pub whole-findings : (l : Listing) (h : Header) (layout : Layout) (ns : NumberFields) (entries : List Entry) (found one two : List Finding) (answer : Option Layout) → l.header ≡ Ok h
+pub whole-findings : (l : Listing) (h : Header) (layout : FileLayout) (ns : NumberFields) (entries : List Entry) (found one two : List Finding) (answer : Option FileLayout) → l.header ≡ Ok h
     → SomeIff answer (IsSoundLayout (layout_of h l.end l.file_len)) (layout_of h l.end l.file_len) → answer ≡ Some layout → entries ≡ l.entries → HoldsNumbers (indexed entries) ns
     → one ≡ found ++ vsize_facts layout ns.vsizes → IsPermutation (one ++ map (located_number ns) (layout_findings layout)) two → IsPermutation (found ++ whole_findings l) two
 unfolding whole_findings

@@ -1,6 +1,6 @@
 -- Names of lists in a map, and the first fields that are they.
 use Rattle.std.proofs.Common.{◌≡◌, ℕ, Bool, true, false, if◌then◌else◌, ◌&&◌, ◌==◌, List, [], ◌∷◌, ◌++◌, refl, arith, Option, Some, None, Bor}
-use Rattle.nc_report.proofs.Prelude.{slice_cmp, bytes_decides, option_map_or, option_or, Ordering, is_eq, nat_cmp, ordering_then, NameList, Indexed, NameKey, is_same_key, is_same_list, is_first, key_of, has_key, first_index, FirstNames, HasFirst, hash, index_if, is_first_of, is_key_of}
+use Rattle.nc_report.proofs.Prelude.{slice_cmp, bytes_decides, option_map_or, option_or, Ordering, is_eq, nat_cmp, ordering_then, NameScope, Indexed, NameKey, is_same_key, is_same_list, is_first, key_of, has_key, first_index, FirstNames, HasFirst, hash, index_if, is_first_of, is_key_of}
 use Rattle.std.specs.BTreeMap.{BTreeMap, Updates, is_at}
 use Rattle.std.specs.Map.{lookup}
 use Rattle.std.proofs.lemmas.Grind.{common_steps}
@@ -12,7 +12,7 @@ use Rattle.nc_report.specs.contracts.names.NameListOrd.TheImpl as lists
 
 -- the list that a name is in, and its lent bytes
 abbrev pub LentName : Type 0
-LentName = NameList × Bor (List ℕ)
+LentName = NameScope × Bor (List ℕ)
 
 abbrev pub lent : LentName → NameKey
 lent name = (name.0, name.1.now)
@@ -35,7 +35,7 @@ key_cmp a b = ordering_then (nat_cmp a.0 b.0) (ordering_then (lists.ghosts.cmp a
 same_number : (i k : ℕ) → is_eq (nat_cmp i k) ≡ (i == k)
 same_number i k = grind (arith, common_steps)
 
-same_list : (a b : NameList) → is_eq (lists.ghosts.cmp a b) ≡ is_same_list a b
+same_list : (a b : NameScope) → is_eq (lists.ghosts.cmp a b) ≡ is_same_list a b
 same_list v0 v1 = grind (arith, same_number)
 
 both : (a b : Ordering) → is_eq (ordering_then a b) ≡ (is_eq a && is_eq b)
@@ -55,7 +55,7 @@ lookup-same p q same (e ∷ es) = grind (arith, same e.0, lookup-same p q same e
 
 -- ---- equal keys
 
-same_lists : (a b : NameList) → is_same_list a b ≡ true → a ≡ b
+same_lists : (a b : NameScope) → is_same_list a b ≡ true → a ≡ b
 same_lists v0 v1 h = grind (arith, common_steps)
 
 same_keys : (a b : NameKey) → is_same_key a b ≡ true → a ≡ b

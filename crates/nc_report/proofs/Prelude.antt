@@ -5,7 +5,7 @@ pub use Rattle.nc_layout.specs.Blocks.{each_slot}
 pub use Rattle.nc_layout.specs.Findings.{IsSoundLayout, layout_findings}
 pub use Rattle.nc_layout.specs.HeaderLayout.{layout_of}
 pub use Rattle.nc_layout.specs.Slots.{padded_slab}
-pub use Rattle.nc_layout.specs.declared.{finding.LayoutFinding.LayoutFinding, finding.LayoutPlace.LayoutPlace, slot.Layout.Layout, slot.Slot.Slot}
+pub use Rattle.nc_layout.specs.declared.{finding.LayoutFinding.LayoutFinding, finding.LayoutPlace.LayoutPlace, slot.FileLayout.FileLayout, slot.Slot.Slot}
 pub use Rattle.nc_report.specs.Ahead.{ahead_of, is_count, is_type, is_values, is_var_type, number_at, values_at, var_type_at}
 pub use Rattle.nc_report.specs.AttributeRules.{attribute_finding, finding_by_name}
 unfoldable pub use Rattle.nc_report.specs.AttributeRules.{attribute_findings}
@@ -20,7 +20,7 @@ unfoldable pub use Rattle.nc_report.specs.WholeHeader.{vsize_findings, whole_fin
 pub use Rattle.nc_report.specs.code.FirstNames.{HasFirst, hash, index_if, index_of, is_first_of, is_key_of}
 pub use Rattle.nc_report.specs.code.Passes.{ahead_with, each_backward}
 pub use Rattle.nc_report.specs.code.WholeHeaders.{HasSoundLayout, HoldsNumbers, found_at_number, located_number, number_field, vsize_fact, vsize_facts}
-pub use Rattle.nc_report.specs.declared.{ahead.Ahead.Ahead, ahead.NumberAt.NumberAt, ahead.ValuesAt.ValuesAt, finding.Fact.Fact, finding.Finding.Finding, kind.Kind.Kind, names.FirstNames.FirstNames, names.NameList.NameList, number_fields.NumberField.NumberField, number_fields.NumberFields.NumberFields}
+pub use Rattle.nc_report.specs.declared.{ahead.Ahead.Ahead, ahead.NumberField.NumberField, ahead.ValuesAt.ValuesAt, finding.Fact.Fact, finding.Finding.Finding, kind.Kind.Kind, names.FirstNames.FirstNames, names.NameScope.NameScope, number_fields.NumberFields.NumberFields}
 pub use Rattle.std.proofs.lemmas.Bool.{OnTrue_at, OnTrue_from, and_parts, false_from_ne_true}
 pub use Rattle.std.proofs.lemmas.Cmp.{nat_cmp_total, on_total, then_total, tied_itself}
 pub use Rattle.std.proofs.lemmas.List.{append-nil, at_drop_more, length-take-le, take_more}

@@ -9,7 +9,7 @@ use Rattle.nc_fields.specs.declared.{entry.Content.Content, place.FieldName.Fiel
 use Rattle.nc_fields.specs.declared.entry.Content.TheVariants as content
 use Rattle.nc_fields.specs.declared.place.FieldName.TheVariants as name
 use Rattle.nc_fields.specs.declared.place.Owner.TheVariants as owner
-use Rattle.nc_report.specs.declared.{ahead.NumberAt.NumberAt, ahead.ValuesAt.ValuesAt, ahead.Ahead.Ahead}
+use Rattle.nc_report.specs.declared.{ahead.NumberField.NumberField, ahead.ValuesAt.ValuesAt, ahead.Ahead.Ahead}
 use Rattle.nc_report.specs.Indexed.{Indexed}
 
 -- ---- kinds of fields
@@ -56,12 +56,12 @@ is_values f = is_values_name f.entry.place.name
 
 -- ---- what lies ahead
 
-abbrev pub number_in : ℕ → ℕ → Content → Option NumberAt
+abbrev pub number_in : ℕ → ℕ → Content → Option NumberField
 number_in index offset (content.Number n) = Some (record { index = index; offset = offset; number = n })
 number_in index offset c = None
 
 -- the field, if it is a number
-abbrev pub number_at : Indexed → Option NumberAt
+abbrev pub number_at : Indexed → Option NumberField
 number_at f = number_in f.index f.entry.offset f.entry.content
 
 -- the version lacks the type
@@ -70,7 +70,7 @@ is_bad_type (Some BadType) = true
 is_bad_type fault = false
 
 -- the field, the type of a variable, if the version has it
-abbrev pub var_type_at : Indexed → Option NumberAt
+abbrev pub var_type_at : Indexed → Option NumberField
 var_type_at f = if is_bad_type f.entry.fault then None else number_at f
 
 abbrev pub values_in : ℕ → ℕ → Content → Option ValuesAt
@@ -83,7 +83,7 @@ abbrev pub values_at : Indexed → Option ValuesAt
 values_at f = values_in f.index f.entry.offset f.entry.content
 
 -- the next field of a kind, if it is a number
-abbrev pub next_number : (Indexed → Bool) → List Indexed → Option NumberAt
+abbrev pub next_number : (Indexed → Bool) → List Indexed → Option NumberField
 next_number is_kind after = option_and_then number_at (find is_kind after)
 
 -- the next values, if they are whole

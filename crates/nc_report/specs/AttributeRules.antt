@@ -6,7 +6,7 @@ use Rattle.nc_fields.specs.declared.{entry.Content.Content, place.FieldName.Fiel
 use Rattle.nc_fields.specs.declared.entry.Content.TheVariants as content
 use Rattle.nc_fields.specs.declared.place.FieldName.TheVariants as name
 use Rattle.nc_fields.specs.declared.place.Owner.TheVariants as owner
-use Rattle.nc_report.specs.declared.{finding.Finding.Finding, ahead.NumberAt.NumberAt, ahead.ValuesAt.ValuesAt, ahead.Ahead.Ahead}
+use Rattle.nc_report.specs.declared.{finding.Finding.Finding, ahead.NumberField.NumberField, ahead.ValuesAt.ValuesAt, ahead.Ahead.Ahead}
 use Rattle.nc_report.specs.declared.finding.Fact.TheVariants.{EmptyList, EmptyAttribute, TrailingNul, FillType, FillCount}
 use Rattle.nc_report.specs.Indexed.{Indexed, finding_at, finding, each_before}
 use Rattle.nc_report.specs.Ahead.{ahead_of}
@@ -19,14 +19,14 @@ finding_if holds found = if holds then Some found else None
 -- ---- lists
 
 -- A list has a tag other than 0, and no elements. (The NetCDF Classic Format Specification writes such a list as `ABSENT`, with the tag 0.)
-abbrev pub empty_list : Indexed → Content → Option NumberAt → Option Finding
+abbrev pub empty_list : Indexed → Content → Option NumberField → Option Finding
 empty_list f (content.Number tag) (Some next) = finding_if (not (tag == 0) && (next.number == 0)) (finding f EmptyList)
 empty_list f c next = None
 
 -- ---- values of attributes
 
 -- no values, which no CDL text gives an attribute of another type than char
-abbrev pub empty_attribute : NumberAt → Option Finding
+abbrev pub empty_attribute : NumberField → Option Finding
 empty_attribute count = finding_if (count.number == 0) (finding_at count.index count.offset EmptyAttribute)
 
 -- a NUL at the end, which CDL texts leave out
@@ -42,12 +42,12 @@ type_finding c ahead = None
 -- ---- fill values
 
 -- not one value
-abbrev pub fill_count : NumberAt → Option Finding
+abbrev pub fill_count : NumberField → Option Finding
 fill_count count = finding_if (not (count.number == 1)) (finding_at count.index count.offset FillCount)
 
 -- Not the type of the variable, or not one value. (By the NetCDF Classic Format Specification a `_FillValue` should be one value of the
 -- type of its variable.)
-abbrev pub fill_finding : Option NumberAt → Option NumberAt → Option NumberAt → Option Finding
+abbrev pub fill_finding : Option NumberField → Option NumberField → Option NumberField → Option Finding
 fill_finding (Some type_code) (Some var_type) count =
     if type_code.number == var_type.number
     then option_and_then fill_count count

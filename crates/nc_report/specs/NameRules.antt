@@ -8,12 +8,12 @@ use Rattle.nc_fields.specs.declared.{entry.Content.Content, entry.Entry.Entry, p
 use Rattle.nc_fields.specs.declared.entry.Content.TheVariants as content
 use Rattle.nc_fields.specs.declared.place.FieldName.TheVariants as name
 use Rattle.nc_fields.specs.declared.place.Owner.TheVariants as owner
-use Rattle.nc_report.specs.declared.{finding.Finding.Finding, names.NameList.NameList}
-use Rattle.nc_report.specs.declared.names.NameList.TheVariants.{Dims, GlobalAtts, Vars, VarAtts}
+use Rattle.nc_report.specs.declared.{finding.Finding.Finding, names.NameScope.NameScope}
+use Rattle.nc_report.specs.declared.names.NameScope.TheVariants.{Dims, GlobalAtts, Vars, VarAtts}
 use Rattle.nc_report.specs.declared.finding.Fact.TheVariants.{DuplicateName}
 use Rattle.nc_report.specs.Indexed.{Indexed, finding, each_after}
 
-abbrev pub is_same_list : NameList → NameList → Bool
+abbrev pub is_same_list : NameScope → NameScope → Bool
 is_same_list Dims Dims = true
 is_same_list GlobalAtts GlobalAtts = true
 is_same_list Vars Vars = true
@@ -21,7 +21,7 @@ is_same_list (VarAtts i) (VarAtts k) = i == k
 is_same_list list other = false
 
 -- the list that this is an element of
-abbrev pub list_of : Owner → Option NameList
+abbrev pub list_of : Owner → Option NameScope
 list_of owner.Header = None
 list_of (owner.Dim i) = Some Dims
 list_of (owner.GlobalAtt i) = Some GlobalAtts
@@ -30,7 +30,7 @@ list_of (owner.VarAtt var att) = Some (VarAtts var)
 
 -- a name, and the list that it is in
 abbrev pub NameKey : Type 0
-NameKey = NameList × Bytes
+NameKey = NameScope × Bytes
 
 abbrev pub is_same_key : NameKey → NameKey → Bool
 is_same_key a b = is_same_list a.0 b.0 && bytes_eq a.1 b.1

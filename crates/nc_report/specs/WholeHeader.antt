@@ -6,7 +6,7 @@ use Rattle.nc_base.specs.Grammar.{vsize_of}
 use Rattle.nc_fields.specs.declared.{place.FieldName.FieldName, header.Listing.Listing}
 use Rattle.nc_fields.specs.declared.place.FieldName.TheVariants as name
 use Rattle.nc_fields.specs.Entries.{number_of}
-use Rattle.nc_layout.specs.declared.{slot.Layout.Layout, finding.LayoutFinding.LayoutFinding}
+use Rattle.nc_layout.specs.declared.{slot.FileLayout.FileLayout, finding.LayoutFinding.LayoutFinding}
 use Rattle.nc_layout.specs.declared.finding.LayoutPlace.TheVariants as places
 use Rattle.nc_layout.specs.Slots.{padded_slab}
 use Rattle.nc_layout.specs.Blocks.{each_slot}
@@ -42,7 +42,7 @@ vsize_finding v padded None = None
 vsize_finding v padded (Some f) =
     let expected = vsize_of v padded in if number_of f.entry.content == expected then None else Some (finding f (fact.Vsize expected))
 
-unfoldable pub vsize_findings : Layout → List Indexed → List Finding
+unfoldable pub vsize_findings : FileLayout → List Indexed → List Finding
 vsize_findings layout fields = each_slot (λ i slot. option_to_list (vsize_finding layout.version (padded_slab slot) (slice_get (named is_vsize fields) i))) 0 layout.slots
 
 -- ---- the layout
@@ -64,7 +64,7 @@ located fields l = elim l.place [
 -- ---- all of them
 
 -- in a file with this layout, whose header has these fields
-abbrev pub layout_facts : Layout → List Indexed → List Finding
+abbrev pub layout_facts : FileLayout → List Indexed → List Finding
 layout_facts layout fields = vsize_findings layout fields ++ map (located fields) (layout_findings layout)
 
 unfoldable pub whole_findings : Listing → List Finding

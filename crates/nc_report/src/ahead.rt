@@ -10,7 +10,7 @@ use nc_fields::{Content, Entry, FieldName, Owner};
 
 /// A field that is a number.
 #[derive(Clone, Copy, Debug, PartialEq, Eq)]
-pub struct NumberAt {
+pub struct NumberField {
     /// The index of the field in the listing.
     pub index: u64,
     /// The offset of the field.
@@ -34,15 +34,15 @@ pub struct ValuesAt {
 #[derive(Clone, Copy, Debug, PartialEq, Eq)]
 pub struct Ahead {
     /// The next field, if it is a number.
-    pub next: Option<NumberAt>,
+    pub next: Option<NumberField>,
     /// The next type of an attribute or a variable.
-    pub type_code: Option<NumberAt>,
+    pub type_code: Option<NumberField>,
     /// The next number of an attribute's values.
-    pub count: Option<NumberAt>,
+    pub count: Option<NumberField>,
     /// The next values of an attribute.
     pub values: Option<ValuesAt>,
     /// The next type of a variable, if the version has it.
-    pub var_type: Option<NumberAt>,
+    pub var_type: Option<NumberField>,
 }
 
 /// Returns what lies ahead of the last field: nothing.
@@ -80,11 +80,11 @@ impl Ahead {
 }
 
 /// Returns the field of this index, if it is a number.
-fn number_at(i: u64, entry: &Entry) -> Option<NumberAt>
+fn number_at(i: u64, entry: &Entry) -> Option<NumberField>
     ensures { result ≡ number_at (field_at i entry.now) }
 {
     match entry.content {
-        Content::Number(number) => Some(NumberAt {
+        Content::Number(number) => Some(NumberField {
             index: i,
             offset: entry.offset,
             number,
@@ -94,7 +94,7 @@ fn number_at(i: u64, entry: &Entry) -> Option<NumberAt>
 }
 
 /// Returns the field of this index, the type of a variable, if the version has it.
-fn var_type_at(i: u64, entry: &Entry) -> Option<NumberAt>
+fn var_type_at(i: u64, entry: &Entry) -> Option<NumberField>
     ensures { result ≡ var_type_at (field_at i entry.now) }
 {
     if is_bad_type(entry.fault) {

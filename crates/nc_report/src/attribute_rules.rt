@@ -7,7 +7,7 @@ ghost use Rattle.nc_report.specs.AttributeRules.{attribute_findings, empty_attri
 ghost use Rattle.nc_report.specs.code.FirstNames.{HasFirst, is_first_of};
 ghost use Rattle.nc_report.specs.code.Passes.{Appended};
 
-use crate::ahead::{Ahead, NumberAt, ValuesAt, nothing_ahead};
+use crate::ahead::{Ahead, NumberField, ValuesAt, nothing_ahead};
 use crate::finding::{Fact, Finding, finding_at, push_some};
 use crate::name_rules::is_first;
 use crate::names::FirstNames;
@@ -76,7 +76,7 @@ fn is_var_attribute(owner: Owner) -> bool
 }
 
 /// Returns the finding that the list of this tag is empty.
-fn empty_list(i: u64, entry: &Entry, next: Option<NumberAt>) -> Option<Finding>
+fn empty_list(i: u64, entry: &Entry, next: Option<NumberField>) -> Option<Finding>
     ensures { result ≡ empty_list (field_at i entry.now) entry.now.content next }
 {
     let Content::Number(tag) = entry.content else {
@@ -101,7 +101,7 @@ fn type_finding(code: &Content, ahead: &Ahead) -> Option<Finding>
 }
 
 /// Returns the finding that an attribute has no values.
-fn empty_attribute(count: NumberAt) -> Option<Finding>
+fn empty_attribute(count: NumberField) -> Option<Finding>
     ensures { result ≡ empty_attribute count }
 {
     finding_if(
@@ -162,7 +162,7 @@ fn fill_finding(ahead: &Ahead) -> Option<Finding>
 }
 
 /// Returns the finding that a fill value isn't one value.
-fn fill_count(count: NumberAt) -> Option<Finding>
+fn fill_count(count: NumberField) -> Option<Finding>
     ensures { result ≡ fill_count count }
 {
     finding_if(

@@ -17,7 +17,7 @@ mod number_fields;
 mod report;
 mod whole_header;
 
-pub use ahead::{Ahead, NumberAt, ValuesAt};
+pub use ahead::{Ahead, NumberField, ValuesAt};
 pub use field_rules::{HIGHEST_RANK, LARGE_COUNT, LONGEST_NAME};
 pub use finding::{Fact, Finding};
 pub use kind::{Kind, Severity};

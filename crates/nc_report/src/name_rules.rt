@@ -7,7 +7,7 @@ ghost use Rattle.nc_report.specs.NameRules.{duplicate_name, is_name_name, key_of
 ghost use Rattle.nc_report.specs.code.FirstNames.{HasFirst, is_first_of};
 
 use crate::finding::{Fact, Finding, finding_at, push_some};
-use crate::names::{FirstNames, NameList, list_of};
+use crate::names::{FirstNames, NameScope, list_of};
 use nc_base::Sequence;
 use nc_fields::{Content, Entry, FieldName};
 use std::alloc::{AllocError, Global};
@@ -24,14 +24,14 @@ pub(crate) fn push_name_findings<'a>(
 {
     let mut names = FirstNames::new(alloc);
     for (i, entry) in entries.iter().enumerate() {
-        let duplicate = duplicate_name(&mut names, i as u64, entry)?;
+        let duplicate = add_name(&mut names, i as u64, entry)?;
         push_some(found, duplicate)?;
     }
     Ok(names)
 }
 
 /// Returns the finding that an earlier element of the list has the name that the field of this index is, and adds the name if none has it.
-fn duplicate_name<'a>(
+fn add_name<'a>(
     names: &mut FirstNames<'a>,
     i: u64,
     entry: &'a Entry,
@@ -59,7 +59,7 @@ pub(crate) fn is_first<'a>(names: &FirstNames<'a>, i: u64, entry: &'a Entry) -> 
 }
 
 /// Returns the name that the field is, if it is one and has no fault, and the list that it is in.
-fn key_of(entry: &Entry) -> Option<(NameList, &[u8])>
+fn key_of(entry: &Entry) -> Option<(NameScope, &[u8])>
     ensures { option_map (λ key. (key.0, key.1.now)) result ≡ key_of entry.now }
 {
     if !is_name(entry.place.name) || entry.fault.is_some() {

@@ -11,7 +11,7 @@ use std::collections::BTreeMap;
 
 /// A list whose elements have names.
 #[derive(Clone, Copy, PartialEq, Eq, PartialOrd, Ord)]
-pub(crate) enum NameList {
+pub(crate) enum NameScope {
     /// The dimensions.
     Dims,
     /// The global attributes.
@@ -23,33 +23,33 @@ pub(crate) enum NameList {
 }
 
 /// Returns the list that this is an element of, if it is one.
-pub(crate) fn list_of(owner: Owner) -> Option<NameList>
+pub(crate) fn list_of(owner: Owner) -> Option<NameScope>
     ensures { result ≡ list_of owner }
 {
     match owner {
         Owner::Header => None,
-        Owner::Dim(_) => Some(NameList::Dims),
-        Owner::GlobalAtt(_) => Some(NameList::GlobalAtts),
-        Owner::Var(_) => Some(NameList::Vars),
-        Owner::VarAtt { var, .. } => Some(NameList::VarAtts(var)),
+        Owner::Dim(_) => Some(NameScope::Dims),
+        Owner::GlobalAtt(_) => Some(NameScope::GlobalAtts),
+        Owner::Var(_) => Some(NameScope::Vars),
+        Owner::VarAtt { var, .. } => Some(NameScope::VarAtts(var)),
     }
 }
 
 /// Returns a number that goes with the list. Few lists share it.
-fn list_number(list: NameList) -> u64
+fn list_number(list: NameScope) -> u64
     ensures { result ≡ list_number list }
 {
     match list {
-        NameList::Dims => 0,
-        NameList::GlobalAtts => 1,
-        NameList::Vars => 2,
-        NameList::VarAtts(var) => var,
+        NameScope::Dims => 0,
+        NameScope::GlobalAtts => 1,
+        NameScope::Vars => 2,
+        NameScope::VarAtts(var) => var,
     }
 }
 
 /// Returns the hash of a name of the list, a number below 2^32.
 #[tactic(auto, using(std::proofs::lemmas::List::Sums::fold_more))]
-fn hash(list: NameList, name: &[u8]) -> u64
+fn hash(list: NameScope, name: &[u8]) -> u64
     ensures { result ≡ hash (list, name.now) }
 {
     let mut sum = list_number(list) % (1 << 32);
@@ -65,7 +65,7 @@ fn hash(list: NameList, name: &[u8]) -> u64
 // hash cost what they would without it.
 #[derive(Drop)]
 pub(crate) struct FirstNames<'a> {
-    first: BTreeMap<(u64, (NameList, &'a [u8])), u64>,
+    first: BTreeMap<(u64, (NameScope, &'a [u8])), u64>,
 }
 
 impl<'a> FirstNames<'a> {
@@ -82,7 +82,7 @@ impl<'a> FirstNames<'a> {
     /// allocation failed.
     pub(crate) fn add(
         &mut self,
-        list: NameList,
+        list: NameScope,
         name: &'a [u8],
         index: u64,
     ) -> Result<Option<u64>, AllocError>
@@ -100,7 +100,7 @@ impl<'a> FirstNames<'a> {
     }
 
     /// Returns true if this index goes with this name of the list.
-    pub(crate) fn is_first(&self, list: NameList, name: &'a [u8], index: u64) -> bool
+    pub(crate) fn is_first(&self, list: NameScope, name: &'a [u8], index: u64) -> bool
         ensures { result ≡ is_index index (index_of self.now (list, name.now)) }
     {
         let key = (hash(list, name), (list, name));

@@ -4,20 +4,10 @@ ghost use Rattle.std.specs.Prelude.{◌≡◌, IfOk};
 ghost use Rattle.nc_report.specs.Indexed.{field_at, indexed};
 ghost use Rattle.nc_report.specs.code.WholeHeaders.{HoldsNumbers, number_field};
 
+use crate::ahead::NumberField;
 use nc_base::Sequence;
 use nc_fields::{Entry, FieldName};
 use std::alloc::{AllocError, Global};
-
-/// A field of a listing that is a number.
-#[derive(Clone, Copy)]
-pub(crate) struct NumberField {
-    /// Its index in the listing.
-    pub(crate) index: u64,
-    /// Its offset in the file.
-    pub(crate) offset: u64,
-    /// The number.
-    pub(crate) number: u64,
-}
 
 /// The number of records, the sizes and the begins of variables, in the order of the header.
 #[derive(Drop)]

@@ -5,11 +5,14 @@ ghost use Rattle.nc_layout.specs.Findings.{IsSoundLayout, layout_findings};
 ghost use Rattle.nc_report.specs.WholeHeader.{whole_findings};
 ghost use Rattle.nc_report.specs.code.WholeHeaders.{HasSoundLayout, found_at_number, located_number, vsize_fact, vsize_facts};
 
+use crate::ahead::NumberField;
 use crate::finding::{Fact, Finding, finding_at, push_some};
-use crate::number_fields::{NumberField, NumberFields, number_fields};
+use crate::number_fields::{NumberFields, number_fields};
 use nc_base::{Sequence, Version};
 use nc_fields::Listing;
-use nc_layout::{Layout, LayoutFinding, LayoutPlace, layout_findings, padded_slab, sound_layout};
+use nc_layout::{
+    FileLayout, LayoutFinding, LayoutPlace, layout_findings, padded_slab, sound_layout,
+};
 use std::alloc::{AllocError, Global};
 
 /// Appends what is found about the sizes of variables and about the layout of the file, if the header is whole. Errs only if an allocation
@@ -35,7 +38,7 @@ pub(crate) fn push_whole_findings(
 /// Appends what is found of the sizes of the variables.
 fn push_vsize_findings(
     found: &mut Sequence<Finding>,
-    layout: &Layout,
+    layout: &FileLayout,
     vsizes: &Sequence<NumberField>,
 ) -> Result<(), AllocError>
     requires { IsSoundLayout layout.now }
@@ -68,7 +71,7 @@ fn vsize_finding(version: Version, padded: u64, vsize: Option<NumberField>) -> O
 fn push_layout_findings(
     found: &mut Sequence<Finding>,
     alloc: Global,
-    layout: &Layout,
+    layout: &FileLayout,
     fields: &NumberFields,
 ) -> Result<(), AllocError>
     requires { IsSoundLayout layout.now }

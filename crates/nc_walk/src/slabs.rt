@@ -6,7 +6,7 @@ ghost use Rattle.nc_base.specs.Sizes.{is_record_var, record_size, slab_count, sl
 ghost use Rattle.nc_walk.specs.code.Slabs.{number_at, offset, offsets_after, IsSized, IsOffset, AreSlabsOf, HasWholeSlab, Ready};
 
 use crate::cursor::Cursor;
-use nc_base::{Dim, Header, RecordLayout, Var, is_record_var, slab_of};
+use nc_base::{Dim, Header, RecordLayout, Var, is_record_var, slab_len};
 
 /// The slabs of a variable: values side by side in each, and one slab after the other at the same distance.
 ///
@@ -134,6 +134,6 @@ fn values_per_slab(dims: &[Dim], var: &Var) -> u64
     requires { slab_size dims.now var.now ≤ slab_limit }
     ensures { result ≡ slab_count dims.now var.now }
 {
-    let slab = slab_of(dims, var.dimids.as_slice(), var.ty).unwrap();
+    let slab = slab_len(dims, var.dimids.as_slice(), var.ty).unwrap();
     slab / var.ty.size()
 }

@@ -12,7 +12,7 @@ use crate::cursor::Cursor;
 use crate::fault::WalkFault;
 use crate::slabs::Slabs;
 use devices::Source;
-use nc_base::{Header, RecordLayout, sound_rec_size};
+use nc_base::{Header, RecordLayout, sound_record_size};
 use std::marker::Model;
 
 /// A walk over the values of one variable, through a caller's buffer of at least 16 bytes.
@@ -55,7 +55,7 @@ impl<'a> Walk<'a> {
         requires capacity { 16 ≤ length buf.old }
         ensures { Starts header.now v records (length buf.old) result }
     {
-        let record_size = sound_rec_size(header);
+        let record_size = sound_record_size(header);
         Walk::with_layout(
             header,
             v,

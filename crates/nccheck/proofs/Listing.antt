@@ -37,8 +37,8 @@ gives_path begun (Some after) = record { is = λ end more. refl }
 gives_path begun None = record { others = λ end more. items_after end [] more; is = λ end more. refl }
 
 -- a list of which nothing was read
-untouched : (has_list : Bool) (input : ReaderView)
-    → (items : List Item) × Either has_list (ReadsList input input items) (ReadsNothing input input items)
+untouched : (reads_paths_from_input : Bool) (input : ReaderView)
+    → (items : List Item) × Either reads_paths_from_input (ReadsList input input items) (ReadsNothing input input items)
 untouched true input =
     let all = unwrap_or input.remaining [] in
     let read = with_rest input.remaining input.remaining [] (Consumes-nil input.remaining) in
@@ -189,11 +189,11 @@ module _ {P : Type 0} {o : Openings P} {a : Asked} where
   pub all_stop : {input : ReaderView} {old new : State P} → Counts o a (map Path a.files) old new no_files None
       → CountsAll o a input input old new None
   all_stop {input} c =
-      let l = untouched a.has_list input in
+      let l = untouched a.reads_paths_from_input input in
       record { items = l.0; reads = l.1; counts = counts_stop l.0 c }
 
   -- there is no list
-  pub all_words : {input : ReaderView} {old new : State P} {after : Option Tally} → a.has_list ≡ false
+  pub all_words : {input : ReaderView} {old new : State P} {after : Option Tally} → a.reads_paths_from_input ≡ false
       → Counts o a (map Path a.files) old new no_files after → CountsAll o a input input old new after
   all_words none c = record {
     items = [];
@@ -202,7 +202,7 @@ module _ {P : Type 0} {o : Openings P} {a : Asked} where
   }
 
   -- and then the list
-  pub all_then : {start end : ReaderView} {old mid new : State P} {tally : Tally} {after : Option Tally} → a.has_list ≡ true
+  pub all_then : {start end : ReaderView} {old mid new : State P} {tally : Tally} {after : Option Tally} → a.reads_paths_from_input ≡ true
       → Counts o a (map Path a.files) old mid no_files (Some tally) → CountsList o a start end mid new tally after
       → CountsAll o a start end old new after
   all_then some words list = record { items = list.items; reads = rw some list.reads; counts = counts_then words list.counts }
@@ -219,14 +219,14 @@ module _ {P : Type 0} {o : Openings P} {a : Asked} where
     mid = new;
     runs = c.counts.runs;
     opener = refl;
-    ends = either (a.is_counted && not (has_ended c.counts.answers)) (λ yes. absurd (grind (arith, yes, c.counts.counts.0)))
+    ends = either (a.has_summary && not (has_ended c.counts.answers)) (λ yes. absurd (grind (arith, yes, c.counts.counts.0)))
         (λ no. record { same = refl; stays = sym c.counts.counts.1 });
   }
 
   -- none, where it isn't asked for
   pub runs_silent : {input : Use ReaderView} {old new : State P} {tally : Tally} {status : ℕ}
       → CountsAll o a input.before input.after old new (Some tally)
-      → a.is_counted ≡ false → status ≡ status_of tally → RunsFiles o a input old new status
+      → a.has_summary ≡ false → status ≡ status_of tally → RunsFiles o a input old new status
   runs_silent {new = new} c none is = record {
     listed = c.items;
     reads = c.reads;
@@ -239,7 +239,7 @@ module _ {P : Type 0} {o : Openings P} {a : Asked} where
 
   pub runs_counted : {input : Use ReaderView} {old mid new : State P} {tally : Tally} {status : ℕ}
       → CountsAll o a input.before input.after old mid (Some tally)
-      → a.is_counted ≡ true → new.opener ≡ mid.opener → Writes (summary_line tally) mid new (status_of tally) status
+      → a.has_summary ≡ true → new.opener ≡ mid.opener → Writes (summary_line tally) mid new (status_of tally) status
       → RunsFiles o a input old new status
   runs_counted {mid = mid} c some same writes = record {
     listed = c.items;

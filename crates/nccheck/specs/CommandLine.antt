@@ -56,19 +56,19 @@ files_in false files = files
 -- the paths of files, whether more are read from standard input, what to report of them, and whether to count them
 pub record Asked : Type 0 where
   pub files : List Bytes
-  pub has_list : Bool
+  pub reads_paths_from_input : Bool
   pub filter : Filter
   pub is_quiet : Bool
-  pub is_counted : Bool
+  pub has_summary : Bool
 
 -- the entries, with the files, the level and the ignored kinds that they give
 abbrev pub asked_with : List Row → Option (List Bytes) → Option Severity → Option (List Bytes) → Option Asked
 asked_with rows (Some files) (Some level) (Some ignored) = Some (record {
   files = files;
-  has_list = is_given rows (codes "list");
+  reads_paths_from_input = is_given rows (codes "list");
   filter = record { level = level; ignored = ignored };
   is_quiet = is_given rows (codes "quiet");
-  is_counted = is_given rows (codes "summary");
+  has_summary = is_given rows (codes "summary");
 })
 asked_with rows files level ignored = None
 

@@ -205,12 +205,12 @@ pub record ReadsNothing (old new : ReaderView) (items : List Item) : Type 0 wher
 -- was none, and it is asked for, a line says what came of them, or a prefix of it if standard output fails
 pub record RunsFiles {P : Type 0} (o : Openings P) (a : Asked) (input : Use ReaderView) (old new : State P) (status : ℕ) : Type 0 where
   pub listed : List Item
-  pub reads : Either a.has_list (ReadsList input.before input.after listed) (ReadsNothing input.before input.after listed)
+  pub reads : Either a.reads_paths_from_input (ReadsList input.before input.after listed) (ReadsNothing input.before input.after listed)
   pub answers : List Answer
   pub mid : State P
   pub runs : RunsOver o a (map Path a.files ++ listed) old mid answers
   pub opener : new.opener ≡ mid.opener
-  pub ends : Either (a.is_counted && not (has_ended answers))
+  pub ends : Either (a.has_summary && not (has_ended answers))
       (Writes (summary_line (tally_of answers)) mid new (status_of (tally_of answers)) status)
       (WritesNothing mid new (status_of (tally_of answers)) status)
 

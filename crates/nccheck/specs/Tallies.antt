@@ -3,8 +3,8 @@ use Rattle.std.specs.Prelude.{ℕ, ◌+◌, nat_lt, if◌then◌else◌, List, [
 use Rattle.nc_base.specs.Bytes.{Bytes, concat_parts}
 use Rattle.nc_report.specs.declared.kind.Severity.{Severity}
 use Rattle.nc_report.specs.declared.kind.Severity.TheVariants.{Error, Violation, Note}
-use Rattle.nccheck.specs.declared.{fault.FileFault.FileFault, tally.Count.Count, tally.Tally.Tally}
-use Rattle.nccheck.specs.declared.tally.Count.TheVariants.{Checked, WithErrors, WithViolations, WithNotes, WithNothing, NotChecked}
+use Rattle.nccheck.specs.declared.{fault.FileFault.FileFault, tally.SummaryCount.SummaryCount, tally.Tally.Tally}
+use Rattle.nccheck.specs.declared.tally.SummaryCount.TheVariants.{Checked, WithErrors, WithViolations, WithNotes, WithNothing, NotChecked}
 
 -- what came of a path: the gravest severity that was reported of its file, if anything was, or a fault
 abbrev pub Answer : Type 0
@@ -39,7 +39,7 @@ status_of t =
     else 0
 
 -- the words after a count
-unfoldable pub count_words : Count → Bytes
+unfoldable pub count_words : SummaryCount → Bytes
 count_words Checked = codes " checked: "
 count_words WithErrors = codes " with errors, "
 count_words WithViolations = codes " with violations, "
@@ -47,7 +47,7 @@ count_words WithNotes = codes " with notes, "
 count_words WithNothing = codes " with nothing to report; "
 count_words NotChecked = codes " not checked\n"
 
-unfoldable pub count_text : ℕ → Count → Bytes
+unfoldable pub count_text : ℕ → SummaryCount → Bytes
 count_text n count = concat_parts (decimal n ∷ count_words count ∷ [])
 
 unfoldable pub reported_text : Tally → Bytes

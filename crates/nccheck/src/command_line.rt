@@ -74,16 +74,18 @@ pub(crate) fn options_of_words<'a>(
 pub fn options_of<'a>(alloc: Global, matches: &ArgMatches<'a>) -> Result<CheckOptions<'a>, OptFault>
     ensures { AnswersBy asked_for (asked_in (rows_of (found_of matches.now))) result }
 {
-    let has_list = is_given(matches, "list");
-    let files = files_in(has_list, values_of(matches, "file")).ok_or(OptFault::Usage)?;
+    let reads_paths_from_input = is_given(matches, "list");
+    let files = files_in(reads_paths_from_input, values_of(matches, "file")).ok_or(
+        OptFault::Usage,
+    )?;
     let level = level_in(value_of(matches, "level")).ok_or(OptFault::Usage)?;
     let ignored = ignored_in(alloc, value_of(matches, "ignored"))?.ok_or(OptFault::Usage)?;
     Ok(CheckOptions {
         files: Sequence::from_vec(Vec::from_slice(alloc, files)?),
-        has_list,
+        reads_paths_from_input,
         filter: FilterOptions { level, ignored },
         is_quiet: is_given(matches, "quiet"),
-        is_counted: is_given(matches, "summary"),
+        has_summary: is_given(matches, "summary"),
     })
 }
 
@@ -95,12 +97,15 @@ fn values_of<'a, 'b>(matches: &'b ArgMatches<'a>, id: &str) -> Option<&'b [&'a s
 }
 
 /// Returns the files that are given, or, if there is a list, no files in place of `None`.
-fn files_in<'a, 'b>(has_list: bool, files: Option<&'b [&'a str]>) -> Option<&'b [&'a str]>
-    ensures { texts_in result ≡ files_in has_list (texts_in files.entry) }
+fn files_in<'a, 'b>(
+    reads_paths_from_input: bool,
+    files: Option<&'b [&'a str]>,
+) -> Option<&'b [&'a str]>
+    ensures { texts_in result ≡ files_in reads_paths_from_input (texts_in files.entry) }
 {
     match files {
         Some(files) => Some(files),
-        None if has_list => Some(&[]),
+        None if reads_paths_from_input => Some(&[]),
         None => None,
     }
 }

@@ -40,7 +40,7 @@ pub(crate) fn check_all<P: Opener, R: Read, O: Sink, E: Sink>(
     ensures few { IfSome result (λ tally. total tally < 2 ^ 128) }
 {
     let tally = check_each(opener, alloc, options, out, err)?;
-    if options.has_list {
+    if options.reads_paths_from_input {
         check_list(opener, alloc, options, input, tally, out, err)
     } else {
         Some(tally)
@@ -136,7 +136,7 @@ fn check_list<P: Opener, R: Read, O: Sink, E: Sink>(
     for _turn in 0..u64::MAX {
         match input.read_some(&mut buf) {
             Ok(0) => return check_last(opener, alloc, options, &list, out, err),
-            Ok(n) => check_bytes(opener, alloc, options, &buf[..n], &mut list, out, err)?,
+            Ok(n) => check_paths_in(opener, alloc, options, &buf[..n], &mut list, out, err)?,
             Err(_) => return Some(tell_unread(list.tally, err)),
         }
     }
@@ -144,7 +144,7 @@ fn check_list<P: Opener, R: Read, O: Sink, E: Sink>(
 }
 
 /// Checks the files of which these bytes of the list end the path, and counts them. Returns `None` after a fault that ends the run.
-fn check_bytes<P: Opener, O: Sink, E: Sink>(
+fn check_paths_in<P: Opener, O: Sink, E: Sink>(
     opener: &mut P,
     alloc: Global,
     options: &CheckOptions<'_>,

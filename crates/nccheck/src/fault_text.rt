@@ -5,7 +5,7 @@ ghost use Rattle.devices.specs.code.SinkWrites.{Wrote};
 ghost use Rattle.nccheck.specs.Faults.{fault_words, file_line, flush_line, opt_fault_line, usage_line};
 
 use crate::fault::FileFault;
-use check_lines::put_file;
+use check_lines::put_file_path;
 use cli_base::OptFault;
 use devices::{Sink, WriteFailed, put};
 
@@ -23,7 +23,7 @@ pub(crate) fn put_file_fault<W: Sink>(
     ensures { Wrote W.view sink.old sink.new (file_line file.now fault) result }
 {
     put(sink, b"nccheck: ")?;
-    put_file(sink, file)?;
+    put_file_path(sink, file)?;
     put(sink, b": ")?;
     put(sink, fault_words(fault).as_bytes())?;
     put(sink, b"\n")

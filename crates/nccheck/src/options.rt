@@ -9,11 +9,11 @@ pub struct CheckOptions<'a> {
     /// The paths of the files, in the order of the words.
     pub files: Sequence<&'a str>,
     /// True if more paths are read from standard input, each ended by a NUL: `-0`.
-    pub has_list: bool,
+    pub reads_paths_from_input: bool,
     /// Which findings to report.
     pub filter: FilterOptions<'a>,
     /// True if no finding is written to standard output: `-q`.
     pub is_quiet: bool,
     /// True if a last line says how many files were checked, and what was reported of them: `-s`.
-    pub is_counted: bool,
+    pub has_summary: bool,
 }

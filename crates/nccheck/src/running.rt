@@ -141,7 +141,7 @@ fn check_files<P: Opener, R: Read, O: Sink, E: Sink>(
     match check_all(opener, alloc, options, input, out, err) {
         None => TROUBLE,
         Some(tally) => {
-            if !options.is_counted {
+            if !options.has_summary {
                 return tally.status();
             }
             match put_summary(out, tally) {

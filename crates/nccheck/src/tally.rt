@@ -86,7 +86,7 @@ impl Tally {
 
 /// What the last line counts.
 #[derive(Clone, Copy)]
-enum Count {
+enum SummaryCount {
     /// Files that were checked.
     Checked,
     /// Those with an error.
@@ -103,22 +103,22 @@ enum Count {
 
 /// Returns the words after a count.
 #[tactic(auto, unfolding(crate::specs::Tallies::count_words))]
-fn count_words(count: Count) -> &'static str
+fn count_words(count: SummaryCount) -> &'static str
     ensures { result.now ≡ count_words count }
 {
     match count {
-        Count::Checked => " checked: ",
-        Count::WithErrors => " with errors, ",
-        Count::WithViolations => " with violations, ",
-        Count::WithNotes => " with notes, ",
-        Count::WithNothing => " with nothing to report; ",
-        Count::NotChecked => " not checked\n",
+        SummaryCount::Checked => " checked: ",
+        SummaryCount::WithErrors => " with errors, ",
+        SummaryCount::WithViolations => " with violations, ",
+        SummaryCount::WithNotes => " with notes, ",
+        SummaryCount::WithNothing => " with nothing to report; ",
+        SummaryCount::NotChecked => " not checked\n",
     }
 }
 
 /// Writes the number `n` and the words that say what it counts, such as `3 with errors, `.
 #[tactic(auto, using(devices::proofs::Writes::writes), unfolding(crate::specs::Tallies::count_text))]
-fn put_count<W: Sink>(sink: &mut W, n: u128, count: Count) -> Result<(), WriteFailed>
+fn put_count<W: Sink>(sink: &mut W, n: u128, count: SummaryCount) -> Result<(), WriteFailed>
     ensures { Wrote W.view sink.old sink.new (count_text n count) result }
 {
     put_decimal(sink, n)?;
@@ -131,9 +131,9 @@ pub(crate) fn put_summary<W: Sink>(sink: &mut W, tally: Tally) -> Result<(), Wri
     requires { total tally < 2 ^ 128 }
     ensures { Wrote W.view sink.old sink.new (summary_line tally) result }
 {
-    put_count(sink, tally.checked(), Count::Checked)?;
+    put_count(sink, tally.checked(), SummaryCount::Checked)?;
     put_reported(sink, tally)?;
-    put_count(sink, tally.not_checked, Count::NotChecked)
+    put_count(sink, tally.not_checked, SummaryCount::NotChecked)
 }
 
 /// Writes what was reported of the files that were checked.
@@ -141,8 +141,8 @@ pub(crate) fn put_summary<W: Sink>(sink: &mut W, tally: Tally) -> Result<(), Wri
 fn put_reported<W: Sink>(sink: &mut W, tally: Tally) -> Result<(), WriteFailed>
     ensures { Wrote W.view sink.old sink.new (reported_text tally) result }
 {
-    put_count(sink, tally.with_errors, Count::WithErrors)?;
-    put_count(sink, tally.with_violations, Count::WithViolations)?;
-    put_count(sink, tally.with_notes, Count::WithNotes)?;
-    put_count(sink, tally.with_nothing, Count::WithNothing)
+    put_count(sink, tally.with_errors, SummaryCount::WithErrors)?;
+    put_count(sink, tally.with_violations, SummaryCount::WithViolations)?;
+    put_count(sink, tally.with_notes, SummaryCount::WithNotes)?;
+    put_count(sink, tally.with_nothing, SummaryCount::WithNothing)
 }

@@ -1,7 +1,7 @@
 -- Where slots and blocks end if each slot begins in its canonical place; so a file without findings at begins and at its end has the
 -- length of a generated one.
 use Rattle.std.proofs.Common.{◌≡◌, ℕ, zero, suc, ◌+◌, ◌-◌, ◌*◌, ◌<◌, ◌≤◌, true, length, filter, subst, arith, Option, Some, IfSome, max, refl}
-use Rattle.nccheck_laws.proofs.Prelude.{Contains, cases_lt, lt-ltb, nat_tests, slice_get_within, Slot, Layout, Extent, padded_slab, is_fixed, slab_in_record, record_size, records_begin, record_count, slot_block, records_block, blocks, has_values, bytes_before, used_end, end_findings, IsSoundSlot, IsSoundLayout, is_record_slot, contains-filter, greatest_from-ge, greatest_from-above, greatest_from-least, fixed_bytes, is_of_end, canonical_begin, HasCanonicalBegins, canonical_len, QuietLengthIsCanonical}
+use Rattle.nccheck_laws.proofs.Prelude.{Contains, cases_lt, lt-ltb, nat_tests, slice_get_within, Slot, FileLayout, Extent, padded_slab, is_fixed, slab_in_record, record_size, records_begin, record_count, slot_block, records_block, blocks, has_values, bytes_before, used_end, end_findings, IsSoundSlot, IsSoundLayout, is_record_slot, contains-filter, greatest_from-ge, greatest_from-above, greatest_from-least, fixed_bytes, is_of_end, canonical_begin, HasCanonicalBegins, canonical_len, QuietLengthIsCanonical}
 use Rattle.nc_layout.specs.FileEnd.{padding_end}
 use Rattle.nccheck_laws.proofs.IndexedSlots.{At, all-at, total-below, total-whole, total-reach, slab-fits, part-le}
 use Rattle.nccheck_laws.proofs.LayoutBlocks.{each-block, fixed-there, records-there, fixed_place, all-place, records_end-above, records_end-le, first_begin, begins, begin-is}
@@ -11,30 +11,30 @@ use Rattle.nccheck_laws.proofs.CanonicalBegins.{quiet-begins}
 
 -- ---- the canonical places
 
-place : (layout : Layout) (i : ℕ) (x : Slot) → HasCanonicalBegins layout → At layout.slots i x → x.begin ≡ canonical_begin layout i x
+place : (layout : FileLayout) (i : ℕ) (x : Slot) → HasCanonicalBegins layout → At layout.slots i x → x.begin ≡ canonical_begin layout i x
 place layout i x h at = subst (λ (o : Option Slot). IfSome o (λ (slot : Slot). slot.begin ≡ canonical_begin layout i slot)) at (h i)
 
-pub fixed-place : (layout : Layout) (i : ℕ) (x : Slot) → HasCanonicalBegins layout → At layout.slots i x → is_fixed x ≡ true
+pub fixed-place : (layout : FileLayout) (i : ℕ) (x : Slot) → HasCanonicalBegins layout → At layout.slots i x → is_fixed x ≡ true
     → x.begin ≡ fixed_place layout i
 fixed-place layout i x h at is = grind (arith, place layout i x h at)
 
-pub slab-place : (layout : Layout) (i : ℕ) (x : Slot) → HasCanonicalBegins layout → At layout.slots i x → x.is_record ≡ true
+pub slab-place : (layout : FileLayout) (i : ℕ) (x : Slot) → HasCanonicalBegins layout → At layout.slots i x → x.is_record ≡ true
     → x.begin ≡ layout.header_end + fixed_bytes layout.slots + bytes_before layout.slots i
 slab-place layout i x h at is = grind (arith, place layout i x h at)
 
-pub records-place : (layout : Layout) (begin : ℕ) → HasCanonicalBegins layout → records_begin layout.slots ≡ Some begin
+pub records-place : (layout : FileLayout) (begin : ℕ) → HasCanonicalBegins layout → records_begin layout.slots ≡ Some begin
     → begin ≡ layout.header_end + fixed_bytes layout.slots
 records-place layout begin h found =
     begin-is layout.slots begin (layout.header_end + fixed_bytes layout.slots) found (λ k x at is. slab-place layout k x h at is)
 
 -- a slot that isn't a record slot ends before the next one begins
-pub fixed-ends : (layout : Layout) (k i : ℕ) (x : Slot) → HasCanonicalBegins layout → At layout.slots k x → is_fixed x ≡ true → k < i
+pub fixed-ends : (layout : FileLayout) (k i : ℕ) (x : Slot) → HasCanonicalBegins layout → At layout.slots k x → is_fixed x ≡ true → k < i
     → x.begin + padded_slab x ≤ fixed_place layout i
 fixed-ends layout k i x h at is lt =
     let e = fixed-place layout k x h at is in let below = total-below padded_slab is_fixed layout.slots k i x at is lt in omega arith
 
 -- and all of them before the records begin
-pub fixed-ends-all : (layout : Layout) (k : ℕ) (x : Slot) → HasCanonicalBegins layout → At layout.slots k x → is_fixed x ≡ true
+pub fixed-ends-all : (layout : FileLayout) (k : ℕ) (x : Slot) → HasCanonicalBegins layout → At layout.slots k x → is_fixed x ≡ true
     → x.begin + padded_slab x ≤ layout.header_end + fixed_bytes layout.slots
 fixed-ends-all layout k x h at is =
     let le = fixed-ends layout k (length layout.slots) x h at is (slice_get_within layout.slots k x at) in
@@ -46,7 +46,7 @@ pub times-pred : (n m : ℕ) → 0 < n → (n - 1) * m + m ≡ n * m
 times-pred zero m some = absurd (omega arith)
 times-pred (suc n) m some = grind arith
 
-pub used-le : (layout : Layout) → HasCanonicalBegins layout → used_end layout ≤ canonical_len layout
+pub used-le : (layout : FileLayout) → HasCanonicalBegins layout → used_end layout ≤ canonical_len layout
 used-le layout h =
     let n = record_count layout in
     let len = canonical_len layout in
@@ -59,12 +59,12 @@ used-le layout h =
 
 -- ---- the end of the padding isn't less
 
-reached : (layout : Layout) (b : Extent) → Contains (blocks layout) b → b.begin < b.end → b.padded_end ≤ padding_end layout
+reached : (layout : FileLayout) (b : Extent) → Contains (blocks layout) b → b.begin < b.end → b.padded_end ≤ padding_end layout
 reached layout b has some =
     greatest_from-above (λ (c : Extent). c.padded_end) layout.header_end (filter has_values (blocks layout)) b
     (contains-filter has_values (blocks layout) b has (lt-ltb b.begin b.end some))
 
-fixed-reached : (layout : Layout) → IsSoundLayout layout → HasCanonicalBegins layout
+fixed-reached : (layout : FileLayout) → IsSoundLayout layout → HasCanonicalBegins layout
     → layout.header_end + fixed_bytes layout.slots ≤ padding_end layout
 fixed-reached layout sound h =
     let reach = total-reach padded_slab is_fixed layout.slots layout.header_end (padding_end layout) (length layout.slots) (λ k x at lt is.
@@ -75,7 +75,7 @@ fixed-reached layout sound h =
     omega (arith, all-place layout)
 
 -- the last record reaches its padded end
-records-reached : (layout : Layout) → IsSoundLayout layout → HasCanonicalBegins layout → 0 < record_count layout
+records-reached : (layout : FileLayout) → IsSoundLayout layout → HasCanonicalBegins layout → 0 < record_count layout
     → canonical_len layout ≤ max (canonical_len layout - record_size layout.slots) (padding_end layout)
 unfolding record_size
 records-reached layout sound h some =
@@ -93,7 +93,7 @@ records-reached layout sound h some =
     omega (arith, part-le slots k)) in
     omega (arith, total-whole (slab_in_record slots) is_record_slot slots, times-pred n (record_size slots) some)
 
-pub padding-ge : (layout : Layout) → IsSoundLayout layout → HasCanonicalBegins layout → canonical_len layout ≤ padding_end layout
+pub padding-ge : (layout : FileLayout) → IsSoundLayout layout → HasCanonicalBegins layout → canonical_len layout ≤ padding_end layout
 padding-ge layout sound h =
     let fixed = fixed-reached layout sound h in
     let n = record_count layout in

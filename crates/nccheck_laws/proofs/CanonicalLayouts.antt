@@ -1,7 +1,7 @@
 -- Where each slot begins in its canonical place, nothing is found at the begins; nor at the end of a file of the canonical length. So nothing
 -- is found in the layout of a generated file.
 use Rattle.std.proofs.Common.{◌≡◌, ℕ, ◌+◌, ◌≤◌, max, true, length, take, filter, arith, refl, zero, suc, List, [], ◌∷◌, ◌++◌, map, slice_get, IfSome, sym, ◌∙◌, ap, append_assoc, length-append}
-use Rattle.nccheck_laws.proofs.Prelude.{Contains, cases_lt, nat_tests, Slot, Layout, Extent, padded_slab, is_fixed, slab_in_record, record_count, slot_block, records_block, blocks, before, precedes, has_values, slot_findings, block_findings, greatest_end, values_end, used_end, end_findings, IsSoundSlot, IsSoundLayout, is_of_begin, is_of_end, HasCanonicalBegins, CanonicalBeginsAreQuiet, CanonicalLengthIsQuiet, value_end, filter-contains, greatest_from-ge, greatest_from-above, greatest_from-least, Header, Var, vars_with_begins, with_begins, header_spelling, slot_of, layout_of, GeneratedFilesAreQuiet, canonical_begin}
+use Rattle.nccheck_laws.proofs.Prelude.{Contains, cases_lt, nat_tests, Slot, FileLayout, Extent, padded_slab, is_fixed, slab_in_record, record_count, slot_block, records_block, blocks, before, precedes, has_values, slot_findings, block_findings, greatest_end, values_end, used_end, end_findings, IsSoundSlot, IsSoundLayout, is_of_begin, is_of_end, HasCanonicalBegins, CanonicalBeginsAreQuiet, CanonicalLengthIsQuiet, value_end, filter-contains, greatest_from-ge, greatest_from-above, greatest_from-least, Header, Var, vars_with_begins, with_begins, header_spelling, slot_of, layout_of, GeneratedFilesAreQuiet, canonical_begin}
 use Rattle.nc_layout.specs.FileEnd.{padding_end}
 use Rattle.nc_layout.specs.code.Sweep as sweep
 use Rattle.nccheck_laws.proofs.FoundNone.{Quiet, all-quiet}
@@ -13,7 +13,7 @@ use Rattle.nccheck_laws.proofs.GeneratedFiles.{begins-bare, begin-is, canonical-
 
 -- ---- what holds of a slot
 
-slot-quiet : (layout : Layout) (i : ℕ) (x : Slot) → HasCanonicalBegins layout → At layout.slots i x → IsQuietSlot layout i x
+slot-quiet : (layout : FileLayout) (i : ℕ) (x : Slot) → HasCanonicalBegins layout → At layout.slots i x → IsQuietSlot layout i x
 slot-quiet layout i x h at = record {
   after_header = grind (arith, fixed-place layout i x h at, slab-place layout i x h at);
   in_order = λ fixed.
@@ -27,7 +27,7 @@ slot-quiet layout i x h at = record {
 -- ---- what holds of a block
 
 -- its values don't end after its padding
-end-padded : (layout : Layout) (c : Extent) → Contains (blocks layout) c → c.end ≤ c.padded_end
+end-padded : (layout : FileLayout) (c : Extent) → Contains (blocks layout) c → c.end ≤ c.padded_end
 end-padded layout =
     let n = record_count layout in
     each-block layout (λ c. c.end ≤ c.padded_end) (λ k x at is. omega arith)
@@ -40,7 +40,7 @@ end-padded layout =
     )))
 
 -- a block ends, with its padding, before those that it precedes begin
-fixed-before-fixed : (layout : Layout) (k i : ℕ) (y x : Slot) → IsSoundLayout layout → HasCanonicalBegins layout
+fixed-before-fixed : (layout : FileLayout) (k i : ℕ) (y x : Slot) → IsSoundLayout layout → HasCanonicalBegins layout
     → At layout.slots k y → At layout.slots i x → is_fixed y ≡ true → is_fixed x ≡ true
     → precedes (slot_block k y) (slot_block i x) ≡ true → y.begin + padded_slab y ≤ x.begin
 fixed-before-fixed layout k i y x sound h at_y at_x fixed_y fixed_x first = grind (
@@ -55,7 +55,7 @@ fixed-before-fixed layout k i y x sound h at_y at_x fixed_y fixed_x first = grin
   (all-at IsSoundSlot layout.slots i x sound.sound_slots at_x).some_bytes,
 )
 
-ends-before : (layout : Layout) → IsSoundLayout layout → HasCanonicalBegins layout → (b : Extent) → Contains (blocks layout) b
+ends-before : (layout : FileLayout) → IsSoundLayout layout → HasCanonicalBegins layout → (b : Extent) → Contains (blocks layout) b
     → (c : Extent) → Contains (blocks layout) c → precedes c b ≡ true → c.padded_end ≤ b.begin
 ends-before layout sound h =
     let n = record_count layout in
@@ -74,7 +74,7 @@ ends-before layout sound h =
     (λ other again first. absurd (let same : other ≡ begin = cc in grind (arith, nat_tests))))
 
 -- it doesn't begin after the header and the blocks before it end
-not-after : (layout : Layout) → HasCanonicalBegins layout → (b : Extent) → Contains (blocks layout) b
+not-after : (layout : FileLayout) → HasCanonicalBegins layout → (b : Extent) → Contains (blocks layout) b
     → b.begin ≤ max layout.header_end (greatest_end sweep.padding_end (before (blocks layout) b))
 not-after layout h =
     each-block layout (λ b. b.begin ≤ max layout.header_end (greatest_end sweep.padding_end (before (blocks layout) b)))
@@ -97,17 +97,17 @@ not-after layout h =
       )),
     ))
 
-block-quiet : (layout : Layout) (b : Extent) → IsSoundLayout layout → HasCanonicalBegins layout → Contains (blocks layout) b
+block-quiet : (layout : FileLayout) (b : Extent) → IsSoundLayout layout → HasCanonicalBegins layout → Contains (blocks layout) b
     → IsQuietBlock layout b
 block-quiet layout b sound h has = grind (arith, before-le, ends-before, not-after)
 
 -- ---- no findings
 
-slot-none : (layout : Layout) (i : ℕ) (x : Slot) → IsQuietSlot layout i x → Quiet is_of_begin (slot_findings layout i x)
+slot-none : (layout : FileLayout) (i : ℕ) (x : Slot) → IsQuietSlot layout i x → Quiet is_of_begin (slot_findings layout i x)
 unfolding slot_findings
 slot-none layout i x h = grind (arith, nat_tests, h.after_header, h.in_order, h.before_records, h.in_place)
 
-block-none : (layout : Layout) (b : Extent) → IsQuietBlock layout b → Quiet is_of_begin (block_findings layout.header_end (blocks layout) b)
+block-none : (layout : FileLayout) (b : Extent) → IsQuietBlock layout b → Quiet is_of_begin (block_findings layout.header_end (blocks layout) b)
 unfolding block_findings
 block-none layout b h =
     let xs = before (blocks layout) b in
@@ -117,7 +117,7 @@ block-none layout b h =
     let le = end-padded layout c (filter-contains (λ x. precedes x b) (blocks layout) c has).0 in omega arith) in
     grind (arith, nat_tests, h.not_before, h.not_after)
 
-end-begin : (layout : Layout) → Quiet is_of_begin (end_findings layout)
+end-begin : (layout : FileLayout) → Quiet is_of_begin (end_findings layout)
 unfolding end_findings
 end-begin layout = grind arith
 
@@ -126,22 +126,22 @@ begins-quiet layout sound h = grind (arith, all-quiet, slot-none, slot-quiet, en
 
 -- ---- the end of the file
 
-slot-end : (layout : Layout) (i : ℕ) (x : Slot) → Quiet is_of_end (slot_findings layout i x)
+slot-end : (layout : FileLayout) (i : ℕ) (x : Slot) → Quiet is_of_end (slot_findings layout i x)
 unfolding slot_findings
 slot-end layout i x = grind arith
 
-block-end : (layout : Layout) (b : Extent) → Quiet is_of_end (block_findings layout.header_end (blocks layout) b)
+block-end : (layout : FileLayout) (b : Extent) → Quiet is_of_end (block_findings layout.header_end (blocks layout) b)
 unfolding block_findings
 block-end layout b = grind arith
 
-padding-used : (layout : Layout) → padding_end layout ≤ used_end layout
+padding-used : (layout : FileLayout) → padding_end layout ≤ used_end layout
 padding-used layout =
     greatest_from-least (λ (b : Extent). b.padded_end) layout.header_end (used_end layout) (filter has_values (blocks layout))
     (greatest_from-ge (λ (b : Extent). b.padded_end) layout.header_end (blocks layout))
     (λ c has. greatest_from-above (λ (b : Extent). b.padded_end) layout.header_end (blocks layout) c
     (filter-contains has_values (blocks layout) c has).0)
 
-values-used : (layout : Layout) → values_end layout ≤ used_end layout
+values-used : (layout : FileLayout) → values_end layout ≤ used_end layout
 values-used layout =
     greatest_from-least (λ (b : Extent). b.end) layout.header_end (used_end layout) (filter has_values (blocks layout))
     (greatest_from-ge (λ (b : Extent). b.padded_end) layout.header_end (blocks layout))
@@ -149,7 +149,7 @@ values-used layout =
     let le = end-padded layout c there in
     let above = greatest_from-above (λ (b : Extent). b.padded_end) layout.header_end (blocks layout) c there in omega arith)
 
-end-none : (layout : Layout) → values_end layout ≤ layout.file_len → padding_end layout ≤ layout.file_len
+end-none : (layout : FileLayout) → values_end layout ≤ layout.file_len → padding_end layout ≤ layout.file_len
     → layout.file_len ≤ used_end layout → Quiet is_of_end (end_findings layout)
 unfolding end_findings
 end-none layout values padding used = grind (arith, nat_tests)

@@ -1,6 +1,6 @@
 -- What holds of each slot, of each block and at the end of the file if no finding is of a kind, and the converse.
 use Rattle.std.proofs.Common.{◌≡◌, ℕ, zero, suc, ◌+◌, Bool, false, List, [], ◌∷◌, ◌++◌, refl, subst, arith, inl, inr}
-use Rattle.nccheck_laws.proofs.Prelude.{list_any, Contains, list_any-append, Slot, Layout, LayoutFinding, each_slot, layout_findings, LayoutFact, FindsNone, Extent, blocks, slot_findings, block_findings, end_findings, contains-none, contains-here, contains-there, contains-cases}
+use Rattle.nccheck_laws.proofs.Prelude.{list_any, Contains, list_any-append, Slot, FileLayout, LayoutFinding, each_slot, layout_findings, LayoutFact, FindsNone, Extent, blocks, slot_findings, block_findings, end_findings, contains-none, contains-here, contains-there, contains-cases}
 use Rattle.std.specs.Prelude.{flat_map}
 use Rattle.nc_layout.specs.declared.finding.LayoutFact.TheVariants as facts
 use Rattle.nc_layout.specs.NumRecsRules.{numrecs_findings}
@@ -20,13 +20,13 @@ quiet-from p f i (y ∷ ys) zero m h x at is = grind (arith, list_any-append)
 quiet-from p f i (y ∷ ys) (suc k) m h x at is =
     quiet-from p f (i + 1) ys k m (grind (arith, list_any-append)) x at (omega arith)
 
-pub quiet-slot : (kind : LayoutFact → Bool) (layout : Layout) (i : ℕ) (x : Slot) → FindsNone kind layout → At layout.slots i x
+pub quiet-slot : (kind : LayoutFact → Bool) (layout : FileLayout) (i : ℕ) (x : Slot) → FindsNone kind layout → At layout.slots i x
     → Quiet kind (slot_findings layout i x)
 unfolding layout_findings
 quiet-slot kind layout i x h at =
     quiet-from _ (slot_findings layout) 0 layout.slots i i (parts kind (numrecs_findings layout) _ _ _ h).0 x at (omega arith)
 
-pub quiet-end : (kind : LayoutFact → Bool) (layout : Layout) → FindsNone kind layout → Quiet kind (end_findings layout)
+pub quiet-end : (kind : LayoutFact → Bool) (layout : FileLayout) → FindsNone kind layout → Quiet kind (end_findings layout)
 unfolding layout_findings
 quiet-end kind layout h = (parts kind (numrecs_findings layout) _ _ _ h).1
 
@@ -39,7 +39,7 @@ quiet-flat kind f (c ∷ bs) b h has =
       | inr later ↦ quiet-flat kind f bs b (grind (arith, list_any-append)) later
     ]
 
-pub quiet-block : (kind : LayoutFact → Bool) (layout : Layout) (b : Extent) → FindsNone kind layout → Contains (blocks layout) b
+pub quiet-block : (kind : LayoutFact → Bool) (layout : FileLayout) (b : Extent) → FindsNone kind layout → Contains (blocks layout) b
     → Quiet kind (block_findings layout.header_end (blocks layout) b)
 unfolding layout_findings
 quiet-block kind layout b h has = grind (arith, quiet-flat, parts)
@@ -58,7 +58,7 @@ flat-quiet : (kind : LayoutFact → Bool) (f : Extent → List LayoutFinding) (b
 flat-quiet kind f [] each = refl
 flat-quiet kind f (b ∷ bs) each = grind (arith, flat-quiet kind f bs (λ c has. each c (contains-there b c bs has)), contains-here, contains-there, list_any-append)
 
-numrecs-quiet : (kind : LayoutFact → Bool) (layout : Layout) → ((n : ℕ) → kind (facts.Streaming n) ≡ false)
+numrecs-quiet : (kind : LayoutFact → Bool) (layout : FileLayout) → ((n : ℕ) → kind (facts.Streaming n) ≡ false)
     → ((n : ℕ) → kind (facts.UnusedRecords n) ≡ false) → Quiet kind (numrecs_findings layout)
 unfolding numrecs_findings
 numrecs-quiet kind layout streamed unused = grind arith
@@ -68,7 +68,7 @@ all-of : (kind : LayoutFact → Bool) (a b c d : List LayoutFinding) → Quiet k
 all-of kind a b c d first second third fourth = grind (arith, list_any-append)
 
 -- no finding is of a kind that isn't one of findings at the number of records
-pub all-quiet : (kind : LayoutFact → Bool) (layout : Layout) → ((n : ℕ) → kind (facts.Streaming n) ≡ false)
+pub all-quiet : (kind : LayoutFact → Bool) (layout : FileLayout) → ((n : ℕ) → kind (facts.Streaming n) ≡ false)
     → ((n : ℕ) → kind (facts.UnusedRecords n) ≡ false)
     → ((i : ℕ) (x : Slot) → At layout.slots i x → Quiet kind (slot_findings layout i x))
     → Quiet kind (end_findings layout)

@@ -1,12 +1,12 @@
 -- The blocks of a layout: those of slots that aren't record slots, and that of the records.
 use Rattle.std.proofs.Common.{◌≡◌, ℕ, zero, suc, ◌+◌, ◌-◌, ◌*◌, ◌<◌, ◌≤◌, max, min, true, false, List, [], ◌∷◌, length, take, fold, refl, ap, arith, Some, unwrap_or, if◌then◌else◌}
-use Rattle.nccheck_laws.proofs.Prelude.{Contains, option_map_or, cases_lt, nat_tests, Contains-append_left, Contains-append_right, Contains-append_cases, Slot, Layout, Extent, padded_slab, is_fixed, record_slots, record_size, records_begin, record_count, each_slot, slot_block, fixed_block, records_end, records_block, blocks, before, precedes, greatest_end, bytes_before, is_record_slot, padding_end, contains-here, contains-filter, filter-contains, greatest_from-above, greatest_from-least, fixed_bytes}
+use Rattle.nccheck_laws.proofs.Prelude.{Contains, option_map_or, cases_lt, nat_tests, Contains-append_left, Contains-append_right, Contains-append_cases, Slot, FileLayout, Extent, padded_slab, is_fixed, record_slots, record_size, records_begin, record_count, each_slot, slot_block, fixed_block, records_end, records_block, blocks, before, precedes, greatest_end, bytes_before, is_record_slot, padding_end, contains-here, contains-filter, filter-contains, greatest_from-above, greatest_from-least, fixed_bytes}
 use Rattle.nccheck_laws.proofs.IndexedSlots.{At, contains-at, at-contains, there-from, in-each, total-whole, total-reach}
 
 -- ---- each of them
 
 -- what holds of those of slots and of that of the records holds of each block
-pub each-block : (layout : Layout) (P : Extent → Type 0)
+pub each-block : (layout : FileLayout) (P : Extent → Type 0)
     → ((k : ℕ) (x : Slot) → At layout.slots k x → is_fixed x ≡ true → P (slot_block k x))
     → ((begin : ℕ) → records_begin layout.slots ≡ Some begin → P (records_block layout.slots (record_count layout) begin))
     → (b : Extent) → Contains (blocks layout) b → P b
@@ -15,14 +15,14 @@ each-block layout P fixed records b has =
     let of_slots = in-each fixed_block layout.slots P (λ k x at c there. grind (arith, fixed k x at)) b in
     grind (arith, Contains-append_cases (each_slot fixed_block 0 layout.slots) _ b has, records)
 
-pub fixed-there : (layout : Layout) (k : ℕ) (x : Slot) → At layout.slots k x → is_fixed x ≡ true → Contains (blocks layout) (slot_block k x)
+pub fixed-there : (layout : FileLayout) (k : ℕ) (x : Slot) → At layout.slots k x → is_fixed x ≡ true → Contains (blocks layout) (slot_block k x)
 unfolding blocks
 fixed-there layout k x at is =
     Contains-append_left (each_slot fixed_block 0 layout.slots) _ (slot_block k x)
     (there-from fixed_block 0 layout.slots k k x (slot_block k x) at (omega arith)
     (rw is (contains-here (slot_block k x) [])))
 
-pub records-there : (layout : Layout) (begin : ℕ) → records_begin layout.slots ≡ Some begin
+pub records-there : (layout : FileLayout) (begin : ℕ) → records_begin layout.slots ≡ Some begin
     → Contains (blocks layout) (records_block layout.slots (record_count layout) begin)
 unfolding blocks
 records-there layout begin at =
@@ -32,13 +32,13 @@ records-there layout begin at =
 -- ---- those before one
 
 -- where a slot that isn't a record slot begins, if it begins after the padded slabs of those before it
-abbrev pub fixed_place : Layout → ℕ → ℕ
+abbrev pub fixed_place : FileLayout → ℕ → ℕ
 fixed_place layout i = layout.header_end + fixed_bytes (take i layout.slots)
 
-pub all-place : (layout : Layout) → fixed_place layout (length layout.slots) ≡ layout.header_end + fixed_bytes layout.slots
+pub all-place : (layout : FileLayout) → fixed_place layout (length layout.slots) ≡ layout.header_end + fixed_bytes layout.slots
 all-place layout = ap (λ n. layout.header_end + n) (total-whole padded_slab is_fixed layout.slots)
 
-pub before-le : (layout : Layout) (b : Extent) (m : ℕ)
+pub before-le : (layout : FileLayout) (b : Extent) (m : ℕ)
     → ((c : Extent) → Contains (blocks layout) c → precedes c b ≡ true → c.padded_end ≤ m)
     → greatest_end padding_end (before (blocks layout) b) ≤ m
 before-le layout b m each =
@@ -46,7 +46,7 @@ before-le layout b m each =
     (λ c has. let h = filter-contains (λ x. precedes x b) (blocks layout) c has in each c h.0 h.1)
 
 -- slots in their places that precede a block reach the place of the next one
-pub place-reached : (layout : Layout) (b : Extent) (i : ℕ)
+pub place-reached : (layout : FileLayout) (b : Extent) (i : ℕ)
     → ((k : ℕ) (x : Slot) → At layout.slots k x → k < i → is_fixed x ≡ true
     → (x.begin ≡ fixed_place layout k) × (precedes (slot_block k x) b ≡ true))
     → fixed_place layout i ≤ max layout.header_end (greatest_end padding_end (before (blocks layout) b))

@@ -1,6 +1,6 @@
 -- Values are found to be missing exactly if some variable has a first missing value.
 use Rattle.std.proofs.Common.{◌≡◌, ℕ, ◌≤◌, false, List, [], ◌∷◌, length, map, refl, ap, arith, Option, None, All}
-use Rattle.nccheck_laws.proofs.Prelude.{list_any, is_some, All-cons, All-map, All-nil, list_any_none, Header, Var, Bytes, first_missing, Layout, block_findings, end_findings, values_end, IsSoundLayout, IsSoundSlot, MissingValuesAreFound, ShortFilesLackValues, finds, is_of_missing, lacks_values, layout_of, slot_of, slot_findings, nat_tests}
+use Rattle.nccheck_laws.proofs.Prelude.{list_any, is_some, All-cons, All-map, All-nil, list_any_none, Header, Var, Bytes, first_missing, FileLayout, block_findings, end_findings, values_end, IsSoundLayout, IsSoundSlot, MissingValuesAreFound, ShortFilesLackValues, finds, is_of_missing, lacks_values, layout_of, slot_of, slot_findings, nat_tests}
 use Rattle.nc_base.specs.Sizes.{record_count, record_size}
 pub use Rattle.nc_layout.proofs.HeaderSlots.{unmapped}
 use Rattle.nccheck_laws.proofs.WholeSlots.{quiet-values, IsWholeSlot, values-whole, whole-values}
@@ -53,7 +53,7 @@ short-lacks h bytes header_end sound = grind (arith, nat_tests, all-have, all-pr
 
 -- ---- the finding
 
-values-quiet : (layout : Layout) → values_end layout ≤ layout.file_len → finds is_of_missing layout ≡ false
+values-quiet : (layout : FileLayout) → values_end layout ≤ layout.file_len → finds is_of_missing layout ≡ false
 unfolding slot_findings block_findings end_findings
 values-quiet layout within =
     all-quiet is_of_missing layout (λ n. refl) (λ n. refl) (λ i x at. grind arith) (grind (arith, nat_tests)) (λ b has. grind arith)

@@ -52,7 +52,7 @@ pub use Rattle.nc_layout.specs.Slots.{is_fixed, is_sole_narrow, least, padded_sl
 unfoldable pub use Rattle.nc_layout.specs.Slots.{record_count, record_size, records_begin, records_by_length}
 pub use Rattle.nc_layout.specs.code.PassedSlots.{is_record_slot}
 pub use Rattle.nc_layout.specs.code.Sweep.{padding_end, value_end}
-pub use Rattle.nc_layout.specs.declared.{blocks.Extent.Extent, file_end.SlabPlace.SlabPlace, finding.Block.Block, finding.LayoutFact.LayoutFact, finding.LayoutFinding.LayoutFinding, finding.Slab.Slab, slot.Layout.Layout, slot.Slot.Slot}
+pub use Rattle.nc_layout.specs.declared.{blocks.Extent.Extent, file_end.SlabPlace.SlabPlace, finding.Block.Block, finding.LayoutFact.LayoutFact, finding.LayoutFinding.LayoutFinding, finding.Slab.Slab, slot.FileLayout.FileLayout, slot.Slot.Slot}
 pub use Rattle.nc_report.proofs.OneOrder.{UpTo, pairs-head, pairs-tail, same-lists}
 pub use Rattle.nc_report.specs.Ahead.{ahead_of, is_field, next_number, number_in}
 pub use Rattle.nc_report.specs.AttributeRules.{attribute_finding, empty_list, finding_by_name, name_finding, type_finding}

@@ -1,6 +1,6 @@
 -- Which findings are faults: of those at fields alone, the ones at entries that the strict rules refuse; of all others, none.
 use Rattle.std.proofs.Common.{◌≡◌, ℕ, ◌+◌, ◌||◌, ◌⊎◌, Bool, true, false, List, [], ◌∷◌, ◌++◌, flat_map, slice_get, Option, None, Result, Ok, Err, refl, sym, ◌∙◌, arith}
-use Rattle.nccheck_laws.proofs.Prelude.{Contains, list_any-append, All-nil, All-cons, All-append, Contains-append_right, Version, Entry, FieldName, Listing, FormatFault, Header, layout_of, Layout, LayoutFinding, layout_findings, Fact, Finding, Indexed, field_at, indexed_from, indexed, each_before, findings_at, field_findings, floating_findings, is_first, attribute_findings, finding_by_name, attribute_finding, ahead_of, vsize_findings, whole_findings, is_vsize, named, vsize_finding, located, layout_facts, header_findings, all_findings, is_fault, has_any, padded_slab, Ahead, each_after, floating_finding, name_findings, duplicate_name, All-map}
+use Rattle.nccheck_laws.proofs.Prelude.{Contains, list_any-append, All-nil, All-cons, All-append, Contains-append_right, Version, Entry, FieldName, Listing, FormatFault, Header, layout_of, FileLayout, LayoutFinding, layout_findings, Fact, Finding, Indexed, field_at, indexed_from, indexed, each_before, findings_at, field_findings, floating_findings, is_first, attribute_findings, finding_by_name, attribute_finding, ahead_of, vsize_findings, whole_findings, is_vsize, named, vsize_finding, located, layout_facts, header_findings, all_findings, is_fault, has_any, padded_slab, Ahead, each_after, floating_finding, name_findings, duplicate_name, All-map}
 use Rattle.std.specs.List.{All}
 use Rattle.std.specs.Option.{option_to_list}
 use Rattle.nc_report.specs.declared.finding.Fact.TheVariants as fact
@@ -61,7 +61,7 @@ plain-attributes fs = attributes-from fs fs
 plain-vsize : (v : Version) (padded : ℕ) (o : Option Indexed) → ArePlain (option_to_list (vsize_finding v padded o))
 plain-vsize v padded o = grind arith
 
-pub plain-vsizes : (layout : Layout) (fs : List Indexed) → ArePlain (vsize_findings layout fs)
+pub plain-vsizes : (layout : FileLayout) (fs : List Indexed) → ArePlain (vsize_findings layout fs)
 unfolding vsize_findings
 plain-vsizes layout fs =
     each-quiet _ _ 0 layout.slots (λ k m x at is. plain-vsize layout.version (padded_slab x) (slice_get (named is_vsize fs) m))

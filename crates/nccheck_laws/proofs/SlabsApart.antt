@@ -1,6 +1,6 @@
 -- If none of the findings lets slabs share bytes, no two slabs have a byte in common.
 use Rattle.std.proofs.Common.{◌≡◌, ℕ, suc, ◌+◌, ◌-◌, ◌*◌, ◌<◌, ◌≤◌, true, List, [], ◌∷◌, ◌++◌, get_or, arith, refl}
-use Rattle.nccheck_laws.proofs.Prelude.{Contains, AllPairs, cases_lt, nat_tests, All-append, Contains-get_or, get_or-map-range_with_len, length-map-range_with_len, AllPairs-cons, mul-le-mul_right, Slot, Layout, Extent, SlabPlace, padded_slab, is_fixed, record_size, record_count, each_slot, blocks, before, precedes, slot_findings, bytes_before, block_findings, record_slab, slabs_of, all_slabs, is_of_shared_bytes, FindsNone, AreApart, QuietSlabsAreApart, is_record_slot, value_end, contains-here, contains-there, contains-filter, greatest_from-above}
+use Rattle.nccheck_laws.proofs.Prelude.{Contains, AllPairs, cases_lt, nat_tests, All-append, Contains-get_or, get_or-map-range_with_len, length-map-range_with_len, AllPairs-cons, mul-le-mul_right, Slot, FileLayout, Extent, SlabPlace, padded_slab, is_fixed, record_size, record_count, each_slot, blocks, before, precedes, slot_findings, bytes_before, block_findings, record_slab, slabs_of, all_slabs, is_of_shared_bytes, FindsNone, AreApart, QuietSlabsAreApart, is_record_slot, value_end, contains-here, contains-there, contains-filter, greatest_from-above}
 use Rattle.nccheck_laws.proofs.FoundNone.{quiet-slot, quiet-block}
 use Rattle.nccheck_laws.proofs.IndexedSlots.{At, in-from, in-each, total-below, slab-fits, slab-le}
 use Rattle.nccheck_laws.proofs.LayoutBlocks.{fixed-there, records-there, records_end-above, first_begin, begins}
@@ -9,7 +9,7 @@ use Rattle.nccheck_laws.proofs.WholeSlots.{fixed_slab, each-slab}
 -- ---- what holds of slots and blocks
 
 -- a block begins after the end of each block that precedes it
-ends-first : (layout : Layout) (b c : Extent) → FindsNone is_of_shared_bytes layout → Contains (blocks layout) b
+ends-first : (layout : FileLayout) (b c : Extent) → FindsNone is_of_shared_bytes layout → Contains (blocks layout) b
     → Contains (blocks layout) c → precedes b c ≡ true → b.end ≤ c.begin
 unfolding block_findings
 ends-first layout b c quiet has_b has_c first =
@@ -49,20 +49,20 @@ next-record : (r q size : ℕ) → r < q → r * size + size ≤ q * size
 next-record r q size lt = grind arith
 
 -- a slab of a record slot lies in its record
-in-record : (layout : Layout) (k : ℕ) (x : Slot) → At layout.slots k x → x.is_record ≡ true
+in-record : (layout : FileLayout) (k : ℕ) (x : Slot) → At layout.slots k x → x.is_record ≡ true
     → bytes_before layout.slots k + x.slab ≤ record_size layout.slots
 in-record layout k x at is = let fits = slab-fits layout.slots k x at is in let le = (slab-le layout.slots x).0 in omega arith
 
 -- ---- two slabs
 
-abbrev size : Layout → ℕ
+abbrev size : FileLayout → ℕ
 size layout = record_size layout.slots
 
-own-apart : (layout : Layout) (k m : ℕ) (x : Slot) → At layout.slots k x
+own-apart : (layout : FileLayout) (k m : ℕ) (x : Slot) → At layout.slots k x
     → AllPairs AreApart (slabs_of (size layout) (record_count layout) m x)
 own-apart layout k m x at = grind (arith, length-map-range_with_len, next-record, in-record, get_or-map-range_with_len)
 
-both-fixed : (layout : Layout) (k l : ℕ) (x y : Slot) → FindsNone is_of_shared_bytes layout → At layout.slots k x → At layout.slots l y
+both-fixed : (layout : FileLayout) (k l : ℕ) (x y : Slot) → FindsNone is_of_shared_bytes layout → At layout.slots k x → At layout.slots l y
     → k < l → is_fixed x ≡ true → is_fixed y ≡ true → AreApart (fixed_slab k x) (fixed_slab l y)
 both-fixed layout k l x y quiet at_x at_y lt is_x is_y =
     let b = fixed-there layout k x at_x is_x in
@@ -70,13 +70,13 @@ both-fixed layout k l x y quiet at_x at_y lt is_x is_y =
     grind (arith, nat_tests, ends-first layout _ _ quiet b c, ends-first layout _ _ quiet c b)
 
 -- where a record slot begins
-in-place : (layout : Layout) (k : ℕ) (x : Slot) → FindsNone is_of_shared_bytes layout → At layout.slots k x → x.is_record ≡ true
+in-place : (layout : FileLayout) (k : ℕ) (x : Slot) → FindsNone is_of_shared_bytes layout → At layout.slots k x → x.is_record ≡ true
     → x.begin ≡ first_begin layout.slots + bytes_before layout.slots k
 unfolding slot_findings
 in-place layout k x quiet at is =
     let h = quiet-slot is_of_shared_bytes layout k x quiet at in grind (arith, nat_tests, begins layout.slots k x at is)
 
-both-record : (layout : Layout) (k l r q : ℕ) (x y : Slot) → FindsNone is_of_shared_bytes layout → At layout.slots k x
+both-record : (layout : FileLayout) (k l r q : ℕ) (x y : Slot) → FindsNone is_of_shared_bytes layout → At layout.slots k x
     → At layout.slots l y → k < l → x.is_record ≡ true → y.is_record ≡ true
     → AreApart (record_slab (size layout) k x r) (record_slab (size layout) l y q)
 both-record layout k l r q x y quiet at_x at_y lt is_x is_y =
@@ -86,7 +86,7 @@ both-record layout k l r q x y quiet at_x at_y lt is_x is_y =
     let below = total-below padded_slab is_record_slot layout.slots k l x at_x is_x lt in
     grind (arith, cases_lt q r, next-record q r (size layout), λ (le : r ≤ q). mul-le-mul_right (size layout) le)
 
-fixed-record : (layout : Layout) (k l q : ℕ) (x y : Slot) → FindsNone is_of_shared_bytes layout → At layout.slots k x → At layout.slots l y
+fixed-record : (layout : FileLayout) (k l q : ℕ) (x y : Slot) → FindsNone is_of_shared_bytes layout → At layout.slots k x → At layout.slots l y
     → is_fixed x ≡ true → y.is_record ≡ true → q < record_count layout → AreApart (fixed_slab k x) (record_slab (size layout) l y q)
 fixed-record layout k l q x y quiet at_x at_y is_x is_y counted =
     let n = record_count layout in
@@ -98,7 +98,7 @@ fixed-record layout k l q x y quiet at_x at_y is_x is_y counted =
     let place = in-place layout l y quiet at_y is_y in
     grind (arith, nat_tests, ends-first layout _ _ quiet b c, ends-first layout _ _ quiet c b)
 
-across-apart : (layout : Layout) → FindsNone is_of_shared_bytes layout → (k l m n : ℕ) (x y : Slot) → k < l → At layout.slots k x
+across-apart : (layout : FileLayout) → FindsNone is_of_shared_bytes layout → (k l m n : ℕ) (x y : Slot) → k < l → At layout.slots k x
     → At layout.slots l y → (a b : SlabPlace) → Contains (slabs_of (size layout) (record_count layout) m x) a
     → Contains (slabs_of (size layout) (record_count layout) n y) b → AreApart a b
 across-apart layout quiet k l m n x y lt at_x at_y a b in_a in_b =
@@ -112,7 +112,7 @@ across-apart layout quiet k l m n x y lt at_x at_y a b in_a in_b =
 
 -- ---- the law
 
-after-header : (layout : Layout) (b : SlabPlace) → FindsNone is_of_shared_bytes layout → Contains (all_slabs layout) b
+after-header : (layout : FileLayout) (b : SlabPlace) → FindsNone is_of_shared_bytes layout → Contains (all_slabs layout) b
     → layout.header_end ≤ b.begin
 unfolding all_slabs slot_findings
 after-header layout b quiet has =

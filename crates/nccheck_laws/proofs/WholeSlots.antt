@@ -1,6 +1,6 @@
 -- The slots whose slabs are all whole in the file, the end of the values, and the first slab that isn't whole.
 use Rattle.std.proofs.Common.{◌≡◌, ℕ, ◌+◌, ◌-◌, ◌*◌, ◌<◌, ◌≤◌, Bool, true, false, not, List, [], ◌∷◌, filter, ap, arith, All, Some, None, slice_get}
-use Rattle.nccheck_laws.proofs.Prelude.{Contains, lt-ltb, nat_tests, get_or-map-range_with_len, length-map-range_with_len, mul-le-mul_right, Slot, Layout, Extent, LayoutFact, Slab, SlabPlace, is_fixed, record_size, record_count, slot_block, records_block, blocks, has_values, values_end, first_slab, is_cut, record_slab, slabs_of, all_slabs, first_cut_slab, end_findings, IsSoundSlot, IsSoundLayout, contains-here, contains-none, contains-cases, contains-filter, filter-contains, greatest_from-above, greatest_from-least, MissingValuesHaveSlab}
+use Rattle.nccheck_laws.proofs.Prelude.{Contains, lt-ltb, nat_tests, get_or-map-range_with_len, length-map-range_with_len, mul-le-mul_right, Slot, FileLayout, Extent, LayoutFact, Slab, SlabPlace, is_fixed, record_size, record_count, slot_block, records_block, blocks, has_values, values_end, first_slab, is_cut, record_slab, slabs_of, all_slabs, first_cut_slab, end_findings, IsSoundSlot, IsSoundLayout, contains-here, contains-none, contains-cases, contains-filter, filter-contains, greatest_from-above, greatest_from-least, MissingValuesHaveSlab}
 use Rattle.nc_layout.specs.declared.finding.Slab.TheVariants as slabs
 use Rattle.nc_layout.specs.declared.finding.LayoutFact.TheVariants as facts
 use Rattle.nccheck_laws.proofs.FoundNone.{Quiet}
@@ -13,15 +13,15 @@ pub record IsWholeSlot (file_len size n : ℕ) (slot : Slot) : Type 0 where
   pub records : slot.is_record ≡ true → (r : ℕ) → r < n → slot.begin + r * size + slot.slab ≤ file_len
 
 -- of a slot of this layout
-abbrev pub IsWhole : Layout → Slot → Type 0
+abbrev pub IsWhole : FileLayout → Slot → Type 0
 IsWhole layout slot = IsWholeSlot layout.file_len (record_size layout.slots) (record_count layout) slot
 
-abbrev pub AreWholeSlots : Layout → Type 0
+abbrev pub AreWholeSlots : FileLayout → Type 0
 AreWholeSlots layout = All (IsWhole layout) layout.slots
 
 -- ---- the slots are whole, so the values end in the file
 
-pub values-whole : (layout : Layout) → layout.header_end ≤ layout.file_len → AreWholeSlots layout → values_end layout ≤ layout.file_len
+pub values-whole : (layout : FileLayout) → layout.header_end ≤ layout.file_len → AreWholeSlots layout → values_end layout ≤ layout.file_len
 values-whole layout inside are =
     let n = record_count layout in
     greatest_from-least (λ (b : Extent). b.end) layout.header_end layout.file_len (filter has_values (blocks layout)) inside
@@ -34,12 +34,12 @@ values-whole layout inside are =
 
 -- ---- the values end in the file, so the slots are whole
 
-value-reached : (layout : Layout) (b : Extent) → Contains (blocks layout) b → b.begin < b.end → b.end ≤ values_end layout
+value-reached : (layout : FileLayout) (b : Extent) → Contains (blocks layout) b → b.begin < b.end → b.end ≤ values_end layout
 value-reached layout b has some =
     greatest_from-above (λ (c : Extent). c.end) layout.header_end (filter has_values (blocks layout)) b
     (contains-filter has_values (blocks layout) b has (lt-ltb b.begin b.end some))
 
-pub whole-values : (layout : Layout) → IsSoundLayout layout → values_end layout ≤ layout.file_len → AreWholeSlots layout
+pub whole-values : (layout : FileLayout) → IsSoundLayout layout → values_end layout ≤ layout.file_len → AreWholeSlots layout
 whole-values layout sound within =
     at-all (IsWhole layout) layout.slots (λ k x at.
     let some = (all-at IsSoundSlot layout.slots k x sound.sound_slots at).some_bytes in
@@ -76,7 +76,7 @@ none-cut : (file_len : ℕ) (xs : List SlabPlace) (c : SlabPlace) → first_slab
 none-cut file_len [] c none has = absurd (contains-none c has)
 none-cut file_len (x ∷ xs) c none has = grind (arith, nat_tests, contains-cases x c xs has, none-cut file_len xs c)
 
-uncut-whole : (layout : Layout) → first_cut_slab layout ≡ None → AreWholeSlots layout
+uncut-whole : (layout : FileLayout) → first_cut_slab layout ≡ None → AreWholeSlots layout
 unfolding first_cut_slab all_slabs
 uncut-whole layout none =
     let size = record_size layout.slots in
@@ -93,11 +93,11 @@ uncut-whole layout none =
           ));
     })
 
-uncut-values : (layout : Layout) → IsSoundLayout layout → first_cut_slab layout ≡ None → values_end layout ≤ layout.file_len
+uncut-values : (layout : FileLayout) → IsSoundLayout layout → first_cut_slab layout ≡ None → values_end layout ≤ layout.file_len
 uncut-values layout sound none = values-whole layout sound.header_inside (uncut-whole layout none)
 
 -- where the finding that values are missing is of the kind, and nothing of the kind is found, the values end in the file
-pub quiet-values : (kind : LayoutFact → Bool) (layout : Layout) → IsSoundLayout layout
+pub quiet-values : (kind : LayoutFact → Bool) (layout : FileLayout) → IsSoundLayout layout
     → ((file_len end : ℕ) (slab : Slab) → kind (facts.Missing file_len end slab) ≡ true) → Quiet kind (end_findings layout)
     → values_end layout ≤ layout.file_len
 unfolding end_findings

@@ -13,7 +13,7 @@ use Rattle.nc_base.specs.Headers.{AreArrays, bare}
 use Rattle.nc_base.specs.Parts.{Spells}
 use Rattle.nc_base.specs.Places.{first_missing}
 use Rattle.nc_base.specs.Sizes.{record_count}
-use Rattle.nc_layout.specs.declared.{slot.Layout.Layout, finding.LayoutFact.LayoutFact, finding.LayoutFinding.LayoutFinding}
+use Rattle.nc_layout.specs.declared.{slot.FileLayout.FileLayout, finding.LayoutFact.LayoutFact, finding.LayoutFinding.LayoutFinding}
 use Rattle.nc_layout.specs.declared.finding.LayoutFact.TheVariants.{Missing}
 use Rattle.nc_layout.specs.FileEnd.{values_end}
 use Rattle.nc_layout.specs.Findings.{IsSoundLayout, layout_findings}
@@ -53,7 +53,7 @@ is_of_missing (Missing file_len end slab) = true
 is_of_missing fact = false
 
 -- one of the findings is of this kind
-abbrev pub finds : (LayoutFact → Bool) → Layout → Bool
+abbrev pub finds : (LayoutFact → Bool) → FileLayout → Bool
 finds kind layout = list_any (λ (finding : LayoutFinding). kind finding.fact) (layout_findings layout)
 
 -- the variable has a first missing value in a file of these bytes

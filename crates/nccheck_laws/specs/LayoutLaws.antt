@@ -5,7 +5,7 @@
 -- missing, a slab isn't whole.
 use Rattle.std.specs.Prelude.{◌≡◌, ◌≤◌, ◌<◌, IsSome, ◌⊎◌, ℕ, ◌+◌, ◌*◌, Bool, true, false, if◌then◌else◌, List, filter, take, sum_by, slice_get, IfSome}
 use Rattle.std.specs.List.{All, AllPairs, list_any}
-use Rattle.nc_layout.specs.declared.{slot.Slot.Slot, slot.Layout.Layout, finding.LayoutFact.LayoutFact, finding.LayoutFinding.LayoutFinding, file_end.SlabPlace.SlabPlace}
+use Rattle.nc_layout.specs.declared.{slot.Slot.Slot, slot.FileLayout.FileLayout, finding.LayoutFact.LayoutFact, finding.LayoutFinding.LayoutFinding, file_end.SlabPlace.SlabPlace}
 use Rattle.nc_layout.specs.declared.finding.LayoutFact.TheVariants.{BeginInHeader, Overlap, Unpadded, Order, AfterRecords, RecordPlace, Gap, Missing, EndPadding, Trailing}
 use Rattle.nc_layout.specs.Slots.{padded_slab, is_fixed, record_size, record_count}
 use Rattle.nc_layout.specs.SlotRules.{bytes_before}
@@ -31,7 +31,7 @@ is_of_end (Trailing file_len end records) = true
 is_of_end fact = false
 
 -- none of the findings is of this kind
-abbrev pub FindsNone : (LayoutFact → Bool) → Layout → Type 0
+abbrev pub FindsNone : (LayoutFact → Bool) → FileLayout → Type 0
 FindsNone kind layout = list_any (λ (finding : LayoutFinding). kind finding.fact) (layout_findings layout) ≡ false
 
 -- the bytes of the blocks of these slots that aren't record slots, with their padding
@@ -39,32 +39,32 @@ abbrev pub fixed_bytes : List Slot → ℕ
 fixed_bytes slots = sum_by padded_slab (filter is_fixed slots)
 
 -- right after the header and the padded slabs that come before that of the slot at this index
-abbrev pub canonical_begin : Layout → ℕ → Slot → ℕ
+abbrev pub canonical_begin : FileLayout → ℕ → Slot → ℕ
 canonical_begin layout i slot =
     if slot.is_record
     then layout.header_end + fixed_bytes layout.slots + bytes_before layout.slots i
     else layout.header_end + fixed_bytes (take i layout.slots)
 
-abbrev pub HasCanonicalBegins : Layout → Type 0
+abbrev pub HasCanonicalBegins : FileLayout → Type 0
 HasCanonicalBegins layout = (i : ℕ) → IfSome (slice_get layout.slots i) (λ (slot : Slot). slot.begin ≡ canonical_begin layout i slot)
 
 abbrev pub QuietBeginsAreCanonical : Type 0
-QuietBeginsAreCanonical = (layout : Layout) → FindsNone is_of_begin layout → HasCanonicalBegins layout
+QuietBeginsAreCanonical = (layout : FileLayout) → FindsNone is_of_begin layout → HasCanonicalBegins layout
 
 -- the length of a file that ends after the last of its padded slabs
-abbrev pub canonical_len : Layout → ℕ
+abbrev pub canonical_len : FileLayout → ℕ
 canonical_len layout = layout.header_end + fixed_bytes layout.slots + record_count layout * record_size layout.slots
 
 abbrev pub QuietLengthIsCanonical : Type 0
-QuietLengthIsCanonical = (layout : Layout) → IsSoundLayout layout → FindsNone is_of_begin layout → FindsNone is_of_end layout
+QuietLengthIsCanonical = (layout : FileLayout) → IsSoundLayout layout → FindsNone is_of_begin layout → FindsNone is_of_end layout
     → layout.file_len ≡ canonical_len layout
 
 -- the converses: nothing is found at canonical begins, nor at the end of a file of the canonical length
 abbrev pub CanonicalBeginsAreQuiet : Type 0
-CanonicalBeginsAreQuiet = (layout : Layout) → IsSoundLayout layout → HasCanonicalBegins layout → FindsNone is_of_begin layout
+CanonicalBeginsAreQuiet = (layout : FileLayout) → IsSoundLayout layout → HasCanonicalBegins layout → FindsNone is_of_begin layout
 
 abbrev pub CanonicalLengthIsQuiet : Type 0
-CanonicalLengthIsQuiet = (layout : Layout) → IsSoundLayout layout → HasCanonicalBegins layout → layout.file_len ≡ canonical_len layout
+CanonicalLengthIsQuiet = (layout : FileLayout) → IsSoundLayout layout → HasCanonicalBegins layout → layout.file_len ≡ canonical_len layout
     → FindsNone is_of_end layout
 
 -- a finding at a begin that lets two slabs share a byte, or a slab and the header
@@ -79,13 +79,13 @@ abbrev pub AreApart : SlabPlace → SlabPlace → Type 0
 AreApart a b = (a.end ≤ b.begin) ⊎ (b.end ≤ a.begin)
 
 -- no two slabs of the file have a byte in common, and none has a byte of the header
-pub record SharesNoByte (layout : Layout) : Type 0 where
+pub record SharesNoByte (layout : FileLayout) : Type 0 where
   pub slabs : AllPairs AreApart (all_slabs layout)
   pub header : All (λ (slab : SlabPlace). layout.header_end ≤ slab.begin) (all_slabs layout)
 
 abbrev pub QuietSlabsAreApart : Type 0
-QuietSlabsAreApart = (layout : Layout) → FindsNone is_of_shared_bytes layout → SharesNoByte layout
+QuietSlabsAreApart = (layout : FileLayout) → FindsNone is_of_shared_bytes layout → SharesNoByte layout
 
 -- if the file ends before the values do, then there is a slab that isn't whole, so that `missing` names it
 abbrev pub MissingValuesHaveSlab : Type 0
-MissingValuesHaveSlab = (layout : Layout) → IsSoundLayout layout → layout.file_len < values_end layout → IsSome (first_cut_slab layout)
+MissingValuesHaveSlab = (layout : FileLayout) → IsSoundLayout layout → layout.file_len < values_end layout → IsSome (first_cut_slab layout)

@@ -20,7 +20,7 @@ ghost use Rattle.nccheck_laws.specs.OneReport.{EachFileHasReport, ReportsAreOne}
 /// order, and then those of the first record.
 ///
 /// `length`: if nothing is found at the end of the file either, then the file ends after the last of its padded slabs. So no other rule on
-/// begins or on the length is needed. Needs a sound layout ([`Layout::is_sound`](nc_layout::Layout::is_sound)).
+/// begins or on the length is needed. Needs a sound layout ([`FileLayout::is_sound`](nc_layout::FileLayout::is_sound)).
 pub fn quiet_layouts_are_canonical()
     ensures begins { QuietBeginsAreCanonical }
     ensures length { QuietLengthIsCanonical }
@@ -48,7 +48,7 @@ pub fn missing_values_have_slab()
 {}
 
 /// States a law, and does nothing: a header that the bytes of a file spell, by whatever rules on names, types and values, has a sound layout
-/// ([`Layout::is_sound`](nc_layout::Layout::is_sound)).
+/// ([`FileLayout::is_sound`](nc_layout::FileLayout::is_sound)).
 pub fn spelled_headers_have_sound_layouts()
     ensures { SpelledHeadersHaveSoundLayouts }
 {}

@@ -25,14 +25,14 @@ use std::alloc::{AllocError, Global};
 pub fn select(alloc: Global, header: &Header, options: &DumpOptions) -> Result<Vec<bool>, DumpFault>
     ensures { Selects header.now (options_of options.now) result }
 {
-    let chosen = check_chosen_names(alloc, header, options)?;
+    let chosen = chosen_names(alloc, header, options)?;
     let dims = dim_names(alloc, header, options)?;
     Ok(selection_in_both(alloc, header.vars.as_slice(), &chosen, &dims)?)
 }
 
 /// Returns the set of the names that `-v` chooses, which [`checked_names`] makes, or `None` if `-v` isn't given. Errs with `NoSuchVariable`
 /// and the index, counted from 0, of the first chosen name that no variable has, and with `OutOfMemory` if an allocation failed.
-fn check_chosen_names<'a>(
+fn chosen_names<'a>(
     alloc: Global,
     header: &Header,
     options: &'a DumpOptions,

@@ -12,7 +12,7 @@ ghost use Rattle.ncdump.specs.code.Shows.{dumped, ReadFailsOnly, SaysHasSlabs, S
 
 use crate::fault::DumpFault;
 use crate::options::DumpOptions;
-use cdl_print::{Gathered, ValuePrinter, Word, put_head};
+use cdl_print::{FixedText, TextBuffer, ValuePrinter, put_head};
 use devices::{Sink, Source, put};
 use nc_base::{Header, RecordLayout, is_record_var, record_layout};
 use nc_walk::{Walk, WalkFault};
@@ -51,7 +51,7 @@ pub fn show<S: Source, W: Sink>(
     put(sink, data_word(options, header))?;
     let shown = unless_head_only(options, selection);
     show_selected(source, header, layout, shown, options.width, buf, sink)?;
-    put(sink, Word::End.bytes())?;
+    put(sink, FixedText::End.bytes())?;
     Ok(())
 }
 
@@ -71,7 +71,7 @@ fn data_word(options: &DumpOptions, header: &Header) -> &'static [u8]
     if options.head_only || header.vars.is_empty() {
         b""
     } else {
-        Word::Data.bytes()
+        FixedText::Data.bytes()
     }
 }
 
@@ -137,7 +137,7 @@ fn show_variable<S: Source, W: Sink>(
     layout: RecordLayout,
     width: usize,
     buf: &mut [u8],
-    text: &mut Gathered,
+    text: &mut TextBuffer,
     sink: &mut W,
 ) -> Result<(), DumpFault>
     requires sound { IsSound header.now }

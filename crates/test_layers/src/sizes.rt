@@ -1,7 +1,7 @@
 //! Sizes of small headers, worked out by hand.
 
 use crate::header_rows::{EMPTY, HeaderRow, NamedLength, NamedShape, dims_of, header_of};
-use nc_base::{Header, NcType, NumRecs, extent_end, rec_size, records, slab_of};
+use nc_base::{Header, NcType, NumRecs, extent_end, rec_size, records, slab_len};
 use std::process::Abort;
 use std::test::Fail;
 
@@ -29,7 +29,7 @@ fn slabs_leave_out_the_record_dimension_up_to_their_limit(rt: HostRuntime) -> Re
     ];
     let dims = dims_of(rt.alloc(), DIMS)?;
     for (dimids, ty, slab) in ROWS {
-        let found = slab_of(dims.as_slice(), *dimids, *ty);
+        let found = slab_len(dims.as_slice(), *dimids, *ty);
         assert!(rt; found == *slab, "{dimids:?} {ty:?}");
     }
     Ok(())

@@ -13,7 +13,7 @@ use std::rt::Files;
 
 /// The example of `cli_base`. Returns true if the words of a command line have the option `-h` or a value of `-l`. Errs with `Usage` if
 /// they are no command line of this command, and with `OutOfMemory` if an allocation failed.
-pub fn asks_for_less(alloc: Global, words: &[&str]) -> Result<bool, OptFault> {
+pub fn has_option(alloc: Global, words: &[&str]) -> Result<bool, OptFault> {
     let command = Command::new(alloc, "show")
         .arg(flag(alloc, "header", 'h'))?
         .arg(option(alloc, "width", 'l'))?

@@ -21,9 +21,9 @@ is_defining Variables = true
 is_defining _ = false
 
 -- before the data section
-abbrev pub is_early : Section → Bool
-is_early Unopened = true
-is_early section = is_defining section
+abbrev pub is_before_data : Section → Bool
+is_before_data Unopened = true
+is_before_data section = is_defining section
 
 -- the section of a mark; no mark gets here that has none
 abbrev pub after_mark : Option Section → Section

@@ -7,14 +7,14 @@ use Rattle.nc_base.specs.Types.{size_of}
 use Rattle.cdl_statements.specs.Meaning.{has_small_array, records_in}
 use Rattle.cdl_statements.specs.State.{Draft}
 use Rattle.cdl_values.specs.code.Listed.{AllList, AreShaped}
-use Rattle.cdl_parse.specs.declared.records.Extent.{Extent}
+use Rattle.cdl_parse.specs.declared.records.RecordNeeds.{RecordNeeds}
 
 -- how many records of `count` values hold n of them
 abbrev pub records_for : ℕ → ℕ → ℕ
 records_for count n = (n + count - 1) / count
 
 -- with a variable and the bytes that are listed of it; None if its slab is above the limit
-abbrev pub with_listed : List Dim → Extent → Var → List ℕ → Option Extent
+abbrev pub with_listed : List Dim → RecordNeeds → Var → List ℕ → Option RecordNeeds
 with_listed dims e var listed =
     if nat_le (slab_size dims var) slab_limit then Some (if is_record_var dims var then record {
       records = max e.records (records_for (slab_count dims var) (length listed / size_of var.ty));
@@ -22,13 +22,13 @@ with_listed dims e var listed =
     } else e) else None
 
 -- with all these
-abbrev pub with_all : List Dim → Option Extent → List Var → List (List ℕ) → Option Extent
+abbrev pub with_all : List Dim → Option RecordNeeds → List Var → List (List ℕ) → Option RecordNeeds
 with_all dims None vars arrays = None
 with_all dims (Some e) (var ∷ vars) (listed ∷ arrays) = with_all dims (with_listed dims e var listed) vars arrays
 with_all dims (Some e) _ _ = Some e
 
 -- the number of records; None where the array of the widest variable over them passes the limit
-abbrev pub records_within : Extent → Option ℕ
+abbrev pub records_within : RecordNeeds → Option ℕ
 records_within e = if nat_le e.records array_limit && nat_le (e.records * e.widest) array_limit then Some e.records else None
 
 -- the variable's slab keeps its limit, and over n records its array does
@@ -44,8 +44,8 @@ abbrev pub HaveValues : List Dim → List Var → Type 0
 HaveValues dims vars = All (λ (var : Var). 0 < slab_count dims var) vars
 
 -- how far the listed values of these variables reach
-abbrev pub extent_of : List Dim → List Var → List (List ℕ) → Option Extent
-extent_of dims vars listed = with_all dims (Some (record { records = 0; widest = 0 })) vars listed
+abbrev pub needs_of : List Dim → List Var → List (List ℕ) → Option RecordNeeds
+needs_of dims vars listed = with_all dims (Some (record { records = 0; widest = 0 })) vars listed
 
 -- the result is the number of records that are kept, if this is what is listed of the variables
 abbrev pub CountsRecords : List Dim → List Var → List (List ℕ) → Option ℕ → Type 0

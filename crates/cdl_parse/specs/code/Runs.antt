@@ -20,9 +20,9 @@ FailsAt stops.OutOfMemory read = Unit {0}
 FailsAt (stops.Fault f) read = read ≡ Err f
 
 -- with an Ok the text is read on from there; a fault is the answer
-abbrev pub ReadsOn : {B A : Type 0} → (B → Result A CdlFault) → Result B ParseError → Result A CdlFault → Type 0
-ReadsOn after (Ok b) read = read ≡ after b
-ReadsOn after (Err e) read = FailsAt e read
+abbrev pub GivesOrOutOfMemory : {B A : Type 0} → (B → Result A CdlFault) → Result B ParseError → Result A CdlFault → Type 0
+GivesOrOutOfMemory after (Ok b) read = read ≡ after b
+GivesOrOutOfMemory after (Err e) read = FailsAt e read
 
 -- the other statements, after what the first one makes of the state
 abbrev pub run_after : List ℕ → Version → ℕ → List (List Token) → Result State CdlKind → Result State CdlFault

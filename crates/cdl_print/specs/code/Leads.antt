@@ -5,13 +5,13 @@ use Rattle.nc_base.specs.Numbers.{numbers}
 use Rattle.nc_base.specs.Types.{size_of}
 use Rattle.nc_base.specs.ValueText.{Look, char_lead, column, look_of}
 use Rattle.nc_base.specs.declared.{header.Header.Header, header.Var.Var}
-use Rattle.cdl_print.specs.declared.{gap.Gap.Gap, layout.Layout.Layout, progress.Progress.Progress}
-use Rattle.cdl_print.specs.declared.gap.Gap.TheVariants.{Space, FirstRow, NextRow, Comma, NewLine}
+use Rattle.cdl_print.specs.declared.{lead.Lead.Lead, layout.TextLayout.TextLayout, progress.Progress.Progress}
+use Rattle.cdl_print.specs.declared.lead.Lead.TheVariants.{Space, FirstRow, NextRow, Comma, NewLine}
 
 -- ---- the layout
 
 -- the layout as the definitions of the text see it
-abbrev pub look_at : Layout → Look
+abbrev pub look_at : TextLayout → Look
 look_at layout = record {
   name = layout.name.now;
   ty = layout.ty;
@@ -25,32 +25,32 @@ look_at layout = record {
 }
 
 -- the values by a layout, read from these bytes
-abbrev pub values : Layout → List ℕ → List ℤ
+abbrev pub values : TextLayout → List ℕ → List ℤ
 values layout bytes = numbers layout.ty bytes
 
 -- the bytes are whole values of a layout
-abbrev pub AreWhole : Layout → List ℕ → Type 0
+abbrev pub AreWhole : TextLayout → List ℕ → Type 0
 AreWhole layout bytes = length bytes ≡ length (values layout bytes) * size_of layout.ty
 
 -- the layout is that of the variable, over any number of records that gives as many values
-abbrev pub IsLayoutOf : Header → Var → ℕ → Layout → Type 0
+abbrev pub IsLayoutOf : Header → Var → ℕ → TextLayout → Type 0
 IsLayoutOf header var width layout = (records : ℕ) → layout.total ≡ value_count header.dims var records → look_at layout ≡ look_of header var records width
 
 -- this holds of the look that the variable at index v has over these records, in lines of this width, if there is such a variable
 abbrev pub IfVariable : Header → ℕ → ℕ → ℕ → (Look → Type 0) → Type 0
 IfVariable header v records width Holds = IfSome (slice_get header.vars v) (λ (var : Var). Holds (look_of header var records width))
 
--- ---- gaps
+-- ---- leads
 
-abbrev pub gap_bytes : Gap → List ℕ
-gap_bytes Space = codes " "
-gap_bytes FirstRow = codes "\n  "
-gap_bytes NextRow = codes ",\n  "
-gap_bytes Comma = codes ", "
-gap_bytes NewLine = codes ", \n    "
+abbrev pub lead_bytes : Lead → List ℕ
+lead_bytes Space = codes " "
+lead_bytes FirstRow = codes "\n  "
+lead_bytes NextRow = codes ",\n  "
+lead_bytes Comma = codes ", "
+lead_bytes NewLine = codes ", \n    "
 
--- how many bytes more a line of the width may have after the gap, if it had these columns left before
-abbrev pub columns_left_after : Gap → ℕ → ℕ → ℕ
+-- how many bytes more a line of the width may have after the lead, if it had these columns left before
+abbrev pub columns_left_after : Lead → ℕ → ℕ → ℕ
 columns_left_after Space columns_left width = columns_left - 1
 columns_left_after FirstRow columns_left width = width - 2
 columns_left_after NextRow columns_left width = width - 2
@@ -63,17 +63,17 @@ LeavesColumns width columns_left text left_after =
     (before : List ℕ) → columns_left ≡ width - column before → left_after ≡ width - column (before ++ text)
 
 -- before a number that is its row's first, after n values
-abbrev pub row_gap : Look → ℕ → Gap
-row_gap look position = if look.in_rows then (if position == 0 then FirstRow else NextRow) else Space
+abbrev pub row_lead : Look → ℕ → Lead
+row_lead look position = if look.in_rows then (if position == 0 then FirstRow else NextRow) else Space
 
 -- before a number of this length that isn't its row's first, if the line has these columns left: a new line begins if `, `,
 -- the number and two bytes after it would pass the width
-abbrev pub gap_in_row : ℕ → ℕ → Gap
-gap_in_row columns_left len = if nat_lt columns_left (len + 4) then NewLine else Comma
+abbrev pub lead_in_row : ℕ → ℕ → Lead
+lead_in_row columns_left len = if nat_lt columns_left (len + 4) then NewLine else Comma
 
 -- before the next number, which has this length
-abbrev pub next_gap : Look → Progress → ℕ → Gap
-next_gap look p len = if p.row_index == 0 then row_gap look p.position else gap_in_row p.columns_left len
+abbrev pub next_number_lead : Look → Progress → ℕ → Lead
+next_number_lead look p len = if p.row_index == 0 then row_lead look p.position else lead_in_row p.columns_left len
 
 -- before the next character
 abbrev pub next_char_lead : Look → Progress → List ℕ

@@ -7,8 +7,8 @@ use Rattle.nc_base.specs.ValueText.{Look, is_char, column, number_text, variable
 use Rattle.nc_base.specs.code.LaterPieces.{held, later_pieces}
 use Rattle.devices.specs.Failures.{HasFailed}
 use Rattle.devices.specs.Sinks.{SinkView, Appended, FailedPartway}
-use Rattle.cdl_print.specs.code.Leads.{look_at, values, gap_bytes, gap_in_row, next_gap, next_char_lead, columns_left_after}
-use Rattle.cdl_print.specs.declared.{gap.Gap.Gap, layout.Layout.Layout, number_line.LastLine.LastLine, progress.Progress.Progress}
+use Rattle.cdl_print.specs.code.Leads.{look_at, values, lead_bytes, lead_in_row, next_number_lead, next_char_lead, columns_left_after}
+use Rattle.cdl_print.specs.declared.{lead.Lead.Lead, layout.TextLayout.TextLayout, number_line.LastLine.LastLine, progress.Progress.Progress}
 
 -- ---- texts that are gathered
 
@@ -24,31 +24,31 @@ PutAt at old end new bytes = take end new ≡ take at old ++ bytes
 
 -- the next number with what stands before it
 abbrev pub number_bytes : Look → Progress → ℤ → List ℕ
-number_bytes look p value = gap_bytes (next_gap look p (length (number_text look value))) ++ number_text look value
+number_bytes look p value = lead_bytes (next_number_lead look p (length (number_text look value))) ++ number_text look value
 
 -- the next number by a layout, read from these bytes, with what stands before it
-abbrev pub next_number : Layout → Progress → List ℕ → List ℕ
+abbrev pub next_number : TextLayout → Progress → List ℕ → List ℕ
 next_number layout p bytes = number_bytes (look_at layout) p (number_of layout.ty bytes)
 
 -- after the next number
 pub record IsAfterNumber (look : Look) (p : Progress) (value : ℤ) (q : Progress) : Type 0 where
   pub position : q.position ≡ p.position + 1
   pub row_index : q.row_index ≡ (if p.row_index + 1 == look.row then 0 else p.row_index + 1)
-  pub columns_left : q.columns_left ≡ columns_left_after (next_gap look p (length (number_text look value))) p.columns_left look.width - length (number_text look value)
+  pub columns_left : q.columns_left ≡ columns_left_after (next_number_lead look p (length (number_text look value))) p.columns_left look.width - length (number_text look value)
 
 -- after the next number by a layout, read from these bytes
-abbrev pub IsAfterNextNumber : Layout → Progress → List ℕ → Progress → Type 0
+abbrev pub IsAfterNextNumber : TextLayout → Progress → List ℕ → Progress → Type 0
 IsAfterNextNumber layout p bytes q = IsAfterNumber (look_at layout) p (number_of layout.ty bytes) q
 
 -- ---- numbers that aren't their row's first
 
 -- a number's text with what stands before it, if the line has these columns left
 abbrev pub text_in_row : ℕ → List ℕ → List ℕ
-text_in_row columns_left text = gap_bytes (gap_in_row columns_left (length text)) ++ text
+text_in_row columns_left text = lead_bytes (lead_in_row columns_left (length text)) ++ text
 
 -- the columns left after it, in lines of this width
 abbrev pub columns_left_after_text : ℕ → ℕ → List ℕ → ℕ
-columns_left_after_text width columns_left text = columns_left_after (gap_in_row columns_left (length text)) columns_left width - length text
+columns_left_after_text width columns_left text = columns_left_after (lead_in_row columns_left (length text)) columns_left width - length text
 
 -- a number with what stands before it, if the line has these columns left
 abbrev pub bytes_in_row : Look → ℕ → ℤ → List ℕ
@@ -59,8 +59,8 @@ abbrev pub columns_left_in_row : Look → ℕ → ℤ → ℕ
 columns_left_in_row look columns_left value = columns_left_after_text look.width columns_left (number_text look value)
 
 -- what stands before a text of this length at the end of the line
-abbrev pub gap_at_end : LastLine → ℕ → Gap
-gap_at_end line len = gap_in_row line.columns_left len
+abbrev pub gap_at_end : LastLine → ℕ → Lead
+gap_at_end line len = lead_in_row line.columns_left len
 
 -- the columns left after a text of this length at the end of the line, in lines of this width
 abbrev pub columns_left_at_end : ℕ → LastLine → ℕ → ℕ
@@ -72,7 +72,7 @@ pub record PutInRow (width : ℕ) (bytes : List ℕ) (before : LastLine) (old : 
   pub columns_left : after.columns_left ≡ columns_left_after_text width before.columns_left bytes
 
 -- the text of a number is put at the end of the line with what stands before it
-abbrev pub PutNumber : Layout → ℤ → LastLine → List ℕ → LastLine → List ℕ → Type 0
+abbrev pub PutNumber : TextLayout → ℤ → LastLine → List ℕ → LastLine → List ℕ → Type 0
 PutNumber layout number before old after new = PutInRow layout.width (number_text (look_at layout) number) before old after new
 
 -- ---- characters of one row
@@ -91,7 +91,7 @@ abbrev pub part_bytes : Look → Progress → List ℕ → List ℕ
 part_bytes look p part = next_char_lead look p ++ part_text p.held_nuls (shown look part)
 
 -- the next characters by a layout, with what stands before them
-abbrev pub next_part : Layout → Progress → List ℕ → List ℕ
+abbrev pub next_part : TextLayout → Progress → List ℕ → List ℕ
 next_part layout p part = part_bytes (look_at layout) p part
 
 -- the index in the row after the next characters
@@ -128,7 +128,7 @@ abbrev pub values_after : Look → Progress → List ℤ → NextValues
 values_after look p ys = record { look = look; progress = p; values = ys }
 
 -- the next values by a layout, read from these bytes
-abbrev pub next : Layout → Progress → List ℕ → NextValues
+abbrev pub next : TextLayout → Progress → List ℕ → NextValues
 next layout p bytes = values_after (look_at layout) p (values layout bytes)
 
 -- the variable has the next values beside those printed
@@ -176,5 +176,5 @@ PrintedInRow look ys columns_before columns_after old new =
     → q.position ≡ p.position + length ys → q.row_index ≡ (if p.row_index + length ys == look.row then 0 else p.row_index + length ys) → IsAfterNext (values_after look p ys) q)
 
 -- the values ys are put at the end of the line, and none is its row's first
-abbrev pub PutLine : Layout → List ℤ → LastLine → List ℕ → LastLine → List ℕ → Type 0
+abbrev pub PutLine : TextLayout → List ℤ → LastLine → List ℕ → LastLine → List ℕ → Type 0
 PutLine layout ys before old after new = PrintedInRow (look_at layout) ys before.columns_left after.columns_left (take before.end old) (take after.end new)

@@ -1,10 +1,10 @@
 -- For contracts. The fixed words of a dump.
 use Rattle.std.specs.Prelude.{ℕ, List, codes}
 use Rattle.nc_base.specs.HeadText.{netcdf_word, dimensions_word, unlimited_word, currently_word, variables_word, global_word, string_break}
-use Rattle.cdl_print.specs.declared.word.Word.{Word}
-use Rattle.cdl_print.specs.declared.word.Word.TheVariants.{Netcdf, Dimensions, Unlimited, Currently, Variables, GlobalAttributes, StringBreak, Data, End}
+use Rattle.cdl_print.specs.declared.fixed_text.FixedText.{FixedText}
+use Rattle.cdl_print.specs.declared.fixed_text.FixedText.TheVariants.{Netcdf, Dimensions, Unlimited, Currently, Variables, GlobalAttributes, StringBreak, Data, End}
 
-abbrev pub word_text : Word → List ℕ
+abbrev pub word_text : FixedText → List ℕ
 word_text Netcdf = netcdf_word
 word_text Dimensions = dimensions_word
 word_text Unlimited = unlimited_word

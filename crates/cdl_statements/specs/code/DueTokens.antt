@@ -35,41 +35,41 @@ is_after before (Some s) = nat_lt (section_number before) (section_number s)
 abbrev pub opens_section_after : Section → Lexeme → Bool
 opens_section_after before l = is_after before (section_of l)
 
-abbrev pub only : Bool → Due → Due
-only test due = if test then due else Never
+abbrev pub next_if : Bool → Due → Due
+next_if test due = if test then due else Never
 
 -- a comma, with which the list goes on, or the semicolon
 abbrev pub separator : Due → Lexeme → Due
-separator due l = if is_mark 0x2c l then due else only (is_mark 0x3b l) Nothing
+separator due l = if is_mark 0x2c l then due else next_if (is_mark 0x3b l) Nothing
 
 -- after the first token of a piece
 abbrev pub next_first : Section → Lexeme → Due
-next_first Unopened l = only (is_opening_kind l.kind) Nothing
-next_first Globals l = if is_mark 0x7d l then Nothing else (if is_mark 0x3a l then AttributeName else only (opens_section_after Globals l) Colon)
-next_first Dimensions l = if is_mark 0x7d l then Nothing else (if is_mark 0x3a l then AttributeName else (if opens_section_after Dimensions l then Colon else only (is_name l) LengthEquals))
-next_first Variables l = if is_mark 0x7d l then Nothing else (if is_mark 0x3a l then AttributeName else only (is_word_kind l.kind) (AfterWord (is_name l) (opens_section_after Variables l)))
-next_first Values l = if is_mark 0x7d l then Nothing else only (is_name l) (Equals true)
-next_first Closed l = only (is_end_kind l.kind) Nothing
+next_first Unopened l = next_if (is_opening_kind l.kind) Nothing
+next_first Globals l = if is_mark 0x7d l then Nothing else (if is_mark 0x3a l then AttributeName else next_if (opens_section_after Globals l) Colon)
+next_first Dimensions l = if is_mark 0x7d l then Nothing else (if is_mark 0x3a l then AttributeName else (if opens_section_after Dimensions l then Colon else next_if (is_name l) LengthEquals))
+next_first Variables l = if is_mark 0x7d l then Nothing else (if is_mark 0x3a l then AttributeName else next_if (is_word_kind l.kind) (AfterWord (is_name l) (opens_section_after Variables l)))
+next_first Values l = if is_mark 0x7d l then Nothing else next_if (is_name l) (Equals true)
+next_first Closed l = next_if (is_end_kind l.kind) Nothing
 next_first Ended l = Never
 
 -- after a token
 unfoldable pub next : Due → Lexeme → Due
 next (First section) l = next_first section l
-next DataName l = only (is_name l) (Equals true)
-next Colon l = only (is_mark 0x3a l) Nothing
-next AttributeName l = only (is_name l) (Equals false)
-next (Equals takes_fill) l = only (is_mark 0x3d l) (Value takes_fill)
-next (Value takes_fill) l = only (is_value_of takes_fill l l.kind) (Separator takes_fill)
+next DataName l = next_if (is_name l) (Equals true)
+next Colon l = next_if (is_mark 0x3a l) Nothing
+next AttributeName l = next_if (is_name l) (Equals false)
+next (Equals takes_fill) l = next_if (is_mark 0x3d l) (Value takes_fill)
+next (Value takes_fill) l = next_if (is_value_of takes_fill l l.kind) (Separator takes_fill)
 next (Separator takes_fill) l = separator (Value takes_fill) l
-next DimensionName l = only (is_name l) LengthEquals
-next LengthEquals l = only (is_mark 0x3d l) Length
-next Length l = only (is_length l) LengthSeparator
+next DimensionName l = next_if (is_name l) LengthEquals
+next LengthEquals l = next_if (is_mark 0x3d l) Length
+next Length l = next_if (is_length l) LengthSeparator
 next LengthSeparator l = separator DimensionName l
-next (AfterWord named section) l = if is_mark 0x3a l then (if named then AttributeName else only section Nothing) else only (is_name l) AfterVariable
-next VariableName l = only (is_name l) AfterVariable
+next (AfterWord named section) l = if is_mark 0x3a l then (if named then AttributeName else next_if section Nothing) else next_if (is_name l) AfterVariable
+next VariableName l = next_if (is_name l) AfterVariable
 next AfterVariable l = if is_mark 0x28 l then VariableDimension else separator VariableName l
-next VariableDimension l = only (is_name l) AfterVariableDimension
-next AfterVariableDimension l = if is_mark 0x2c l then VariableDimension else only (is_mark 0x29 l) AfterShape
+next VariableDimension l = next_if (is_name l) AfterVariableDimension
+next AfterVariableDimension l = if is_mark 0x2c l then VariableDimension else next_if (is_mark 0x29 l) AfterShape
 next AfterShape l = separator VariableName l
 next Nothing l = Never
 next Never l = Never

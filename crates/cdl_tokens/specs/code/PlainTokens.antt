@@ -11,7 +11,7 @@ use Rattle.cdl_tokens.specs.code.Magnitudes.{ReadsDigits, held}
 use Rattle.cdl_tokens.specs.Numerals.{parts, type_of_suffix, with_sign}
 use Rattle.cdl_tokens.specs.Scan.{begins_number, scan, token}
 use Rattle.cdl_tokens.specs.Tokens.{raw}
-use Rattle.cdl_tokens.specs.declared.{plain_number.PlainNumber.PlainNumber, plain_number.Unsigned.Unsigned, scanner.ListedNumber.ListedNumber, token.Token.Token}
+use Rattle.cdl_tokens.specs.declared.{plain_number.PlainNumber.PlainNumber, plain_number.PlainMagnitude.PlainMagnitude, scanner.ListedNumber.ListedNumber, token.Token.Token}
 use Rattle.cdl_tokens.specs.declared.token.TokenKind.TheVariants.{Number, Mark, Text, Word}
 
 -- a comma or white space
@@ -36,7 +36,7 @@ pub record IsLetterOf (ty : NcType) (letter : ℕ) : Type 0 where
   pub goes : goes_on_number letter ≡ true
 
 -- the bytes begin with a number token without a sign, of this length, which says this number in every version
-pub record BeginsUnsigned (bs : List ℕ) (n : Unsigned) : Type 0 where
+pub record BeginsUnsigned (bs : List ℕ) (n : PlainMagnitude) : Type 0 where
   pub digit : is_digit (slice_index bs 0) ≡ true
   pub len : n.len ≡ prefix_len goes_on_number bs
   pub within : n.len ≤ length bs

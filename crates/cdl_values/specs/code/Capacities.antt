@@ -7,44 +7,44 @@ use Rattle.nc_base.specs.Sizes.{dim_len, is_record_var, product, slab_count}
 use Rattle.cdl_statements.specs.declared.fault.CdlKind.{CdlKind}
 use Rattle.cdl_statements.specs.State as states
 use Rattle.cdl_statements.specs.State.{Takes, takes_of}
-use Rattle.cdl_values.specs.declared.{capacity.Capacity.Capacity, filling.Filling.Filling}
+use Rattle.cdl_values.specs.declared.{capacity.Capacity.Capacity, form.ValueForm.ValueForm}
 use Rattle.cdl_values.specs.declared.capacity.Capacity.TheVariants.{AtMost, Unlimited}
-use Rattle.cdl_values.specs.declared.filling.Filling.TheVariants.{Numbers, Joined, Rows}
+use Rattle.cdl_values.specs.declared.form.ValueForm.TheVariants.{Numbers, Joined, Rows}
 
 -- it is filled so; a row has a byte at least
-abbrev pub Fills : Filling → Takes → Type 0
+abbrev pub Fills : ValueForm → Takes → Type 0
 Fills (Numbers fill) takes = takes ≡ states.Numbers fill.ty fill.value
 Fills Joined takes = takes ≡ states.Joined
 Fills (Rows len fill) takes = (takes ≡ states.Rows len (pos fill)) × (0 < len) × (fill < 256)
 
 -- the type of what it takes
-abbrev pub taken_type : Filling → NcType
+abbrev pub taken_type : ValueForm → NcType
 taken_type (Numbers fill) = fill.ty
-taken_type filling = Char
+taken_type form = Char
 
 -- the greatest capacity
 abbrev pub most : ℕ
 most = 2 ^ 64 - 1
 
 -- The capacity that stands for m positions. No statement has as many values as the greatest one, so it stands for all from there on.
-abbrev pub capacity_for : Filling → ℕ → ℕ
+abbrev pub capacity_for : ValueForm → ℕ → ℕ
 capacity_for (Numbers fill) m = min m most
 capacity_for Joined m = m
 capacity_for (Rows len fill) m = min m most
 
 -- how many positions a variable has: rows, or values
-abbrev pub positions_in : Filling → List Dim → Var → ℕ
+abbrev pub positions_in : ValueForm → List Dim → Var → ℕ
 positions_in (Rows len fill) dims var = product (map (dim_len dims) (take (length var.dimids - 1) var.dimids))
-positions_in filling dims var = slab_count dims var
+positions_in form dims var = slab_count dims var
 
 -- it has this capacity for values
-abbrev pub HasCapacity : Filling → Capacity → List Dim → Var → Type 0
-HasCapacity filling Unlimited dims var = is_record_var dims var ≡ true
-HasCapacity filling (AtMost n) dims var = (is_record_var dims var ≡ false) × (n ≡ capacity_for filling (positions_in filling dims var))
+abbrev pub HasCapacity : ValueForm → Capacity → List Dim → Var → Type 0
+HasCapacity form Unlimited dims var = is_record_var dims var ≡ true
+HasCapacity form (AtMost n) dims var = (is_record_var dims var ≡ false) × (n ≡ capacity_for form (positions_in form dims var))
 
 -- a variable that is filled so has this capacity
-abbrev pub HasCapacityAsFilled : List Dim → Var → Filling → Capacity → Type 0
-HasCapacityAsFilled dims var filling capacity = Fills filling (takes_of dims var) → HasCapacity filling capacity dims var
+abbrev pub HasCapacityAsFilled : List Dim → Var → ValueForm → Capacity → Type 0
+HasCapacityAsFilled dims var form capacity = Fills form (takes_of dims var) → HasCapacity form capacity dims var
 
 -- the bytes of what is listed
 abbrev pub as_bytes : NcType → Result (List ℤ) CdlKind → Result (List ℕ) CdlKind

@@ -33,7 +33,7 @@ target_said names targets word = target_of names targets (word_value word)
 
 abbrev pub packed_for : Version → List Lexeme → Result Target CdlKind → Result (List ℕ) CdlKind
 packed_for version ws (Err e) = Err e
-packed_for version ws (Ok t) = packed t.filling t.capacity (values version ws)
+packed_for version ws (Ok t) = packed t.form t.capacity (values version ws)
 
 -- NAME, `=` and the values
 abbrev pub bytes_assigned : Version → List (List ℕ) → List Target → List Lexeme → Result (List ℕ) CdlKind

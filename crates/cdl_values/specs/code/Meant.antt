@@ -10,7 +10,7 @@ use Rattle.cdl_statements.specs.declared.{cutter.Cutter.Cutter, section.Section.
 use Rattle.cdl_statements.specs.Lexemes.{Lexeme, is_mark}
 use Rattle.cdl_statements.specs.Meaning.{piece_read}
 use Rattle.cdl_statements.specs.State.{State, Draft, takes_of}
-use Rattle.cdl_values.specs.declared.{read_error.ReadError.ReadError, data.Given.Given, data.Target.Target}
+use Rattle.cdl_values.specs.declared.{read_error.ReadError.ReadError, data.StatementValues.StatementValues, data.Target.Target}
 use Rattle.cdl_values.specs.declared.read_error.ReadError.TheVariants.{OutOfMemory, Fault}
 use Rattle.cdl_values.specs.code.Capacities.{Fills, HasCapacity}
 use Rattle.cdl_values.specs.code.Listed.{AreShaped, unlisted_drafts}
@@ -18,8 +18,8 @@ use Rattle.cdl_values.specs.code.Listed.{AreShaped, unlisted_drafts}
 -- a target is what a draft takes
 pub record Suits (dims : List Dim) (t : Target) (d : Draft) : Type 0 where
   pub given : t.given ≡ is_some d.listed
-  pub fills : Fills t.filling (takes_of dims d.var)
-  pub takes : HasCapacity t.filling t.capacity dims d.var
+  pub fills : Fills t.form (takes_of dims d.var)
+  pub takes : HasCapacity t.form t.capacity dims d.var
 
 -- each target is what the draft at its position takes
 abbrev pub AllSuit : List Dim → List Target → List Draft → Type 0
@@ -87,5 +87,5 @@ pub record ListsValues (start : Cutter) (names : List (List ℕ)) (targets : Lis
   pub short : length (text_of start) < 2 ^ 63
 
 -- what is given of the next statement is what it means, in each state that has these names and takes this
-abbrev pub MeansWhatIsGiven : Cutter → List (List ℕ) → List Target → Result Given ReadError → Type 0
-MeansWhatIsGiven start names targets result = (s : State) → ListsValues start names targets s → ReadsStatement (version_of start) s (words start) (result_array (λ (g : Given). g.array) result)
+abbrev pub MeansWhatIsGiven : Cutter → List (List ℕ) → List Target → Result StatementValues ReadError → Type 0
+MeansWhatIsGiven start names targets result = (s : State) → ListsValues start names targets s → ReadsStatement (version_of start) s (words start) (result_array (λ (g : StatementValues). g.array) result)

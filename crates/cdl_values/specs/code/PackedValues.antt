@@ -9,9 +9,9 @@ use Rattle.cdl_statements.specs.Shapes.{Value, Number, Characters, Underscore}
 use Rattle.cdl_statements.specs.declared.fault.CdlKind.{CdlKind}
 use Rattle.cdl_statements.specs.declared.fault.CdlKind.TheVariants.{NumberRange, WrongKind, TooManyValues, StringTooLong}
 use Rattle.cdl_statements.specs.State.{has_number}
-use Rattle.cdl_values.specs.declared.{capacity.Capacity.Capacity, filling.Filling.Filling}
+use Rattle.cdl_values.specs.declared.{capacity.Capacity.Capacity, form.ValueForm.ValueForm}
 use Rattle.cdl_values.specs.declared.capacity.Capacity.TheVariants.{AtMost, Unlimited}
-use Rattle.cdl_values.specs.declared.filling.Filling.TheVariants.{Numbers, Joined, Rows}
+use Rattle.cdl_values.specs.declared.form.ValueForm.TheVariants.{Numbers, Joined, Rows}
 
 -- the greatest magnitude of a type's numbers with and without a minus
 abbrev pub greatest : NcType → Bool → ℕ
@@ -74,13 +74,13 @@ abbrev pub row_bytes : ℕ → ℕ → Bool → Value → Result (List ℕ) CdlK
 row_bytes len fill full (Characters bytes) = if full then Err TooManyValues else (if nat_lt len (length bytes) then Err StringTooLong else Ok (char_bytes bytes ++ replicate (len - length bytes) fill))
 row_bytes len fill full v = Err WrongKind
 
-abbrev pub bytes_of : Filling → Capacity → Value → Result (List ℕ) CdlKind
+abbrev pub bytes_of : ValueForm → Capacity → Value → Result (List ℕ) CdlKind
 bytes_of (Numbers fill) capacity v = value_bytes fill.ty fill.value (is_full capacity) v
 bytes_of Joined capacity v = text_bytes capacity v
 bytes_of (Rows len fill) capacity v = row_bytes len fill (is_full capacity) v
 
 -- the capacity that is left after a value with these bytes: in values, in bytes or in rows
-abbrev pub capacity_after : Filling → List ℕ → Capacity → Capacity
+abbrev pub capacity_after : ValueForm → List ℕ → Capacity → Capacity
 capacity_after (Numbers fill) bytes capacity = capacity_minus 1 capacity
 capacity_after Joined bytes capacity = capacity_minus (length bytes) capacity
 capacity_after (Rows len fill) bytes capacity = capacity_minus 1 capacity
@@ -97,6 +97,6 @@ followed_by (Err e) rest = Err e
 followed_by (Ok bytes) rest = joined (Ok bytes) (rest bytes)
 
 -- the bytes of the values of a variable, which has so much capacity
-unfoldable pub packed : Filling → Capacity → List Value → Result (List ℕ) CdlKind
-packed filling capacity [] = Ok []
-packed filling capacity (v ∷ vs) = followed_by (bytes_of filling capacity v) (λ bytes. packed filling (capacity_after filling bytes capacity) vs)
+unfoldable pub packed : ValueForm → Capacity → List Value → Result (List ℕ) CdlKind
+packed form capacity [] = Ok []
+packed form capacity (v ∷ vs) = followed_by (bytes_of form capacity v) (λ bytes. packed form (capacity_after form bytes capacity) vs)

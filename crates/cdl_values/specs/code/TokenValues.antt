@@ -15,7 +15,7 @@ use Rattle.cdl_statements.specs.declared.{cutter.Cutter.Cutter, due.Due.Due, fau
 use Rattle.cdl_statements.specs.State.{add_constant, in_turn}
 use Rattle.cdl_values.specs.code.Answers.{ContinuesRead, Leaves}
 use Rattle.cdl_values.specs.code.PackedValues.{bytes_of, capacity_after, joined, capacity_minus, packed, value_bytes}
-use Rattle.cdl_values.specs.declared.{capacity.Capacity.Capacity, fill.Fill.Fill, filling.Filling.Filling, read_error.ReadError.ReadError, value.FastPathFault.FastPathFault}
+use Rattle.cdl_values.specs.declared.{capacity.Capacity.Capacity, fill.Fill.Fill, form.ValueForm.ValueForm, read_error.ReadError.ReadError, value.QuickPassFault.QuickPassFault}
 
 -- ---- one token
 
@@ -28,20 +28,20 @@ abbrev pub text_said : List ℕ → Value
 text_said bytes = Characters (string_value (inner bytes))
 
 -- the bytes of a token's value
-abbrev pub token_bytes : Filling → Capacity → Version → Lexeme → Result (List ℕ) CdlKind
-token_bytes filling capacity version token = bytes_of filling capacity (value_said version token)
+abbrev pub token_bytes : ValueForm → Capacity → Version → Lexeme → Result (List ℕ) CdlKind
+token_bytes form capacity version token = bytes_of form capacity (value_said version token)
 
 -- the same of a token that is a number
-abbrev pub numeral_bytes : Filling → Capacity → Version → List ℕ → Result (List ℕ) CdlKind
-numeral_bytes filling capacity version bytes = bytes_of filling capacity (value_of version (lexeme_with kinds.Number bytes) kinds.Number)
+abbrev pub numeral_bytes : ValueForm → Capacity → Version → List ℕ → Result (List ℕ) CdlKind
+numeral_bytes form capacity version bytes = bytes_of form capacity (value_of version (lexeme_with kinds.Number bytes) kinds.Number)
 
 -- the same of a variable of numbers
 abbrev pub number_token_bytes : Fill → Bool → Version → Lexeme → Result (List ℕ) CdlKind
 number_token_bytes fill full version token = value_bytes fill.ty fill.value full (value_said version token)
 
 -- a value takes one of the capacity, whatever its bytes
-abbrev pub CountsOne : Filling → Capacity → Type 0
-CountsOne filling capacity = (added : List ℕ) → capacity_after filling added capacity ≡ capacity_minus 1 capacity
+abbrev pub CountsOne : ValueForm → Capacity → Type 0
+CountsOne form capacity = (added : List ℕ) → capacity_after form added capacity ≡ capacity_minus 1 capacity
 
 -- ---- one token after the other
 
@@ -54,36 +54,36 @@ abbrev pub at : List ℕ → Capacity → Packing
 at bytes left = record { bytes = bytes; left = left }
 
 -- the bytes with the values of these tokens
-abbrev pub packed_on : Version → Filling → Packing → List lexemes.Lexeme → Result (List ℕ) CdlKind
-packed_on version filling here tokens = joined (Ok here.bytes) (packed filling here.left (values version tokens))
+abbrev pub packed_on : Version → ValueForm → Packing → List lexemes.Lexeme → Result (List ℕ) CdlKind
+packed_on version form here tokens = joined (Ok here.bytes) (packed form here.left (values version tokens))
 
 -- the token's value is added, which leaves such a capacity; or the fault is that of the values
-abbrev pub PacksToken : Version → Filling → Lexeme → Packing → List ℕ → Result Capacity ReadError → Type 0
-PacksToken version filling token before bytes result =
-    (rest : List lexemes.Lexeme) → ContinuesRead (λ left. packed_on version filling (at bytes left) rest) result (packed_on version filling before (lexeme_of token ∷ rest))
+abbrev pub PacksToken : Version → ValueForm → Lexeme → Packing → List ℕ → Result Capacity ReadError → Type 0
+PacksToken version form token before bytes result =
+    (rest : List lexemes.Lexeme) → ContinuesRead (λ left. packed_on version form (at bytes left) rest) result (packed_on version form before (lexeme_of token ∷ rest))
 
 -- past a token
-abbrev pub Packs : Version → Filling → Lexeme → Packing → Packing → Type 0
-Packs version filling token before after = (rest : List lexemes.Lexeme) → packed_on version filling before (lexeme_of token ∷ rest) ≡ packed_on version filling after rest
+abbrev pub Packs : Version → ValueForm → Lexeme → Packing → Packing → Type 0
+Packs version form token before after = (rest : List lexemes.Lexeme) → packed_on version form before (lexeme_of token ∷ rest) ≡ packed_on version form after rest
 
 -- with an Ok the token's value is added, which leaves such a capacity
-abbrev pub PacksGood : Version → Filling → Lexeme → Packing → List ℕ → Result Capacity FastPathFault → Type 0
-PacksGood version filling token before bytes result = IfOk result (λ left. Packs version filling token before (at bytes left))
+abbrev pub PacksGood : Version → ValueForm → Lexeme → Packing → List ℕ → Result Capacity QuickPassFault → Type 0
+PacksGood version form token before bytes result = IfOk result (λ left. Packs version form token before (at bytes left))
 
-abbrev pub TakesGood : Version → Filling → Lexeme → Packing → List ℕ → Result (Capacity × Due) FastPathFault → Type 0
-TakesGood version filling token before bytes result = IfOk result (λ r. Packs version filling token before (at bytes r.0))
+abbrev pub TakesGood : Version → ValueForm → Lexeme → Packing → List ℕ → Result (Capacity × Due) QuickPassFault → Type 0
+TakesGood version form token before bytes result = IfOk result (λ r. Packs version form token before (at bytes r.0))
 
 -- with an Ok the bytes of the token's value are appended
-abbrev pub Appends : Version → Filling → Lexeme → Packing → List ℕ → Result ⊤ FastPathFault → Type 0
-Appends version filling token before after result = OnOk result (joined (Ok before.bytes) (token_bytes filling before.left version token) ≡ Ok after)
+abbrev pub Appends : Version → ValueForm → Lexeme → Packing → List ℕ → Result ⊤ QuickPassFault → Type 0
+Appends version form token before after result = OnOk result (joined (Ok before.bytes) (token_bytes form before.left version token) ≡ Ok after)
 
 -- the same of a token that is a number
-abbrev pub AppendsNumber : Version → Filling → List ℕ → Packing → List ℕ → Result ⊤ FastPathFault → Type 0
-AppendsNumber version filling bytes before after result = OnOk result (joined (Ok before.bytes) (numeral_bytes filling before.left version bytes) ≡ Ok after)
+abbrev pub AppendsNumber : Version → ValueForm → List ℕ → Packing → List ℕ → Result ⊤ QuickPassFault → Type 0
+AppendsNumber version form bytes before after result = OnOk result (joined (Ok before.bytes) (numeral_bytes form before.left version bytes) ≡ Ok after)
 
 -- the values from a cutter on, packed
-abbrev pub packed_from : Filling → Capacity → Cutter → Result (List ℕ) CdlKind
-packed_from filling capacity start = packed filling capacity (values (version_of start) (words start))
+abbrev pub packed_from : ValueForm → Capacity → Cutter → Result (List ℕ) CdlKind
+packed_from form capacity start = packed form capacity (values (version_of start) (words start))
 
 -- ---- constants
 

@@ -7,7 +7,7 @@ use Rattle.cdl_statements.specs.code.NumberLists.{reached}
 use Rattle.cdl_statements.specs.code.PassedValues.{PassesGood}
 use Rattle.cdl_statements.specs.declared.{cutter.Cutter.Cutter, number_list.NumberList.NumberList, due.Due.Due, due.Due.TheVariants.Separator}
 use Rattle.cdl_values.specs.code.PackedValues.{capacity_minus, is_full, joined, packed}
-use Rattle.cdl_values.specs.declared.{capacity.Capacity.Capacity, fill.Fill.Fill, filling.Filling.Filling, filling.Filling.TheVariants.Numbers, read_error.ReadError.ReadError, value.FastPathFault.FastPathFault, value_run.UnreadValues.UnreadValues}
+use Rattle.cdl_values.specs.declared.{capacity.Capacity.Capacity, fill.Fill.Fill, form.ValueForm.ValueForm, form.ValueForm.TheVariants.Numbers, read_error.ReadError.ReadError, value.QuickPassFault.QuickPassFault, value_run.UnreadValues.UnreadValues}
 
 -- A place among the values of a statement: the bytes of those before it, and what capacity is left.
 pub record Place : Type 0 where
@@ -19,22 +19,22 @@ abbrev pub place : UnreadValues → List ℕ → Place
 place unread bytes = record { cutter = unread.cutter; bytes = bytes; left = unread.capacity }
 
 -- The tokens between two places are good ones, after which the same token is due. Their values are what the bytes before have become, and what the capacity has lost.
-pub record GoesOn (due : Due) (filling : Filling) (start rest : Place) : Type 0 where
+pub record GoesOn (due : Due) (form : ValueForm) (start rest : Place) : Type 0 where
   pub passes : PassesGood due start.cutter rest.cutter
-  pub packs : joined (Ok rest.bytes) (packed filling rest.left (values (version_of start.cutter) (words rest.cutter))) ≡ joined (Ok start.bytes) (packed filling start.left (values (version_of start.cutter) (words start.cutter)))
+  pub packs : joined (Ok rest.bytes) (packed form rest.left (values (version_of start.cutter) (words rest.cutter))) ≡ joined (Ok start.bytes) (packed form start.left (values (version_of start.cutter) (words start.cutter)))
 
 -- From comma to comma of a list of values.
-pub record TakesValues (takes_fill : Bool) (filling : Filling) (start rest : Place) : Type 0 where
+pub record TakesValues (takes_fill : Bool) (form : ValueForm) (start rest : Place) : Type 0 where
   pub at : IsAtComma rest.cutter
-  pub on : GoesOn (Separator takes_fill) filling start rest
+  pub on : GoesOn (Separator takes_fill) form start rest
 
 -- with an Ok the bytes have become these, and the values that are left are unread
-abbrev pub GoesTo : Due → Filling → Place → List ℕ → Result UnreadValues FastPathFault → Type 0
-GoesTo due filling start bytes result = IfOk result (λ rest. GoesOn due filling start (place rest bytes))
+abbrev pub GoesTo : Due → ValueForm → Place → List ℕ → Result UnreadValues QuickPassFault → Type 0
+GoesTo due form start bytes result = IfOk result (λ rest. GoesOn due form start (place rest bytes))
 
 -- the same from comma to comma
-abbrev pub TakesTo : Bool → Filling → Place → List ℕ → Result UnreadValues FastPathFault → Type 0
-TakesTo takes_fill filling start bytes result = IfOk result (λ rest. TakesValues takes_fill filling start (place rest bytes))
+abbrev pub TakesTo : Bool → ValueForm → Place → List ℕ → Result UnreadValues QuickPassFault → Type 0
+TakesTo takes_fill form start bytes result = IfOk result (λ rest. TakesValues takes_fill form start (place rest bytes))
 
 -- one value more of a list, with the bytes before it and after it; a variable of numbers takes it if it takes any
 abbrev pub TakesOne : Bool → Fill → NumberList → NumberList → List ℕ → List ℕ → Type 0
@@ -47,5 +47,5 @@ abbrev pub IfTaken : Type 0 → Result Bool ReadError → Type 0
 IfTaken taken result = IfOk result (λ is_taken. is_taken ≡ true → taken)
 
 -- none of these values is a `_`, so that it doesn't matter if one may stand there
-abbrev pub TakesPlain : Filling → Place → List ℕ → Result UnreadValues FastPathFault → Type 0
-TakesPlain filling start bytes result = (takes_fill : Bool) → TakesTo takes_fill filling start bytes result
+abbrev pub TakesPlain : ValueForm → Place → List ℕ → Result UnreadValues QuickPassFault → Type 0
+TakesPlain form start bytes result = (takes_fill : Bool) → TakesTo takes_fill form start bytes result

@@ -2,7 +2,7 @@
 use Rattle.std.specs.Prelude.{◌≡◌, ◌≤◌, ℕ, ◌+◌, ◌-◌, ◌*◌, min, Bool, nat_lt, nat_le, ◌==◌, ◌&&◌, not, if◌then◌else◌, List, [], ◌∷◌, length, map, slice_get, slice_index, IfSome, Option, Some, None, SomeIff}
 use Rattle.std.specs.List.{list_all}
 use Rattle.nc_base.specs.declared.{header.Dim.Dim, header.Var.Var, header.Header.Header, nc_type.NcType.NcType}
-use Rattle.nc_base.specs.Sizes.{value_count, is_record_dim, is_record_var, slab_size, record_vars, record_size, slab_limit, record_limit, least_begin, slab_of}
+use Rattle.nc_base.specs.Sizes.{value_count, is_record_dim, is_record_var, slab_size, record_vars, record_size, slab_limit, record_limit, least_begin, slab_len}
 
 -- the id is that of a dimension other than the record dimension
 abbrev pub is_fixed_dim : List Dim → ℕ → Bool
@@ -45,4 +45,4 @@ CountsValues h v records count = IfSome (slice_get h.vars v) (λ (var : Var). co
 
 -- the bytes of a slab of this shape, if that keeps the limit
 abbrev pub IsCappedSlab : List Dim → List ℕ → NcType → Option ℕ → Type 0
-IsCappedSlab dims dimids ty slab = SomeIff slab (slab_of dims dimids ty ≤ slab_limit) (slab_of dims dimids ty)
+IsCappedSlab dims dimids ty slab = SomeIff slab (slab_len dims dimids ty ≤ slab_limit) (slab_len dims dimids ty)

@@ -2,7 +2,7 @@
 use Rattle.std.specs.Prelude.{ℕ, ◌<◌, ◌≤◌, List, [], length, All}
 use Rattle.nc_base.specs.declared.{header.Att.Att, header.Dim.Dim, header.Header.Header, header.Var.Var, nc_type.NcType.NcType, version.Version.Version}
 use Rattle.nc_base.specs.Headers.{AreDimids, IsSoundAtt, IsSoundDim, IsSoundVar}
-use Rattle.nc_base.specs.Sizes.{record_limit, record_size, slab_limit, slab_of}
+use Rattle.nc_base.specs.Sizes.{record_limit, record_size, slab_limit, slab_len}
 use Rattle.nc_base.specs.Versions.{count_limit}
 
 -- the version can count the dimensions, and each is sound
@@ -23,4 +23,4 @@ HasSoundVars h = (length h.vars < count_limit h.version) × All (IsSoundVar h.ve
 
 -- the ids are those of a shape whose slab keeps the limit
 abbrev pub IsSoundShape : List Dim → List ℕ → NcType → Type 0
-IsSoundShape dims dimids ty = AreDimids dims [] dimids × (slab_of dims dimids ty ≤ slab_limit)
+IsSoundShape dims dimids ty = AreDimids dims [] dimids × (slab_len dims dimids ty ≤ slab_limit)

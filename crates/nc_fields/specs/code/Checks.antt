@@ -8,7 +8,7 @@ use Rattle.nc_file.specs.declared.{head_fault.HeadFault.HeadFault, window.Window
 use Rattle.nc_file.specs.declared.head_fault.HeadFault.TheVariants.{OutOfMemory, ReadFailed, Format}
 use Rattle.nc_base.specs.declared.fault.FormatFault.{FormatFault}
 use Rattle.nc_file.specs.code.Window.{Kept, FailsOnly, Reads, left, next_of, source_of}
-use Rattle.nc_fields.specs.declared.{entry.Entry.Entry, entry.Content.Content, place.Place.Place, fields.Fields.Fields, fields.Start.Start}
+use Rattle.nc_fields.specs.declared.{entry.Entry.Entry, entry.Content.Content, place.Place.Place, fields.FieldReader.FieldReader, fields.PendingField.PendingField}
 use Rattle.nc_fields.specs.declared.entry.Content.TheVariants.{Cut, Number}
 use Rattle.nc_fields.specs.declared.entry.Content.TheVariants as content
 use Rattle.nc_fields.specs.Fields.{fields}
@@ -19,7 +19,7 @@ pub record Reader (S : Type 0) (g : Ghosts S) : Type 0 where
   pub window : Window S g
   pub entries : List Entry
 
-abbrev pub at : {S : Type 0} {g : Ghosts S} → Window S g → Fields → Reader S g
+abbrev pub at : {S : Type 0} {g : Ghosts S} → Window S g → FieldReader → Reader S g
 at window fields = record { window = window; entries = fields.entries }
 
 -- the fields before, and then what the rules look at in those of a part under these steps, in a file of this length
@@ -64,17 +64,17 @@ IsHeld bytes (Ok held) = held ≡ bytes
 IsHeld bytes (Err e) = e ≡ OutOfMemory
 
 -- this field begins at the next byte
-pub record IsStart {S : Type 0} {g : Ghosts S} (w : Window S g) (place : Place) (size : ℕ) (start : Start) : Type 0 where
+pub record IsStart {S : Type 0} {g : Ghosts S} (w : Window S g) (place : Place) (size : ℕ) (start : PendingField) : Type 0 where
   pub same_place : start.place ≡ place
   pub offset : start.offset ≡ next_of w
   pub same_size : start.size ≡ size
 
-abbrev pub entry_of : Start → Content → Entry
+abbrev pub entry_of : PendingField → Content → Entry
 entry_of start content = record { place = start.place; offset = start.offset; size = start.size; content = content; fault = None }
 
 -- The answer of the call that read the field is returned. If it is that the source has ended, the field was listed as cut, unless memory ran
 -- out.
-abbrev pub ListsCut : {A : Type 0} → List Entry → List Entry → Start → Result A HeadFault → Result A HeadFault → Type 0
+abbrev pub ListsCut : {A : Type 0} → List Entry → List Entry → PendingField → Result A HeadFault → Result A HeadFault → Type 0
 ListsCut old new start answer (Ok x) = (answer ≡ Ok x) × (new ≡ old)
 ListsCut old new start answer (Err (Format fault)) = (answer ≡ Err (Format fault)) × (new ≡ old ++ entry_of start Cut ∷ [])
 ListsCut old new start answer (Err OutOfMemory) = (answer ≡ Err OutOfMemory) ⊎ ((fault : FormatFault) × (answer ≡ Err (Format fault)))

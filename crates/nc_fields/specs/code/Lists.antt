@@ -4,11 +4,11 @@ use Rattle.nc_base.specs.declared.header.Var.{Var}
 use Rattle.nc_file.specs.declared.head_fault.HeadFault.{HeadFault}
 use Rattle.nc_fields.specs.declared.variable.CountedVar.{CountedVar}
 use Rattle.nc_base.specs.Parts.{Step, Dims, Gatts, Vars, Item, Atts}
-use Rattle.nc_fields.specs.declared.list_name.ListName.{ListName}
-use Rattle.nc_fields.specs.declared.list_name.ListName.TheVariants as name
+use Rattle.nc_fields.specs.declared.list_name.HeaderList.{HeaderList}
+use Rattle.nc_fields.specs.declared.list_name.HeaderList.TheVariants as name
 
 -- the steps to a list, the last one first
-abbrev pub list_steps : ListName → List Step
+abbrev pub list_steps : HeaderList → List Step
 list_steps name.Dims = Dims ∷ []
 list_steps name.GlobalAtts = Gatts ∷ []
 list_steps name.Vars = Vars ∷ []

@@ -16,7 +16,7 @@ use crate::window::Window;
 use devices::Source;
 use nc_base::{
     Dim, FormatFault, NcType, RECORD_LIMIT, Sequence, Var, Version, is_record_dim, is_record_shape,
-    padding_len, slab_of,
+    padding_len, slab_len,
 };
 use std::alloc::Global;
 
@@ -202,7 +202,7 @@ pub fn total_with(dims: &[Dim], dimids: &[u64], ty: NcType, total: u64) -> Optio
     ensures value { result ≡ total_with dims.now dimids.now ty total }
     ensures counted { IfSome result (λ sum. sum ≡ total + record_bytes dims.now dimids.now ty) }
 {
-    let slab = slab_of(dims, dimids, ty)?;
+    let slab = slab_len(dims, dimids, ty)?;
     let sum = total as u128 + record_bytes(dims, dimids, slab) as u128;
     if sum <= RECORD_LIMIT {
         Some(sum as u64)

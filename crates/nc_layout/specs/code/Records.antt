@@ -1,6 +1,6 @@
 -- For contracts. What is computed of the records of a file once and for all.
 use Rattle.std.specs.Prelude.{◌≡◌, ℕ, min, Bool, if◌then◌else◌, List, [], ◌∷◌, Option, None, Some}
-use Rattle.nc_layout.specs.declared.{slot.Slot.Slot, slot.Layout.Layout, records.FileRecords.FileRecords}
+use Rattle.nc_layout.specs.declared.{slot.Slot.Slot, slot.FileLayout.FileLayout, records.FileRecords.FileRecords}
 use Rattle.nc_layout.specs.Slots.{padded_slab, record_slots, is_sole_narrow, record_size, records_begin, records_by_length, record_count}
 
 -- the lesser of two numbers, if there are two
@@ -18,7 +18,7 @@ abbrev pub slab_if : Bool → Slot → ℕ
 slab_if narrow slot = if narrow then slot.slab else padded_slab slot
 
 -- these are the records of the file
-pub record AreRecords (layout : Layout) (records : FileRecords) : Type 0 where
+pub record AreRecords (layout : FileLayout) (records : FileRecords) : Type 0 where
   pub begin : records.begin ≡ records_begin layout.slots
   pub narrow : records.sole_narrow ≡ is_sole_narrow (record_slots layout.slots)
   pub size : records.size ≡ record_size layout.slots

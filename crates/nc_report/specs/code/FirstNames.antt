@@ -3,13 +3,13 @@ use Rattle.std.specs.Borrow.{Bor}
 use Rattle.std.specs.Prelude.{◌≡◌, ◌+◌, ◌*◌, ◌%◌, ◌^◌, ◌==◌, ◌&&◌, ℕ, Bool, if◌then◌else◌, false, List, fold, Option, Some, None}
 use Rattle.std.specs.Map.{lookup}
 use Rattle.std.specs.Option.{option_map_or}
-use Rattle.nc_report.specs.declared.{names.FirstNames.FirstNames, names.NameList.NameList}
-use Rattle.nc_report.specs.declared.names.NameList.TheVariants.{Dims, GlobalAtts, Vars, VarAtts}
+use Rattle.nc_report.specs.declared.{names.FirstNames.FirstNames, names.NameScope.NameScope}
+use Rattle.nc_report.specs.declared.names.NameScope.TheVariants.{Dims, GlobalAtts, Vars, VarAtts}
 use Rattle.nc_report.specs.Indexed.{Indexed}
 use Rattle.nc_report.specs.NameRules.{NameKey, is_same_key, is_index, key_of, first_index}
 
 -- a number that goes with a list
-abbrev pub list_number : NameList → ℕ
+abbrev pub list_number : NameScope → ℕ
 list_number Dims = 0
 list_number GlobalAtts = 1
 list_number Vars = 2
@@ -20,7 +20,7 @@ abbrev pub hash : NameKey → ℕ
 hash key = fold (λ (sum b : ℕ). (sum * 31 + b) % 2 ^ 32) (list_number key.0 % 2 ^ 32) key.1
 
 -- a key of the map is that of this name
-abbrev pub is_key_of : NameKey → ℕ × (NameList × Bor (List ℕ)) → Bool
+abbrev pub is_key_of : NameKey → ℕ × (NameScope × Bor (List ℕ)) → Bool
 is_key_of key k = (hash key == k.0) && is_same_key key (k.1.0, k.1.1.now)
 
 -- the index that goes with this name, if it is there

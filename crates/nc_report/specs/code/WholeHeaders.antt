@@ -5,13 +5,13 @@ use Rattle.nc_base.specs.declared.version.Version.{Version}
 use Rattle.nc_base.specs.Grammar.{vsize_of}
 use Rattle.nc_fields.specs.declared.{header.Listing.Listing}
 use Rattle.nc_fields.specs.Entries.{number_of}
-use Rattle.nc_layout.specs.declared.{slot.Layout.Layout, finding.LayoutFinding.LayoutFinding}
+use Rattle.nc_layout.specs.declared.{slot.FileLayout.FileLayout, finding.LayoutFinding.LayoutFinding}
 use Rattle.nc_layout.specs.declared.finding.LayoutPlace.TheVariants as places
 use Rattle.nc_layout.specs.Slots.{padded_slab}
 use Rattle.nc_layout.specs.Blocks.{each_slot}
 use Rattle.nc_layout.specs.Findings.{IsSoundLayout}
 use Rattle.nc_layout.specs.HeaderLayout.{layout_of}
-use Rattle.nc_report.specs.declared.{finding.Fact.Fact, finding.Finding.Finding, number_fields.NumberField.NumberField, number_fields.NumberFields.NumberFields}
+use Rattle.nc_report.specs.declared.{finding.Fact.Fact, finding.Finding.Finding, ahead.NumberField.NumberField, number_fields.NumberFields.NumberFields}
 use Rattle.nc_report.specs.declared.finding.Fact.TheVariants as fact
 use Rattle.nc_report.specs.Indexed.{Indexed, finding_at}
 use Rattle.nc_report.specs.WholeHeader.{is_numrecs, is_vsize, is_begin, named}
@@ -47,7 +47,7 @@ vsize_fact v padded (Some f) =
     let expected = vsize_of v padded in if f.number == expected then None else Some (finding_at f.index f.offset (fact.Vsize expected))
 
 -- and of all sizes
-abbrev pub vsize_facts : Layout → List NumberField → List Finding
+abbrev pub vsize_facts : FileLayout → List NumberField → List Finding
 vsize_facts layout ns = each_slot (λ i slot. option_to_list (vsize_fact layout.version (padded_slab slot) (slice_get ns i))) 0 layout.slots
 
 -- the layout is sound, if the header is whole

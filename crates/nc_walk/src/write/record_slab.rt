@@ -7,7 +7,7 @@ ghost use Rattle.nc_walk.specs.code.RecordSlabs.{array_of, record_slab, record_s
 
 use super::fills::fill_unit;
 use super::slab_writer::SlabWriter;
-use nc_base::{Dim, Header, ListedArray, Sequence, Var, is_record_var, slab_of};
+use nc_base::{Dim, Header, ListedArray, Sequence, Var, is_record_var, slab_len};
 use std::alloc::{AllocError, Global};
 
 /// The slab that a variable has in each record.
@@ -53,7 +53,7 @@ impl RecordSlab {
     {
         RecordSlab {
             var_index,
-            len: slab_of(dims, var.dimids.as_slice(), var.ty).unwrap(),
+            len: slab_len(dims, var.dimids.as_slice(), var.ty).unwrap(),
             fill_unit: fill_unit(var),
         }
     }

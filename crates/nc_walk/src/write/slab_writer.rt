@@ -8,7 +8,7 @@ ghost use Rattle.nc_walk.specs.code.Filled.{ArrayView, array_view, filled_part, 
 use super::fills::{fill_unit, put_fills};
 use super::part::put_listed_bytes;
 use devices::{Sink, WriteFailed};
-use nc_base::{Dim, ListedArray, Var, padding_len, slab_of};
+use nc_base::{Dim, ListedArray, Var, padding_len, slab_len};
 use std::marker::Model;
 
 /// A writer of the array of a variable. The values that the array lacks at its end are written as the fill value.
@@ -37,7 +37,7 @@ impl<'a> SlabWriter<'a> {
     {
         SlabWriter {
             listed,
-            slab: slab_of(dims, var.dimids.as_slice(), var.ty).unwrap(),
+            slab: slab_len(dims, var.dimids.as_slice(), var.ty).unwrap(),
             fill_unit: fill_unit(var),
         }
     }

@@ -50,5 +50,5 @@ pub record CountsList {P : Type 0} (o : Openings P) (a : Asked) (first last : Re
 pub record CountsAll {P : Type 0} (o : Openings P) (a : Asked) (first last : ReaderView) (old new : State P) (after : Option Tally)
     : Type 0 where
   pub items : List Item
-  pub reads : Either a.has_list (ReadsList first last items) (ReadsNothing first last items)
+  pub reads : Either a.reads_paths_from_input (ReadsList first last items) (ReadsNothing first last items)
   pub counts : Counts o a (map Path a.files ++ items) old new no_files after

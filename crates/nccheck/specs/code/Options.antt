@@ -7,7 +7,7 @@ use Rattle.nccheck.specs.CommandLine.{Asked}
 use Rattle.nccheck.specs.declared.options.CheckOptions.{CheckOptions}
 
 abbrev pub asked_for : CheckOptions → Asked
-asked_for o = record { files = texts_of o.files; has_list = o.has_list; filter = filter_for o.filter; is_quiet = o.is_quiet; is_counted = o.is_counted }
+asked_for o = record { files = texts_of o.files; reads_paths_from_input = o.reads_paths_from_input; filter = filter_for o.filter; is_quiet = o.is_quiet; has_summary = o.has_summary }
 
 -- the texts that are borrowed
 abbrev pub texts_in : Option (Bor (List (Bor (List ℕ)))) → Option (List (List ℕ))

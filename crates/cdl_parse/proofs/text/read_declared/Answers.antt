@@ -1,5 +1,5 @@
 use Rattle.std.proofs.Common.{rules, ◌≡◌, ◌∙◌, ◌<◌, ap, length, sym, subst, ◌^◌, Result, Ok, Err}
-use Rattle.cdl_parse.proofs.Prelude.{pieces_left, text_of, version_of, statements, closing_line, empty, meaning, run, dataset_of_declared, FailsAt, ReadsOn, Declared, ParseError}
+use Rattle.cdl_parse.proofs.Prelude.{pieces_left, text_of, version_of, statements, closing_line, empty, meaning, run, dataset_of_declared, FailsAt, GivesOrOutOfMemory, Declared, ParseError}
 use Rattle.cdl_parse.proofs.SizeLimits.{one-each}
 use Rattle.cdl_parse.proofs.WholeTexts.{run_fails, same_fault}
 use Rattle.cdl_parse.proofs.text.read_declared.Goals as goal
@@ -12,7 +12,7 @@ returns-in_err-dims-clause-reads c =
     let short : length (text_of start) < 2 ^ 63 = subst (λ t. length t < 2 ^ 63) (sym c.new.ensures.text) (search rules) in
     let e = c.in_err-dims.field-0.0 in
     let is : c.from_residual.result ≡ Err e = search rules in
-    subst (λ (r : Result Declared ParseError). ReadsOn (λ d. Ok (dataset_of_declared d)) r (meaning text version)) (sym is)
+    subst (λ (r : Result Declared ParseError). GivesOrOutOfMemory (λ d. Ok (dataset_of_declared d)) r (meaning text version)) (sym is)
     (run_fails version (closing_line (statements text)) e (run text version empty (statements text))
     (subst (λ pieces. FailsAt e (run text version empty pieces)) c.new.ensures.pieces (same_fault text (text_of start) version (version_of start) empty (pieces_left start) e c.new.ensures.text c.new.ensures.version (c.in_err-dims.ensures.reads short))))
 

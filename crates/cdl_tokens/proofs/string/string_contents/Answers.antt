@@ -17,12 +17,12 @@ escapes-preserved c =
     let after = cut.result.1.now in
     let run = past_run t.rest.now escape c.ordinary_len-n.result c.ordinary_len-n.ensures.len c.split_at.ensures.back in
     let on = past_escape escape after c.min.result (sym c.byte_at.ensures ∙ c.if-byte_at-ne92.false) c.min.ensures cut.ensures.back in
-    let test = c.is_some-is_good.ensures ∙ ap (λ (e : Character). is_some e.value) c.character.ensures.character in
+    let test = c.is_some-has_valid_escapes.ensures ∙ ap (λ (e : Character). is_some e.value) c.character.ensures.character in
     let good = are_good (contents after) in
     record {
       within = omega (arith, t.invariant.within, c.ordinary_len-n.ensures.within, c.split_at.ensures.back_len, cut.ensures.front_len, cut.ensures.back_len, c.min.ensures);
       total = omega (arith, t.invariant.total, run.len, on.len, cut.ensures.front_len);
-      good = and_assoc t.is_good c.is_some-is_good.result good ∙ ap (λ x. t.is_good && (x && good)) test ∙ ap (λ x. t.is_good && x) (sym (run.good ∙ on.good)) ∙ t.invariant.good;
+      good = and_assoc t.has_valid_escapes c.is_some-has_valid_escapes.result good ∙ ap (λ x. t.has_valid_escapes && (x && good)) test ∙ ap (λ x. t.has_valid_escapes && x) (sym (run.good ∙ on.good)) ∙ t.invariant.good;
     }
 
 pub returns-then-byte_at-ne92-clause-len : goal.returns-then-byte_at-ne92-clause-len
@@ -42,4 +42,4 @@ returns-then-byte_at-ne92-clause-good c =
     let none = ends t.rest.now escape c.ordinary_len-n.result c.ordinary_len-n.ensures.len c.split_at.ensures.back off in
     let all : len_until 0x22 c.args.bytes.now ≡ t.len + c.ordinary_len-n.result = omega (arith, t.invariant.total, run.len, none) in
     let yes = ap (λ n. are_good (take n escape)) none ∙ none_good in
-    sym (and_yes t.is_good (are_good (contents escape)) yes) ∙ ap (λ g. t.is_good && g) (sym run.good) ∙ t.invariant.good ∙ ap (λ n. are_good (take n c.args.bytes.now)) all
+    sym (and_yes t.has_valid_escapes (are_good (contents escape)) yes) ∙ ap (λ g. t.has_valid_escapes && g) (sym run.good) ∙ t.invariant.good ∙ ap (λ n. are_good (take n c.args.bytes.now)) all

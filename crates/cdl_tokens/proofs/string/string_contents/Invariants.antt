@@ -7,7 +7,7 @@ abbrev pub invariant-escapes : goal.invariant-escapes
 invariant-escapes l = record {
   within : l.len + length l.rest ≡ length l.bytes;
   total : l.len + len_until 0x22 l.rest ≡ len_until 0x22 l.bytes;
-  good : (l.is_good && are_good (contents l.rest)) ≡ are_good (contents l.bytes);
+  good : (l.has_valid_escapes && are_good (contents l.rest)) ≡ are_good (contents l.bytes);
 }
 
 abbrev pub decreases-escapes : goal.decreases-escapes

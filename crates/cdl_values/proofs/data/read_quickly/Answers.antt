@@ -23,4 +23,4 @@ returns-clause-read c =
     c.if-name_ends.false c.if-sign_ends.false on (ap (λ v. first_bad v (words value)) (sym (c.advanced-sign_ends.ensures.same.version ∙ c.advanced-name_ends.ensures.same.version)) ∙ c.in_ok-packed.ensures.bad) in
     read_on version names c.args.targets.now (words start) (words equals) (words value) n e c.advanced-name_ends.result.1 c.advanced-sign_ends.result.1 c.advanced-name_ends.ensures.words c.advanced-sign_ends.ensures.words good on ∙
     filled_ok version (words value) (target_of names c.args.targets.now (word_value n.bytes)) c.in_ok-position.field-0.target (ap (λ (l : Lexeme). target_of names c.args.targets.now (word_value l.bytes)) (sym c.lexeme-name.ensures.lexeme) ∙ c.in_ok-position.ensures.target) ∙
-    ap (λ v. packed c.in_ok-position.field-0.target.filling c.in_ok-position.field-0.target.capacity (values v (words value))) (sym (c.advanced-sign_ends.ensures.same.version ∙ c.advanced-name_ends.ensures.same.version)) ∙ c.in_ok-packed.ensures.packs
+    ap (λ v. packed c.in_ok-position.field-0.target.form c.in_ok-position.field-0.target.capacity (values v (words value))) (sym (c.advanced-sign_ends.ensures.same.version ∙ c.advanced-name_ends.ensures.same.version)) ∙ c.in_ok-packed.ensures.packs

@@ -1,5 +1,5 @@
 use Rattle.std.proofs.Common.{rules, ◌≡◌, sym, ap, ◌∙◌, true, false, subst, Result, List, ℕ}
-use Rattle.cdl_values.proofs.Prelude.{values, word_value, Lexeme, lexeme, completes, DataName, next_token, text_of, version_of, words, CdlKind, FailsRead, packed, data_read, packed_for, target_of, Given}
+use Rattle.cdl_values.proofs.Prelude.{values, word_value, Lexeme, lexeme, completes, DataName, next_token, text_of, version_of, words, CdlKind, FailsRead, packed, data_read, packed_for, target_of, StatementValues}
 use Rattle.cdl_values.proofs.AllowedNames.{refused}
 use Rattle.cdl_values.proofs.DataReads.{bad_read, no_fault, unshaped_read, read_on, name_goes, name_on, equals_goes, filled_ok, filled_err}
 use Rattle.cdl_values.proofs.data.read_slowly.Goals as goal
@@ -36,7 +36,7 @@ returns-clause-read c =
     read_on version names c.args.targets.now (words c.args.start) (words equals) (words c.advanced-2.result.0) n (lexeme (text_of equals) (next_token equals)) c.advanced.result.1 c.advanced-2.result.1
     c.advanced.ensures.words c.advanced-2.ensures.words (sym c.check_shape_by_due-found.ensures.bad ∙ no_fault c.check_shape_by_due-found.result.bad c.in_default.not-Some) on ∙
     filled_ok version (words c.advanced-2.result.0) (target_of names c.args.targets.now (word_value n.bytes)) target (ap (λ (l : Lexeme). target_of names c.args.targets.now (word_value l.bytes)) (sym c.lexeme-name.ensures.lexeme) ∙ c.in_ok-position.ensures.target) ∙
-    ap (λ v. packed target.filling target.capacity (values v (words c.advanced-2.result.0))) (sym (c.advanced-2.ensures.same.version ∙ c.advanced.ensures.same.version)) ∙ c.in_ok-array.ensures
+    ap (λ v. packed target.form target.capacity (values v (words c.advanced-2.result.0))) (sym (c.advanced-2.ensures.same.version ∙ c.advanced.ensures.same.version)) ∙ c.in_ok-array.ensures
 
 pub returns-in_err-array-clause-read : goal.returns-in_err-array-clause-read
 returns-in_err-array-clause-read c =
@@ -50,8 +50,8 @@ returns-in_err-array-clause-read c =
     let read = read_on version names c.args.targets.now (words c.args.start) (words equals) (words c.advanced-2.result.0) n (lexeme (text_of equals) (next_token equals)) c.advanced.result.1 c.advanced-2.result.1
     c.advanced.ensures.words c.advanced-2.ensures.words (sym c.check_shape_by_due-found.ensures.bad ∙ no_fault c.check_shape_by_due-found.result.bad c.in_default.not-Some) on ∙
     filled_ok version (words c.advanced-2.result.0) (target_of names c.args.targets.now (word_value n.bytes)) target (ap (λ (l : Lexeme). target_of names c.args.targets.now (word_value l.bytes)) (sym c.lexeme-name.ensures.lexeme) ∙ c.in_ok-position.ensures.target) ∙
-    ap (λ v. packed target.filling target.capacity (values v (words c.advanced-2.result.0))) (sym (c.advanced-2.ensures.same.version ∙ c.advanced.ensures.same.version)) in
-    refused (λ (g : Given). g.array) c.from_residual-in_err-array.result e (data_read version names c.args.targets.now (words c.args.start)) (search rules)
+    ap (λ v. packed target.form target.capacity (values v (words c.advanced-2.result.0))) (sym (c.advanced-2.ensures.same.version ∙ c.advanced.ensures.same.version)) in
+    refused (λ (g : StatementValues). g.array) c.from_residual-in_err-array.result e (data_read version names c.args.targets.now (words c.args.start)) (search rules)
     (subst (λ (r : Result (List ℕ) CdlKind). FailsRead e r) (sym read) c.in_err-array.ensures)
 
 pub returns-in_err-position-clause-read : goal.returns-in_err-position-clause-read
@@ -65,5 +65,5 @@ returns-in_err-position-clause-read c =
     let read = read_on version names c.args.targets.now (words c.args.start) (words equals) (words c.advanced-2.result.0) n (lexeme (text_of equals) (next_token equals)) c.advanced.result.1 c.advanced-2.result.1
     c.advanced.ensures.words c.advanced-2.ensures.words (sym c.check_shape_by_due-found.ensures.bad ∙ no_fault c.check_shape_by_due-found.result.bad c.in_default.not-Some) on ∙
     ap (λ (l : Lexeme). packed_for version (words c.advanced-2.result.0) (target_of names c.args.targets.now (word_value l.bytes))) (sym c.lexeme-name.ensures.lexeme) in
-    refused (λ (g : Given). g.array) c.from_residual.result e (data_read version names c.args.targets.now (words c.args.start)) (search rules)
+    refused (λ (g : StatementValues). g.array) c.from_residual.result e (data_read version names c.args.targets.now (words c.args.start)) (search rules)
     (subst (λ (r : Result (List ℕ) CdlKind). FailsRead e r) (sym read) (filled_err version (words c.advanced-2.result.0) (target_of names c.args.targets.now (word_value c.lexeme-name.result.bytes.now)) e (c.in_err-position.ensures.target)))

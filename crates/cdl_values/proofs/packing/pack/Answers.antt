@@ -11,7 +11,7 @@ returns-then-ends c =
     let t = c.tokens in
     let l = lexeme_of c.lexeme-token.result in
     let here = ending (words t.cutter) (words c.advance-ends.new.self) (lexeme (text_of t.cutter) (next_token t.cutter)) l c.advance-ends.result c.advance-ends.ensures.words (sym c.lexeme-token.ensures.lexeme) c.if-ends.true in
-    ap (λ v. packed a.filling a.capacity (values v (words a.start))) (sym c.version-version.ensures) ∙ sym t.invariant.rest ∙ ap (λ ws. joined (Ok t.array) (packed a.filling t.left (values c.version-version.result ws))) here ∙ c.in_ok-left.ensures [] ∙ none_packed a.filling c.in_ok-left.left c.version-version.result c.put_token.new.array
+    ap (λ v. packed a.form a.capacity (values v (words a.start))) (sym c.version-version.ensures) ∙ sym t.invariant.rest ∙ ap (λ ws. joined (Ok t.array) (packed a.form t.left (values c.version-version.result ws))) here ∙ c.in_ok-left.ensures [] ∙ none_packed a.form c.in_ok-left.left c.version-version.result c.put_token.new.array
 
 pub tokens-preserved : goal.tokens-preserved
 tokens-preserved c =
@@ -24,7 +24,7 @@ tokens-preserved c =
       text = c.advance-ends.ensures.same.text ∙ t.invariant.text;
       version = c.advance-ends.ensures.same.version ∙ t.invariant.version;
       goes = c.advance-ends.ensures.goes c.if-ends.false;
-      rest = sym (c.in_ok-left.ensures rest) ∙ sym (ap (λ ws. joined (Ok t.array) (packed a.filling t.left (values c.version-version.result ws))) here) ∙ t.invariant.rest;
+      rest = sym (c.in_ok-left.ensures rest) ∙ sym (ap (λ ws. joined (Ok t.array) (packed a.form t.left (values c.version-version.result ws))) here) ∙ t.invariant.rest;
     }
 
 pub returns-in_err-left : goal.returns-in_err-left
@@ -34,5 +34,5 @@ returns-in_err-left c =
     let l = lexeme_of c.lexeme-token.result in
     let rest = if c.advance-ends.result then [] else words c.advance-ends.new.self in
     let here = first_word (words t.cutter) (words c.advance-ends.new.self) (lexeme (text_of t.cutter) (next_token t.cutter)) l c.advance-ends.result c.advance-ends.ensures.words (sym c.lexeme-token.ensures.lexeme) in
-    refused (λ (array : ListedArray). array) c.from_residual.result c.in_err-left.field-0.0 (packed a.filling a.capacity (values (version_of a.start) (words a.start))) (search rules)
-    (subst (λ (r : Result (List ℕ) CdlKind). FailsRead c.in_err-left.field-0.0 r) (sym (ap (λ v. packed a.filling a.capacity (values v (words a.start))) (sym c.version-version.ensures) ∙ sym t.invariant.rest ∙ ap (λ ws. joined (Ok t.array) (packed a.filling t.left (values c.version-version.result ws))) here)) (c.in_err-left.ensures rest))
+    refused (λ (array : ListedArray). array) c.from_residual.result c.in_err-left.field-0.0 (packed a.form a.capacity (values (version_of a.start) (words a.start))) (search rules)
+    (subst (λ (r : Result (List ℕ) CdlKind). FailsRead c.in_err-left.field-0.0 r) (sym (ap (λ v. packed a.form a.capacity (values v (words a.start))) (sym c.version-version.ensures) ∙ sym t.invariant.rest ∙ ap (λ ws. joined (Ok t.array) (packed a.form t.left (values c.version-version.result ws))) here)) (c.in_err-left.ensures rest))

@@ -7,7 +7,7 @@ invariant-tokens l = record {
   text : text_of l.cutter ≡ text_of l.fn.start;
   version : version_of l.cutter ≡ version_of l.fn.start;
   goes : is_done l.cutter ≡ false;
-  rest : joined (Ok l.array) (packed l.filling l.left (values l.version (words l.cutter))) ≡ packed l.filling l.fn.capacity (values l.version (words l.fn.start));
+  rest : joined (Ok l.array) (packed l.form l.left (values l.version (words l.cutter))) ≡ packed l.form l.fn.capacity (values l.version (words l.fn.start));
 }
 
 abbrev pub decreases-tokens : goal.decreases-tokens

@@ -10,7 +10,7 @@ invariant-tokens l = record {
   goes : is_done l.unread.cutter ≡ false;
   bad : first_bad l.version (words l.unread.cutter) ≡ first_bad l.version (words l.fn.start);
   shaped : completes l.due (words l.unread.cutter) ≡ completes (Value true) (words l.fn.start);
-  packs : joined (Ok l.array) (packed l.filling l.unread.capacity (values l.version (words l.unread.cutter))) ≡ packed l.filling l.fn.capacity (values l.version (words l.fn.start));
+  packs : joined (Ok l.array) (packed l.form l.unread.capacity (values l.version (words l.unread.cutter))) ≡ packed l.form l.fn.capacity (values l.version (words l.fn.start));
   rest : after l.unread.cutter ≡ after l.fn.start;
 }
 

@@ -7,7 +7,7 @@ use Rattle.cdl_values.proofs.value.put_token.Goals as goal
 pub returns-in-Mark : goal.returns-in-Mark
 returns-in-Mark c = λ rest.
     let a = c.args in
-    ap (λ vs. joined (Ok a.array.now) (packed a.filling a.capacity vs)) (past_mark a.version (lexeme_of a.token) rest (ap is_mark_kind c.in-Mark.is))
+    ap (λ vs. joined (Ok a.array.now) (packed a.form a.capacity vs)) (past_mark a.version (lexeme_of a.token) rest (ap is_mark_kind c.in-Mark.is))
 
 pub returns-in_ok-put_token_value-in_default : goal.returns-in_ok-put_token_value-in_default
 returns-in_ok-put_token_value-in_default c = λ rest. search (rules, token_packed, no_mark, length-drop)

@@ -1,5 +1,5 @@
 use Rattle.std.proofs.Common.{◌≡◌, ℕ, ◌+◌, ◌<◌, ◌&&◌, List, length, get_or, sym, ◌∙◌, ap, subst, arith, if◌then◌else◌}
-use Rattle.nc_base.proofs.Prelude.{slab_of, is_narrow, Var}
+use Rattle.nc_base.proofs.Prelude.{slab_len, is_narrow, Var}
 use Rattle.nc_base.proofs.SizeLaws.{sums_more_at, sums_skipped_at, checked-none_at}
 use Rattle.nc_base.proofs.sizes.rec_size.Goals as goal
 use Rattle.nc_base.proofs.sizes.rec_size.Goals.{then-is_record_var+in_ok-slab, else-is_record_var}
@@ -18,7 +18,7 @@ loop-var-preserved c =
     let at : x ≡ get_or vars i x = c.var-item.is ∙ ap (λ (vs : List Var). get_or vs i x) items in
     elim c.if-is_record_var.branch [
       | then-is_record_var+in_ok-slab w ↦
-          let slab : slab_of dims w.as_slice.result.now x.ty ≡ slab_of dims x.dimids x.ty = ap (λ (ids : List ℕ). slab_of dims ids x.ty) w.as_slice.ensures in
+          let slab : slab_len dims w.as_slice.result.now x.ty ≡ slab_len dims x.dimids x.ty = ap (λ (ids : List ℕ). slab_len dims ids x.ty) w.as_slice.ensures in
           let found = w.in_ok-slab.ensures {u = tt} in
           rw (w.is_first-is)
           (sums_more_at dims vars i c.loop-var.size c.loop-var.padded _ _ _ c.loop-var.is_first x lt at

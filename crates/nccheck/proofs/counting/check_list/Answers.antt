@@ -11,21 +11,21 @@ returns-in-Ok-eq0-clause-counts g c =
     read_whole c.loop-turn.invariant.read c.in-Ok-eq0.ensures.read c.in-Ok-eq0.field-0-test (omega arith)
     (rw (fun_ext c.loop-turn.invariant.names) at c.check_last.ensures.counts)
 
-pub returns-in_err-check_bytes-in-Ok-clause-counts : goal.returns-in_err-check_bytes-in-Ok-clause-counts
-returns-in_err-check_bytes-in-Ok-clause-counts g c =
-    let takes = rw (fun_ext c.loop-turn.invariant.names) at c.in_err-check_bytes-in-Ok.ensures.takes in
+pub returns-in_err-check_paths_in-in-Ok-clause-counts : goal.returns-in_err-check_paths_in-in-Ok-clause-counts
+returns-in_err-check_paths_in-in-Ok-clause-counts g c =
+    let takes = rw (fun_ext c.loop-turn.invariant.names) at c.in_err-check_paths_in-in-Ok.ensures.takes in
     rw c.from_residual.ensures (read_stop c.loop-turn.invariant.read c.in-Ok.ensures.read takes)
 
 pub loop-turn-preserved : goal.loop-turn-preserved
 loop-turn-preserved g c =
     let within : c.in-Ok.n ≤ length c.read_some.new.into = omega (arith, c.in-Ok.ensures.read.within, c.read_some.auto.into) in
     record {
-      names = λ p. c.check_bytes.ensures.names p ∙ c.loop-turn.invariant.names p;
+      names = λ p. c.check_paths_in.ensures.names p ∙ c.loop-turn.invariant.names p;
       read = read_more c.loop-turn.invariant.read c.in-Ok.ensures.read (omega (arith, c.in-Ok.n-test.1)) c.read_some.auto.into
-          (rw (fun_ext c.loop-turn.invariant.names) at c.in_ok-check_bytes-in-Ok.ensures.takes);
+          (rw (fun_ext c.loop-turn.invariant.names) at c.in_ok-check_paths_in-in-Ok.ensures.takes);
       few = omega (
         arith,
-        c.in_ok-check_bytes-in-Ok.ensures.few,
+        c.in_ok-check_paths_in-in-Ok.ensures.few,
         c.loop-turn.invariant.few,
         length-take-le c.in-Ok.n c.read_some.new.into within,
       );

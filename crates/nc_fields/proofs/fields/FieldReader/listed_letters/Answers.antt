@@ -1,0 +1,19 @@
+use Rattle.std.proofs.Common.{ap}
+use Rattle.nc_fields.proofs.Prelude.{err_from_is_err_and}
+use Rattle.nc_fields.specs.declared.entry.Content.TheVariants as content
+use Rattle.nc_fields.proofs.Letters.{letters-answer, listed-letters, letters-memory, cut-letters}
+use Rattle.nc_fields.proofs.fields.FieldReader.listed_letters.Goals as goal
+
+pub returns-in_err-letters : goal.returns-in_err-letters
+returns-in_err-letters g c =
+    let p = err_from_is_err_and c.from_residual.result c.from_residual.ensures.1 in rw (p.1, p.2) (cut-letters _ c.letters_there-there.ensures c.filling_bytes.ensures c.in_err-letters.ensures)
+
+pub returns-in_err-list : goal.returns-in_err-list
+returns-in_err-list g c =
+    let p = err_from_is_err_and c.from_residual-in_err-list.result c.from_residual-in_err-list.ensures.1 in rw (p.1, p.2) (letters-memory c.letters_there-there.ensures c.filling_bytes.ensures c.in_ok-letters.ensures.0)
+
+pub returns : goal.returns
+returns g c =
+    rw (c.letters_in-answer.ensures, c.as_slice.ensures, letters-answer)
+    (listed-letters c.args.is_hdf5 c.requires c.pending_field-start.ensures c.letters_there-there.ensures c.filling_bytes.ensures c.in_ok-letters.ensures
+    (ap content.Bytes c.in_ok-kept.ensures.kept) c.in_ok-list.ensures)

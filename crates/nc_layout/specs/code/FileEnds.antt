@@ -1,9 +1,0 @@
--- For contracts. Where the blocks of a file end, computed once and for all.
-use Rattle.std.specs.Prelude.{◌≡◌}
-use Rattle.nc_layout.specs.declared.{slot.Layout.Layout, file_end.FileEnds.FileEnds}
-use Rattle.nc_layout.specs.FileEnd.{values_end, padding_end, used_end}
-
-pub record AreEnds (layout : Layout) (ends : FileEnds) : Type 0 where
-  pub values : ends.values ≡ values_end layout
-  pub padding : ends.padding ≡ padding_end layout
-  pub used : ends.used ≡ used_end layout
