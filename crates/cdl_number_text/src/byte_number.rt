@@ -65,7 +65,7 @@ pub fn put_byte_number(text: &mut [u8], at: usize, n: i128)
     put_bytes(text, at, &TEXTS[from..from + 4]);
 }
 
-/// Returns the index of `n` in the tables. Needs a number from -128 to 255.
+/// Returns the index of `n` in [`TEXTS`], in steps of four bytes, and in [`LENGTHS`]: 0 for -128. Needs a number from -128 to 255.
 #[inline(always)]
 fn index_of(n: i128) -> usize
     requires { IsByteNumber n }

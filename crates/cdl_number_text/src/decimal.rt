@@ -108,7 +108,8 @@ pub fn put_digits(text: &mut [u8], at: usize, len: usize, n: u64)
     }
 }
 
-/// Writes the digits of a number of any length, as [`put_digits`] does. It isn't inlined, so that the loops over short numbers stay small.
+/// Writes the digits of a number of any length, as [`put_digits`] does, and needs the same. Not inlined, so that loops over short numbers
+/// stay small.
 #[inline(never)]
 fn put_many_digits(text: &mut [u8], at: usize, len: usize, n: u64)
     requires len { len ≡ length (decimal n) }
@@ -118,8 +119,8 @@ fn put_many_digits(text: &mut [u8], at: usize, len: usize, n: u64)
     write_digits(n, text, at + len);
 }
 
-/// Writes the digits of a number from 10^8 on and below 10^16 at the offset `at` of `text`, and returns the offset of their end. Needs room
-/// for them.
+/// Writes the digits of `n` at the offset `at` of `text`, and returns the offset of their end. Needs a number from 10^8 on and below 10^16,
+/// and room for its digits.
 #[tactic(auto, using(crate::proofs::Digits::length_eight, crate::proofs::Digits::decimal_eight, std::proofs::Common::append_assoc))]
 fn put_long_digits(text: &mut [u8], at: usize, n: u64) -> usize
     requires least { 100000000 ≤ n }
@@ -134,7 +135,7 @@ fn put_long_digits(text: &mut [u8], at: usize, n: u64) -> usize
     put_four_digits(text, middle, low % 10_000)
 }
 
-/// Writes the digits of a number below 10^8 at the offset `at` of `text`, and returns the offset of their end. Needs room for them.
+/// Writes the digits of `n` at the offset `at` of `text`, and returns the offset of their end. Needs `n` below 10^8, and room for them.
 #[tactic(auto, using(itoa::proofs::Decimal::length_four, itoa::proofs::Decimal::decimal_four, std::proofs::Common::append_assoc))]
 #[inline(always)]
 fn put_short_digits(text: &mut [u8], at: usize, n: u64) -> usize
@@ -151,8 +152,8 @@ fn put_short_digits(text: &mut [u8], at: usize, n: u64) -> usize
     }
 }
 
-/// Writes the digits of a number below 10,000 at the offset `at` of `text`, and returns the offset of their end. Needs room for them.
-/// No branch depends on the number: a zero before the first digit is written too, and the next digit is written over it.
+/// Writes the digits of `n` at the offset `at` of `text`, and returns the offset of their end. Needs a number below 10,000, and room for
+/// them. No branch depends on the number: a zero before the first digit is written too, and the next digit is written over it.
 #[tactic(auto, using(crate::proofs::Digits::few_count, crate::proofs::Digits::few_text, std::proofs::Common::append_assoc))]
 #[inline(always)]
 fn put_few_digits(text: &mut [u8], at: usize, n: u64) -> usize
@@ -168,8 +169,8 @@ fn put_few_digits(text: &mut [u8], at: usize, n: u64) -> usize
     put_byte(text, fourth, ones(low))
 }
 
-/// Writes four digits of a number below 10,000, with zeros before its own, at the offset `at` of `text`, and returns the offset of their
-/// end. Needs room for them.
+/// Writes `n` in four digits, with zeros before its own (`0042`), at the offset `at` of `text`, and returns the offset of their end. Needs
+/// a number below 10,000, and room for four bytes.
 #[inline(always)]
 fn put_four_digits(text: &mut [u8], at: usize, n: u64) -> usize
     requires few { n < 10000 }
@@ -189,7 +190,7 @@ static PAIRS: [u8; 200] = *b"\
     00010203040506070809101112131415161718192021222324252627282930313233343536373839404142434445464748495051525354555657585960616263646566\
     676869707172737475767778798081828384858687888990919293949596979899";
 
-/// Returns the first of the two digits of a number below 100.
+/// Returns the first of the two digits of `n`, in ASCII: `0` for 7. Needs a number below 100.
 #[tactic(auto, using(crate::proofs::Digits::pairs))]
 #[inline(always)]
 fn tens(n: u32) -> u8
@@ -199,7 +200,7 @@ fn tens(n: u32) -> u8
     PAIRS[2 * n as usize]
 }
 
-/// Returns the second of the two digits of a number below 100.
+/// Returns the second of the two digits of `n`, in ASCII: `7` for 7. Needs a number below 100.
 #[tactic(auto, using(crate::proofs::Digits::pairs))]
 #[inline(always)]
 fn ones(n: u32) -> u8
@@ -209,7 +210,8 @@ fn ones(n: u32) -> u8
     PAIRS[2 * n as usize + 1]
 }
 
-/// Writes a minus at the offset `at` of `text` if `number` is negative, and returns the offset of the first digit. Needs room for a byte.
+/// Writes a minus at the offset `at` of `text`, and returns the offset of the first digit: the one after the minus if `number` is negative,
+/// otherwise `at` again, so that the digits are written over the minus. Needs room for a byte.
 #[inline(always)]
 fn put_sign(text: &mut [u8], at: usize, number: i128) -> usize
     requires { at + 1 ≤ length text.old }
@@ -221,7 +223,8 @@ fn put_sign(text: &mut [u8], at: usize, number: i128) -> usize
     put_if(text, at, number < 0, b'-')
 }
 
-/// Writes `byte` at the offset `at` of `text`, and returns the offset after it if `is_kept`, otherwise `at` again. Needs room for it.
+/// Writes `byte` at the offset `at` of `text`. Returns the offset after it if `is_kept`, otherwise `at` again, so that the next byte is
+/// written over it. Needs room for it.
 #[inline(always)]
 fn put_if(text: &mut [u8], at: usize, is_kept: bool, byte: u8) -> usize
     requires { at + 1 ≤ length text.old }

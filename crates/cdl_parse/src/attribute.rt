@@ -16,17 +16,17 @@ use nc_base::{Att, ListedArray, NcType, Sequence};
 use std::alloc::Global;
 
 /// Reads an attribute and adds it to `attributes`, the attributes of its variable or of the dataset. `start` is at the attribute's name:
-/// the colon before it, and the name of a variable before the colon, have been passed. Needs a statement that has its shape, which isn't
-/// checked here.
+/// the colon before it, and the name of a variable before the colon, have been passed. Needs tokens in the order of such a statement, which
+/// isn't checked here.
 ///
-/// After the name come `=` and the constants, joined by commas. All have one type, that of the first; strings are put one after the
-/// other (the CDL chapter of the NetCDF User's Guide, and ncgen(1)).
+/// After the name come `=` and the constants, joined by commas. All have one type, that of the first; strings are put one after the other
+/// (the CDL chapter of the NetCDF User's Guide, and ncgen(1)).
 ///
 /// # Errors
 ///
 /// The first of these faults: a name that the format doesn't allow (`BadName`); the name of another attribute in `attributes`
-/// (`DuplicateName`); the fault of the first constant that has one (`MixedConstants`, `NumberRange`). Or an allocation failed. In
-/// each case `attributes` is what it was.
+/// (`DuplicateName`); the fault of the first constant that has one (`MixedConstants`, `NumberRange`). Or an allocation failed. In each case
+/// `attributes` is what it was.
 pub fn read_attribute(
     alloc: Global,
     attributes: &mut Attributes,
@@ -47,7 +47,7 @@ pub fn read_attribute(
     }
 }
 
-/// Adds the attribute of this name, type and values to `attributes`.
+/// Adds the attribute of this name and type at the end of `attributes`. `vals` has the bytes of its values, big-endian.
 ///
 /// # Errors
 ///

@@ -29,16 +29,17 @@ pub struct DataSection<'a> {
     pub is_closed: bool,
 }
 
-/// The variables while the data section is read: what each may take, and what has been listed of it.
+/// The variables while the data section is read: what each may take, and what was listed of it so far. Both lists have one element for each
+/// variable.
 #[derive(Drop)]
 struct Listings {
-    /// For each variable what it may take, and whether a statement has given its values.
+    /// What each variable may take, and whether a statement has given its values.
     targets: Vec<Target>,
-    /// For each variable the values that were listed so far.
+    /// The listed values of each variable.
     arrays: Vec<ListedArray>,
 }
 
-/// What was read of one statement of the data section, but for the values.
+/// What was read of one statement of the data section, but for the listed values, which are put into [`Listings`].
 #[derive(Clone, Copy)]
 struct DataStatement<'a> {
     /// True if the statement was the closing brace. If false, it listed the values of a variable.
@@ -47,13 +48,13 @@ struct DataStatement<'a> {
     rest: Cutter<'a>,
 }
 
-/// Reads the statements of the data section up to and including the closing brace. Returns what they list, and the statements after the
-/// brace. If no statement is left in `start`, reads nothing, and `is_closed` of the result is false.
+/// Reads the statements of the data section up to and including the closing brace. Returns what they list, and a cutter (a cursor in the
+/// text) after the brace. If no statement is left in `start`, reads nothing, and `is_closed` of the result is false.
 ///
 /// Each statement lists the values of the variable that it names, and no two of them may name the same variable (the CDL chapter of the
-/// NetCDF User's Guide, and ncgen(1)). `names` are the names of the variables, and `targets` what each may take, in the same order.
-/// `before` has the lines of the last two statements before `start`. The end of the text counts as a statement that this section doesn't
-/// allow. So a text that ends before the closing brace has a fault at its end.
+/// NetCDF User's Guide, and ncgen(1)). `names` are the names of the variables, and `targets` what each may take (none is given values yet),
+/// in the same order. `before` has the lines of the last two statements before `start`. A text that ends before the closing brace has a
+/// fault at its end, since the end is no statement of this section.
 ///
 /// # Errors
 ///
@@ -112,9 +113,10 @@ pub fn empty_arrays(alloc: Global, count: usize) -> Result<Vec<ListedArray>, All
     Ok(arrays)
 }
 
-/// Reads the next statement of the data section. If it lists values, puts them into `listings`, and sets `given` of its variable's target
-/// there. If it is the closing brace, changes nothing in `listings`, and `is_brace` of the result is true. `names` are the names of the
-/// variables. Errs with the statement's first fault, or if an allocation failed. Then `listings` is what it was.
+/// Reads the next statement of the data section. If it lists values, puts them into `listings`, and sets `given` of their variable there,
+/// so that no later statement may list values of it. If it is the closing brace, changes nothing in `listings`, and `is_brace` of the
+/// result is true. `names` are the names of the variables. Needs a statement that is left. Errs with the statement's first fault, or if an
+/// allocation failed. In both cases `listings` is what it was, but no clause says so.
 fn read_next_statement<'a>(
     alloc: Global,
     names: &VariableNames<'_>,
@@ -137,8 +139,8 @@ fn read_next_statement<'a>(
     })
 }
 
-/// Passes over the next statement, which has to be the closing brace. Returns the statements after it, with `is_brace` true. In fact it
-/// never errs, since [`check_statement`] finds no fault in a closing brace.
+/// Passes the closing brace, and returns a cutter after it, with `is_brace` true. Needs the brace as the next statement. Errs if
+/// [`check_statement`] finds a fault, which it never does in a closing brace.
 fn pass_closing_brace(start: Cutter<'_>) -> Result<DataStatement<'_>, ReadError>
     requires more { is_done start ≡ false }
     requires brace { begins_brace (words start) ≡ true }
@@ -152,7 +154,7 @@ fn pass_closing_brace(start: Cutter<'_>) -> Result<DataStatement<'_>, ReadError>
     })
 }
 
-/// Replaces the array at `position` with `array`. Changes nothing if there is no array at that position.
+/// Replaces the array at `position` (from 0 on) with `array`. Changes nothing if there is no array at that position.
 fn replace_array(arrays: &mut Vec<ListedArray>, position: u64, array: ListedArray)
     ensures { arrays.new.items ≡ slice_set arrays.old.items position array }
 {
@@ -162,7 +164,8 @@ fn replace_array(arrays: &mut Vec<ListedArray>, position: u64, array: ListedArra
     }
 }
 
-/// Sets `given` of the target at `position`: a statement has given its variable's values. Changes nothing if there is no such target.
+/// Sets `given` of the target (what a variable may take) at `position`, since a statement has listed values of its variable. Changes
+/// nothing if there is no such target.
 fn mark_given(targets: &mut Vec<Target>, position: u64)
     ensures { targets.new.items ≡ given_at position targets.old.items }
 {

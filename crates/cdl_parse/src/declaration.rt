@@ -26,24 +26,24 @@ use std::alloc::{AllocError, Global};
 struct PartialVariable {
     ty: NcType,
     name: Vec<u8>,
-    /// The positions of the dimensions that were read so far, in the list of the dataset's dimensions.
+    /// The dimensions that were read so far: their positions in the list of the dataset's dimensions.
     dimids: Vec<u64>,
     /// True if the parenthesis before its dimensions was read, and the one after them wasn't yet.
     is_open: bool,
 }
 
-/// Reads a declaration, and adds its variables to `variables`. `start` is at its type word, and `dims` are the dimensions of the dataset.
-/// Needs a statement that has its shape, which isn't checked here.
+/// Reads a declaration, such as `int a, b(x, y);`, and adds its variables to `variables`. `start` is at its type word, and `dims` are the
+/// dimensions of the dataset. Needs tokens in the order of a declaration, which isn't checked here.
 ///
-/// A declaration is a type word and variables joined by commas. A variable is a name alone, or a name and then, in parentheses, the
-/// names of the variable's dimensions, joined by commas (the CDL chapter of the NetCDF User's Guide, and ncgen(1)).
+/// A declaration is a type word and variables joined by commas. A variable is a name alone, or a name and then, in parentheses, the names
+/// of the variable's dimensions, joined by commas (the CDL chapter of the NetCDF User's Guide, and ncgen(1)).
 ///
 /// # Errors
 ///
-/// The first fault in the order of the text. A type word has the faults that [`type_of_word`] names. A variable's name has a fault
-/// if the format doesn't allow it (`BadName`) or another variable has it (`DuplicateName`). A dimension has a fault if the format
-/// doesn't allow its name (`BadName`), if no dimension has that name (`UnknownDimension`), or if it is the record dimension and not
-/// the variable's first (`BadShape`).
+/// The first fault in the order of the text. A type word has the faults that [`type_of_word`] names. A variable's name has a fault if the
+/// format doesn't allow it (`BadName`) or another variable has it (`DuplicateName`). A dimension has a fault if the format doesn't allow
+/// its name (`BadName`), if no dimension has that name (`UnknownDimension`), or if it is the record dimension and not the variable's first
+/// (`BadShape`).
 ///
 /// Or an allocation failed. In each case some of the variables may have been added.
 pub fn read_declaration(
@@ -81,7 +81,7 @@ pub fn type_of_word(version: Version, word: Lexeme<'_>) -> Result<NcType, CdlKin
     first_with_word(&NcType::ALL, version, word).ok_or(CdlKind::UnknownType)
 }
 
-/// Returns the first of `types` that the version has and that `word` stands for, or `None` if there is none.
+/// Returns the first of `types` that the version has and whose word in a text, such as `short`, is `word`; or `None` if there is none.
 fn first_with_word(types: &[NcType], version: Version, word: Lexeme<'_>) -> Option<NcType>
     ensures { result ≡ first_with_word types.now version (lexeme_of word.entry) }
 {
@@ -92,9 +92,9 @@ fn first_with_word(types: &[NcType], version: Version, word: Lexeme<'_>) -> Opti
 }
 
 /// Reads the variables of a declaration, all of type `ty`, and adds them to `variables`. `start` is at the name of the first one, and
-/// `dims` are the dimensions of the dataset. Needs a statement that has its shape, which isn't checked here. Errs with the first fault of a
-/// variable's name (`BadName`, `DuplicateName`) or of a dimension (`BadName`, `UnknownDimension`, `BadShape`), or if an allocation failed;
-/// then the variables before the failing one have been added.
+/// `dims` are the dimensions of the dataset. Needs tokens in the order of a declaration, which isn't checked here. Errs with the first
+/// fault of a variable's name (`BadName`, `DuplicateName`) or of a dimension (`BadName`, `UnknownDimension`, `BadShape`), or if an
+/// allocation failed; then some of the variables may have been added.
 fn read_variables(
     alloc: Global,
     dims: &Dimensions,
@@ -118,8 +118,9 @@ fn read_variables(
     }
 }
 
-/// Returns a variable of type `ty` without dimensions, with the name that `token` stands for. Needs a token that isn't a mark. Errs if the
-/// format doesn't allow the name (`BadName`), or if an allocation failed. A name that another variable has is refused later.
+/// Returns a variable of type `ty` without dimensions, with the name that `token` stands for. Needs a token that isn't a mark (one of
+/// `: ; = , ( ) }`). Errs if the format doesn't allow the name (`BadName`), or if an allocation failed. A name that another variable has is
+/// refused later.
 fn new_variable(alloc: Global, ty: NcType, token: Lexeme<'_>) -> Result<PartialVariable, ReadError>
     requires { is_mark_kind token.kind ≡ false }
     ensures { BeginsVariable ty (lexeme_of token.entry) result }
@@ -133,10 +134,10 @@ fn new_variable(alloc: Global, ty: NcType, token: Lexeme<'_>) -> Result<PartialV
     })
 }
 
-/// Reads on in a declaration by one token, which comes after the name of the variable `begun`. If it is a mark, returns `begun` as
-/// [`after_mark`] does. If it is a name between parentheses, returns `begun` with this dimension added at the end. Otherwise it is the name
-/// of the next variable: adds `begun` to `variables`, and returns the next variable. Errs with the fault of the dimension or of a
-/// variable's name, or if an allocation failed; then `begun` may have been added.
+/// Reads one more token of a declaration, and returns the variable that is being read after it; `begun` is the one before it. A mark, such
+/// as `(`, only changes `is_open` ([`after_mark`]). A name inside of parentheses is that of one of `dims`, which is added to `begun` at its
+/// end. Any other name is that of the next variable: adds `begun` to `variables`, and returns the next variable. Errs with `BadName`,
+/// `UnknownDimension`, `BadShape` or `DuplicateName`, or if an allocation failed; then `begun` may have been added.
 fn read_on(
     alloc: Global,
     dims: &Dimensions,
@@ -157,7 +158,8 @@ fn read_on(
     }
 }
 
-/// Returns the variable `begun` as it is after `mark`: `is_open` becomes true at `(` and false at `)`. Nothing else changes.
+/// Returns the variable `begun` as it is after the token `mark`: `is_open` becomes true at `(` and false at `)`. Nothing else changes.
+/// Needs a token that is a mark (one of `: ; = , ( ) }`).
 fn after_mark(begun: PartialVariable, mark: Lexeme<'_>) -> PartialVariable
     requires { is_mark_kind mark.kind ≡ true }
     ensures { PassesMark begun (lexeme_of mark.entry) result }
@@ -183,12 +185,13 @@ fn is_open_after(is_open: bool, mark: Lexeme<'_>) -> bool
     mark.is_mark(b'(') || is_open && !mark.is_mark(b')')
 }
 
-/// Returns `begun` with one dimension more, the one that `word` names. Needs a `begun` whose parenthesis is open.
+/// Returns `begun` with one dimension more at its end, the one of `dims` that `word` names. Needs a `begun` whose parenthesis is open.
 ///
 /// # Errors
 ///
-/// The fault that [`dimid_of_word`] finds, or `DuplicateName` instead if one of `variables` has the name of `begun`, since that name comes
-/// first in the text. Or an allocation failed. If the dimension has no fault, the name of `begun` isn't looked up here.
+/// The fault that [`dimid_of_word`] finds (`BadName`, `UnknownDimension`, `BadShape`), or `DuplicateName` instead if one of `variables` has
+/// the name of `begun`, since that name comes first in the text. Or an allocation failed. If the dimension has no fault, the name of
+/// `begun` isn't looked up here.
 fn with_dimension(
     alloc: Global,
     dims: &Dimensions,
@@ -211,10 +214,9 @@ fn with_dimension(
     }
 }
 
-/// Returns the position of the dimension that `word` names: replaces the escapes of `word`, and calls [`next_dimid`] with the name.
-/// `before` has the positions of the variable's dimensions before this one. Errs with `BadName` if the format doesn't allow the name, with
-/// `UnknownDimension` if no dimension has it, with `BadShape` if it is that of the record dimension and `before` isn't empty, or if an
-/// allocation failed.
+/// Returns the position in `dims` of the dimension that `word`, which may have escapes, names. `before` has the positions of the variable's
+/// dimensions before this one. Errs with `BadName` if the format doesn't allow the name, with `UnknownDimension` if no dimension has it,
+/// with `BadShape` if it is that of the record dimension and `before` isn't empty, or if an allocation failed.
 fn dimid_of_word(
     alloc: Global,
     dims: &Dimensions,
@@ -227,13 +229,13 @@ fn dimid_of_word(
     Ok(next_dimid(dims, before, name.as_slice())?)
 }
 
-/// Returns the position in `dims` of the dimension of this name, which is its id in the shape of a variable. `before` has the ids of the
+/// Returns the position in `dims` of the dimension that has this name: its id in the shape of a variable. `before` has the ids of the
 /// dimensions that the variable has before this one.
 ///
 /// # Errors
 ///
-/// The format doesn't allow the name (`BadName`); no dimension has the name (`UnknownDimension`); or the dimension is the record
-/// dimension, and `before` isn't empty (`BadShape`).
+/// The format doesn't allow the name (`BadName`); no dimension has the name (`UnknownDimension`); or the dimension is the record dimension,
+/// and `before` isn't empty (`BadShape`).
 fn next_dimid(dims: &Dimensions, before: &[u64], name: &[u8]) -> Result<u64, CdlKind>
     ensures { result ≡ next_dimid dims.now before.now name.now }
 {
@@ -249,11 +251,12 @@ fn next_dimid(dims: &Dimensions, before: &[u64], name: &[u8]) -> Result<u64, Cdl
     }
 }
 
-/// Adds the variable `begun` to `variables`. Needs a `begun` that has all of its dimensions.
+/// Adds the variable `begun`, which has to have all of its dimensions by now (but no clause says so), at the end of `variables`.
 ///
 /// # Errors
 ///
-/// Another variable has the name (`DuplicateName`), or an allocation failed. In both cases `variables` is what it was.
+/// Another variable has the name (`DuplicateName`), or an allocation failed. In both cases `variables` is what it was, but no clause says
+/// so.
 fn add_variable(
     alloc: Global,
     variables: &mut Variables,

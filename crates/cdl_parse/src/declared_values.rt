@@ -12,8 +12,8 @@ use cdl_values::pack_number;
 use nc_base::{Dataset, Dim, Header, ListedArray, Sequence, Var, fill_of, is_record_var, slab_len};
 use std::alloc::{AllocError, Global};
 
-/// What a text declares: the header, and the values that the data section lists of each variable. The values that a variable lacks
-/// at its end aren't stored here; they are its fill value.
+/// What a text declares: the header, and the values that the data section lists of each variable. If it lists fewer values than the
+/// variable has, the others aren't stored: they are the variable's fill value, and come after the listed ones.
 #[derive(Drop)]
 pub struct Declared {
     /// The header, with the number of records. The begin of each variable is 0.
@@ -30,7 +30,8 @@ impl Declared {
     ///
     /// # Errors
     ///
-    /// An allocation failed; or a variable has more values than memory can hold.
+    /// An allocation failed. Or a slab has more than 2^48 bytes, or a variable lacks 2^64 values or more: in what
+    /// [`declared`](crate::declared) returns this is never so.
     pub fn into_dataset(self, alloc: Global) -> Result<Dataset, AllocError>
         ensures { IfOk result (λ dataset. dataset ≡ dataset_of_declared self) }
     {
@@ -102,8 +103,8 @@ fn filled_array(
     Ok(Sequence::from_vec(bytes))
 }
 
-/// Returns how many values a variable lacks over `records` records, if `len` bytes of its values are listed. Returns `None` if its
-/// slab has more than 2^48 bytes, or if it lacks 2^64 values or more.
+/// Returns how many values a variable lacks over `records` records, if `len` bytes of its values are listed: the number of its values less
+/// the number of those, or 0 if more are listed. Returns `None` if its slab has more than 2^48 bytes, or if it lacks 2^64 values or more.
 fn owed_count(dims: &[Dim], var: &Var, records: u64, len: u128) -> Option<u64>
     ensures { CountsOwed dims.now var.now records len result }
 {
@@ -112,7 +113,8 @@ fn owed_count(dims: &[Dim], var: &Var, records: u64, len: u128) -> Option<u64>
     u64::try_from(owed).ok()
 }
 
-/// Returns how many values a variable has: those of a slab, times `records` for a record variable; or `None` if a slab passes 2^48 bytes.
+/// Returns how many values a variable has: those of a slab, and for a record variable `records` times as many. Returns `None` if a slab has
+/// more than 2^48 bytes.
 fn value_count(dims: &[Dim], var: &Var, records: u64) -> Option<u128>
     ensures { SomeIff result (HasSmallSlab dims.now var.now) (value_count dims.now var.now records) }
 {

@@ -24,8 +24,8 @@ pub struct Defined<'a> {
     pub lines: PassedLines,
 }
 
-/// Reads the statements of a text up to and including `data:` or the closing brace, and returns what they declare, and the statements after
-/// them. If `start` has no statement, reads nothing. If the text ends too early, its end counts as a bad statement.
+/// Reads the statements of a text up to and including `data:` or the closing brace, and returns what they declare, and a cutter (a cursor
+/// in the text) after them. If `start` has no statement, reads nothing. If the text ends too early, its end counts as a bad statement.
 ///
 /// # Errors
 ///
@@ -59,7 +59,7 @@ pub fn read_definitions<'a>(alloc: Global, start: Cutter<'a>) -> Result<Defined<
     }
 }
 
-/// Returns true if the section stands before the data section.
+/// Returns true if the section comes before the data section: for all sections up to `Variables`.
 fn is_before_data(section: Section) -> bool
     ensures { result ≡ is_before_data section }
 {

@@ -47,8 +47,8 @@ impl Definitions {
         }
     }
 
-    /// Reads the next statement: adds what it declares, or moves on to the section that it begins. Returns the statements after it.
-    /// Needs a statement that is left, and a `section` before the data section.
+    /// Reads the next statement: adds what it declares, or sets `section` to the section that it begins. Returns a cutter (a cursor in the
+    /// text) at the statement after it. Needs a statement that is left, and a `section` before the data section.
     ///
     /// # Errors
     ///
@@ -68,9 +68,9 @@ impl Definitions {
         Ok(rest)
     }
 
-    /// Does what the next statement says: adds what it declares, or moves on to another section. Needs a statement in which
-    /// [`check_statement`] finds no fault. Errs with the first fault of what it says, such as a bad name, or if an allocation failed. Then
-    /// a part of what the statement declares may have been added.
+    /// Does what the next statement says: adds what it declares, or sets `section` to another section. Needs a `section` before the data
+    /// section, and a statement whose tokens are in an order that this section allows ([`check_statement`]). Errs with the first fault of
+    /// what the statement says, such as a bad name, or if an allocation failed. Then a part of what it declares may have been added.
     fn apply_statement(&mut self, alloc: Global, start: Cutter<'_>) -> Result<(), ReadError>
         requires more { is_done start ≡ false }
         requires early { is_before_data self.old.section ≡ true }
@@ -86,10 +86,10 @@ impl Definitions {
         }
     }
 
-    /// Does what the next statement says, for any statement after the opening. A closing brace moves on to `Closed`, and a statement that
+    /// Does what the next statement says, if it isn't the opening (`netcdf NAME {`): `}` sets `section` to `Closed`, and a statement that
     /// begins with `:` adds an attribute of the dataset. What any other statement does depends on the section, which has to be `Globals`,
-    /// `Dimensions` or `Variables`. Needs a statement that has its shape. Errs with the first fault of what the statement says, or if an
-    /// allocation failed; a part of that may have been added then.
+    /// `Dimensions` or `Variables`. Needs a statement whose tokens are in an order that this section allows. Errs with the first fault of
+    /// what the statement says, or if an allocation failed; a part of that may have been added then.
     fn apply_after_opening(&mut self, alloc: Global, start: Cutter<'_>) -> Result<(), ReadError>
         requires more { is_done start ≡ false }
         requires defining { is_defining self.old.section ≡ true }
@@ -126,9 +126,9 @@ impl Definitions {
         self.section = word.section().unwrap_or(Section::Ended);
     }
 
-    /// Does what the next statement of the section of dimensions says: moves on to a later section, or adds dimensions. Needs a statement
-    /// that has its shape, and begins with neither `}` nor `:`. Errs with the first fault of a dimension's name or length, or if an
-    /// allocation failed; then the dimensions before the failing one have been added.
+    /// Does what the next statement of the section `dimensions:` says: sets `section` to a later section, or adds dimensions. Needs a
+    /// statement whose tokens are in an order that this section allows, and that begins with neither `}` nor `:`. Errs with the first fault
+    /// of a dimension's name or length, or if an allocation failed; then some of the dimensions may have been added.
     fn apply_in_dimensions(&mut self, alloc: Global, start: Cutter<'_>) -> Result<(), ReadError>
         requires more { is_done start ≡ false }
         requires section { self.old.section ≡ Section.Dimensions }
@@ -145,9 +145,10 @@ impl Definitions {
         read_dimensions(alloc, &mut self.dims, start)
     }
 
-    /// Does what the next statement of the section of variables says: adds an attribute of a variable, moves on to a later section, or adds
-    /// variables. Needs a statement that has its shape, and begins with neither `}` nor `:`. Errs with the first fault of what the
-    /// statement says, or if an allocation failed. Then some of the variables may have been added.
+    /// Does what the next statement of the section `variables:` says: adds an attribute of a variable, sets `section` to a later section,
+    /// or adds variables. Needs a statement whose tokens are in an order that this section allows, and that begins with neither `}` nor
+    /// `:`. Errs with the first fault of what the statement says, or if an allocation failed. Then some of the variables may have been
+    /// added.
     fn apply_in_variables(&mut self, alloc: Global, start: Cutter<'_>) -> Result<(), ReadError>
         requires more { is_done start ≡ false }
         requires section { self.old.section ≡ Section.Variables }

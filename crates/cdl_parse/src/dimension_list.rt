@@ -19,7 +19,7 @@ use cdl_values::{ReadError, number_or_zero, read_name};
 use nc_base::{Dim, Sequence, Version};
 use std::alloc::Global;
 
-/// One dimension of a statement: the tokens of its name and its length, and what comes after them.
+/// The next dimension of a statement: the tokens of its name and its length, and what comes after them.
 #[derive(Clone, Copy)]
 struct NextDimension<'a> {
     name: Lexeme<'a>,
@@ -30,16 +30,16 @@ struct NextDimension<'a> {
 }
 
 /// Reads the dimensions of a statement, which are joined by commas, and adds them to `dims`. `start` is at the name of the first one. Needs
-/// a statement that has its shape, which isn't checked here.
+/// tokens in the order of such a statement, which isn't checked here.
 ///
-/// A dimension is a name, `=` and a length, which is `unlimited` for the record dimension (the CDL chapter of the NetCDF User's
-/// Guide, "CDL Syntax", and ncgen(1)).
+/// A dimension is a name, `=` and a length, which is `unlimited` for the record dimension (the CDL chapter of the NetCDF User's Guide, "CDL
+/// Syntax", and ncgen(1)).
 ///
 /// # Errors
 ///
-/// The first of these faults: a name that the format doesn't allow (`BadName`); the name of another dimension (`DuplicateName`); a
-/// length of 0 (`ZeroDimension`), or one that is negative or too great for the version (`NumberRange`); a second record dimension
-/// (`TwoRecordDims`). Or an allocation failed. In each case the dimensions before the failing one have been added.
+/// The first of these faults: a name that the format doesn't allow (`BadName`); the name of another dimension (`DuplicateName`); a length
+/// of 0 (`ZeroDimension`), or one that is negative or too great for the version (`NumberRange`); a second record dimension
+/// (`TwoRecordDims`). Or an allocation failed. In each case some of the dimensions may have been added.
 pub fn read_dimensions(
     alloc: Global,
     dims: &mut Dimensions,
@@ -61,8 +61,9 @@ pub fn read_dimensions(
     }
 }
 
-/// Returns the next dimension of a statement, and what comes after its comma or semicolon. `start` is at the dimension's name. Needs a
-/// statement that has its shape, which isn't checked here.
+/// Returns the tokens of the next dimension of a statement, those of its name and its length; a cutter (a cursor in the text) after the
+/// comma or semicolon that follows; and whether the statement ends there. `start` is at the dimension's name. Needs tokens in the order of
+/// such a statement, which isn't checked here.
 fn next_dimension(start: Cutter<'_>) -> NextDimension<'_>
     requires more { is_done start ≡ false }
     requires shaped { completes DimensionName (words start) ≡ true }
@@ -84,9 +85,9 @@ fn next_dimension(start: Cutter<'_>) -> NextDimension<'_>
     }
 }
 
-/// Adds a dimension to `dims`. `name` and `length` are the tokens of its name and its length. Errs with a fault of the name (`BadName`,
-/// `DuplicateName`), otherwise with a fault of the length (`ZeroDimension`, `NumberRange`, `TwoRecordDims`), or if an allocation failed.
-/// Then `dims` is what it was.
+/// Adds a dimension at the end of `dims`. `name` and `length` are the tokens of its name and its length; `version` limits the length. Errs
+/// with a fault of the name (`BadName`, `DuplicateName`), otherwise with a fault of the length (`ZeroDimension`, `NumberRange`,
+/// `TwoRecordDims`), or if an allocation failed. After any error `dims` is what it was, but no clause says so.
 fn add_dimension(
     alloc: Global,
     dims: &mut Dimensions,
@@ -106,9 +107,9 @@ fn add_dimension(
     }
 }
 
-/// Returns the length that the token `length` says, or 0 for `unlimited`. `has_record` is true if there is a record dimension already. Errs
-/// with `ZeroDimension` if a number is 0, with `NumberRange` if it is negative or too great for the version, and with `TwoRecordDims` for
-/// `unlimited` if `has_record`.
+/// Returns the length that the token `length` says, or 0 for `unlimited` or `UNLIMITED`. A number that `version` doesn't have counts as 0.
+/// `has_record` is true if there is a record dimension already. Errs with `ZeroDimension` if the number is 0, with `NumberRange` if it is
+/// negative or too great for the version, and with `TwoRecordDims` for the record dimension if `has_record`.
 fn len_said(version: Version, has_record: bool, length: Lexeme<'_>) -> Result<u64, CdlKind>
     ensures { IsLength version has_record (length_said version (lexeme_of length.entry)) result }
 {
@@ -129,11 +130,11 @@ fn is_unlimited(length: Lexeme<'_>) -> bool
     length.is_word(b"unlimited") || length.is_word(b"UNLIMITED")
 }
 
-/// Adds the dimension of this name and length to `dims`. [`add_dimension`] calls it after it has read both from their tokens.
+/// Adds the dimension of this name and length at the end of `dims`. [`add_dimension`] calls it after it has read both from their tokens.
 ///
 /// # Errors
 ///
-/// Another dimension has the name (`DuplicateName`), or an allocation failed. In both cases `dims` is what it was.
+/// Another dimension has the name (`DuplicateName`), or an allocation failed. In both cases `dims` is what it was, but no clause says so.
 fn add_named_dimension(
     alloc: Global,
     dims: &mut Dimensions,

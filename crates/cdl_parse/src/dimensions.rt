@@ -64,7 +64,8 @@ impl Dimensions {
         self.has_record
     }
 
-    /// Returns the position, from 0 on, of the first dimension with the name: its id in a variable's shape. Returns `None` if none has it.
+    /// Returns the position, from 0 on, of the first dimension that has the name: its id in the shape of a variable. Returns `None` if none
+    /// has it.
     pub fn position(&self, name: &[u8]) -> Option<u64>
         ensures { result ≡ position (λ (d : header.Dim). bytes_eq d.name name.now) self.now }
     {

@@ -10,15 +10,16 @@ use nc_base::{Dim, ListedArray, Var, is_record_var, slab_len};
 const ARRAY_LIMIT: u128 = 1 << 48;
 
 /// Returns the number of records: as many as it takes to hold the listed values of each record variable. A record counts even if only a
-/// part of it is listed. `listed` has the listed values of each variable, in the order of `vars`. Returns `None` if a slab, or the array
-/// of a record variable over that many records, has more than 2^48 bytes.
+/// part of it is listed. `listed` has the listed values of each variable, in the order of `vars`. Returns `None` if a slab, or the array of
+/// a record variable over that many records, has more than 2^48 bytes. The contract says nothing unless `listed` has whole values of each
+/// variable, and each shape has ids of `dims`, with the record dimension nowhere but first.
 pub fn records_within_limits(dims: &[Dim], vars: &[Var], listed: &[ListedArray]) -> Option<u64>
     ensures { CountsRecords dims.now vars.now listed.now result }
 {
     needs_of(dims, vars, listed)?.records()
 }
 
-/// What some record variables need: the records for their listed values, and the bytes of the longest slab.
+/// What the record variables counted in so far need: how many records hold their listed values, and how many bytes their longest slab has.
 #[derive(Clone, Copy)]
 struct RecordNeeds {
     /// How many records it takes to hold the listed values of each record variable.
@@ -30,8 +31,9 @@ struct RecordNeeds {
 impl RecordNeeds {
     ghost use Rattle.cdl_parse.specs.code.Extents.{records_within, with_listed};
 
-    /// Returns this extent with the variable `var` and its listed values counted in. A variable that isn't a record variable
-    /// changes nothing. Returns `None` if the variable's slab has more than 2^48 bytes.
+    /// Returns these needs with the variable `var` counted in, whose listed values are `listed`. A variable that isn't a record variable
+    /// changes nothing. Returns `None` if the variable's slab has more than 2^48 bytes. The contract leaves out a variable whose slab has
+    /// no values.
     fn with(self, dims: &[Dim], var: &Var, listed: &ListedArray) -> Option<RecordNeeds>
         ensures { 0 < slab_count dims.now var.now → result ≡ with_listed dims.now self var.now listed.now }
     {
@@ -47,8 +49,8 @@ impl RecordNeeds {
         })
     }
 
-    /// Returns the field `records` if it keeps the limits. Returns `None` if it is more than 2^48, or if the array of a record variable
-    /// over that many records has more than 2^48 bytes.
+    /// Returns the field `records` if it keeps the limits. Returns `None` if it is more than 2^48, or if that many slabs as long as the
+    /// longest one have more than 2^48 bytes together.
     fn records(self) -> Option<u64>
         ensures { result ≡ records_within self }
     {
@@ -59,7 +61,7 @@ impl RecordNeeds {
     }
 }
 
-/// Returns how many records of `count` values it takes to hold `n` values, or 0 if `count` is 0.
+/// Returns how many records of `count` values it takes to hold `n` values. Returns 0 if `count` is 0, but no clause says so.
 fn records_for(count: u64, n: u128) -> u128
     ensures { 0 < count → result ≡ records_for count n }
 {
@@ -69,7 +71,9 @@ fn records_for(count: u64, n: u128) -> u128
     n.div_ceil(count as u128)
 }
 
-/// Returns the extent of all variables and their listed values, or `None` if a slab has more than 2^48 bytes.
+/// Returns what all of these variables need together; `listed` has the listed values of each, in the order of `vars`. Variables beyond the
+/// end of `listed` aren't counted in. Returns `None` if a slab has more than 2^48 bytes. The contract says nothing unless each variable has
+/// a value in a slab.
 fn needs_of(dims: &[Dim], vars: &[Var], listed: &[ListedArray]) -> Option<RecordNeeds>
     ensures { HaveValues dims.now vars.now → result ≡ needs_of dims.now vars.now listed.now }
 {

@@ -9,12 +9,14 @@ ghost use Rattle.cdl_parse.specs.code.Defined.{ActsAsSaid};
 
 use cdl_statements::{CdlKind, Cutter, Section, check_shape};
 
-/// Checks that the next statement has the shape of a statement of `section`, and returns the statements after it. What the statement says,
-/// such as its names, isn't checked. Does not allocate.
+/// Checks that the tokens of the next statement are good ones, in an order that `section` allows (the shape of a statement). Returns a
+/// cutter (a cursor in the text) at the statement after it. What the statement says, such as its names, isn't checked. Needs a statement
+/// that is left. Does not allocate.
 ///
 /// # Errors
 ///
-/// The fault of the statement's first bad token or bad number; or `Syntax` if the statement doesn't have its shape.
+/// The fault of the statement's first bad token (`BadToken`) or bad number (`BadNumber`); or `Syntax` if the statement has no shape of this
+/// section.
 pub fn check_statement(start: Cutter<'_>, section: Section) -> Result<Cutter<'_>, CdlKind>
     requires { is_done start ≡ false }
     ensures passes { (s : State) → s.section ≡ section → ActsAsSaid start.entry s result }

@@ -31,8 +31,9 @@ use std::alloc::Global;
 /// # Errors
 ///
 /// The fault of the first bad statement, with the line of its first token. [`TooLarge`](CdlKind::TooLarge), with the line of the closing
-/// brace, if no statement is bad, but an array has more than 2^48 bytes or the header isn't sound ([`Header::sound`](nc_base::Header::sound)).
-/// [`OutOfMemory`](CdlKind::OutOfMemory), with line 0, as soon as an allocation failed, or if memory can't hold a variable's values.
+/// brace, if no statement is bad, but an array has more than 2^48 bytes or the header isn't sound
+/// ([`Header::sound`](nc_base::Header::sound)). [`OutOfMemory`](CdlKind::OutOfMemory), with line 0, as soon as an allocation failed, or if
+/// memory can't hold a variable's values.
 pub fn parse(alloc: Global, text: &[u8], version: Version) -> Result<Dataset, CdlFault>
     ensures { MeansOrOutOfMemory result (meaning text.now version) }
 {
@@ -74,8 +75,9 @@ impl ParseError {
     }
 }
 
-/// Reads a text, and returns what it declares. [`declared`] only turns the error into a [`CdlFault`]. Errs with the fault of the first bad
-/// statement; with `TooLarge`, on the closing brace's line, if an array is too large or the header isn't sound; or if an allocation failed.
+/// Reads a CDL text, and returns what it declares. [`declared`] calls it, and turns its error into a [`CdlFault`]. Errs with the fault of
+/// the first bad statement; with `TooLarge`, on the closing brace's line, if no statement is bad, but an array is too large or the header
+/// isn't sound; and with `OutOfMemory` if an allocation failed.
 fn read_declared(alloc: Global, text: &[u8], version: Version) -> Result<Declared, ParseError>
     ensures reads { GivesOrOutOfMemory (λ d. Ok (dataset_of_declared d)) result (meaning text.now version) }
     ensures one_each { IfOk result (λ d. length d.listed ≡ length d.header.vars) }
@@ -96,21 +98,23 @@ fn read_declared(alloc: Global, text: &[u8], version: Version) -> Result<Declare
     }
 }
 
-/// What the statements of a text declare and list.
+/// What the statements of a text declare, and what they list in the data section.
 #[derive(Drop)]
 struct Contents {
     dims: Sequence<Dim>,
     /// The attributes of the dataset.
     gatts: Sequence<Att>,
     vars: Sequence<Var>,
-    /// For each variable the listed values.
+    /// The listed values of each variable, in the order of `vars`.
     listed: Vec<ListedArray>,
     /// The line of the closing brace.
     closing_line: u64,
 }
 
-/// Reads all statements of a text, and returns what they declare and list. `start` is a cutter at the text's start. The sizes of
-/// arrays and the header aren't checked: [`finish`] does that. Errs with the fault of the first bad statement, or if an allocation failed.
+/// Reads all statements of a text, and returns what they declare and list, and the line of the closing brace. `start` is a cutter (a cursor
+/// that goes from statement to statement) at the text's start. The sizes of arrays and the header aren't checked: [`finish`] does that.
+/// Errs with the fault of the first bad statement, or if an allocation failed. The contract leaves out texts of 2^63 bytes or more, which
+/// no slice has.
 fn read_contents(alloc: Global, start: Cutter<'_>) -> Result<Contents, ParseError>
     ensures reads { length (text_of start.entry) < 2 ^ 63
         → ReadsAll result (run_from start.entry empty) }
@@ -161,10 +165,11 @@ struct Values<'a> {
     lines: PassedLines,
 }
 
-/// Reads the data section by [`read_data_section`] if `section`, the section of the next statement of `start`, is `Values`. Otherwise the
-/// text has no data section: reads nothing, and returns an array without values for each variable, and `section`, `start` and `before`
-/// unchanged. `names` are the names of the variables, and `before` has the lines of the last two statements before `start`. Errs with the
-/// fault of the first bad statement, or if an allocation failed.
+/// Reads the data section, if the text has one: if `section`, the section of the next statement, is `Values`. Returns the values that it
+/// lists of each variable, and what comes after it. Without a data section, it reads nothing, and returns an array without values for each
+/// variable, and `section`, `start` and `before` as they are. `dims` and `vars` are those of the text, `names` are the names of `vars`, and
+/// `before` has the lines of the last two statements before `start`. If a statement is left, needs a `section` that is none of those before
+/// the data section. Errs with the fault of the first bad statement, or if an allocation failed.
 fn read_values<'a>(
     alloc: Global,
     dims: &[Dim],
@@ -192,10 +197,10 @@ fn read_values<'a>(
     }
 }
 
-/// Reads the data section, whose statements begin at `start`: finds out how many values each variable may take ([`targets_of`]), and reads
-/// the statements by [`read_data`]. Returns what the section lists, and what comes after it. `names` are the names of the variables, and
-/// `before` has the lines of the last two statements before `start`. Errs with the fault of the first bad statement, or if an allocation
-/// failed. A text that ends before the closing brace has a fault at its end.
+/// Reads the data section, whose statements begin at `start`: finds out by `dims` how many values each of `vars` may take ([`targets_of`]),
+/// and reads the statements by [`read_data`]. Returns what the section lists, and what comes after it. `names` are the names of the
+/// variables, and `before` has the lines of the last two statements before `start`. Errs with the fault of the first bad statement, or if
+/// an allocation failed. A text that ends before the closing brace has a fault at its end.
 fn read_data_section<'a>(
     alloc: Global,
     dims: &[Dim],
@@ -220,8 +225,8 @@ fn read_data_section<'a>(
     })
 }
 
-/// Returns the section of the statement after the data section: `Closed` if `is_closed` is true (the data section ended with the
-/// closing brace). Otherwise no statement is left, and it returns `Values`.
+/// Returns the section of the statement that comes after the data section: `Closed` if `is_closed` is true (the closing brace was read).
+/// Otherwise no statement is left, and it returns `Values`.
 fn section_after_data(is_closed: bool) -> Section
     ensures { result ≡ (if is_closed then Section.Closed else Section.Values) }
 {

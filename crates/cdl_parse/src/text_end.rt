@@ -11,14 +11,14 @@ use crate::closing::PassedLines;
 use crate::statement::check_statement;
 use cdl_statements::{CdlFault, Cutter, Section};
 
-/// Checks that nothing comes after the closing brace but the end of the text. `start` has the statements after the brace. If it has any,
-/// `section` has to be the section of the next one: `Closed` right after the brace, `Ended` after the end. `before` has the lines of the
-/// last two statements before `start`, since the brace is the last statement of a text but one. Returns the line of the closing brace.
-/// Does not allocate.
+/// Checks that after the closing brace only the end of the text comes, and returns the line of the brace. `start` has the statements after
+/// the brace. `section` is that of the next one, `Closed` if the end is still to come; needs `Closed` or `Ended`, unless no statement is
+/// left. `before` has the lines of the last two statements before `start`: the line of the brace follows from them, since the brace is the
+/// last statement but one. Does not allocate.
 ///
 /// # Errors
 ///
-/// The fault of the first bad statement, with its line.
+/// The fault of the first bad statement (`BadToken`, `BadNumber` or `Syntax`), with its line.
 pub fn check_end(start: Cutter<'_>, section: Section, before: PassedLines) -> Result<u64, CdlFault>
     requires { is_done start ≡ false → is_over section ≡ true }
     ensures ends { (s : State) → s.section ≡ section → EndsAs s result (run_from start.entry s) }

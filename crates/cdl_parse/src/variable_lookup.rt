@@ -10,7 +10,8 @@ use cdl_values::{NameIndex, ReadError, read_name};
 use nc_base::Named;
 use std::alloc::Global;
 
-/// Returns the position in `variables` of the one that `word`, which may have escapes, names. `names` has to be the index of `variables`.
+/// Returns the position, from 0 on, in `variables` of the variable that `word` names. The word may have escapes: `a\ b` names `a b`. Needs
+/// the `names` of just these variables, which find a position by a name.
 ///
 /// # Errors
 ///

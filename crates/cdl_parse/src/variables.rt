@@ -23,7 +23,7 @@ use std::marker::Model;
 #[derive(Drop)]
 struct Variable {
     name: Sequence<u8>,
-    /// The positions of its dimensions, the slowest first.
+    /// The ids of its dimensions: their positions in the list of the dataset's dimensions. The one that varies slowest comes first.
     dimids: Sequence<u64>,
     ty: NcType,
     atts: Attributes,
@@ -80,8 +80,8 @@ impl Variables {
         self.names.find(self.list.as_slice(), name).is_some()
     }
 
-    /// Adds a variable without attributes at the end and returns true, if no other one has its name. Otherwise changes nothing and
-    /// returns false.
+    /// Adds a variable without attributes at the end and returns true, if no other one has its name. Otherwise changes nothing and returns
+    /// false. `dimids` are the ids of its dimensions, the positions in the dataset's list.
     ///
     /// # Errors
     ///
@@ -112,11 +112,11 @@ impl Variables {
         Ok(added)
     }
 
-    /// Reads an attribute of a variable, and adds it to the attributes of that variable. `start` is at the variable's name. Needs a
-    /// statement that has its shape, which isn't checked here.
+    /// Reads an attribute of a variable, and adds it to the attributes of that variable. `start` is at the variable's name. Needs tokens in
+    /// the order of such a statement, which isn't checked here.
     ///
-    /// After the name come `:`, the attribute's name, `=` and the constants, joined by commas (the CDL chapter of the NetCDF
-    /// User's Guide, and ncgen(1)).
+    /// After the name come `:`, the attribute's name, `=` and the constants, joined by commas (the CDL chapter of the NetCDF User's Guide,
+    /// and ncgen(1)).
     ///
     /// # Errors
     ///
@@ -140,7 +140,8 @@ impl Variables {
         read_attribute(alloc, &mut variable.atts, name)
     }
 
-    /// Returns the variables as those of a header, each with begin 0, and the index of their names. No name, shape or attribute is copied.
+    /// Returns the variables as a header has them, each with begin 0 (no offset is known yet), and the index that finds a variable's
+    /// position by its name. No name, shape or attribute is copied.
     ///
     /// # Errors
     ///

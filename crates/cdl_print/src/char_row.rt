@@ -17,10 +17,10 @@ use nc_base::Quoting;
 /// The most characters of a row that are gathered to be written at once. Each takes at most four bytes with its escape.
 const CHARS_AT_ONCE: usize = 1000;
 
-/// Writes the next characters of a variable, `bytes`, row by row, and moves `progress` past them. Before the first character of a row it
-/// writes what [`TextLayout::put_char_lead`] puts. In a trimmed layout it holds NULs back until a character other than NUL follows in the row.
-/// `text` is a buffer in which the text of a row is gathered, and may hold anything. If the sink fails, `progress` stays before the part of
-/// a row that wasn't written whole.
+/// Writes the next characters of a variable, `bytes`, and moves `progress` past them. Each row is a string, whose last quote is left to the
+/// row after it, or to the caller. A trimmed layout shows no NULs at the end of a row: it holds NULs back until another character follows
+/// in the row. `text` is a buffer for the text of a row, and may hold anything. Needs a `layout` of characters, and no more of them than
+/// the variable has left. Errs if the sink fails; then `progress` is before the part that wasn't written whole, but no clause says so.
 pub fn put_char_values<W: Sink>(
     sink: &mut W,
     layout: &TextLayout<'_>,
@@ -42,8 +42,8 @@ pub fn put_char_values<W: Sink>(
     Ok(())
 }
 
-/// Returns how many of the next `len` characters stand in one row, the first of them at `row_index`: at least 1. `row` is how many
-/// characters a row has.
+/// Returns how many of the next `len` characters stand in the row that the next one is in, but at least 1. `row` is how many characters a
+/// row has, and `row_index` is the index of the next one in its row. Needs a `len` above 0.
 fn len_in_row(row: u128, row_index: u128, len: usize) -> usize
     requires { 0 < len }
     ensures some { 0 < result }
@@ -53,10 +53,9 @@ fn len_in_row(row: u128, row_index: u128, len: usize) -> usize
     row.saturating_sub(row_index).min(len as u128).max(1) as usize
 }
 
-/// Writes the next characters of one row, `part`, with what stands before them, and moves `progress` past them. Needs at least one
-/// character, and no more than the row and the variable have left. Errs only if the sink failed; then `progress` is where it was. It does
-/// this by one call of [`put_row_part`], and is there for its contract: what is written is the text of these values, whichever were
-/// printed before.
+/// Writes the next characters of one row, `part`, with what stands before them, and moves `progress` past them. Needs a `layout` of
+/// characters, at least one character, and no more than the row and the variable have left. Errs if the sink fails. It does this by one
+/// call of [`put_row_part`], and is there for its contract: what is written is the text of these values, whichever were printed before.
 fn put_next_part<W: Sink>(
     sink: &mut W,
     layout: &TextLayout<'_>,
@@ -75,8 +74,8 @@ fn put_next_part<W: Sink>(
 }
 
 /// Writes what stands before the row if `part` begins it, the NULs that were held back, and the characters of `part`
-/// ([`put_shown_with_lead`]). In a trimmed layout NULs at the end of `part` aren't written ([`TextLayout::shown_chars`]): they are held back,
-/// or dropped if the row ends there. Moves `progress` past `part`.
+/// ([`put_shown_with_lead`]), and moves `progress` past `part`. In a trimmed layout it doesn't write NULs at the end of `part`: it holds
+/// them back, or drops them if the row ends there. Needs no more characters than the variable has left. Errs if the sink fails.
 fn put_row_part<W: Sink>(
     sink: &mut W,
     layout: &TextLayout<'_>,
@@ -103,7 +102,8 @@ fn put_row_part<W: Sink>(
 
 /// Returns how many NULs are held back after `count` characters of a row, the first `shown` of them printed. `held_nuls` is how many were
 /// held back before these characters; they were written if `shown` isn't 0. `row_index` is the index, in its row, of the character after
-/// them. If it is 0, the row has ended, its last NULs are dropped, and the result is 0.
+/// them. If it is 0, the row has ended, its last NULs are dropped, and the result is 0. Needs a `shown` of at most `count`, and less than
+/// 2^128 for `held_nuls` and `count` together.
 fn held_nuls_after(held_nuls: u128, row_index: u128, count: u128, shown: u128) -> u128
     requires within { shown ≤ count }
     requires few { held_nuls + count < 2 ^ 128 }
@@ -120,9 +120,9 @@ fn held_nuls_after(held_nuls: u128, row_index: u128, count: u128, shown: u128) -
     }
 }
 
-/// Writes the lead, which is what [`TextLayout::put_char_lead`] puts, then the NULs that were held back, and then the characters of `shown`. If
-/// there are none of these, only the lead is written. Unless NULs were held back or there are more than [`CHARS_AT_ONCE`] characters, all of it is
-/// gathered in `text`, and written in one piece.
+/// Writes the lead ([`TextLayout::put_char_lead`]: the quotes that begin a row, or nothing within a row), then the NULs that were held
+/// back, and then the characters of `shown`. If `shown` is empty, writes only the lead. Gathers all of it in `text`, and writes it in one
+/// piece, unless NULs were held back or there are more than [`CHARS_AT_ONCE`] characters. Errs if the sink fails.
 #[tactic(auto, using(devices::proofs::Writes::writes, crate::proofs::CharRows::none_before))]
 fn put_shown_with_lead<W: Sink>(
     sink: &mut W,
@@ -143,8 +143,8 @@ fn put_shown_with_lead<W: Sink>(
     put(sink, &text[..end])
 }
 
-/// Writes the `held_nuls` NULs that were held back, and then the characters of `shown` with their escapes. Writes nothing if there are
-/// none: then the NULs are still held back.
+/// Writes the `held_nuls` NULs that were held back, and then the characters of `shown` with their escapes. Writes nothing if `shown` is
+/// empty: the NULs are still held back then. Errs if the sink fails.
 #[tactic(auto, using(devices::proofs::Writes::writes), unfolding(crate::specs::code::Printing::part_text, nc_base::specs::Escapes::escaped_text))]
 fn put_shown<W: Sink>(sink: &mut W, held_nuls: u128, shown: &[u8]) -> Result<(), WriteFailed>
     ensures { Wrote W.view sink.old sink.new (part_text held_nuls shown.now) result }
@@ -156,7 +156,7 @@ fn put_shown<W: Sink>(sink: &mut W, held_nuls: u128, shown: &[u8]) -> Result<(),
     put_escaped(sink, Quoting::InString, shown)
 }
 
-/// Writes `count` NULs, each as `\000`.
+/// Writes `count` NULs, each as `\000`. Errs if the sink fails.
 fn put_nuls<W: Sink>(sink: &mut W, count: u128) -> Result<(), WriteFailed>
     ensures { Wrote W.view sink.old sink.new (escaped_text (replicate count 0)) result }
 {

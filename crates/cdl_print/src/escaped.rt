@@ -14,7 +14,8 @@ use std::simd::prelude::*;
 /// How many bytes are written at once. Each takes at most four bytes with its escape.
 const BYTES_AT_ONCE: usize = 128;
 
-/// Writes bytes of a name or of a string, each with its escape if it needs one. `quoting` says which of the two they are in.
+/// Writes bytes of a name or of a string, each with its escape if it needs one. `quoting` says which of the two they are in. The backslash
+/// before the first byte of some names is left to [`put_name`](crate::put_name), and quotes to the caller. Errs if the sink fails.
 pub fn put_escaped<W: Sink>(sink: &mut W, quoting: Quoting, bytes: &[u8]) -> Result<(), WriteFailed>
     ensures { Wrote W.view sink.old sink.new (flat_map (escaped_in quoting) bytes.now) result }
 {
@@ -29,8 +30,8 @@ pub fn put_escaped<W: Sink>(sink: &mut W, quoting: Quoting, bytes: &[u8]) -> Res
     Ok(())
 }
 
-/// Returns a number of bytes at the start of a name or of a string (`quoting`) of which none needs an escape. They are tested by
-/// [`BYTES_AT_ONCE`], up to the first of these pieces in which one needs one.
+/// Returns a length, in bytes, up to which the beginning of a name or of a string (`quoting`) needs no escape. It may not be the greatest:
+/// it tests 128 bytes at a time ([`BYTES_AT_ONCE`]), and leaves all of them out if one needs an escape.
 fn plain_len(quoting: Quoting, bytes: &[u8]) -> usize
     ensures within { result ≤ length bytes.now }
     ensures plain { list_all (stands_for_itself quoting) (take result bytes.now) ≡ true }
@@ -73,7 +74,8 @@ fn is_plain(quoting: Quoting, b: u8) -> bool
     }
 }
 
-/// Writes at most [`BYTES_AT_ONCE`] bytes of a name or of a string (`quoting`) in one piece, each with its escape if it needs one.
+/// Writes bytes of a name or of a string (`quoting`) in one piece, each with its escape if it needs one. Needs at most 128 bytes
+/// ([`BYTES_AT_ONCE`]). Errs if the sink fails.
 fn put_few_escaped<W: Sink>(sink: &mut W, quoting: Quoting, bytes: &[u8]) -> Result<(), WriteFailed>
     requires { length bytes.now ≤ 128 }
     ensures { Wrote W.view sink.old sink.new (flat_map (escaped_in quoting) bytes.now) result }
@@ -87,7 +89,7 @@ fn put_few_escaped<W: Sink>(sink: &mut W, quoting: Quoting, bytes: &[u8]) -> Res
 }
 
 /// Puts bytes of a name or of a string (`quoting`) at the offset `at` of `text`, each with its escape if it needs one, and returns the
-/// offset at which they end. Needs room for four bytes each in `text`, and for 16 more ([`put_plain_run`]).
+/// offset at which they end. Needs room for four bytes each, and for 16 more ([`put_plain_run`]). What stands after them may change.
 pub fn gather_escaped(text: &mut [u8], at: usize, quoting: Quoting, bytes: &[u8]) -> usize
     requires { at + 4 * length bytes.now + 16 ≤ length text.old }
     ensures text { take result text.new ≡ take at text.old ++ flat_map (escaped_in quoting) bytes.now }
@@ -123,9 +125,9 @@ fn put_plain_run(text: &mut [u8], at: usize, quoting: Quoting, bytes: &[u8]) -> 
     }
 }
 
-/// Puts the bytes of a string that come before the first one that needs an escape, but at most 16, at the offset `at` of `text`, and returns
-/// how many. It copies the next 16 bytes, or all if they are fewer, before it tests them. If none of the 16 needs an escape, and none of the
-/// next [`BLOCK`] bytes does, it puts these too. Needs room for the bytes, and for 16 more.
+/// Puts at the offset `at` of `text` the bytes of a string that come before the first one that needs an escape, and returns how many it has
+/// put: at most 16, or 80 if none of the first 80 bytes needs an escape. What stands after them in `text` may be anything then, since it
+/// copies 16 bytes before it tests them. Needs room for all of `bytes`, and for 16 more.
 #[inline(always)]
 fn put_literal_run(text: &mut [u8], at: usize, bytes: &[u8]) -> usize
     requires { at + length bytes.now + 16 ≤ length text.old }
@@ -147,8 +149,8 @@ fn put_literal_run(text: &mut [u8], at: usize, bytes: &[u8]) -> usize
     run
 }
 
-/// Puts the byte `b` at the offset `at` of `text`, written as `escape` says, and returns the offset at which it ends. Needs room for four
-/// bytes in `text`.
+/// Puts the byte `b` at the offset `at` of `text`, written as `escape` says: as it is, as a backslash and a byte (`\n`), or in octal
+/// (`\001`). Returns the offset at which it ends. Needs room for four bytes in `text`.
 fn put_escape(text: &mut [u8], at: usize, escape: Escape, b: u8) -> usize
     requires { at + 4 ≤ length text.old }
     ensures written { take result text.new ≡ take at text.old ++ written escape b }

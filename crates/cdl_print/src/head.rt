@@ -13,9 +13,10 @@ use crate::variable::put_vars;
 use devices::{Sink, WriteFailed, put, put_decimal};
 use nc_base::{Att, Dim, Header};
 
-/// Writes the head of a dump of the dataset with this name: all that stands before `data:`.
+/// Writes the head of a dump, all that stands before `data:`: `netcdf ` and `name`, the dataset's name, with its escapes, and then the
+/// dimensions, the variables and the global attributes.
 ///
-/// The record dimension is shown with this number of records. The layout is that of ncdump(1).
+/// `records` is the number of records, which the line of the record dimension shows. The layout is that of ncdump(1).
 ///
 /// # Errors
 ///
@@ -38,7 +39,7 @@ pub fn put_head<W: Sink>(
 }
 
 /// Writes the heading `dimensions:` and a line for each dimension, or nothing if there are none. `records` is the number of records, which
-/// the line of the record dimension shows.
+/// the line of the record dimension shows. Errs if the sink fails.
 #[tactic(auto, using(devices::proofs::Writes::writes), unfolding(nc_base::specs::HeadText::dims_text))]
 fn put_dims<W: Sink>(sink: &mut W, dims: &[Dim], records: u64) -> Result<(), WriteFailed>
     ensures { Wrote W.view sink.old sink.new (dims_text records dims.now) result }
@@ -50,7 +51,7 @@ fn put_dims<W: Sink>(sink: &mut W, dims: &[Dim], records: u64) -> Result<(), Wri
 }
 
 /// Writes the heading `dimensions:` and the lines of all dimensions. It is called only if there are some. `records` is the number of
-/// records, which the line of the record dimension shows.
+/// records, which the line of the record dimension shows. Errs if the sink fails.
 #[tactic(auto, using(devices::proofs::Writes::writes))]
 fn put_dims_section<W: Sink>(sink: &mut W, dims: &[Dim], records: u64) -> Result<(), WriteFailed>
     ensures { Wrote W.view sink.old sink.new (dims_part records dims.now) result }
@@ -59,7 +60,7 @@ fn put_dims_section<W: Sink>(sink: &mut W, dims: &[Dim], records: u64) -> Result
     put_dim_lines(sink, dims, records)
 }
 
-/// Writes a line for each dimension, without a heading. `records` is the number of records, which the line of the record dimension shows.
+/// Writes a line for each dimension, without a heading. That of the record dimension shows the number of `records`. Errs if the sink fails.
 #[tactic(auto, using(devices::proofs::Writes::writes), unfolding(nc_base::specs::HeadText::dim_lines))]
 fn put_dim_lines<W: Sink>(sink: &mut W, dims: &[Dim], records: u64) -> Result<(), WriteFailed>
     ensures { Wrote W.view sink.old sink.new (dim_lines records dims.now) result }
@@ -71,7 +72,7 @@ fn put_dim_lines<W: Sink>(sink: &mut W, dims: &[Dim], records: u64) -> Result<()
 }
 
 /// Writes the line of a dimension: a tab, its name with its escapes, ` = `, and what [`put_dim_length`] writes. `records` is the number of
-/// records, which the line of the record dimension shows.
+/// records, which the line of the record dimension shows. Errs if the sink fails.
 #[tactic(auto, using(devices::proofs::Writes::writes), unfolding(nc_base::specs::HeadText::dim_line))]
 fn put_dim_line<W: Sink>(sink: &mut W, dim: &Dim, records: u64) -> Result<(), WriteFailed>
     ensures { Wrote W.view sink.old sink.new (dim_line records dim.now) result }
@@ -82,8 +83,8 @@ fn put_dim_line<W: Sink>(sink: &mut W, dim: &Dim, records: u64) -> Result<(), Wr
     put_dim_length(sink, dim.len, records)
 }
 
-/// Writes the length of a dimension and the end of its line. A `len` of 0 is that of the record dimension: for it, `UNLIMITED` and
-/// the number of records in a comment are written.
+/// Writes the length of a dimension and the end of its line, such as `4 ;`. A `len` of 0 is that of the record dimension, for which it
+/// writes `UNLIMITED ; // (3 currently)`, with the number of `records`. Errs if the sink fails.
 #[tactic(auto, unfolding(nc_base::specs::HeadText::dim_len_text))]
 fn put_dim_length<W: Sink>(sink: &mut W, len: u64, records: u64) -> Result<(), WriteFailed>
     ensures { Wrote W.view sink.old sink.new (dim_len_text records len) result }
@@ -95,7 +96,7 @@ fn put_dim_length<W: Sink>(sink: &mut W, len: u64, records: u64) -> Result<(), W
     }
 }
 
-/// Writes what the line of the record dimension ends with: `UNLIMITED ;`, and the number of records in a comment.
+/// Writes the end of the record dimension's line: `UNLIMITED ; // (3 currently)`, if there are 3 `records`. Errs if the sink fails.
 #[tactic(auto, using(devices::proofs::Writes::writes), unfolding(nc_base::specs::HeadText::dim_len_text))]
 fn put_unlimited<W: Sink>(sink: &mut W, records: u64) -> Result<(), WriteFailed>
     ensures { Wrote W.view sink.old sink.new (dim_len_text records 0) result }
@@ -105,7 +106,7 @@ fn put_unlimited<W: Sink>(sink: &mut W, records: u64) -> Result<(), WriteFailed>
     put(sink, FixedText::Currently.bytes())
 }
 
-/// Writes `len`, the length of a dimension that isn't the record dimension, and the end of its line: ` ;` and a line feed.
+/// Writes `len`, the length of a dimension other than the record dimension, and then ` ;` and a line feed. Errs if the sink fails.
 #[tactic(auto, using(devices::proofs::Writes::writes))]
 fn put_fixed_length<W: Sink>(sink: &mut W, len: u64) -> Result<(), WriteFailed>
     ensures { Wrote W.view sink.old sink.new (concat_parts (decimal len ∷ codes " ;\n" ∷ [])) result }
@@ -114,7 +115,7 @@ fn put_fixed_length<W: Sink>(sink: &mut W, len: u64) -> Result<(), WriteFailed>
     put(sink, b" ;\n")
 }
 
-/// Writes the heading `// global attributes:` and a line for each global attribute, or nothing if there are none.
+/// Writes the heading `// global attributes:` and a line for each global attribute, or nothing if there are none. Errs if the sink fails.
 #[tactic(auto, using(devices::proofs::Writes::writes), unfolding(nc_base::specs::HeadText::gatts_text))]
 fn put_gatts<W: Sink>(sink: &mut W, gatts: &[Att]) -> Result<(), WriteFailed>
     ensures { Wrote W.view sink.old sink.new (gatts_text gatts.now) result }
@@ -125,7 +126,7 @@ fn put_gatts<W: Sink>(sink: &mut W, gatts: &[Att]) -> Result<(), WriteFailed>
     put_gatts_section(sink, gatts)
 }
 
-/// Writes the heading of the global attributes and their lines. It is called only if there are some.
+/// Writes the heading of the global attributes and their lines. It is called only if there are some. Errs if the sink fails.
 #[tactic(auto, using(devices::proofs::Writes::writes, crate::proofs::Runs::nameless))]
 fn put_gatts_section<W: Sink>(sink: &mut W, gatts: &[Att]) -> Result<(), WriteFailed>
     ensures { Wrote W.view sink.old sink.new (gatts_part gatts.now) result }

@@ -27,20 +27,20 @@ pub struct TextLayout<'a> {
     pub in_rows: bool,
     /// How many values a row has.
     pub row: u128,
-    /// How many values there are.
+    /// How many values the variable has.
     pub total: u128,
-    /// The fill value.
+    /// The variable's fill value.
     pub fill: i128,
     /// True if a number that equals the fill value prints as `_`.
     pub prints_fill: bool,
     /// True if the NULs at the end of a row aren't printed. This matters only for characters.
     pub trimmed: bool,
-    /// The width at which lines of numbers are broken.
+    /// The width, in bytes, at which lines of numbers are broken.
     pub width: usize,
 }
 
-/// Returns the layout of the variable at index `v` over `records` records. `width` is the width at which lines of numbers are broken. Needs
-/// a sound header (`nc_base::Header::sound`).
+/// Returns the layout of the text of the variable at the index `v`, if there are `records` records. A line of numbers is broken at `width`
+/// bytes. Needs a sound header (`nc_base::Header::sound`) that has such a variable.
 pub fn layout_of(header: &Header, v: usize, records: u64, width: usize) -> TextLayout<'_>
     requires sound { IsSound header.now }
     requires there { v < length header.now.vars }
@@ -50,7 +50,8 @@ pub fn layout_of(header: &Header, v: usize, records: u64, width: usize) -> TextL
     layout_of_var(header, var, value_count(header, v, records), width)
 }
 
-/// Returns the layout of the variable `var` with `total` values. `width` is the width at which lines of numbers are broken.
+/// Returns the layout of the text of the variable `var`, which has `total` values. A line of numbers is broken at `width` bytes. The clause
+/// `layout` promises this for each number of records over which the variable has `total` values.
 #[tactic(auto, unfolding(nc_base::specs::ValueText::look_of))]
 fn layout_of_var<'a>(header: &'a Header, var: &'a Var, total: u128, width: usize) -> TextLayout<'a>
     ensures total { result.total ≡ total }
@@ -70,8 +71,8 @@ fn layout_of_var<'a>(header: &'a Header, var: &'a Var, total: u128, width: usize
     }
 }
 
-/// Returns how many values a row has, if the variable has `total` values: all of them at rank 0 and 1, otherwise as many as the
-/// last dimension is long.
+/// Returns how many values a row has, if the variable has `total` values: all of them at rank 0 and 1, otherwise as many as the last
+/// dimension is long. `dimids` has the ids of its dimensions, their indexes in `dims`.
 fn row_len(dims: &[Dim], dimids: &[u64], total: u128) -> u128
     ensures { result ≡ row_len dims.now dimids.now total }
 {
@@ -81,8 +82,8 @@ fn row_len(dims: &[Dim], dimids: &[u64], total: u128) -> u128
     }
 }
 
-/// Returns true if the variable's fill value is 0, and the variable isn't a record variable of rank 1. If such a variable has
-/// characters, the NULs at the end of a row aren't printed.
+/// Returns true if the text leaves out NULs at the end of a row of characters: if the variable's fill value is 0, and it isn't a record
+/// variable of rank 1. Doesn't look at the type: for numbers the result has no effect. `dims` has the header's dimensions.
 fn is_trimmed(dims: &[Dim], var: &Var) -> bool
     ensures { result ≡ is_trimmed dims.now var.now }
 {
@@ -113,8 +114,8 @@ impl TextLayout<'_> {
         self.prints_fill && number == self.fill
     }
 
-    /// Returns how many values are left in the row that has begun. `row_index` is the index of the next value in its row. If it is 0, no
-    /// row has begun, and the result is 0.
+    /// Returns how many values are left in the row that has begun, if `row_index` is the index of the next value in its row. If that is 0,
+    /// no row has begun, and the result is 0. The clauses promise only that the row has at least as many left.
     pub fn values_left_in_row(&self, row_index: u128) -> u128
         ensures some { 0 < result → 0 < row_index }
         ensures within { 0 < result → row_index + result ≤ self.now.row }
@@ -126,9 +127,10 @@ impl TextLayout<'_> {
         }
     }
 
-    /// Returns the lead before the next number, whose text has `len` bytes: what [`row_lead`](TextLayout::row_lead) returns if the number is its
-    /// row's first, otherwise `, `, with a new line after it if the number doesn't fit. `progress` is how far the numbers before it are
-    /// printed. Needs a `len` of at most 40, which is enough for any `i128`.
+    /// Returns the lead before the next number (the spaces, comma or line break between it and what comes before). If the number is its
+    /// row's first, that is what [`row_lead`](TextLayout::row_lead) returns; otherwise `, `, and a new line if the number doesn't fit.
+    /// `len` is how many bytes the number has, and `progress` is how far the numbers before it are printed. Needs a `len` of at most 40,
+    /// enough for any `i128`.
     pub fn number_lead(&self, progress: &Progress, len: usize) -> Lead
         requires { len ≤ 40 }
         ensures { result ≡ next_number_lead (look_at self.now) progress.now len }
@@ -154,8 +156,8 @@ impl TextLayout<'_> {
         }
     }
 
-    /// Returns those of these characters of one row that are printed unless others follow them in the row: in a trimmed layout all but the
-    /// NULs at their end, otherwise all.
+    /// Returns the characters of `chars`, all of one row, that are printed even if no others follow in the row: in a trimmed layout all but
+    /// the NULs at their end, otherwise all.
     pub fn shown_chars<'b>(&self, chars: &'b [u8]) -> &'b [u8]
         ensures { result.now ≡ shown (look_at self.now) chars.now }
     {
@@ -166,9 +168,10 @@ impl TextLayout<'_> {
         }
     }
 
-    /// Puts what stands before the next character, apart from NULs held back, at the offset `at` of `text`, and returns the offset at which
-    /// it ends. If the character is its row's first, this closes the string of the row before it, if there is one, and opens a string.
-    /// Otherwise it is empty. Needs room for 6 bytes in `text`.
+    /// Puts what stands before the next character at the offset `at` of `text`, and returns the offset at which it ends. If the character
+    /// is its row's first, that closes the string of the row before it, if there is one, and opens a string (in rows after the first: `",`,
+    /// a new line, two spaces and `"`). Otherwise it is nothing. `progress` is how far the characters before are printed. Doesn't put NULs
+    /// that were held back. Needs room for 6 bytes in `text`.
     #[inline(always)]
     pub fn put_char_lead(&self, text: &mut [u8], at: usize, progress: &Progress) -> usize
         requires { at + 6 ≤ length text.old }

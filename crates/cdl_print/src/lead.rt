@@ -8,15 +8,15 @@ use cdl_number_text::{put_bytes, put_comma};
 /// What stands before a number.
 #[derive(Clone, Copy)]
 pub enum Lead {
-    /// Before the first number of a variable of rank 0 or 1.
+    /// A space: before the first number of a variable of rank 0 or 1.
     Space,
-    /// Before the first number of the first row.
+    /// A line feed and two spaces: before the first number of the first row.
     FirstRow,
-    /// Before the first number of a later row.
+    /// A comma, a line feed and two spaces: before the first number of a later row.
     NextRow,
-    /// Between two numbers of a row that stand on one line.
+    /// A comma and a space: between two numbers of a row that stand on one line.
     Comma,
-    /// Between two numbers of a row, if the second begins a line.
+    /// A comma, a space, a line feed and four spaces: between two numbers of a row, if the second begins a line.
     NewLine,
 }
 
@@ -36,8 +36,8 @@ impl Lead {
     }
 }
 
-/// Returns the lead before a number of `len` bytes that isn't its row's first: `, `, with a new line after it if `, `, the number, and two
-/// bytes for what follows it take more than `columns_left`, the number of bytes that the line may still have. Needs a `len` of at most 40.
+/// Returns the lead before a number of `len` bytes that isn't its row's first: `NewLine` if `, `, the number, and two bytes for what
+/// follows it take more than `columns_left`, the number of bytes that the line may still have; otherwise `Comma`. Needs a `len` up to 40.
 #[inline(always)]
 pub fn lead_in_row(columns_left: usize, len: usize) -> Lead
     requires { len ≤ 40 }
@@ -50,8 +50,8 @@ pub fn lead_in_row(columns_left: usize, len: usize) -> Lead
     }
 }
 
-/// Writes a lead at the offset `at` of `text`, which must have room for it, and returns the offset of its end. Each lead has a branch of its
-/// own, since a copy of a known length needs no call.
+/// Writes a lead at the offset `at` of `text`, which must have room for it, and returns the offset of its end. Each lead has a branch of
+/// its own, since a copy of a known length needs no call.
 #[inline(always)]
 pub fn put_lead(text: &mut [u8], at: usize, lead: Lead) -> usize
     requires { at + length (lead_bytes lead) ≤ length text.old }

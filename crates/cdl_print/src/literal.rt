@@ -14,8 +14,8 @@ pub const LANES: usize = 16;
 /// The number of bytes that [`is_literal_block`] tests.
 pub const BLOCK: usize = 64;
 
-/// The bytes from 0x20 on that need an escape, each at the index that its lower four bits give. Any other index holds a byte whose lower four
-/// bits give another index, so that no byte equals what it finds there.
+/// The bytes from 0x20 on that need an escape, each at the index that its lower four bits give. Any other index holds a byte whose lower
+/// four bits give another index, so that no byte equals what it finds there.
 const ESCAPED: [u8; 16] = [1, 0, b'"', 0, 0, 0, 0, b'\'', 0, 0, 0, 0, b'\\', 0, 0, 0x7f];
 
 /// Returns how many bytes of the vector come before the first one that needs an escape in a string, or 16 if none needs one.
@@ -32,7 +32,8 @@ pub fn literal_run(vector: u8x16) -> usize
     }
 }
 
-/// Returns true if none of the first [`BLOCK`] bytes needs an escape in a string.
+/// Returns true if none of the first 64 bytes ([`BLOCK`]) needs an escape in a string. Needs at least 64 bytes. The clauses promise only
+/// that none needs one if it returns true.
 #[inline(always)]
 pub fn is_literal_block(bytes: &[u8]) -> bool
     requires { 64 ≤ length bytes.now }
@@ -45,8 +46,8 @@ pub fn is_literal_block(bytes: &[u8]) -> bool
     (first == 0) & (second == 0) & (third == 0) & (fourth == 0)
 }
 
-/// Returns a mask with a bit for each byte of the vector, set if the byte needs an escape in a string. A byte from 0x20 on needs one if
-/// [`ESCAPED`] has it at its lower four bits.
+/// Returns a mask with a bit for each byte of the vector, the lowest for the first byte, set if the byte needs an escape in a string. A
+/// byte from 0x20 on needs one if [`ESCAPED`] has it at its lower four bits.
 #[inline(always)]
 fn escape_mask(vector: u8x16) -> u64
     ensures { result ≡ mask_l (map needs_escape vector) }

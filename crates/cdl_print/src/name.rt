@@ -25,8 +25,8 @@ pub fn put_name<W: Sink>(sink: &mut W, name: &[u8]) -> Result<(), WriteFailed>
     put_escaped(sink, Quoting::InName, name)
 }
 
-/// Writes a backslash if the first byte of the name is a digit, `.`, `@`, `+` or `-`, or if the name is a reserved word. Otherwise
-/// writes nothing.
+/// Writes a backslash if the first byte of the name is a digit, `.`, `@`, `+` or `-`, or if the name is a reserved word. Otherwise writes
+/// nothing. Errs if the sink fails.
 #[tactic(auto, using(devices::proofs::Writes::writes), unfolding(crate::specs::code::Pieces::prefix_escape))]
 fn put_leading_backslash<W: Sink>(sink: &mut W, name: &[u8]) -> Result<(), WriteFailed>
     ensures { Wrote W.view sink.old sink.new (prefix_escape name.now) result }

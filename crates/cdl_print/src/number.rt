@@ -14,7 +14,7 @@ use nc_base::{NcType, number_of};
 const MOST: usize = 26;
 
 /// Writes the numbers of an attribute of the type `ty`, each with the suffix of the type, joined by `, `. `vals` has the numbers,
-/// big-endian. Bytes at the end that are no whole number are left out.
+/// big-endian. Bytes at the end that are no whole number are left out. Errs if the sink fails.
 pub fn put_numbers<W: Sink>(sink: &mut W, ty: NcType, vals: &[u8]) -> Result<(), WriteFailed>
     ensures { Wrote W.view sink.old sink.new (numbers_text ty vals.now) result }
 {
@@ -31,7 +31,7 @@ pub fn put_numbers<W: Sink>(sink: &mut W, ty: NcType, vals: &[u8]) -> Result<(),
 
 /// Puts numbers of the type `ty` at the start of `text`, as many of the first numbers of `vals` as surely fit, and at least one. Each has
 /// the suffix of the type, and a comma and a space after it unless it is the last of `vals`. Returns the offset at which they end, and the
-/// bytes of the other numbers. `vals` has at least one number, big-endian. Needs room for 26 bytes in `text` ([`MOST`]).
+/// bytes of the other numbers. Needs at least one number in `vals`, big-endian, and room for 26 bytes in `text` ([`MOST`]).
 fn gather_numbers<'a>(text: &mut [u8], ty: NcType, vals: &'a [u8]) -> (usize, &'a [u8])
     requires some { size_of ty ≤ length vals.now }
     requires fits { 26 ≤ length text.old }
@@ -51,7 +51,8 @@ fn gather_numbers<'a>(text: &mut [u8], ty: NcType, vals: &'a [u8]) -> (usize, &'
 }
 
 /// Puts the number of the type `ty` that has the big-endian bytes `value` at the offset `at` of `text`, with the suffix of the type, and
-/// then a comma and a space unless `is_last`. Returns the offset at which they end. Needs room for 26 bytes in `text` ([`MOST`]).
+/// then a comma and a space unless `is_last`. Returns the offset at which they end. Needs a whole number in `value`, and room for 26 bytes
+/// in `text` ([`MOST`]).
 #[tactic(auto, unfolding(crate::specs::code::Pieces::number_text, nc_base::specs::Bytes::concat_parts))]
 #[inline(always)]
 fn put_suffixed_number(text: &mut [u8], at: usize, ty: NcType, value: &[u8], is_last: bool) -> usize

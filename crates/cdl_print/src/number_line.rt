@@ -26,9 +26,9 @@ pub struct LastLine {
     pub columns_left: usize,
 }
 
-/// Puts numbers of one row, none of them the row's first, into `text` at the end of `line`, by the loop of their type. Each comes after
-/// `, `, and on a new line if it doesn't fit ([`lead_in_row`]). Returns the last line after them. `bytes` has the numbers, big-endian. Needs
-/// room for 47 bytes a number in `text`: 40 of its own, and 7 before it.
+/// Puts numbers of one row, none of them the row's first, into `text` at the end of `line`. Each comes after `, `, and on a new line if it
+/// doesn't fit ([`lead_in_row`]). Returns the last line after them. `bytes` has the numbers, big-endian; the clause `more` speaks only of
+/// numbers that the row has left. Needs room for 47 bytes a number in `text`: 40 of its own, and 7 before it.
 pub fn gather_at_end(
     text: &mut [u8],
     line: LastLine,
@@ -52,8 +52,8 @@ pub fn gather_at_end(
     }
 }
 
-/// Puts numbers as [`gather_at_end`] does, into which it is inlined once for each type: `ty` is the type of `layout`, given as a constant,
-/// so each type has a loop of its own.
+/// Puts numbers as [`gather_at_end`] does, which inlines this function once for each type, and needs the same room. Needs the type of
+/// `layout` as `ty`, a constant there, so that each type has a loop of its own.
 #[inline(always)]
 fn gather_typed(
     ty: NcType,
@@ -80,8 +80,8 @@ fn gather_typed(
 }
 
 /// Puts a number that isn't its row's first into `text` at the end of `line`, after `, `, and on a new line if it doesn't fit. Returns the
-/// last line after it. `value` has the number's bytes, big-endian, as a value of the type `ty`. Needs a `fill` made of `layout`, and room
-/// for 47 bytes in `text`.
+/// last line after it. Needs all bytes of the number in `value`, big-endian, as a value of the type `ty`, a `fill` made of `layout`, and
+/// room for 47 bytes in `text`.
 #[inline(always)]
 fn put_next_value(
     ty: NcType,
@@ -104,8 +104,8 @@ fn put_next_value(
     }
 }
 
-/// Puts a byte's number that isn't its row's first, as `_` or in decimal, into `text` at the end of `line`, after `, `, and on a new line if
-/// it doesn't fit. Returns the last line after it. No branch depends on the number, unless it prints as `_` or begins a line. Needs a
+/// Puts a byte's number that isn't its row's first, as `_` or in decimal, into `text` at the end of `line`, after `, `, and on a new line
+/// if it doesn't fit. Returns the last line after it. No branch depends on the number, unless it prints as `_` or begins a line. Needs a
 /// `fill` made of `layout`, a number from -128 to 255, and room for 47 bytes in `text`, as for any number.
 #[inline(always)]
 fn put_next_byte_number(
@@ -160,8 +160,8 @@ fn put_next_number(
     }
 }
 
-/// Puts a comma, a space and a number below 100 at the end of the line, and returns the line after them. Needs at least six columns left:
-/// four for these, and two after them, so that no line begins before the number. Needs room for four bytes in `text`.
+/// Puts a comma, a space and `n` at the end of the line, and returns the line after them. Needs an `n` below 100, room for four bytes in
+/// `text`, and at least six columns left: four for these, and two after them, so that no line begins before the number.
 #[inline(always)]
 fn put_below_100(text: &mut [u8], line: LastLine, n: u64) -> LastLine
     requires below_100 { n < 100 }
@@ -231,8 +231,8 @@ struct NumberStart {
 }
 
 /// Puts `, ` at the end of the line in `text`, and a new line after it if a number of `len` bytes and two bytes more don't fit on this one.
-/// Doesn't put the number. Returns where it begins, and how many columns are left after it.
-/// `width` is how many bytes a line may have. Needs a `len` of at most 40, and room for 7 bytes in `text`: `, `, LF and four spaces.
+/// Doesn't put the number. Returns where it begins, and how many columns are left after it. `width` is how many bytes a line may have.
+/// Needs a `len` of at most 40, and room for 7 bytes in `text`: `, `, LF and four spaces.
 #[inline(always)]
 fn put_lead_in_row(text: &mut [u8], line: LastLine, width: usize, len: usize) -> NumberStart
     requires short { len ≤ 40 }

@@ -17,12 +17,13 @@ use nc_base::number_of;
 /// How many numbers are written at once. Each takes at most 47 bytes: 40 of its own, and 7 that stand before it.
 const NUMBERS_AT_ONCE: usize = 80;
 
-/// A buffer for the text of numbers that are written at once.
+/// A buffer for the text of numbers, or of characters of a row, that are written at once.
 pub type TextBuffer = [u8; 4096];
 
-/// Writes the next numbers of a variable, each after its lead ([`TextLayout::number_lead`]), and moves `progress` past them. `bytes` has the
-/// numbers, big-endian. `text` is a buffer in which at most 80 of them at a time are gathered, and may hold anything. If the sink fails,
-/// `progress` may be past numbers that weren't written.
+/// Writes the next numbers of a variable, each after its lead: spaces, a comma or a line break ([`TextLayout::number_lead`]). Moves
+/// `progress` past them. Needs a `layout` of numbers, and in `bytes`, big-endian, no more of them than the variable has left. `text` is a
+/// buffer in which at most 80 of them at a time are gathered, and may hold anything. Errs if the sink fails; `progress` may then be past
+/// unwritten numbers.
 pub fn put_number_values<W: Sink>(
     sink: &mut W,
     layout: &TextLayout<'_>,
@@ -45,9 +46,9 @@ pub fn put_number_values<W: Sink>(
     Ok(())
 }
 
-/// Writes numbers in one piece, each after its lead ([`TextLayout::number_lead`]), and moves `progress` past them, even if the sink fails.
-/// `bytes` has the numbers, big-endian, and `text` is a buffer for their text. Needs at most 80 numbers ([`NUMBERS_AT_ONCE`]), so that their text
-/// fits.
+/// Writes numbers in one piece, each after its lead ([`TextLayout::number_lead`]), and moves `progress` past them. If the sink fails, it
+/// errs after it has moved `progress`. `text` is a buffer for their text. `bytes` has the numbers, big-endian. Needs a `layout` of numbers,
+/// no more of them than the variable has left, and at most 80 ([`NUMBERS_AT_ONCE`]), so that their text fits.
 fn put_few_numbers<W: Sink>(
     sink: &mut W,
     layout: &TextLayout<'_>,
@@ -65,8 +66,9 @@ fn put_few_numbers<W: Sink>(
     put(sink, &text[..end])
 }
 
-/// Puts numbers at the start of `text`, each after its lead ([`TextLayout::number_lead`]), moves `progress` past them, and returns the offset at
-/// which they end. `bytes` has the numbers, big-endian. Needs room for 47 bytes a number in `text`: 40 of its own, and 7 of its lead.
+/// Puts numbers at the start of `text`, each after its lead ([`TextLayout::number_lead`]), moves `progress` past them, and returns the
+/// offset at which they end. `bytes` has the numbers, big-endian. Needs a `layout` of numbers, no more of them than the variable has left,
+/// and room for 47 bytes a number in `text`: 40 of its own, and 7 of its lead.
 fn gather_numbers(
     text: &mut [u8],
     layout: &TextLayout<'_>,
@@ -95,8 +97,8 @@ fn gather_numbers(
     end
 }
 
-/// Returns how many bytes at the start of `bytes` are whole values of the row that has begun, as `progress` says. Returns 0 if the next
-/// value is its row's first.
+/// Returns how many bytes at the start of `bytes` are whole values of the row that has begun, as `progress` says: 0 if the next value is
+/// its row's first. The clauses promise only that the row has at least as many values left.
 fn len_in_row(layout: &TextLayout<'_>, progress: &Progress, bytes: &[u8]) -> usize
     ensures whole { AreWhole layout.now (take result bytes.now) }
     ensures within { result ≤ length bytes.now }
@@ -108,9 +110,9 @@ fn len_in_row(layout: &TextLayout<'_>, progress: &Progress, bytes: &[u8]) -> usi
     count * size
 }
 
-/// Puts the lead before the next number ([`TextLayout::number_lead`]) and the number, which may be its row's first, at the offset `at` of `text`.
-/// Moves `progress` past the number, and returns the offset at which it ends. `value` has its big-endian bytes. Needs room for 47 bytes in
-/// `text` ([`NUMBERS_AT_ONCE`]).
+/// Puts the lead before the next number ([`TextLayout::number_lead`]) and the number, which may be its row's first, at the offset `at` of
+/// `text`. Moves `progress` past the number, and returns the offset at which it ends. Needs the number's bytes in `value`, big-endian, a
+/// value that the variable has left, and room for 47 bytes in `text`: 40 of the number, and 7 of its lead.
 fn gather_number(
     text: &mut [u8],
     at: usize,
@@ -142,8 +144,9 @@ fn gather_number(
 }
 
 /// Puts numbers of one row, none of them the row's first, at the offset `at` of `text`, one after the other, each after its lead
-/// ([`TextLayout::number_lead`]). Moves `progress` past them, and returns the offset at which they end. `bytes` must have whole numbers,
-/// big-endian, and no more than the row still has. Needs room for 47 bytes a number in `text`: 40 of its own, and 7 of its lead.
+/// ([`TextLayout::number_lead`]). Moves `progress` past them, and returns the offset at which they end. `bytes` has the numbers,
+/// big-endian. Needs a `layout` of numbers, only whole ones, no more than the row and the variable have left, and room for 47 bytes a
+/// number in `text`: 40 of its own, and 7 of its lead.
 fn gather_in_row(
     text: &mut [u8],
     at: usize,

@@ -11,8 +11,7 @@ use crate::name::{needs_leading_backslash, put_name};
 use devices::{Sink, WriteFailed, put};
 use nc_base::Quoting;
 
-/// Writes what stands before the values of the variable with this name: a line feed, a space, the name with its
-/// escapes, and ` =`.
+/// Writes what stands before the values of a variable: a line feed, a space, its `name` with escapes, and ` =`. Errs if the sink fails.
 #[tactic(auto, using(devices::proofs::Writes::writes))]
 pub fn put_opening<W: Sink>(sink: &mut W, name: &[u8]) -> Result<(), WriteFailed>
     ensures { Wrote W.view sink.old sink.new (opening_of name.now) result }
@@ -29,7 +28,8 @@ pub fn columns_left_after_opening(width: usize, name: &[u8]) -> usize
     columns_left_after_name(width, name).saturating_sub(2)
 }
 
-/// Returns how many columns are left on a line of this width after a space and a name with its escapes.
+/// Returns how many bytes more a line of `width` bytes may have after a space and a name with its escapes, or 0 if it is full. A line feed
+/// in the name begins a new line.
 fn columns_left_after_name(width: usize, name: &[u8]) -> usize
     ensures { result ≡ width - column (codes "\n " ++ escaped_name name.now) }
 {
@@ -41,8 +41,8 @@ fn columns_left_after_name(width: usize, name: &[u8]) -> usize
     columns_left
 }
 
-/// Returns how many columns are left on a line of this width after the byte `b` of a name, with the backslash that it may need.
-/// `columns_left` is how many were left before it. The result is 0 if the line is full, and the whole width after a line feed.
+/// Returns how many bytes more (columns) a line of `width` bytes may have after the byte `b` of a name, with the backslash that it may
+/// need. `columns_left` is how many it may have before that. The result is 0 if the line is full, and `width` after a line feed.
 fn columns_left_after_byte(width: usize, columns_left: usize, b: u8) -> usize
     ensures { LeavesColumns width columns_left (escaped_in_name b) result }
 {

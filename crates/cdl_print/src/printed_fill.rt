@@ -17,7 +17,8 @@ pub struct PrintedFill {
 }
 
 impl PrintedFill {
-    /// Returns the fill value of a layout, in both forms in which numbers are compared with it.
+    /// Returns the fill value of a layout in both forms: for the comparison with numbers from 0 to 99, and with those that an `i64` can
+    /// hold.
     pub fn of(layout: &TextLayout<'_>) -> PrintedFill
         ensures { IsFillOf (look_at layout.now) result }
     {
@@ -36,8 +37,8 @@ impl PrintedFill {
         number >= 0 && number < 100 && number as u64 != self.below_100
     }
 
-    /// Returns true if a number prints as `_`, as [`TextLayout::prints_as_fill`] does. It is faster, since it compares 64 bits if an `i64` can
-    /// hold the number. Needs a `self` that [`PrintedFill::of`] made of `layout`.
+    /// Returns true if a number prints as `_`, as [`TextLayout::prints_as_fill`] does. It is faster, since it compares 64 bits if an `i64`
+    /// can hold the number. Needs a `self` that [`PrintedFill::of`] made of `layout`.
     #[inline(always)]
     pub fn prints(self, layout: &TextLayout<'_>, number: i128) -> bool
         requires { IsFillOf (look_at layout.now) self }
@@ -62,7 +63,8 @@ impl PrintedFill {
     }
 }
 
-/// Returns the fill value if it prints as `_` and is from 0 to 99, otherwise 100. Only numbers from 0 to 99 are compared with it.
+/// Returns the fill value if it prints as `_` and is from 0 to 99, otherwise 100. The clause promises only that no other number from 0 to
+/// 99 prints as `_`, and that the result does, if it is one of these.
 fn fill_below_100(layout: &TextLayout<'_>) -> u64
     ensures { IsFillBelow100 (look_at layout.now) result }
 {

@@ -30,8 +30,8 @@ pub struct ValuePrinter<'a> {
 }
 
 impl<'a> ValuePrinter<'a> {
-    /// Returns the printer of the variable at index `v` over `records` records, which breaks lines of numbers at this width. Needs a sound
-    /// header (`nc_base::Header::sound`).
+    /// Returns a printer of the values of the variable at the index `v`, if there are `records` records. It breaks a line of numbers at
+    /// `width` bytes. Needs a sound header (`nc_base::Header::sound`) that has such a variable.
     pub fn new(header: &'a Header, v: usize, records: u64, width: usize) -> ValuePrinter<'a>
         requires sound { IsSound header.now }
         requires there { v < length header.now.vars }
@@ -90,8 +90,8 @@ impl<'a> ValuePrinter<'a> {
     }
 
     /// Writes the next values of the variable. `bytes` must have whole values, big-endian and one after the other, and no more of them than
-    /// the variable has left, as [`takes`](ValuePrinter::takes) tests. Their text is gathered in `text`, which may hold anything: one buffer
-    /// serves all variables.
+    /// the variable has left, as [`takes`](ValuePrinter::takes) tests. Their text is gathered in `text`, which may hold anything: one
+    /// buffer serves all variables. NULs that may end a row of characters can be held back until another character follows in the row.
     ///
     /// # Errors
     ///
@@ -144,9 +144,9 @@ impl<'a> ValuePrinter<'a> {
     }
 }
 
-/// Writes the next values of a variable, by [`put_char_values`] or [`put_number_values`], and moves `progress` past them. `bytes` has them,
-/// big-endian; they must be no more than the variable has left. `text` is a buffer for their text, and may hold anything. After an error
-/// `progress` may be anything.
+/// Writes the next values of a variable, by [`put_char_values`] or [`put_number_values`], and moves `progress` past them. Needs in `bytes`,
+/// big-endian, no more of them than the variable has left. `text` is a buffer for their text, and may hold anything. Errs if the sink
+/// fails; then `progress` may be anything.
 fn put_next_values<W: Sink>(
     sink: &mut W,
     layout: &TextLayout<'_>,

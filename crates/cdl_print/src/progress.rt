@@ -18,7 +18,7 @@ pub struct Progress {
 }
 
 /// Returns the index in its row of the value that comes after `count` values of one row, the first of them at `row_index`. This is
-/// `row_index + count`, or 0 if that is `row`, the number of values of a row: then the next row begins.
+/// `row_index + count`, or 0 if that is `row`, the number of values of a row: then the next row begins. Needs a sum below 2^128.
 pub fn row_index_after(row: u128, row_index: u128, count: u128) -> u128
     requires { row_index + count < 2 ^ 128 }
     ensures row_index { result ≡ (if row_index + count == row then 0 else row_index + count) }

@@ -11,7 +11,7 @@ use devices::{Sink, WriteFailed, put};
 use nc_base::Quoting;
 
 /// Writes the bytes of a string with their escapes. The string is closed and opened again (`",`, a new line, three tabs and `"`) after each
-/// line feed that isn't its last byte. The string's first and last quotes are left to the caller.
+/// line feed that isn't its last byte. The string's first and last quotes are left to the caller. Errs if the sink fails.
 pub fn put_broken_text<W: Sink>(sink: &mut W, bytes: &[u8]) -> Result<(), WriteFailed>
     ensures { Wrote W.view sink.old sink.new (broken_text bytes.now) result }
 {
@@ -24,7 +24,7 @@ pub fn put_broken_text<W: Sink>(sink: &mut W, bytes: &[u8]) -> Result<(), WriteF
     Ok(())
 }
 
-/// Returns the length of the first line with its line feed, or of all bytes if there is no line feed.
+/// Returns how many bytes the first line has, with its line feed: all of `bytes` if there is no line feed.
 #[tactic(auto, using(crate::proofs::Runs::lines))]
 fn line_len(bytes: &[u8]) -> usize
     ensures { result ≡ line_len bytes.now }
@@ -42,8 +42,8 @@ fn line_feed_offset(bytes: &[u8]) -> Option<usize>
     bytes.iter().position(|b| *b == b'\n')
 }
 
-/// Writes a line of a string with its escapes. Unless `is_last`, then closes the string and opens it again on the next line of the
-/// dump.
+/// Writes a line of a string with its escapes. Unless `is_last`, then closes the string and opens it again on the next line of the dump.
+/// Errs if the sink fails.
 #[tactic(auto, using(devices::proofs::Writes::writes), unfolding(crate::specs::code::Pieces::line_text, nc_base::specs::Escapes::escaped_text))]
 fn put_line<W: Sink>(sink: &mut W, line: &[u8], is_last: bool) -> Result<(), WriteFailed>
     ensures { Wrote W.view sink.old sink.new (line_text line.now is_last) result }

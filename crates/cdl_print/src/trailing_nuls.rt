@@ -18,8 +18,8 @@ pub fn without_trailing_nuls(bytes: &[u8]) -> &[u8]
     &bytes[..len]
 }
 
-/// Returns the length of the bytes without the blocks of [`BLOCK`] NULs at their end. Fewer than [`BLOCK`] of the NULs at their end are
-/// left then.
+/// Returns the length of the bytes without the blocks of 16 NULs ([`BLOCK`]) at their end. Fewer than 16 of the NULs at their end are left
+/// then, but no clause says so: only that what is left out is NULs.
 fn len_without_nul_blocks(bytes: &[u8]) -> usize
     ensures within { result ≤ length bytes.now }
     ensures only_nuls { result + suffix_len (λ b. b == 0) bytes.now

@@ -12,7 +12,7 @@ use devices::{Sink, WriteFailed, put};
 use nc_base::{Dim, NcType, Var};
 
 /// Writes the heading `variables:`, and the declaration and the attributes of each variable, or nothing if there are no variables. `dims`
-/// has the header's dimensions, whose names the declarations show.
+/// has the header's dimensions, whose names the declarations show. Errs if the sink fails.
 #[tactic(auto, using(devices::proofs::Writes::writes), unfolding(nc_base::specs::HeadText::vars_text, crate::specs::code::Pieces::var_rows))]
 pub fn put_vars<W: Sink>(sink: &mut W, dims: &[Dim], vars: &[Var]) -> Result<(), WriteFailed>
     ensures { Wrote W.view sink.old sink.new (vars_text dims.now vars.now) result }
@@ -24,7 +24,7 @@ pub fn put_vars<W: Sink>(sink: &mut W, dims: &[Dim], vars: &[Var]) -> Result<(),
 }
 
 /// Writes the heading `variables:` and the lines of all variables. It is called only if there are some. `dims` has the header's dimensions,
-/// whose names the declarations show.
+/// whose names the declarations show. Errs if the sink fails.
 #[tactic(auto, using(devices::proofs::Writes::writes))]
 fn put_vars_section<W: Sink>(sink: &mut W, dims: &[Dim], vars: &[Var]) -> Result<(), WriteFailed>
     ensures { Wrote W.view sink.old sink.new (vars_part dims.now vars.now) result }
@@ -34,7 +34,7 @@ fn put_vars_section<W: Sink>(sink: &mut W, dims: &[Dim], vars: &[Var]) -> Result
 }
 
 /// Writes the lines of each variable, one variable after the other, without a heading. `dims` has the header's dimensions, whose names the
-/// declarations show.
+/// declarations show. Errs if the sink fails.
 #[tactic(auto, using(devices::proofs::Writes::writes), unfolding(crate::specs::code::Pieces::var_rows))]
 fn put_each_var<W: Sink>(sink: &mut W, dims: &[Dim], vars: &[Var]) -> Result<(), WriteFailed>
     ensures { Wrote W.view sink.old sink.new (var_rows dims.now vars.now) result }
@@ -46,7 +46,7 @@ fn put_each_var<W: Sink>(sink: &mut W, dims: &[Dim], vars: &[Var]) -> Result<(),
 }
 
 /// Writes the lines of a variable: its declaration and its attributes. `dims` has the header's dimensions, whose names the declaration
-/// shows.
+/// shows. Errs if the sink fails.
 #[tactic(auto, using(devices::proofs::Writes::writes), unfolding(nc_base::specs::HeadText::var_lines))]
 fn put_var_lines<W: Sink>(sink: &mut W, dims: &[Dim], var: &Var) -> Result<(), WriteFailed>
     ensures { Wrote W.view sink.old sink.new (var_lines dims.now var.now) result }
@@ -57,7 +57,8 @@ fn put_var_lines<W: Sink>(sink: &mut W, dims: &[Dim], var: &Var) -> Result<(), W
     put_att_lines(sink, var.name.as_slice(), var.atts.as_slice())
 }
 
-/// Writes what the declaration of a variable begins with: a tab, the word of its type, a space and its name.
+/// Writes the beginning of a variable's declaration: a tab, the word of its type, a space and its name with escapes. Errs if the sink
+/// fails.
 #[tactic(auto, using(devices::proofs::Writes::writes))]
 fn put_type_and_name<W: Sink>(sink: &mut W, ty: NcType, name: &[u8]) -> Result<(), WriteFailed>
     ensures { Wrote W.view sink.old sink.new (type_and_name ty name.now) result }
@@ -69,7 +70,7 @@ fn put_type_and_name<W: Sink>(sink: &mut W, ty: NcType, name: &[u8]) -> Result<(
 }
 
 /// Writes the names of a variable's dimensions with their escapes, in parentheses and joined by `, `, or nothing if it has no dimension.
-/// `dimids` has the ids of these dimensions, which are indexes into `dims`, the header's dimensions.
+/// `dimids` has the ids of these dimensions, which are indexes into `dims`, the header's dimensions. Errs if the sink fails.
 #[tactic(auto, using(devices::proofs::Writes::writes), unfolding(nc_base::specs::HeadText::shape_text))]
 fn put_shape<W: Sink>(sink: &mut W, dims: &[Dim], dimids: &[u64]) -> Result<(), WriteFailed>
     ensures { Wrote W.view sink.old sink.new (shape_text dims.now dimids.now) result }
@@ -80,8 +81,8 @@ fn put_shape<W: Sink>(sink: &mut W, dims: &[Dim], dimids: &[u64]) -> Result<(), 
     put_dim_list(sink, dims, dimids)
 }
 
-/// Writes the names of the dimensions with the ids `dimids`, their indexes in `dims`, in parentheses and joined by `, `. It is called only
-/// if there are some.
+/// Writes the names of the dimensions with the ids `dimids`, their indexes in `dims`, in parentheses and joined by `, `, with their
+/// escapes. It is called only if there are some. Errs if the sink fails.
 #[tactic(auto, using(devices::proofs::Writes::writes))]
 fn put_dim_list<W: Sink>(sink: &mut W, dims: &[Dim], dimids: &[u64]) -> Result<(), WriteFailed>
     ensures { Wrote W.view sink.old sink.new (dim_list dims.now dimids.now) result }
@@ -91,7 +92,8 @@ fn put_dim_list<W: Sink>(sink: &mut W, dims: &[Dim], dimids: &[u64]) -> Result<(
     put(sink, b")")
 }
 
-/// Writes the names of the dimensions with the ids `dimids`, joined by `, ` and without parentheses.
+/// Writes the names of the dimensions with the ids `dimids`, their indexes in `dims`, with their escapes, joined by `, ` and without
+/// parentheses. Errs if the sink fails.
 fn put_dim_names<W: Sink>(sink: &mut W, dims: &[Dim], dimids: &[u64]) -> Result<(), WriteFailed>
     ensures { Wrote W.view sink.old sink.new (joined (map (dim_name dims.now) dimids.now)) result }
 {
@@ -103,7 +105,8 @@ fn put_dim_names<W: Sink>(sink: &mut W, dims: &[Dim], dimids: &[u64]) -> Result<
     Ok(())
 }
 
-/// Writes the name of the dimension with the id `dimid`, and then a comma and a space, unless it is the last of its shape (`is_last`).
+/// Writes the name of the dimension with the id `dimid`, its index in `dims`, with its escapes ([`put_bare_dim_name`]), and then a comma
+/// and a space, unless it is the last of its shape (`is_last`). Errs if the sink fails.
 #[tactic(auto, using(devices::proofs::Writes::writes), unfolding(crate::specs::code::Pieces::dim_text))]
 fn put_dim_name<W: Sink>(
     sink: &mut W,
@@ -120,8 +123,8 @@ fn put_dim_name<W: Sink>(
     put(sink, b", ")
 }
 
-/// Writes the name of the dimension with the id `dimid`, its index in `dims`, without a comma after it. Writes nothing if `dims` has no
-/// such dimension.
+/// Writes the name of the dimension with the id `dimid`, its index in `dims`, with its escapes, and no comma after it. Writes nothing if
+/// `dims` has no such dimension. Errs if the sink fails.
 #[tactic(auto, using(devices::proofs::Writes::writes))]
 fn put_bare_dim_name<W: Sink>(sink: &mut W, dims: &[Dim], dimid: u64) -> Result<(), WriteFailed>
     ensures { Wrote W.view sink.old sink.new (dim_name dims.now dimid) result }

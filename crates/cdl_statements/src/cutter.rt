@@ -11,7 +11,8 @@ use cdl_tokens::{Scanner, Token};
 use nc_base::Version;
 use std::alloc::AllocError;
 
-/// Cuts a text into its statements (the CDL chapter of the NetCDF User's Guide, "CDL Syntax").
+/// Cuts a text into its statements (the CDL chapter of the NetCDF User's Guide, "CDL Syntax"). It is a cursor: it stands before a token,
+/// the next one.
 ///
 /// [`next`](Cutter::next) returns a whole statement. [`advance`](Cutter::advance) passes one token and does not allocate.
 #[derive(Clone, Copy)]
@@ -36,7 +37,7 @@ impl<'a> Cutter<'a> {
     ghost use Rattle.cdl_statements.specs.code.ListedTokens.{EndsAtScanner, IsAtComma, Passes, PassesString};
     ghost use Rattle.cdl_statements.specs.code.Views.{lexeme_of};
 
-    /// Creates a cutter at the start of a text, which is read for this version.
+    /// Creates a cutter at the start of a text, which is read for this version of the format.
     pub fn new(text: &'a [u8], version: Version) -> Cutter<'a>
         ensures pieces { pieces_left result ≡ statements text.now }
         ensures text { text_of result ≡ text.now }
@@ -69,7 +70,7 @@ impl<'a> Cutter<'a> {
         self.done
     }
 
-    /// Returns the next token, without its place. It doesn't pass the token.
+    /// Returns the kind and the bytes of the next token, the first that is left of its statement. The cutter doesn't move.
     #[inline]
     pub fn lexeme(&self) -> Lexeme<'a>
         ensures lexeme { lexeme_of result ≡ lexeme (text_of self.now) (next_token self.now) }
@@ -78,7 +79,8 @@ impl<'a> Cutter<'a> {
         Lexeme::of(self.next, self.scanner.text())
     }
 
-    /// Returns the line of the next token, from 1 on. Between two statements this is the line where the second one begins.
+    /// Returns the line of the next token, from 1 on. Between two statements this is the line where the second one begins. The contract
+    /// leaves out a cutter that has no statement left.
     pub fn line(&self) -> u64
         ensures { is_done self.now ≡ false → result ≡ first_line (pieces_left self.now) }
     {
@@ -117,7 +119,7 @@ impl<'a> Cutter<'a> {
         }
     }
 
-    /// Passes the next token, and returns true if it is the last of its statement. Needs a cutter that isn't done. Does not allocate.
+    /// Passes the next token, and returns true if it is the last of its statement. Needs a statement that is left. Does not allocate.
     #[inline]
     pub fn advance(&mut self) -> bool
         requires { is_done self.old ≡ false }
@@ -138,7 +140,7 @@ impl<'a> Cutter<'a> {
         found.ends
     }
 
-    /// Returns true if the next token is a comma inside of a statement: neither its first token nor after the closing brace. Then
+    /// Returns true only if the next token is a comma inside of a statement: neither its first token nor after the closing brace. Then
     /// [`token_and_comma`](Cutter::token_and_comma) and [`string_and_comma`](Cutter::string_and_comma) may be called.
     pub fn is_at_comma(&self) -> bool
         ensures { result ≡ true → IsAtComma self.now }
@@ -148,7 +150,8 @@ impl<'a> Cutter<'a> {
 
     /// Looks, after the comma that the cutter is at, for a string without an escape or a line feed and then a second comma, with only white
     /// space between the three. If they are there, moves to the second comma, and returns the string's bytes with the quotes. Otherwise
-    /// returns `None`, and the cutter stays where it is. Does not allocate. The quick pass over rows of characters calls it.
+    /// returns `None` (no clause says when), and the cutter stays where it is. Needs a cutter at a comma
+    /// ([`is_at_comma`](Cutter::is_at_comma)). Does not allocate.
     #[inline(always)]
     pub fn string_and_comma(&mut self) -> Option<&'a [u8]>
         requires { IsAtComma self.old }
@@ -164,8 +167,8 @@ impl<'a> Cutter<'a> {
 
     /// Looks, after the comma that the cutter is at, for a token of the role `Other` (no opening, no word of a section, none of `: ; }`)
     /// and then a second comma, with only white space before it. If they are there, moves to the second comma, and returns the token.
-    /// Otherwise returns `None`, and the cutter stays where it is. Does not allocate. The quick pass over a list calls it for the first token
-    /// between two commas, and for each that it takes neither by a [`NumberList`](crate::NumberList) nor as a plain string.
+    /// Otherwise returns `None` (no clause says when), and the cutter stays where it is. Needs a cutter at a comma
+    /// ([`is_at_comma`](Cutter::is_at_comma)). Does not allocate.
     #[inline(always)]
     pub fn token_and_comma(&mut self) -> Option<Lexeme<'a>>
         requires { IsAtComma self.old }
@@ -191,7 +194,8 @@ impl<'a> Cutter<'a> {
         self.scanner
     }
 
-    /// Makes `comma` the next token. Needs a comma of the same statement, and a `scanner` that stands just after this comma.
+    /// Makes `comma` the next token, and `scanner` the scanner after it. Needs a token of the role `Other`. It has to be a comma of the
+    /// same statement, and `scanner` has to stand just after it, but no clause says so.
     #[inline(always)]
     pub(crate) fn move_to_comma(&mut self, comma: Token, scanner: Scanner<'a>)
         requires { role_in (scanners.text_of scanner) comma ≡ Role.Other }
@@ -207,7 +211,7 @@ impl<'a> Cutter<'a> {
     }
 
     /// Returns the cutter after the next token, and true if this token is the last of its statement. It is [`advance`](Cutter::advance) on
-    /// a copy of the cutter. Needs a cutter that isn't done. Does not allocate.
+    /// a copy of the cutter. Needs a statement that is left. Does not allocate.
     pub fn advanced(self) -> (Cutter<'a>, bool)
         requires { is_done self ≡ false }
         ensures same { SameText self.entry result.0 }
@@ -223,21 +227,22 @@ impl<'a> Cutter<'a> {
     }
 }
 
-/// Returns true for the state `Inside`: tokens of a statement that isn't whole yet come before the next token.
+/// Returns true only for the state `Inside`: tokens of a statement that isn't whole yet come before the next token.
 fn is_inside(state: CutState) -> bool
     ensures { result ≡ true → state ≡ CutState.Inside }
 {
     matches!(state, CutState::Inside)
 }
 
-/// Returns true for `Other`, the role of a token that is no opening, no word of a section, none of `: ; }` and not the end of the text.
+/// Returns true only for `Other`, the role of a token that is no opening, no word of a section, none of `: ; }` and not the end of the
+/// text.
 fn is_other(role: Role) -> bool
     ensures { result ≡ true → role ≡ Role.Other }
 {
     matches!(role, Role::Other)
 }
 
-/// Empties `into`, which could not be extended, and returns `refusal` as the error.
+/// Empties `into`, and returns `refusal`, the error of a failed `push`, as the error.
 fn clear_and_fail(into: &mut Vec<Token>, refusal: AllocError) -> Result<bool, AllocError>
     ensures empty { into.new.items ≡ [] }
     ensures err { IsErr result }

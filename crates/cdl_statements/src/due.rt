@@ -7,7 +7,7 @@ use crate::lexeme::Lexeme;
 use crate::section::Section;
 use cdl_tokens::TokenKind;
 
-/// Which token has to come next in a statement, for the statement to have its shape.
+/// Which token is due: which one has to come next, for a statement to have its shape (an order of tokens that its section allows).
 #[derive(Clone, Copy, Debug, PartialEq, Eq)]
 pub enum Due {
     /// The first token of a statement in this section.
@@ -54,8 +54,9 @@ impl Due {
     ghost use Rattle.cdl_statements.specs.code.DueTokens.{is_whole, next, next_first, next_if, separator};
     ghost use Rattle.cdl_statements.specs.code.Views.{lexeme_of};
 
-    /// Returns which token is due (has to come next) after `token`, in whose place `self` was due. Returns `Nothing` if the statement is
-    /// whole with `token`, and `Never` if `token` isn't what was due (the CDL chapter of the NetCDF User's Guide, "CDL Syntax").
+    /// Returns which token is due (has to come next) after `token`; `self` is what was due at `token` itself. Returns `Nothing` if the
+    /// statement is whole with `token`, and `Never` if `token` isn't what was due (the CDL chapter of the NetCDF User's Guide, "CDL
+    /// Syntax").
     #[inline]
     #[tactic(auto, unfolding(crate::specs::code::DueTokens::next))]
     pub fn after(self, token: Lexeme<'_>) -> Due
@@ -71,9 +72,9 @@ impl Due {
         }
     }
 
-    /// Returns which token is due after `token`, in whose place `self` was due, by a table of all tokens that may be due: `Nothing` if the
-    /// statement is whole with `token`, and `Never` if `token` isn't what was due. [`after`](Due::after) calls it unless a constant or the
-    /// separator after one was due.
+    /// Returns which token is due after `token`, by a table of all tokens that may be due; `self` is what was due at `token` itself.
+    /// Returns `Nothing` if the statement is whole with `token`, and `Never` if `token` isn't what was due. [`after`](Due::after) calls it
+    /// unless a constant or the separator after one was due.
     #[inline(never)]
     #[tactic(auto, unfolding(crate::specs::code::DueTokens::next))]
     fn after_in_table(self, token: Lexeme<'_>) -> Due
@@ -177,7 +178,7 @@ impl Due {
     }
 
     /// Returns which token is due after `token`, the separator of a list: `due` after a comma, since the list goes on, and `Nothing` after
-    /// a semicolon, since the statement is whole. Returns `Never` if `token` is any other token.
+    /// a semicolon, since the statement is whole. Returns `Never` if `token` is neither.
     fn separator(due: Due, token: Lexeme<'_>) -> Due
         ensures { result ≡ separator due (lexeme_of token.entry) }
     {
@@ -188,7 +189,8 @@ impl Due {
         }
     }
 
-    /// Returns `due`, but only if `test` is true, that is, if a token is the one that was due. Otherwise returns `Never`.
+    /// Returns `due` (what has to come next) if `is_allowed` is true: the token that was just read is one that the shape allows in its
+    /// place. Otherwise returns `Never`.
     fn next_if(is_allowed: bool, due: Due) -> Due
         ensures { result ≡ next_if is_allowed due }
     {

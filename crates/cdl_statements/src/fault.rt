@@ -27,7 +27,7 @@ pub enum CdlKind {
     UnknownVariable,
     /// The type `float`, `real` or `double`.
     FloatingType,
-    /// A type word that the version doesn't have.
+    /// A word in the place of a type that is none of the version's types, such as `int64` in CDF-1.
     UnknownType,
     /// A dimension of length 0.
     ZeroDimension,
@@ -47,7 +47,7 @@ pub enum CdlKind {
     StringTooLong,
     /// A second list of values of one variable.
     DuplicateData,
-    /// A slab, a record or an array that is larger than its limit.
+    /// A slab, a record, an array or a count (of records, for example) that is larger than its limit.
     TooLarge,
 }
 

@@ -8,7 +8,7 @@ use crate::section::Section;
 use cdl_tokens::{Token, TokenKind, byte_at};
 use nc_base::is_reserved;
 
-/// A token without its place: its kind and its bytes.
+/// A token without its line and its offsets: its kind and its bytes.
 #[derive(Clone, Copy, Debug)]
 pub struct Lexeme<'a> {
     pub kind: TokenKind,
@@ -21,7 +21,7 @@ impl<'a> Lexeme<'a> {
     ghost use Rattle.cdl_statements.specs.Pieces.{section_of};
     ghost use Rattle.cdl_statements.specs.code.Views.{lexeme_of};
 
-    /// Returns `token` without its place: its kind and its bytes. `text` has to be the text that the token was read from.
+    /// Returns the kind and the bytes of `token`. `text` has to be the text that the token was read from.
     #[inline]
     pub fn of(token: Token, text: &'a [u8]) -> Lexeme<'a>
         ensures { lexeme_of result ≡ lexeme text.now token }
@@ -39,7 +39,7 @@ impl<'a> Lexeme<'a> {
         is_mark_kind(self.kind) && byte_at(self.bytes, 0) == mark
     }
 
-    /// Returns true if the token is this word, none of its bytes escaped.
+    /// Returns true if the token is the word `word`, none of its bytes escaped.
     pub fn is_word(self, word: &[u8]) -> bool
         ensures { result ≡ is_word word.now (lexeme_of self.entry) }
     {
@@ -60,7 +60,8 @@ impl<'a> Lexeme<'a> {
         is_word_kind(self.kind) && !is_reserved(self.bytes)
     }
 
-    /// Returns true if the token is a constant: a number, a string or, if `takes_fill`, an unescaped `_`, which stands for the fill value.
+    /// Returns true if the token is a constant: a number, which may be a bad one, a string or, if `takes_fill`, an unescaped `_`, which
+    /// stands for the fill value.
     pub fn is_value(self, takes_fill: bool) -> bool
         ensures { result ≡ is_value_of takes_fill (lexeme_of self.entry) self.entry.kind }
     {
@@ -70,7 +71,8 @@ impl<'a> Lexeme<'a> {
         }
     }
 
-    /// Guesses if plain values come after this value of a list. Returns false for a hexadecimal or octal number, and for a number with a
+    /// Guesses whether plain values come after this value of a list: decimal numbers with no suffix but `b`, `s` or `l`, or strings without
+    /// an escape. Returns false for a number that begins with `0` and goes on, as octal and hexadecimal ones do, and for a number with a
     /// suffix of two letters or more. A wrong guess costs time, but changes no result.
     pub fn may_precede_plain(self) -> bool {
         match (self.kind, self.bytes) {
@@ -105,7 +107,8 @@ impl<'a> Lexeme<'a> {
         }
     }
 
-    /// Returns true if the token is the unescaped word of a section that comes after the section `before`.
+    /// Returns true if the token is the unescaped word of a section that comes after the section `before`, such as `data` after
+    /// `Variables`.
     pub fn opens_section_after(self, before: Section) -> bool
         ensures { result ≡ opens_section_after before (lexeme_of self.entry) }
     {

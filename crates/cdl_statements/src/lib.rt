@@ -1,8 +1,9 @@
 //! The statements of a CDL text (the CDL chapter of the NetCDF User's Guide, and ncgen(1)).
 //!
 //! `specs/` has the definitions, from tokens to a dataset: the cut of the tokens into statements, the shapes of these, what each of them
-//! adds to the dataset so far (`State`), and what all of them mean (`Meaning`). The code has the types that the definitions and their readers
-//! share. The reader of a text, `cdl_parse`, and the laws of its meaning, `cdl_laws`, both stand on this crate, and not on each other.
+//! adds to the dataset so far (`State`), and what all of them mean (`Meaning`). The code has the types that the definitions and their
+//! readers share. The reader of a text, `cdl_parse`, and the laws of its meaning, `cdl_laws`, both stand on this crate, and not on each
+//! other.
 //!
 //! ```
 //! let mut cutter = Cutter::new(text, Version::Cdf1);

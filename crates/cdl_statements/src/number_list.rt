@@ -7,7 +7,8 @@ ghost use Rattle.cdl_statements.specs.code.NumberLists.{SamePlace, reached};
 use crate::cutter::Cutter;
 use cdl_tokens::{Numeral, Scanner};
 
-/// Reads the plain numbers, and each `_` among them, that come next in a list, from a comma on.
+/// Reads the values that come next in a list, from a comma on, as long as each is a plain number (decimal, at most 19 digits, no suffix but
+/// `b`, `s` or `l`) or a `_`.
 ///
 /// Only the scanner moves from value to value. The token of the last comma is made once, when the caller leaves the list by
 /// [`cutter`](NumberList::cutter).
@@ -34,8 +35,8 @@ impl<'a> NumberList<'a> {
     }
 
     /// If a plain number (decimal, at most 19 digits, no suffix but `b`, `s` or `l`) and a comma come next, with only white space before
-    /// each, passes both and returns the number. Otherwise returns `None`, and the list stays where it is. Needs a list that began at a comma
-    /// inside of a statement. Does not allocate.
+    /// each, passes both and returns the number. Otherwise returns `None` (no clause says when), and the list stays where it is. Needs a
+    /// list that began at a comma inside of a statement. Does not allocate.
     #[inline(always)]
     pub fn number_and_comma(&mut self) -> Option<Numeral>
         requires { IsAtComma (reached self.old) }
@@ -46,8 +47,8 @@ impl<'a> NumberList<'a> {
         Some(listed.numeral)
     }
 
-    /// If a `_` and a comma come next, with only white space before each, passes both and returns true. Otherwise returns false, and the list
-    /// stays where it is. Needs a list that began at a comma inside of a statement. Does not allocate.
+    /// If a `_` and a comma come next, with only white space before each, passes both and returns true. Otherwise returns false (no clause
+    /// says when), and the list stays where it is. Needs a list that began at a comma inside of a statement. Does not allocate.
     #[inline(always)]
     pub fn underscore_and_comma(&mut self) -> bool
         requires { IsAtComma (reached self.old) }

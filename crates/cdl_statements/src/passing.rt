@@ -11,8 +11,10 @@ use crate::due::Due;
 use crate::number_list::NumberList;
 use crate::shape_check::token_fault;
 
-/// Moves `cutter` past the good values that come next, as long as a comma stands before and after each. `due` says which token has to come
-/// next. If that isn't a separator, or no comma comes next, the cutter stays where it is. Does not allocate.
+/// Moves `cutter` past some of the values of a list that come next, to the comma after the last of them: values without a fault, each with
+/// a comma before and after it. `due` says which token has to come next. If that isn't a separator, or no comma comes next, the cutter
+/// stays where it is. No clause says how many values it passes: a caller checks the others token by token. Needs a statement that is left.
+/// Does not allocate.
 #[inline(always)]
 pub fn pass_values(cutter: &mut Cutter<'_>, due: Due)
     requires { is_done cutter.old ≡ false }
@@ -25,8 +27,9 @@ pub fn pass_values(cutter: &mut Cutter<'_>, due: Due)
     }
 }
 
-/// Passes the value that comes next if it is a good one with a comma after it, and then plain numbers if they are likely after it. Returns
-/// the cutter at the last comma. `_` counts as a value if `takes_fill` is true. Otherwise returns `start`. Needs a cutter at a comma.
+/// Passes the value that comes next if it has no fault and a comma after it, and then plain numbers if they are likely after it
+/// ([`pass_numbers`]). Returns the cutter at the last comma, or `start` if no value was passed. `_` counts as a value if `takes_fill` is
+/// true. Needs a cutter at a comma inside of a statement.
 fn pass_list(start: Cutter<'_>, takes_fill: bool) -> Cutter<'_>
     requires { IsAtComma start }
     ensures { PassesValues takes_fill start.entry result }
@@ -44,8 +47,9 @@ fn pass_list(start: Cutter<'_>, takes_fill: bool) -> Cutter<'_>
     pass_numbers(cutter, takes_fill)
 }
 
-/// Passes plain numbers that come next, and each `_` among them if `takes_fill` is true, and returns the cutter at the last comma. Needs a
-/// cutter at a comma, with its scanner just after this comma.
+/// Passes the plain numbers (decimal, at most 19 digits, no suffix but `b`, `s` or `l`) that come next, and each `_` among them if
+/// `takes_fill` is true, and returns the cutter at the last comma. Needs a cutter at a comma inside of a statement, with its scanner just
+/// after this comma.
 #[inline(never)]
 fn pass_numbers(start: Cutter<'_>, takes_fill: bool) -> Cutter<'_>
     requires at { IsAtComma start }

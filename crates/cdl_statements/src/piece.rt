@@ -67,7 +67,7 @@ fn mark_role(mark: u8) -> Role
     }
 }
 
-/// What comes before the next token.
+/// Where the cut of a text stands: what comes before the next token.
 #[derive(Clone, Copy, Debug, PartialEq, Eq)]
 pub enum CutState {
     /// A whole statement, or nothing: the next token begins a statement.
@@ -93,8 +93,9 @@ impl CutState {
     ghost use Rattle.cdl_statements.specs.code.Cutters.{is_end_role};
     ghost use Rattle.cdl_statements.specs.Pieces.{step};
 
-    /// Returns what a token does to its statement. `self` is the state before the token, `role` is its role, and `next` is the role of the
-    /// token after it.
+    /// Returns whether a token is the last of its statement, and the state before the token after it. `self` is the state before the token,
+    /// `role` is its role, and `next` is the role of the token after it. For example, the colon of `data:` ends its statement, and so does
+    /// a semicolon unless the closing brace came before it. The end of the text (`End`) always ends one.
     pub fn step(self, role: Role, next: Role) -> Step
         ensures step { result ≡ step self role next }
         ensures last { is_end_role role ≡ true → result.ends ≡ true }
@@ -114,14 +115,14 @@ impl CutState {
     }
 }
 
-/// Returns the step of a token that is the last of its statement. `state` is the state before the token that comes next.
+/// Returns the step of a token that is the last of its statement. `state` is the state in which the cutter meets the next token.
 fn step_at_end(state: CutState) -> Step
     ensures { result ≡ step_at_end state }
 {
     Step { ends: true, state }
 }
 
-/// Returns the step of a token after which its statement goes on. `state` is the state before the token that comes next.
+/// Returns the step of a token that isn't the last of its statement. `state` is the state in which the cutter meets the next token.
 fn step_within(state: CutState) -> Step
     ensures { result ≡ step_within state }
 {

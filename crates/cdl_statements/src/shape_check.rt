@@ -20,14 +20,16 @@ use nc_base::Version;
 pub struct ShapeCheck<'a> {
     /// The fault of the first bad token or bad number of the statement, or `None`.
     pub bad: Option<CdlKind>,
-    /// True if the statement has the shape that was asked for. If `bad` is a fault, this says nothing.
+    /// True if the statement has the shape that was asked for, where a bad number counts as a number.
     pub shaped: bool,
     /// The cutter after the statement.
     pub rest: Cutter<'a>,
 }
 
 /// Checks the next statement of `start`, one of the section `section`. Returns the fault of its first bad token or bad number, whether it
-/// has the shape of a statement of this section, and the cutter after it. Does not allocate.
+/// has the shape of a statement of this section (an order of tokens that the section allows), and the cutter after it. If there is no such
+/// fault and it has that shape, the statement says what its tokens say one after the other. Needs a statement that is left. Does not
+/// allocate.
 pub fn check_shape(start: Cutter<'_>, section: Section) -> ShapeCheck<'_>
     requires { is_done start ≡ false }
     ensures bad { result.bad ≡ first_bad (version_of start.entry) (words start.entry) }
@@ -42,7 +44,7 @@ pub fn check_shape(start: Cutter<'_>, section: Section) -> ShapeCheck<'_>
 /// Checks the next statement of `start`. Returns the fault of its first bad token or bad number, whether it has the shape that is asked
 /// for, and the cutter after it. Unlike [`check_shape`], it isn't given a section: `first` says which token has to come first, and
 /// [`Due::after`] which one after each token. If `first` is `DataName`, for example, the statement has to list the values of a variable.
-/// Does not allocate.
+/// Needs a statement that is left. Does not allocate.
 pub fn check_shape_by_due(start: Cutter<'_>, first: Due) -> ShapeCheck<'_>
     requires { is_done start ≡ false }
     ensures bad { result.bad ≡ first_bad (version_of start.entry) (words start.entry) }
@@ -69,8 +71,8 @@ pub fn check_shape_by_due(start: Cutter<'_>, first: Due) -> ShapeCheck<'_>
     }
 }
 
-/// Returns the fault of a token by itself: `BadToken` for a bad token, `BadNumber` for a number token that is no number of the
-/// version, otherwise `None`.
+/// Returns the fault that a token has by itself, wherever it stands: `BadToken` for a bad token, `BadNumber` for a number token that is no
+/// number or whose suffix `version` doesn't have, otherwise `None`.
 pub fn token_fault(version: Version, token: Lexeme<'_>) -> Option<CdlKind>
     ensures { result ≡ token_fault version token.entry.kind token.entry.bytes.now }
 {

@@ -4,7 +4,7 @@ ghost use Rattle.std.specs.Prelude.{◌≡◌, ◌≤◌, length, slice_index, t
 ghost use Rattle.cdl_tokens.specs.Bytes.{may_begin_word, goes_on_number, goes_on_word, is_blank, is_digit, is_escape, is_hex, is_letter, is_mark_byte, is_octal, is_sign};
 ghost use Rattle.cdl_tokens.specs.code.PlainTokens.{ends_value};
 
-/// Returns the byte at an offset, or 0 if there is none.
+/// Returns the byte at the offset `at`, or 0 if the bytes end before it.
 pub fn byte_at(bytes: &[u8], at: usize) -> u8
     ensures { result ≡ slice_index bytes.now at }
 {

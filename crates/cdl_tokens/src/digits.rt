@@ -46,7 +46,7 @@ pub fn hex_len(bytes: &[u8]) -> usize
 }
 
 /// Returns the value of `digits` in the base `base`, or `None` if the value takes more than 64 bits. The value of no digits is 0. If a byte
-/// is no digit of the base, the result means nothing.
+/// is no digit of the base, the result means nothing. Needs a base from 1 to 16.
 pub fn number_in(base: u64, digits: &[u8]) -> Option<u64>
     requires some { 1 ≤ base }
     requires small { base ≤ 16 }
@@ -60,7 +60,7 @@ pub fn number_in(base: u64, digits: &[u8]) -> Option<u64>
 }
 
 /// Returns the number that `value` becomes if the digit `b` is appended in the base `base`: `base * value` plus the digit's value. Returns
-/// `None` if this number takes more than 64 bits.
+/// `None` if this number takes more than 64 bits. Needs a base of at most 16.
 #[tactic(auto, using(crate::proofs::Sizes::small_product))]
 fn with_digit(base: u64, value: u64, b: u8) -> Option<u64>
     requires { base ≤ 16 }

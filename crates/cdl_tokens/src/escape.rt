@@ -18,8 +18,9 @@ fn byte(n: u64) -> Option<u8>
     if n > 255 { None } else { Some(n as u8) }
 }
 
-/// Returns the escape that has `mark` bytes (a backslash, or a backslash and `x`) before these digits of the base `base`. Its value is
-/// `None` if there are no digits, or if they say more than 255.
+/// Returns the escape of `mark` bytes (1 for a backslash, 2 for a backslash and `x`) and then these digits of the base `base`. Its value is
+/// the byte that the digits say, or `None` if there are no digits, or if they say more than 255. Its length counts the `mark`. Needs a
+/// `mark` of 1 or 2, and a base from 1 to 16.
 fn number_escape(mark: usize, base: u64, digits: &[u8]) -> Character
     requires some { 0 < mark }
     requires short { mark ≤ 2 }
@@ -38,7 +39,8 @@ fn number_escape(mark: usize, base: u64, digits: &[u8]) -> Character
     }
 }
 
-/// Returns the value of these octal (`base` 8) or hexadecimal (`base` 16) digits as a byte, or `None` if it is greater than 255.
+/// Returns the value of these octal (`base` 8) or hexadecimal (`base` 16) digits as a byte, or `None` if it is greater than 255. Needs a
+/// base from 1 to 16.
 fn byte_in(base: u64, digits: &[u8]) -> Option<u8>
     requires some { 1 ≤ base }
     requires small { base ≤ 16 }
@@ -88,8 +90,9 @@ fn escape(bytes: &[u8]) -> Character
     }
 }
 
-/// Returns the first character of these bytes: an escape, or a byte that stands for itself. If the bytes are a backslash alone, the length
-/// of the character is 2, more than there are bytes.
+/// Returns the first character of these bytes: an escape, or a byte that stands for itself. The value of an escape that stands for no byte,
+/// such as `\400`, is `None`. If the bytes are a backslash alone, the length of the character is 2, more than there are bytes. Needs one
+/// byte or more.
 #[tactic(auto, unfolding(crate::specs::Escapes::character))]
 #[inline(always)]
 pub fn character(bytes: &[u8]) -> Character

@@ -22,8 +22,9 @@ pub struct Numeral {
     pub ty: NcType,
 }
 
-/// Returns what the number token of these bytes says. Returns `None` if the token is no well-formed integer, such as `1.5` or `08`, or if
-/// the version doesn't have its suffix.
+/// Returns what the number token of these bytes says: its sign, magnitude and type. Returns `None` if the token is no well-formed integer,
+/// such as `1.5` or `08`, or if files of the `version` can't have the type of its suffix (`U`, for example, is of CDF-5 alone). A magnitude
+/// above 64 bits is `None` in the result.
 ///
 /// A number is an optional sign, then digits, then an optional suffix. The digits are `0x` or `0X` and hexadecimal digits, or octal digits
 /// from a `0` on, or decimal digits (the CDL chapter of the NetCDF User's Guide, "CDL Notation for Data Constants").
@@ -41,8 +42,9 @@ pub fn number_of_token(version: Version, bytes: &[u8]) -> Option<Numeral>
     }
 }
 
-/// Returns what a number says. `bytes` is the number without its sign, and `minus` is true if the sign is a minus. Returns `None` if
-/// `bytes` is no such number, or if the version doesn't have its suffix.
+/// Returns what a number says: its sign, magnitude and type. `bytes` is the number without its sign, and `minus` is true if the sign is a
+/// minus. Returns `None` if `bytes` is no such number, or if the version doesn't have its suffix. A magnitude above 64 bits is `None` in
+/// the result.
 #[inline(always)]
 fn numeral_after_sign(version: Version, minus: bool, bytes: &[u8]) -> Option<Numeral>
     ensures { result ≡ option_map held (with_sign version minus bytes.now) }
@@ -57,8 +59,9 @@ fn numeral_after_sign(version: Version, minus: bool, bytes: &[u8]) -> Option<Num
 /// A number of at most this many decimal digits fits in 64 bits.
 const SHORT: usize = 19;
 
-/// Returns what a decimal number says. `bytes` is the number without its sign: decimal digits, and then an optional suffix. `minus` is true
-/// if the sign is a minus. Returns `None` if there are no digits, or if what comes after them is no suffix of the version.
+/// Returns what a decimal number says: its sign, magnitude and type. `bytes` is the number without its sign: decimal digits, and then an
+/// optional suffix. `minus` is true if the sign is a minus. Returns `None` if there are no digits, or if what comes after them is no suffix
+/// of the version. A magnitude above 64 bits is `None` in the result.
 #[inline(always)]
 fn decimal(version: Version, minus: bool, bytes: &[u8]) -> Option<Numeral>
     ensures { result ≡ option_map held (in_decimal version minus bytes.now) }
@@ -78,8 +81,8 @@ fn decimal(version: Version, minus: bool, bytes: &[u8]) -> Option<Numeral>
     })
 }
 
-/// Reads the decimal digits at the start of the bytes, at most 19 of them, since the value of 20 may not fit in 64 bits.
-/// Returns how many digits it read, and their value.
+/// Reads the decimal digits at the start of the bytes, at most 19 of them, since the value of 20 may not fit in 64 bits. Returns how many
+/// digits it read, and their value. No clause says that it reads as many as it can.
 #[inline(always)]
 pub fn first_digits(bytes: &[u8]) -> (usize, u64)
     ensures { ReadsDigits bytes.now result.0 result.1 }
@@ -93,8 +96,8 @@ pub fn first_digits(bytes: &[u8]) -> (usize, u64)
     }
 }
 
-/// Reads the decimal digits at the start of the bytes, at most `most` of them, and returns how many it read, and their value. Needs so many
-/// bytes, and a `most` of at most 19.
+/// Reads the decimal digits at the start of the bytes, at most `most` of them, and returns how many it read, and their value. No clause
+/// says that it reads as many as it can. Needs `most` bytes, and a `most` of at most 19.
 #[inline(always)]
 fn digits_up_to(bytes: &[u8], most: usize) -> (usize, u64)
     requires within { most ≤ length bytes.now }
@@ -114,9 +117,10 @@ fn digits_up_to(bytes: &[u8], most: usize) -> (usize, u64)
     (at, value)
 }
 
-/// Returns what an octal or hexadecimal number says. `bytes` is the number without its sign, and has to begin with `0`. If `x` or `X` comes
-/// next, the number is hexadecimal; otherwise it is octal. `minus` is true if the sign is a minus. Returns `None` if no hexadecimal digit
-/// comes after the `x`, or if what comes after the digits is no suffix of the version. A magnitude above 64 bits is `None`.
+/// Returns what an octal or hexadecimal number says: its sign, magnitude and type. `bytes` is the number without its sign, and has to begin
+/// with `0`. If `x` or `X` comes next, the number is hexadecimal; otherwise it is octal. `minus` is true if the sign is a minus. Returns
+/// `None` if no hexadecimal digit comes after the `x`, or if what comes after the digits is no suffix of the version. A magnitude above 64
+/// bits is `None` in the result.
 #[inline(never)]
 fn octal_or_hex(version: Version, minus: bool, bytes: &[u8]) -> Option<Numeral>
     requires { slice_index bytes.now 0 ≡ 0x30 }
@@ -130,8 +134,9 @@ fn octal_or_hex(version: Version, minus: bool, bytes: &[u8]) -> Option<Numeral>
     }
 }
 
-/// Returns what a number says. `bytes` is the number without its sign and `0x`: `n` digits of the base `base` and an optional suffix.
-/// `minus` is true if the sign is a minus. Returns `None` if `n` is 0 or the version lacks the suffix. A magnitude above 64 bits is `None`.
+/// Returns what a number says: its sign, magnitude and type. `bytes` is the number without its sign and `0x`: `n` digits of the base `base`
+/// and an optional suffix. `minus` is true if the sign is a minus. Returns `None` if `n` is 0 or the version lacks the suffix. A magnitude
+/// above 64 bits is `None` in the result. Needs a base from 1 to 16, and `n` bytes.
 fn in_base(version: Version, minus: bool, base: u64, n: usize, bytes: &[u8]) -> Option<Numeral>
     requires some { 1 ≤ base }
     requires small { base ≤ 16 }
@@ -176,7 +181,7 @@ fn find_suffix(version: Version, bytes: &[u8]) -> Option<NcType>
         .find(|ty| has_suffix(bytes, *ty) && version.has_type(*ty))
 }
 
-/// Returns true if a number of the type may have this suffix, each letter in upper or lower case.
+/// Returns true if a number of the type may have this suffix, in either case. For int it is empty or `l`; for char the result is false.
 #[tactic(auto, using(crate::proofs::Suffixes::same_suffix))]
 fn has_suffix(suffix: &[u8], ty: NcType) -> bool
     ensures { result ≡ has_suffix (map to_ascii_lowercase suffix.now) ty }

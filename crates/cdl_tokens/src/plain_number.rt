@@ -17,7 +17,7 @@ pub struct PlainNumber {
     pub at_comma: bool,
 }
 
-/// A plain number without its sign at the start of bytes.
+/// The digits and the suffix of a plain number, at the start of bytes.
 #[derive(Clone, Copy)]
 pub struct PlainMagnitude {
     /// The number of its bytes.
@@ -31,9 +31,9 @@ pub struct PlainMagnitude {
 }
 
 /// Returns the plain number that the bytes begin with, if a comma or white space follows it: an optional minus, at most 19 decimal digits,
-/// and nothing or one letter, `b`, `s` or `l` in either case, which says the type. Otherwise returns `None`, also after a plus, which hardly
-/// a list has, and if a zero before other digits makes the number octal. It needs no version, which decides only which other suffixes there
-/// are.
+/// and nothing or one letter, `b`, `s` or `l` in either case, which says the type. Otherwise returns `None`, also for a number with a plus,
+/// and for an octal one, such as `017`. No clause says when: the caller then reads the bytes as any other token. It needs no version, since
+/// every version has these suffixes.
 #[inline(always)]
 pub fn plain_number(bytes: &[u8]) -> Option<PlainNumber>
     ensures { IfSome result (λ p. Begins bytes.now p) }
@@ -53,8 +53,9 @@ pub fn plain_number(bytes: &[u8]) -> Option<PlainNumber>
     })
 }
 
-/// Returns the plain number without a sign that the bytes begin with. Returns `None` if there is none, if a zero before other digits makes
-/// it octal, or if neither a comma nor white space follows.
+/// Returns the plain number that the bytes begin with, if it has no sign, and a comma or white space follows it: at most 19 decimal digits,
+/// and then nothing or a suffix `b`, `s` or `l`, in either case. Otherwise returns `None`, also if a zero before other digits makes the
+/// number octal. No clause says when: a caller then reads the bytes as any other token.
 #[inline(always)]
 fn unsigned_plain_number(bytes: &[u8]) -> Option<PlainMagnitude>
     ensures { IfSome result (λ n. BeginsUnsigned bytes.now n) }
@@ -73,8 +74,9 @@ fn unsigned_plain_number(bytes: &[u8]) -> Option<PlainMagnitude>
     })
 }
 
-/// Returns the plain number that the bytes begin with, if a suffix of one letter follows its digits. Returns `None` if no such suffix
-/// follows them, or neither a comma nor white space follows the suffix. `len` is how many digits there are, and `value` is their value.
+/// Returns the plain number that the bytes begin with, if a suffix of one letter, `b`, `s` or `l` in either case, follows its digits, and a
+/// comma or white space follows the suffix. Otherwise returns `None`; no clause says when. Needs bytes that begin with `len` decimal digits
+/// whose value is `value`; if there are more than one, the first is no zero.
 #[inline(always)]
 fn with_suffix(bytes: &[u8], len: usize, value: u64) -> Option<PlainMagnitude>
     requires { BeginsDecimal bytes.now len value }
@@ -95,7 +97,7 @@ fn with_suffix(bytes: &[u8], len: usize, value: u64) -> Option<PlainMagnitude>
 }
 
 /// Returns how many decimal digits the bytes begin with, at most 19, and their value. Returns `None` if there are none, or if a zero before
-/// other digits makes them octal.
+/// other digits makes them octal; no clause says when.
 #[inline(always)]
 fn decimal_digits(bytes: &[u8]) -> Option<(usize, u64)>
     ensures { IfSome result (λ r. BeginsDecimal bytes.now r.0 r.1) }
@@ -110,7 +112,8 @@ fn decimal_digits(bytes: &[u8]) -> Option<(usize, u64)>
     Some((len, value))
 }
 
-/// Returns the type whose suffix this letter is in every version: byte, short or int.
+/// Returns the type whose suffix this letter is in every version: byte for `b`, short for `s` and int for `l`, in either case. Returns
+/// `None` for any other byte; no clause says when.
 #[tactic(auto, unfolding(crate::specs::Numerals::type_of_suffix))]
 fn type_of_letter(letter: u8) -> Option<NcType>
     ensures { IfSome result (λ ty. IsLetterOf ty letter) }

@@ -6,9 +6,9 @@ ghost use Rattle.cdl_tokens.specs.code.PlainTokens.{BeginsString};
 use crate::bytes::byte_at;
 use crate::search::{Stops, far_len, near_len};
 
-/// Returns the length, with both quotes, of the plain string that the bytes begin with, or `None` if they begin with none. A plain string
-/// has no escape and no line feed; all others are left to [`scan`](crate::scan::scan). `is_long` is true if the string may have thousands of
-/// bytes.
+/// Returns the length in bytes, with both quotes, of the plain string that the bytes begin with. A plain string has no escape and no line
+/// feed. Otherwise returns `None`. No clause says when: the caller then reads the bytes by [`scan`](crate::scan::scan). `is_long` is true
+/// if the string may have thousands of bytes: it changes only how they are searched.
 #[inline(always)]
 #[tactic(auto, using(crate::proofs::PlainStrings::begins_string))]
 pub fn plain_string_len(bytes: &[u8], is_long: bool) -> Option<usize>

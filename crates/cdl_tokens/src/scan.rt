@@ -37,7 +37,7 @@ pub struct Character {
 
 /// Returns what the bytes begin with: the longest token, which may be of the kind `Bad`, or a gap, which is one byte of white space or a
 /// comment without its line feed. `at_start` is true if no token comes before the bytes: only the first token of a text can be an opening,
-/// which begins with `netcdf` and ends with the first unescaped `{`.
+/// which begins with `netcdf` and ends with the first unescaped `{`. Needs one byte or more.
 #[tactic(auto, unfolding(crate::specs::Scan::scan))]
 pub fn scan(at_start: bool, bytes: &[u8]) -> Scanned
     requires { 0 < length bytes.now }
@@ -67,14 +67,14 @@ pub fn scan(at_start: bool, bytes: &[u8]) -> Scanned
     }
 }
 
-/// Returns a gap of this length.
+/// Returns a gap (white space or a comment) of `len` bytes.
 fn gap(len: usize) -> Scanned
     ensures { result ≡ gap len }
 {
     Scanned { kind: None, len }
 }
 
-/// Returns a token of this kind and length.
+/// Returns a token of this kind and of `len` bytes.
 fn token(kind: TokenKind, len: usize) -> Scanned
     ensures { result ≡ token kind len }
 {
@@ -84,9 +84,9 @@ fn token(kind: TokenKind, len: usize) -> Scanned
     }
 }
 
-/// Returns the kind and the length of the token that begins with `netcdf`; `bytes` is what comes after `netcdf`. The token is an
-/// opening that ends with the first `{` that isn't escaped. If there is no such `{`, it is a bad token that goes on to the end of the
-/// bytes. The length counts `netcdf`.
+/// Returns the kind and the length of the token that begins with `netcdf`; `bytes` is what comes after `netcdf`. The token is an opening
+/// that ends with the first `{` that isn't escaped. If there is no such `{`, it is a bad token that goes on to the end of the bytes. The
+/// length counts `netcdf`, and needs to fit in 64 bits.
 fn scan_opening(bytes: &[u8]) -> Scanned
     requires { length bytes.now + 6 < 2 ^ 64 }
     ensures scan { result ≡ scan_opening bytes.now (len_until 0x7b bytes.now) }
@@ -100,9 +100,10 @@ fn scan_opening(bytes: &[u8]) -> Scanned
     }
 }
 
-/// Returns the kind and the length of the token that begins with a quote; `bytes` is what comes after the quote. The token is a string
-/// that ends with the first quote that isn't escaped. If there is no such quote, it is a bad token that goes on to the end of the bytes. If
-/// an escape of the string stands for no byte (`\400`, for example, is above 255), it is a bad token, too. The length counts the quotes.
+/// Returns the kind and the length of the token that begins with a quote; `bytes` is what comes after the quote. The token is a string that
+/// ends with the first quote that isn't escaped. If there is no such quote, it is a bad token that goes on to the end of the bytes. If an
+/// escape of the string stands for no byte (`\400`, for example, is above 255), it is a bad token, too. The length counts the quotes, and
+/// needs to fit in 64 bits.
 fn scan_text(bytes: &[u8]) -> Scanned
     requires { length bytes.now + 1 < 2 ^ 64 }
     ensures scan { result ≡ scan_text bytes.now (len_until 0x22 bytes.now) }
@@ -126,7 +127,7 @@ fn begins_a_word(bytes: &[u8]) -> bool
     may_begin_word(b) || is_escape(b, byte_at(bytes, 1))
 }
 
-/// Returns true if the bytes begin as a number does: with a digit, which may have a sign, a point, or a sign and then a point before it.
+/// Returns true if the bytes begin as a number does: with an optional sign, an optional point and then a digit, such as `-.5`.
 pub fn begins_number(bytes: &[u8]) -> bool
     ensures { result ≡ begins_number bytes.now }
 {
@@ -154,7 +155,7 @@ fn begins_opening(bytes: &[u8]) -> bool
     bytes.starts_with(b"netcdf") && (is_blank(b) || b == b'{')
 }
 
-/// Returns the length of the number token that the bytes begin with. Needs bytes for which [`begins_number`] returns true.
+/// Returns the length in bytes of the number token that the bytes begin with. Needs bytes for which [`begins_number`] returns true.
 pub fn number_len(bytes: &[u8]) -> usize
     requires { begins_number bytes.now ≡ true }
     ensures len { result ≡ 1 + prefix_len goes_on_number (drop 1 bytes.now) }
@@ -180,7 +181,8 @@ fn line_len(bytes: &[u8]) -> usize
     far_len(bytes, Stops::At(b'\n'))
 }
 
-/// Returns how many bytes at the start belong to a word: escapes, letters, digits, `_`, `.`, `@`, `+`, `-` and bytes from 0x80.
+/// Returns how many bytes at the start belong to a word: escapes, letters, digits, `_`, `.`, `@`, `+`, `-` and bytes from 0x80. Returns at
+/// least 1 if a word begins there.
 #[tactic(auto, using(crate::proofs::Words::word_at, crate::proofs::Words::word_past, crate::proofs::Words::escape_inside, crate::proofs::Words::word_some))]
 fn word_len(bytes: &[u8]) -> usize
     ensures len { result ≡ word_len bytes.now }
@@ -201,7 +203,7 @@ fn word_len(bytes: &[u8]) -> usize
 }
 
 /// Returns true if a backslash stands at the offset `at`, and a byte comes after it. It is for strings and for the opening, in which a
-/// backslash escapes any byte; [`is_escape`] is for words.
+/// backslash escapes any byte; [`is_escape`] is for words. Needs an `at` below the number of bytes.
 fn is_escaping(bytes: &[u8], at: usize) -> bool
     requires { at < length bytes.now }
     ensures { result ≡ (slice_index bytes.now at == 0x5c && nat_lt (at + 1) (length bytes.now)) }
@@ -219,7 +221,7 @@ pub fn ordinary_len(bytes: &[u8], close: u8) -> usize
     far_len(bytes, Stops::AtEscapeOr(close))
 }
 
-/// Returns how many bytes come before the first `close` that isn't escaped. If there is none, returns the number of all bytes.
+/// Returns how many bytes come before the first `close` that no backslash escapes. If there is none, returns the number of all bytes.
 #[tactic(auto, using(crate::proofs::Words::until_at, crate::proofs::Words::until_past, crate::proofs::Words::until_run))]
 fn len_until(bytes: &[u8], close: u8) -> usize
     ensures len { result ≡ len_until close bytes.now }

@@ -14,7 +14,7 @@ use crate::search::count_of;
 use crate::token::{Token, TokenKind};
 use crate::underscore::begins_underscore;
 
-/// Reads the tokens of a text, from an offset on.
+/// Reads the tokens of a text one after the other. It stands at an offset, that of the next byte to read.
 #[derive(Clone, Copy)]
 pub struct Scanner<'a> {
     text: &'a [u8],
@@ -68,7 +68,8 @@ impl<'a> Scanner<'a> {
         self.text
     }
 
-    /// Skips white space and comments, and reads the next token. At the end of the text it returns a token of the kind `End`, each time.
+    /// Skips white space and comments, and reads the next token. Bytes that are no token give one of the kind `Bad`, and the end of the
+    /// text gives one of the kind `End`, each time.
     ///
     /// White space, marks and numbers, which long lists consist of, are read here; [`other_token`](Scanner::other_token) reads the others.
     #[inline(always)]
@@ -92,9 +93,9 @@ impl<'a> Scanner<'a> {
         }
     }
 
-    /// Reads a plain number (decimal, at most 19 digits after an optional minus, with no suffix but `b`, `s` or `l`) and the comma after it, if
-    /// they come next with only white space before each. Otherwise returns `None`, and the scanner stays where it is. It is for the quick
-    /// pass over a list.
+    /// Reads a plain number (decimal, at most 19 digits after an optional minus, with no suffix but `b`, `s` or `l`) and the comma after
+    /// it, if they come next with only white space before each. Otherwise returns `None`, and the scanner stays where it is. No clause says
+    /// when: a caller then reads the token in another way.
     #[inline(always)]
     pub fn number_and_comma(&mut self) -> Option<ListedNumber>
         ensures tokens { IfSome result (λ l. left self.old ≡ l.number ∷ l.comma ∷ left self.new) }
@@ -119,7 +120,8 @@ impl<'a> Scanner<'a> {
     }
 
     /// Reads a string without an escape or a line feed and the comma after it, if they come next with only white space before each.
-    /// Otherwise returns `None`, and the scanner stays where it is. It is for the quick pass over rows of characters.
+    /// Otherwise returns `None` (no clause says when), and the scanner stays where it is. It suits short strings, such as rows of
+    /// characters.
     #[inline(always)]
     pub fn string_and_comma(&mut self) -> Option<ListedToken>
         ensures tokens { IfSome result (λ l. left self.old ≡ l.token ∷ l.comma ∷ left self.new) }
@@ -137,8 +139,8 @@ impl<'a> Scanner<'a> {
         Some(ListedToken { token, comma })
     }
 
-    /// Reads a `_` and the comma after it, if they come next with only white space before each. Otherwise returns `None`, and the scanner
-    /// stays where it is. It is for the quick pass over a list.
+    /// Reads a `_` and the comma after it, if they come next with only white space before each. Otherwise returns `None` (no clause says
+    /// when), and the scanner stays where it is.
     #[inline(always)]
     pub fn underscore_and_comma(&mut self) -> Option<ListedToken>
         ensures tokens { IfSome result (λ l. left self.old ≡ l.token ∷ l.comma ∷ left self.new) }
@@ -161,9 +163,8 @@ impl<'a> Scanner<'a> {
         Some(ListedToken { token, comma })
     }
 
-    /// Reads the next token and the comma after it, if only white space stands between them. Otherwise, and at the end of the text, returns
-    /// `None`, and the scanner stays where it is. The quick pass over a list calls it for each token between two commas that it takes
-    /// neither as a plain number nor as a plain string.
+    /// Skips white space and comments, and reads the next token, of any kind, and the comma after it, if only white space stands between
+    /// the two. Otherwise, and at the end of the text, returns `None` (no clause says when), and the scanner stays where it is.
     #[inline(always)]
     pub fn token_and_comma(&mut self) -> Option<ListedToken>
         ensures tokens { IfSome result (λ l. left self.old ≡ l.token ∷ l.comma ∷ left self.new) }
@@ -183,7 +184,7 @@ impl<'a> Scanner<'a> {
         Some(ListedToken { token, comma })
     }
 
-    /// Returns the token of the comma that the scanner has just passed, which is the byte before the next one. Call it only after a call
+    /// Returns the token of the comma that the scanner has just passed: the byte before the one where it stands. Call it only after a call
     /// that passed a comma: the byte isn't checked.
     #[inline(always)]
     pub fn comma_before(&self) -> Token
@@ -214,9 +215,9 @@ impl<'a> Scanner<'a> {
         }
     }
 
-    /// Passes the comma that comes next, and returns its token. If `at_comma` is true, the comma is the next byte, and isn't looked for.
-    /// Otherwise skips the white space before it by [`comma`](Scanner::comma); if no comma comes then, returns `None`, and the white space
-    /// stays skipped. Needs an `at_comma` that is true only if the next byte is a comma.
+    /// Passes the comma that comes next, and returns its token. If `at_comma` is true, the next byte is the comma, and isn't looked at.
+    /// Otherwise skips the white space before the comma by [`comma`](Scanner::comma); if no comma comes then, returns `None`, and the white
+    /// space stays skipped. Needs an `at_comma` that is true only if the next byte is a comma.
     #[inline(always)]
     fn take_or_find_comma(&mut self, at_comma: bool) -> Option<Token>
         requires { at_comma ≡ true → slice_index (text_of self.old) (offset_of self.old) ≡ 0x2c }
@@ -233,7 +234,7 @@ impl<'a> Scanner<'a> {
         }
     }
 
-    /// Passes the next byte, which has to be a comma, and returns its token.
+    /// Passes the next byte, and returns its token. Needs a comma there: the byte isn't looked at.
     #[inline(always)]
     fn take_comma(&mut self) -> Token
         requires { slice_index (text_of self.old) (offset_of self.old) ≡ 0x2c }
@@ -270,8 +271,8 @@ impl<'a> Scanner<'a> {
         false
     }
 
-    /// Skips white space as [`skip_blanks`](Scanner::skip_blanks) does. It is made for the white space before a number, which
-    /// is mostly one space or nothing.
+    /// Skips white space as [`skip_blanks`](Scanner::skip_blanks) does, but is quicker if there is one space or nothing, as mostly before a
+    /// number of a list.
     #[inline(always)]
     fn skip_to_number(&mut self)
         ensures left { left self.new ≡ left self.old }
@@ -308,8 +309,8 @@ impl<'a> Scanner<'a> {
         false
     }
 
-    /// Skips white space, but no comment, and returns true if a comma comes next. The comma isn't passed. It suits the case that there is
-    /// no white space.
+    /// Skips white space, but no comment, and returns true only if a comma comes next. The comma isn't passed. It is quick if there is no
+    /// white space.
     #[inline(always)]
     fn skip_to_comma(&mut self) -> bool
         ensures left { left self.new ≡ left self.old }
@@ -325,7 +326,7 @@ impl<'a> Scanner<'a> {
         self.is_at_comma()
     }
 
-    /// Returns true if the next byte is a comma.
+    /// Returns true only if the next byte is a comma.
     #[inline(always)]
     fn is_at_comma(&self) -> bool
         ensures inside { result ≡ true → offset_of self.now < length (text_of self.now) }
@@ -338,8 +339,8 @@ impl<'a> Scanner<'a> {
         }
     }
 
-    /// Passes the token of this kind and length that begins at the next byte, and returns it. Needs the kind and the length that [`scan`]
-    /// would find there, and a token without a line feed: the bytes aren't looked at, and the line stays the same.
+    /// Passes the token of this kind and of `len` bytes that begins at the next byte, and returns it. Needs the kind and the length that
+    /// [`scan`] would find there, and a token without a line feed: the bytes aren't looked at, and the line stays the same.
     #[inline]
     fn take(&mut self, kind: TokenKind, len: usize) -> Token
         requires here { scan self.old.at_start (drop self.old.at self.old.text.now) ≡ token kind len }
@@ -371,8 +372,8 @@ impl<'a> Scanner<'a> {
         }
     }
 
-    /// Reads the next token, of any kind, and skips the white space and comments before it. [`token`](Scanner::token) calls it for each token
-    /// that it doesn't read itself. At the end of the text it returns a token of the kind `End`.
+    /// Reads the next token, of any kind, and skips the white space and comments before it. [`token`](Scanner::token) calls it for each
+    /// token that it doesn't read itself. At the end of the text it returns a token of the kind `End`.
     #[inline(never)]
     fn other_token(&mut self) -> Token
         ensures token { left self.old ≡ followed result result.kind (left self.new) }
@@ -386,8 +387,8 @@ impl<'a> Scanner<'a> {
         }
     }
 
-    /// Reads a string without an escape or a line feed, if it begins at the next byte. Otherwise returns `None`, and the scanner stays where
-    /// it is. `is_long` is true if the string may have thousands of bytes.
+    /// Reads a string without an escape or a line feed, if it begins at the next byte. Otherwise returns `None` (no clause says when), and
+    /// the scanner stays where it is. `is_long` is true if the string may have thousands of bytes: it changes only how they are searched.
     #[inline(always)]
     fn plain_string(&mut self, is_long: bool) -> Option<Token>
         ensures token { IfSome result (λ t. left self.old ≡ t ∷ left self.new) }
@@ -401,7 +402,8 @@ impl<'a> Scanner<'a> {
         Some(self.take(TokenKind::Text, len))
     }
 
-    /// Reads the next token, as [`other_token`](Scanner::other_token) does, by [`scan`].
+    /// Skips white space and comments, and reads the next token, of any kind, by [`scan`]. At the end of the text it returns a token of the
+    /// kind `End`.
     fn scanned_token(&mut self) -> Token
         ensures token { left self.old ≡ followed result result.kind (left self.new) }
         ensures text { text_of self.new ≡ text_of self.old }
@@ -434,7 +436,7 @@ impl<'a> Scanner<'a> {
     }
 
     /// Returns the scanner after the gap that comes next, of `len` bytes: one of white space, or a comment, which has no line feed. So the
-    /// line is one more only if the first byte is a line feed.
+    /// line is one more only if the first byte is a line feed. Needs a gap of this length there, as [`scan`] finds it.
     fn after_gap(self, len: usize) -> Scanner<'a>
         requires gap { scan self.at_start (drop self.at self.text.now) ≡ gap len }
         requires some { self.at < length self.text.now }
@@ -452,7 +454,8 @@ impl<'a> Scanner<'a> {
         }
     }
 
-    /// Returns the scanner after a token of `len` bytes. Each line feed passed adds one to its line.
+    /// Returns the scanner after the next `len` bytes, which are a token. Each line feed among them adds one to its line. Needs so many
+    /// bytes.
     fn after_token(self, len: usize) -> Scanner<'a>
         requires { self.at + len ≤ length self.text.now }
         ensures text { result.text.now ≡ self.entry.text.now }

@@ -28,8 +28,9 @@ pub enum Stops {
     AtStringEnd,
 }
 
-/// Returns how many bytes come before the first one at which the search stops. If there is none, returns the number of all bytes. It suits
-/// a stop that is likely to be less than a hundred bytes away, such as the end of a row. It is inlined, so that `stops` costs no branch.
+/// Returns how many bytes come before the first stop, which is a byte that `stops` names. If there is none, returns the number of all
+/// bytes. This search suits a stop that is likely to be less than a hundred bytes away, such as the end of a row. It is inlined, so that
+/// `stops` costs no branch.
 #[inline(always)]
 pub fn near_len(bytes: &[u8], stops: Stops) -> usize
     ensures len { result ≡ prefix_len (goes_on stops) bytes.now }
@@ -46,8 +47,9 @@ pub fn near_len(bytes: &[u8], stops: Stops) -> usize
     at + len_one_by_one(&bytes[at..], stops)
 }
 
-/// Returns the same as [`near_len`]. It suits a stop that may be far away, such as the end of a comment: after the first [`LANES`] bytes, in
-/// which escapes often follow one another, it tests [`BLOCK`] bytes at once.
+/// Returns how many bytes come before the first byte that `stops` names, or the number of all bytes, as [`near_len`] does. It suits a stop
+/// that may be far away, such as the end of a comment: after the first 16 bytes, in which escapes often follow one another, it tests 64
+/// bytes at once.
 #[inline(always)]
 pub fn far_len(bytes: &[u8], stops: Stops) -> usize
     ensures len { result ≡ prefix_len (goes_on stops) bytes.now }
@@ -69,7 +71,7 @@ pub fn far_len(bytes: &[u8], stops: Stops) -> usize
     at + near_len(&bytes[at..], stops)
 }
 
-/// Returns true if the search doesn't stop at any of the [`BLOCK`] bytes from the offset `at` on.
+/// Returns true only if `stops` names none of the 64 bytes from the offset `at` on. Needs 64 bytes there.
 #[inline(always)]
 fn is_passed(bytes: &[u8], at: usize, stops: Stops) -> bool
     requires { at + 64 ≤ length bytes.now }
@@ -83,7 +85,7 @@ fn is_passed(bytes: &[u8], at: usize, stops: Stops) -> bool
     (first == 0) & (second == 0) & (third == 0) & (fourth == 0)
 }
 
-/// Returns a mask with a bit for each byte of the vector, set if the search stops at the byte.
+/// Returns a mask with a bit for each byte of the vector, the lowest for the first byte. A bit is set if `stops` names the byte.
 #[inline(always)]
 fn stops_in(vector: u8x16, stops: Stops) -> u64
     ensures { result ≡ mask_l (map (is_stop stops) vector) }
@@ -101,7 +103,8 @@ fn stops_in(vector: u8x16, stops: Stops) -> u64
     }
 }
 
-/// Returns the same as [`near_len`], which calls it for the bytes that fill no vector. It tests one byte after the other.
+/// Returns how many bytes come before the first byte that `stops` names, or the number of all bytes. It tests one byte after the other:
+/// [`near_len`] calls it for the bytes that fill no vector.
 #[inline(always)]
 fn len_one_by_one(bytes: &[u8], stops: Stops) -> usize
     ensures len { result ≡ prefix_len (goes_on stops) bytes.now }
@@ -110,7 +113,7 @@ fn len_one_by_one(bytes: &[u8], stops: Stops) -> usize
     bytes.iter().take_while(|b| goes_on(stops, **b)).count()
 }
 
-/// Returns true if the search doesn't stop at the byte.
+/// Returns true if a search goes on at the byte `b`, since `stops` doesn't name it.
 #[inline(always)]
 fn goes_on(stops: Stops, b: u8) -> bool
     ensures { result ≡ goes_on stops b }

@@ -18,8 +18,9 @@ pub struct StringContents {
     pub has_valid_escapes: bool,
 }
 
-/// Returns what a string has between its quotes; `bytes` is what comes after the first of them. It goes over the string once: from one
-/// escape to the next, or to the closing quote. It isn't inlined, so that its loop has all registers.
+/// Returns how many bytes a string has between its quotes, and whether each of its escapes stands for a byte; `bytes` is what comes after
+/// the opening quote. It goes over the string once: from one escape to the next, or to the closing quote. It isn't inlined, so that its
+/// loop has all registers.
 #[inline(never)]
 pub fn string_contents(bytes: &[u8]) -> StringContents
     ensures len { result.len ≡ len_until 0x22 bytes.now }

@@ -18,7 +18,7 @@ pub enum TokenKind {
     Text,
     /// One of `: ; = , ( ) }`.
     Mark,
-    /// Bytes that are no token.
+    /// Bytes that are no token: an opening without `{`, a string without an end or with a bad escape, or any other byte.
     Bad,
     /// The end of the text.
     End,

@@ -5,7 +5,7 @@ ghost use Rattle.cdl_tokens.specs.code.PlainTokens.{BeginsUnderscore};
 
 use crate::bytes::{byte_at, ends_value};
 
-/// Returns true if the bytes begin with a `_` that a comma or white space follows, so that it is a word by itself.
+/// Returns true only if the bytes begin with a `_` that a comma or white space follows, so that it is a word by itself.
 #[inline(always)]
 pub fn begins_underscore(bytes: &[u8]) -> bool
     ensures { result ≡ true → BeginsUnderscore bytes.now }

@@ -2,7 +2,7 @@
 
 ghost use Rattle.std.specs.Prelude.{◌≡◌, ◌<◌, ℕ, false};
 
-/// How many more values a variable takes. They are numbers, bytes or rows, as its [`ValueForm`](crate::ValueForm) counts them.
+/// How many more values a variable takes: numbers in the form [`Numbers`](crate::ValueForm::Numbers), bytes in `Joined`, rows in `Rows`.
 #[derive(Clone, Copy)]
 pub enum Capacity {
     /// Any number of values.
@@ -14,7 +14,7 @@ pub enum Capacity {
 impl Capacity {
     ghost use Rattle.cdl_values.specs.code.PackedValues.{capacity_limit, capacity_minus, is_full, is_exceeded_by};
 
-    /// Returns true if no more values are taken.
+    /// Returns true if the variable takes no more values.
     pub fn is_full(self) -> bool
         ensures { result ≡ is_full self }
     {
@@ -24,7 +24,7 @@ impl Capacity {
         }
     }
 
-    /// Returns true if `n` more values are too many: the variable takes fewer than `n`.
+    /// Returns true if `n` more values are too many, since the variable takes fewer than `n`.
     pub fn is_exceeded_by(self, n: u128) -> bool
         ensures { result ≡ is_exceeded_by n self }
     {
@@ -44,7 +44,7 @@ impl Capacity {
         }
     }
 
-    /// Returns how many more values the variable takes, or `u64::MAX` if it takes any number.
+    /// Returns how many more values the variable takes, or `u64::MAX` if it takes any number. After fewer values than this it isn't full.
     pub fn limit(self) -> u64
         ensures limit { result ≡ capacity_limit self }
         ensures room { (n : ℕ) → n < result → is_full (capacity_minus n self) ≡ false }

@@ -29,7 +29,7 @@ pub fn type_said(version: Version, token: Lexeme<'_>) -> NcType
 }
 
 /// Reads the constants of an attribute, from the next token of `start` to the end of the statement, and returns their bytes, big-endian and
-/// one after the other. Each constant has to be of the type `ty`. The shape of the statement isn't checked.
+/// one after the other. Each constant has to be of the type `ty`. The order of the tokens isn't checked. Needs a token that is left.
 ///
 /// # Errors
 ///
@@ -57,9 +57,10 @@ pub fn read_constants(
     }
 }
 
-/// Appends to `vals` the bytes of the constant that comes next and of the plain numbers after it, each with a comma before and after it.
-/// Returns the cutter after them, or `start` if there is no such constant. Each has to be of the type `ty`. Errs with the fault of the first
-/// constant that has one, and with `OutOfMemory` if an allocation failed.
+/// Appends to `vals` the bytes of the constant that comes next, if a comma stands before and after it, and then those of the plain numbers
+/// after it ([`take_plain_constants`]). Returns the cutter at the last of these commas, or `start` if there is no such constant. Each has
+/// to be of the type `ty`. Needs a token that is left. Errs with the first fault of a constant (`MixedConstants`, `NumberRange`), and with
+/// `OutOfMemory` if an allocation failed; either way, bytes of constants may be appended.
 #[inline(always)]
 fn take_constants<'a>(
     vals: &mut ListedArray,
@@ -84,9 +85,10 @@ fn take_constants<'a>(
     take_plain_constants(vals, ty, cutter)
 }
 
-/// Appends to `vals` the bytes of the plain numbers that come next, each with a comma before and after it, and returns the cutter after
-/// them. Each has to be of the type `ty`. Needs a cutter at a comma, with its scanner just after this comma. Errs with the fault of the first
-/// number that has one, and with `OutOfMemory` if an allocation failed.
+/// Appends to `vals` the bytes of the plain numbers (decimal, at most 19 digits, no suffix but `b`, `s` or `l`) that come next, each with a
+/// comma before and after it, and returns the cutter at the last of these commas. Each has to be of the type `ty`. Needs a cutter at a
+/// comma inside of a statement, with its scanner just after this comma. Errs with the first fault of a number (`MixedConstants`,
+/// `NumberRange`), and with `OutOfMemory` if an allocation failed; either way, the numbers before may be appended.
 #[inline(never)]
 fn take_plain_constants<'a>(
     vals: &mut ListedArray,
@@ -105,9 +107,10 @@ fn take_plain_constants<'a>(
     Ok(list.cutter())
 }
 
-/// Appends to `vals` the bytes of the token's constant, or nothing if the token is a mark. Errs with `MixedConstants` if any other token is
-/// no number or string of the type `ty`, with `NumberRange` if a number is out of the range of `ty` (nothing is appended either way), and
-/// with `OutOfMemory` if an allocation failed (bytes of a string may be appended then).
+/// Appends to `vals` the bytes of the token's constant, or nothing if the token is a mark. `version` decides which suffixes a number may
+/// have. Errs with `MixedConstants` if any other token is no number or string of the type `ty`, with `NumberRange` if a number is out of
+/// the range of `ty`, and with `OutOfMemory` if an allocation failed. Only with `OutOfMemory` some bytes of a string may be appended; no
+/// clause says what `vals` has after an error.
 fn put_token(
     vals: &mut ListedArray,
     version: Version,
@@ -122,9 +125,10 @@ fn put_token(
     }
 }
 
-/// Appends to `vals` the bytes of a constant. Errs with `MixedConstants` if the token is no number or string of the type `ty`, with
-/// `NumberRange` if a number is out of the range of `ty` (nothing is appended either way), and with `OutOfMemory` if an allocation failed
-/// (bytes of a string may be appended then).
+/// Appends to `vals` the bytes of the constant `token`, a number or a string. A number has the type of its suffix, and counts as the int 0
+/// if `version` has no such suffix: other code finds that fault. Errs with `MixedConstants` if the token is no number or string of the type
+/// `ty`, with `NumberRange` if a number is out of the range of `ty`, and with `OutOfMemory` if an allocation failed. Only with
+/// `OutOfMemory` some bytes of a string may be appended; no clause says what `vals` has after an error.
 #[tactic(auto, unfolding(cdl_statements::specs::code::Contents::value_of))]
 fn put_constant(
     vals: &mut ListedArray,
@@ -143,7 +147,7 @@ fn put_constant(
 
 /// Appends to `vals` the bytes of a number, big-endian. Unlike [`put_numeral`], it checks the type, which comes from the number's suffix.
 /// Errs with `MixedConstants` if this type isn't `ty`, with `NumberRange` if the number is out of the range of `ty`, and with `OutOfMemory`
-/// if an allocation failed. Nothing is appended in any of these cases.
+/// if an allocation failed. After any error nothing is appended, but no clause says so.
 fn put_number_constant(vals: &mut ListedArray, ty: NcType, n: Numeral) -> Result<(), ReadError>
     ensures { AddsNumber ty n vals.old vals.new result }
 {
@@ -154,7 +158,7 @@ fn put_number_constant(vals: &mut ListedArray, ty: NcType, n: Numeral) -> Result
 }
 
 /// Appends to `vals` the bytes that a string stands for. `bytes` is the string with its quotes. Errs with `MixedConstants` if `ty` isn't
-/// char (nothing is appended then), and with `OutOfMemory` if an allocation failed (some of the bytes may be appended then).
+/// char, and with `OutOfMemory` if an allocation failed. Only with `OutOfMemory` some of the bytes may be appended.
 fn put_characters(vals: &mut ListedArray, ty: NcType, bytes: &[u8]) -> Result<(), ReadError>
     ensures { Leaves vals.new result (add_constant ty vals.old (text_said bytes.now)) }
 {

@@ -30,7 +30,7 @@ pub struct Target {
     pub given: bool,
 }
 
-/// The target of a variable, and the variable's position.
+/// What a variable takes, and the variable's position.
 #[derive(Clone, Copy)]
 struct FoundTarget {
     /// The position of the variable among the names.
@@ -41,7 +41,7 @@ struct FoundTarget {
 /// What a statement of the data section gives to its variable.
 #[derive(Drop)]
 pub struct StatementValues<'a> {
-    /// The variable's position among the names.
+    /// The variable's position, from 0 on, among the names.
     pub position: u64,
     /// The bytes of the values that the statement lists.
     pub array: ListedArray,
@@ -49,15 +49,18 @@ pub struct StatementValues<'a> {
     pub rest: Cutter<'a>,
 }
 
-/// Reads the next statement of `start`, which stands in the data section. Returns the position of the variable that the statement names,
-/// the bytes of the values that the statement lists, and the cutter after the statement.
+/// Reads the next statement of `start`, which lists values in the data section. Returns the position of the variable that the statement
+/// names, the bytes of the values that the statement lists, and the cutter (the cursor in the text) after the statement. Needs a statement
+/// that is left. The contract leaves out the closing brace, which is no such statement.
 ///
 /// `names` are the names of the variables, and `targets` has what each variable takes, in the same order. If the statement has no fault,
 /// the caller has to set `given` of its variable's target afterwards.
 ///
 /// # Errors
 ///
-/// The statement's first fault, or `OutOfMemory` if an allocation failed.
+/// The statement's first fault: one of its tokens (`BadToken`, `BadNumber`) or of their order (`Syntax`), otherwise one of the variable
+/// (`BadName`, `UnknownVariable`, `DuplicateData`), otherwise one of a value (`WrongKind`, `TooManyValues`, `NumberRange`,
+/// `StringTooLong`). Or `OutOfMemory` if an allocation failed.
 pub fn read_data_statement<'a>(
     alloc: Global,
     names: &VariableNames<'_>,
@@ -93,8 +96,9 @@ fn read_quickly_or_slowly<'a>(
     }
 }
 
-/// Reads the next statement of `start` in one pass, if it has no fault. Errs with `Unnamed` if it has some fault, which [`read_slowly`]
-/// names, and with `OutOfMemory` if an allocation failed.
+/// Reads the next statement of `start` in one pass, if it has no fault. Arguments and result are those of [`read_data_statement`]. Errs
+/// with `Unnamed` if it has some fault, which [`read_slowly`] names; no clause says that it is only then. Errs with `OutOfMemory` if an
+/// allocation failed.
 fn read_quickly<'a>(
     alloc: Global,
     names: &VariableNames<'_>,
@@ -136,8 +140,8 @@ fn read_quickly<'a>(
 }
 
 /// Reads the next statement of `start` in two passes, so that it can name the first fault, which [`read_quickly`] doesn't: the first pass
-/// finds a bad token, a bad number or a wrong shape, and the second reads the values. Errs with the statement's first fault, or if an
-/// allocation failed.
+/// finds a bad token, a bad number or a wrong order of the tokens, and the second reads the values. Arguments and result are those of
+/// [`read_data_statement`]. Errs with the statement's first fault, or if an allocation failed.
 fn read_slowly<'a>(
     alloc: Global,
     names: &VariableNames<'_>,
@@ -168,9 +172,9 @@ fn read_slowly<'a>(
     })
 }
 
-/// Returns the target of the variable that a word names, and the variable's position. Errs with `BadName` if the format doesn't
-/// allow the name, with `UnknownVariable` if `names` or `targets` doesn't have the variable, with `DuplicateData` if an earlier
-/// statement gave its values, or if an allocation failed.
+/// Returns what the variable that `word` names takes (its target), and the variable's position among `names`. Errs with `BadName` if the
+/// format doesn't allow the name, with `UnknownVariable` if `names` or `targets` doesn't have the variable, with `DuplicateData` if an
+/// earlier statement gave its values, or if an allocation failed.
 fn target_of(
     alloc: Global,
     names: &VariableNames<'_>,
@@ -186,8 +190,8 @@ fn target_of(
     Ok(FoundTarget { position, target })
 }
 
-/// Returns the target of a variable whose values no statement has given yet. Errs with `DuplicateData` if an earlier statement gave them,
-/// and with `UnknownVariable` if `target` is `None`, since the caller's list has no target for the variable.
+/// Returns `target`, what a variable takes, if no statement has given the variable's values yet. Errs with `DuplicateData` if an earlier
+/// statement gave them, and with `UnknownVariable` if `target` is `None`, since the caller's list has no target for the variable.
 fn unless_given(target: Option<&Target>) -> Result<Target, CdlKind>
     ensures { result ≡ unless_given (option_map (λ t. t.now) target.entry) }
 {

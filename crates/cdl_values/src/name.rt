@@ -13,7 +13,8 @@ use cdl_tokens::{byte_at, is_escape};
 use nc_base::is_valid_name;
 use std::alloc::{AllocError, Global};
 
-/// Returns the name that a word stands for, if the format allows it.
+/// Returns the name that a word stands for, if the format allows it: the bytes of the word without the backslashes of its escapes, `a b`
+/// for the word `a\ b`.
 ///
 /// # Errors
 ///

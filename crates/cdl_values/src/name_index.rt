@@ -7,15 +7,16 @@ use nc_base::Named;
 use std::alloc::{AllocError, Global};
 use std::collections::BTreeMap;
 
-/// An index of a list of items that have different names. The list itself is not in the index, and lends the names.
+/// Finds the position of an item by its name, in a list of items that have different names. The list isn't a part of the index: each call
+/// is lent it.
 ///
-/// A name's position in the list is found in a time that grows with the logarithm of the number of names: by the hash of the name, and
-/// if an earlier name has the same hash, by the name.
+/// A name's position in the list is found in a time that grows with the logarithm of the number of names: by the hash of the name, and if
+/// an earlier name has the same hash, by the name.
 #[derive(Drop)]
 pub struct NameIndex {
     /// For each hash the position of the first item whose name has it.
     first_of_hash: BTreeMap<u64, u64>,
-    /// The positions of the other items, by their names.
+    /// The positions of the other items, whose hash an earlier item has, by their names.
     others: BTreeMap<Vec<u8>, u64>,
 }
 
@@ -30,7 +31,8 @@ impl NameIndex {
         }
     }
 
-    /// Returns the position of the item of this name, or `None` if `list` doesn't have it. Needs the `list` that this is the index of.
+    /// Returns the position, from 0 on, of the item of this name, or `None` if `list` doesn't have it. Needs the `list` that this is the
+    /// index of.
     pub fn find<T: Named>(&self, list: &[T], name: &[u8]) -> Option<u64>
         requires { IsIndex self.now (map T.name_of list.now) }
         ensures { result ≡ position_of (map T.name_of list.now) name.now }
@@ -42,8 +44,9 @@ impl NameIndex {
         self.others.get(name).copied()
     }
 
-    /// If no item of `list` has the name, adds the name with the position just after the end of the list, and returns true: the caller has
-    /// to append an item of this name. Otherwise changes nothing and returns false. Needs the `list` that this is the index of.
+    /// If no item of `list` has the name, adds the name to the index with the position just after the end of `list`, and returns true: the
+    /// caller has to append an item of this name to the list. Otherwise changes nothing and returns false. Needs the `list` that this is
+    /// the index of.
     ///
     /// # Errors
     ///

@@ -28,8 +28,8 @@ pub fn number_or_zero(version: Version, bytes: &[u8]) -> Numeral
 }
 
 /// Appends to `array` the bytes of a number, big-endian, in the width of `ty`. The type of the number's suffix is ignored. Errs with
-/// `NumberRange` if the number is out of the range of `ty`, and with `OutOfMemory` if an allocation failed. Nothing is appended in either
-/// case.
+/// `NumberRange` exactly if the number is out of the range of `ty`, and with `OutOfMemory` if an allocation failed. After any error nothing
+/// is appended, but no clause says so.
 #[inline(never)]
 pub fn put_numeral(array: &mut ListedArray, ty: NcType, n: Numeral) -> Result<(), ReadError>
     ensures adds { Adds array.old array.new result (held_bytes ty n.minus n.magnitude) }
@@ -38,9 +38,9 @@ pub fn put_numeral(array: &mut ListedArray, ty: NcType, n: Numeral) -> Result<()
     put_numeral_inline(array, ty, n)
 }
 
-/// Appends to `array` the bytes of a number, big-endian, in the width of `ty`. Errs with `NumberRange` if the number is out of the range of
-/// `ty`, and with `OutOfMemory` if an allocation failed. Nothing is appended in either case. It is [`put_numeral`] for a loop over numbers
-/// of one type, into which it is inlined.
+/// Appends to `array` the bytes of a number, big-endian, in the width of `ty`. It is [`put_numeral`] for a loop over numbers of one type,
+/// into which it is inlined. Errs with `NumberRange` exactly if the number is out of the range of `ty`, and with `OutOfMemory` if an
+/// allocation failed. After any error nothing is appended, but no clause says so.
 #[inline(always)]
 pub fn put_numeral_inline(array: &mut ListedArray, ty: NcType, n: Numeral) -> Result<(), ReadError>
     ensures adds { Adds array.old array.new result (held_bytes ty n.minus n.magnitude) }
@@ -55,7 +55,7 @@ pub fn put_numeral_inline(array: &mut ListedArray, ty: NcType, n: Numeral) -> Re
 }
 
 /// Appends to `array` the number, big-endian, in the width of `ty`. Needs a number in the range of `ty`: unlike [`put_numeral`], it doesn't
-/// check the range. Errs only if an allocation failed; nothing is appended then.
+/// check the range. Errs only if an allocation failed.
 #[inline(never)]
 pub fn pack_number(array: &mut ListedArray, ty: NcType, number: i128) -> Result<(), AllocError>
     requires { IsInRange ty number }
@@ -64,8 +64,8 @@ pub fn pack_number(array: &mut ListedArray, ty: NcType, number: i128) -> Result<
     pack_number_inline(array, ty, number)
 }
 
-/// Appends to `array` the number, big-endian, in the width of `ty`. Unlike [`pack_number`], it is inlined into its caller. Needs a number in
-/// the range of `ty`. Errs only if an allocation failed; nothing is appended then.
+/// Appends to `array` the number, big-endian, in the width of `ty`. Unlike [`pack_number`], it is inlined into its caller. Needs a number
+/// in the range of `ty`. Errs only if an allocation failed.
 #[inline(always)]
 fn pack_number_inline(array: &mut ListedArray, ty: NcType, number: i128) -> Result<(), AllocError>
     requires { IsInRange ty number }

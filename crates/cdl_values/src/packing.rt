@@ -25,13 +25,15 @@ pub struct Packed<'a> {
     pub rest: Cutter<'a>,
 }
 
-/// Packs the values from the next token of `start` to the end of the statement, and returns their bytes, big-endian and one after the
-/// other. `form` is the form in which the variable takes values, and `capacity` is how many it takes. Unlike [`pack_and_check`], it
-/// checks neither the tokens nor their shape.
+/// Reads the values of a statement of the data section, from the next token of `start` to the end of the statement, and returns their
+/// bytes, big-endian and one after the other; a row of characters is filled up. `form` is the form in which the variable takes values, and
+/// `capacity` is how many it takes: numbers in the form `Numbers`, bytes in `Joined`, rows in `Rows`. Unlike [`pack_and_check`], it checks
+/// neither the tokens nor their order. Needs a token that is left.
 ///
 /// # Errors
 ///
-/// The fault of the first value that has one, or `OutOfMemory` if an allocation failed.
+/// The fault of the first value that has one (`WrongKind`, `TooManyValues`, `NumberRange`, `StringTooLong`), or `OutOfMemory` if an
+/// allocation failed.
 #[inline(never)]
 pub fn pack(
     alloc: Global,
@@ -56,15 +58,15 @@ pub fn pack(
     }
 }
 
-/// Packs the values from the next token of `start` to the end of the statement, and checks the tokens and their shape in the same pass.
-/// Unlike [`pack`], it doesn't say which fault it finds: it belongs to the quick pass. Returns the bytes of the values, big-endian and one
-/// after the other, and the cutter after the statement. `form` is the form in which the variable takes values, and `capacity` is how
-/// many it takes.
+/// Reads the values of a statement of the data section, from the next token of `start` to the end of the statement, and checks the tokens
+/// and their order in the same pass. Returns the bytes of the values, big-endian and one after the other, and the cutter after the
+/// statement. `form` is the form in which the variable takes values, and `capacity` is how many it takes: numbers in the form `Numbers`,
+/// bytes in `Joined`, rows in `Rows`. Unlike [`pack`], it doesn't say which fault it finds. Needs a token that is left.
 ///
 /// # Errors
 ///
-/// `Unnamed` if a token, a value or the shape has a fault; no clause says that it is only then, since the caller reads the statement again
-/// for the fault. `OutOfMemory` if an allocation failed.
+/// `Unnamed` if a token, a value or the order has a fault. The caller then reads the statement again for the fault, so no clause says that
+/// it is only then. `OutOfMemory` if an allocation failed.
 #[inline(never)]
 pub fn pack_and_check<'a>(
     alloc: Global,

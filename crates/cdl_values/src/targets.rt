@@ -17,7 +17,7 @@ use nc_base::{Dim, NcType, Var, dim_len, fill_of, is_record_var};
 use std::alloc::{AllocError, Global};
 
 /// Returns a [`Target`] for each variable, in order: how much the data section may give it. No values are given yet. The contract says
-/// nothing of variables whose shapes have other ids than those of `dims`.
+/// nothing unless the shape of each variable has ids of `dims`, and the record dimension nowhere but first.
 ///
 /// A record variable takes any number of values (the CDL chapter of the NetCDF User's Guide, "CDL Syntax"). Any other variable takes as
 /// many as the product of its dimension lengths, or `u64::MAX` if the product is greater. Characters of rank 2 and up are taken by rows,
@@ -36,7 +36,8 @@ pub fn targets_of(alloc: Global, dims: &[Dim], vars: &[Var]) -> Result<Vec<Targe
     Ok(targets)
 }
 
-/// Returns what a variable takes as long as no statement has given its values.
+/// Returns what a variable takes from the data section, as long as no statement has given its values. The contract says nothing unless the
+/// shape of the variable has ids of `dims`, and the record dimension nowhere but first.
 fn target(dims: &[Dim], var: &Var) -> Target
     ensures { AreDimids dims.now [] var.now.dimids → Suits dims.now result (unlisted_draft var.now) }
 {
@@ -48,8 +49,8 @@ fn target(dims: &[Dim], var: &Var) -> Target
     }
 }
 
-/// Returns the [`ValueForm`] of a variable, which is not its fill value but the form in which it takes the values that the data section lists
-/// for it: strings if its type is char, otherwise numbers of its type.
+/// Returns the form in which a variable takes the values that the data section lists of it: strings if its type is char, otherwise numbers
+/// of its type. The contract says nothing unless the shape of the variable has ids of `dims`, and the record dimension nowhere but first.
 fn form(dims: &[Dim], var: &Var) -> ValueForm
     ensures { AreDimids dims.now [] var.now.dimids → Fills result (takes_of dims.now var.now) }
 {
@@ -59,7 +60,8 @@ fn form(dims: &[Dim], var: &Var) -> ValueForm
     }
 }
 
-/// Returns the [`ValueForm`] of a variable of the type char: joined strings at rank 0 and 1, otherwise a string for each row.
+/// Returns the form in which a variable takes strings: joined at rank 0 and 1, otherwise a string for each row. Needs a variable of the
+/// type char. The contract says nothing unless the shape of the variable has ids of `dims`, and the record dimension nowhere but first.
 fn characters(dims: &[Dim], var: &Var) -> ValueForm
     requires { var.now.ty ≡ Char }
     ensures { AreDimids dims.now [] var.now.dimids → Fills result (takes_of dims.now var.now) }
@@ -74,8 +76,8 @@ fn characters(dims: &[Dim], var: &Var) -> ValueForm
     }
 }
 
-/// Returns how many values a variable takes from the data section: numbers, bytes or rows, as its form `form` counts them. A record
-/// variable has no limit.
+/// Returns how many values a variable takes from the data section: numbers, bytes or rows, as `form` counts them, or `u64::MAX` if there
+/// are more. A record variable takes any number. The contract says nothing unless `form` is the form of this variable.
 #[tactic(auto, unfolding(cdl_statements::specs::State::takes_of))]
 fn capacity(dims: &[Dim], var: &Var, form: ValueForm) -> Capacity
     ensures { HasCapacityAsFilled dims.now var.now form result }
@@ -91,7 +93,7 @@ fn capacity(dims: &[Dim], var: &Var, form: ValueForm) -> Capacity
     }
 }
 
-/// Returns how many values these dimensions have places for: the product of their lengths, or `u64::MAX` if the product is greater.
+/// Returns how many values a variable with these dimensions has: the product of their lengths, or `u64::MAX` if the product is greater.
 fn place_count(dims: &[Dim], dimids: &[u64]) -> u64
     ensures { result ≡ min (product (map (dim_len dims.now) dimids.now)) most }
 {
@@ -109,7 +111,8 @@ fn saturating_product(count: u64, len: u64) -> u64
     count.saturating_mul(len)
 }
 
-/// Returns the length of the first of these dimensions, or 1 if there is none: the number of bytes of a char variable of rank 0 or 1.
+/// Returns the length of the first of these dimensions, or 1 if there is none: the number of bytes of a char variable of rank 0 or 1. The
+/// contract leaves out two dimensions or more.
 fn first_len(dims: &[Dim], dimids: &[u64]) -> u64
     ensures { length dimids.now < 2 → result ≡ product (map (dim_len dims.now) dimids.now) }
 {
@@ -119,7 +122,7 @@ fn first_len(dims: &[Dim], dimids: &[u64]) -> u64
     }
 }
 
-/// Returns the dimensions without the last one.
+/// Returns the dimensions without the last one, or none if there is none.
 fn all_but_last(dimids: &[u64]) -> &[u64]
     ensures { result.now ≡ take (length dimids.now - 1) dimids.now }
 {

@@ -20,7 +20,8 @@ use cdl_statements::{CdlKind, Due, Lexeme};
 use cdl_tokens::{TokenKind, number_of_token};
 use nc_base::{ListedArray, Version};
 
-/// Why the quick pass over a statement stops. It doesn't name the fault of the statement.
+/// Why the quick pass, which reads and checks a statement at once, stops. It doesn't name the fault of the statement: the caller reads the
+/// statement again for that.
 #[derive(Clone, Copy)]
 pub enum QuickPassFault {
     /// An allocation failed.
@@ -44,7 +45,8 @@ impl From<ReadError> for QuickPassFault {
     }
 }
 
-/// Appends to `array` the bytes of the token's value, or nothing if the token is a mark, and returns the capacity that is left. Unlike
+/// Appends to `array` the bytes of the token's value, or nothing if the token is a mark. Returns what is left of `capacity`, which is how
+/// many more values the variable takes in the form `form`. `version` decides which suffixes a number may have. Unlike
 /// [`put_checked_token`], it doesn't check the token. Errs with `WrongKind`, `TooManyValues`, `NumberRange` or `StringTooLong` if the value
 /// has that fault, and with `OutOfMemory` if an allocation failed. After `StringTooLong` or `OutOfMemory`, bytes of a string may be
 /// appended.
@@ -68,9 +70,10 @@ pub fn put_token(
 }
 
 /// Appends to `array` the bytes of the token's value, or nothing if the token is a mark, and checks the token, unlike [`put_token`].
-/// Returns what capacity is left, and which token has to come next. If `due` doesn't allow this token, that is `Never`, and the value is
-/// appended all the same. Errs with `Unnamed` if the token or its value has a fault, and with `OutOfMemory` if an allocation failed; either
-/// way, bytes of the value may be appended.
+/// Returns what is left of `capacity` (how many more values the variable takes in the form `form`), and which token has to come next. `due`
+/// says which one had to come in this place: if not this token, the result's is `Never`, and the value is appended all the same. Errs with
+/// `Unnamed` if the token has a fault, such as a suffix that `version` doesn't have, or if its value has one, and with `OutOfMemory` if an
+/// allocation failed; either way, bytes of the value may be appended.
 #[inline]
 pub fn put_checked_token(
     array: &mut ListedArray,
@@ -94,8 +97,9 @@ pub fn put_checked_token(
     }
 }
 
-/// Appends to `array` the value of a token, and returns what capacity is left. Needs a token that is no mark. Errs with `Unnamed` if the
-/// token or its value has a fault, and with `OutOfMemory` if an allocation failed; either way, bytes of the value may be appended.
+/// Appends to `array` the bytes of a token's value, and returns what is left of `capacity`, which is how many more values the variable
+/// takes in the form `form`. Needs a token that is no mark. Errs with `Unnamed` if the token has a fault, such as a suffix that `version`
+/// doesn't have, or if its value has one, and with `OutOfMemory` if an allocation failed; either way, bytes of the value may be appended.
 pub fn put_checked_value(
     array: &mut ListedArray,
     version: Version,
@@ -122,9 +126,10 @@ pub fn put_checked_value(
     }
 }
 
-/// Appends to `array` the value of a token that is no number or mark: a string, or the fill value for `_` or any other token. Errs with
-/// `Unnamed` if the token is bad or its value has a fault, and with `OutOfMemory` if an allocation failed; either way, bytes of the value
-/// may be appended.
+/// Appends to `array` the bytes of the value of a token that is no number: those of a string, or of the fill value for `_` or any other
+/// token. `capacity` is how many more values the variable takes in the form `form`. `version` is only handed on. Needs a token that is no
+/// number. Errs with `Unnamed` if the token is bad or its value has a fault, and with `OutOfMemory` if an allocation failed; either way,
+/// bytes of the value may be appended.
 #[inline(never)]
 fn put_non_number(
     array: &mut ListedArray,
@@ -143,9 +148,9 @@ fn put_non_number(
     }
 }
 
-/// Appends to `array` the bytes of a number. `bytes` is its token. Errs with `Unnamed` if the form isn't `Numbers`, if the capacity is
-/// 0, if the token is no number of the version, or if the number is out of the type's range. Errs with `OutOfMemory` if an allocation
-/// failed. Nothing is appended in any of these cases.
+/// Appends to `array` the bytes of a number. `bytes` is its token, and `capacity` is how many more values the variable takes in the form
+/// `form`. Errs with `Unnamed` if the form isn't `Numbers`, if the capacity is 0, if the token is no number of `version`, or if the number
+/// is out of the type's range. Errs with `OutOfMemory` if an allocation failed. After any error nothing is appended, but no clause says so.
 #[tactic(auto, unfolding(cdl_statements::specs::code::Contents::value_of), using(crate::proofs::Ranges::number_added, cdl_statements::proofs::PassedValues::good_number))]
 fn put_checked_number(
     array: &mut ListedArray,
@@ -168,10 +173,10 @@ fn put_checked_number(
     Ok(put_numeral(array, fill.ty, n)?)
 }
 
-/// Appends to `array` the bytes of the value that `token` says, in the form `form`. Don't call it for a mark: any token that is neither
-/// a number nor a string counts as `_`. `version` decides which suffixes a number may have. Errs with `WrongKind`, `TooManyValues`,
-/// `NumberRange` or `StringTooLong` if the value has that fault, and with `OutOfMemory` if an allocation failed. After `StringTooLong` or
-/// `OutOfMemory`, bytes of a string may be appended.
+/// Appends to `array` the bytes of the value that `token` says. `capacity` is how many more values the variable takes in the form `form`,
+/// and `version` decides which suffixes a number may have. Don't call it for a mark: any token that is neither a number nor a string counts
+/// as `_`. Errs with `WrongKind`, `TooManyValues`, `NumberRange` or `StringTooLong` if the value has that fault, and with `OutOfMemory` if
+/// an allocation failed. After `StringTooLong` or `OutOfMemory`, bytes of a string may be appended.
 #[tactic(auto, unfolding(cdl_statements::specs::code::Contents::value_of))]
 fn put_token_value(
     array: &mut ListedArray,
@@ -197,9 +202,9 @@ fn put_token_value(
 }
 
 /// Appends to `array` the bytes of the number that `token` says, or those of the fill value if the token is neither a string nor a number.
-/// `version` decides which suffixes a number may have. `full` is true if the capacity is 0. Errs with `WrongKind` if the token is a string,
-/// with `TooManyValues` if `full`, with `NumberRange` if the number is out of the type's range, and with `OutOfMemory` if an allocation
-/// failed; in each case nothing is appended.
+/// `version` decides which suffixes a number may have. `full` is true if the variable takes no more values. Errs with `WrongKind` if the
+/// token is a string, with `TooManyValues` if `full`, with `NumberRange` if the number is out of the type's range, and with `OutOfMemory`
+/// if an allocation failed. After any error nothing is appended, but no clause says so.
 #[tactic(auto, unfolding(cdl_statements::specs::code::Contents::value_of), using(crate::proofs::Ranges::held_is, cdl_statements::proofs::InRange::has_it))]
 fn put_number_or_fill(
     array: &mut ListedArray,

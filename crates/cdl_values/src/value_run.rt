@@ -100,8 +100,8 @@ fn take_plain_values<'a>(
     }
 }
 
-/// Appends to `array` the plain numbers that come next and, if `takes_fill` is true, the fill value for each `_` among them. Returns what is
-/// unread after them. Stops before the first other value, before one without a comma after it, and when the capacity is used up. Needs a
+/// Appends to `array` the plain numbers that come next and, if `takes_fill` is true, the fill value for each `_` among them. Returns what
+/// is unread after them. Stops before the first other value, before one without a comma after it, and when the capacity is used up. Needs a
 /// cutter at a comma, with its scanner just after this comma. Errs with `Unnamed` if a number is out of the type's range, and with
 /// `OutOfMemory` if an allocation failed; the values before stay appended.
 #[inline(never)]
@@ -158,8 +158,8 @@ fn take_numbers_of_type<'a>(
 
 /// Appends to `array` the next value of `list`, and returns true. If a plain number with a comma after it comes next, the value is this
 /// number; if a `_` with a comma comes next and `takes_fill` is true, it is the fill value. Otherwise appends nothing, and returns false;
-/// `list` stays where it is. `ty` is the type of `fill`. Needs a list that began at a comma inside of a statement. Errs with `NumberRange` if
-/// the number is out of the type's range, and with `OutOfMemory` if an allocation failed.
+/// `list` stays where it is. `ty` is the type of `fill`. Needs a list that began at a comma inside of a statement. Errs with `NumberRange`
+/// if the number is out of the type's range, and with `OutOfMemory` if an allocation failed.
 #[inline(always)]
 fn put_next_number(
     array: &mut ListedArray,

@@ -7,7 +7,7 @@ use crate::name_index::NameIndex;
 use nc_base::Var;
 use std::marker::Model;
 
-/// The names of the variables of a header, with an index of them.
+/// The names of the variables of a header, and an index that finds a variable's position by its name.
 #[derive(Drop)]
 pub struct VariableNames<'a> {
     vars: &'a [Var],
@@ -26,7 +26,7 @@ impl<'a> Model for VariableNames<'a> {
 }
 
 impl<'a> VariableNames<'a> {
-    /// Returns the names of the variables `vars`, with their index. Needs the `index` of just these variables.
+    /// Returns the names of the variables `vars`, with their index. Needs the `index` of just these variables, in this order.
     pub fn new(vars: &'a [Var], index: &'a NameIndex) -> VariableNames<'a>
         requires { IsIndex index.now (var_names vars.now) }
         ensures { result ≡ var_names vars.now }
@@ -34,7 +34,7 @@ impl<'a> VariableNames<'a> {
         VariableNames { vars, index }
     }
 
-    /// Returns the position of the variable of this name, or `None` if there is none.
+    /// Returns the position, from 0 on, of the variable of this name, or `None` if there is none.
     pub fn find(&self, name: &[u8]) -> Option<u64>
         ensures { result ≡ position_of self.now name.now }
     {

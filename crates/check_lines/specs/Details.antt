@@ -21,7 +21,7 @@ use Rattle.check_lines.specs.Messages.{Message, message_text, says}
 
 -- ---- fields at which reading stops
 
--- the number that the field of this index is
+-- the number that is the content of the field of this index, or 0
 abbrev pub number_at : List Entry → ℕ → ℕ
 number_at entries i = option_map_or (λ (e : Entry). number_of e.content) (slice_get entries i) 0
 
@@ -131,7 +131,7 @@ field_message l e fact.HighRank = says (codes ": found _, expected at most _") (
 field_message l e (fact.Vsize size) = says (codes ": found _, expected _") (FieldContent ∷ Number size ∷ [])
 field_message l e (fact.Layout x) = layout_message x
 
--- of a fact at a field, or of one in the data
+-- of a fact at a field, or, without a field, of one in the data
 unfoldable pub details : Listing → Option Entry → Fact → Bytes
 details l (Some e) x = message_text l.header e.content (field_message l e x)
 details l None (fact.Layout x) = message_text l.header content.Cut (layout_message x)

@@ -34,12 +34,12 @@ position_text file offset = concat_parts (shown_path file ∷ codes ":" ∷ deci
 unfoldable pub kind_text : Kind → Bytes
 kind_text kind = concat_parts (severity_word (severity_of kind) ∷ codes ": " ∷ kind_word kind ∷ codes ": " ∷ [])
 
--- with the names that are known
+-- the line of a finding, with these names as the known ones
 unfoldable pub line_with : Bytes → Listing → KnownNames → Finding → Bytes
 line_with file l names f = concat_parts (
     position_text file f.offset ∷ kind_text (kind_of f.fact) ∷ path l names (entry_of l f) f.fact ∷ details l (entry_of l f) f.fact ∷ codes "\n" ∷ [])
 
--- the names of the fields up to this one
+-- the names that are known after the fields up to and including this one; in the data, none
 abbrev pub names_at : List Entry → Option ℕ → KnownNames
 names_at entries (Some i) = names_after (take (i + 1) entries)
 names_at entries None = no_names

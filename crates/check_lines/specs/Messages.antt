@@ -20,7 +20,7 @@ hex_digit n = if nat_lt n 10 then byte "0" + n else byte "a" + (n - 10)
 abbrev pub hex_byte : ℕ → Bytes
 hex_byte b = hex_digit (b / 16) ∷ hex_digit (b % 16) ∷ []
 
--- of a byte, or of 0 in its place
+-- the two hexadecimal digits of a byte, or of 0 in its place
 abbrev pub digits : Bool → ℕ → Bytes
 digits is_zero b = hex_byte (if is_zero then 0 else b)
 
@@ -33,7 +33,7 @@ content_text (content.Number n) = decimal n
 content_text (content.Bytes bytes) = hex_text false bytes
 content_text c = []
 
--- as many bytes that are 0
+-- in hexadecimal, a byte 0 for each byte
 unfoldable pub zeros_text : Content → Bytes
 zeros_text (content.Bytes bytes) = hex_text true bytes
 zeros_text c = []
@@ -68,7 +68,7 @@ pub record Message : Type 0 where
 abbrev pub says : Bytes → List Part → Message
 says text parts = record { text = text; parts = parts }
 
--- of a field with this content, or in the data
+-- a part of a message about a field with this content, or about the data
 abbrev pub part_text : Result Header FormatFault → Content → Part → Bytes
 part_text header c (Number n) = decimal n
 part_text header c (Long n) = decimal n

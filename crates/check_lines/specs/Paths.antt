@@ -26,7 +26,7 @@ abbrev pub bytes_in : Content → Option Bytes
 bytes_in (content.Bytes bytes) = Some bytes
 bytes_in c = None
 
--- with this name of what has this owner's place
+-- the names, with this one as the owner's; the header itself has none
 abbrev pub renamed : Owner → Option Bytes → KnownNames → KnownNames
 renamed owner.Header bytes names = names
 renamed (owner.Dim i) bytes names = record names { element = bytes }
@@ -40,11 +40,11 @@ names_with name.NameLength owner c names = renamed owner None names
 names_with name.Name owner c names = renamed owner (bytes_in c) names
 names_with field owner c names = names
 
--- after one more field
+-- the names that are known after one more field
 unfoldable pub with_field : KnownNames → Entry → KnownNames
 with_field names entry = names_with entry.place.name entry.place.owner entry.content names
 
--- after these fields, the first ones of a header
+-- the names that are known after these fields, the first ones of a header
 abbrev pub names_after : List Entry → KnownNames
 names_after entries = fold with_field no_names entries
 

@@ -8,7 +8,8 @@ ghost use Rattle.check_lines.specs.Words.{each_of};
 use devices::{Sink, WriteFailed, put, put_decimal};
 use nc_fields::Content;
 
-/// Writes the content of a field that is a type code, with the type's word.
+/// Writes the content of a field `nc_type`, and the name of the type in brackets: `5 (float)`. A code that no type has stands alone.
+/// Content that isn't a number is written as [`put_content`] writes it. Errs if the sink fails.
 #[tactic(auto, using(devices::proofs::Writes::writes), unfolding(crate::specs::Messages::type_text))]
 pub(crate) fn put_type<W: Sink>(sink: &mut W, content: &Content) -> Result<(), WriteFailed>
     ensures { Wrote W.view sink.old sink.new (type_text content.now) result }
@@ -17,7 +18,7 @@ pub(crate) fn put_type<W: Sink>(sink: &mut W, content: &Content) -> Result<(), W
     put(sink, type_word(content.number()).as_bytes())
 }
 
-/// Returns the word for a type code, in brackets, or nothing for another number.
+/// Returns the name of the type with this code, in brackets after a space, such as ` (float)`. Any other number gives the empty text.
 #[tactic(auto, unfolding(crate::specs::Messages::type_word))]
 fn type_word(code: u64) -> &'static str
     ensures { result.now ≡ type_word code }
@@ -38,7 +39,8 @@ fn type_word(code: u64) -> &'static str
     }
 }
 
-/// Writes a number in decimal, or bytes in hexadecimal; nothing for other contents.
+/// Writes the content of a field of the header: a number in decimal, bytes in hexadecimal (`0x434446`), and nothing for the values of an
+/// attribute, or for a field that the end of the file cuts off. Errs if the sink fails.
 #[tactic(auto, using(devices::proofs::Writes::writes), unfolding(crate::specs::Messages::content_text))]
 pub(crate) fn put_content<W: Sink>(sink: &mut W, content: &Content) -> Result<(), WriteFailed>
     ensures { Wrote W.view sink.old sink.new (content_text content.now) result }
@@ -50,7 +52,7 @@ pub(crate) fn put_content<W: Sink>(sink: &mut W, content: &Content) -> Result<()
     }
 }
 
-/// Writes as many zeros in hexadecimal as the content has bytes.
+/// Writes `0x`, then `00` for each byte of the content, such as `0x0000`; nothing if the content isn't bytes. Errs if the sink fails.
 #[tactic(auto, using(devices::proofs::Writes::writes), unfolding(crate::specs::Messages::zeros_text))]
 pub(crate) fn put_zeros<W: Sink>(sink: &mut W, content: &Content) -> Result<(), WriteFailed>
     ensures { Wrote W.view sink.old sink.new (zeros_text content.now) result }
@@ -61,7 +63,7 @@ pub(crate) fn put_zeros<W: Sink>(sink: &mut W, content: &Content) -> Result<(), 
     }
 }
 
-/// Writes bytes in hexadecimal, or, if `is_zero` is true, as many that are 0.
+/// Writes `0x` and then two hexadecimal digits for each byte, or `00` for each if `is_zero` is true. Errs if the sink fails.
 #[tactic(auto, using(devices::proofs::Writes::writes), unfolding(crate::specs::Messages::hex_text))]
 fn put_hex<W: Sink>(sink: &mut W, bytes: &[u8], is_zero: bool) -> Result<(), WriteFailed>
     ensures { Wrote W.view sink.old sink.new (hex_text is_zero bytes.now) result }
@@ -70,7 +72,7 @@ fn put_hex<W: Sink>(sink: &mut W, bytes: &[u8], is_zero: bool) -> Result<(), Wri
     put_digits(sink, bytes, is_zero)
 }
 
-/// Writes two hexadecimal digits for each byte.
+/// Writes two hexadecimal digits for each byte, or `00` for each if `is_zero` is true. Errs if the sink fails.
 #[tactic(auto, using(devices::proofs::Writes::writes))]
 fn put_digits<W: Sink>(sink: &mut W, bytes: &[u8], is_zero: bool) -> Result<(), WriteFailed>
     ensures { Wrote W.view sink.old sink.new (each_of (digits is_zero) bytes.now) result }
@@ -81,7 +83,7 @@ fn put_digits<W: Sink>(sink: &mut W, bytes: &[u8], is_zero: bool) -> Result<(), 
     Ok(())
 }
 
-/// Writes a byte as two hexadecimal digits, or `00` if `is_zero` is true.
+/// Writes a byte as two hexadecimal digits, or `00` if `is_zero` is true. Errs if the sink fails.
 fn put_hex_byte<W: Sink>(sink: &mut W, b: u8, is_zero: bool) -> Result<(), WriteFailed>
     ensures { Wrote W.view sink.old sink.new (digits is_zero b) result }
 {
@@ -89,7 +91,7 @@ fn put_hex_byte<W: Sink>(sink: &mut W, b: u8, is_zero: bool) -> Result<(), Write
     put(sink, &[hex_digit(b / 16), hex_digit(b % 16)])
 }
 
-/// Returns the hexadecimal digit of a number below 16, in lower case.
+/// Returns the hexadecimal digit of `n` in lower case, as an ASCII byte. Needs a number below 16.
 fn hex_digit(n: u8) -> u8
     requires { n < 16 }
     ensures { result ≡ hex_digit n }

@@ -14,7 +14,9 @@ use devices::{Sink, WriteFailed};
 use nc_fields::{Content, Entry, Listing, Owner};
 use nc_report::{Fact, HIGHEST_RANK, LARGE_COUNT, LONGEST_NAME};
 
-/// Writes what a fact says of what is found at a field, or in the data, and of what is expected in its place.
+/// Writes the end of a finding's line: what is found and what is expected, such as `: found 3, expected 0`, or nothing if the fact says no
+/// more. `listing` has the header's fields, and `entry` is the finding's field. With `None`, for a finding in the data, it writes only a
+/// fact about the file's layout. Errs if the sink fails.
 #[tactic(auto, using(devices::proofs::Writes::writes), unfolding(crate::specs::Details::details))]
 pub(crate) fn put_details<W: Sink>(
     sink: &mut W,
@@ -38,7 +40,8 @@ pub(crate) fn put_details<W: Sink>(
     }
 }
 
-/// Returns what is found at a field, and what is expected in its place.
+/// Returns the message for a fact at the field `entry` of the listing (the fields of the header): a text, such as `: found _, expected 0`,
+/// and the parts that fill its blanks `_`. The text is empty if the fact says no more.
 fn field_message(listing: &Listing, entry: &Entry, fact: Fact) -> Message
     ensures { message_of result ≡ field_message listing.now entry.now fact }
 {
@@ -81,7 +84,8 @@ fn field_message(listing: &Listing, entry: &Entry, fact: Fact) -> Message
     Message { text, parts }
 }
 
-/// Returns the number of what the field of this index belongs to, or 0 if there is no such field.
+/// Returns the number, from 0 in its list, of the dimension, attribute or variable to which the field at the index `i` belongs. Returns 0
+/// if there is no such field, or if it belongs to the header itself.
 fn owner_number_at(entries: &[Entry], i: u64) -> u64
     ensures { result ≡ owner_number_at entries.now i }
 {
@@ -91,7 +95,7 @@ fn owner_number_at(entries: &[Entry], i: u64) -> u64
     }
 }
 
-/// Returns the number of the dimension, the attribute or the variable.
+/// Returns the number of a dimension, an attribute or a variable in its list, from 0. For the header itself, returns 0.
 fn owner_number(owner: Owner) -> u64
     ensures { result ≡ owner_number owner }
 {

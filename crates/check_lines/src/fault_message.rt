@@ -9,7 +9,8 @@ use crate::message::{CONTENT, Message, NO_PARTS};
 use nc_base::FormatFault;
 use nc_fields::{Entry, FieldName, Listing};
 
-/// Returns what is found at a field with this fault, the last one of the listing, and what is expected in its place.
+/// Returns the message for the field `entry`, at which reading the header stopped with `fault`: what is found there, and what is expected,
+/// or an empty text if `fault` says no more. This is the last field of the listing, but no clause says so.
 pub(crate) fn fault_message(listing: &Listing, entry: &Entry, fault: FormatFault) -> Message
     ensures { message_of result ≡ fault_message listing.now entry.now fault }
 {
@@ -49,7 +50,7 @@ pub(crate) fn fault_message(listing: &Listing, entry: &Entry, fault: FormatFault
     Message { text, parts }
 }
 
-/// Returns the message that a number below this one is expected.
+/// Returns the message `: found _, expected below _`. The content of the field fills its first blank, and `limit` the second.
 pub(crate) fn below(limit: u64) -> Message
     ensures { message_of result ≡ below limit }
 {
@@ -59,14 +60,15 @@ pub(crate) fn below(limit: u64) -> Message
     }
 }
 
-/// Returns true if the field of this name, at which reading stops, is the number of a list's elements, and the tag before it is 0.
+/// Returns true if a field of the name `name` is the number of elements of a list, and the number in the last field but one of `entries` is
+/// 0. Reading stops at the last field, that number, so the one before it is the tag of the list.
 fn is_after_zero_tag(entries: &[Entry], name: FieldName) -> bool
     ensures { result ≡ is_after_zero_tag entries.now name }
 {
     is_list_count(name) && number_at(entries, entries.len().saturating_sub(2)) == 0
 }
 
-/// Returns true if the field of this name is the number of a list's elements.
+/// Returns true if a field of this name is the number of elements of a list: of dimensions, attributes or variables.
 fn is_list_count(name: FieldName) -> bool
     ensures { result ≡ is_list_count name }
 {
@@ -79,7 +81,8 @@ fn is_list_count(name: FieldName) -> bool
     )
 }
 
-/// Returns the tag of a list with elements, from the name of the field of the tag.
+/// Returns the tag that a list with elements has in a file: 10 for dimensions, 11 for variables, and 12 for attributes. `name` is the field
+/// of the list's tag. Any other field gives 12.
 fn tag_of(name: FieldName) -> u64
     ensures { result ≡ tag_of name }
 {
@@ -90,21 +93,21 @@ fn tag_of(name: FieldName) -> u64
     }
 }
 
-/// Returns the number that a number of 8 bytes, otherwise one of 4, has to be below for its top bit to be 0.
+/// Returns the limit below which the top bit of a number is 0: 2^63 for a number of 8 bytes, and otherwise 2^31. `size` is in bytes.
 fn top_bit_limit(size: u128) -> u64
     ensures { result ≡ top_bit_limit size }
 {
     if size == 8 { 1 << 63 } else { 1 << 31 }
 }
 
-/// Returns the greatest type code of the version, which the second field of a header has.
+/// Returns the greatest type code of the file's version: 11 for CDF-5, otherwise 6. The version is the second field of the listing.
 fn last_type(entries: &[Entry]) -> u64
     ensures { result ≡ last_type entries.now }
 {
     if number_at(entries, 1) == 5 { 11 } else { 6 }
 }
 
-/// Returns the number that the field of this index is, or 0 if there is none.
+/// Returns the number that is the content of the field at the index `i`, or 0 if there is no such field, or its content isn't a number.
 fn number_at(entries: &[Entry], i: usize) -> u64
     ensures { result ≡ number_at entries.now i }
 {

@@ -12,7 +12,8 @@ use nc_base::{FormatFault, Header};
 use nc_fields::{FieldName, Owner, Place};
 use nc_layout::{Block, Slab};
 
-/// Writes the path of a field, with the names that are known at it.
+/// Writes the path of a field, such as `var[2] "temperature" vsize`: what it belongs to, and which of its fields it is. `names` are the
+/// names that are known at the field. Errs if the sink fails.
 #[tactic(auto, using(devices::proofs::Writes::writes), unfolding(crate::specs::Paths::field_path))]
 pub(crate) fn put_field_path<W: Sink>(
     sink: &mut W,
@@ -25,7 +26,9 @@ pub(crate) fn put_field_path<W: Sink>(
     put_field_words(sink, place.name)
 }
 
-/// Writes what a field belongs to.
+/// Writes the dimension, attribute or variable that a field belongs to, such as `var[2] "temperature"`, and a space after it. Of an
+/// attribute of a variable, it writes both (`var[2] "temperature" att[0] "units"`); of the header itself, nothing. A name that `names`
+/// doesn't have is left out. Errs if the sink fails.
 #[tactic(auto, using(devices::proofs::Writes::writes), unfolding(crate::specs::Paths::owner_path))]
 fn put_owner<W: Sink>(sink: &mut W, names: Names<'_>, owner: Owner) -> Result<(), WriteFailed>
     ensures { Wrote W.view sink.old sink.new (owner_path (known names.entry) owner) result }
@@ -42,7 +45,8 @@ fn put_owner<W: Sink>(sink: &mut W, names: Names<'_>, owner: Owner) -> Result<()
     }
 }
 
-/// Writes an element of a list as a part of a path, such as `var[2] "temperature"`, and a space after it.
+/// Writes an element of a list, its `word`, its number `i` and its name as [`put_element`] does (`var[2] "temperature"`), and a space after
+/// it. Errs if the sink fails.
 #[tactic(auto, using(devices::proofs::Writes::writes), unfolding(crate::specs::Paths::element_part))]
 fn put_element_part<W: Sink>(
     sink: &mut W,
@@ -56,7 +60,8 @@ fn put_element_part<W: Sink>(
     put(sink, b" ")
 }
 
-/// Writes an element of a list: what it is, with an opening bracket, its number, and its name if there is one.
+/// Writes an element of a list, such as `var[2] "temperature"`: `word`, which is `var[` there, the number `i`, a closing bracket, and the
+/// name in quotes after a space, if there is one. Errs if the sink fails.
 #[tactic(auto, using(devices::proofs::Writes::writes), unfolding(crate::specs::Paths::element))]
 fn put_element<W: Sink>(
     sink: &mut W,
@@ -72,7 +77,7 @@ fn put_element<W: Sink>(
     put_quoted(sink, name)
 }
 
-/// Writes a name between quotes after a space, or nothing if there is no name.
+/// Writes a name between quotes after a space, as [`put_name`] shows it, or nothing if there is no name. Errs if the sink fails.
 #[tactic(auto, using(devices::proofs::Writes::writes), unfolding(crate::specs::Paths::quoted))]
 fn put_quoted<W: Sink>(sink: &mut W, name: Option<&[u8]>) -> Result<(), WriteFailed>
     ensures { Wrote W.view sink.old sink.new (quoted (bytes_of name.entry)) result }
@@ -84,7 +89,8 @@ fn put_quoted<W: Sink>(sink: &mut W, name: Option<&[u8]>) -> Result<(), WriteFai
     put_name(sink, name)
 }
 
-/// Writes the words of a field, without what it belongs to.
+/// Writes the words for a field that end its path, such as `vsize`, `dims tag` or `dimid[2]`, without the dimension, attribute or variable
+/// that the field belongs to. Errs if the sink fails.
 #[tactic(auto, unfolding(crate::specs::Paths::field_words))]
 fn put_field_words<W: Sink>(sink: &mut W, name: FieldName) -> Result<(), WriteFailed>
     ensures { Wrote W.view sink.old sink.new (field_words name) result }
@@ -116,7 +122,8 @@ fn put_field_words<W: Sink>(sink: &mut W, name: FieldName) -> Result<(), WriteFa
     }
 }
 
-/// Writes the path of a variable, with its name if the header is whole.
+/// Writes the path of the variable with the index `i`, such as `var[2] "temperature"`. The name is left out if the header isn't whole, or
+/// has no such variable. Errs if the sink fails.
 #[tactic(auto, unfolding(crate::specs::Paths::var_path))]
 pub(crate) fn put_var_path<W: Sink>(
     sink: &mut W,
@@ -128,7 +135,7 @@ pub(crate) fn put_var_path<W: Sink>(
     put_element(sink, b"var[", i, var_name(header, i))
 }
 
-/// Returns the name of a variable, if the header is whole.
+/// Returns the name of the variable with the index `i`, or `None` if the header isn't whole (`Err`), or has no such variable.
 fn var_name<'a>(header: &'a Result<Header, FormatFault>, i: u64) -> Option<&'a [u8]>
     ensures { bytes_of result ≡ var_name header.entry.now i }
 {
@@ -141,7 +148,8 @@ fn var_name<'a>(header: &'a Result<Header, FormatFault>, i: u64) -> Option<&'a [
     }
 }
 
-/// Writes the path of a block.
+/// Writes the path of a block, that is, of the values of one variable (`var[2] "rain"`, as [`put_var_path`] writes it) or of all record
+/// variables (`the records`). Errs if the sink fails.
 #[tactic(auto, unfolding(crate::specs::Paths::block_path))]
 pub(crate) fn put_block_path<W: Sink>(
     sink: &mut W,
@@ -156,7 +164,8 @@ pub(crate) fn put_block_path<W: Sink>(
     }
 }
 
-/// Writes the path of a slab.
+/// Writes the path of a slab, such as `var[2] "temperature"`, as [`put_var_path`] does; of a record variable also the number of the record,
+/// from 0: `var[2] "rain" record 7`. Errs if the sink fails.
 #[tactic(auto, using(devices::proofs::Writes::writes), unfolding(crate::specs::Paths::slab_path))]
 pub(crate) fn put_slab_path<W: Sink>(
     sink: &mut W,

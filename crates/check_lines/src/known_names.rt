@@ -6,12 +6,12 @@ ghost use Rattle.check_lines.specs.code.Names.{bytes_of, known};
 
 use nc_fields::{Content, Entry, FieldName, Owner};
 
-/// The names that are known at a field, which paths show.
+/// The names of what a field belongs to, which paths show. A name is known once its bytes were passed in the listing.
 #[derive(Clone, Copy)]
 pub(crate) struct Names<'a> {
     /// The name of the dimension, the global attribute or the variable.
     pub element: Option<&'a [u8]>,
-    /// The name of the attribute of the variable.
+    /// The name of the attribute, if it is one of a variable, whose name is `element` then.
     pub att: Option<&'a [u8]>,
 }
 
@@ -25,7 +25,8 @@ pub(crate) fn no_names<'a>() -> Names<'a>
     }
 }
 
-/// Returns the names that are known after one more field.
+/// Returns the names that are known after the field `entry`, if `names` are known before it. After the length of a name, that name is
+/// unknown; after its bytes, it is known. No other field changes anything.
 #[tactic(auto, unfolding(crate::specs::Paths::with_field))]
 pub(crate) fn with_field<'a>(names: Names<'a>, entry: &'a Entry) -> Names<'a>
     ensures { known result ≡ with_field (known names.entry) entry.entry.now }
@@ -37,7 +38,7 @@ pub(crate) fn with_field<'a>(names: Names<'a>, entry: &'a Entry) -> Names<'a>
     }
 }
 
-/// Returns the bytes that a field is, if it is bytes.
+/// Returns the bytes of a field, or `None` if its content isn't bytes.
 fn bytes_in<'a>(content: &'a Content) -> Option<&'a [u8]>
     ensures { bytes_of result ≡ bytes_in content.entry.now }
 {
@@ -47,7 +48,8 @@ fn bytes_in<'a>(content: &'a Content) -> Option<&'a [u8]>
     }
 }
 
-/// Returns the names with this one, of what the owner says.
+/// Returns `names` with `name` as the name of `owner`, a dimension, an attribute or a variable. With `None`, that name isn't known. For the
+/// header itself, returns `names` as they are.
 fn renamed<'a>(owner: Owner, name: Option<&'a [u8]>, names: Names<'a>) -> Names<'a>
     ensures { known result ≡ renamed owner (bytes_of name.entry) (known names.entry) }
 {

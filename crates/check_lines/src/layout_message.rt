@@ -8,7 +8,8 @@ use crate::message::Message;
 use crate::message::Part::{Long, Nothing, Number, OfBlock};
 use nc_layout::{Block, LayoutFact};
 
-/// Returns what is found, and what is expected in its place.
+/// Returns the message for a fact about the layout of the file: a text such as `: found _, expected at most _`, and the parts that fill its
+/// blanks `_`.
 pub(crate) fn layout_message(fact: LayoutFact) -> Message
     ensures { message_of result ≡ layout_message fact }
 {

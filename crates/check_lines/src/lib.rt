@@ -3,8 +3,8 @@
 //! [`put_lines`] writes a line for each finding of a report that is to be reported, and [`gravest`] says how grave the gravest of them is;
 //! [`FilterOptions`] says which are. [`put_file_path`] and [`kind_word`] give the path and the word of a kind as they stand in a line.
 //!
-//! Each function that takes a [`Sink`](devices::Sink) writes its text from beginning to end, and does not allocate. It errs only if the sink
-//! fails, and writes nothing after that.
+//! Each function that takes a [`Sink`](devices::Sink) writes its text from beginning to end, and does not allocate. It errs only if the
+//! sink fails, and writes nothing after that.
 #![tactic(auto)]
 
 mod content;

@@ -15,7 +15,9 @@ use nc_fields::{Entry, Listing};
 use nc_layout::LayoutFact;
 use nc_report::{Fact, Finding, Kind};
 
-/// Writes the line of a finding, with the names that are known at its field.
+/// Writes the line of a finding: `FILE:OFFSET: SEVERITY: KIND: PATH`, what is found and expected, and a line feed. FILE is the path `file`,
+/// `listing` has the header's fields, and `names` are the names of what the finding's field belongs to, as far as they are known. Errs if
+/// the sink fails.
 #[tactic(auto, using(devices::proofs::Writes::writes), unfolding(crate::specs::Lines::line_with))]
 pub(crate) fn put_line<W: Sink>(
     sink: &mut W,
@@ -35,7 +37,7 @@ pub(crate) fn put_line<W: Sink>(
     put(sink, b"\n")
 }
 
-/// Writes the file and the offset.
+/// Writes the path `file`, as [`put_file_path`] does, and the offset of the finding, such as `a.nc:132: `. Errs if the sink fails.
 #[tactic(auto, using(devices::proofs::Writes::writes), unfolding(crate::specs::Lines::position_text))]
 fn put_position<W: Sink>(sink: &mut W, file: &[u8], offset: u64) -> Result<(), WriteFailed>
     ensures { Wrote W.view sink.old sink.new (position_text file.now offset) result }
@@ -46,7 +48,7 @@ fn put_position<W: Sink>(sink: &mut W, file: &[u8], offset: u64) -> Result<(), W
     put(sink, b": ")
 }
 
-/// Writes the severity and the kind.
+/// Writes the severity of a kind of findings, and the word of the kind, such as `note: gap: `. Errs if the sink fails.
 #[tactic(auto, using(devices::proofs::Writes::writes), unfolding(crate::specs::Lines::kind_text))]
 fn put_kind<W: Sink>(sink: &mut W, kind: Kind) -> Result<(), WriteFailed>
     ensures { Wrote W.view sink.old sink.new (kind_text kind) result }
@@ -57,7 +59,7 @@ fn put_kind<W: Sink>(sink: &mut W, kind: Kind) -> Result<(), WriteFailed>
     put(sink, b": ")
 }
 
-/// Returns the field at which a finding lies.
+/// Returns the field of the listing at which a finding lies, or `None` if it lies in the data, or if the listing has no such field.
 fn entry_of<'a>(listing: &'a Listing, finding: &Finding) -> Option<&'a Entry>
     ensures { entry_in result ≡ entry_of listing.entry.now finding.now }
 {
@@ -65,7 +67,9 @@ fn entry_of<'a>(listing: &'a Listing, finding: &Finding) -> Option<&'a Entry>
     listing.entries.as_slice().get(i as usize)
 }
 
-/// Writes the path of a fact at a field, with the names that are known there, or in the data: that of a slab that isn't whole, or the data.
+/// Writes where a finding lies: the path of its field `entry`, in which `names` are the known names. With `None`, the finding lies in the
+/// data. Then it writes the path of the first slab that isn't whole, if `fact` is that the file ends before its values do, otherwise
+/// `data`. Errs if the sink fails.
 #[tactic(auto, unfolding(crate::specs::Lines::path))]
 fn put_finding_path<W: Sink>(
     sink: &mut W,

@@ -37,7 +37,7 @@ pub(crate) enum Part {
     FieldType,
     /// As many zeros as the field has bytes.
     FieldZeros,
-    /// The path of a block.
+    /// The path of a block: a variable, or `the records`.
     OfBlock(Block),
     /// Nothing: the message has no more parts.
     Nothing,
@@ -49,7 +49,8 @@ pub(crate) const NO_PARTS: [Part; 3] = [Part::Nothing, Part::Nothing, Part::Noth
 /// The parts of a message whose only blank is the content of the field.
 pub(crate) const CONTENT: [Part; 3] = [Part::FieldContent, Part::Nothing, Part::Nothing];
 
-/// Writes a message about a field with this content, or about the data.
+/// Writes a message: its text, with its parts in place of the blanks `_`. `content` is that of the field that the message is about, and
+/// `header` has the names of variables. Errs if the sink fails.
 pub(crate) fn put_message<W: Sink>(
     sink: &mut W,
     header: &Result<Header, FormatFault>,
@@ -62,7 +63,9 @@ pub(crate) fn put_message<W: Sink>(
     put_with_parts(sink, header, content, message.text, &message.parts)
 }
 
-/// Writes a text with these parts in place of its first blanks.
+/// Writes `text`, in which each `_` is a blank, with the first part in place of the first blank, and so on, up to a part that is `Nothing`.
+/// Blanks that are left are written as `_`. `content` is that of the field that the message is about, and `header` has the names of
+/// variables. Errs if the sink fails.
 #[tactic(auto, using(devices::proofs::Writes::writes), unfolding(crate::specs::Messages::with_parts))]
 fn put_with_parts<W: Sink>(
     sink: &mut W,
@@ -86,7 +89,7 @@ fn put_with_parts<W: Sink>(
     put_with_parts(sink, header, content, rest, others)
 }
 
-/// Returns what a text has before its first blank, and after it.
+/// Returns the text before its first blank `_`, and the text after it. Without a blank, returns the whole text and an empty one.
 fn cut_at_blank(text: &str) -> (&str, &str)
     ensures before { result.0.now ≡ before_first is_blank text.entry.now }
     ensures after { result.1.now ≡ after_first is_blank text.entry.now }
@@ -94,7 +97,8 @@ fn cut_at_blank(text: &str) -> (&str, &str)
     text.split_once('_').unwrap_or((text, ""))
 }
 
-/// Writes what stands in place of a blank.
+/// Writes one part, or nothing for `Nothing`. `content` is that of the field that the message is about, and `header` has the names of
+/// variables. Errs if the sink fails.
 #[tactic(auto, using(devices::proofs::Writes::writes))]
 fn put_part<W: Sink>(
     sink: &mut W,

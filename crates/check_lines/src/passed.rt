@@ -17,7 +17,7 @@ pub(crate) struct Passed<'a> {
     pub names: Names<'a>,
 }
 
-/// Returns what is known where no field was passed.
+/// Returns what is known before the first field: no field was passed, and no name is known.
 pub(crate) fn nothing_passed<'a>() -> Passed<'a>
     ensures count { result.count ≡ 0 }
     ensures names { known result.names ≡ names_after [] }
@@ -28,9 +28,10 @@ pub(crate) fn nothing_passed<'a>() -> Passed<'a>
     }
 }
 
-/// Goes on to the field of this index, and returns what is known after it; without an index, what is known where no field was passed. A field
-/// that was passed is gone back to from the first field. (In a report that never happens: its findings are in the order of the fields that
-/// they lie at, and those in the data come last.)
+/// Returns how many fields of the listing there are up to and including the one at the index `field`, and the names that are known after
+/// them. With `None`, for a finding in the data, returns no field and no name. Needs a `passed` of the same listing, from which it goes on,
+/// or begins again at the first field if `passed` is already past `field`. (In a report it never begins again: the findings are in the
+/// order of their fields, and those in the data come last.)
 pub(crate) fn passed_up_to<'a>(
     passed: Passed<'a>,
     entries: &'a [Entry],
@@ -54,7 +55,7 @@ pub(crate) fn passed_up_to<'a>(
     }
 }
 
-/// Returns how many fields there are up to this index.
+/// Returns how many fields the listing has up to and including the one at the index `i`: all of them if it has no such field.
 #[tactic(auto, using(std::proofs::lemmas::List::take_all))]
 fn end_after(entries: &[Entry], i: u64) -> usize
     ensures within { result ≤ length entries.now }
@@ -64,7 +65,8 @@ fn end_after(entries: &[Entry], i: u64) -> usize
     if i < len as u64 { i as usize + 1 } else { len }
 }
 
-/// Passes the fields up to this index, and returns what is known after them.
+/// Goes on from `passed` through the fields before the index `end`. Returns how many fields have now been passed, and the names that are
+/// known after them. Needs a `passed` of the same listing, which isn't past `end`, and an `end` within the listing.
 #[tactic(auto, using(std::proofs::lemmas::List::Sums::fold_more))]
 fn pass_fields<'a>(passed: Passed<'a>, entries: &'a [Entry], end: usize) -> Passed<'a>
     requires passed { IsPassed entries.now passed }

@@ -15,8 +15,8 @@ use devices::{Sink, WriteFailed};
 use nc_fields::Listing;
 use nc_report::{Finding, Kind, Report, Severity};
 
-/// Writes a line for each finding of a report that is grave enough and of no ignored kind, in the order of the report. Each line begins
-/// with `file`, which is the path of the file.
+/// Writes a line for each finding of a report that `filter` lets be reported: one that is grave enough and of no ignored kind. The lines
+/// are in the order of the report. Each begins with `file`, which is the path of the file.
 ///
 /// # Errors
 ///
@@ -39,7 +39,9 @@ pub fn put_lines<W: Sink>(
     Ok(())
 }
 
-/// Writes the line of a finding, if it is reported. Returns what is known of the fields that were passed.
+/// If `filter` lets a finding be reported, writes its line, and returns how many fields there are up to its own, and the names that are
+/// known after them ([`passed_up_to`]). Otherwise writes nothing, and returns `passed`, which an earlier finding has left. The line begins
+/// with the path `file`. Needs a `passed` of this listing. Errs if the sink fails.
 #[tactic(auto, using(devices::proofs::Writes::writes))]
 fn put_line_if<'a, W: Sink>(
     sink: &mut W,
@@ -62,7 +64,7 @@ fn put_line_if<'a, W: Sink>(
     Ok(passed)
 }
 
-/// Returns the gravest severity of the findings of the report that are reported, or `None` if none is.
+/// Returns the gravest severity of the findings that the filter lets be reported, or `None` if it lets none.
 pub fn gravest(report: &Report, filter: &FilterOptions<'_>) -> Option<Severity>
     ensures { result ≡ gravest (filter_for filter.now) report.now.findings }
 {
@@ -77,7 +79,7 @@ pub fn gravest(report: &Report, filter: &FilterOptions<'_>) -> Option<Severity>
     }
 }
 
-/// Returns true if a finding of the report is reported and at least this grave.
+/// Returns true if the filter lets a finding of the report be reported that is at least as grave as `severity`.
 fn has_reported(report: &Report, filter: &FilterOptions<'_>, severity: Severity) -> bool
     ensures { result ≡ has_reported (filter_for filter.now) severity report.now.findings }
 {
@@ -87,7 +89,7 @@ fn has_reported(report: &Report, filter: &FilterOptions<'_>, severity: Severity)
     })
 }
 
-/// Returns true if the finding is grave enough, and of no ignored kind.
+/// Returns true if the finding is at least as grave as the level of the filter, and of no ignored kind.
 fn is_reported(filter: &FilterOptions<'_>, finding: &Finding) -> bool
     ensures { result ≡ is_reported (filter_for filter.now) finding.now }
 {
@@ -95,7 +97,7 @@ fn is_reported(filter: &FilterOptions<'_>, finding: &Finding) -> bool
     is_at_level(filter.level, kind.severity()) && !is_ignored(filter.ignored.as_slice(), kind)
 }
 
-/// Returns true if one of the words is that of this kind.
+/// Returns true if one of `words` is the word of this kind, such as `gap`.
 fn is_ignored(words: &[&str], kind: Kind) -> bool
     ensures { result ≡ is_ignored (texts_of words.now) kind }
 {
@@ -107,7 +109,7 @@ fn is_ignored(words: &[&str], kind: Kind) -> bool
     false
 }
 
-/// Returns true if this severity is reported at this level.
+/// Returns true if `severity` is at least as grave as `level`. A note is the least grave, and an error the gravest.
 fn is_at_level(level: Severity, severity: Severity) -> bool
     ensures { result ≡ is_at_level level severity }
 {

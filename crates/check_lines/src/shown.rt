@@ -30,7 +30,9 @@ const LONGEST_NAME: usize = 256;
 /// How many bytes are shown of what is too long to be shown whole.
 const SHOWN_OF_LONG: usize = 64;
 
-/// Writes a name between quotes; of a long one its beginning, with dots after the quotes.
+/// Writes a name in quotes, with the escapes of a string in a dump. Bytes from 0x80 on are escaped in octal, unless the whole name is
+/// UTF-8. Of a name of more than 256 bytes, it writes only the first 64, those from 0x80 on in octal, and `...` after the quotes. Errs if
+/// the sink fails.
 #[tactic(auto, using(devices::proofs::Writes::writes), unfolding(crate::specs::Shown::shown_name))]
 pub(crate) fn put_name<W: Sink>(sink: &mut W, name: &[u8]) -> Result<(), WriteFailed>
     ensures { Wrote W.view sink.old sink.new (shown_name name.now) result }
@@ -41,7 +43,9 @@ pub(crate) fn put_name<W: Sink>(sink: &mut W, name: &[u8]) -> Result<(), WriteFa
     put(sink, dots(LONGEST_NAME, name))
 }
 
-/// Writes a path as lines show it; of one that is too long to be opened its beginning, and dots.
+/// Writes a path as the lines of findings show it: without quotes, and with the escapes of a string in a dump for control characters and
+/// backslashes. Bytes from 0x80 on are escaped in octal, unless the whole path is UTF-8. Of a path of more than [`LONGEST_PATH`] bytes, it
+/// writes only the first 64, those from 0x80 on in octal, and `...`.
 ///
 /// # Errors
 ///
@@ -54,14 +58,16 @@ pub fn put_file_path<W: Sink>(sink: &mut W, file: &[u8]) -> Result<(), WriteFail
     put(sink, dots(LONGEST_PATH, file))
 }
 
-/// Returns what follows the beginning of bytes that are longer than `longest`: dots, otherwise nothing.
+/// Returns `...` if there are more than `longest` bytes, so that only their beginning is shown; otherwise nothing.
 fn dots(longest: usize, bytes: &[u8]) -> &'static [u8]
     ensures { result.now ≡ dots longest bytes.now }
 {
     if bytes.len() <= longest { b"" } else { b"..." }
 }
 
-/// Writes bytes as they stand in a line, or only the first ones if there are more than `longest`.
+/// Writes bytes, each with the escape that it needs in a line of this form, in quotes or bare ([`put_byte`]), or only the first 64 if there
+/// are more than `longest`. Bytes from 0x80 on are escaped in octal, unless all bytes are shown and are UTF-8. Needs a `longest` of 64 or
+/// more. Errs if the sink fails.
 #[tactic(auto, unfolding(crate::specs::Shown::shown))]
 fn put_shown<W: Sink>(
     sink: &mut W,
@@ -79,7 +85,8 @@ fn put_shown<W: Sink>(
     }
 }
 
-/// Writes bytes as they stand in a line, all at once if each stands for itself.
+/// Writes bytes, each with the escape that it needs in a line of this form, in quotes or bare ([`put_byte`]), and by one write if none
+/// needs one. If `in_octal` is true, bytes from 0x80 on are escaped in octal. Errs if the sink fails.
 fn put_bytes<W: Sink>(
     sink: &mut W,
     form: Form,
@@ -95,14 +102,16 @@ fn put_bytes<W: Sink>(
     }
 }
 
-/// Returns true if each of the bytes stands for itself.
+/// Returns true if none of the bytes needs an escape in a line of this form, in quotes or bare ([`stays`]). If `in_octal` is true, each
+/// byte from 0x80 on needs one; if it is false, none of these does.
 fn all_stay(form: Form, in_octal: bool, bytes: &[u8]) -> bool
     ensures { result ≡ list_all (stays form in_octal) bytes.now }
 {
     bytes.iter().all(|b| stays(form, in_octal, *b))
 }
 
-/// Writes bytes as they stand in a line, one after the other.
+/// Writes bytes one after the other, each with the escape that it needs in a line of this form, in quotes or bare ([`put_byte`]). If
+/// `in_octal` is true, bytes from 0x80 on are escaped in octal. Errs if the sink fails.
 #[tactic(auto, using(devices::proofs::Writes::writes))]
 fn put_each<W: Sink>(
     sink: &mut W,
@@ -118,7 +127,9 @@ fn put_each<W: Sink>(
     Ok(())
 }
 
-/// Writes a byte as it stands in a line.
+/// Writes a byte as it is if it needs no escape in a line of this form, in quotes or bare ([`stays`]): from 0x80 on it needs one only if
+/// `in_octal` is true. Otherwise writes its escape: in octal from 0x80 on (`\303`), and below that the escape of a string in a dump (`\n`).
+/// Errs if the sink fails.
 fn put_byte<W: Sink>(sink: &mut W, form: Form, in_octal: bool, b: u8) -> Result<(), WriteFailed>
     ensures { Wrote W.view sink.old sink.new (shown_byte form in_octal b) result }
 {
@@ -134,7 +145,8 @@ fn put_byte<W: Sink>(sink: &mut W, form: Form, in_octal: bool, b: u8) -> Result<
     }
 }
 
-/// Returns true if a byte stands for itself. `in_octal` is true if those from 0x80 on don't.
+/// Returns true if a byte needs no escape in a line. A control character and a backslash need one. Both kinds of quotes need one in the
+/// form `Quoted`, and bytes from 0x80 on if `in_octal` is true.
 fn stays(form: Form, in_octal: bool, b: u8) -> bool
     ensures { result ≡ stays form in_octal b }
 {

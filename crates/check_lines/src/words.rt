@@ -5,7 +5,7 @@ ghost use Rattle.check_lines.specs.Words.{kind_word, severity_word};
 
 use nc_report::{Kind, Severity};
 
-/// Returns the word of a severity.
+/// Returns the word of a severity, such as `note`.
 #[tactic(auto, unfolding(crate::specs::Words::severity_word))]
 pub(crate) fn severity_word(severity: Severity) -> &'static str
     ensures { result.now ≡ severity_word severity }
@@ -17,7 +17,7 @@ pub(crate) fn severity_word(severity: Severity) -> &'static str
     }
 }
 
-/// Returns the word of a kind of findings. It never changes from one release to the next.
+/// Returns the word of a kind of findings, such as `bad-tag`. It never changes from one release to the next.
 #[tactic(auto, unfolding(crate::specs::Words::kind_word))]
 pub fn kind_word(kind: Kind) -> &'static str
     ensures { result.now ≡ kind_word kind }

@@ -19,6 +19,7 @@ option id letter = record (new_rule id) { short = slice_get letter 0; action = S
 abbrev pub quiet : App → App
 quiet app = record app { top = record app.top { disable_help_flag = true; disable_version_flag = true } }
 
+-- the flag with this id is given: its row has the value `true`
 abbrev pub is_given : List Row → Bytes → Bool
 is_given rows id = option_map_or (λ (value : Bytes). bytes_eq value (codes "true")) (one_of id rows) false
 

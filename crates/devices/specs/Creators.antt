@@ -15,6 +15,7 @@ pub record CreatorView : Type 0 where
   pub creations : ℕ
   pub failures : ℕ
 
+-- what paths were given, with one more: these bytes to this path
 abbrev pub give : List Output → Bytes → Option Bytes → List Output
 give given path bytes = given ++ (record { path = path; bytes = bytes } ∷ [])
 

@@ -9,10 +9,11 @@ pub record SinkView : Type 0 where
   pub taken : Option Bytes
   pub failures : ℕ
 
--- with a text added to what it has taken
+-- the sink after it has taken one more text
 unfoldable pub append : SinkView → Bytes → SinkView
 append v bytes = record { taken = option_map (λ prefix. prefix ++ bytes) v.taken; failures = v.failures }
 
+-- how many bytes it has taken, or 0 if it is opaque
 unfoldable pub taken_len : SinkView → ℕ
 taken_len v = length (unwrap_or v.taken [])
 
@@ -27,7 +28,7 @@ IsPrefixIf None None = Unit {0}
 IsPrefixIf (Some prefix) None = ⊥
 IsPrefixIf None (Some whole) = ⊥
 
--- it has taken a prefix of what is wanted
+-- the sink has taken a prefix of what it would have taken with the whole text
 unfoldable pub IsCut : SinkView → SinkView → Type 0
 IsCut now wanted = IsPrefixIf now.taken wanted.taken
 

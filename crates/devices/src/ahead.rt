@@ -11,8 +11,9 @@ const MOST_AHEAD: usize = 65536;
 /// The length of the shortest stretch that is read ahead, as after a jump: 4 KiB.
 const LEAST_AHEAD: usize = 4096;
 
-/// A source of the bytes of another source. It asks that source for stretches of 4 to 64 KiB, and keeps the last one. A read is answered
-/// from this stretch if the stretch has the byte at its offset. So reads that lie near each other take few reads of the other source.
+/// A source of the bytes of another source. It asks that source for stretches, each some 4 to 64 KiB that lie side by side, and keeps the
+/// last one. A read is answered from this stretch if the stretch has the byte at its offset. So reads that lie near each other take few
+/// reads of the other source.
 ///
 /// Stretches grow as long as each begins near the end of the one before. If the stretch doesn't have the byte, a read with room for 64 KiB
 /// or more goes straight to the other source. A read that fails is not tried again.
@@ -23,13 +24,14 @@ pub struct ReadAhead<S: Source> {
     stretch: [u8; 65536],
     /// The offset of the stretch in the source.
     at: u64,
-    /// The length of the stretch, or 0 if there is none.
+    /// The number of bytes of the stretch, or 0 if there is none.
     len: usize,
     /// How often a read has failed, at most `u128::MAX`.
     failures: u128,
     /// How many bytes were handed to the caller.
     handed: u128,
     ghost within: { len ≤ 65536 },
+    // If the source is transparent, the stretch has its bytes from `at` on.
     ghost stands: { S.is_transparent ≡ true → AreFrom at len (S.view source).bytes stretch },
 }
 
@@ -37,7 +39,7 @@ impl<S: Source> ReadAhead<S> {
     ghost use Rattle.devices.specs.code.Ahead.{Answers, IsFar, IsInStretch, ReadNoMore, ReadsAhead, SameCounts, SourceFails};
     ghost use Rattle.devices.specs.code.Ahead.{bytes_of, taken, view_of};
 
-    /// Creates a source of the bytes of `source`, without a stretch. Its own counts, of bytes and of failures, start at 0.
+    /// Creates a source of the bytes of `source` that has read nothing ahead yet. Its own counts, of bytes and of failures, start at 0.
     pub fn new(source: S) -> ReadAhead<S>
         ensures { view_of result ≡ unread (S.view source).bytes }
     {
@@ -51,8 +53,9 @@ impl<S: Source> ReadAhead<S> {
         }
     }
 
-    /// Copies bytes of the stretch, from the offset `at` of the source on, to the start of `into`: as many as the stretch has from there
-    /// on, but no more than fit. Returns how many, or 0 if the byte at this offset isn't in the stretch.
+    /// Copies bytes of the stretch (the bytes that were read ahead last), from the offset `at` of the source on, to the start of `into`: as
+    /// many as the stretch has from there on, but no more than fit. Returns how many: 0 if `into` is empty or (no clause says so) if the
+    /// byte at this offset isn't in the stretch.
     fn copy_from_stretch(&self, at: u64, into: &mut [u8]) -> usize
         ensures within { result ≤ length into.old }
         ensures held { result ≤ self.now.len }
@@ -68,8 +71,9 @@ impl<S: Source> ReadAhead<S> {
         n
     }
 
-    /// Returns how long the stretch from the offset `at` on is to be. If `at` is at the start of the last stretch, or less than twice its
-    /// length after the start, the result is twice that length, but at least 4 KiB and at most 64 KiB. Otherwise it is 4 KiB.
+    /// Returns how many bytes to read ahead as the next stretch, which begins at the offset `at`: twice as many as the last stretch has,
+    /// but at least 4 KiB and at most 64 KiB. If `at` is before the last stretch, or past its start by twice its length or more, as after a
+    /// jump, returns 4 KiB. Clauses give only these upper limits, and that the result isn't 0.
     fn next_stretch_len(&self, at: u64) -> usize
         ensures some { 0 < result }
         ensures within { result ≤ 65536 }
@@ -83,8 +87,9 @@ impl<S: Source> ReadAhead<S> {
         }
     }
 
-    /// Reads a stretch from the offset `at` on, in place of the last one. If the source fails, it errs, and there is no stretch any more.
-    /// Needs an offset before the source's end.
+    /// Reads ahead a stretch, as many bytes as [`next_stretch_len`](ReadAhead::next_stretch_len) returns or fewer, from the offset `at` on,
+    /// and keeps it in place of the last one. If the source fails, it errs, and there is no stretch any more. Needs an offset before the
+    /// source's end.
     fn read_stretch(&mut self, at: u64) -> Result<(), SourceFailed>
         requires { at < length (bytes_of self.old) }
         ensures bytes { bytes_of self.new ≡ bytes_of self.old }
@@ -103,10 +108,10 @@ impl<S: Source> ReadAhead<S> {
         Ok(())
     }
 
-    /// Reads bytes, from the offset `at` on, to the start of `into`, and returns how many. It doesn't look into the stretch: if `into` has
-    /// fewer than 64 KiB, it reads a new one and copies the first bytes of it, otherwise it reads directly into `into`. If the source
-    /// fails, it errs, and `into` may hold anything. It counts neither bytes nor failures: [`read_and_count`](ReadAhead::read_and_count)
-    /// does. Needs an `into` that isn't empty, and an offset before the source's end.
+    /// Reads bytes, from the offset `at` on, to the start of `into`, and returns how many. It doesn't look into the stretch that was read
+    /// last: if `into` has fewer than 64 KiB, it reads a new one and copies the first bytes of it, otherwise it reads directly into `into`.
+    /// If the source fails, it errs, and `into` may hold anything. It counts neither bytes nor failures:
+    /// [`read_and_count`](ReadAhead::read_and_count) does. Needs an `into` that isn't empty, and an offset before the source's end.
     fn read_uncounted(&mut self, at: u64, into: &mut [u8]) -> Result<usize, SourceFailed>
         requires room { 0 < length into.old }
         requires inside { at < length (bytes_of self.old) }
@@ -125,9 +130,9 @@ impl<S: Source> ReadAhead<S> {
         Ok(self.copy_from_stretch(at, into))
     }
 
-    /// Reads bytes as [`read_uncounted`](ReadAhead::read_uncounted) does, and counts them: adds their number to `handed`. If the source
-    /// fails, it errs, and adds 1 to `failures`, which stops at `u128::MAX`. Needs what `read_uncounted` needs, and a `handed` that stays
-    /// below 2^128 even if `into` is filled.
+    /// Reads bytes, from the offset `at` on, to the start of `into`, as [`read_uncounted`](ReadAhead::read_uncounted) does, and adds their
+    /// number to `handed`. If the source fails, it errs, and adds 1 to `failures`, which stops at `u128::MAX`. Needs an `into` that isn't
+    /// empty, an offset before the source's end, and a `handed` that stays below 2^128 even if `into` is filled.
     #[inline(never)]
     #[tactic(auto, unfolding(crate::specs::Failures::HasFailed))]
     fn read_and_count(&mut self, at: u64, into: &mut [u8]) -> Result<usize, SourceFailed>
@@ -229,9 +234,10 @@ impl<S: Source> Source for ReadAhead<S> {
         self.source.len()
     }
 
-    /// Reads bytes from the offset `at` on to the start of `into`, out of the stretch if it has the byte at `at`, otherwise from the other
-    /// source, and returns how many. Errs, and counts one failure, if the other source fails, or if the number of bytes handed over could
-    /// reach 2^128. After an error no byte is handed over, and `into` may hold anything.
+    /// Reads bytes from the offset `at` on to the start of `into`, and returns how many: out of the stretch that was read ahead last, if
+    /// that has the byte at `at`, otherwise from the other source. Errs, and counts one failure, if the other source fails, or if the
+    /// number of bytes handed over could reach 2^128. After an error no byte is handed over, and `into` may hold anything. Needs an `into`
+    /// that isn't empty, and an offset before the source's end.
     #[tactic(auto, unfolding(crate::specs::Failures::HasFailed))]
     fn read_at(&mut self, at: u64, into: &mut [u8]) -> Result<usize, SourceFailed>
         requires room { 0 < length into.old }

@@ -28,11 +28,12 @@ pub trait Creator {
     fn create(&mut self, path: &str) -> Result<Self::Output, CreateFailed>
         ensures { Created is_transparent Self.Output.view (view self.old) (view self.new) path.now result };
 
-    /// Closes the output that was created at the path. If that succeeds, the output's failures are added to the creator's.
+    /// Closes the output that was created at the path: hands on what was written to it, so that the path has exactly these bytes. Then adds
+    /// the output's failures to the creator's, up to 2^128 - 1.
     ///
     /// # Errors
     ///
-    /// What was written to the output can't all be handed on. The creator counts one failure, and not those of the output.
+    /// Not all of these bytes could be handed on. The creator counts one failure, and not those of the output.
     fn close(&mut self, path: &str, output: Self::Output) -> Result<(), CloseFailed>
         ensures { let sink = Self.Output.view output in
             Closed is_transparent (view self.old) (view self.new) path.now sink result };

@@ -6,7 +6,7 @@ ghost use Rattle.devices.specs.code.SinkWrites.{Wrote};
 use crate::{Sink, WriteFailed, put};
 use itoa::Buffer;
 
-/// Writes `n` to the sink in decimal.
+/// Writes the digits of `n` in decimal to the sink, such as `42`.
 ///
 /// # Errors
 ///

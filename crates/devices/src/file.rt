@@ -11,7 +11,7 @@ use std::os::unix::fs::FileExt;
 use std::rt::Files;
 use std::{fs, io};
 
-/// A source over a file of the system, which is opaque.
+/// A source over a file of the system, whose bytes contracts don't know (it is opaque).
 ///
 /// The length of the source is that of the file when it was opened. It reads stretches of the file ahead, so that reads which lie near each
 /// other take few calls of the system. A call that fails is not tried again.
@@ -32,7 +32,7 @@ impl ReadAhead<OpenFile> {
     }
 }
 
-/// A source over a file of the system, which is opaque. Each read is one call of the system.
+/// A source over a file of the system, whose bytes contracts don't know (it is opaque). Each read is one call of the system.
 ///
 /// The length of the source is that of the file when it was opened. A call that fails is not tried again.
 #[derive(Drop)]
@@ -81,9 +81,9 @@ impl Source for OpenFile {
         self.len
     }
 
-    /// Reads bytes from the offset `at` on to the start of `into`, by one call of the system, and returns how many it got: 0 if the file
-    /// has no byte at `at`, as when it has become shorter. Errs, and counts one failure, if the call fails, or without a call if the number
-    /// of bytes read could reach 2^128.
+    /// Reads bytes from the offset `at` on to the start of `into`, by one call of the system, and returns how many it got. Returns 0 if the
+    /// file has no byte at `at` any more, since it has become shorter. Errs, and counts one failure, if the call fails, or without a call
+    /// if the number of bytes read could reach 2^128. Needs an `into` that isn't empty, and an offset before the source's end.
     // It asks for no byte past the file's length: the system refuses to read past 2^63 - 1, though it has bytes there up to that offset.
     #[tactic(auto, unfolding(crate::specs::Failures::HasFailed))]
     fn read_at(&mut self, at: u64, into: &mut [u8]) -> Result<usize, SourceFailed> {
@@ -105,7 +105,7 @@ impl Source for OpenFile {
     }
 }
 
-/// A sink over a writer. It is transparent if the writer is.
+/// A sink over a writer of the standard library. It is transparent if contracts know the bytes that the writer holds.
 ///
 /// An error of the writer, of any kind, is a failure of the sink. So is a write of at least one byte that takes none.
 #[derive(Drop)]
@@ -119,7 +119,7 @@ pub struct IoSink<W: Write> {
 impl<W: Write> IoSink<W> {
     ghost use Rattle.devices.specs.code.IoSinks.{view_of};
 
-    /// Creates a sink over the writer. Bytes that the writer already holds count as taken by the sink.
+    /// Creates a sink over the writer, without failures. Bytes that the writer already holds count as taken by the sink.
     pub fn new(writer: W) -> IoSink<W>
         ensures { view_of W.contents result ≡ unfailed (W.contents writer) }
     {
@@ -143,8 +143,8 @@ impl<W: Write> Sink for IoSink<W> {
 
     ghost view = { view_of W.contents };
 
-    /// Passes the bytes to the writer by one call, and returns how many it has taken. Passes nothing if `bytes` is empty. Errs, and counts
-    /// one failure, if the writer errs or takes no byte: none of the bytes is taken then.
+    /// Passes the bytes to the writer by one call, and returns how many it has taken. If `bytes` is empty, makes no call and returns 0.
+    /// Errs, and counts one failure, if the writer errs or takes no byte: none of the bytes is taken then.
     #[tactic(auto, using(crate::proofs::Writes::devices), unfolding(crate::specs::Sinks::append, crate::specs::Sinks::taken_len, crate::specs::Sinks::IsCut, crate::specs::Sinks::is_transparent, crate::specs::Failures::HasFailed))]
     fn write_some(&mut self, bytes: &[u8]) -> Result<usize, SinkFailed> {
         if bytes.is_empty() {
@@ -171,8 +171,8 @@ impl<W: Write> Flush for IoSink<W> {
     }
 }
 
-/// Turns the result of a writer's call into the result of a sink's call. A value stays as it is. An error becomes `SinkFailed`, and adds 1
-/// to `failures`, which stops at `u128::MAX`.
+/// Turns the result of a writer's call into the result of a sink's call. `Ok` stays as it is. An error of any kind becomes `SinkFailed`,
+/// and adds 1 to `failures`, which stops at `u128::MAX`.
 fn count_failure<T>(answer: io::Result<T>, failures: &mut u128) -> Result<T, SinkFailed>
     ensures ok { IfOk answer (λ value. (result ≡ Ok value) × (failures.new ≡ failures.old)) }
     ensures err { IsErr answer → IsErr result × (failures.new ≡ min (failures.old + 1) (2 ^ 128 - 1)) }

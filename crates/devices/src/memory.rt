@@ -8,7 +8,7 @@ ghost use Rattle.devices.specs.code.SourceReads.{ReadSome, CantCount, unread};
 use crate::{Sink, SinkFailed, Source, SourceFailed};
 use std::alloc::Global;
 
-/// A transparent source of the bytes of a slice.
+/// A transparent source: contracts know its bytes, which are those of a slice.
 ///
 /// It fails only if the number of bytes that were read would reach 2^128.
 #[derive(Drop)]
@@ -53,7 +53,8 @@ impl Source for MemSource<'_> {
     }
 
     /// Copies bytes of the slice, from the offset `at` on, to the start of `into`, as many as there are and fit. Returns how many. Errs,
-    /// and counts one failure, only if the number of bytes read would reach 2^128: nothing is copied then.
+    /// and counts one failure, only if the number of bytes read would reach 2^128: nothing is copied then. Needs an `into` that isn't
+    /// empty, and an offset before the slice's end.
     #[tactic(auto, unfolding(crate::specs::Failures::HasFailed))]
     fn read_at(&mut self, at: u64, into: &mut [u8]) -> Result<usize, SourceFailed>
         requires room { 0 < length into.old }
@@ -73,7 +74,8 @@ impl Source for MemSource<'_> {
     }
 }
 
-/// Returns the number of the bytes. It is for the `len` of a transparent source, whose contract also states that each byte is below 256.
+/// Returns the number of the bytes. It is for the `len` of a transparent source, since its contract also states that each byte is below
+/// 256.
 pub(crate) fn length_of(bytes: &[u8]) -> u64
     ensures length { result ≡ length bytes.now }
     ensures bytes { AreBytes bytes.now }
@@ -81,7 +83,7 @@ pub(crate) fn length_of(bytes: &[u8]) -> u64
     bytes.len() as u64
 }
 
-/// A transparent sink that keeps all of its bytes in memory.
+/// A transparent sink: contracts know the bytes that it has taken, all of which it keeps in memory.
 ///
 /// It fails only if an allocation fails.
 #[derive(Drop)]

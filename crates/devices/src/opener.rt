@@ -8,9 +8,9 @@ use crate::{OpenFailed, Source};
 
 /// What opens paths as sources.
 ///
-/// Contracts see how often the opener was asked to open a path, and how many failures all the sources had that it has taken back. If its
-/// sources are transparent, contracts also know which bytes a path names, and which paths can't be opened; this doesn't change while it
-/// opens paths and takes sources back.
+/// Contracts see how often the opener was asked to open a path, and how many failures the sources had that were given back to it, all
+/// together. If its sources are transparent ([`Source`]), contracts also know which bytes a path names, and which paths can't be opened.
+/// This doesn't change while it opens paths and takes sources back.
 pub trait Opener {
     /// The type of source that a path is opened as.
     type Source: Source + Drop;
@@ -34,7 +34,7 @@ pub trait Opener {
             (named self.old path.now) result }
         ensures names { NamesAsBefore (named self.old) (named self.new) };
 
-    /// Takes back a source that it opened, adds the source's failures to its own, and drops the source.
+    /// Takes back a source that it opened, adds the source's failures to its own, up to 2^128 - 1, and drops the source.
     fn close(&mut self, source: Self::Source)
         ensures back { HasBack (view self.old) (view self.new) (Self.Source.view source).failures }
         ensures names { NamesAsBefore (named self.old) (named self.new) };

@@ -10,10 +10,10 @@ use std::io;
 use std::io::{BufWriter, ErrorKind, Write};
 use std::rt::Files;
 
-/// The capacity of the buffer that each output is written through, in bytes.
+/// The capacity in bytes of the buffer that each output is written through.
 const OUTPUT_BUFFER_LEN: usize = 65536;
 
-/// Outputs in the files of the system, which are opaque. Each is written through one buffer.
+/// What creates outputs in the files of the system, whose bytes contracts don't know (they are opaque). Each is written through one buffer.
 #[derive(Drop)]
 pub struct SystemOutputs<'a, R: Files<File = File>> {
     rt: &'a R,
@@ -25,8 +25,8 @@ pub struct SystemOutputs<'a, R: Files<File = File>> {
 }
 
 impl<'a, R: Files<File = File>> SystemOutputs<'a, R> {
-    /// Creates `SystemOutputs` for the files of the system that `rt` stands for. It takes the buffers of its outputs from `alloc`. It has
-    /// created no output yet.
+    /// Creates `SystemOutputs` for the files of the system that `rt` stands for. It has created no output yet, and will take the buffers of
+    /// its outputs from `alloc`.
     pub fn new(rt: &'a R, alloc: Global) -> SystemOutputs<'a, R>
         ensures { ⟦<SystemOutputs<'static, R> as Creator>⟧.view result ≡ uncreated }
     {
@@ -38,8 +38,8 @@ impl<'a, R: Files<File = File>> SystemOutputs<'a, R> {
         }
     }
 
-    /// Creates the file at the path, or empties it, and returns a sink that writes to it through a buffer. Errs if the file can't be
-    /// created. Errs before it touches the file if the buffer can't be allocated.
+    /// Creates the file at the path, or empties it, and returns a sink without failures, which writes to it through a buffer of 64 KiB.
+    /// Errs if the file can't be created. If the buffer can't be allocated, it errs before it touches the file.
     fn create_file(&self, path: &str) -> io::Result<IoSink<BufWriter<OutputFile<File>>>>
         ensures { IfOk result (λ sink. sink.failures ≡ 0) }
     {
@@ -73,8 +73,8 @@ impl<R: Files<File = File>> Creator for SystemOutputs<'_, R> {
     }
 
     /// Flushes the output to its file, adds the output's failures to its own, up to `u128::MAX`, and drops the output, which closes the
-    /// file. The path isn't needed for that. Errs if the flush fails: then it counts one failure in place of those of the output, and drops
-    /// the output all the same.
+    /// file. The path isn't needed for that. If the flush fails, it errs, counts one failure in place of those of the output, and drops the
+    /// output all the same.
     #[tactic(auto, unfolding(crate::specs::Failures::HasFailed))]
     fn close(
         &mut self,

@@ -23,7 +23,7 @@ pub struct CountedRead<R: Read> {
 }
 
 impl<R: Read> CountedRead<R> {
-    /// Creates a reader of the bytes that `reader` has still to give. All counts start at 0.
+    /// Creates a reader of the bytes that `reader` has still to give. Its counts, of reads, bytes and failures, start at 0.
     pub fn new(reader: R) -> CountedRead<R>
         ensures { view_of R.remaining result ≡ unread (R.remaining reader) }
     {
@@ -36,9 +36,10 @@ impl<R: Read> CountedRead<R> {
         }
     }
 
-    /// Reads the next bytes to the start of `into`, and returns how many.
+    /// Reads the next bytes to the start of `into`, by one read of its reader, and returns how many they are.
     ///
-    /// Returns 0 at the end, and if `into` is empty.
+    /// Returns 0 if `into` is empty, and at the end. After a read with room for bytes has given none, each call returns 0 and reads
+    /// nothing.
     ///
     /// # Errors
     ///

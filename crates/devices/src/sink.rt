@@ -9,14 +9,13 @@ use crate::{SinkFailed, WriteFailed};
 
 /// A device that takes bytes, one after another.
 ///
-/// Contracts see a sink as the bytes that it took, if it is transparent, and the number of its failures, which stays below 2^128.
+/// A sink is transparent if a contract can name the bytes that it took, such as those of a sink in memory. Contracts see these bytes of a
+/// transparent sink, and of any sink the number of its failures, which stays below 2^128.
 pub trait Sink {
     // The sink as contracts see it.
     ghost view: { Self → SinkView };
 
-    /// Takes bytes from the start of `bytes`, and returns how many.
-    ///
-    /// The sink takes at least one byte, unless `bytes` is empty.
+    /// Takes bytes from the start of `bytes`, and returns how many: at least one, unless `bytes` is empty.
     ///
     /// # Errors
     ///
@@ -40,7 +39,7 @@ pub trait Flush: Sink {
         ensures flushed { IfOk result (λ _. is_flushed self.new ≡ true) };
 }
 
-/// Writes all of the bytes to the sink, in as many calls of `write_some` as it takes.
+/// Writes all of the bytes to the sink, in as many calls of `write_some` as it takes: none if `bytes` is empty.
 ///
 /// # Errors
 ///

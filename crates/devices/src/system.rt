@@ -9,13 +9,13 @@ use std::fs::File;
 use std::io::Read;
 use std::rt::Files;
 
-/// The files of the system, which are opaque.
+/// What opens the files of the system, whose bytes contracts don't know (they are opaque).
 #[derive(Drop)]
 pub struct SystemFiles<'a, R: Files<File = File>> {
     rt: &'a R,
     /// How often it was asked to open a path, at most `u128::MAX`.
     opens: u128,
-    /// How many failures the sources and texts had that were taken back, at most `u128::MAX`.
+    /// How many failures the sources and texts had that were given back, at most `u128::MAX`.
     failures: u128,
 }
 
@@ -50,8 +50,9 @@ impl<R: Files<File = File>> Opener for SystemFiles<'_, R> {
 
     ghost view = { view_of };
 
-    /// Opens the regular file at the path as a source, which keeps the length that the file has now. Errs if the path names no regular
-    /// file, the file can't be opened for reading, or the system doesn't tell its kind or its length. The attempt is counted in any case.
+    /// Opens the regular file at the path as a source that reads ahead, and keeps the length that the file has now. Errs if the path names
+    /// no regular file, the file can't be opened for reading, or the system doesn't tell its kind or its length. The attempt is counted in
+    /// any case.
     fn open(&mut self, path: &str) -> Result<FileSource, OpenFailed> {
         self.opens = self.opens.saturating_add(1);
         FileSource::open(self.rt, path)
@@ -73,8 +74,7 @@ impl<R: Files<File = File>> TextOpener for SystemFiles<'_, R> {
     ghost view = { view_of };
 
     /// Opens the file at the path, which may also be a pipe or a device, as a text, and returns a reader of it. Errs if it can't be opened,
-    /// if the system doesn't tell its kind, or if it is a directory.
-    // the attempt is counted, whether the path opens or not
+    /// if the system doesn't tell its kind, or if it is a directory. The attempt is counted in any case.
     fn open_text(&mut self, path: &str) -> Result<CountedRead<File>, OpenFailed> {
         self.opens = self.opens.saturating_add(1);
         let file = self.open_file(path)?;
@@ -90,8 +90,8 @@ impl<R: Files<File = File>> TextOpener for SystemFiles<'_, R> {
     }
 }
 
-/// The files of the system, which are opaque, without reading ahead: for a caller that reads only a little of each file, through a buffer of
-/// its own. So a file takes no time but that of its calls of the system.
+/// What opens the files of the system, as [`SystemFiles`] does, but as sources that don't read ahead: for a caller that reads only a little
+/// of each file, through a buffer of its own. So a file takes no time but that of its calls of the system.
 #[derive(Drop)]
 pub struct DirectFiles<'a, R: Files<File = File>> {
     files: SystemFiles<'a, R>,
@@ -115,8 +115,9 @@ impl<R: Files<File = File>> Opener for DirectFiles<'_, R> {
 
     ghost view = { λ direct. view_of direct.files };
 
-    /// Opens the regular file at the path as a source, which keeps the length that the file has now. Errs if the path names no regular
-    /// file, the file can't be opened for reading, or the system doesn't tell its kind or its length. The attempt is counted in any case.
+    /// Opens the regular file at the path as a source that doesn't read ahead, and keeps the length that the file has now. Errs if the path
+    /// names no regular file, the file can't be opened for reading, or the system doesn't tell its kind or its length. The attempt is
+    /// counted in any case.
     fn open(&mut self, path: &str) -> Result<OpenFile, OpenFailed> {
         self.files.opens = self.files.opens.saturating_add(1);
         OpenFile::open(self.files.rt, path)

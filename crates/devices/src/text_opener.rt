@@ -10,8 +10,8 @@ use std::io::Read;
 
 /// What opens paths as texts, which are read from their beginning to their end.
 ///
-/// Contracts see how often the opener was asked to open a path, and how many failures all the texts had that it has taken back. If the
-/// opener is transparent, contracts also know which bytes a path names, and which paths can't be opened.
+/// Contracts see how often the opener was asked to open a path, and how many failures the texts had that were given back to it, all
+/// together. If the opener is transparent, contracts also know which bytes a path names, and which paths can't be opened.
 pub trait TextOpener {
     /// The type of reader that a path is opened as.
     type Text: Read + Drop;
@@ -25,7 +25,7 @@ pub trait TextOpener {
     // The opener as contracts see it.
     ghost view: { Self → OpenerView };
 
-    /// Opens the path as a text, and returns a reader of it.
+    /// Opens the path as a text, and returns a reader of it, at its beginning and without a failure.
     ///
     /// # Errors
     ///
@@ -35,7 +35,7 @@ pub trait TextOpener {
         ensures failures { IfOk result (λ text. (view_of Self.Text.remaining text).failures ≡ 0) }
         ensures bytes { OpensText is_transparent Self.Text.remaining (named self.old path.now) result };
 
-    /// Takes back a text that it opened, adds the text's failures to its own, and drops the text.
+    /// Takes back a text that it opened, adds the text's failures to its own, up to 2^128 - 1, and drops the text.
     fn close_text(&mut self, text: CountedRead<Self::Text>)
         ensures { HasBack (view self.old) (view self.new) (view_of Self.Text.remaining text).failures };
 }

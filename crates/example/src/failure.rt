@@ -29,24 +29,28 @@ pub enum Failure {
 }
 
 impl From<io::Error> for Failure {
+    /// Turns an error of the system into [`Failure::Io`], for the `?` after a call that reads words, makes a buffer or writes text.
     fn from(error: io::Error) -> Failure {
         Failure::Io(error)
     }
 }
 
 impl From<AllocError> for Failure {
+    /// Turns a failed allocation into [`Failure::OutOfMemory`], for the `?` after a call that allocates.
     fn from(error: AllocError) -> Failure {
         Failure::OutOfMemory(error)
     }
 }
 
 impl From<OffsetTooLarge> for Failure {
+    /// Turns a begin that doesn't fit its field into [`Failure::Begin`], for the `?` after `with_begins`.
     fn from(error: OffsetTooLarge) -> Failure {
         Failure::Begin(error)
     }
 }
 
 impl From<WriteFailed> for Failure {
+    /// Turns a failure of the sink into [`Failure::Write`], for the `?` after a call that writes to it.
     fn from(error: WriteFailed) -> Failure {
         Failure::Write(error)
     }

@@ -2,8 +2,8 @@
 //! in memory first, and reads that.
 //!
 //! It shows how a file is written (`writing`: describe the header, let `with_begins` say where the values of each variable begin, and write
-//! the header and the values to a sink) and how one is read (`reading`: open a variable by its name, and walk over its values in chunks that
-//! are lent out of one buffer).
+//! the header and the values to a sink) and how one is read (`reading`: open a variable by its name, and walk over its values in chunks
+//! that are lent out of one buffer).
 #![tactic(auto)]
 
 mod failure;
@@ -17,8 +17,8 @@ use devices::{FileSource, MemSink, MemSource};
 use std::io::{BufWriter, Write};
 use std::{env, io};
 
-/// Prints the values of the variable that the command line names after a path. If there are no arguments, prints those of the variable `v`
-/// of a file that is made in memory. Errs if a name is missing after a path, or if anything fails that [`Failure`] has.
+/// Prints the values of a variable. The command line has the path of a file and the name of the variable. If there are no arguments, it is
+/// the variable `v` of a file that is made in memory. Errs if no name comes after a path, or for any other reason that [`Failure`] has.
 fn main(rt: HostRuntime) -> Result<(), Failure> {
     let alloc = rt.alloc();
     let mut out = BufWriter::new(alloc, io::writer(&rt))?;

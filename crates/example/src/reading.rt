@@ -7,8 +7,8 @@ use nc_variable::open_variable;
 use std::alloc::Global;
 use std::io::{self, Write};
 
-/// Writes the values of the variable of this name in the file that the source has, each on a line. Errs if the header or a value can't be
-/// read, if there is no such variable, or if the writer fails.
+/// Writes the values of the variable of this name in the file that the source has, each as a number on a line. Errs if the source, the
+/// writer or an allocation fails, if the header has a wrong field or no such variable, or if a value isn't whole in the file.
 pub fn print_values<S: Source, W: Write>(
     alloc: Global,
     source: &mut S,
@@ -28,7 +28,7 @@ pub fn print_values<S: Source, W: Write>(
     Ok(())
 }
 
-/// Writes the values of a chunk, which are big-endian and one after the other, each on a line. Errs if the writer fails.
+/// Writes the values of a chunk, which are big-endian and one after the other, each as a number on a line. Errs if the writer fails.
 fn print_chunk<W: Write>(ty: NcType, chunk: &[u8], out: &mut W) -> io::Result<()> {
     for value in chunk.chunks_exact(ty.size() as usize) {
         writeln!(out, "{}", number_of(ty, value))?;

@@ -13,7 +13,8 @@ use std::alloc::{AllocError, Global};
 /// The values of the variable.
 const VALUES: [i32; 3] = [100, 200, 300];
 
-/// Writes the file to the sink. Errs if an allocation or the sink fails, or if a begin doesn't fit its field.
+/// Writes the file to the sink: its header, and then the values of `v`. Errs if an allocation or the sink fails, or if a begin doesn't fit
+/// its field.
 pub fn write_file<W: Sink>(alloc: Global, sink: &mut W) -> Result<(), Failure> {
     let header = with_begins(int_header(alloc)?)?;
     let slabs = record_slabs(alloc, &header)?;
@@ -57,7 +58,7 @@ fn one<T: Drop>(alloc: Global, item: T) -> Result<Sequence<T>, AllocError>
     Ok(items)
 }
 
-/// Returns the values as the file has them: big-endian, and one after the other. Errs only if an allocation failed.
+/// Returns the values as the file has them: big-endian, in four bytes each, and one after the other. Errs only if an allocation failed.
 fn listed(alloc: Global, values: &[i32]) -> Result<ListedArray, AllocError>
     ensures { IfOk result (λ bytes. length bytes ≡ length values.now * 4) }
 {

@@ -10,6 +10,7 @@ use Rattle.nc_base.specs.Names.{is_beyond_ascii}
 abbrev pub is_name_mark : ℕ → Bool
 is_name_mark b = (b == byte ".") || (b == byte "@") || (b == byte "+") || (b == byte "-")
 
+-- a byte that needs no escape in a name, unless it is the first one
 abbrev pub is_plain : ℕ → Bool
 is_plain b = is_ascii_alphanumeric b || (b == byte "_") || is_name_mark b || is_beyond_ascii b
 

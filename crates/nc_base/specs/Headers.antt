@@ -13,6 +13,7 @@ pub record IsDimid (dims : List Dim) (before : List ℕ) (id : ℕ) : Type 0 whe
   pub known : id < length dims
   pub record_first : IsTrue (is_record_dim dims id) → before ≡ []
 
+-- these ids, one after the other, may follow those of `before` in a shape
 abbrev pub AreDimids : List Dim → List ℕ → List ℕ → Type 0
 AreDimids dims before [] = Unit {0}
 AreDimids dims before (id ∷ ids) = IsDimid dims before id × AreDimids dims (before ++ id ∷ []) ids

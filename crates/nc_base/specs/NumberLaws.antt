@@ -6,7 +6,7 @@ use Rattle.nc_base.specs.Bytes.{Bytes, AreBytes}
 use Rattle.nc_base.specs.Types.{width_of, size_of, is_signed}
 use Rattle.nc_base.specs.Numbers.{number_of, bytes_of_number}
 
--- the type has the number
+-- the number is in the range of the type
 abbrev pub IsInRange : NcType → ℤ → Type 0
 IsInRange ty number = MatchBool (is_signed ty) (FitsSigned (width_of ty) number) (FitsUnsigned (width_of ty) number)
 

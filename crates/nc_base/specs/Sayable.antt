@@ -31,10 +31,12 @@ AreDistinct (name ∷ names) = (has_name names name ≡ false) × AreDistinct na
 abbrev pub HasSomeNumber : Att → Type 0
 HasSomeNumber att = is_char att.ty ≡ false → 0 < length att.vals
 
+-- attributes that a text can declare: no two have the same name, and none of numbers is empty
 pub record AreSayableAtts (atts : List Att) : Type 0 where
   pub names : AreDistinct (map (λ (a : Att). a.name) atts)
   pub some : All HasSomeNumber atts
 
+-- a variable that a text can declare; `fill`: one of characters keeps its fill value if the NULs at the end of its attributes are left out
 pub record IsSayableVar (var : Var) : Type 0 where
   pub atts : AreSayableAtts var.atts
   pub fill : is_char var.ty ≡ true → fill_value (trimmed_var var) ≡ fill_value var

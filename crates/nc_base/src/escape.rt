@@ -53,8 +53,8 @@ pub enum Escape {
 impl Quoting {
     ghost use Rattle.nc_base.specs.code.Quoted.{escaped_in, stands_for_itself, written};
 
-    /// Returns true if the byte needs no escape in a name or in a string, whichever this is. As the first byte of a name it may need one
-    /// nonetheless ([`begins_with_digit_or_mark`], [`is_reserved`]).
+    /// Returns true if the byte needs no escape in a name or in a string, whichever this is. The first byte of a name may need one all the
+    /// same: see [`begins_with_digit_or_mark`] and [`is_reserved`].
     pub fn is_plain(self, b: u8) -> bool
         ensures { result ≡ stands_for_itself self b }
     {
@@ -65,8 +65,8 @@ impl Quoting {
     }
 
     /// Returns how the byte is written in a name or in a string, whichever this is (ncdump(1), and the chapter on CDL of the NetCDF User's
-    /// Guide). The first byte of a name may get a backslash even if this returns [`Escape::Plain`] for it ([`begins_with_digit_or_mark`],
-    /// [`is_reserved`]).
+    /// Guide). The first byte of a name may get a backslash even if this returns [`Escape::Plain`] for it: see
+    /// [`begins_with_digit_or_mark`] and [`is_reserved`].
     pub fn escape(self, b: u8) -> Escape
         ensures { written result b ≡ escaped_in self b }
     {
@@ -129,7 +129,8 @@ fn is_name_mark(b: u8) -> bool
     matches!(b, b'.' | b'@' | b'+' | b'-')
 }
 
-/// Returns true if the first byte of the name is a digit, `.`, `@`, `+` or `-`. Such a first byte is written after a backslash.
+/// Returns true if the first byte of the name is a digit, `.`, `@`, `+` or `-`. Such a first byte is written after a backslash. Returns
+/// false for an empty name.
 pub fn begins_with_digit_or_mark(name: &[u8]) -> bool
     ensures { result ≡ begins_with_digit_or_mark name.now }
 {
@@ -139,7 +140,7 @@ pub fn begins_with_digit_or_mark(name: &[u8]) -> bool
     }
 }
 
-/// Returns true if the bytes are a reserved word of CDL, which names nothing unless it is escaped.
+/// Returns true if the bytes are a reserved word of CDL, such as `int` or `data`, which names nothing unless it is escaped.
 #[tactic(auto, unfolding(crate::specs::Escapes::is_reserved))]
 pub fn is_reserved(name: &[u8]) -> bool
     ensures { result ≡ is_reserved name.now }

@@ -13,11 +13,12 @@ pub enum FormatFault {
     NotNetcdf,
     /// The version byte, which is none of 1, 2 and 5.
     UnknownVersion(u8),
-    /// The file ends inside a field.
+    /// The file ends inside a field after the letters `CDF`.
     HeaderTruncated,
     /// The tag of a list is neither that of its kind nor 0.
     BadTag,
-    /// A count, a length or the number of records has its top bit set, or a list with the tag 0 has a count other than 0.
+    /// A count, a length or the number of records (unless that is `STREAMING`) has its top bit set, or a list with the tag 0 has a count
+    /// other than 0.
     BadCount,
     /// The bytes of a name are no valid name.
     BadName,
@@ -36,8 +37,8 @@ pub enum FormatFault {
 }
 
 impl FormatFault {
-    /// Returns the words for the fault, such as `bad tag`. For an unknown version they are `unknown version `, which the version byte
-    /// comes after.
+    /// Returns the words for the fault, such as `bad tag`. For an unknown version they end with a space, and its byte isn't among them:
+    /// `unknown version `.
     #[tactic(auto, unfolding(crate::specs::FaultWords::fault_words))]
     pub fn words(self) -> &'static str
         ensures { result.now ≡ fault_words self }
@@ -60,7 +61,8 @@ impl FormatFault {
 }
 
 impl fmt::Display for FormatFault {
-    /// Writes the words for the fault, with the version byte of an unknown version: what the fault lines of `ncdump` say of it.
+    /// Writes the words for the fault, such as `bad tag`, or `unknown version 7` with the version byte in decimal. The fault lines of
+    /// `ncdump` have the same words.
     fn fmt<W: fmt::Write>(&self, f: &mut fmt::Formatter<W>) -> fmt::Result {
         match self {
             FormatFault::UnknownVersion(byte) => write!(f, "{}{byte}", self.words()),

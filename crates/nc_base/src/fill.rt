@@ -8,9 +8,9 @@ use crate::header::{Att, Var};
 use crate::nc_type::NcType;
 use crate::number::number_of;
 
-/// Returns the fill value of a variable, as a number. If the variable's first attribute named `_FillValue` has the variable's type and
-/// exactly one value, the result is that value (attribute conventions of the NetCDF User's Guide). Otherwise the result is the default
-/// fill value of the type (`NC_FILL_BYTE` and its like in `netcdf.h`).
+/// Returns the fill value of a variable, as a number in the range of its type. If the variable's first attribute named `_FillValue` has the
+/// variable's type and exactly one value, the result is that value (attribute conventions of the NetCDF User's Guide). Otherwise the result
+/// is the default fill value of the type (`NC_FILL_BYTE` and its like in `netcdf.h`).
 #[tactic(auto, unfolding(crate::specs::Fill::fill_value))]
 pub fn fill_of(var: &Var) -> i128
     ensures fill { result ≡ fill_value var.now }
@@ -22,8 +22,9 @@ pub fn fill_of(var: &Var) -> i128
     }
 }
 
-/// Returns true if a value of the variable that equals its fill value prints as `_`. A character never does, and a number of
-/// one byte only if the variable has a fill value of its own (ncdump(1), on `_FillValue`).
+/// Returns true if a dump prints a value of the variable that equals its fill value as `_`. It never does so for a character, and for a
+/// number of one byte only if the variable's attribute `_FillValue` gives the fill value ([`fill_of`]). For any other number it always does
+/// (ncdump(1), on `_FillValue`).
 pub fn prints_fill(var: &Var) -> bool
     ensures { result ≡ prints_fill var.now.ty (is_some (own_fill var.now)) }
 {

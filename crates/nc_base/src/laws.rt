@@ -14,9 +14,9 @@ pub fn numbers_read_back()
     ensures in_range { NumbersAreInRange }
 {}
 
-/// States two laws of the description of a header, and does nothing. `coherent`: what bytes spell, where the first wrong field lies, what
-/// reading gives and how a header is written are recursions on the description, and they agree. `sound`: a header that bytes spell is sound
-/// (`nc_base::Header::sound`), and its names are valid.
+/// States two laws of the description of a header, which lists its fields in their order, and does nothing. `coherent`: what bytes spell,
+/// where the first wrong field lies, what reading gives, and how a header is written all follow from this description, and they agree.
+/// `sound`: a header that bytes spell is sound (`nc_base::Header::sound`), and its names are valid.
 pub fn header_is_coherent()
     ensures coherent { IsCoherent header_part }
     ensures sound { SpelledHeadersAreSound }

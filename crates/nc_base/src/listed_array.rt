@@ -6,25 +6,26 @@ ghost use Rattle.nc_base.specs.code.ListedRows.{StandAt, row_of, row_start};
 use std::alloc::{AllocError, Global};
 use std::marker::Model;
 
-/// The bytes of the values that a text lists for a variable, big-endian and one value after the other.
+/// The bytes of the values that a CDL text lists for a variable or an attribute, big-endian and one value after the other.
 ///
-/// A row of values, such as those that one string lists, may lack bytes at its end. Each missing byte is a fill byte, and usually isn't
-/// stored: a row takes the memory of its listed bytes, and four bytes more. Contracts see the bytes with each row filled up.
+/// A row is the bytes of one string, filled up with a fill byte to the length that each row of the variable has. These fill bytes usually
+/// aren't stored: a row takes the memory of its listed bytes, and four bytes more. Contracts see the bytes with each row filled up.
 #[derive(Drop)]
 pub struct ListedArray {
     /// The stored bytes: all bytes without those that the rows of `row_ends` lack.
     bytes: Vec<u8>,
-    /// For each row with its missing bytes not stored, the offset in `bytes` at which the row ends.
+    /// For each row that was kept short ([`end_row`](ListedArray::end_row)), the offset in `bytes` at which the row ends.
     row_ends: Vec<u32>,
     /// The offset in `bytes` at which the last of these rows ends, or 0 if there are none.
     last_row_end: usize,
-    /// The length in bytes of each of these rows, when it is filled up.
+    /// The length in bytes of each of these rows, counting its fill bytes.
     row_len: u64,
     /// The byte that fills up these rows.
     fill: u8,
 }
 
-/// Part of the bytes of a [`ListedArray`]: `bytes`, and after them `filling` copies of the byte `fill`.
+/// Part of the bytes of a [`ListedArray`]: the stored bytes `bytes`, and after them `filling` copies of the byte `fill`, which aren't
+/// stored.
 #[derive(Clone, Copy, Debug)]
 pub struct Run<'a> {
     pub bytes: &'a [u8],
@@ -87,11 +88,12 @@ impl ListedArray {
         Ok(())
     }
 
-    /// Ends a row: appends the bytes that it lacks, which are `lacking` copies of the byte `fill`.
+    /// Ends a row: appends the bytes that it lacks, which are `lacking` copies of the byte `fill`. Its listed bytes were appended before.
     ///
-    /// The row is kept short, which means that these bytes aren't stored, if three things hold: its full length and its fill byte are those
-    /// of all rows kept short before, its end among the stored bytes fits into a `u32`, and its full length fits into a `u64`. Otherwise
-    /// these bytes are stored. The row begins where the last row kept short ends, or at the start if there is none.
+    /// The row is kept short, which means that the bytes that it lacks aren't stored, if three things hold: its full length and its fill
+    /// byte are those of all rows kept short before, its end among the stored bytes fits into a `u32`, and its full length fits into a
+    /// `u64`. Otherwise these bytes are stored. No clause says which of the two is done. The row begins where the last row kept short ends,
+    /// or at the start if there is none.
     ///
     /// # Errors
     ///
@@ -115,7 +117,7 @@ impl ListedArray {
         Ok(())
     }
 
-    /// Returns the number of bytes, counting each row as filled up.
+    /// Returns the number of bytes, counting the fill bytes of [`end_row`](ListedArray::end_row), also those that aren't stored.
     #[tactic(auto, using(crate::proofs::FilledRows::length_filled))]
     pub fn len(&self) -> u128
         ensures { result ≡ length self.now }
@@ -124,8 +126,9 @@ impl ListedArray {
         in_rows + (self.bytes.len() - self.last_row_end) as u128
     }
 
-    /// Returns a run of the bytes that begins at the offset `at`. Offsets count each row as filled up. A caller that needs more bytes asks
-    /// again at the run's end. The run is empty if and only if `at` is at the end of the bytes or after it.
+    /// Returns a [`Run`] (stored bytes, and a number of fill bytes after them) that begins at the offset `at`. The offset counts all fill
+    /// bytes, also those that aren't stored. The run may end before the array does: a caller that needs more bytes asks again at the run's
+    /// end. It is empty if and only if `at` is at the end of the array or after it.
     pub fn run_at(&self, at: u128) -> Run<'_>
         ensures { StandAt self.now at result.bytes.now result.filling result.fill }
     {
@@ -135,7 +138,8 @@ impl ListedArray {
         }
     }
 
-    /// Returns the stored bytes if they are all of the bytes, or `None` if some bytes aren't stored.
+    /// Returns the stored bytes if they are all bytes of the array, or `None` if there are fill bytes that aren't stored (no clause says
+    /// when it is `None`).
     #[tactic(auto, using(crate::proofs::FilledRows::filled_full))]
     fn bytes_if_all_stored(&self) -> Option<&[u8]>
         ensures { IfSome result (λ bytes. bytes.now ≡ self.now) }
@@ -147,8 +151,10 @@ impl ListedArray {
         }
     }
 
-    /// Returns the run at the offset `at` for [`run_at`](ListedArray::run_at), which calls it if some bytes aren't stored. If `at` is in
-    /// one of the rows of `row_ends`, the run is the rest of that row. Otherwise it is the rest of the bytes that come after these rows.
+    /// Returns a [`Run`] that begins at the offset `at`, counting each row as filled up. [`run_at`](ListedArray::run_at) calls it if some
+    /// fill bytes aren't stored. If `at` is in a row that was kept short ([`end_row`](ListedArray::end_row)), the run is the rest of that
+    /// row. Otherwise it is the rest of the bytes after these rows: none if `at` is at their end or after it. No clause says where a run
+    /// ends.
     fn run_of_rows(&self, at: u128) -> Run<'_>
         ensures { StandAt self.now at result.bytes.now result.filling result.fill }
     {
@@ -171,8 +177,9 @@ impl ListedArray {
         }
     }
 
-    /// Returns the bytes with each row filled up, with capacity for `more` bytes after them. If rows were kept short
-    /// ([`end_row`](ListedArray::end_row)), the bytes are copied to a new `Vec`, which takes its memory from `alloc`.
+    /// Returns the bytes with each row filled up, in a `Vec` with capacity for `more` bytes after them (no clause speaks of the capacity).
+    /// If no row was kept short ([`end_row`](ListedArray::end_row)), it is the array's own `Vec`. Otherwise the bytes are copied to a new
+    /// one, which takes its memory from `alloc`.
     ///
     /// # Errors
     ///
@@ -188,8 +195,9 @@ impl ListedArray {
         self.to_bytes(alloc, more)
     }
 
-    /// Copies the bytes to a new `Vec` of memory from `alloc`, with each row filled up, and with capacity for `more` bytes after them.
-    /// [`into_bytes`](ListedArray::into_bytes) calls it if rows were kept short. Errs if an allocation fails.
+    /// Copies the bytes, with each row filled up, to a new `Vec` of memory from `alloc`, with capacity for `more` bytes after them (no
+    /// clause speaks of the capacity). [`into_bytes`](ListedArray::into_bytes) calls it if rows were kept short. Errs if an allocation
+    /// fails.
     fn to_bytes(&self, alloc: Global, more: usize) -> Result<Vec<u8>, AllocError>
         ensures { IfOk result (λ bytes. bytes.items ≡ self.now) }
     {
@@ -209,7 +217,8 @@ impl ListedArray {
     }
 }
 
-/// Returns the bytes from the offset `at` on as a run without fill bytes. The run is empty if `at` is at their end or after it.
+/// Returns the bytes from the offset `at` on, all of them, as a [`Run`] without fill bytes (no clause says that it goes to their end). The
+/// run is empty if `at` is at their end or after it.
 fn rest_of_bytes(bytes: &[u8], at: u128) -> Run<'_>
     ensures { StandAt bytes.now at result.bytes.now result.filling result.fill }
 {
@@ -222,8 +231,8 @@ fn rest_of_bytes(bytes: &[u8], at: u128) -> Run<'_>
     }
 }
 
-/// Returns the listed bytes of row `r`, counted from 0. In `bytes` they begin where the row before ends, or at 0 if `r` is 0, and end at
-/// the offset `row_ends[r]`. Needs a row of `row_ends`, and its two offsets in order and within `bytes`.
+/// Returns the listed bytes of row `r`, counted from 0: those of `bytes` from the end of the row before it, or from 0 if `r` is 0, to the
+/// offset `row_ends[r]`. Needs a row `r` in `row_ends`, and these two offsets in order and within `bytes`.
 fn listed_row<'a>(bytes: &'a [u8], row_ends: &[u32], r: usize) -> &'a [u8]
     requires of { r < length row_ends.now }
     requires after { row_start 0 row_ends.now r ≤ get_or row_ends.now r 0 }
@@ -234,8 +243,8 @@ fn listed_row<'a>(bytes: &'a [u8], row_ends: &[u32], r: usize) -> &'a [u8]
     &bytes[start..row_ends[r] as usize]
 }
 
-/// Returns the rest of a row of `row_len` bytes, from its byte `column` (counted from 0) on, as a run. `row` has the listed bytes of the
-/// row, and each byte after them is `fill`. Needs at most `row_len` bytes in `row`, and a `column` below `row_len`.
+/// Returns the part of a row from its byte `column` on, counted from 0, as a [`Run`]. The row has `row_len` bytes: the listed ones, which
+/// are those of `row`, and copies of `fill` after them. Needs at most `row_len` bytes in `row`, and a `column` below `row_len`.
 fn rest_of_row(row: &[u8], column: u64, row_len: u64, fill: u8) -> Run<'_>
     requires listed { length row.now ≤ row_len }
     requires column { column < row_len }
@@ -251,7 +260,8 @@ fn rest_of_row(row: &[u8], column: u64, row_len: u64, fill: u8) -> Run<'_>
     }
 }
 
-/// Returns the offset in the stored bytes at which row `r` starts: 0 if `r` is 0, otherwise where the row before it ends (`row_ends`).
+/// Returns the offset in the stored bytes at which row `r` starts: 0 if `r` is 0, otherwise `row_ends[r - 1]`, where the row before it
+/// ends. Needs an `r` of at most the number of rows in `row_ends`.
 #[tactic(auto, using(crate::proofs::FilledRows::row_start_after), unfolding(crate::specs::code::ListedRows::row_start))]
 fn start_of_row(row_ends: &[u32], r: usize) -> usize
     requires { r ≤ length row_ends.now }

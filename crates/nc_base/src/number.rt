@@ -8,7 +8,7 @@ ghost use Rattle.nc_base.specs.Types.{size_of};
 use crate::nc_type::NcType;
 
 /// Returns the number that `bytes` spell: big-endian, and in two's complement if the type `ty` has a sign (NetCDF Classic Format
-/// Specification). A character is a number from 0 to 255. Needs exactly the bytes of one value of this type.
+/// Specification). It is in the range of the type, for a character 0 to 255. Needs exactly the bytes of one value of this type.
 pub fn number_of(ty: NcType, bytes: &[u8]) -> i128
     requires { length bytes.now ≡ size_of ty }
     ensures number { result ≡ number_of ty bytes.now }

@@ -3,8 +3,9 @@
 ghost use Rattle.std.specs.Prelude.{◌≡◌};
 ghost use Rattle.nc_base.specs.Paths.{file_name_of, without_extension, stem_of};
 
-/// Returns the name that a dump gives the dataset of the file at this path (`-n` in ncdump(1)): the part after the last `/`,
-/// without its extension. The extension begins at the last `.` of that part, unless that `.` is the part's first byte.
+/// Returns the name that a dump gives the dataset of the file at this path, unless `-n` of ncdump(1) gives another: the part after the last
+/// `/`, without its extension. The extension begins at the last `.` of that part, unless that `.` is the part's first byte. So `in/a.b.nc`
+/// gives `a.b`, and `in/.nc` gives `.nc`.
 pub fn stem(path: &str) -> &str
     ensures { result.now ≡ stem_of path.now }
 {

@@ -22,7 +22,7 @@ impl<T> Model for Sequence<T> {
 }
 
 impl<T> Sequence<T> {
-    /// Creates a sequence without items. It does not allocate before an item is appended.
+    /// Creates a sequence without items. It takes its memory from `alloc`, and none before an item is appended.
     pub fn new(alloc: Global) -> Sequence<T>
         ensures { result ≡ [] }
     {

@@ -19,9 +19,9 @@ const SLAB_LIMIT: u64 = 1 << 48;
 /// The greatest record in bytes: 2^62.
 pub const RECORD_LIMIT: u128 = 1 << 62;
 
-/// Returns the number of bytes of the slab of the variable at index `v`, without padding: the values in one record for a record
-/// variable, and all values for any other one (`vsize` of the NetCDF Classic Format Specification before it is rounded up to a
-/// multiple of four). Returns `None` above 2^48 bytes.
+/// Returns the number of bytes of the slab of the variable at index `v`, without padding. A slab has the values of one record for a record
+/// variable, and all values for any other one. (Rounded up to a multiple of four, this is `vsize` of the NetCDF Classic Format
+/// Specification.) Returns `None` above 2^48 bytes. Needs a variable at this index.
 pub fn slab_bytes(header: &Header, v: usize) -> Option<u64>
     requires { v < length header.now.vars }
     ensures { SomeIff result (slab_at header.now v ≤ slab_limit) (slab_at header.now v) }
@@ -30,10 +30,10 @@ pub fn slab_bytes(header: &Header, v: usize) -> Option<u64>
     slab_len(header.dims.as_slice(), var.dimids.as_slice(), var.ty)
 }
 
-/// Returns the record size: the number of bytes from a record variable's values in one record to those in the next. It is the
-/// sum of the slabs of all record variables, each padded to a multiple of four bytes; but a sole record variable of one-byte or
-/// two-byte values isn't padded (`recsize` of the NetCDF Classic Format Specification, with its special case). Returns `None`
-/// if a record variable's slab passes 2^48 bytes, or if the record size passes 2^62 bytes.
+/// Returns the record size: the number of bytes from a record variable's values in one record to those in the next. It is the sum of the
+/// slabs of all record variables, each padded to a multiple of four bytes; but a sole record variable of one-byte or two-byte values isn't
+/// padded (`recsize` of the NetCDF Classic Format Specification, with its special case). It is 0 if there are no record variables. Returns
+/// `None` if a record variable's slab passes 2^48 bytes, or if the record size passes 2^62 bytes.
 pub fn rec_size(header: &Header) -> Option<u64>
     ensures { result ≡ checked_record_size header.now }
 {
@@ -73,7 +73,7 @@ impl NumRecs {
 /// unknown (`STREAMING`), it is the number of whole records between the least begin of the record variables and the file's end, or 0 if
 /// there are no record variables or the file ends before that begin (`numrecs` of the NetCDF Classic Format Specification).
 ///
-/// If the header isn't sound ([`Header::sound`]), the returned number means nothing.
+/// If the header isn't sound ([`Header::sound`]), no clause says which number is returned.
 pub fn records(header: &Header, len: u64) -> u64
     ensures { IsSound header.now → result ≡ record_count header.now len }
 {
@@ -98,9 +98,9 @@ pub struct RecordLayout {
     pub record_size: u64,
 }
 
-/// Returns the number of records of a file of `len` bytes with this header ([`records`]), and the record size ([`sound_record_size`]). Needs a
-/// sound header ([`Header::sound`]). It takes time in proportion to the number of variables and their dimensions, so a caller that goes
-/// over the variables asks for it once.
+/// Returns the number of records of a file of `len` bytes with this header ([`records`]), and the record size ([`sound_record_size`]).
+/// Needs a sound header ([`Header::sound`]). It takes time in proportion to the number of variables and their dimensions, so a caller that
+/// goes over the variables asks for it once.
 pub fn record_layout(header: &Header, len: u64) -> RecordLayout
     requires { IsSound header.now }
     ensures records { result.records ≡ record_count header.now len }
@@ -112,8 +112,8 @@ pub fn record_layout(header: &Header, len: u64) -> RecordLayout
     }
 }
 
-/// Returns how many whole records of `size` bytes fit into `bytes` bytes. Returns 0 if `size` is 0, and also if it is `None`, as the record
-/// size is if a limit is passed ([`rec_size`]).
+/// Returns how many whole records of `size` bytes fit into `bytes` bytes, or 0 if `size` is 0. With `None`, which [`rec_size`] returns if
+/// a limit is passed, it returns 0, but no clause says so.
 fn whole_records(bytes: u64, size: Option<u64>) -> u64
     ensures { IfSome size (λ size. result ≡ bytes / size) }
 {
@@ -124,7 +124,8 @@ fn whole_records(bytes: u64, size: Option<u64>) -> u64
 }
 
 /// Returns the first offset after the last value that the variable at index `v` has over `records` records, in bytes from the file's start.
-/// Returns the variable's begin if it has no value, such as a record variable over 0 records. Needs a sound header ([`Header::sound`]).
+/// Returns the variable's begin if it has no value, such as a record variable over 0 records. Needs a sound header ([`Header::sound`]), and
+/// a variable at this index.
 ///
 /// For callers of the library: the programs themselves never ask for it.
 pub fn extent_end(header: &Header, v: usize, records: u64) -> u128
@@ -135,9 +136,10 @@ pub fn extent_end(header: &Header, v: usize, records: u64) -> u128
     extent_sum(header, v, records)
 }
 
-/// Returns the offset that [`extent_end`] returns: the begin for a record variable over 0 records, otherwise the sum of the begin, the
-/// bytes of the slab, and for a record variable one record size for each record after the first. It is there for its contract, which states
-/// this sum: the contract of [`extent_end`] states where the last value ends. Needs a sound header ([`Header::sound`]).
+/// Returns the offset that [`extent_end`] returns for `records` records: the begin for a record variable over 0 records, otherwise the sum
+/// of the begin, the bytes of the slab, and for a record variable one record size for each record after the first. It is there for its
+/// contract, which states this sum: that of [`extent_end`] states where the last value ends. Needs a sound header ([`Header::sound`]), and
+/// a variable at the index `v`.
 fn extent_sum(header: &Header, v: usize, records: u64) -> u128
     requires sound { IsSound header.now }
     requires there { v < length header.now.vars }
@@ -156,7 +158,7 @@ fn extent_sum(header: &Header, v: usize, records: u64) -> u128
 }
 
 /// Returns how many values the variable at index `v` has over `records` records. A record variable has one slab for each record, and any
-/// other variable has one slab. Needs a sound header ([`Header::sound`]).
+/// other variable has one slab. Needs a sound header ([`Header::sound`]), and a variable at this index.
 pub fn value_count(header: &Header, v: usize, records: u64) -> u128
     requires sound { IsSound header.now }
     requires there { v < length header.now.vars }
@@ -171,8 +173,7 @@ pub fn value_count(header: &Header, v: usize, records: u64) -> u128
     }
 }
 
-/// Returns the record size in bytes, as [`rec_size`] does, but not as an `Option`. Needs a sound header ([`Header::sound`]), whose record
-/// size is at most 2^62 bytes.
+/// Returns the record size of [`rec_size`], at most 2^62 bytes, but not as an `Option`. Needs a sound header ([`Header::sound`]).
 pub fn sound_record_size(header: &Header) -> u64
     requires { IsSound header.now }
     ensures size { result ≡ record_size header.now }
@@ -181,8 +182,8 @@ pub fn sound_record_size(header: &Header) -> u64
     rec_size(header).unwrap()
 }
 
-/// Returns the number of bytes of the slab of the variable at index `v`, as [`slab_bytes`] does, but not as an `Option`. Needs a sound
-/// header ([`Header::sound`]), whose slabs have at most 2^48 bytes each.
+/// Returns the number of bytes of the slab of the variable at index `v`, at most 2^48, as [`slab_bytes`] does, but not as an `Option`.
+/// Needs a sound header ([`Header::sound`]), and a variable at this index.
 fn sound_slab_size(header: &Header, v: usize) -> u64
     requires sound { IsSound header.now }
     requires there { v < length header.now.vars }
@@ -215,9 +216,9 @@ fn min_begin(least: Option<u64>, begin: u64) -> u64
     }
 }
 
-/// Returns what the record size in bytes would be if `var` were the last record variable. It is `slab`, the bytes of the slab of `var`, if
-/// `var` is also the first one (`is_first`) and its values take less than four bytes each. Otherwise it is `with_padding`, the padded bytes
-/// of the slabs of all record variables up to `var` and of `var` itself.
+/// Returns the record size in bytes of the record variables up to `var`, the last one so far. `slab` is the number of bytes of the slab of
+/// `var`, and `with_padding` is that of the padded slabs of all these variables. The result is `slab` if `var` is the only one (`is_first`)
+/// and narrow ([`is_narrow`]), otherwise `with_padding`.
 fn record_size_up_to(is_first: bool, var: &Var, slab: u64, with_padding: u128) -> u128
     ensures { result ≡ (if is_first && is_narrow var.now then slab else with_padding) }
 {
@@ -250,16 +251,16 @@ fn is_narrow(var: &Var) -> bool
     var.ty.size() < 4
 }
 
-/// Returns true if the variable is a record variable: its first dimension is the record dimension.
+/// Returns true if the variable is a record variable: its first dimension is the record dimension, the one of length 0 in `dims`.
 pub fn is_record_var(dims: &[Dim], var: &Var) -> bool
     ensures { result ≡ is_record_var dims.now var.now }
 {
     is_record_shape(dims, var.dimids.as_slice())
 }
 
-/// Returns the number of bytes of a slab of this shape and type, without padding. It is the size of a value times the lengths
-/// of the dimensions, without the first one if that is the record dimension; one that isn't there counts as of length 0. Returns `None`
-/// above 2^48 bytes.
+/// Returns the number of bytes of a slab of the shape `dimids` and the type `ty`, without padding. It is the size of a value times the
+/// lengths of the dimensions, without the first one if that is the record dimension. An id that no dimension of `dims` has counts as length
+/// 0. Returns `None` above 2^48 bytes.
 pub fn slab_len(dims: &[Dim], dimids: &[u64], ty: NcType) -> Option<u64>
     ensures { IsCappedSlab dims.now dimids.now ty result }
 {
@@ -275,8 +276,8 @@ pub fn slab_len(dims: &[Dim], dimids: &[u64], ty: NcType) -> Option<u64>
     }
 }
 
-/// Returns the size of a value of the type `ty` in bytes times the lengths of the dimensions with these ids. If the product passes 2^48,
-/// the limit of a slab, it returns 2^48 + 1 instead.
+/// Returns the size of a value of the type `ty` in bytes times the lengths of the dimensions with the ids `dimids`, where an id without a
+/// dimension counts as 0. If the product passes 2^48, the limit of a slab, it returns 2^48 + 1 instead.
 fn capped_slab_size(dims: &[Dim], dimids: &[u64], ty: NcType) -> u64
     ensures { result ≡ min (product (map (dim_len dims.now) dimids.now) * size_of ty) (slab_limit + 1) }
 {
@@ -287,7 +288,7 @@ fn capped_slab_size(dims: &[Dim], dimids: &[u64], ty: NcType) -> u64
     bytes
 }
 
-/// Returns the product of `bytes` and `len`, or 2^48 + 1 if the product passes 2^48, the limit of a slab.
+/// Returns a number of bytes times the length of a dimension, or 2^48 + 1 if the product passes 2^48, the limit of a slab.
 fn slab_limited_product(bytes: u64, len: u64) -> u64
     ensures { result ≡ min (bytes * len) (slab_limit + 1) }
 {
@@ -308,7 +309,7 @@ pub fn is_record_shape(dims: &[Dim], dimids: &[u64]) -> bool
     }
 }
 
-/// Returns true if the id is that of the record dimension. It is false if no dimension has the id.
+/// Returns true if the dimension with this id is the record dimension, the one of length 0. Returns false if no dimension has the id.
 pub fn is_record_dim(dims: &[Dim], id: u64) -> bool
     ensures { result ≡ is_record_dim dims.now id }
 {

@@ -21,7 +21,7 @@ impl Header {
     /// In a sound header each count and length is below the version's limit (2^31, or 2^63 in CDF-5), each type is one of the version's,
     /// and each attribute has whole values. Each dimension id names a dimension. At most one dimension has length 0, and a shape has it
     /// only in its first place. No slab passes 2^48 bytes, and the record size doesn't pass 2^62 bytes. All but the last two are limits of
-    /// the NetCDF Classic Format Specification.
+    /// the NetCDF Classic Format Specification. Names and begins may be any.
     pub fn sound(&self) -> bool
         ensures { IsTrue result ↔ IsSound self.now }
     {
@@ -56,7 +56,7 @@ fn is_sound_numrecs(version: Version, numrecs: NumRecs) -> bool
     }
 }
 
-/// Returns true if the version can count this number of elements: if it is below the version's limit of counts.
+/// Returns true if the version can count this number of elements: if it is below the version's limit of counts, 2^31, or 2^63 in CDF-5.
 fn is_countable(version: Version, count: usize) -> bool
     ensures { IsTrue result ↔ (count < count_limit version) }
 {

@@ -75,8 +75,8 @@ impl Version {
         }
     }
 
-    /// Returns the size that a header has for a variable whose padded slab has `padded` bytes (`vsize`): `padded`, but in CDF-1 and CDF-2
-    /// the greatest number of 32 bits if `padded` is greater.
+    /// Returns the `vsize` that a header is written with for a variable whose slab has `padded` bytes with its padding: `padded` itself,
+    /// but in CDF-1 and CDF-2 at most 2^32 - 1, the greatest number of 32 bits.
     pub fn vsize_of(self, padded: u64) -> u64
         ensures { result ≡ vsize_of self padded }
     {
@@ -86,7 +86,7 @@ impl Version {
         }
     }
 
-    /// Returns true if files of the version may have values of the type.
+    /// Returns true if files of the version may have values of the type: any in CDF-5, otherwise byte, char, short and int.
     pub fn has_type(self, ty: NcType) -> bool
         ensures { result ≡ has_type self ty }
     {

@@ -19,7 +19,7 @@ pub fn weight(header: &Header) -> u128
         .saturating_add(vars_weight(header.vars.as_slice()))
 }
 
-/// Returns the sum of the weights of these dimensions ([`dim_weight`]), or `u128::MAX` if the sum is greater.
+/// Returns the sum of the weights of these dimensions (for each, the bytes of its name plus 1), or `u128::MAX` if the sum is greater.
 fn dims_weight(dims: &[Dim]) -> u128
     ensures { result ≡ min (sum_by dim_weight dims.now) u128.MAX }
 {
@@ -30,7 +30,8 @@ fn dims_weight(dims: &[Dim]) -> u128
     total
 }
 
-/// Returns the sum of the weights of these attributes ([`att_weight`]), or `u128::MAX` if the sum is greater.
+/// Returns the sum of the weights of these attributes (for each, the bytes of its name and its values plus 1), or `u128::MAX` if the sum is
+/// greater.
 fn atts_weight(atts: &[Att]) -> u128
     ensures { result ≡ min (sum_by att_weight atts.now) u128.MAX }
 {
@@ -41,7 +42,7 @@ fn atts_weight(atts: &[Att]) -> u128
     total
 }
 
-/// Returns the sum of the weights of these variables ([`var_weight`]), or `u128::MAX` if the sum is greater.
+/// Returns the sum of the weights of these variables (how much each of them holds: [`var_weight`]), or `u128::MAX` if the sum is greater.
 fn vars_weight(vars: &[Var]) -> u128
     ensures { result ≡ min (sum_by var_weight vars.now) u128.MAX }
 {

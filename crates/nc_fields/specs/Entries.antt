@@ -48,6 +48,7 @@ name_steps name.AttsCount = Count ∷ Atts ∷ []
 name_steps name.Vsize = Vsize ∷ []
 name_steps name.Begin = Begin ∷ []
 
+-- the steps to the field in this place, the last one first
 abbrev pub steps_of : Place → List Step
 steps_of place = name_steps place.name ++ owner_steps place.owner
 

@@ -27,7 +27,7 @@ pub record IsListing (bytes : Bytes) (l : Listing) : Type 0 where
   pub end : l.end + length rest ≡ length bytes
   pub file_len : l.file_len ≡ length bytes
 
--- the source has failed exactly where the answer says so
+-- the source has failed in between if and only if the result is `ReadFailed`; `before` is how often it had failed before
 abbrev pub Blames : ℕ → SourceView → Result Listing ListFault → Type 0
 Blames before now (Err ReadFailed) = HasFailed before now.failures
 Blames before now _ = now.failures ≡ before

@@ -24,7 +24,8 @@ impl FieldReader {
     ghost use Rattle.nc_fields.specs.Entries.{owner_steps};
     ghost use Rattle.nc_fields.specs.code.Checks.{at, Checked};
 
-    /// Passes over the `len` bytes of an attribute's values.
+    /// Passes over the `len` bytes of the values of an attribute (`owner`), and adds them to the field list as one field, of which it keeps
+    /// only whether the last byte is a NUL. Errs with `HeaderTruncated` if bytes are missing, and if the source or an allocation fails.
     fn values<S: Source>(
         &mut self,
         window: &mut Window<'_, S>,
@@ -46,7 +47,8 @@ impl FieldReader {
         Ok(())
     }
 
-    /// Reads an attribute, and returns it without its values.
+    /// Reads an attribute (`owner`), adds its fields to the field list, and returns it without its values. Errs with the fault of the first
+    /// wrong field, and if the source or an allocation fails.
     #[tactic(auto, using(crate::proofs::Checks::chain_lists), unfolding(nc_base::specs::Grammar::att_part))]
     fn att<S: Source>(
         &mut self,
@@ -79,7 +81,8 @@ impl FieldReader {
         })
     }
 
-    /// Reads the `n` attributes of a list, and returns them without their values.
+    /// Reads the `n` attributes of `list`, adds their fields to the field list, and returns them without their values. Errs with the fault
+    /// of the first wrong field, and if the source or an allocation fails.
     fn atts<S: Source>(
         &mut self,
         window: &mut Window<'_, S>,
@@ -99,7 +102,8 @@ impl FieldReader {
         Ok(atts)
     }
 
-    /// Reads a list of attributes, and returns them without their values.
+    /// Reads a list of attributes (tag, number and attributes), adds its fields to the field list, and returns the attributes without their
+    /// values. Errs with the fault of the first wrong field, and if the source or an allocation fails.
     #[tactic(auto, using(crate::proofs::Checks::chain_lists), unfolding(nc_base::specs::Grammar::att_list, nc_base::specs::Grammar::list_part))]
     pub(crate) fn att_list<S: Source>(
         &mut self,
@@ -116,7 +120,8 @@ impl FieldReader {
     }
 }
 
-/// Passes over `n` bytes, and returns true if the last of them is a NUL. Looks at what the window holds of them, and copies nothing.
+/// Passes over `n` bytes, and returns true if the last of them is a NUL. Looks at what the window holds of them, and copies nothing. Errs
+/// with `HeaderTruncated` if fewer bytes are left, and with `ReadFailed` if the source fails.
 fn pass_values<S: Source>(window: &mut Window<'_, S>, n: u128) -> Result<bool, HeadFault>
     ensures { PassesValues window.old window.new n result }
 {
@@ -133,7 +138,7 @@ fn pass_values<S: Source>(window: &mut Window<'_, S>, n: u128) -> Result<bool, H
     Ok(last_is_nul)
 }
 
-/// Returns true if the last of the bytes is a NUL.
+/// Returns true if there are bytes, and the last of them is a NUL.
 fn ends_with_nul(bytes: &[u8]) -> bool
     ensures { result ≡ ends_with_nul bytes.now }
 {

@@ -20,7 +20,8 @@ impl FieldReader {
     ghost use Rattle.nc_fields.specs.Entries.{owner_steps};
     ghost use Rattle.nc_fields.specs.code.Checks.{at, Checked};
 
-    /// Reads a dimension. `has_record` is true if a dimension before it has length 0. Errs with `TwoRecordDims` if this one has it, too.
+    /// Reads a dimension (`owner`), adds its fields to the field list, and returns it. Errs with the fault of the first wrong field, such
+    /// as `TwoRecordDims` if it has length 0 and a dimension before it has, too (`has_record`), and if the source or an allocation fails.
     #[tactic(auto, using(crate::proofs::Checks::chain_lists), unfolding(nc_base::specs::Grammar::dim_part))]
     fn dim<S: Source>(
         &mut self,
@@ -38,7 +39,8 @@ impl FieldReader {
         Ok(Dim { name, len })
     }
 
-    /// Reads the `n` dimensions of the list, and returns them.
+    /// Reads the `n` dimensions of the list, adds their fields to the field list, and returns them. Errs with the fault of the first wrong
+    /// field, and if the source or an allocation fails.
     fn dims<S: Source>(
         &mut self,
         window: &mut Window<'_, S>,
@@ -59,7 +61,8 @@ impl FieldReader {
         Ok(dims)
     }
 
-    /// Reads the list of dimensions, and returns them.
+    /// Reads the list of dimensions (tag, number and dimensions), adds its fields to the field list, and returns the dimensions. Errs with
+    /// the fault of the first wrong field, and if the source or an allocation fails.
     #[tactic(auto, using(crate::proofs::Checks::chain_lists), unfolding(nc_base::specs::Grammar::dim_list, nc_base::specs::Grammar::list_part))]
     pub(crate) fn dim_list<S: Source>(
         &mut self,

@@ -7,13 +7,13 @@ use crate::field_bytes::FieldBytes;
 use crate::place::Place;
 use nc_base::FormatFault;
 
-/// What the rules look at in the content of a field.
+/// What is kept of the content of a field.
 #[derive(Debug, Drop)]
 pub enum Content {
     /// The field is a number.
     Number(u64),
-    /// The field is these bytes: a name, what fills a field up, or what stands in the place of the letters `CDF`, of which fewer than three
-    /// may be there. Of an HDF5 file these are the eight bytes of its signature.
+    /// The field is these bytes: a name, the padding of a name or of values, or what stands in the place of the letters `CDF`, of which
+    /// fewer than three may be there. Of an HDF5 file these are the eight bytes of its signature.
     Bytes(FieldBytes),
     /// The field is the values of an attribute.
     Values {
@@ -25,7 +25,7 @@ pub enum Content {
 }
 
 impl Content {
-    /// Returns the number that the field is, or 0 if it is none.
+    /// Returns the number that the field is, or 0 if it isn't one.
     pub fn number(&self) -> u64
         ensures { result ≡ number_of self.now }
     {
@@ -39,14 +39,14 @@ impl Content {
 /// A field of a header that was read, or the first wrong one, at which reading stopped.
 #[derive(Debug, Drop)]
 pub struct Entry {
-    /// Its place in the header.
+    /// Its place in the header: what it belongs to, and which field of that it is.
     pub place: Place,
     /// The offset of its first byte from the file's start.
     pub offset: u64,
     /// How many bytes it has to have.
     pub size: u128,
-    /// What the rules look at in its content.
+    /// What is kept of its content.
     pub content: Content,
-    /// What is wrong with it, if reading stopped at it.
+    /// What is wrong with it, if reading stopped at it, or `None`.
     pub fault: Option<FormatFault>,
 }

@@ -10,11 +10,11 @@ use nc_base::Sequence;
 use nc_file::{HeadFault, Window};
 use std::alloc::AllocError;
 
-/// The fields that were read.
+/// The field list: the fields of a header that were read so far, each with its place, its offset and what is kept of its content.
 ///
-/// Each function that reads a field through a window lists it, also if it is wrong or if the source ends inside of it, and then errs with
-/// its fault. Since reading stops there, the fault is that of the last field, and is put there at the end. It errs with `ReadFailed` if the
-/// source fails, and with `OutOfMemory` if an allocation fails; then the list means nothing.
+/// Each function that reads a field through a window adds it to the list, also if it is wrong or if the source ends inside of it, and then
+/// errs with its fault. Since reading stops there, the fault is that of the last field, and is put there at the end. It errs with
+/// `ReadFailed` if the source fails, and with `OutOfMemory` if an allocation fails; then the list means nothing.
 #[derive(Drop)]
 pub(crate) struct FieldReader {
     pub(crate) entries: Sequence<Entry>,
@@ -31,7 +31,7 @@ pub(crate) struct PendingField {
 impl PendingField {
     ghost use Rattle.nc_fields.specs.code.Checks.{entry_of, ListsCut};
 
-    /// Lists this field with its content, and without a fault.
+    /// Appends this field to `entries`, with this content and without a fault. Errs if an allocation fails.
     pub(crate) fn list(
         self,
         entries: &mut Sequence<Entry>,
@@ -48,8 +48,8 @@ impl PendingField {
         })
     }
 
-    /// Lists this field as cut if the answer of the call that read it errs with a fault of the bytes, which is that the source has ended.
-    /// Returns the answer.
+    /// Returns `answer`, which the call that read this field gave. If it is a fault of the bytes, the source has ended inside of the field:
+    /// then it first appends the field to `entries`, as [`Content::Cut`]. Errs with `OutOfMemory` if the allocation for that fails.
     pub(crate) fn list_if_cut<T: Drop>(
         self,
         entries: &mut Sequence<Entry>,
@@ -64,7 +64,7 @@ impl PendingField {
     }
 }
 
-/// Returns the field at the offset of the window's next byte, with its place and how many bytes it has to have.
+/// Returns the field that is to be read next: it begins at the next byte of the window, has this place, and has to have `size` bytes.
 pub(crate) fn pending_field<S: Source>(
     window: &Window<'_, S>,
     place: Place,

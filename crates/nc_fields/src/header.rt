@@ -33,12 +33,12 @@ use std::alloc::{AllocError, Global};
 pub struct Listing {
     /// The fields in the order of the file; if the header is wrong, up to its first wrong field.
     pub entries: Sequence<Entry>,
-    /// The header, without the values of attributes, or what is wrong with its first wrong field. For a floating type stands the integer
-    /// type of the same size, so this header may have a type that its version lacks.
+    /// The header, without the values of attributes, or what is wrong with its first wrong field. In place of a floating type it has the
+    /// integer type of the same size, which its version may lack.
     pub header: Result<Header, FormatFault>,
-    /// The offset at which the header ends; if it is wrong, its first wrong field.
+    /// The offset at which the header ends or, if it is wrong, at which its first wrong field ends.
     pub end: u64,
-    /// The bytes of the file.
+    /// The length of the file in bytes.
     pub file_len: u64,
 }
 
@@ -46,11 +46,11 @@ pub struct Listing {
 const FEW_FIELDS: usize = 128;
 
 /// Lists the fields of the header at the start of a source, through a caller's buffer of at least 16 bytes, which may hold anything before
-/// and after. All types of the format are taken, in CDF-1 and CDF-2 any dimension's length and number of records, and names that aren't valid
-/// as long as the fields are in step.
+/// and after. All types of the format are taken, in CDF-1 and CDF-2 any dimension's length and number of records, and names that aren't
+/// valid, if they aren't empty and have no control character but NULs at the end.
 ///
-/// It reads forward, and at most one buffer more of a transparent source than the header, or than the bytes up to the end of the first wrong
-/// field. No count of the header reserves memory: the list grows as fields are read. The values of attributes are passed over.
+/// It reads forward, and at most one buffer more of a transparent source than the header, or than the bytes up to the end of the first
+/// wrong field. No count of the header reserves memory: the list grows as fields are read. The values of attributes are passed over.
 ///
 /// # Errors
 ///
@@ -84,7 +84,8 @@ pub fn list_fields<S: Source>(
     answered(fields, window.offset_of_next(), len, answer)
 }
 
-/// Returns the listing of these entries in a file of this length, with what reading the header has answered, and where it has ended.
+/// Returns the listing of `fields`, in a file of `file_len` bytes, if reading the header gave `answer` and ended at the offset `end`. A
+/// fault of the bytes becomes that of the last field and of the listing. Errs if `answer` is any other error, and if an allocation fails.
 fn answered(
     fields: FieldReader,
     end: u64,
@@ -112,7 +113,7 @@ fn answered(
     }
 }
 
-/// Returns the entries with this fault at the last one, where reading has stopped.
+/// Returns the fields with this fault at the last one, where reading has stopped, or none if there are none. Errs if an allocation fails.
 #[tactic(auto, using(crate::proofs::Checks::faulted))]
 fn with_fault(entries: Sequence<Entry>, fault: FormatFault) -> Result<Sequence<Entry>, AllocError>
     ensures { IfOk result (λ listed. map seen_by listed ≡ with_fault fault (map seen_by entries)) }
@@ -129,8 +130,9 @@ fn with_fault(entries: Sequence<Entry>, fault: FormatFault) -> Result<Sequence<E
 impl FieldReader {
     ghost use Rattle.nc_fields.specs.code.Checks.{at, Checked};
 
-    /// Reads the three bytes that should be `CDF`. Errs with `NotNetcdf` if they are others, or if there are fewer, which are listed too. If
-    /// `is_hdf5` is true, which says that the signature of HDF5 comes next, that is listed.
+    /// Reads the three bytes that should be `CDF`, adds them to the field list, or the signature of HDF5 in their place if `is_hdf5` is
+    /// true, and returns them. Errs with `NotNetcdf` if they are others, or fewer (these are listed, too), and if the source or an
+    /// allocation fails. Needs `is_hdf5` to be true if and only if the signature comes next, in a transparent source.
     fn listed_letters<S: Source>(
         &mut self,
         window: &mut Window<'_, S>,
@@ -156,7 +158,9 @@ impl FieldReader {
         answer
     }
 
-    /// Reads the three bytes that should be `CDF`, as [`listed_letters`](FieldReader::listed_letters) does.
+    /// Reads the three bytes that should be `CDF`, adds them to the field list, or the signature of HDF5 if that comes next, and returns
+    /// them. Errs with `NotNetcdf` if they are others, or fewer, and if the source or an allocation fails. Needs a buffer with room for the
+    /// next eight bytes.
     fn letters<S: Source>(
         &mut self,
         window: &mut Window<'_, S>,
@@ -171,7 +175,8 @@ impl FieldReader {
         self.listed_letters(window, alloc, is_hdf5)
     }
 
-    /// Reads the byte that should be a version.
+    /// Reads the version byte, adds it to the field list, and returns it, whatever it is. Errs with `HeaderTruncated` if there is none, and
+    /// if the source or an allocation fails.
     fn version_byte<S: Source>(&mut self, window: &mut Window<'_, S>) -> Result<[u8; 1], HeadFault>
         ensures { Checked (at window.old self.old) (at window.new self.new)
             (VersionByte ∷ []) (bytes 1 HeaderTruncated) result }
@@ -186,8 +191,8 @@ impl FieldReader {
         Ok(byte)
     }
 
-    /// Reads and lists the version byte, and returns the version. Errs with `UnknownVersion` if it is none of 1, 2 and 5, with
-    /// `HeaderTruncated` if there is none, and if the source or an allocation fails.
+    /// Reads the version byte, adds it to the field list, and returns the version. Errs with `UnknownVersion` if it is none of 1, 2 and 5,
+    /// with `HeaderTruncated` if there is none, and if the source or an allocation fails.
     #[tactic(auto, using(crate::proofs::Checks::part_lists), unfolding(nc_base::specs::Grammar::version_part))]
     fn version<S: Source>(&mut self, window: &mut Window<'_, S>) -> Result<Version, HeadFault>
         ensures { Checked (at window.old self.old) (at window.new self.new)
@@ -197,7 +202,8 @@ impl FieldReader {
         Ok(Version::of_byte(byte).ok_or(FormatFault::UnknownVersion(byte))?)
     }
 
-    /// Reads `CDF` and the version byte, and returns the version.
+    /// Reads `CDF` and the version byte, adds both to the field list, and returns the version. Errs with the fault of the first wrong
+    /// field, and if the source or an allocation fails. Needs a buffer with room for the next eight bytes.
     #[tactic(auto, using(crate::proofs::Checks::chain_lists), unfolding(nc_base::specs::Grammar::magic_part))]
     fn magic<S: Source>(
         &mut self,
@@ -211,7 +217,8 @@ impl FieldReader {
         self.version(window)
     }
 
-    /// Reads the whole header.
+    /// Reads the whole header, adds its fields to the field list, and returns it without the values of attributes. Errs with the fault of
+    /// the first wrong field, and if the source or an allocation fails. Needs a buffer with room for the next eight bytes.
     #[tactic(auto, using(crate::proofs::Checks::chain_lists), unfolding(nc_base::specs::Grammar::header_by))]
     fn header<S: Source>(
         &mut self,
@@ -237,7 +244,7 @@ impl FieldReader {
     }
 }
 
-/// Returns how many of the three bytes that should be `CDF` are left.
+/// Returns how many of the three bytes that should be `CDF` the source still has, from 0 to 3.
 fn letters_there<S: Source>(window: &Window<'_, S>) -> u64
     ensures { result ≡ min 3 (length (left window.now)) }
 {
@@ -245,7 +252,7 @@ fn letters_there<S: Source>(window: &Window<'_, S>) -> u64
     if left < 3 { left } else { 3 }
 }
 
-/// Returns what is kept of the start of a file: the signature of HDF5 if it has that, or else the letters. Never errs.
+/// Returns what is kept of the start of a file: the signature of HDF5 if `is_hdf5` is true, or else `letters`. Never errs.
 fn kept_letters(alloc: Global, is_hdf5: bool, letters: FieldBytes) -> Result<FieldBytes, AllocError>
     ensures kept { IfOk result (λ kept. kept ≡ (if is_hdf5 then hdf5_signature else letters)) }
     ensures never { IsOk result }
@@ -257,7 +264,7 @@ fn kept_letters(alloc: Global, is_hdf5: bool, letters: FieldBytes) -> Result<Fie
     }
 }
 
-/// Returns the letters, or errs with `NotNetcdf` if they aren't `CDF`.
+/// Returns the letters if they are `CDF`, and otherwise errs with `NotNetcdf`.
 fn letters_in(letters: &[u8]) -> Result<[u8; 3], HeadFault>
     ensures { result ≡ (if bytes_eq letters.now (codes "CDF") then Ok letters.now
         else Err (Format NotNetcdf)) }

@@ -13,9 +13,9 @@ use nc_file::{HeadFault, Window};
 impl FieldReader {
     ghost use Rattle.nc_fields.specs.code.Checks.{at, Checked};
 
-    /// Reads the tag of a list and the number of its elements, and returns the number. `tag` is the tag of lists of this kind. Errs with
-    /// `BadTag` if another tag than this or 0 was read, and with `BadCount` if the number's top bit is 1, or if the tag is 0 and the number
-    /// isn't.
+    /// Reads the tag of `list` and the number of its elements, adds both to the field list, and returns the number. `tag` is the tag of
+    /// such a list; 0 may stand in its place. Errs with `BadTag` if another tag was read, with `BadCount` if the number's top bit is 1, or
+    /// if the tag is 0 and the number isn't, with `HeaderTruncated` if bytes are missing, and if the source or an allocation fails.
     pub(crate) fn list_len<S: Source>(
         &mut self,
         window: &mut Window<'_, S>,

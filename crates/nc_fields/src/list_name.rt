@@ -11,7 +11,7 @@ pub(crate) enum HeaderList {
     GlobalAtts,
     /// The variables.
     Vars,
-    /// The attributes of the variable of this number.
+    /// The attributes of the variable of this number, from 0.
     Atts(u64),
 }
 
@@ -22,7 +22,7 @@ impl HeaderList {
     ghost use Rattle.nc_fields.specs.code.Checks.{IsNumeric};
     ghost use Rattle.nc_fields.specs.code.Lists.{list_steps};
 
-    /// Returns the place of the list's tag.
+    /// Returns the place of the list's tag (a field that is a number): its owner is the header, or the variable whose attributes these are.
     pub(crate) fn tag(self) -> Place
         ensures steps { steps_of result ≡ Tag ∷ list_steps self }
         ensures numeric { IsNumeric result }
@@ -47,7 +47,7 @@ impl HeaderList {
         }
     }
 
-    /// Returns the place of the number of the list's elements.
+    /// Returns the place of the number of the list's elements: its owner is the header, or the variable whose attributes these are.
     pub(crate) fn count(self) -> Place
         ensures steps { steps_of result ≡ Count ∷ list_steps self }
         ensures numeric { IsNumeric result }
@@ -72,7 +72,7 @@ impl HeaderList {
         }
     }
 
-    /// Returns the element of this number.
+    /// Returns the list's element of this number, from 0, as the owner of its fields, such as `Owner::Dim(number)`.
     pub(crate) fn item(self, number: u64) -> Owner
         ensures { owner_steps result ≡ Item number ∷ list_steps self }
     {

@@ -22,7 +22,8 @@ impl FieldReader {
     ghost use Rattle.nc_fields.specs.Entries.{owner_steps, steps_of};
     ghost use Rattle.nc_fields.specs.code.Checks.{at, Checked, IsFilling};
 
-    /// Reads `n` bytes, which may be any.
+    /// Reads `n` bytes, which may be any, adds them to the field list, and returns them. Needs a `place` that is that of a name or of
+    /// padding. Errs with `HeaderTruncated` if bytes are missing, and if the source or an allocation fails.
     fn text<S: Source>(
         &mut self,
         window: &mut Window<'_, S>,
@@ -41,7 +42,9 @@ impl FieldReader {
         Ok(text)
     }
 
-    /// Reads the `n` bytes of a name. Errs with `BadName` if they show that the fields are out of step ([`may_be_name`]).
+    /// Reads the `n` bytes of a name of `owner`, adds them to the field list, and returns them. Errs with `BadName` if they are empty,
+    /// begin with a NUL, or have a control character (but NULs may end them), with `HeaderTruncated` if bytes are missing, and if the
+    /// source or an allocation fails.
     #[tactic(auto, using(crate::proofs::Checks::part_lists), unfolding(nc_base::specs::Grammar::number))]
     fn name_text<S: Source>(
         &mut self,
@@ -65,7 +68,8 @@ impl FieldReader {
         Ok(text)
     }
 
-    /// Reads the `n` bytes that fill up what comes before. They may be any bytes.
+    /// Reads the `n` bytes of padding, which may be any, and adds them to the field list. Needs a `place` that is that of padding or of a
+    /// name. Errs with `HeaderTruncated` if bytes are missing, and if the source or an allocation fails.
     pub(crate) fn filling<S: Source>(
         &mut self,
         window: &mut Window<'_, S>,
@@ -83,7 +87,8 @@ impl FieldReader {
         Ok(())
     }
 
-    /// Reads a name: its length, its bytes and what fills them up. Returns the bytes.
+    /// Reads the name of `owner` (length, bytes and padding), adds these three fields to the field list, and returns the bytes. Errs with
+    /// the fault of the first wrong field, and if the source or an allocation fails.
     #[tactic(auto, using(crate::proofs::Checks::chain_lists), unfolding(nc_base::specs::Grammar::name_part))]
     pub(crate) fn name<S: Source>(
         &mut self,
@@ -110,7 +115,8 @@ impl FieldReader {
     }
 }
 
-/// Reads `n` bytes. Up to three, such as those that fill a field up, take no allocation.
+/// Reads `n` bytes through the window, and returns them. Up to three, such as padding, take no allocation. Errs with `HeaderTruncated` if
+/// bytes are missing, and if the source or an allocation fails.
 pub(crate) fn filling_bytes<S: Source>(
     window: &mut Window<'_, S>,
     alloc: Global,
@@ -133,8 +139,8 @@ fn held(alloc: Global, bytes: &[u8]) -> Result<FieldBytes, HeadFault>
     Ok(FieldBytes::from_slice(alloc, bytes)?)
 }
 
-/// Returns true if the bytes may be a name in a header whose fields are in step: at least one byte that is no control character, and after
-/// such bytes nothing but NULs.
+/// Returns true if the bytes may be a name, valid or not, where the reader expects one: at least one byte that is no control character, and
+/// after such bytes nothing but NULs.
 fn may_be_name(name: &[u8]) -> bool
     ensures { result ≡ may_be_name name.now }
 {
@@ -142,7 +148,7 @@ fn may_be_name(name: &[u8]) -> bool
     0 < len && has_no_control(&name[..len]) && are_nuls(&name[len..])
 }
 
-/// Returns how many bytes come before the first NUL.
+/// Returns how many bytes come before the first NUL: all, if there is none.
 fn len_before_nul(name: &[u8]) -> usize
     ensures value { result ≡ len_before_nul name.now }
     ensures within { result ≤ length name.now }
@@ -150,7 +156,7 @@ fn len_before_nul(name: &[u8]) -> usize
     name.iter().take_while(|b| **b != 0).count()
 }
 
-/// Returns true if none of the bytes is a control character of ASCII.
+/// Returns true if none of the bytes is a control character of ASCII: a byte below 32, or 127.
 fn has_no_control(text: &[u8]) -> bool
     ensures { result ≡ list_all is_no_control text.now }
 {

@@ -27,7 +27,7 @@ pub(crate) enum NumberWidth {
 }
 
 impl NumberWidth {
-    /// Returns the width of a count or a length in the version.
+    /// Returns the width of a count or a length in the version: eight bytes in CDF-5, and otherwise four.
     pub(crate) fn of_counts(version: Version) -> NumberWidth
         ensures { width_of result ≡ count_width version }
     {
@@ -37,7 +37,7 @@ impl NumberWidth {
         }
     }
 
-    /// Returns the width of an offset in the version.
+    /// Returns the width of an offset in the version: four bytes in CDF-1, and otherwise eight.
     fn of_offsets(version: Version) -> NumberWidth
         ensures { width_of result ≡ offset_width version }
     {
@@ -47,7 +47,7 @@ impl NumberWidth {
         }
     }
 
-    /// Returns how many bytes that is.
+    /// Returns the width in bytes, 4 or 8.
     fn len(self) -> u128
         ensures { result ≡ byte_len (width_of self) }
     {
@@ -62,7 +62,8 @@ impl FieldReader {
     ghost use Rattle.nc_fields.specs.Entries.{owner_steps, steps_of};
     ghost use Rattle.nc_fields.specs.code.Checks.{at, Checked, IsNumeric};
 
-    /// Reads a number of this width. Any number is good.
+    /// Reads a big-endian number of this width, adds it to the field list, and returns it, whatever it is. Needs a `place` that is that of
+    /// a number. Errs with `HeaderTruncated` if bytes are missing, and if the source or an allocation fails.
     pub(crate) fn number<S: Source>(
         &mut self,
         window: &mut Window<'_, S>,
@@ -79,7 +80,9 @@ impl FieldReader {
         Ok(n)
     }
 
-    /// Reads a number of as many bytes as counts have. Errs with `BadCount` if it isn't below the limit.
+    /// Reads a number as wide as counts (eight bytes in CDF-5, otherwise four), adds it to the field list, and returns it. Needs a `place`
+    /// that is that of a number. Errs with `BadCount` if it isn't below `limit`, with `HeaderTruncated` if bytes are missing, and if the
+    /// source or an allocation fails.
     #[tactic(auto, using(crate::proofs::Checks::part_lists), unfolding(nc_base::specs::Grammar::number, nc_base::specs::Grammar::limited_part))]
     fn limited<S: Source>(
         &mut self,
@@ -99,7 +102,8 @@ impl FieldReader {
         Ok(n)
     }
 
-    /// Reads a count or a length (`NON_NEG`). Errs with `BadCount` if its top bit is 1.
+    /// Reads a count or a length (`NON_NEG`), adds it to the field list, and returns it. Needs a `place` that is that of a number. Errs
+    /// with `BadCount` if its top bit is 1, with `HeaderTruncated` if bytes are missing, and if the source or an allocation fails.
     pub(crate) fn count<S: Source>(
         &mut self,
         window: &mut Window<'_, S>,
@@ -113,8 +117,9 @@ impl FieldReader {
         self.limited(window, version, place, version.count_limit())
     }
 
-    /// Reads the length of a dimension. Errs with `BadCount` if it is 2^63 or more, and with `TwoRecordDims` if it is 0 and `has_record` is
-    /// true, which says that a dimension before has the length 0.
+    /// Reads the length of a dimension (`owner`), adds it to the field list, and returns it. Errs with `BadCount` if it is 2^63 or more,
+    /// with `TwoRecordDims` if it is 0, like that of a dimension before it (`has_record`), with `HeaderTruncated` if bytes are missing, and
+    /// if the source or an allocation fails.
     #[tactic(auto, using(crate::proofs::Checks::part_lists), unfolding(nc_base::specs::Grammar::number, nc_base::specs::Grammar::limited_part))]
     pub(crate) fn dim_len<S: Source>(
         &mut self,
@@ -139,7 +144,8 @@ impl FieldReader {
         Ok(len)
     }
 
-    /// Reads the tag of a list. Errs with `BadTag` if it is neither 0 nor `tag`.
+    /// Reads the tag of a list, adds it to the field list, and returns it. Needs a `place` that is that of a number. Errs with `BadTag` if
+    /// it is neither 0 nor `tag`, with `HeaderTruncated` if bytes are missing, and if the source or an allocation fails.
     #[tactic(auto, using(crate::proofs::Checks::part_lists), unfolding(nc_base::specs::Grammar::number))]
     pub(crate) fn tag<S: Source>(
         &mut self,
@@ -158,7 +164,9 @@ impl FieldReader {
         Ok(found)
     }
 
-    /// Reads the number of a list's elements, after the tag `tag`. Errs with `BadCount` if its top bit is 1, or if the tag is 0 and it isn't.
+    /// Reads the number of a list's elements, adds it to the field list, and returns it. `tag` is the tag that was read before it. Needs a
+    /// `place` that is that of a number. Errs with `BadCount` if the number's top bit is 1, or if the tag is 0 and the number isn't, with
+    /// `HeaderTruncated` if bytes are missing, and if the source or an allocation fails.
     #[tactic(auto, using(crate::proofs::Checks::part_lists), unfolding(nc_base::specs::Grammar::number, nc_base::specs::Grammar::limited_part))]
     pub(crate) fn list_count<S: Source>(
         &mut self,
@@ -178,7 +186,8 @@ impl FieldReader {
         Ok(n)
     }
 
-    /// Reads the type code of an attribute or a variable. Errs with `BadType` if the version has no type with this code.
+    /// Reads the type code of `owner`, adds it to the field list, and returns the type (for a floating one the integer type of its size).
+    /// Errs with `BadType` if the version lacks it, with `HeaderTruncated` if bytes are missing, and if the source or an allocation fails.
     #[tactic(auto, using(crate::proofs::Checks::part_lists), unfolding(nc_base::specs::Grammar::number, nc_base::specs::Grammar::type_part))]
     pub(crate) fn nc_type<S: Source>(
         &mut self,
@@ -197,8 +206,9 @@ impl FieldReader {
         Ok(sized_type_in(version, code)?)
     }
 
-    /// Reads the dimension id in place `k` of a shape. Errs with `BadShape` if no dimension has this id, or if it is that of the record
-    /// dimension and `k` isn't 0.
+    /// Reads the dimension id at the index `k` of the shape of `owner`, adds it to the field list, and returns it. Errs with `BadShape` if
+    /// no dimension of `dims` has this id, or if it is that of the record dimension and `k` isn't 0, with `HeaderTruncated` if bytes are
+    /// missing, and if the source or an allocation fails.
     #[tactic(auto, using(crate::proofs::Checks::part_lists), unfolding(nc_base::specs::Grammar::number, nc_base::specs::Grammar::dimid_part))]
     pub(crate) fn dimid<S: Source>(
         &mut self,
@@ -223,7 +233,8 @@ impl FieldReader {
         Ok(id)
     }
 
-    /// Reads the begin of a variable. Errs with `BadOffset` if its top bit is 1.
+    /// Reads the begin of a variable (`owner`), an offset, adds it to the field list, and returns it. Errs with `BadOffset` if its top bit
+    /// is 1, with `HeaderTruncated` if bytes are missing, and if the source or an allocation fails.
     #[tactic(auto, using(crate::proofs::Checks::part_lists), unfolding(nc_base::specs::Grammar::number, nc_base::specs::Grammar::offset_part))]
     pub(crate) fn begin<S: Source>(
         &mut self,
@@ -245,7 +256,8 @@ impl FieldReader {
         Ok(n)
     }
 
-    /// Reads the number of records. Errs with `BadCount` if it is 2^63 or more, but not all of its bits are 1.
+    /// Reads the number of records, adds it to the field list, and returns it, or `Streaming` if all its bits are 1. Errs with `BadCount`
+    /// if it is any other from 2^63 on, with `HeaderTruncated` if bytes are missing, and if the source or an allocation fails.
     #[tactic(auto, using(crate::proofs::Checks::part_lists), unfolding(nc_base::specs::Grammar::number, nc_base::specs::Grammar::numrecs_part))]
     pub(crate) fn numrecs<S: Source>(
         &mut self,
@@ -270,7 +282,8 @@ impl FieldReader {
     }
 }
 
-/// Reads a number of this width through the window, and lists nothing.
+/// Reads a big-endian number of this width through the window, and returns it. Errs with `HeaderTruncated` if bytes are missing, and with
+/// `ReadFailed` if the source fails.
 fn read_number<S: Source>(window: &mut Window<'_, S>, width: NumberWidth) -> Result<u64, HeadFault>
     ensures { Read window.old window.new (number (width_of width)) result }
 {

@@ -60,7 +60,7 @@ pub enum FieldName {
     Padding,
     /// The number of a variable's dimensions (`nelems`).
     Rank,
-    /// The dimension id in this place of a variable's shape (`dimid`).
+    /// The dimension id at this index in a variable's shape (`dimid`).
     DimId(u64),
     /// The tag of a variable's list of attributes (`NC_ATTRIBUTE`).
     AttsTag,

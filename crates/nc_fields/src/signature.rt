@@ -13,8 +13,8 @@ use nc_file::{HeadFault, Window};
 /// The first eight bytes of an HDF5 file, such as one of netCDF-4.
 pub const HDF5_SIGNATURE: [u8; 8] = *b"\x89HDF\r\n\x1a\n";
 
-/// Reads once from the source, behind the bytes that the window holds, uses none of them, and returns how many came. Needs room for a byte,
-/// and a source that has one more. Errs with `ReadFailed` if the source fails.
+/// Reads once from the source, appends the bytes to those that the window holds, leaves them unused, and returns how many came. Needs room
+/// for a byte in the buffer, and a source that has one more. Errs with `ReadFailed` if the source fails.
 fn read_more<S: Source>(window: &mut Window<'_, S>) -> Result<usize, HeadFault>
     requires room { window.old.filled < length window.old.buf.now }
     requires inside { window.old.base + window.old.filled < window.old.len }
@@ -41,8 +41,8 @@ fn read_more<S: Source>(window: &mut Window<'_, S>) -> Result<usize, HeadFault>
     Ok(n)
 }
 
-/// Makes sure that the window holds the next `n` bytes, or all that are left if they are fewer, and uses none of them. Needs a buffer with
-/// room for them. Errs with `ReadFailed` if the source fails.
+/// Reads until the window holds the next `n` bytes, or all that are left if they are fewer, and leaves them unused. A clause says so of a
+/// transparent source alone. Needs a buffer with room for them after the used bytes. Errs with `ReadFailed` if the source fails.
 fn hold<S: Source>(window: &mut Window<'_, S>, n: usize) -> Result<(), HeadFault>
     requires { window.old.pos + n ≤ length window.old.buf.now }
     ensures kept { Kept window.old window.new }
@@ -62,8 +62,8 @@ fn hold<S: Source>(window: &mut Window<'_, S>, n: usize) -> Result<(), HeadFault
     Ok(())
 }
 
-/// Returns true if the next bytes are the signature of HDF5, and uses none of them. Needs a buffer with room for them. Errs with `ReadFailed`
-/// if the source fails.
+/// Reads until the window holds the next eight bytes, leaves them unused, and returns true if they are the signature of HDF5: a clause says
+/// so of a transparent source alone. Needs a buffer with room for them after the used bytes. Errs with `ReadFailed` if the source fails.
 pub(crate) fn is_hdf5_next<S: Source>(window: &mut Window<'_, S>) -> Result<bool, HeadFault>
     requires { window.old.pos + 8 ≤ length window.old.buf.now }
     ensures kept { Kept window.old window.new }
@@ -77,7 +77,7 @@ pub(crate) fn is_hdf5_next<S: Source>(window: &mut Window<'_, S>) -> Result<bool
     Ok(holds_hdf5(window))
 }
 
-/// Returns true if the next bytes that the window holds are the signature of HDF5.
+/// Returns true if the bytes that the window holds, from the next one on, begin with the signature of HDF5. Reads nothing.
 fn holds_hdf5<S: Source>(window: &Window<'_, S>) -> bool
     ensures { result ≡ bytes_eq hdf5_signature
         (take 8 (take (window.now.filled - window.now.pos) (drop window.now.pos window.now.buf.now))) }

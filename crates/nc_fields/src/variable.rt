@@ -18,7 +18,7 @@ use std::alloc::Global;
 /// The tag of a list of variables (`NC_VARIABLE`).
 const NC_VARIABLE: u64 = 11;
 
-/// A variable that was read, with the bytes that a record has up to and including it.
+/// A variable that was read, with the sum that limits the size of a record.
 #[derive(Drop)]
 pub(crate) struct CountedVar {
     pub(crate) var: Var,
@@ -31,7 +31,9 @@ impl FieldReader {
     ghost use Rattle.nc_fields.specs.code.Checks.{at, Checked};
     ghost use Rattle.nc_fields.specs.code.Lists.{var_of};
 
-    /// Reads the `n` dimension ids of a shape, and returns them.
+    /// Reads the `n` dimension ids of a variable (`owner`), adds them to the field list, and returns them. Errs with `BadShape` if one is
+    /// the id of no dimension of `dims`, or one after the first is that of the record dimension, with `HeaderTruncated` if bytes are
+    /// missing, and if the source or an allocation fails.
     fn dimids<S: Source>(
         &mut self,
         window: &mut Window<'_, S>,
@@ -52,7 +54,8 @@ impl FieldReader {
         Ok(dimids)
     }
 
-    /// Reads the shape of a variable, and returns its dimension ids.
+    /// Reads the shape of a variable (`owner`), a count and dimension ids, adds these fields to the field list, and returns the ids. Errs
+    /// with the fault of the first wrong field, and if the source or an allocation fails.
     #[tactic(auto, using(crate::proofs::Checks::chain_lists), unfolding(nc_base::specs::Grammar::shape_part, nc_base::specs::Grammar::counted))]
     fn shape<S: Source>(
         &mut self,
@@ -73,8 +76,10 @@ impl FieldReader {
         self.dimids(window, alloc, version, owner, dims, n)
     }
 
-    /// Reads the type code of a variable of this shape. Errs with `BadType` if the version has no type with this code, and with `TooLarge` if
-    /// its slab passes 2^48 bytes, or if the padded slabs of the record variables pass 2^62 bytes; those before it have `total` bytes.
+    /// Reads the type code of a variable (`owner`) with the shape `dimids`, adds it to the field list, and returns the type, or for a
+    /// floating type the integer type of its size. Errs with `BadType` if the version has no such type, with `TooLarge` if the slab passes
+    /// 2^48 bytes, or the padded slabs of the record variables up to it 2^62 (`total` is the bytes of those before it), with
+    /// `HeaderTruncated` if bytes are missing, and if the source or an allocation fails.
     #[tactic(auto, using(crate::proofs::Checks::part_lists), unfolding(nc_base::specs::Grammar::number, nc_base::specs::Grammar::type_part))]
     fn var_type<S: Source>(
         &mut self,
@@ -98,8 +103,9 @@ impl FieldReader {
         Ok(ty)
     }
 
-    /// Reads the variable of this number, and returns it with the number of bytes that a record has up to and including it. `total` is the
-    /// bytes of the padded slabs of the record variables before it.
+    /// Reads the variable of this number, from 0, adds its fields to the field list, and returns it, without the values of its attributes,
+    /// and with the bytes of the padded slabs of all record variables up to and including it. `total` is the bytes of those before it. Errs
+    /// with the fault of the first wrong field, and if the source or an allocation fails.
     #[tactic(auto, using(crate::proofs::Checks::chain_lists), unfolding(nc_file::specs::code::SizedVars::total_with, nc_base::specs::Grammar::var_part))]
     fn var<S: Source>(
         &mut self,
@@ -139,7 +145,8 @@ impl FieldReader {
         Ok(CountedVar { var, total })
     }
 
-    /// Reads the `n` variables of the list, and returns them.
+    /// Reads the `n` variables of the list, adds their fields to the field list, and returns them. Errs with the fault of the first wrong
+    /// field, and if the source or an allocation fails.
     fn vars<S: Source>(
         &mut self,
         window: &mut Window<'_, S>,
@@ -161,7 +168,8 @@ impl FieldReader {
         Ok(vars)
     }
 
-    /// Reads the list of variables, and returns them.
+    /// Reads the list of variables (tag, number and variables), adds its fields to the field list, and returns the variables. Errs with the
+    /// fault of the first wrong field, and if the source or an allocation fails.
     #[tactic(auto, using(crate::proofs::Checks::chain_lists), unfolding(nc_base::specs::Grammar::var_list, nc_base::specs::Grammar::list_part))]
     pub(crate) fn var_list<S: Source>(
         &mut self,
@@ -178,8 +186,8 @@ impl FieldReader {
     }
 }
 
-/// Returns true if the slab of a variable of this shape and type is within 2^48 bytes, and the padded slabs of the record variables within
-/// 2^62; those before it have `total` bytes.
+/// Returns true if the slab of a variable of this shape and type is within 2^48 bytes, and the padded slabs of the record variables up to
+/// it are within 2^62 bytes together. Those before it have `total` bytes.
 #[tactic(auto, unfolding(nc_file::specs::code::SizedVars::total_with))]
 fn is_within_limits(dims: &[Dim], dimids: &[u64], ty: NcType, total: u64) -> bool
     ensures { result ≡ is_within_limits dims.now total dimids.now ty }

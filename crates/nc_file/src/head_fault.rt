@@ -17,7 +17,7 @@ pub enum HeadFault {
     OutOfMemory,
     /// The source failed.
     ReadFailed,
-    /// The first wrong field of the header, from the left.
+    /// What is wrong with the first wrong field of the header, from the left.
     Format(FormatFault),
 }
 

@@ -10,7 +10,8 @@ ghost use Rattle.nc_base.specs.HeaderLaws.{WrittenHeadersReadBack};
 /// only one fault of that field, only one way to it through the header's fields, and only one offset at which it begins and one at which it
 /// ends.
 ///
-/// What bytes spell and where the first wrong field lies are relations, which don't say how to read. This law says that they leave no choice.
+/// What bytes spell and where the first wrong field lies are relations, which don't say how to read. This law says that they leave no
+/// choice.
 pub fn one_header_or_one_fault()
     ensures { (bytes : List ℕ) → HasOneOutcome bytes }
 {}

@@ -1,8 +1,8 @@
-//! A variable or a type that was read, with the bytes that a record has up to and including that variable.
+//! A variable or a type that was read, with the bytes of the padded slabs of the record variables up to and including that variable.
 
 use nc_base::{NcType, Var};
 
-/// A variable that was read, with the bytes that a record has up to and including it.
+/// A variable that was read, with the sum that limits the size of a record.
 #[derive(Drop)]
 pub(crate) struct SizedVar {
     pub(crate) var: Var,
@@ -10,7 +10,7 @@ pub(crate) struct SizedVar {
     pub(crate) total: u64,
 }
 
-/// The type of a variable that was read, with the bytes that a record has up to and including that variable.
+/// The type of a variable that was read, with the sum that limits the size of a record.
 #[derive(Drop)]
 pub(crate) struct SizedType {
     pub(crate) ty: NcType,

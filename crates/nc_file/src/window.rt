@@ -15,8 +15,8 @@ use nc_base::{FormatFault, Sequence, Version};
 use std::alloc::Global;
 
 /// A window on a source: a caller's buffer that holds `filled` bytes of the source, from the offset `base` on. The first `pos` of them have
-/// been used, which means read or passed over. The source has `len` bytes. The window reads on from the source only when all `filled` bytes
-/// have been used.
+/// been used, which means read or passed over. The source has `len` bytes. The functions here read on from the source only when all
+/// `filled` bytes have been used.
 ///
 /// Unless its own comment says otherwise, a function that reads through the window errs with `HeaderTruncated` if the source ends too
 /// early, with `ReadFailed` if the source fails, and with `OutOfMemory` if an allocation fails. Its other errors are those that its own
@@ -48,9 +48,9 @@ pub struct Window<'a, S: Source> {
 impl<S: Source> Window<'_, S> {
     ghost use Rattle.nc_file.specs.code.Window.{FailsOnly, Filled, Kept, Read, Ready, Refilled, TookByte, TookSome, next_of};
 
-    /// Reads the next bytes of the source in place of those in the window, and returns true if at least one came, or false if the source
-    /// has no more. If the source fails, it errs with `ReadFailed`, and the window holds no bytes. Needs a window whose bytes have all been
-    /// used.
+    /// Reads on in the source, once: the bytes that come take the place of those in the window. Returns true if at least one came,
+    /// otherwise false: a transparent source ([`Source`]) has no more then. If the source fails, it errs with `ReadFailed`, and the window
+    /// holds no bytes. Needs a window whose bytes have all been used.
     fn refill(&mut self) -> Result<bool, HeadFault>
         requires empty { self.old.pos ≡ self.old.filled }
         ensures kept { Kept self.old self.new }
@@ -75,7 +75,7 @@ impl<S: Source> Window<'_, S> {
         Ok(0 < n)
     }
 
-    /// Returns the offset of the next byte in the source.
+    /// Returns the offset in the source of the next byte that hasn't been used.
     pub fn offset_of_next(&self) -> u64
         ensures { result ≡ next_of self.now }
     {
@@ -97,7 +97,7 @@ impl<S: Source> Window<'_, S> {
         Ok(())
     }
 
-    /// Reads one byte. Errs with `HeaderTruncated` if no byte is left, and with `ReadFailed` if the source fails.
+    /// Reads one byte, and returns it. Errs with `HeaderTruncated` if no byte is left, and with `ReadFailed` if the source fails.
     fn byte(&mut self) -> Result<u8, HeadFault>
         ensures kept { Kept self.old self.new }
         ensures cause { FailsOnly self.old self.new result }
@@ -144,8 +144,8 @@ impl<S: Source> Window<'_, S> {
         Ok(array)
     }
 
-    /// Reads a big-endian number of four bytes. Errs with `HeaderTruncated` if fewer are left, and with `ReadFailed` if the source
-    /// fails.
+    /// Reads a big-endian number of four bytes, and returns it. Errs with `HeaderTruncated` if fewer are left, and with `ReadFailed` if the
+    /// source fails.
     #[tactic(auto, using(crate::proofs::PartRuns::part_runs), unfolding(nc_base::specs::Grammar::number, nc_base::specs::code::PartRuns::printed_len))]
     pub fn read_u32(&mut self) -> Result<u32, HeadFault>
         ensures { Read self.old self.new (number w32) result }
@@ -154,8 +154,8 @@ impl<S: Source> Window<'_, S> {
         Ok(BigEndian::read_u32(&bytes))
     }
 
-    /// Reads a big-endian number of eight bytes. Errs with `HeaderTruncated` if fewer are left, and with `ReadFailed` if the source
-    /// fails.
+    /// Reads a big-endian number of eight bytes, and returns it. Errs with `HeaderTruncated` if fewer are left, and with `ReadFailed` if
+    /// the source fails.
     #[tactic(auto, using(crate::proofs::PartRuns::part_runs), unfolding(nc_base::specs::Grammar::number, nc_base::specs::code::PartRuns::printed_len))]
     pub fn read_u64(&mut self) -> Result<u64, HeadFault>
         ensures { Read self.old self.new (number w64) result }
@@ -164,8 +164,8 @@ impl<S: Source> Window<'_, S> {
         Ok(BigEndian::read_u64(&bytes))
     }
 
-    /// Reads a big-endian number of the width that counts have in the version, eight bytes in CDF-5 and otherwise four. Any value is
-    /// allowed. Errs with `HeaderTruncated` if fewer bytes are left, and with `ReadFailed` if the source fails.
+    /// Reads a big-endian number of the width that counts have in the version, eight bytes in CDF-5 and otherwise four, and returns it,
+    /// whatever it is. Errs with `HeaderTruncated` if fewer bytes are left, and with `ReadFailed` if the source fails.
     pub fn number(&mut self, version: Version) -> Result<u64, HeadFault>
         ensures { Read self.old self.new (number (count_width version)) result }
     {
@@ -183,8 +183,8 @@ impl<S: Source> Window<'_, S> {
         Ok(self.read_u32()? as u64)
     }
 
-    /// Reads a count or a length (`NON_NEG`), a big-endian number of eight bytes in CDF-5 and otherwise four. Errs with `BadCount` if its
-    /// top bit is 1, with `HeaderTruncated` if fewer bytes are left, and with `ReadFailed` if the source fails.
+    /// Reads a count or a length (`NON_NEG`), a big-endian number of eight bytes in CDF-5 and otherwise four, and returns it. Errs with
+    /// `BadCount` if its top bit is 1, with `HeaderTruncated` if fewer bytes are left, and with `ReadFailed` if the source fails.
     #[tactic(auto, using(crate::proofs::PartRuns::part_runs), unfolding(nc_base::specs::Grammar::limited_part, nc_base::specs::code::PartRuns::printed_len))]
     pub fn count(&mut self, version: Version) -> Result<u64, HeadFault>
         ensures { Read self.old self.new (count_part version) result }
@@ -214,7 +214,7 @@ impl<S: Source> Window<'_, S> {
 
     /// Reads the next bytes that the window holds, at least one and at most `most`, appends them to `out`, and returns how many. If it
     /// holds no unused byte, it first reads from the source, once. Needs a `most` above 0. Errs with `HeaderTruncated` if no byte is left,
-    /// with `ReadFailed` if the source fails, and with `OutOfMemory` if an allocation fails. After an error `out` is as before.
+    /// with `ReadFailed` if the source fails, and with `OutOfMemory` if an allocation fails.
     fn read_some(&mut self, out: &mut Sequence<u8>, most: u128) -> Result<usize, HeadFault>
         requires most { 0 < most }
         ensures kept { Kept self.old self.new }
@@ -244,7 +244,7 @@ impl<S: Source> Window<'_, S> {
         Ok(content)
     }
 
-    /// Passes over `n` bytes. Errs with `HeaderTruncated` if fewer are left, and with `ReadFailed` if the source fails.
+    /// Passes over `n` bytes, whatever they are. Errs with `HeaderTruncated` if fewer are left, and with `ReadFailed` if the source fails.
     pub fn skip(&mut self, n: u64) -> Result<(), HeadFault>
         ensures { Read self.old self.new (ignored n) result }
     {

@@ -23,7 +23,7 @@ values_end layout = fold max layout.header_end (map (λ (b : Extent). b.end) (fi
 abbrev pub padding_end : FileLayout → ℕ
 padding_end layout = fold max layout.header_end (map (λ (b : Extent). b.padded_end) (filter has_values (blocks layout)))
 
--- the same, and not before the records begin (an empty block ends where it begins)
+-- the same with the empty block of no records, which ends where records would begin
 abbrev pub used_end : FileLayout → ℕ
 used_end layout = fold max layout.header_end (map (λ (b : Extent). b.padded_end) (blocks layout))
 
@@ -56,7 +56,7 @@ abbrev pub first_slab : List SlabPlace → Option SlabPlace
 first_slab [] = None
 first_slab (slab ∷ others) = first_of (Some slab) (first_slab others)
 
--- it isn't whole in a file of this length
+-- it ends after a file of this length does
 abbrev pub is_cut : ℕ → SlabPlace → Bool
 is_cut file_len slab = nat_lt file_len slab.end
 

@@ -21,7 +21,7 @@ large_limit Cdf1 = Some (2 ^ 31 - 4)
 large_limit Cdf2 = Some (2 ^ 32 - 4)
 large_limit Cdf5 = None
 
--- a slot of its kind follows, or it isn't a record slot and there are record slots
+-- the variable isn't the last: a slot of its kind follows, or it isn't a record slot and there are record slots
 abbrev pub has_successor : List Slot → ℕ → Slot → Bool
 has_successor slots i slot =
     if slot.is_record

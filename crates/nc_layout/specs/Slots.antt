@@ -7,17 +7,18 @@ use Rattle.nc_base.specs.declared.header.NumRecs.{NumRecs}
 use Rattle.nc_base.specs.declared.header.NumRecs.TheVariants.{Known, Streaming}
 use Rattle.nc_layout.specs.declared.{slot.Slot.Slot, slot.FileLayout.FileLayout}
 
--- with the padding up to the next multiple of four
+-- the bytes of a slab with the padding up to the next multiple of four
 abbrev pub padded_slab : Slot → ℕ
 padded_slab slot = slot.slab + padding_len slot.slab
 
+-- it isn't a record slot
 abbrev pub is_fixed : Slot → Bool
 is_fixed slot = not slot.is_record
 
 abbrev pub record_slots : List Slot → List Slot
 record_slots slots = filter (λ (slot : Slot). slot.is_record) slots
 
--- one alone, of narrow values
+-- there is exactly one slot, and its values have less than four bytes each
 abbrev pub is_sole_narrow : List Slot → Bool
 is_sole_narrow (slot ∷ []) = slot.is_narrow
 is_sole_narrow slots = false

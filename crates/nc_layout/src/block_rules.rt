@@ -1,4 +1,4 @@
-//! Findings at the begin of a block, from the blocks that precede it.
+//! Findings at the begin of a block, the values of one variable or all records, from the blocks that precede it.
 
 ghost use Rattle.std.specs.Prelude.{◌≡◌, ◌++◌, OnOk, IsPermutation};
 ghost use Rattle.std.specs.Ordering.{nat_cmp};
@@ -12,16 +12,18 @@ use crate::slot::FileLayout;
 use nc_base::Sequence;
 use std::alloc::AllocError;
 
-/// How far the blocks reach that have been passed.
+/// How far the blocks reach that a pass, in the order of their begins, has passed. A block is the values of a variable that isn't a record
+/// variable, or all records together. Both are `None` before the first block.
 #[derive(Clone, Copy)]
 pub(crate) struct Reached {
-    /// The first block with the greatest end.
+    /// The first of these blocks that has the greatest end of values.
     pub values: Option<Extent>,
-    /// The first block with the greatest end of its padding.
+    /// The first of these blocks that has the greatest end of padding.
     pub padding: Option<Extent>,
 }
 
-/// Appends the findings at the begins of the blocks of the file, in no order that is promised. It leaves the blocks in their order.
+/// Appends the findings at the begins of the blocks of the file, in no order that is promised. Needs `extents` that are the blocks of the
+/// layout. It sorts them by begin, but no clause says so. Errs only if an allocation fails.
 pub(crate) fn push_block_findings(
     found: &mut Sequence<LayoutFinding>,
     layout: &FileLayout,
@@ -36,7 +38,7 @@ pub(crate) fn push_block_findings(
     Ok(())
 }
 
-/// Sorts the blocks by their begins. Those with one begin stay in their order.
+/// Sorts the blocks by begin; those of one begin stay in their order. If an allocation fails, it errs, and the order may be any.
 fn sort_by_begin(extents: &mut Vec<Extent>) -> Result<(), AllocError>
     ensures permutation { IsPermutation extents.old.items extents.new.items }
     ensures sorted { OnOk result (IsNonDecreasingBy (λ b. b.begin) extents.new.items) }
@@ -47,7 +49,8 @@ fn sort_by_begin(extents: &mut Vec<Extent>) -> Result<(), AllocError>
     Ok(())
 }
 
-/// Appends the findings at these blocks, which lie in their order.
+/// Appends the findings at the begin of each of these blocks, of which those before it in the slice count as earlier. They should be sorted
+/// by begin, but no clause says so. The header ends at `header_end`. Errs only if an allocation fails.
 fn push_findings_in_order(
     found: &mut Sequence<LayoutFinding>,
     header_end: u64,
@@ -66,7 +69,7 @@ fn push_findings_in_order(
     Ok(())
 }
 
-/// Returns what the blocks reach, with one more.
+/// Returns how far the blocks reach with one more, which comes after them. Of those that end at one offset, the first stays.
 fn reached_with(reached: Reached, block: Extent) -> Reached
     ensures { result ≡ reached_with reached block }
 {
@@ -82,7 +85,8 @@ fn reached_with(reached: Reached, block: Extent) -> Reached
     }
 }
 
-/// Appends the findings at this block, after blocks that reach this far.
+/// Appends the findings at the begin of this block. The blocks before it reach as far as `reached` says, and the header ends at the offset
+/// `header_end`. Errs only if an allocation fails.
 fn push_findings_at(
     found: &mut Sequence<LayoutFinding>,
     header_end: u64,
@@ -97,7 +101,7 @@ fn push_findings_at(
     Ok(())
 }
 
-/// Returns the finding that the block begins before the values of an earlier block end.
+/// Returns the finding that the block begins before the values of an earlier one end (`reached`), or `None`.
 fn overlap(reached: Reached, block: Extent) -> Option<LayoutFinding>
     ensures { result ≡ overlap_after reached block }
 {
@@ -113,7 +117,7 @@ fn overlap(reached: Reached, block: Extent) -> Option<LayoutFinding>
     )
 }
 
-/// Returns the finding that the block begins before the padding of an earlier block ends, but after all values of earlier ones.
+/// Returns the finding that the block begins before the padding of earlier ones (`reached`) ends, but after all their values, or `None`.
 fn unpadded(reached: Reached, block: Extent) -> Option<LayoutFinding>
     ensures { result ≡ unpadded_after reached block }
 {
@@ -130,7 +134,7 @@ fn unpadded(reached: Reached, block: Extent) -> Option<LayoutFinding>
     )
 }
 
-/// Returns the end of the block's values, or 0 if there is no block.
+/// Returns the offset at which the values of the block end, or 0 if it is `None`.
 fn value_end(block: Option<Extent>) -> u128
     ensures { result ≡ end_of value_end block }
 {
@@ -140,7 +144,7 @@ fn value_end(block: Option<Extent>) -> u128
     }
 }
 
-/// Returns the end of the block's padding, or 0 if there is no block.
+/// Returns the offset at which the padding of the block ends, or 0 if it is `None`.
 fn padding_end(block: Option<Extent>) -> u128
     ensures { result ≡ end_of padding_end block }
 {
@@ -150,7 +154,7 @@ fn padding_end(block: Option<Extent>) -> u128
     }
 }
 
-/// Returns the finding that the block begins after the header and the padding of all earlier blocks, with unused bytes between.
+/// Returns the finding that unused bytes lie before the block, after the header and the padding of earlier blocks (`reached`), or `None`.
 fn gap(header_end: u64, reached: Reached, block: Extent) -> Option<LayoutFinding>
     ensures { result ≡ gap_after header_end reached block }
 {

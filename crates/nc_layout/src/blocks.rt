@@ -1,4 +1,4 @@
-//! The blocks of a file.
+//! The blocks of a file: one for each variable that isn't a record variable, and one for all records together.
 
 ghost use Rattle.std.specs.Prelude.{◌≡◌, ◌≤◌, ◌<◌, ◌^◌, ◌+◌, ◌==◌, ◌&&◌, All, IfOk, map, max, fold, position};
 ghost use Rattle.nc_layout.specs.Slots.{record_slots, is_sole_narrow, slab_in_record, record_size};
@@ -11,22 +11,23 @@ use crate::records::{FileRecords, padded_slab, slab_in_record};
 use crate::slot::{FileLayout, Slot};
 use std::alloc::{AllocError, Global};
 
-/// Where a block lies, beside its name.
+/// A block (the values of a variable that isn't a record variable, or all records together), and where it lies.
 #[derive(Clone, Copy, Debug, PartialEq, Eq)]
 pub struct Extent {
-    /// The block by its name.
+    /// Which block it is.
     pub block: Block,
     /// The index of the variable that begins where the block begins: of several record variables, the first one.
     pub var: u64,
     /// The offset at which it begins.
     pub begin: u64,
-    /// The offset at which its last value ends.
+    /// The offset at which its last value ends, or `begin` if it has no values.
     pub end: u128,
-    /// The offset at which the padding after its last value ends.
+    /// The offset at which the padding after its last value ends, or `begin` if it has no values.
     pub padded_end: u128,
 }
 
-/// Returns the blocks of the file: those of slots in the order of the header, then that of the records, if there are record slots.
+/// Returns the blocks of the file: one for each variable that isn't a record variable, in the order of the header, and then one for all
+/// records, if there are record variables. Needs a sound layout (within the limits) and its `records`. Errs if an allocation fails.
 #[tactic(auto, using(crate::proofs::SlotLists::record_size_le), unfolding(crate::specs::Blocks::blocks))]
 pub(crate) fn blocks(
     alloc: Global,
@@ -45,7 +46,8 @@ pub(crate) fn blocks(
     Ok(found)
 }
 
-/// Returns the blocks of the slots that aren't record slots.
+/// Returns a block for each variable that isn't a record variable, in the order of `slots`, which has all variables. Needs sound slots
+/// (within the limits). Errs only if an allocation fails.
 fn fixed_blocks(alloc: Global, slots: &[Slot]) -> Result<Vec<Extent>, AllocError>
     requires { All IsSoundSlot slots.now }
     ensures { IfOk result (λ found. found.items ≡ each_slot fixed_block 0 slots.now) }
@@ -59,7 +61,8 @@ fn fixed_blocks(alloc: Global, slots: &[Slot]) -> Result<Vec<Extent>, AllocError
     Ok(found)
 }
 
-/// Returns the block of the slot at this index, which isn't a record slot.
+/// Returns the block of the variable at the index `i`, which has this slot: its one slab. It should be no record variable, but no clause
+/// says so. Needs a begin and a slab below 2^63.
 fn slot_block(i: u64, slot: Slot) -> Extent
     requires begin { slot.begin < 2 ^ 63 }
     requires slab { slot.slab < 2 ^ 63 }
@@ -74,7 +77,8 @@ fn slot_block(i: u64, slot: Slot) -> Extent
     }
 }
 
-/// Returns the block of the records, which begin at this offset.
+/// Returns the block of all records, which begin at the offset `begin`. `slots` has all variables. Needs sound slots (within the limits)
+/// and their `records`, of at most 2^62 bytes each.
 fn records_block(slots: &[Slot], records: FileRecords, begin: u64) -> Extent
     requires sound { All IsSoundSlot slots.now }
     requires narrow { records.sole_narrow ≡ is_sole_narrow (record_slots slots.now) }
@@ -92,7 +96,7 @@ fn records_block(slots: &[Slot], records: FileRecords, begin: u64) -> Extent
     }
 }
 
-/// Returns the index of the first record slot that begins at this offset, or 0 if there is none.
+/// Returns the index of the first record variable that begins at the offset `begin`, or 0 if there is none.
 fn record_slot_at(slots: &[Slot], begin: u64) -> u64
     ensures { result ≡ record_slot_at slots.now begin }
 {
@@ -102,28 +106,29 @@ fn record_slot_at(slots: &[Slot], begin: u64) -> u64
     }
 }
 
-/// Returns the index of the first record slot that begins at this offset.
+/// Returns the index of the first record variable that begins at the offset `begin`, or `None` if there is none.
 fn position_of_record_slot(slots: &[Slot], begin: u64) -> Option<usize>
     ensures { result ≡ position (λ slot. slot.is_record && (slot.begin == begin)) slots.now }
 {
     slots.iter().position(|slot| is_record_slot_at(slot, begin))
 }
 
-/// Returns true if it is a record slot that begins at this offset.
+/// Returns true if the slot (begin, slab and kind of a variable) is that of a record variable that begins at the file offset `begin`.
 fn is_record_slot_at(slot: &Slot, begin: u64) -> bool
     ensures { result ≡ (slot.now.is_record && (slot.now.begin == begin)) }
 {
     slot.is_record && slot.begin == begin
 }
 
-/// Where the values of a block end, and where their padding ends.
+/// The offsets at which the values of a block and their padding end.
 #[derive(Clone, Copy)]
 struct Ends {
     values: u128,
     padding: u128,
 }
 
-/// Returns where the block of the records ends, which begins at this offset: without records there, otherwise with the last record.
+/// Returns the offsets at which the last record ends, without and with padding (a sole narrow slab has none). Both are `begin`, where the
+/// records begin, if there are no records. Needs sound slots (within the limits) and their `records`, of at most 2^62 bytes each.
 fn records_ends(slots: &[Slot], records: FileRecords, begin: u64) -> Ends
     requires sound { All IsSoundSlot slots.now }
     requires narrow { records.sole_narrow ≡ is_sole_narrow (record_slots slots.now) }
@@ -144,7 +149,8 @@ fn records_ends(slots: &[Slot], records: FileRecords, begin: u64) -> Ends
     }
 }
 
-/// Returns where the last record ends, if `before` bytes of records come before it.
+/// Returns the offsets at which the values of the last record and their padding (none with `sole_narrow`) end, if the records before it
+/// have `before` bytes. Both are 0 without a record variable. Needs sound slots (within the limits), and `before` below 2^126.
 fn last_record_ends(slots: &[Slot], before: u128, sole_narrow: bool) -> Ends
     requires sound { All IsSoundSlot slots.now }
     requires small { before < 2 ^ 126 }

@@ -14,21 +14,21 @@ use crate::slot::{FileLayout, Slot};
 use nc_base::{NumRecs, Sequence};
 use std::alloc::AllocError;
 
-/// Where the blocks of a file end, or the header if that is later.
+/// The offsets at which the blocks of a file end (each variable that isn't a record variable, and all records), or the header if later.
 #[derive(Clone, Copy)]
 pub(crate) struct BlockEnds {
-    /// The greatest end of the blocks that aren't empty.
+    /// The greatest end of the values of a block that has some.
     pub values: u128,
-    /// The same with the padding of the blocks.
+    /// The greatest end of the padding of a block that has values.
     pub padding: u128,
-    /// The same, and not before an empty block.
+    /// The same with blocks that have no values: that of the records ends where they begin, if there are none.
     pub used: u128,
 }
 
-/// Where a slab lies, beside its name.
+/// A slab (the values of a record variable in one record, or all values of another variable), and where it lies.
 #[derive(Clone, Copy, Debug, PartialEq, Eq)]
 pub struct SlabPlace {
-    /// The slab by its name.
+    /// Which slab it is.
     pub slab: Slab,
     /// The offset at which it begins.
     pub begin: u128,
@@ -36,7 +36,9 @@ pub struct SlabPlace {
     pub end: u128,
 }
 
-/// Appends the findings at the end of the file, whose blocks these are.
+/// Appends the findings at the end of the file: it lacks values or padding, or has bytes after them. Needs a sound layout (within the
+/// limits), its `records`, and `extents`, the blocks of the layout: each variable that isn't a record variable has one, and all records
+/// together are one. Errs only if an allocation fails.
 #[tactic(auto, unfolding(crate::specs::FileEnd::end_findings))]
 pub(crate) fn push_end_findings(
     found: &mut Sequence<LayoutFinding>,
@@ -56,7 +58,7 @@ pub(crate) fn push_end_findings(
     Ok(())
 }
 
-/// Returns where the blocks end.
+/// Returns the offsets at which the data of the file ends. Needs `extents` that are the blocks of the layout.
 fn file_ends(layout: &FileLayout, extents: &[Extent]) -> BlockEnds
     requires { extents.now ≡ blocks layout.now }
     ensures { AreEnds layout.now result }
@@ -73,7 +75,7 @@ fn file_ends(layout: &FileLayout, extents: &[Extent]) -> BlockEnds
     ends
 }
 
-/// Returns the ends with those of one more block.
+/// Returns `ends` with one more block taken in: each is the greater of the two ends. A block without values counts for `used` alone.
 fn ends_including(ends: BlockEnds, block: Extent) -> BlockEnds
     ensures values { result.values
         ≡ (if nat_lt block.begin block.end then max ends.values block.end else ends.values) }
@@ -93,7 +95,8 @@ fn ends_including(ends: BlockEnds, block: Extent) -> BlockEnds
     }
 }
 
-/// Returns the finding that the file ends before the values do.
+/// Returns the finding that the file ends before the values do, with the first slab that isn't whole, or `None`. Needs a sound layout
+/// (within the limits), its `records` and its `ends`.
 fn missing(layout: &FileLayout, records: FileRecords, ends: BlockEnds) -> Option<LayoutFinding>
     requires sound { IsSoundLayout layout.now }
     requires records { AreRecords layout.now records }
@@ -112,7 +115,7 @@ fn missing(layout: &FileLayout, records: FileRecords, ends: BlockEnds) -> Option
     )
 }
 
-/// Returns the finding that the file has all values, but ends before their padding does.
+/// Returns the finding that the file has all values, but ends before their padding does, or `None`. Needs the layout's `ends`.
 fn end_padding(layout: &FileLayout, ends: BlockEnds) -> Option<LayoutFinding>
     requires { AreEnds layout.now ends }
     ensures { result ≡ end_padding layout.now }
@@ -128,7 +131,7 @@ fn end_padding(layout: &FileLayout, ends: BlockEnds) -> Option<LayoutFinding>
     )
 }
 
-/// Returns the finding that the file has bytes after the values and their padding.
+/// Returns the finding that the file has bytes after the values and their padding, or `None`. Needs the layout's `records` and `ends`.
 fn trailing(layout: &FileLayout, records: FileRecords, ends: BlockEnds) -> Option<LayoutFinding>
     requires records { AreRecords layout.now records }
     requires ends { AreEnds layout.now ends }
@@ -149,7 +152,8 @@ fn trailing(layout: &FileLayout, records: FileRecords, ends: BlockEnds) -> Optio
     }
 }
 
-/// Returns the number of whole records that fit into the file, if the header counts fewer.
+/// Returns the number of whole records that fit into the file if the header counts fewer, or `None`, also for the streaming mark. Needs the
+/// layout's `records`.
 fn uncounted_records(layout: &FileLayout, records: FileRecords) -> Option<u64>
     requires { AreRecords layout.now records }
     ensures { result ≡ uncounted_records layout.now layout.now.numrecs }
@@ -160,7 +164,8 @@ fn uncounted_records(layout: &FileLayout, records: FileRecords) -> Option<u64>
     }
 }
 
-/// Returns the first slab that the file doesn't have whole.
+/// Returns the slab that begins first of those that end after the file does, or `None` if all are whole. A slab is the values of a record
+/// variable in one record, or all values of another variable. Needs a sound layout (within the limits) and its `records`.
 fn first_cut_slab(layout: &FileLayout, records: FileRecords) -> Option<SlabPlace>
     requires sound { IsSoundLayout layout.now }
     requires records { AreRecords layout.now records }
@@ -175,7 +180,7 @@ fn first_cut_slab(layout: &FileLayout, records: FileRecords) -> Option<SlabPlace
     first
 }
 
-/// Returns of two slabs, if there are two, the one that begins first: the earlier one, if they begin at one offset.
+/// Returns the one of two slabs that begins first, or `slab` if both begin at one offset. If one is `None`, returns the other.
 fn first_of(slab: Option<SlabPlace>, later: Option<SlabPlace>) -> Option<SlabPlace>
     ensures { result ≡ first_of slab later }
 {
@@ -190,7 +195,8 @@ fn first_of(slab: Option<SlabPlace>, later: Option<SlabPlace>) -> Option<SlabPla
     }
 }
 
-/// Returns the first slab of this slot that a file of `file_len` bytes doesn't have whole.
+/// Returns the first slab of the variable at the index `i`, which has this slot, that ends after the first `file_len` bytes. Returns `None`
+/// if all of its slabs are whole. Needs a sound slot, records of at most 2^62 bytes, and of at least one if it is a record variable.
 fn cut_slab_of(file_len: u64, records: FileRecords, i: u64, slot: Slot) -> Option<SlabPlace>
     requires sound { IsSoundSlot slot }
     requires size { slot.is_record ≡ true → 0 < records.size }
@@ -220,7 +226,8 @@ fn cut_slab_of(file_len: u64, records: FileRecords, i: u64, slot: Slot) -> Optio
     }
 }
 
-/// Returns the slab of the record slot in the record with this number.
+/// Returns the slab of the variable at the index `i`, a record variable with this slot, in the record `number`, from 0. Needs a sound slot
+/// (within the limits) and a `size` (the bytes from a record to the next) of at most 2^62.
 fn record_slab(size: u64, i: u64, slot: Slot, number: u64) -> SlabPlace
     requires sound { IsSoundSlot slot }
     requires small { size ≤ 2 ^ 62 }
@@ -237,8 +244,8 @@ fn record_slab(size: u64, i: u64, slot: Slot, number: u64) -> SlabPlace
     }
 }
 
-/// Returns how many slabs of this record slot a file of `file_len` bytes has whole, with `size` bytes from one record to the next, if there
-/// is no end of records.
+/// Returns how many slabs of the record variable with this slot end within the first `file_len` bytes, if it has one every `size` bytes
+/// from its begin on, without end: the number of records in the header plays no part. Needs a sound slot and a `size` above 0.
 fn whole_slabs(file_len: u64, slot: Slot, size: u64) -> u64
     requires sound { IsSoundSlot slot }
     requires size { 0 < size }

@@ -7,7 +7,7 @@ ghost use Rattle.nc_layout.specs.FindingIf.{finding_if};
 use nc_base::Sequence;
 use std::alloc::AllocError;
 
-/// Where a finding lies.
+/// Where in the file a finding lies.
 #[derive(Clone, Copy, Debug, PartialEq, Eq)]
 pub enum LayoutPlace {
     /// At the number of records in the header.
@@ -20,21 +20,21 @@ pub enum LayoutPlace {
     Data(u64),
 }
 
-/// A block, named by the values in it. It doesn't say where the block lies.
+/// Which block of the data it is: the values of a variable that isn't a record variable, or all records together.
 #[derive(Clone, Copy, Debug, PartialEq, Eq, PartialOrd, Ord)]
 pub enum Block {
-    /// Those of the variable with this index, which isn't a record variable.
+    /// The values of the variable with this index, which isn't a record variable.
     Var(u64),
-    /// Those of all record variables.
+    /// The values of all record variables, in all records.
     Records,
 }
 
-/// A slab, named by the values in it. It doesn't say where the slab lies.
+/// Which slab it is: the values of a record variable in one record, or all values of another variable.
 #[derive(Clone, Copy, Debug, PartialEq, Eq, PartialOrd, Ord)]
 pub enum Slab {
-    /// Those of the variable with this index, which isn't a record variable.
+    /// The values of the variable with this index, which isn't a record variable.
     Var(u64),
-    /// Those of a record variable in one record.
+    /// The values of a record variable in one record.
     Record {
         /// The index of the variable.
         var: u64,
@@ -56,7 +56,7 @@ pub enum LayoutFact {
         /// The number of records.
         records: u64,
     },
-    /// The slab is greater than the version allows for a variable in this position.
+    /// The slab is greater than the version allows for a variable that isn't the last.
     LargeVariable {
         /// The bytes of the slab.
         bytes: u64,
@@ -74,7 +74,7 @@ pub enum LayoutFact {
     Overlap {
         /// The begin of the block.
         begin: u64,
-        /// The greatest end of the blocks before it.
+        /// The greatest end of the values of the blocks before it.
         end: u128,
         /// The first block that ends there.
         of: Block,
@@ -104,7 +104,7 @@ pub enum LayoutFact {
         /// The begin of the records.
         most: u64,
     },
-    /// The slab of the record variable isn't in its place in the first record.
+    /// The slab of the record variable isn't in its place in the first record, after those that come earlier in the header.
     RecordPlace {
         /// The begin of the variable.
         begin: u64,
@@ -154,7 +154,7 @@ pub struct LayoutFinding {
     pub fact: LayoutFact,
 }
 
-/// Returns the finding with this place and this fact if the condition holds.
+/// Returns the finding of this fact in this place if `holds` is true, or `None` if it isn't.
 pub(crate) fn finding_if(holds: bool, place: LayoutPlace, fact: LayoutFact) -> Option<LayoutFinding>
     ensures { result ≡ finding_if holds place fact }
 {
@@ -165,7 +165,7 @@ pub(crate) fn finding_if(holds: bool, place: LayoutPlace, fact: LayoutFact) -> O
     }
 }
 
-/// Appends the finding, if there is one.
+/// Appends the finding, or nothing if it is `None`. Errs only if an allocation fails.
 pub(crate) fn push_some(
     found: &mut Sequence<LayoutFinding>,
     finding: Option<LayoutFinding>,

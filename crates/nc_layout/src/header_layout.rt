@@ -12,7 +12,7 @@ use std::alloc::{AllocError, Global};
 /// Returns the layout of a file of `file_len` bytes with this header, which ends at the offset `header_end`. Returns `None` if the layout
 /// isn't sound ([`FileLayout::is_sound`]), as the rules need it. Errs only if an allocation fails.
 ///
-/// If the bytes of the file spell the header, its layout is sound (`ncnccheck_laws::laws::spelled_headers_have_sound_layouts`).
+/// If the bytes of the file spell the header, its layout is sound (`nccheck_laws::laws::spelled_headers_have_sound_layouts`).
 pub fn sound_layout(
     alloc: Global,
     header: &Header,
@@ -37,7 +37,7 @@ pub fn sound_layout(
     }
 }
 
-/// Returns the layout if it is sound.
+/// Returns the layout if it is sound ([`FileLayout::is_sound`]), or `None`.
 fn if_sound(layout: FileLayout) -> Option<FileLayout>
     ensures { SomeIff result (IsSoundLayout layout) layout }
 {
@@ -48,7 +48,7 @@ fn if_sound(layout: FileLayout) -> Option<FileLayout>
     }
 }
 
-/// Returns the slots of the variables, in the order of the header, or `None` if a slab passes 2^48 bytes.
+/// Returns the slot (begin, slab and kind) of each variable, in order, or `None` if a slab passes 2^48 bytes. Errs if an allocation fails.
 fn slots_of(alloc: Global, header: &Header) -> Result<Option<Sequence<Slot>>, AllocError>
     ensures { let dims = header.now.dims in IfOk result (λ found.
         SomeIff found (All (λ var. slab_size dims var ≤ slab_limit) header.now.vars) (map (slot_of dims) header.now.vars)) }
@@ -64,7 +64,7 @@ fn slots_of(alloc: Global, header: &Header) -> Result<Option<Sequence<Slot>>, Al
     Ok(Some(slots))
 }
 
-/// Returns the slot of the variable, or `None` if its slab passes 2^48 bytes.
+/// Returns the slot of the variable (its begin, the size of its slab and its kind), or `None` if the slab passes 2^48 bytes.
 fn slot_of(dims: &[Dim], var: &Var) -> Option<Slot>
     ensures { SomeIff result (slab_size dims.now var.now ≤ slab_limit) (slot_of dims.now var.now) }
 {
@@ -77,7 +77,7 @@ fn slot_of(dims: &[Dim], var: &Var) -> Option<Slot>
     })
 }
 
-/// Returns true if a value of the variable has less than four bytes.
+/// Returns true if each value of the variable has less than four bytes.
 fn is_narrow(var: &Var) -> bool
     ensures { result ≡ is_narrow var.now }
 {

@@ -1,8 +1,8 @@
 //! The rules on the layout of a netCDF classic file.
 //!
 //! Everything here is about numbers: the begins and slabs of the variables, the number of records, the end of the header and the length of
-//! the file. [`sound_layout`] takes them from a header. Nothing reads a device, and no byte of a header or of a value is looked at. `specs/`
-//! has the definitions.
+//! the file. [`sound_layout`] takes them from a header. Nothing reads a device, and no byte of a header or of a value is looked at.
+//! `specs/` has the definitions.
 #![tactic(auto)]
 
 mod block_rules;

@@ -10,7 +10,8 @@ use crate::slot::FileLayout;
 use nc_base::{NumRecs, Sequence};
 use std::alloc::AllocError;
 
-/// Appends the findings at the number of records.
+/// Appends the findings at the field `numrecs` of the header: the streaming mark, and records without a record variable. Needs the layout's
+/// `records`. Errs only if an allocation fails.
 #[tactic(auto, unfolding(crate::specs::NumRecsRules::numrecs_findings))]
 pub(crate) fn push_numrecs_findings(
     found: &mut Sequence<LayoutFinding>,
@@ -25,7 +26,7 @@ pub(crate) fn push_numrecs_findings(
     Ok(())
 }
 
-/// Returns the finding that the header has the streaming mark in place of a number.
+/// Returns the finding that the header has the streaming mark in place of a number of records, or `None`. Needs the layout's `records`.
 fn streaming(layout: &FileLayout, records: FileRecords) -> Option<LayoutFinding>
     requires { AreRecords layout.now records }
     ensures { result ≡ streaming layout.now layout.now.numrecs }
@@ -42,7 +43,7 @@ fn streaming(layout: &FileLayout, records: FileRecords) -> Option<LayoutFinding>
     }
 }
 
-/// Returns the finding that there are records, but no record slot.
+/// Returns the finding that the header counts records, but has no record variable, or `None`. Needs the layout's `records`.
 fn unused_records(layout: &FileLayout, records: FileRecords) -> Option<LayoutFinding>
     requires { AreRecords layout.now records }
     ensures { result ≡ unused_records layout.now layout.now.numrecs }

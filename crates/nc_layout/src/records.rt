@@ -8,22 +8,22 @@ ghost use Rattle.nc_layout.specs.code.Records.{least_with, sole, slab_if, AreRec
 use crate::slot::{FileLayout, Slot};
 use nc_base::{NumRecs, padding_len};
 
-/// The records of a file.
+/// What the rules on the layout need of the records of a file, computed once.
 #[derive(Clone, Copy)]
 pub(crate) struct FileRecords {
-    /// The offset at which they begin, if there are record slots.
+    /// The offset at which the first record begins, or `None` if there are no record variables.
     pub begin: Option<u64>,
-    /// There is one record slot, and its values are narrow.
+    /// There is exactly one record variable, and its values have less than four bytes each: its slabs aren't padded.
     pub sole_narrow: bool,
-    /// The number of bytes from a record to the next.
+    /// The number of bytes from the begin of a record to that of the next.
     pub size: u64,
-    /// How many whole records lie between their begin and the end of the file.
+    /// How many whole records lie between `begin` and the end of the file; 0 if there are no record variables.
     pub by_length: u64,
-    /// How many records there are.
+    /// How many records there are: as the header says, or `by_length` if it has the streaming mark.
     pub count: u64,
 }
 
-/// Returns what the file has as records.
+/// Returns the records of a file with this layout: where they begin, their size and their number. Needs a sound layout (within the limits).
 #[tactic(auto, unfolding(crate::specs::Slots::record_count, crate::specs::Slots::records_by_length))]
 pub(crate) fn file_records(layout: &FileLayout) -> FileRecords
     requires { IsSoundLayout layout.now }
@@ -50,7 +50,7 @@ pub(crate) fn file_records(layout: &FileLayout) -> FileRecords
     }
 }
 
-/// Returns the bytes of the slot's slab with the padding up to the next multiple of four.
+/// Returns the bytes of a slab of the variable with this slot, rounded up to a multiple of four. Needs a slab below 2^63 bytes.
 pub fn padded_slab(slot: Slot) -> u64
     requires { slot.slab < 2 ^ 63 }
     ensures { result ≡ padded_slab slot }
@@ -58,7 +58,8 @@ pub fn padded_slab(slot: Slot) -> u64
     slot.slab + padding_len(slot.slab as u128)
 }
 
-/// Returns the bytes that the slab of the slot takes in a record: it isn't padded if it is the slab of a sole record slot of narrow values.
+/// Returns the bytes that the slab takes in a record: padded, or without padding if `sole_narrow` says that no other variable has records
+/// and its values are narrow (less than four bytes). Needs a slab below 2^63 bytes.
 pub(crate) fn slab_in_record(slot: Slot, sole_narrow: bool) -> u64
     requires { slot.slab < 2 ^ 63 }
     ensures { result ≡ slab_if sole_narrow slot }
@@ -70,7 +71,7 @@ pub(crate) fn slab_in_record(slot: Slot, sole_narrow: bool) -> u64
     }
 }
 
-/// Returns the offset at which the records begin: the least begin of the record slots, or `None` if there are none.
+/// Returns the offset at which the records begin: the least begin of a record variable, or `None` if there is none.
 #[tactic(auto, using(crate::proofs::SlotLists::records_begin_is))]
 fn records_begin(slots: &[Slot]) -> Option<u64>
     ensures { result ≡ records_begin slots.now }
@@ -84,7 +85,7 @@ fn records_begin(slots: &[Slot]) -> Option<u64>
     least
 }
 
-/// Returns the lesser of two numbers, or the second one if there is no first.
+/// Returns the lesser of `least` and `n`, or `n` if `least` is `None`.
 fn least_with(least: Option<u64>, n: u64) -> u64
     ensures { result ≡ least_with least n }
 {
@@ -94,7 +95,7 @@ fn least_with(least: Option<u64>, n: u64) -> u64
     }
 }
 
-/// Returns true if there is one record slot, and its values are narrow.
+/// Returns true if exactly one of the variables is a record variable, and its values have less than four bytes each.
 fn is_sole_narrow(slots: &[Slot]) -> bool
     ensures { result ≡ is_sole_narrow (record_slots slots.now) }
 {
@@ -104,7 +105,7 @@ fn is_sole_narrow(slots: &[Slot]) -> bool
     }
 }
 
-/// Returns the record slot, or `None` if there is none or more than one.
+/// Returns the slot of the only record variable, or `None` if there is none or more than one.
 fn sole_record_slot(slots: &[Slot]) -> Option<Slot>
     ensures { result ≡ sole (record_slots slots.now) }
 {
@@ -120,7 +121,8 @@ fn sole_record_slot(slots: &[Slot]) -> Option<Slot>
     sole
 }
 
-/// Returns the number of bytes from a record to the next: the sum of what the record slots take in a record.
+/// Returns the number of bytes from a record to the next: the sum of what the record variables take in a record. Needs sound slots (within
+/// the limits), at most 2^62 bytes of padded slabs of record variables, and `sole_narrow` as [`is_sole_narrow`] returns it.
 #[tactic(auto, using(crate::proofs::SlotLists::record_size_is))]
 fn record_size(slots: &[Slot], sole_narrow: bool) -> u64
     requires sound { All IsSoundSlot slots.now }

@@ -1,17 +1,17 @@
-//! What the layout of a file depends on: some numbers of its header, and a slot for each variable.
+//! What the layout of a file depends on: some numbers of its header, and a slot (begin, size and kind) for each variable.
 
 use nc_base::{NumRecs, Sequence, Version};
 
-/// What the layout of a file depends on of a variable.
+/// The slot of a variable: what the rules on the layout look at in it, which is its begin, the size of its slab, and its kind.
 #[derive(Clone, Copy, Debug, PartialEq, Eq)]
 pub struct Slot {
-    /// The offset at which its first slab begins (`begin` of the NetCDF Classic Format Specification).
+    /// The offset in the file at which the first slab of the variable begins (`begin` of the NetCDF Classic Format Specification).
     pub begin: u64,
-    /// The bytes of its slab, without padding: the values in one record for a record variable, and all values for any other one.
+    /// The bytes of a slab, without padding: the values in one record for a record variable, and all values for any other one.
     pub slab: u64,
-    /// It is a record variable.
+    /// The variable is a record variable.
     pub is_record: bool,
-    /// A value has less than four bytes.
+    /// Each of its values has less than four bytes.
     pub is_narrow: bool,
 }
 
@@ -26,6 +26,6 @@ pub struct FileLayout {
     pub slots: Sequence<Slot>,
     /// The offset at which the header ends.
     pub header_end: u64,
-    /// The bytes of the file.
+    /// The length of the file in bytes.
     pub file_len: u64,
 }

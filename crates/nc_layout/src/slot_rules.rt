@@ -15,22 +15,23 @@ use crate::slot::{FileLayout, Slot};
 use nc_base::{Sequence, Version};
 use std::alloc::AllocError;
 
-/// What the rules on one slot depend on of the slots before it, and how many are left.
+/// What a pass over the slots (begin, slab size and kind of each variable) keeps of those before the next one, for the rules on it.
 #[derive(Clone, Copy)]
 pub(crate) struct PassedSlots {
-    /// The greatest begin of the slots before it that aren't record slots.
+    /// The greatest begin of the passed variables that aren't record variables, or 0 if there are none.
     pub latest_begin: u64,
-    /// The index of the first of them that has this begin.
+    /// The index of the first of these variables that has this begin. It means nothing if the begin is 0.
     pub latest: u64,
-    /// The bytes of the record slots before it in a record.
+    /// The bytes of the padded slabs of the record variables that were passed.
     pub record_bytes: u64,
-    /// How many slots are left that aren't record slots.
+    /// How many variables are left, with the next one, that aren't record variables.
     pub fixed_left: u64,
-    /// How many record slots are left.
+    /// How many record variables are left, with the next one.
     pub records_left: u64,
 }
 
-/// Appends the findings at the size or the begin of each variable.
+/// Appends the findings at the size or the begin of each variable, in the order of the header. Needs a sound layout (within the limits) and
+/// its `records`. Errs only if an allocation fails.
 pub(crate) fn push_slot_findings(
     found: &mut Sequence<LayoutFinding>,
     layout: &FileLayout,
@@ -50,7 +51,7 @@ pub(crate) fn push_slot_findings(
     Ok(())
 }
 
-/// Returns what there is to know before the first of these slots.
+/// Returns what a pass over these slots, one for each variable, keeps before the first one: none is passed, and all are left.
 fn no_slot_passed(slots: &[Slot]) -> PassedSlots
     ensures { HasPassed slots.now 0 result }
 {
@@ -65,7 +66,8 @@ fn no_slot_passed(slots: &[Slot]) -> PassedSlots
     }
 }
 
-/// Returns what there is to know after this slot, which has this index.
+/// Returns what a pass over the slots keeps once it has passed `slot`, at the index `i`, too; before, it kept `passed`. Needs a slab of at
+/// most 2^48 bytes, and at most 2^62 `record_bytes`.
 fn passed_after(passed: PassedSlots, i: u64, slot: Slot) -> PassedSlots
     requires bytes { passed.record_bytes ≤ 2 ^ 62 }
     requires slab { slot.slab ≤ 2 ^ 48 }
@@ -91,7 +93,8 @@ fn passed_after(passed: PassedSlots, i: u64, slot: Slot) -> PassedSlots
     }
 }
 
-/// Appends the findings at the size and the begin of this slot, which has this index.
+/// Appends the findings at the size or the begin of the variable at the index `i`, which has this slot. `passed` is what the pass keeps of
+/// the slots before it. Needs a sound layout (within the limits) and its `records`. Errs only if an allocation fails.
 #[tactic(auto, using(crate::proofs::PassedLists::begin_is_small, crate::proofs::PassedLists::bytes_are_small))]
 fn push_findings_of_slot(
     found: &mut Sequence<LayoutFinding>,
@@ -119,7 +122,7 @@ fn push_findings_of_slot(
     Ok(())
 }
 
-/// Returns the greatest slab that the version allows for a variable that isn't the last.
+/// Returns the greatest slab, in bytes, that the version allows for a variable that isn't the last, or `None` for CDF-5: it has no limit.
 fn large_limit(version: Version) -> Option<u64>
     ensures { result ≡ large_limit version }
 {
@@ -130,7 +133,8 @@ fn large_limit(version: Version) -> Option<u64>
     }
 }
 
-/// Returns true if a slot of the kind of this one follows it, or if it isn't a record slot and there are record slots.
+/// Returns true if the variable of this slot isn't the last: `passed`, what a pass keeps before it, has another one of its kind left, or it
+/// isn't a record variable and there are some (`has_records`).
 fn has_successor(passed: PassedSlots, has_records: bool, slot: Slot) -> bool
     ensures { result ≡ next_has_successor passed has_records slot }
 {
@@ -141,7 +145,8 @@ fn has_successor(passed: PassedSlots, has_records: bool, slot: Slot) -> bool
     }
 }
 
-/// Returns the finding that the slab is greater than the version allows for a variable that isn't the last.
+/// Returns the finding that the slab of the variable at the index `i` is greater than [`large_limit`] and the variable isn't the last
+/// (`is_followed`), or `None`, as always for CDF-5.
 fn large_variable(version: Version, is_followed: bool, i: u64, slot: Slot) -> Option<LayoutFinding>
     ensures { result ≡ large_variable version is_followed i slot }
 {
@@ -156,7 +161,7 @@ fn large_variable(version: Version, is_followed: bool, i: u64, slot: Slot) -> Op
     )
 }
 
-/// Returns the finding that the variable begins inside of the header.
+/// Returns the finding that the variable at the index `i` begins before the header ends, or `None` if it doesn't.
 fn begin_in_header(layout: &FileLayout, i: u64, slot: Slot) -> Option<LayoutFinding>
     ensures { result ≡ begin_in_header layout.now i slot }
 {
@@ -170,7 +175,8 @@ fn begin_in_header(layout: &FileLayout, i: u64, slot: Slot) -> Option<LayoutFind
     )
 }
 
-/// Returns the finding that the variable begins before one that comes earlier in the header.
+/// Returns the finding that the variable at the index `i` begins before an earlier one (`passed`) and neither is a record variable, or
+/// `None`.
 fn order(passed: PassedSlots, i: u64, slot: Slot) -> Option<LayoutFinding>
     ensures { result ≡ order_after passed i slot }
 {
@@ -185,7 +191,8 @@ fn order(passed: PassedSlots, i: u64, slot: Slot) -> Option<LayoutFinding>
     )
 }
 
-/// Returns the finding that the variable isn't a record variable, but begins after the records do, if they begin somewhere.
+/// Returns the finding that the variable at the index `i` isn't a record variable, but begins after the records do, or `None`. The records
+/// begin at the offset `records_begin`; it is `None` without record variables.
 fn after_records(records_begin: Option<u64>, i: u64, slot: Slot) -> Option<LayoutFinding>
     ensures { result ≡ after_records records_begin i slot }
 {
@@ -200,7 +207,8 @@ fn after_records(records_begin: Option<u64>, i: u64, slot: Slot) -> Option<Layou
     )
 }
 
-/// Returns the finding that the slab of the record variable isn't in its place, after this many bytes of the first record.
+/// Returns the finding that the slab of the record variable at the index `i` isn't in its place, `bytes` bytes after `records_begin`, the
+/// offset at which the records begin, or `None`. Needs an offset below 2^63, and at most 2^62 `bytes`.
 fn record_place(records_begin: Option<u64>, bytes: u64, i: u64, slot: Slot) -> Option<LayoutFinding>
     requires begin { ForSome records_begin (λ begin. begin < 2 ^ 63) }
     requires bytes { bytes ≤ 2 ^ 62 }

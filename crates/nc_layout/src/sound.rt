@@ -1,4 +1,4 @@
-//! The limits that a layout keeps.
+//! The limits that a sound layout keeps.
 
 ghost use Rattle.std.specs.Prelude.{◌≡◌, ◌≤◌, ◌↔◌, All, IsTrue, sum_by, min, ◌+◌};
 ghost use Rattle.nc_base.specs.Sizes.{record_limit};
@@ -30,7 +30,7 @@ impl FileLayout {
     }
 }
 
-/// Returns true if each slot is sound ([`is_sound_slot`]).
+/// Returns true if the slot of each variable is sound: its slab and its begin are within the limits ([`is_sound_slot`]).
 fn are_sound_slots(slots: &[Slot]) -> bool
     ensures { IsTrue result ↔ All IsSoundSlot slots.now }
 {
@@ -44,7 +44,7 @@ fn is_sound_slot(slot: &Slot) -> bool
     slot.slab > 0 && slot.slab <= SLAB_LIMIT && slot.begin < BEGIN_LIMIT
 }
 
-/// Returns true if the padded slabs of the record slots have at most 2^62 bytes together.
+/// Returns true if the padded slabs of the record variables have at most 2^62 bytes together. Needs sound slots (within the limits).
 fn has_small_record(slots: &[Slot]) -> bool
     requires { All IsSoundSlot slots.now }
     ensures { IsTrue result ↔ (sum_by padded_slab (record_slots slots.now) ≤ record_limit) }
@@ -52,7 +52,7 @@ fn has_small_record(slots: &[Slot]) -> bool
     capped_record_bytes(slots) <= RECORD_LIMIT
 }
 
-/// Returns the bytes of the padded slabs of the record slots, or 2^62 + 1 if there are more than 2^62.
+/// Returns the bytes of the padded slabs of the record variables together, or 2^62 + 1 if there are more than 2^62. Needs sound slots.
 fn capped_record_bytes(slots: &[Slot]) -> u128
     requires { All IsSoundSlot slots.now }
     ensures { result ≡ min (sum_by padded_slab (record_slots slots.now)) (record_limit + 1) }

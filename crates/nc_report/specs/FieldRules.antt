@@ -71,6 +71,7 @@ abbrev pub form_fact : FieldName → Bytes → Option Fact
 form_fact name.Name bytes = fact_if (is_not_nfc bytes) NotNfc
 form_fact place bytes = None
 
+-- what is odd in a content of this many bytes, as the field of this name
 abbrev pub content_facts : FieldName → ℕ → Content → List Fact
 content_facts place size (content.Number n) = option_to_list (number_fact place size n)
 content_facts place size (content.Bytes bytes) = option_to_list (bytes_fact place bytes) ++ option_to_list (form_fact place bytes)

@@ -9,6 +9,7 @@ pub record Indexed : Type 0 where
   pub index : ℕ
   pub entry : Entry
 
+-- this field, with its index in the listing
 abbrev pub field_at : ℕ → Entry → Indexed
 field_at i entry = record { index = i; entry = entry }
 
@@ -17,6 +18,7 @@ abbrev pub indexed_from : ℕ → List Entry → List Indexed
 indexed_from i [] = []
 indexed_from i (entry ∷ entries) = field_at i entry ∷ indexed_from (i + 1) entries
 
+-- the fields of a listing, each with its index
 abbrev pub indexed : List Entry → List Indexed
 indexed entries = indexed_from 0 entries
 
@@ -24,6 +26,7 @@ indexed entries = indexed_from 0 entries
 abbrev pub finding_at : ℕ → ℕ → Fact → Finding
 finding_at index offset fact = record { offset = offset; field = Some index; fact = fact }
 
+-- this fact is found at this field
 abbrev pub finding : Indexed → Fact → Finding
 finding f fact = finding_at f.index f.entry.offset fact
 

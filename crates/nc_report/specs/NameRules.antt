@@ -59,7 +59,7 @@ first_index key fields = option_map (λ (f : Indexed). f.index) (find (has_key k
 abbrev pub is_index : ℕ → Option ℕ → Bool
 is_index i o = option_map_or (λ (k : ℕ). k == i) o false
 
--- of these fields, it is the first that is its name
+-- the field is a name, and of these fields the first that is this name of its list
 abbrev pub is_first : List Indexed → Indexed → Bool
 is_first fields f = option_map_or (λ key. is_index f.index (first_index key fields)) (key_of f.entry) false
 

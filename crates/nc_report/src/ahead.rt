@@ -1,4 +1,4 @@
-//! What lies ahead of a field in a listing.
+//! What lies ahead of a field of a header: the next fields that the rules on lists and attributes look at.
 
 ghost use Rattle.std.specs.Prelude.{◌≡◌, [], None};
 ghost use Rattle.nc_report.specs.Indexed.{field_at};
@@ -8,44 +8,45 @@ ghost use Rattle.nc_report.specs.code.Passes.{ahead_with};
 use nc_base::FormatFault;
 use nc_fields::{Content, Entry, FieldName, Owner};
 
-/// A field that is a number.
+/// A field of a header that is a number.
 #[derive(Clone, Copy, Debug, PartialEq, Eq)]
 pub struct NumberField {
-    /// The index of the field in the listing.
+    /// The index of the field among the header's fields.
     pub index: u64,
-    /// The offset of the field.
+    /// The offset of the field in the file.
     pub offset: u64,
     /// The number.
     pub number: u64,
 }
 
-/// The values of an attribute.
+/// A field of a header that is the values of an attribute.
 #[derive(Clone, Copy, Debug, PartialEq, Eq)]
 pub struct ValuesAt {
-    /// The index of the field in the listing.
+    /// The index of the field among the header's fields.
     pub index: u64,
-    /// The offset of the field.
+    /// The offset of the field in the file.
     pub offset: u64,
     /// The last byte is a NUL.
     pub ends_with_nul: bool,
 }
 
-/// What lies ahead of a field: the next fields that the rules on lists and attributes look at.
+/// What lies ahead of a field of a header: the next field of each kind that the rules on lists and attributes look at. A part is `None` if
+/// no such field follows, or only one that the end of the file cuts.
 #[derive(Clone, Copy, Debug, PartialEq, Eq)]
 pub struct Ahead {
     /// The next field, if it is a number.
     pub next: Option<NumberField>,
-    /// The next type of an attribute or a variable.
+    /// The next type code, of an attribute or a variable.
     pub type_code: Option<NumberField>,
-    /// The next number of an attribute's values.
+    /// The next number of an attribute's values (`nelems`).
     pub count: Option<NumberField>,
     /// The next values of an attribute.
     pub values: Option<ValuesAt>,
-    /// The next type of a variable, if the version has it.
+    /// The next type code of a variable, if the version has this type.
     pub var_type: Option<NumberField>,
 }
 
-/// Returns what lies ahead of the last field: nothing.
+/// Returns what lies ahead of the last field of a header: nothing, so that each part is `None`.
 pub(crate) fn nothing_ahead() -> Ahead
     ensures { result ≡ ahead_of [] }
 {
@@ -59,7 +60,8 @@ pub(crate) fn nothing_ahead() -> Ahead
 }
 
 impl Ahead {
-    /// Puts this field, which has this index, before what lies ahead.
+    /// Steps back by one field: what lay ahead of `entry`, the header's field at the index `i`, becomes what lies ahead of the field before
+    /// it, which has `entry` next.
     pub(crate) fn put_before(&mut self, i: u64, entry: &Entry)
         ensures { self.new ≡ ahead_with (field_at i entry.now) self.old }
     {
@@ -79,7 +81,7 @@ impl Ahead {
     }
 }
 
-/// Returns the field of this index, if it is a number.
+/// Returns the index `i`, the offset and the number of `entry`, the header's field at this index, or `None` if the field isn't a number.
 fn number_at(i: u64, entry: &Entry) -> Option<NumberField>
     ensures { result ≡ number_at (field_at i entry.now) }
 {
@@ -93,7 +95,8 @@ fn number_at(i: u64, entry: &Entry) -> Option<NumberField>
     }
 }
 
-/// Returns the field of this index, the type of a variable, if the version has it.
+/// Returns the index `i`, the offset and the number of `entry`, the header's field at this index and the type code of a variable, or `None`
+/// if the version lacks the type or the file ends inside the field.
 fn var_type_at(i: u64, entry: &Entry) -> Option<NumberField>
     ensures { result ≡ var_type_at (field_at i entry.now) }
 {
@@ -104,14 +107,14 @@ fn var_type_at(i: u64, entry: &Entry) -> Option<NumberField>
     }
 }
 
-/// Returns true if a field has this fault because the version lacks its type.
+/// Returns true if the fault of a field is that the version has no type with its code. `None` is no fault.
 fn is_bad_type(fault: Option<FormatFault>) -> bool
     ensures { result ≡ is_bad_type fault }
 {
     matches!(fault, Some(FormatFault::BadType))
 }
 
-/// Returns the field of this index, if it is the values of an attribute.
+/// Returns `entry`, the header's field at the index `i`, if it is the values of an attribute, or `None`, also if the file ends inside them.
 fn values_at(i: u64, entry: &Entry) -> Option<ValuesAt>
     ensures { result ≡ values_at (field_at i entry.now) }
 {
@@ -125,14 +128,14 @@ fn values_at(i: u64, entry: &Entry) -> Option<ValuesAt>
     }
 }
 
-/// Returns true if the field of this name is the type of an attribute or a variable.
+/// Returns true for `FieldName::Type`: such a field is the type code of an attribute or a variable.
 pub(crate) fn is_type(name: FieldName) -> bool
     ensures { result ≡ is_type_name name }
 {
     matches!(name, FieldName::Type)
 }
 
-/// Returns true if this is a variable.
+/// Returns true for `Owner::Var`: the field belongs to a variable, and not to one of its attributes.
 fn is_var(owner: Owner) -> bool
     ensures { result ≡ is_var owner }
 {

@@ -18,7 +18,8 @@ use std::alloc::AllocError;
 /// The type code of `char`.
 const CHAR: u64 = 2;
 
-/// Appends the findings about lists and attributes, in no order that is promised. `names` are the names of the fields.
+/// Appends the findings about empty lists and about attributes, in no order that is promised. `entries` are the fields of a header. Needs
+/// `names` that have the index of the first field of each name in them. Errs only if an allocation fails.
 pub(crate) fn push_attribute_findings<'a>(
     found: &mut Sequence<Finding>,
     entries: &'a [Entry],
@@ -36,7 +37,9 @@ pub(crate) fn push_attribute_findings<'a>(
     Ok(())
 }
 
-/// Appends the finding about a list or an attribute at the field of this index, if there is one. `ahead` lies ahead of the field.
+/// Appends what is odd about a list, if this field is its tag, or about an attribute, if it is its type, or its name in a variable. `entry`
+/// is the header's field at the index `i`, `ahead` has the fields after it that the rules look at, and `names` has the first field of each
+/// name. Errs only if an allocation fails.
 fn push_attribute_finding<'a>(
     found: &mut Sequence<Finding>,
     i: u64,
@@ -61,21 +64,23 @@ fn push_attribute_finding<'a>(
     }
 }
 
-/// Returns true if this is an attribute.
+/// Returns true if the owner of a field is an attribute, a global one or one of a variable.
 fn is_attribute(owner: Owner) -> bool
     ensures { result ≡ is_attribute owner }
 {
     matches!(owner, Owner::GlobalAtt(_) | Owner::VarAtt { .. })
 }
 
-/// Returns true if this is an attribute of a variable.
+/// Returns true if the owner of a field is an attribute of a variable.
 fn is_var_attribute(owner: Owner) -> bool
     ensures { result ≡ is_var_attribute owner }
 {
     matches!(owner, Owner::VarAtt { .. })
 }
 
-/// Returns the finding that the list of this tag is empty.
+/// Returns the finding that a list has its own tag, but no elements: such a list should have the tag 0 (`ABSENT` of the NetCDF Classic
+/// Format Specification). `entry` is the tag, the header's field at the index `i`, and `next` is the field after it, the number of
+/// elements. Returns `None` if the tag is 0 or the list has elements, and if one of the two numbers wasn't read.
 fn empty_list(i: u64, entry: &Entry, next: Option<NumberField>) -> Option<Finding>
     ensures { result ≡ empty_list (field_at i entry.now) entry.now.content next }
 {
@@ -89,7 +94,8 @@ fn empty_list(i: u64, entry: &Entry, next: Option<NumberField>) -> Option<Findin
     )
 }
 
-/// Returns the finding about the values of an attribute of this type.
+/// Returns the finding about the values of an attribute with this type code: that they end with a NUL if it is `char`, or that there are
+/// none if it is another type. `ahead` has their field and their number. Returns `None` if neither is so, or if the file ends too early.
 fn type_finding(code: &Content, ahead: &Ahead) -> Option<Finding>
     ensures { result ≡ type_finding code.now ahead.now }
 {
@@ -100,7 +106,7 @@ fn type_finding(code: &Content, ahead: &Ahead) -> Option<Finding>
     }
 }
 
-/// Returns the finding that an attribute has no values.
+/// Returns the finding that an attribute has no values, at the field `count`, which is their number, or `None` if it has some.
 fn empty_attribute(count: NumberField) -> Option<Finding>
     ensures { result ≡ empty_attribute count }
 {
@@ -110,7 +116,7 @@ fn empty_attribute(count: NumberField) -> Option<Finding>
     )
 }
 
-/// Returns the finding that the values of an attribute end with a NUL.
+/// Returns the finding that the values of an attribute end with a NUL, at the field of the values, or `None` if they don't.
 fn trailing_nul(values: ValuesAt) -> Option<Finding>
     ensures { result ≡ trailing_nul values }
 {
@@ -120,7 +126,8 @@ fn trailing_nul(values: ValuesAt) -> Option<Finding>
     )
 }
 
-/// Returns the finding about the attribute of a variable whose name is the field of this index.
+/// Returns the finding that an attribute is the first `_FillValue` of its variable (by `names`), but not one value of the variable's type,
+/// or `None`. `entry` is its name, the header's field at the index `i`, and `ahead` has the fields after it.
 fn name_finding<'a>(
     i: u64,
     entry: &'a Entry,
@@ -137,14 +144,15 @@ fn name_finding<'a>(
     }
 }
 
-/// Returns true if this is the name `_FillValue`.
+/// Returns true if the content of a field is the bytes `_FillValue`.
 fn is_fill_name(name: &Content) -> bool
     ensures { result ≡ is_fill_name name.now }
 {
     matches!(name, Content::Bytes(name) if name.as_slice() == b"_FillValue".as_slice())
 }
 
-/// Returns the finding that a fill value isn't one value of the type of its variable.
+/// Returns the finding that a `_FillValue` hasn't the type of its variable or, if it has, not exactly one value. `ahead` has the fields
+/// after its name. Returns `None` if both are right, or if one of these fields isn't there.
 fn fill_finding(ahead: &Ahead) -> Option<Finding>
     ensures { result ≡ fill_finding ahead.now.type_code ahead.now.var_type ahead.now.count }
 {
@@ -161,7 +169,7 @@ fn fill_finding(ahead: &Ahead) -> Option<Finding>
     }
 }
 
-/// Returns the finding that a fill value isn't one value.
+/// Returns the finding that a `_FillValue` hasn't exactly one value, at the field `count`, their number, or `None` if it has one.
 fn fill_count(count: NumberField) -> Option<Finding>
     ensures { result ≡ fill_count count }
 {
@@ -171,7 +179,7 @@ fn fill_count(count: NumberField) -> Option<Finding>
     )
 }
 
-/// Returns the finding, if the condition holds.
+/// Returns the finding if `holds` is true, or `None`.
 fn finding_if(holds: bool, finding: Finding) -> Option<Finding>
     ensures { result ≡ finding_if holds finding }
 {

@@ -1,4 +1,4 @@
-//! Findings at a field alone.
+//! Findings that a field shows by itself, whatever the other fields are.
 
 ghost use Rattle.std.specs.Prelude.{◌≡◌, ◌++◌, OnOk, IfOk, map};
 ghost use Rattle.std.specs.Option.{option_to_list};
@@ -12,10 +12,10 @@ use nc_fields::{Content, Entry, FieldName, HDF5_SIGNATURE};
 use std::alloc::{AllocError, Global};
 use unicode_normalization::is_nfc;
 
-/// The most bytes that a name of netCDF-C has (`NC_MAX_NAME`).
+/// The most bytes that a name of netCDF-C may have (`NC_MAX_NAME`).
 pub const LONGEST_NAME: u64 = 256;
 
-/// The most dimensions that a variable of netCDF-C has (`NC_MAX_VAR_DIMS`).
+/// The most dimensions that a variable of netCDF-C may have (`NC_MAX_VAR_DIMS`).
 pub const HIGHEST_RANK: u64 = 1024;
 
 /// What a dimension's length and the number of records are below in CDF-1 and CDF-2, by the NetCDF Classic Format Specification: 2^31.
@@ -27,7 +27,8 @@ const GZIP_SIGNATURE: [u8; 2] = *b"\x1f\x8b";
 /// The streaming mark of CDF-1 and CDF-2, which stands in place of the number of records.
 const STREAMING: u64 = (1 << 32) - 1;
 
-/// Appends the findings at fields alone.
+/// Appends the findings that each field of a header shows by itself: its fault, or else what is odd in its content. Errs only if an
+/// allocation fails.
 #[tactic(auto, unfolding(crate::specs::FieldRules::field_findings))]
 pub(crate) fn push_field_findings(
     found: &mut Sequence<Finding>,
@@ -42,7 +43,8 @@ pub(crate) fn push_field_findings(
     Ok(())
 }
 
-/// Appends the findings at this field, which has this index.
+/// Appends the findings that `entry`, the header's field at the index `i`, shows by itself: its fault, or, if it has none, what is odd in
+/// its content. Errs only if an allocation fails.
 fn push_findings_at(
     found: &mut Sequence<Finding>,
     alloc: Global,
@@ -57,14 +59,15 @@ fn push_findings_at(
     }
 }
 
-/// Returns the finding of this fault at this field, which has this index.
+/// Returns the finding of this fault at `entry`, the header's field at the index `i`.
 fn fault_finding(i: u64, entry: &Entry, fault: FormatFault) -> Finding
     ensures { result ≡ finding (field_at i entry.now) (fault_fact fault entry.now.content) }
 {
     finding_at(i, entry.offset, fault_fact(fault, &entry.content))
 }
 
-/// Returns what this fault of a field with this content shows.
+/// Returns the fact for this fault of a field: for `NotNetcdf` what the bytes in the place of `CDF` show ([`magic_fact`]), or the fault
+/// itself.
 fn fault_fact(fault: FormatFault, content: &Content) -> Fact
     ensures { result ≡ fault_fact fault content.now }
 {
@@ -74,7 +77,8 @@ fn fault_fact(fault: FormatFault, content: &Content) -> Fact
     }
 }
 
-/// Returns what is shown by these bytes, which are kept of the start of a file that doesn't begin with `CDF`.
+/// Returns what the first bytes of a file that doesn't begin with `CDF` show: `Hdf5`, `Gzip`, `EmptyFile` (no bytes), or the fault
+/// `NotNetcdf`.
 fn magic_fact(bytes: &[u8]) -> Fact
     ensures { result ≡ magic_fact bytes.now }
 {
@@ -89,7 +93,7 @@ fn magic_fact(bytes: &[u8]) -> Fact
     }
 }
 
-/// Appends what the content of this field shows, which has this index and no fault.
+/// Appends what is odd in the content of `entry`, the header's field at the index `i`, as if it has no fault. Errs if an allocation fails.
 fn push_content_findings(
     found: &mut Sequence<Finding>,
     alloc: Global,
@@ -113,7 +117,8 @@ fn push_content_findings(
     }
 }
 
-/// Appends a finding of this fact at the field of this index and offset, if there is one.
+/// Appends the finding of this fact at the header's field that has the index `i` and this offset in the file, or nothing if the fact is
+/// `None`. Errs only if an allocation fails.
 fn push_fact(
     found: &mut Sequence<Finding>,
     i: u64,
@@ -128,7 +133,7 @@ fn push_fact(
     Ok(())
 }
 
-/// Returns what a number of this many bytes shows, as the field of this name.
+/// Returns what is odd in the number `n`, of `size` bytes, as the field of this name: `LargeCount`, `LongName`, `HighRank` or `None`.
 fn number_fact(name: FieldName, size: u128, n: u64) -> Option<Fact>
     ensures { result ≡ number_fact name size n }
 {
@@ -141,14 +146,15 @@ fn number_fact(name: FieldName, size: u128, n: u64) -> Option<Fact>
     }
 }
 
-/// Returns true if a number of this many bytes has four, and its top bit is 1.
+/// Returns true if the number `n` has four bytes (`size`) and is 2^31 or more: its top bit is 1.
 fn is_large_count(size: u128, n: u64) -> bool
     ensures { result ≡ is_large_count size n }
 {
     size == 4 && LARGE_COUNT <= n
 }
 
-/// Returns what bytes show, as the field of this name.
+/// Returns `NameCharacters` if the field of this name is a name and the bytes aren't a valid one, `Padding` if it is padding and they
+/// aren't all 0, or else `None`.
 fn bytes_fact(name: FieldName, bytes: &[u8]) -> Option<Fact>
     ensures { result ≡ bytes_fact name bytes.now }
 {
@@ -161,7 +167,8 @@ fn bytes_fact(name: FieldName, bytes: &[u8]) -> Option<Fact>
     }
 }
 
-/// Returns what the characters of bytes show, as the field of this name.
+/// Returns `NotNfc` if the field of this name is a name, and its bytes are valid UTF-8 that isn't in normal form NFC, or else `None`. Errs
+/// only if an allocation fails.
 fn form_fact(alloc: Global, name: FieldName, bytes: &[u8]) -> Result<Option<Fact>, AllocError>
     ensures { IfOk result (λ fact. fact ≡ form_fact name bytes.now) }
 {
@@ -171,21 +178,21 @@ fn form_fact(alloc: Global, name: FieldName, bytes: &[u8]) -> Result<Option<Fact
     }
 }
 
-/// Returns the fact, if the condition holds.
+/// Returns the fact if `holds` is true, or `None`.
 fn fact_if(holds: bool, fact: Fact) -> Option<Fact>
     ensures { result ≡ fact_if holds fact }
 {
     if holds { Some(fact) } else { None }
 }
 
-/// Returns true if a byte isn't 0.
+/// Returns true if one of the bytes isn't 0.
 fn has_nonzero(bytes: &[u8]) -> bool
     ensures { result ≡ has_nonzero bytes.now }
 {
     bytes.iter().any(|b| *b != 0)
 }
 
-/// Returns true if the bytes are the UTF-8 of a text that isn't in normal form NFC.
+/// Returns true if the bytes are valid UTF-8, of a text that isn't in normal form NFC. Errs only if an allocation fails.
 fn is_not_nfc(alloc: Global, bytes: &[u8]) -> Result<bool, AllocError>
     ensures { IfOk result (λ b. b ≡ is_not_nfc bytes.now) }
 {
@@ -195,7 +202,7 @@ fn is_not_nfc(alloc: Global, bytes: &[u8]) -> Result<bool, AllocError>
     }
 }
 
-/// Appends a finding at the first type that is `float` or `double`.
+/// Appends a finding at the header's first type code that is `float` or `double`, or nothing if none is. Errs if an allocation fails.
 #[tactic(auto, unfolding(crate::specs::FieldRules::floating_findings))]
 pub(crate) fn push_floating_finding(
     found: &mut Sequence<Finding>,
@@ -206,7 +213,7 @@ pub(crate) fn push_floating_finding(
     push_some(found, floating_finding(entries))
 }
 
-/// Returns the finding at the first type that is `float` or `double`.
+/// Returns the finding at the first type code of the header that is `float` or `double`, or `None` if none is.
 fn floating_finding(entries: &[Entry]) -> Option<Finding>
     ensures { result ≡ floating_finding (indexed entries.now) }
 {
@@ -219,7 +226,7 @@ fn floating_finding(entries: &[Entry]) -> Option<Finding>
     None
 }
 
-/// Returns true if the field is the type code of `float` or `double`.
+/// Returns true if the field is a type code, and that of `float` (5) or `double` (6).
 fn is_floating(entry: &Entry) -> bool
     ensures { result ≡ is_floating_in entry.now.place.name entry.now.content }
 {

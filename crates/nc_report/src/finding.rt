@@ -8,8 +8,7 @@ use nc_base::{FormatFault, Sequence};
 use nc_layout::LayoutFact;
 use std::alloc::AllocError;
 
-/// What is found. Where something else is expected, the fact has it, unless the field alone tells it. What is found in its place is the
-/// content of the field.
+/// What is wrong or odd. A fact has what is expected, unless the field alone tells it. What is found there is the content of the field.
 #[derive(Clone, Copy, Debug, PartialEq, Eq, PartialOrd, Ord)]
 pub enum Fact {
     /// The programs that read values stop at this field with this fault.
@@ -31,7 +30,7 @@ pub enum Fact {
     LongName,
     /// An earlier dimension, variable or attribute of the same list has this name.
     DuplicateName {
-        /// The index of the first field of the listing that is this name.
+        /// The index of the first of the header's fields that is this name.
         first: u64,
     },
     /// A name is valid UTF-8, but not in normal form NFC.
@@ -63,15 +62,15 @@ pub enum Fact {
 /// Something that is wrong or odd in a file.
 #[derive(Clone, Copy, Debug, PartialEq, Eq)]
 pub struct Finding {
-    /// The offset at which it lies.
+    /// The offset in the file at which it lies.
     pub offset: u64,
-    /// The index of the field in the listing of the header, or none if it lies in the data after the header.
+    /// The index of the field among the header's fields, or `None` if it lies in the data after the header.
     pub field: Option<u64>,
     /// What is found.
     pub fact: Fact,
 }
 
-/// Returns a finding at the field of this index and offset.
+/// Returns the finding of this fact at the header's field that has this index and this offset in the file.
 pub(crate) fn finding_at(index: u64, offset: u64, fact: Fact) -> Finding
     ensures { result ≡ finding_at index offset fact }
 {
@@ -82,7 +81,7 @@ pub(crate) fn finding_at(index: u64, offset: u64, fact: Fact) -> Finding
     }
 }
 
-/// Appends the finding, if there is one.
+/// Appends the finding, or nothing if it is `None`. Errs only if an allocation fails.
 pub(crate) fn push_some(
     found: &mut Sequence<Finding>,
     finding: Option<Finding>,

@@ -11,7 +11,8 @@ use nc_base::Sequence;
 use nc_fields::Entry;
 use std::alloc::{AllocError, Global};
 
-/// Returns all findings at the fields of a header, in no order that is promised. Errs only if an allocation fails.
+/// Returns all findings at these fields of a header, except those that need a whole header (about sizes and the layout of the file), in no
+/// order that is promised. Errs only if an allocation fails.
 ///
 /// It takes time in proportion to n log n for n fields, however many names are equal.
 pub(crate) fn header_findings(

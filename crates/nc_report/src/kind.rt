@@ -35,13 +35,13 @@ pub enum Kind {
     HeaderTruncated,
     /// The tag of a list is neither its own nor 0.
     BadTag,
-    /// A count has its top bit set, or comes after a tag of 0 and isn't 0; or a dimension's length, or the number of records, is 2^63 or more.
+    /// A count has its top bit set, or isn't 0 after a tag of 0; or a dimension's length, or the number of records, is 2^63 or more.
     BadCount,
     /// A name isn't valid, and the fields may be out of step.
     BadName,
     /// A name isn't valid, but the fields are in step.
     NameCharacters,
-    /// A type is `float` or `double`, which the programs that read values refuse. The first one is found.
+    /// A type is `float` or `double`, which the programs that read values refuse. Only the first such type is reported.
     FloatingType,
     /// A type code isn't that of a type of the version.
     BadType,
@@ -79,7 +79,7 @@ pub enum Kind {
     HighRank,
     /// The size of a variable isn't that of its padded slab.
     Vsize,
-    /// A slab is greater than the version allows for a variable in its position.
+    /// A slab is greater than the version allows for a variable that isn't the last.
     LargeVariable,
     /// A variable begins inside of the header.
     BeginInHeader,
@@ -160,7 +160,7 @@ impl Fact {
     }
 }
 
-/// Returns the kind of this fault.
+/// Returns the kind of this fault, which has the same name.
 fn kind_of_fault(fault: FormatFault) -> Kind
     ensures { result ≡ kind_of_fault fault }
 {
@@ -180,7 +180,7 @@ fn kind_of_fault(fault: FormatFault) -> Kind
     }
 }
 
-/// Returns the kind of this fact about the layout.
+/// Returns the kind of this fact about the layout, which has the same name.
 fn kind_of_layout(fact: LayoutFact) -> Kind
     ensures { result ≡ kind_of_layout fact }
 {

@@ -12,7 +12,8 @@ use nc_base::Sequence;
 use nc_fields::{Content, Entry, FieldName};
 use std::alloc::{AllocError, Global};
 
-/// Appends the findings at names that an earlier element of the list has. Returns the names.
+/// Appends a finding at each name that an earlier element of the same list has, such as a second variable `x`. `entries` are the fields of
+/// a header. Returns the names of each list, each with the index of the first field that is this name. Errs only if an allocation fails.
 #[tactic(auto, unfolding(crate::specs::NameRules::name_findings))]
 pub(crate) fn push_name_findings<'a>(
     found: &mut Sequence<Finding>,
@@ -30,7 +31,9 @@ pub(crate) fn push_name_findings<'a>(
     Ok(names)
 }
 
-/// Returns the finding that an earlier element of the list has the name that the field of this index is, and adds the name if none has it.
+/// Adds the name in `entry`, the header's field at the index `i`, to `names`, and returns `None`. If an earlier element of the same list
+/// has this name, adds nothing, and returns the finding that says so. A field that isn't a name, or has a fault, changes nothing, and the
+/// result is `None`. Errs only if an allocation fails.
 fn add_name<'a>(
     names: &mut FirstNames<'a>,
     i: u64,
@@ -48,7 +51,8 @@ fn add_name<'a>(
     Ok(first.map(|first| finding_at(i, entry.offset, Fact::DuplicateName { first })))
 }
 
-/// Returns true if the field of this index is the first that is its name.
+/// Returns true if `entry`, the header's field at the index `i`, is a name without a fault, and the first such name in its list: `names`
+/// has this index for it.
 pub(crate) fn is_first<'a>(names: &FirstNames<'a>, i: u64, entry: &'a Entry) -> bool
     ensures { result ≡ is_first_of names.now (field_at i entry.now) }
 {
@@ -58,7 +62,7 @@ pub(crate) fn is_first<'a>(names: &FirstNames<'a>, i: u64, entry: &'a Entry) -> 
     names.is_first(list, name, i)
 }
 
-/// Returns the name that the field is, if it is one and has no fault, and the list that it is in.
+/// Returns the list that the name in this field belongs to, and the name, or `None` if the field isn't a name or has a fault.
 fn key_of(entry: &Entry) -> Option<(NameScope, &[u8])>
     ensures { option_map (λ key. (key.0, key.1.now)) result ≡ key_of entry.now }
 {
@@ -72,7 +76,7 @@ fn key_of(entry: &Entry) -> Option<(NameScope, &[u8])>
     Some((list, name.as_slice()))
 }
 
-/// Returns true if the field of this name is a name.
+/// Returns true for `FieldName::Name`: such a field is the name of a dimension, an attribute or a variable.
 fn is_name(name: FieldName) -> bool
     ensures { result ≡ is_name_name name }
 {

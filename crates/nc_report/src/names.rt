@@ -9,7 +9,7 @@ use nc_fields::Owner;
 use std::alloc::{AllocError, Global};
 use std::collections::BTreeMap;
 
-/// A list whose elements have names.
+/// A list of the header whose elements have names. Two names in different lists may be the same.
 #[derive(Clone, Copy, PartialEq, Eq, PartialOrd, Ord)]
 pub(crate) enum NameScope {
     /// The dimensions.
@@ -18,11 +18,11 @@ pub(crate) enum NameScope {
     GlobalAtts,
     /// The variables.
     Vars,
-    /// The attributes of the variable of this number.
+    /// The attributes of the variable with this index.
     VarAtts(u64),
 }
 
-/// Returns the list that this is an element of, if it is one.
+/// Returns the list that the owner of a field is an element of, or `None` if the owner is the header itself.
 pub(crate) fn list_of(owner: Owner) -> Option<NameScope>
     ensures { result ≡ list_of owner }
 {
@@ -35,7 +35,7 @@ pub(crate) fn list_of(owner: Owner) -> Option<NameScope>
     }
 }
 
-/// Returns a number that goes with the list. Few lists share it.
+/// Returns a number for the list, with which the hash of its names begins. Two lists may share it: variables, and attributes of variable 2.
 fn list_number(list: NameScope) -> u64
     ensures { result ≡ list_number list }
 {
@@ -59,8 +59,8 @@ fn hash(list: NameScope, name: &[u8]) -> u64
     sum
 }
 
-/// The names of the lists of a header, with the index of the first field that is each of them. The time to find a name grows with the
-/// logarithm of the number of names.
+/// The names in the lists of a header. With each goes the index of the first of the header's fields that is this name in this list. The
+/// time to find a name grows with the logarithm of the number of names.
 // The hash comes first in a key: most names of a list begin alike, and two numbers are compared sooner than two names. Names that share a
 // hash cost what they would without it.
 #[derive(Drop)]
@@ -69,7 +69,7 @@ pub(crate) struct FirstNames<'a> {
 }
 
 impl<'a> FirstNames<'a> {
-    /// Returns no names. Does not allocate.
+    /// Returns a `FirstNames` without a name. Does not allocate.
     pub(crate) fn new(alloc: Global) -> FirstNames<'a>
         ensures { (key : NameKey) → index_of result key ≡ None }
     {
@@ -78,8 +78,8 @@ impl<'a> FirstNames<'a> {
         }
     }
 
-    /// Adds a name of the list with this index, if it isn't there. Returns the index that went with the name before. Errs only if an
-    /// allocation failed.
+    /// Adds this name of the list with this index, and returns `None`. If the name is there already, it keeps its index, and that is
+    /// returned. Errs only if an allocation fails; then nothing is promised of the names.
     pub(crate) fn add(
         &mut self,
         list: NameScope,
@@ -99,7 +99,7 @@ impl<'a> FirstNames<'a> {
         Ok(earlier)
     }
 
-    /// Returns true if this index goes with this name of the list.
+    /// Returns true if this name of the list is there with this index.
     pub(crate) fn is_first(&self, list: NameScope, name: &'a [u8], index: u64) -> bool
         ensures { result ≡ is_index index (index_of self.now (list, name.now)) }
     {

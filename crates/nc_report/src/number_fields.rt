@@ -9,7 +9,7 @@ use nc_base::Sequence;
 use nc_fields::{Entry, FieldName};
 use std::alloc::{AllocError, Global};
 
-/// The number of records, the sizes and the begins of variables, in the order of the header.
+/// The fields of a header that are the number of records, the sizes (`vsize`) and the begins of the variables, in its order.
 #[derive(Drop)]
 pub(crate) struct NumberFields {
     pub(crate) numrecs: Sequence<NumberField>,
@@ -17,7 +17,7 @@ pub(crate) struct NumberFields {
     pub(crate) begins: Sequence<NumberField>,
 }
 
-/// Returns the number of records, the sizes and the begins of a listing. Errs only if an allocation fails.
+/// Returns the fields `numrecs`, `vsize` and `begin` of a header, in its order. Errs only if an allocation fails.
 pub(crate) fn number_fields(alloc: Global, entries: &[Entry]) -> Result<NumberFields, AllocError>
     ensures { IfOk result (HoldsNumbers (indexed entries.now)) }
 {
@@ -38,7 +38,7 @@ pub(crate) fn number_fields(alloc: Global, entries: &[Entry]) -> Result<NumberFi
     Ok(fields)
 }
 
-/// Returns what is kept of the field of this index: its offset and the number that it is, or 0 if it is none.
+/// Returns the index, the offset and the number of `entry`, the header's field at this index. If the field isn't a number, the number is 0.
 fn number_field(index: u64, entry: &Entry) -> NumberField
     ensures { result ≡ number_field (field_at index entry.now) }
 {

@@ -19,7 +19,7 @@ use std::alloc::{AllocError, Global};
 /// All that is wrong or odd in a file.
 #[derive(Debug, Drop)]
 pub struct Report {
-    /// The fields of the header, up to the first wrong one.
+    /// The fields of the header, up to the first wrong one, with the header itself.
     pub listing: Listing,
     /// What is found, by offset, and at one offset in the order of the kinds ([`Kind`](crate::Kind)).
     pub findings: Sequence<Finding>,
@@ -29,8 +29,8 @@ pub struct Report {
 /// all types of the format are taken.
 ///
 /// It reads the header once, forward, and at most one buffer more of a transparent source than the header, or than the bytes up to the end
-/// of the first wrong field. No finding depends on the data: begins and sizes are compared with the length of the source. It takes memory in
-/// proportion to what was read of the header, without the values of attributes, and time in proportion to n log n for n fields.
+/// of the first wrong field. No finding depends on the data: begins and sizes are compared with the length of the source. It takes memory
+/// in proportion to what was read of the header, without the values of attributes, and time in proportion to n log n for n fields.
 ///
 /// # Errors
 ///
@@ -49,9 +49,10 @@ pub fn check<S: Source>(alloc: Global, source: &mut S, buf: &mut [u8]) -> Result
     Ok(Report { listing, findings })
 }
 
-/// Returns all that is found in a file with this listing, in the order of a report. Errs only if an allocation fails.
+/// Returns all that is found in a file with this listing (its header's fields), by offset. Errs only if an allocation fails.
 ///
-/// A listing of [`list_fields`] has a header within the limits of the layout. Of any other header nothing is found about sizes and the layout.
+/// If the layout of a whole header isn't sound (within the limits), nothing is found about sizes and the layout, and no clause says that
+/// all else is found. Each listing that [`list_fields`] returns for a transparent source has a sound layout.
 pub fn findings_of(alloc: Global, listing: &Listing) -> Result<Sequence<Finding>, AllocError>
     ensures all { IfOk result (λ found. HasSoundLayout listing.now
         → IsPermutation (all_findings listing.now) found) }
@@ -62,7 +63,7 @@ pub fn findings_of(alloc: Global, listing: &Listing) -> Result<Sequence<Finding>
     Ok(in_order(found))
 }
 
-/// Returns the findings in the order of a report.
+/// Returns the findings sorted as a report has them: by offset, then by kind, by fact and by field.
 fn in_order(found: Sequence<Finding>) -> Sequence<Finding>
     ensures all { IsPermutation found result }
     ensures in_order { AllPairs IsInOrder result }

@@ -15,7 +15,8 @@ use nc_layout::{
 };
 use std::alloc::{AllocError, Global};
 
-/// Appends what is found about the sizes of variables and about the layout of the file, if the header is whole. Errs only if an allocation
+/// If the header is whole (no field is wrong), appends the findings about the sizes of variables (`vsize`) and the layout of the file, in
+/// no order that is promised. Of a header whose layout isn't sound (within the limits) nothing is promised. Errs only if an allocation
 /// fails.
 pub(crate) fn push_whole_findings(
     found: &mut Sequence<Finding>,
@@ -35,7 +36,8 @@ pub(crate) fn push_whole_findings(
     Ok(())
 }
 
-/// Appends what is found of the sizes of the variables.
+/// Appends a finding at each field `vsize` that hasn't the number that is written for the variable's padded slab. `vsizes` are these
+/// fields, in the order of the header. Needs a sound layout (within the limits). Errs only if an allocation fails.
 fn push_vsize_findings(
     found: &mut Sequence<Finding>,
     layout: &FileLayout,
@@ -55,7 +57,8 @@ fn push_vsize_findings(
     Ok(())
 }
 
-/// Returns the finding that the size of a variable isn't what is written for a padded slab of `padded` bytes, if so.
+/// Returns the finding that the field `vsize` of a variable hasn't the number that the version writes for a padded slab of `padded` bytes,
+/// or `None` if it has, or if the field is `None`.
 fn vsize_finding(version: Version, padded: u64, vsize: Option<NumberField>) -> Option<Finding>
     ensures { result ≡ vsize_fact version padded vsize }
 {
@@ -67,7 +70,8 @@ fn vsize_finding(version: Version, padded: u64, vsize: Option<NumberField>) -> O
     Some(finding_at(field.index, field.offset, Fact::Vsize { expected }))
 }
 
-/// Appends what is found about the layout, at the fields of the header.
+/// Appends all findings about the layout, each at the field of the header that it is about (`fields`) or at an offset in the data, in no
+/// order that is promised. Needs a sound layout (within the limits). Errs only if an allocation fails.
 fn push_layout_findings(
     found: &mut Sequence<Finding>,
     alloc: Global,
@@ -82,7 +86,8 @@ fn push_layout_findings(
     push_located(found, fields, of_layout.as_slice())
 }
 
-/// Appends these findings, at the fields of the header.
+/// Appends these findings about the layout, in their order, each at its field (one of `fields`) or at its offset in the data. Errs only if
+/// an allocation fails.
 fn push_located(
     found: &mut Sequence<Finding>,
     fields: &NumberFields,
@@ -96,7 +101,7 @@ fn push_located(
     Ok(())
 }
 
-/// Returns the finding, at its field.
+/// Returns this finding about the layout as a [`Finding`]: at the field that it is about, one of `fields`, or at its offset in the data.
 fn located(fields: &NumberFields, finding: LayoutFinding) -> Finding
     ensures { result ≡ located_number fields.now finding }
 {
@@ -113,14 +118,14 @@ fn located(fields: &NumberFields, finding: LayoutFinding) -> Finding
     }
 }
 
-/// Returns the field in this place, if there is one.
+/// Returns the field at the index `i` of these, or `None` if there is none.
 fn field_at(fields: &Sequence<NumberField>, i: u64) -> Option<NumberField>
     ensures { result ≡ slice_get fields.now i }
 {
     fields.as_slice().get(i as usize).copied()
 }
 
-/// Returns the finding of this fact at the field; at the start of the file, if there is no field.
+/// Returns the finding of this fact at the field, or at the offset 0 and at no field if there is none.
 fn found_at(field: Option<NumberField>, fact: Fact) -> Finding
     ensures { result ≡ found_at_number field fact }
 {

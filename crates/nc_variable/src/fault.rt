@@ -10,7 +10,7 @@ use std::fmt;
 /// Why a variable could not be opened: because the header could not be read, or because it has no variable of this name.
 #[derive(Clone, Copy, Debug, PartialEq, Eq)]
 pub enum VariableFault {
-    /// The header could not be read.
+    /// The header could not be read: it has a wrong field, the source failed, or an allocation failed.
     Header(HeadFault),
     /// The header has no variable of this name.
     NoSuchVariable,

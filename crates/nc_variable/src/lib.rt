@@ -1,7 +1,7 @@
 //! A variable of a netCDF classic file, by its name.
 //!
-//! [`open_variable`] reads the header of a file and finds a variable in it. The [`OpenVariable`] that it returns has the header, and makes a
-//! walk over the variable's values.
+//! [`open_variable`] reads the header of a file and finds a variable in it. The [`OpenVariable`] that it returns has the header, and makes
+//! a walk over the variable's values.
 //!
 //! ```
 //! let mut buf = [0; 4096];

@@ -11,13 +11,13 @@ use nc_base::Header;
 use nc_file::read_header;
 use std::alloc::Global;
 
-/// Reads the header at the start of a source, through a caller's buffer of at least 16 bytes, and returns its first variable of this name.
-/// The bytes of a name are compared as they are. The header is kept in memory, as [`read_header`] reads it.
+/// Reads the header at the start of a source, through a caller's buffer, and returns its first variable of this name. The bytes of a name
+/// are compared as they are. The header is kept in memory, as [`read_header`] reads it. Needs a buffer of at least 16 bytes.
 ///
 /// # Errors
 ///
-/// [`VariableFault::Header`] with the fault of [`read_header`] if the header can't be read, and [`VariableFault::NoSuchVariable`] if it has
-/// no variable of this name.
+/// [`VariableFault::Header`] if the header has a wrong field, the source fails or an allocation fails ([`HeadFault`](nc_file::HeadFault)),
+/// and [`VariableFault::NoSuchVariable`] if the header has no variable of this name.
 pub fn open_variable<S: Source>(
     alloc: Global,
     source: &mut S,

@@ -3,7 +3,8 @@
 use nc_base::{Header, Var, record_layout};
 use nc_walk::Walk;
 
-/// A variable of a file whose header was read.
+/// A variable of a file whose header was read. Its functions need what holds of each one that [`open_variable`](crate::open_variable)
+/// returns (`IsReady`): a sound header (`nc_base::Header::sound`), and the index of one of its variables.
 #[derive(Debug, Drop)]
 pub struct OpenVariable {
     /// The header of its file.
@@ -18,8 +19,8 @@ impl OpenVariable {
     ghost use Rattle.nc_walk.specs.code.Walks.{Starts};
     ghost use Rattle.nc_variable.specs.Opened.{IsReady};
 
-    /// Returns the variable itself, with its type, shape and attributes. Needs what holds of each variable that
-    /// [`open_variable`](crate::open_variable) returns.
+    /// Returns the variable itself, with its type, shape and attributes. Needs an open variable as [`open_variable`](crate::open_variable)
+    /// returns it.
     pub fn var(&self) -> &Var
         requires { IsReady self.now }
         ensures { slice_get self.now.header.vars self.now.index ≡ Some result.now }
@@ -27,8 +28,8 @@ impl OpenVariable {
         &self.header.vars.as_slice()[self.index]
     }
 
-    /// Returns a walk at the variable's first value, over all records of a file of `file_len` bytes. Needs what holds of each variable that
-    /// [`open_variable`](crate::open_variable) returns, and a buffer of at least 16 bytes, out of which the walk lends its chunks.
+    /// Returns a walk at the variable's first value, over all records of a file of `file_len` bytes. The walk lends its chunks out of
+    /// `buf`. Needs an open variable as [`open_variable`](crate::open_variable) returns it, and a buffer of at least 16 bytes.
     pub fn walk<'a>(&self, file_len: u64, buf: &'a mut [u8]) -> Walk<'a>
         requires opened { IsReady self.now }
         requires capacity { 16 ≤ length buf.old }

@@ -12,7 +12,7 @@ use crate::reading::read_values;
 use crate::slabs::Slabs;
 use devices::Source;
 
-/// Values that were read into the start of a slice.
+/// What a call has read: values of one or more slabs, which now stand at the start of a slice, one after the other.
 #[derive(Clone, Copy)]
 pub(crate) struct Chunk {
     /// The number of values.
@@ -22,7 +22,9 @@ pub(crate) struct Chunk {
 }
 
 impl Chunk {
-    /// Returns true if the last value ends its slab, another slab follows, and the chunk has fewer than `capacity` values.
+    /// Returns true if values of the next slab can follow those of the chunk: if the chunk ends with its slab, another slab follows, and
+    /// the chunk has fewer than `capacity` values. Needs `self.next` to be a cursor of these slabs: that of a value, or the one after the
+    /// last.
     fn continues_in_next_slab(self, slabs: Slabs, capacity: u64) -> bool
         requires { IsCursor slabs self.next }
         ensures { IsTrue result ↔ Continues slabs capacity self }
@@ -31,14 +33,15 @@ impl Chunk {
     }
 }
 
-/// Reads `ready` values of one slab into the start of `into`, by [`read_values`]. Returns a [`Chunk`]: how many values were read (fewer
-/// than `ready` if the source has ended before its length), and the cursor after them. The first value is at `cursor`, and `at` is its
-/// offset in the file. Needs a `ready` of at least 1, and values that all end inside of the slab, of `into`, and of the source by its
+/// Reads the next `ready` values, side by side in one slab, into the start of `into`, by [`read_values`]. The first one is the value at
+/// `cursor`, and `at` is its offset in the source, in bytes. Returns a [`Chunk`]: how many values came whole (fewer than `ready` if the
+/// source has ended before the length that it states), and the cursor after them. If they end with their slab, exactly their bytes were
+/// read, even of an opaque source. Needs a `ready` of at least 1, and values that all end inside of the slab, of `into`, and of that
 /// length.
 ///
 /// # Errors
 ///
-/// `ReadFailed` if the source failed; `DataTruncated` if it has no whole value at this cursor.
+/// `ReadFailed` if the source failed; `DataTruncated` with the number of the value at `cursor` if not even this one came whole.
 #[inline(always)]
 fn read_values_as_chunk<S: Source>(
     slabs: &Slabs,
@@ -59,13 +62,14 @@ fn read_values_as_chunk<S: Source>(
     Ok(Chunk { values, next })
 }
 
-/// Reads values of one slab, from this cursor on, into the start of `into`: those up to the slab's end that are whole inside of the source,
-/// but at most `capacity`. Returns a [`Chunk`]: how many values were read, which are fewer if the source has ended before its length, and
-/// the cursor after them. Needs a value at the cursor, and in `into` room for `capacity` values, at least one.
+/// Reads values of one slab, from the one at `cursor` on, into the start of `into`: those up to the slab's end that are whole inside of the
+/// source, but at most `capacity`. Returns a [`Chunk`]: how many values came, which are fewer if the source has ended before the length
+/// that it states, and the cursor after them. If they end with their slab, exactly their bytes were read, even of an opaque source. Needs a
+/// value at the cursor, a `capacity` of at least 1, and room for as many values in `into`.
 ///
 /// # Errors
 ///
-/// `ReadFailed` if the source failed; `DataTruncated` if it has no whole value at this cursor.
+/// `ReadFailed` if the source failed; `DataTruncated` with the number of the value at `cursor` if this one isn't whole in the source.
 #[inline(never)]
 fn read_from_slab<S: Source>(
     slabs: &Slabs,
@@ -87,14 +91,14 @@ fn read_from_slab<S: Source>(
     read_values_as_chunk(slabs, cursor, at, ready, source, into)
 }
 
-/// Reads values from this cursor on, of one slab after the other, into the start of `into`. Stops after `capacity` values, after
-/// the variable's last value, and before a value that isn't whole in the source. Returns a [`Chunk`]: how many values were read, and the
-/// cursor after them. Needs a value at the cursor, and in `into` room for `capacity` values, at least one.
+/// Reads values, from the one at `cursor` on, of one slab after the other, into the start of `into`. Stops after `capacity` values, after
+/// the variable's last value, and before a value that isn't whole in the source. Returns a [`Chunk`]: how many values were read, at least
+/// 1, and the cursor after them. Needs a value at the cursor, a `capacity` of at least 1, and room for as many values in `into`.
 ///
 /// # Errors
 ///
-/// `ReadFailed` if the source failed, even if it gave values before; `DataTruncated` if it has no whole value at this cursor. After an
-/// error `into` may hold anything.
+/// `ReadFailed` if the source failed, even if it gave values before; `DataTruncated` with the number of the value at `cursor` if this one
+/// isn't whole in the source. After an error `into` may hold anything.
 // Reads the rest of a slab, then whole slabs, and last what fits of one more. If slabs have few values, calls and tests take longer than
 // the reads. So the code of a read is inlined in the loop over whole slabs, and little else is there.
 #[inline(never)]

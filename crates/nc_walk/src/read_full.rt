@@ -5,9 +5,10 @@ ghost use Rattle.nc_walk.specs.code.FullReads.{ReadsInFull};
 
 use devices::{Source, SourceFailed};
 
-/// Reads the bytes from the offset `at` on until the slice is full, or a read gets no byte because the source has ended. Returns how
-/// many bytes were read. Needs a slice that isn't empty, and a source that by its length has bytes for all of it. A transparent source
-/// fills the slice, and an opaque one may end before its length ([`Source`] explains the two words).
+/// Reads the bytes from the offset `at` on until the slice is full, or a read gets no byte because the source has ended. Returns how many
+/// bytes were read. Needs a slice that isn't empty, and that `at` plus the slice's length is below 2^64 and no more than the length that
+/// the source states. A transparent source fills the slice, and an opaque one may end before its length ([`Source`] explains the two
+/// words).
 ///
 /// # Errors
 ///
@@ -32,9 +33,9 @@ pub(crate) fn read_full<S: Source>(
     Ok(got + more)
 }
 
-/// Reads the bytes from the offset `at` on until the slice, which may be empty, is full, or a read gets no byte because the source has
-/// ended. Returns how many bytes were read. It is for the bytes that the one read of [`read_full`] didn't get. Needs a source that by its
-/// length has bytes for all of the slice.
+/// Reads the bytes from the offset `at` on until the slice is full, or a read gets no byte because the source has ended. Returns how many
+/// bytes were read. [`read_full`] calls it for the bytes that its one read didn't get. The slice may be empty. Needs that `at` plus the
+/// slice's length is below 2^64 and no more than the length that the source states.
 ///
 /// # Errors
 ///

@@ -11,13 +11,14 @@ use crate::read_full::read_full;
 use crate::slabs::Slabs;
 use devices::Source;
 
-/// Reads `ready` values of one slab into the start of `into`. The first one is at `cursor`, and `at` is its offset in the file. Needs a
-/// `ready` of at least 1, and values that all end inside of the slab, of `into`, and of the source by its length. Returns how many whole
-/// values were read: at least 1, and fewer than `ready` if the source has ended before its length.
+/// Reads the next `ready` values, which lie side by side in one slab, into the start of `into`. The first one is the value at `cursor`, and
+/// `at` is its offset in the source, in bytes. Returns how many values came whole: at least 1, and fewer than `ready` if the source has
+/// ended before the length that it states. If they end with their slab, exactly their bytes were read, even of an opaque source. Needs a
+/// `ready` of at least 1, and values that all end inside of the slab, of `into`, and of that length.
 ///
 /// # Errors
 ///
-/// `ReadFailed` if the source failed; `DataTruncated` if it has no whole value at this cursor.
+/// `ReadFailed` if the source failed; `DataTruncated` with the number of the value at `cursor` if not even this one came whole.
 #[inline(always)]
 pub(crate) fn read_values<S: Source>(
     slabs: &Slabs,
@@ -38,12 +39,13 @@ pub(crate) fn read_values<S: Source>(
     whole_values(slabs, cursor, ready, got as u64)
 }
 
-/// Returns how many of `ready` values are whole in the first `got` of their bytes. The first one is at `cursor`. Needs a `ready` of at least
-/// 1, and no more bytes than these values have.
+/// Returns how many of `ready` values are whole if the first `got` of their bytes were read: `got` divided by the size of a value, rounded
+/// down. The first value is at `cursor`, which only the fault needs. Needs a `ready` and a size of at least 1, values with fewer than 2^64
+/// bytes in all, and a `got` of at most as many.
 ///
 /// # Errors
 ///
-/// `DataTruncated` if not even the first one is whole.
+/// `DataTruncated` with the number of the first value if not even this one is whole.
 #[inline(always)]
 fn whole_values(slabs: &Slabs, cursor: Cursor, ready: u64, got: u64) -> Result<u64, WalkFault>
     requires some { 0 < ready }

@@ -10,26 +10,26 @@ use nc_base::{Dim, Header, RecordLayout, Var, is_record_var, slab_len};
 
 /// The slabs of a variable: values side by side in each, and one slab after the other at the same distance.
 ///
-/// The functions need slabs as [`Slabs::of`] makes them (`IsSized`): with at least one value in a slab, values of 1 to 8 bytes, and a
-/// `stride` of at most 2^62. A cursor that they take is in a slab: its `within` is below `values_per_slab`.
+/// The slabs that [`Slabs::of`] makes (`IsSized`) have at least one value each, values of 1 to 8 bytes, and a `stride` of at most 2^62. A
+/// cursor in a slab has a `within` below `values_per_slab`.
 #[derive(Clone, Copy)]
 pub(crate) struct Slabs {
     /// The offset of the first value in the file.
     pub(crate) begin: u64,
-    /// The bytes from the start of one slab to the start of the next.
+    /// The number of bytes from the start of one slab to the start of the next.
     pub(crate) stride: u64,
-    /// The values in a slab.
+    /// The number of values in a slab.
     pub(crate) values_per_slab: u64,
     /// The number of slabs.
     pub(crate) total_slabs: u64,
-    /// The bytes of a value.
+    /// The number of bytes of a value.
     pub(crate) size: u64,
 }
 
 impl Slabs {
-    /// Returns the slabs of the variable at index `v` over the records of the layout: one for each record, or one in all if the
-    /// variable has no record dimension. Slabs that are side by side become one, as [`Slabs::joined`] says. Needs a sound header
-    /// (`nc_base::Header::sound`), whose record size must be that of `layout`.
+    /// Returns the slabs of the variable at index `v` over the records of the layout: one for each record, or one in all if the variable
+    /// has no record dimension. Slabs that are side by side become one, as [`Slabs::joined`] says. Needs a sound header
+    /// (`nc_base::Header::sound`), a variable at this index, and the header's record size in `layout`.
     pub(crate) fn of(header: &Header, v: usize, layout: RecordLayout) -> Slabs
         requires sound { IsSound header.now }
         requires there { v < length header.now.vars }
@@ -48,8 +48,10 @@ impl Slabs {
         slabs.joined()
     }
 
-    /// Returns the same values in one slab, if each slab begins at the end of the one before it, so that one read can take values of many
-    /// records. Otherwise returns the slabs as they are. It does so too if there are no values, or more of them than a `u64` can count.
+    /// Returns slabs with the same values at the same offsets. If each slab begins at the end of the one before it, they become one slab,
+    /// so that one read can take values of many records. Otherwise they stay as they are, and also if there are no values, or more than a
+    /// `u64` can count. No clause says which of the two is done. Needs at least one value in a slab, values of 1 to 8 bytes, and a `stride`
+    /// of at most 2^62.
     fn joined(self) -> Slabs
         requires { IsSized self }
         ensures size { result.size ≡ self.size }
@@ -70,7 +72,8 @@ impl Slabs {
         }
     }
 
-    /// Returns the offset, in the file, of the value at this cursor. It may be past the end of the file, and past 2^64.
+    /// Returns the offset in the file, in bytes, of the value at this cursor. It may be past the end of the file, and past 2^64, but is
+    /// below 2^127. Needs slabs as [`Slabs::of`] makes them, and a cursor in a slab.
     pub(crate) fn offset(&self, cursor: Cursor) -> u128
         requires sized { IsSized self.now }
         requires within { cursor.within < self.now.values_per_slab }
@@ -81,7 +84,8 @@ impl Slabs {
         slab + cursor.within as u128 * self.size as u128
     }
 
-    /// Returns the offset of the value at this cursor, but at most 2^64 - 1, where no file has a byte.
+    /// Returns the offset of the value at this cursor, as [`offset`](Slabs::offset) does, but at most 2^64 - 1, where no file has a byte.
+    /// Needs slabs as [`Slabs::of`] makes them, and a cursor in a slab.
     pub(crate) fn capped_offset(&self, cursor: Cursor) -> u64
         requires sized { IsSized self.now }
         requires within { cursor.within < self.now.values_per_slab }
@@ -90,8 +94,8 @@ impl Slabs {
         self.offset(cursor).min(u64::MAX as u128) as u64
     }
 
-    /// Returns true if a slab that begins at the offset `at` has no more than `capacity` values and ends inside of a file of
-    /// `len` bytes.
+    /// Returns true if a slab that begins at the offset `at` can be read whole: if it has no more than `capacity` values and ends inside of
+    /// a file of `len` bytes. Needs slabs as [`Slabs::of`] makes them, and a `capacity` whose values have fewer than 2^64 bytes.
     #[inline(always)]
     pub(crate) fn has_whole_slab(self, at: u64, capacity: u64, len: u64) -> bool
         requires sized { IsSized self }
@@ -103,7 +107,8 @@ impl Slabs {
     }
 
     /// Returns how many values one read can take from this cursor on: those up to the end of its slab that are whole inside of a file of
-    /// `len` bytes, but at most `capacity`. Returns 0 if not even the value at the cursor is whole. Needs a `capacity` above 0.
+    /// `len` bytes, but at most `capacity`. Returns 0 if not even the value at the cursor is whole. Needs slabs as [`Slabs::of`] makes
+    /// them, a cursor in a slab, and a `capacity` above 0.
     pub(crate) fn ready(&self, cursor: Cursor, capacity: u64, len: u64) -> u64
         requires sized { IsSized self.now }
         requires within { cursor.within < self.now.values_per_slab }
@@ -122,7 +127,7 @@ impl Slabs {
     }
 }
 
-/// Returns the number of slabs over `records` records: `records` for a record variable, and 1 for any other.
+/// Returns the number of slabs of the variable over `records` records: `records` for a record variable, and 1 for any other.
 fn total_slabs(dims: &[Dim], var: &Var, records: u64) -> u64
     ensures { result ≡ (if is_record_var dims.now var.now then records else 1) }
 {

@@ -25,7 +25,7 @@ pub struct Walk<'a> {
     slabs: Slabs,
     /// The cursor of the next value, or the cursor after the last value.
     cursor: Cursor,
-    /// How many values fill the buffer.
+    /// How many values fit into the buffer.
     capacity: u64,
     /// The fault that stopped the walk, if one did.
     fault: Option<WalkFault>,
@@ -44,9 +44,9 @@ impl<'a> Model for Walk<'a> {
 }
 
 impl<'a> Walk<'a> {
-    /// Returns a walk at the first value of the variable at index `v` of the header, over `records` records. The variable's `begin`
-    /// and its shape, and not its `vsize`, say where the values lie (NetCDF Classic Format Specification). Needs a sound header
-    /// (`nc_base::Header::sound`), and a buffer of at least 16 bytes.
+    /// Returns a walk at the first value of the variable at index `v` of the header, over `records` records. The variable's `begin` and its
+    /// shape, and not its `vsize`, say where the values lie (NetCDF Classic Format Specification). The walk lends its chunks out of `buf`.
+    /// Needs a sound header (`nc_base::Header::sound`), a variable at this index, and a buffer of at least 16 bytes.
     ///
     /// For callers of the library: `ncdump` itself calls [`with_layout`](Walk::with_layout), for many variables of one header.
     pub fn new(header: &Header, v: usize, records: u64, buf: &'a mut [u8]) -> Walk<'a>
@@ -67,10 +67,10 @@ impl<'a> Walk<'a> {
         )
     }
 
-    /// Returns a walk at the first value of the variable at index `v`, over the records of `layout`. It is for a caller that walks over
-    /// many variables of one file: it takes time in proportion to the variable's rank alone, while [`Walk::new`] computes the record size
-    /// anew. Needs a sound header (`nc_base::Header::sound`), its record size in `layout`, as `nc_base::record_layout` returns it, and a
-    /// buffer of at least 16 bytes.
+    /// Returns a walk that lends its chunks out of `buf`, at the first value of the variable at index `v`, over the records of `layout`. It
+    /// is for a caller that walks over many variables of one file: it takes time in proportion to the variable's rank alone, while
+    /// [`Walk::new`] computes the record size anew. Needs a sound header (`nc_base::Header::sound`), a variable at this index, the header's
+    /// record size in `layout`, as `nc_base::record_layout` returns it, and a buffer of at least 16 bytes.
     pub fn with_layout(
         header: &Header,
         v: usize,
@@ -94,7 +94,8 @@ impl<'a> Walk<'a> {
         }
     }
 
-    /// Returns the first `n` bytes of the buffer: the chunk that [`Walk::next`] lends after it has read `n` bytes.
+    /// Returns the first `n` bytes of the buffer: the chunk that [`Walk::next`] lends after it has read `n` bytes. Needs an `n` of at most
+    /// the buffer's length.
     fn buffer_prefix(&self, n: usize) -> &[u8]
         requires { n ≤ length self.now.buf }
         ensures { result.now ≡ take n self.now.buf }
@@ -104,7 +105,7 @@ impl<'a> Walk<'a> {
 
     /// Reads the next values into the start of the buffer, moves the walk past them, and returns the number of their bytes, or 0 after the
     /// last value. [`Walk::next`] calls it, and lends the bytes. Errs with `ReadFailed` if the source fails, and with `DataTruncated` if
-    /// the next value isn't whole in the source. After an error each call returns the same error, and touches nothing.
+    /// the next value isn't whole in the source. After an error each call returns the same error, and reads nothing.
     fn step<S: Source>(&mut self, source: &mut S) -> Result<usize, WalkFault>
         ensures advanced { Advanced self.old self.new (as_answer self.new.buf result) }
         ensures steps { TakesStep S.is_transparent self.old S.view source.old source.new
@@ -130,18 +131,20 @@ impl<'a> Walk<'a> {
         }
     }
 
-    /// Reads the next values, one or more, of one slab or of several, and returns their bytes, which lie in the buffer. Returns
-    /// `None` after the last value.
+    /// Reads the next values, one or more, of one slab or of several, moves the walk past them, and returns their bytes, which lie at the
+    /// start of the buffer. Returns `None` after the last value.
     ///
-    /// Of a transparent source ([`Source`]) the bytes of the chunk are read, and no others.
+    /// If the source is transparent ([`Source`]), the bytes of the chunk are read, and no others. The chunk borrows the walk, whose buffer
+    /// it lies in. The clause `after` says what the walk is once this borrow ends: past the values of the chunk, or with the fault that was
+    /// returned.
     ///
     /// # Errors
     ///
     /// [`WalkFault::ReadFailed`] if the source fails; the values that this call has read before the failure are not handed out.
-    /// [`WalkFault::DataTruncated`] if the next value isn't whole in the source. If the length of the source already shows
-    /// this, nothing is read. If the source ends before its length, the file is taken to end there.
+    /// [`WalkFault::DataTruncated`] if the next value isn't whole in the source. If the length of the source already shows this, nothing is
+    /// read. If the source ends before its length, the file is taken to end there.
     ///
-    /// After an error each call returns the same error, and touches nothing.
+    /// After an error each call returns the same error, and reads nothing.
     pub fn next<S: Source>(&mut self, source: &mut S) -> Result<Option<&[u8]>, WalkFault>
         ensures steps { TakesStep S.is_transparent self.old S.view source.old source.new (lent result) }
         ensures repeats { Repeats self.old S.view source.old source.new (lent result) }

@@ -4,11 +4,11 @@ use Rattle.std.specs.Str.{is_utf8}
 use Rattle.nc_base.specs.Bytes.{Bytes}
 use Rattle.check_lines.specs.Shown.{longest_path}
 
--- it is opened, if it is UTF-8 and not too long
+-- the path can be opened: it is UTF-8, and not too long
 unfoldable pub is_path : Bytes → Bool
 is_path file = nat_le (length file) longest_path && is_utf8 file
 
--- with one more byte; of a path that is too long no more are kept
+-- the path with one more byte; a path that is too long gets no more
 unfoldable pub with_byte : Bytes → ℕ → Bytes
 with_byte path b = if nat_le (length path) longest_path then path ++ b ∷ [] else path
 
@@ -28,7 +28,7 @@ last_items Whole [] = []
 last_items Whole (b ∷ bs) = Path (b ∷ bs) ∷ []
 last_items Broken begun = Unread ∷ []
 
--- with a path begun, the items that these bytes give
+-- the items that the bytes give, if `begun` is the path that is begun before them
 abbrev pub items_after : ListEnd → Bytes → Bytes → List Item
 items_after end begun [] = last_items end begun
 items_after end begun (b ∷ bs) = if b == 0 then Path begun ∷ items_after end [] bs else items_after end (with_byte begun b) bs

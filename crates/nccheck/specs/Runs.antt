@@ -169,8 +169,8 @@ RunsOver o a (item ∷ items) old new answers = ChecksFirst o a item old new ans
 abbrev pub has_ended : List Answer → Bool
 has_ended answers = list_any ends_run answers
 
--- the text was written to standard output after the run had this status; if that failed, the line of a failure was written to standard error,
--- or a prefix of it, and the status is 2
+-- the text was written to standard output after the run had this status; if that failed, the line of a failure was written to standard
+-- error, or a prefix of it, and the status is 2
 abbrev pub Writes : {P : Type 0} → Bytes → State P → State P → ℕ → ℕ → Type 0
 Writes text mid new before status =
     (Appended mid.out new.out text × (new.err ≡ mid.err) × (status ≡ before))
@@ -183,8 +183,8 @@ pub record WritesNothing {P : Type 0} (mid new : State P) (before status : ℕ) 
 
 -- ---- the list on standard input
 
--- a list of these bytes can be read: they are all that there is, if that is known, or the reader has failed after them (a list isn't read on
--- either after 2^64 - 1 bytes)
+-- a list of these bytes can be read: they are all that there is, if that is known, or the reader has failed after them (a list isn't read
+-- on either after 2^64 - 1 bytes)
 abbrev pub HasBytes : ListEnd → ReaderView → ReaderView → Bytes → Type 0
 HasBytes Whole old new bytes = IfSome old.remaining (λ all. bytes ≡ all) × (new.failures ≡ old.failures)
 HasBytes Broken old new bytes =
@@ -201,8 +201,8 @@ pub record ReadsNothing (old new : ReaderView) (items : List Item) : Type 0 wher
   pub same : new ≡ old
   pub none : items ≡ []
 
--- all paths of the words, and then the items of the list if it is asked for, were checked in turn, up to one whose fault ends the run; if there
--- was none, and it is asked for, a line says what came of them, or a prefix of it if standard output fails
+-- all paths of the words, and then the items of the list if it is asked for, were checked in turn, up to one whose fault ends the run; if
+-- there was none, and it is asked for, a line says what came of them, or a prefix of it if standard output fails
 pub record RunsFiles {P : Type 0} (o : Openings P) (a : Asked) (input : Use ReaderView) (old new : State P) (status : ℕ) : Type 0 where
   pub listed : List Item
   pub reads : Either a.reads_paths_from_input (ReadsList input.before input.after listed) (ReadsNothing input.before input.after listed)

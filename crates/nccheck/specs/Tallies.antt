@@ -13,7 +13,7 @@ Answer = Result (Option Severity) FileFault
 abbrev pub no_files : Tally
 no_files = record { with_errors = 0; with_violations = 0; with_notes = 0; with_nothing = 0; not_checked = 0 }
 
--- with one more file
+-- the tally with one more file, counted by what came of it
 abbrev pub counted : Tally → Answer → Tally
 counted t (Ok (Some Error)) = record t { with_errors = t.with_errors + 1 }
 counted t (Ok (Some Violation)) = record t { with_violations = t.with_violations + 1 }

@@ -18,8 +18,9 @@ use devices::{Opener, Sink, Source, WriteFailed};
 use nc_report::{Report, Severity, check};
 use std::alloc::Global;
 
-/// Checks the file at this path as the options ask, writes the line of a fault to standard error, and returns the answer. A path that isn't
-/// UTF-8 or is too long can't be opened.
+/// Checks the file at the path `file`, and writes the lines of its findings to `out` as the options ask. Returns the gravest severity that
+/// was reported, or `None` if nothing was. Errs as [`check_file`] does, and also with `CannotOpen` for a path that isn't UTF-8 or has more
+/// than 65,535 bytes. Writes the line of an error to `err`, and passes over a failure of `err`.
 #[tactic(auto, using(crate::proofs::InTurn::is_told))]
 pub(crate) fn check_item<P: Opener, O: Sink, E: Sink>(
     opener: &mut P,
@@ -45,7 +46,8 @@ pub(crate) fn check_item<P: Opener, O: Sink, E: Sink>(
     }
 }
 
-/// Checks the file at this path as the options ask, writes the line of a fault to standard error, and returns the answer.
+/// Returns what [`check_file`] does. If that is an error, also writes its line to `err`, such as `nccheck: a.nc: cannot open`, and passes
+/// over a failure of `err`.
 #[tactic(auto, using(crate::proofs::InTurn::is_told))]
 fn check_and_tell<P: Opener, O: Sink, E: Sink>(
     opener: &mut P,
@@ -68,7 +70,8 @@ fn check_and_tell<P: Opener, O: Sink, E: Sink>(
     answer
 }
 
-/// Returns true if a run doesn't go on after this answer.
+/// Returns true if a run ends after a check with this answer: if an allocation or standard output failed. After any other fault it goes on
+/// with the next file.
 pub(crate) fn ends_run(answer: Result<Option<Severity>, FileFault>) -> bool
     ensures { result ≡ ends_run answer }
 {
@@ -78,7 +81,7 @@ pub(crate) fn ends_run(answer: Result<Option<Severity>, FileFault>) -> bool
     }
 }
 
-/// Returns true if a run doesn't go on after this fault.
+/// Returns true if a run ends after this fault (`OutOfMemory` or `WriteFailed`), instead of going on with the next file.
 fn is_fatal(fault: FileFault) -> bool
     ensures { result ≡ ends_run (Err fault) }
 {
@@ -90,8 +93,9 @@ fn is_fatal(fault: FileFault) -> bool
     }
 }
 
-/// Checks the file at this path, writes its lines as the options ask, and gives the file back to the opener. Returns how grave the gravest
-/// is that was reported, if anything was.
+/// Opens the file at the path `file`, checks it, writes the lines of its findings to `out` as the options ask, and closes it. Returns the
+/// gravest severity that was reported, or `None` if nothing was. Errs with `CannotOpen`, `ReadFailed` (the source failed) or `OutOfMemory`,
+/// before it has written anything, and with `WriteFailed` if `out` fails, after some prefix of the lines.
 fn check_file<P: Opener, O: Sink>(
     opener: &mut P,
     alloc: Global,
@@ -115,8 +119,9 @@ fn check_file<P: Opener, O: Sink>(
 /// The length of the buffer that a file is read through, in bytes.
 const BUFFER_LEN: usize = 4096;
 
-/// Checks the source's file through a buffer of 4096 bytes, and writes its lines as the options ask. Returns how grave the gravest
-/// is that was reported, if anything was.
+/// Checks the file that `source` reads, through a buffer of 4096 bytes, and writes the lines of its findings, which begin with the path
+/// `file`, to `out` as the options ask. Returns the gravest severity that was reported, or `None` if nothing was. Errs as [`check_file`]
+/// does once it has opened the file.
 fn check_source<S: Source, O: Sink>(
     source: &mut S,
     alloc: Global,
@@ -136,7 +141,8 @@ fn check_source<S: Source, O: Sink>(
     Ok(gravest(&report, &options.filter))
 }
 
-/// Writes the lines of a report, unless the options ask for none: then it doesn't err.
+/// Writes a line for each finding of the report that the options let be reported. Each begins with the path `file`. With `-q` it writes
+/// nothing, and doesn't err; otherwise it errs if `out` fails.
 #[tactic(auto, using(devices::proofs::Writes::writes))]
 fn put_unless_quiet<O: Sink>(
     out: &mut O,

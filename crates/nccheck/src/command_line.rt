@@ -40,7 +40,7 @@ pub fn command<'a>(alloc: Global) -> Result<Command<'a>, AllocError>
         .arg(files(alloc))
 }
 
-/// Returns the argument that takes the files, one a word.
+/// Returns the argument `file ...` of the command: it takes any number of words, each the path of a file, and isn't given to subcommands.
 fn files<'a>(alloc: Global) -> Arg<'a>
     ensures rule { rule_of result ≡ files_rule }
     ensures local { result.global ≡ false }
@@ -52,7 +52,7 @@ fn files<'a>(alloc: Global) -> Arg<'a>
 ///
 /// # Errors
 ///
-/// Those of [`options_of`], and [`OptFault::Usage`] for words that the command doesn't take.
+/// Those of [`options_of`], also if an allocation fails here, and [`OptFault::Usage`] for words that the command doesn't take.
 pub(crate) fn options_of_words<'a>(
     alloc: Global,
     words: &'a [&'a str],
@@ -63,13 +63,13 @@ pub(crate) fn options_of_words<'a>(
     options_of(alloc, &matches)
 }
 
-/// Returns the options that the matches of [`command`] ask for. [`CheckOptions`] says which field each option gives. Without `-l`, violations
-/// and errors are reported, and without `-i`, findings of all kinds.
+/// Returns the options that the matches of [`command`] ask for. [`CheckOptions`] says which field each option gives. Without `-l`,
+/// violations and errors are reported, and without `-i`, findings of all kinds.
 ///
 /// # Errors
 ///
-/// [`OptFault::Usage`] if no file is named and `-0` isn't given, if the value of `-l` isn't `error`, `violation` or `note`, or if a part of the
-/// value of `-i` between its commas isn't the word of a kind. [`OptFault::OutOfMemory`] only if an allocation failed.
+/// [`OptFault::Usage`] if no file is named and `-0` isn't given, if the value of `-l` isn't `error`, `violation` or `note`, or if a part of
+/// the value of `-i` between its commas isn't the word of a kind. [`OptFault::OutOfMemory`] only if an allocation failed.
 #[tactic(auto, unfolding(crate::specs::CommandLine::asked_in))]
 pub fn options_of<'a>(alloc: Global, matches: &ArgMatches<'a>) -> Result<CheckOptions<'a>, OptFault>
     ensures { AnswersBy asked_for (asked_in (rows_of (found_of matches.now))) result }
@@ -96,7 +96,8 @@ fn values_of<'a, 'b>(matches: &'b ArgMatches<'a>, id: &str) -> Option<&'b [&'a s
     matches.get_strs(id)
 }
 
-/// Returns the files that are given, or, if there is a list, no files in place of `None`.
+/// Returns `files`, the paths among the words. If there are none (`None`), returns no paths if `reads_paths_from_input` is true, since the
+/// paths are on standard input then, and otherwise `None`.
 fn files_in<'a, 'b>(
     reads_paths_from_input: bool,
     files: Option<&'b [&'a str]>,
@@ -110,8 +111,7 @@ fn files_in<'a, 'b>(
     }
 }
 
-/// Returns the level that `word`, the value of `-l`, asks for, or that of violations if there is no word. Returns `None` if the word is no
-/// level.
+/// Returns the level that `word`, the value of `-l`, asks for, or `Violation` if there is no `-l`. Returns `None` if the word is no level.
 fn level_in(word: Option<&str>) -> Option<Severity>
     ensures { result ≡ level_in (text_of word.entry) }
 {
@@ -121,7 +121,7 @@ fn level_in(word: Option<&str>) -> Option<Severity>
     }
 }
 
-/// Returns the level that `word` says, if it is one.
+/// Returns the severity that `word` names, `error`, `violation` or `note`, or `None` for any other word.
 fn level_of(word: &str) -> Option<Severity>
     ensures { result ≡ level_said word.now }
 {
@@ -136,8 +136,8 @@ fn level_of(word: &str) -> Option<Severity>
     }
 }
 
-/// Returns the words of kinds in `word`, the value of `-i`, or no words if there is no value. Returns `None` if one of them isn't the word of
-/// a kind. Errs only if an allocation failed.
+/// Returns the words of kinds in `word`, the value of `-i`, or no words if there is no value. Returns `None` if one of them isn't the word
+/// of a kind. Errs only if an allocation failed.
 fn ignored_in<'a>(
     alloc: Global,
     word: Option<&'a str>,
@@ -170,7 +170,7 @@ fn parts_of<'a>(alloc: Global, word: &'a str) -> Result<Sequence<&'a str>, Alloc
     Ok(Sequence::from_vec(word.split(',').collect(alloc)?))
 }
 
-/// Returns true if each of the words is that of a kind.
+/// Returns true if each of the words is the word of a kind of findings, such as `gap`.
 fn are_kinds(words: &[&str]) -> bool
     ensures { result ≡ list_all is_kind_word (texts_of words.now) }
 {

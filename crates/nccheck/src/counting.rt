@@ -22,8 +22,9 @@ use devices::{CountedRead, Opener, Sink};
 use std::alloc::Global;
 use std::io::Read;
 
-/// Checks the files of the options in turn, and then those of the list on `input` if the options ask for that, and counts them by what came
-/// of each. Returns `None` after a fault that ends the run.
+/// Checks the files that the options name, one after the other, and then, with `-0`, those whose paths `input` has. Writes what is found to
+/// `out`, and a line for each fault to `err` ([`check_item`]). Returns how many files there were, by what came of each, or `None` after a
+/// fault that ends the run: if an allocation or `out` failed.
 pub(crate) fn check_all<P: Opener, R: Read, O: Sink, E: Sink>(
     opener: &mut P,
     alloc: Global,
@@ -47,7 +48,8 @@ pub(crate) fn check_all<P: Opener, R: Read, O: Sink, E: Sink>(
     }
 }
 
-/// Checks the files of the options in turn, and counts them. Returns `None` after a fault that ends the run.
+/// Checks the files that the options name, one after the other ([`check_item`]), and counts them. Returns `None` after a fault that ends
+/// the run (an allocation or `out` failed).
 fn check_each<P: Opener, O: Sink, E: Sink>(
     opener: &mut P,
     alloc: Global,
@@ -71,7 +73,8 @@ fn check_each<P: Opener, O: Sink, E: Sink>(
     Some(tally)
 }
 
-/// Checks the file at this path as the options ask, and returns the tally with it, or `None` after a fault that ends the run.
+/// Checks the file at the path `file` ([`check_item`]), and returns `tally` with it, or `None` after a fault that ends the run (an
+/// allocation or `out` failed). Needs fewer than 2^128 - 1 files in `tally`.
 fn check_and_count<P: Opener, O: Sink, E: Sink>(
     opener: &mut P,
     alloc: Global,
@@ -109,8 +112,9 @@ struct PathList {
 /// The length of the buffer that the list is read through, in bytes.
 const BUFFER_LEN: usize = 4096;
 
-/// Checks the files of the list on `input`, each as soon as the end of its path was read, and counts them. Returns `None` after a fault that
-/// ends the run. A list of more bytes than a `u64` counts isn't read to its end.
+/// Checks the files whose paths `input` has, each ended by a NUL (the last one with or without), as soon as the path was read. Returns
+/// `tally` with them, or `None` after a fault that ends the run (an allocation or `out` failed). If `input` fails, or after 2^64 - 1 reads,
+/// it goes no further: it writes a line to `err`, and counts one more file as not checked. Needs fewer than 2^64 files in `tally`.
 fn check_list<P: Opener, R: Read, O: Sink, E: Sink>(
     opener: &mut P,
     alloc: Global,
@@ -143,7 +147,9 @@ fn check_list<P: Opener, R: Read, O: Sink, E: Sink>(
     Some(tell_unread(list.tally, err))
 }
 
-/// Checks the files of which these bytes of the list end the path, and counts them. Returns `None` after a fault that ends the run.
+/// Takes `bytes`, the next of the paths on standard input: appends them to the path that `list` has begun, and at each NUL checks the file
+/// at that path, counts it in `list`, and begins the next path. Returns `None` after a fault that ends the run (an allocation or `out`
+/// failed). Needs a tally that stays below 2^128 files even if each byte ends a path.
 fn check_paths_in<P: Opener, O: Sink, E: Sink>(
     opener: &mut P,
     alloc: Global,
@@ -175,7 +181,9 @@ fn check_paths_in<P: Opener, O: Sink, E: Sink>(
     Some(())
 }
 
-/// Checks the file whose path the list ends with, if there is one, and counts it. Returns `None` after a fault that ends the run.
+/// Checks the file at the path that `list` has begun, if there is one: standard input ended without a NUL after it. Returns the tally of
+/// `list` with it, or `None` after a fault that ends the run (an allocation or `out` failed). Needs fewer than 2^128 - 1 files in the
+/// tally.
 fn check_last<P: Opener, O: Sink, E: Sink>(
     opener: &mut P,
     alloc: Global,
@@ -200,7 +208,8 @@ fn check_last<P: Opener, O: Sink, E: Sink>(
     }
 }
 
-/// Writes the line for a list that can't be read on to standard error, and returns the tally with that.
+/// Writes `nccheck: -: read failed` to `err`, since standard input can't be read on, and passes over a failure of `err`. Returns `tally`
+/// with one more file that wasn't checked. Needs fewer than 2^128 - 1 files in `tally`.
 #[tactic(auto, using(crate::proofs::InTurn::is_told))]
 fn tell_unread<E: Sink>(tally: Tally, err: &mut E) -> Tally
     requires { total tally + 1 < 2 ^ 128 }

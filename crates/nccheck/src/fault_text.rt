@@ -9,7 +9,7 @@ use check_lines::put_file_path;
 use cli_base::OptFault;
 use devices::{Sink, WriteFailed, put};
 
-/// Writes the line that says why a file could not be checked: `nccheck: FILE: MESSAGE`.
+/// Writes the line that says why a file could not be checked: `nccheck: FILE: MESSAGE`. FILE is `file`, as [`put_file_path`] shows it.
 ///
 /// # Errors
 ///
@@ -29,7 +29,7 @@ pub(crate) fn put_file_fault<W: Sink>(
     put(sink, b"\n")
 }
 
-/// Returns the words for a fault of a file.
+/// Returns the words for a fault of a file, such as `cannot open`.
 #[tactic(auto, unfolding(crate::specs::Faults::fault_words))]
 fn fault_words(fault: FileFault) -> &'static str
     ensures { result.now ≡ fault_words fault }
@@ -42,7 +42,8 @@ fn fault_words(fault: FileFault) -> &'static str
     }
 }
 
-/// Writes the line for the line of `-s`, or a flush of standard output, that failed.
+/// Writes the line `nccheck: write failed`, which tells of standard output that failed apart from the lines of a file: in the line of `-s`,
+/// the text of `-V` or `-h`, or a flush.
 ///
 /// # Errors
 ///
@@ -69,7 +70,7 @@ pub fn put_command_line_fault<W: Sink>(sink: &mut W, fault: OptFault) -> Result<
     }
 }
 
-/// Returns the line that says how the program is used.
+/// Returns the line that says how the program is used, with its line feed.
 #[tactic(auto, unfolding(crate::specs::Faults::usage_line))]
 pub(crate) fn usage_line() -> &'static [u8]
     ensures { result.now ≡ usage_line }

@@ -17,7 +17,8 @@ pub(crate) enum Info {
     Help,
 }
 
-/// Returns what the first word asks for that is `-V` or `-h`, if there is one before `--`. The program's name is not looked at.
+/// Returns what the first `-V` or `-h` among the words asks for, or `None` if there is none before `--`. Doesn't look at the first word,
+/// which is the program's name.
 pub(crate) fn info_in(words: &[&str]) -> Option<Info>
     ensures { result ≡ info_in (texts_of words.now) }
 {
@@ -27,7 +28,7 @@ pub(crate) fn info_in(words: &[&str]) -> Option<Info>
     }
 }
 
-/// Returns what the first of these words asks for that is `-V` or `-h`, if there is one before `--`.
+/// Returns what the first `-V` or `-h` among the words asks for, or `None` if there is none before `--`. Looks at the first word too.
 fn info_among(words: &[&str]) -> Option<Info>
     ensures { result ≡ info_among (texts_of words.now) }
 {
@@ -45,7 +46,7 @@ fn info_among(words: &[&str]) -> Option<Info>
     None
 }
 
-/// Writes what the program tells of itself.
+/// Writes what `info` asks for: the version, or the usage and a line for each option.
 ///
 /// # Errors
 ///

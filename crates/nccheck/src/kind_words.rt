@@ -50,7 +50,7 @@ pub(crate) const KINDS: &[Kind] = &[
     Kind::Trailing,
 ];
 
-/// Returns true if the word is that of a kind. Each kind has one.
+/// Returns true if `word` is the word of a kind of findings, such as `gap`. The clause `all` says that it is so for the word of each kind.
 #[tactic(auto, unfolding(crate::specs::KindWords::is_kind_word))]
 pub(crate) fn is_kind_word(word: &str) -> bool
     ensures word { result ≡ is_kind_word word.now }

@@ -10,7 +10,7 @@ use std::str;
 /// A path as a list gives it, byte by byte: of one that is too long, one byte more than the longest path has.
 pub(crate) type ListedPath = ArrayVec<u8, 65_536>;
 
-/// Appends a byte to a path, unless the path is too long already.
+/// Appends a byte to a path, unless the path has more than [`LONGEST_PATH`] bytes already, and so can't be opened.
 #[tactic(auto, unfolding(crate::specs::PathLists::with_byte))]
 pub(crate) fn push_byte(path: &mut ListedPath, b: u8)
     ensures { path.new.items ≡ with_byte path.old.items b }
@@ -20,7 +20,7 @@ pub(crate) fn push_byte(path: &mut ListedPath, b: u8)
     }
 }
 
-/// Returns the path as text, if it can be opened: if it is UTF-8, and not too long.
+/// Returns the path as text, or `None` if it can't be opened since it isn't UTF-8, or has more than [`LONGEST_PATH`] bytes.
 #[tactic(auto, unfolding(crate::specs::PathLists::is_path))]
 pub(crate) fn path_of(file: &[u8]) -> Option<&str>
     ensures { MatchOption result (is_path file.now ≡ false)

@@ -22,11 +22,12 @@ use std::io::Read;
 /// Runs the program, and returns its exit status. `words` is the command line, with the program's name first; `opener` opens the files;
 /// `input` is standard input, `out` is standard output, and `err` is standard error.
 ///
-/// The status is 2 if the words are no command line, if a file can't be opened or read, if the list on standard input can't be read, if
-/// standard output fails, or if an allocation fails; a line on standard error says so. Otherwise it is 1 if something was reported of a file,
-/// and 0 if nothing was, or if the words ask for the version or for help. Files are checked in the order of the words, and then in that of
-/// the list, which is read only if the words ask for that. After a file that can't be opened or read the run goes on with the next one; a
-/// failure of standard output or of an allocation ends it. Standard output is flushed in any case. Standard error is not flushed.
+/// The status is 2 if the words are no command line (with no `-V` or `-h` before `--`), if a file can't be opened or read, if the list on
+/// standard input can't be read, if standard output fails, or if an allocation fails; a line on standard error says so. Otherwise it is 1
+/// if something was reported of a file, and 0 if nothing was, or if the words ask for the version or for help. Files are checked in the
+/// order of the words, and then in that of the list, which is read only if the words ask for that. After a file that can't be opened or
+/// read the run goes on with the next one; a failure of standard output or of an allocation ends it. Standard output is flushed in any
+/// case. Standard error is not flushed.
 #[tactic(auto, using(crate::proofs::InTurn::is_told))]
 pub fn run_with<P: Opener, R: Read, O: Flush, E: Sink>(
     opener: &mut P,
@@ -55,7 +56,7 @@ pub fn run_with<P: Opener, R: Read, O: Flush, E: Sink>(
     }
 }
 
-/// Does what the words ask for, and returns the status.
+/// Does what the words ask for: writes the version or the help, or checks files. Returns the exit status, from 0 to 2. Flushes nothing.
 #[tactic(auto, using(crate::proofs::InTurn::is_told))]
 fn run_words<P: Opener, R: Read, O: Sink, E: Sink>(
     opener: &mut P,
@@ -79,7 +80,7 @@ fn run_words<P: Opener, R: Read, O: Sink, E: Sink>(
     }
 }
 
-/// Writes what the program tells of itself, and returns the status.
+/// Writes the version or the help to `out`, and returns the exit status 0. If `out` fails, writes a line to `err`, and returns 2.
 #[tactic(auto, using(crate::proofs::InTurn::is_told))]
 fn inform<O: Sink, E: Sink>(info: Info, out: &mut O, err: &mut E) -> u8
     ensures writes { Writes (info_text info)
@@ -95,7 +96,8 @@ fn inform<O: Sink, E: Sink>(info: Info, out: &mut O, err: &mut E) -> u8
     }
 }
 
-/// Checks the files that the words name, and returns the status.
+/// Checks the files that the words name, and returns the exit status ([`check_files`]). If the words are wrong, or an allocation failed
+/// while they were read, writes a line to `err`, and returns 2.
 #[tactic(auto, using(crate::proofs::InTurn::is_told))]
 fn check_for_words<P: Opener, R: Read, O: Sink, E: Sink>(
     opener: &mut P,
@@ -122,7 +124,10 @@ fn check_for_words<P: Opener, R: Read, O: Sink, E: Sink>(
     }
 }
 
-/// Checks the files of the options, tells how many they were if the options ask for that, and returns the status.
+/// Checks the files of the options, with those whose paths `input` has if the options ask for that (`-0`), and returns the exit status:
+/// that of [`Tally::status`](crate::tally::Tally::status), or 2 if an allocation or `out` failed, which ends the run. If the options ask
+/// for it (`-s`), and the run wasn't ended so, writes a line that counts the files to `out`; if that fails, writes a line to `err`, and
+/// returns 2.
 fn check_files<P: Opener, R: Read, O: Sink, E: Sink>(
     opener: &mut P,
     alloc: Global,

@@ -46,7 +46,8 @@ impl Tally {
         }
     }
 
-    /// Returns the tally with one more file, of which the gravest that was reported is given, or why it wasn't checked.
+    /// Returns the tally with one more file. `answer` is the gravest severity that was reported of it, or `None` if nothing was, or the
+    /// fault for which it could not be checked. Needs fewer than 2^128 - 1 files in the tally.
     pub fn with(self, answer: Result<Option<Severity>, FileFault>) -> Tally
         requires { total self + 1 < 2 ^ 128 }
         ensures { result ≡ counted self answer }
@@ -62,7 +63,7 @@ impl Tally {
         tally
     }
 
-    /// Returns how many files were checked.
+    /// Returns how many files were checked, whatever was reported of them. Needs fewer than 2^128 files in the tally.
     fn checked(self) -> u128
         requires { total self < 2 ^ 128 }
         ensures { result ≡ checked self }
@@ -70,7 +71,8 @@ impl Tally {
         self.with_errors + self.with_violations + self.with_notes + self.with_nothing
     }
 
-    /// Returns the status of a run over these files.
+    /// Returns the exit status of a run over these files: 2 if one could not be checked, otherwise 1 if something was reported of one,
+    /// otherwise 0.
     pub fn status(self) -> u8
         ensures { result ≡ status_of self }
     {
@@ -84,7 +86,7 @@ impl Tally {
     }
 }
 
-/// What the last line counts.
+/// What a number in the line of `-s` counts.
 #[derive(Clone, Copy)]
 enum SummaryCount {
     /// Files that were checked.
@@ -101,7 +103,7 @@ enum SummaryCount {
     NotChecked,
 }
 
-/// Returns the words after a count.
+/// Returns the words after a number in the line of `-s`, such as ` with errors, `.
 #[tactic(auto, unfolding(crate::specs::Tallies::count_words))]
 fn count_words(count: SummaryCount) -> &'static str
     ensures { result.now ≡ count_words count }
@@ -116,7 +118,7 @@ fn count_words(count: SummaryCount) -> &'static str
     }
 }
 
-/// Writes the number `n` and the words that say what it counts, such as `3 with errors, `.
+/// Writes the number `n` and the words that say what it counts, such as `3 with errors, `. Errs if the sink fails.
 #[tactic(auto, using(devices::proofs::Writes::writes), unfolding(crate::specs::Tallies::count_text))]
 fn put_count<W: Sink>(sink: &mut W, n: u128, count: SummaryCount) -> Result<(), WriteFailed>
     ensures { Wrote W.view sink.old sink.new (count_text n count) result }
@@ -125,7 +127,8 @@ fn put_count<W: Sink>(sink: &mut W, n: u128, count: SummaryCount) -> Result<(), 
     put(sink, count_words(count).as_bytes())
 }
 
-/// Writes the line that says how many files were checked, and what was reported of them.
+/// Writes the line of `-s`, such as `3 checked: 1 with errors, 0 with violations, 0 with notes, 2 with nothing to report; 0 not checked`.
+/// Needs fewer than 2^128 files in the tally. Errs if the sink fails.
 #[tactic(auto, using(devices::proofs::Writes::writes), unfolding(crate::specs::Tallies::summary_line))]
 pub(crate) fn put_summary<W: Sink>(sink: &mut W, tally: Tally) -> Result<(), WriteFailed>
     requires { total tally < 2 ^ 128 }
@@ -136,7 +139,8 @@ pub(crate) fn put_summary<W: Sink>(sink: &mut W, tally: Tally) -> Result<(), Wri
     put_count(sink, tally.not_checked, SummaryCount::NotChecked)
 }
 
-/// Writes what was reported of the files that were checked.
+/// Writes a part of the line of `-s`: `1 with errors, 0 with violations, 2 with notes, 5 with nothing to report; ` of the checked files.
+/// Errs if the sink fails.
 #[tactic(auto, using(devices::proofs::Writes::writes), unfolding(crate::specs::Tallies::reported_text))]
 fn put_reported<W: Sink>(sink: &mut W, tally: Tally) -> Result<(), WriteFailed>
     ensures { Wrote W.view sink.old sink.new (reported_text tally) result }

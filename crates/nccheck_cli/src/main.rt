@@ -16,8 +16,8 @@ use std::process::ExitCode;
 use std::rt::{Env, Files};
 use std::{env, io};
 
-/// The capacity, in bytes, of the buffers before standard output and standard error. A line that fits is passed on in one write, at its end:
-/// a pipe takes as many bytes in one piece, so that lines of several processes don't mix in it.
+/// The capacity, in bytes, of the buffers before standard output and standard error. A line that fits is passed on in one write, at its
+/// end: a pipe takes as many bytes in one piece, so that lines of several processes don't mix in it.
 const LINE_HELD_BACK: usize = 4096;
 
 /// A writer that passes each line on in one write, if it fits in the buffer. (A `write` of the buffer itself passes on first what it holds,
@@ -29,13 +29,14 @@ struct WholeLines<W: Write + Drop> {
 }
 
 impl<W: Write + Drop> Write for WholeLines<W> {
-    /// Takes all the bytes, and passes on what they and those that are held back have up to the last line's end.
+    /// Takes all the bytes. Passes on what it has up to the end of the last line, and holds the rest back if it fits in the buffer. Errs if
+    /// the writer behind it fails.
     fn write(&mut self, buf: &[u8]) -> io::Result<usize> {
         self.lines.write_all(buf)?;
         Ok(buf.len())
     }
 
-    /// Passes on what is held back.
+    /// Passes on what is held back. Errs if the writer behind it fails.
     fn flush(&mut self) -> io::Result<()> {
         self.lines.flush()
     }
@@ -44,7 +45,7 @@ impl<W: Write + Drop> Write for WholeLines<W> {
 /// The exit status after trouble.
 const TROUBLE: u8 = 2;
 
-/// Runs the program, and returns its exit status.
+/// Runs the program, and returns its exit status: 0, 1 or 2.
 fn main(rt: HostRuntime) -> ExitCode {
     match run_words(&rt, rt.stderr()) {
         Ok(status) => ExitCode::from(status),

@@ -15,19 +15,22 @@ ghost use Rattle.nccheck_laws.specs.ReportLaws.{WholeFilesHoldDatasets, Generate
 ghost use Rattle.nccheck_laws.specs.ReportLaws.{GeneratedFilesHaveQuietLayouts, GeneratedFilesHaveQuietSpellings};
 ghost use Rattle.nccheck_laws.specs.OneReport.{EachFileHasReport, ReportsAreOne};
 
-/// States two laws, and does nothing. `begins`: if nothing is found at the begins of variables and blocks, then each variable begins right
-/// after the header and the padded slabs that come before its own: first those of the variables that aren't record variables, in header
-/// order, and then those of the first record.
+/// States two laws of the findings of `nc_layout`, and does nothing. The values of a variable that isn't a record variable are a block, and
+/// so are all records together. `begins`: if nothing is found at the begins of variables and blocks, then each variable begins right after
+/// the header and the padded slabs that come before its own: first those of the variables that aren't record variables, in header order,
+/// and then those of the first record.
 ///
-/// `length`: if nothing is found at the end of the file either, then the file ends after the last of its padded slabs. So no other rule on
-/// begins or on the length is needed. Needs a sound layout ([`FileLayout::is_sound`](nc_layout::FileLayout::is_sound)).
+/// `length`: if nothing is found at the end of the file either, and the layout is sound
+/// ([`FileLayout::is_sound`](nc_layout::FileLayout::is_sound)), then the file ends after the last of its padded slabs. (Those of a sole
+/// record variable whose values have less than four bytes each have no padding.) So no other rule on begins or on the length is needed.
 pub fn quiet_layouts_are_canonical()
     ensures begins { QuietBeginsAreCanonical }
     ensures length { QuietLengthIsCanonical }
 {}
 
-/// States two laws of sound layouts, and does nothing: the converses of [`quiet_layouts_are_canonical`]. `begins`: if each variable
-/// begins right after the header and the padded slabs that come before its own, then nothing is found at the begins of variables and blocks.
+/// States two laws of sound layouts ([`FileLayout::is_sound`](nc_layout::FileLayout::is_sound)), and does nothing: the converses of
+/// [`quiet_layouts_are_canonical`]. `begins`: if each variable begins right after the header and the padded slabs that come before its own,
+/// then nothing is found at the begins of variables and blocks.
 ///
 /// `length`: if the file also ends after the last of its padded slabs, then nothing is found at its end.
 pub fn canonical_layouts_are_quiet()
@@ -35,37 +38,39 @@ pub fn canonical_layouts_are_quiet()
     ensures length { CanonicalLengthIsQuiet }
 {}
 
-/// States a law, and does nothing: if no variable begins inside of the header, no block begins before the values of an earlier one end, and
-/// each record variable has its place in the record, then no byte lies in two slabs, nor in a slab and the header.
+/// States a law, and does nothing: if no finding is of three kinds (a variable begins inside of the header; a block, which is the values of
+/// a variable that isn't a record variable, or all records, begins before the values of an earlier one end; a record variable is out of its
+/// place in the record), then no byte lies in two slabs, nor in a slab and the header.
 pub fn quiet_slabs_are_apart()
     ensures { QuietSlabsAreApart }
 {}
 
-/// States a law, and does nothing: if the file ends before the values do, then some slab isn't whole. So the finding that values are missing
-/// is there exactly if the file ends before the values do.
+/// States a law of sound layouts ([`FileLayout::is_sound`](nc_layout::FileLayout::is_sound)), and does nothing: if the file ends before the
+/// values do, then some slab isn't whole. So the finding that values are missing is there exactly if the file ends before the values do.
 pub fn missing_values_have_slab()
     ensures { MissingValuesHaveSlab }
 {}
 
-/// States a law, and does nothing: a header that the bytes of a file spell, by whatever rules on names, types and values, has a sound layout
-/// ([`FileLayout::is_sound`](nc_layout::FileLayout::is_sound)).
+/// States a law, and does nothing: a header that the bytes of a file spell, by whatever rules on names, types and values, has a sound
+/// layout ([`FileLayout::is_sound`](nc_layout::FileLayout::is_sound)).
 pub fn spelled_headers_have_sound_layouts()
     ensures { SpelledHeadersHaveSoundLayouts }
 {}
 
-/// States two laws of files whose header ends where it does as it is written, and does nothing. `begins`: if each variable begins right after
-/// the header and the padded slabs that come before its own, then these are the begins of a generated file.
+/// States two laws of files whose header ends where it does as it is written, and does nothing. `begins`: if each variable begins right
+/// after the header and the padded slabs that come before its own, then these are the begins of a generated file.
 ///
-/// `files`: if the number of records is known, and nothing is found at begins and at the end of the file, then the file has the header and
-/// the length of the file that is generated from its header without begins. Needs a sound layout.
+/// `files`: if the layout is sound ([`FileLayout::is_sound`](nc_layout::FileLayout::is_sound)), the number of records is known, and nothing
+/// is found at begins and at the end of the file, then the file has the header and the length of the file that is generated from its header
+/// without begins.
 pub fn quiet_files_are_as_generated()
     ensures begins { CanonicalBeginsAreGenerated }
     ensures files { QuietFilesAreGenerated }
 {}
 
 /// States a law, and does nothing: the converse of `files` in [`quiet_files_are_as_generated`]. If a file's header has the begins of a
-/// generated one, and ends where it does as it is written, and the file has the length of the generated one, then nothing is found at begins
-/// and at the end of the file. Needs a sound layout, and a known number of records.
+/// generated one, and ends where it does as it is written, and the file has the length of the generated one, then nothing is found at
+/// begins and at the end of the file. The layout has to be sound, and the number of records known.
 pub fn generated_layouts_are_quiet()
     ensures { GeneratedFilesAreQuiet }
 {}
@@ -83,16 +88,16 @@ pub fn missing_values_stop_dumps()
 {}
 
 /// States four laws, and does nothing. They compare the rules by which `nc_file` reads a header, the strict ones, with those by which
-/// [`list_fields`](nc_fields::list_fields) lists its fields, which take floating types, odd names and large lengths, and keep no values. `lenient`: if
-/// bytes spell a header by the strict rules, they spell it by the others, too, but for the values, and no field is refused.
+/// [`list_fields`](nc_fields::list_fields) lists its fields, which take floating types, odd names and large lengths, and keep no values.
+/// `lenient`: if bytes spell a header by the strict rules, they spell it by the others, too, but for the values, and no field is refused.
 ///
 /// `strict`: if bytes spell a header by the other rules, and no field is refused, they spell it by the strict ones, with some values.
 ///
 /// `spelled`: if no field is refused, the bytes spell a header by the strict rules.
 ///
 /// `faults`: strict reading stops with a fault exactly if the first field that is refused is refused with it, and it stops right after this
-/// field. A field is refused if it is wrong, if it is a name that isn't valid or the code of a floating type, or if it is, in CDF-1 or CDF-2, a
-/// dimension's length or a number of records of 2^31 or more.
+/// field. A field is refused if it is wrong, if it is a name that isn't valid or the code of a floating type, or if it is, in CDF-1 or
+/// CDF-2, a dimension's length or a number of records of 2^31 or more (but not `STREAMING`).
 pub fn strict_rules_refuse_fields()
     ensures lenient { StrictHeadersAreLenient }
     ensures strict { LenientHeadersAreStrict }
@@ -101,8 +106,8 @@ pub fn strict_rules_refuse_fields()
 {}
 
 /// States two laws, and does nothing. `canonical`: if the fields of a header show what is written, then its bytes are the one spelling in
-/// which the header is written. A field shows it unless it is padding that isn't zeros, the tag of a list that has no elements, other than
-/// 0, or a vsize that isn't that of its variable.
+/// which the header is written. Each field shows it but for three kinds: padding that isn't zeros, a tag other than 0 of a list without
+/// elements, and a vsize that isn't the one that is written for its variable.
 ///
 /// `written`: if the bytes of a header are the one spelling in which it is written, then its fields show what is written.
 pub fn written_fields_are_canonical()
@@ -120,7 +125,8 @@ pub fn one_report()
 {}
 
 /// States two laws, and does nothing. `faultless`: no finding of a report is a fault ([`Fact::Fault`](nc_report::Fact::Fault), or a
-/// [`Fact`](nc_report::Fact) at which `nc_file` stops all the same, as it does at `NameCharacters`) exactly if `nc_file::read_header` can read the header.
+/// [`Fact`](nc_report::Fact) at which `nc_file` stops all the same, as it does at `NameCharacters`) exactly if `nc_file::read_header` can
+/// read the header.
 ///
 /// `first`: if reading the header stops with a fault, then a finding of the report is this fault, no finding at a lesser offset is a fault,
 /// and the field that it lies at ends where reading stops.
@@ -131,13 +137,13 @@ pub fn first_fault_is_the_readers()
 
 /// States a law, and does nothing: if `nc_file::read_header` can read the header of a file, then a finding of its report is that values are
 /// missing ([`LayoutFact::Missing`](nc_layout::LayoutFact::Missing)) exactly if some variable has a first missing value, at which `ncdump`
-/// stops. So, by `faultless` above, no finding is a fault or of missing values exactly if every value of the file can be read.
+/// stops. So, by [`first_fault_is_the_readers`], no finding is a fault or of missing values exactly if every value of the file can be read.
 pub fn reports_tell_missing_values()
     ensures { ReportsTellMissingValues }
 {}
 
-/// States four laws of the report of a file, and does nothing. `spelling`: if the file begins with a header that `nc_file::read_header`
-/// can read, and the report has no padding that isn't zeros, no list that has its own tag without elements, and no wrong size of a
+/// States four laws of the report of a file, and does nothing. `spelling`: if the file begins with a header that `nc_file::read_header` can
+/// read, and the report finds no padding that isn't zeros, no list that has its own tag without elements, and no wrong `vsize` of a
 /// variable, then the file begins with the one spelling in which this header is written.
 ///
 /// `quiet`: if the file begins with the one spelling of the header that is read, then the report has no finding of these kinds.
@@ -155,15 +161,14 @@ pub fn quiet_headers_are_canonical()
 {}
 
 /// States three laws of the report of a file, and does nothing. They hold whatever the types of the variables are, floating types included.
-///
 /// `missing`: if the header is listed to its end, then a finding is that values are missing exactly if some value that the header declares
 /// isn't in the file.
 ///
-/// `apart`: if, then, no variable begins inside of the header, no block begins before the values of an earlier one end, and no record variable
-/// is out of its place in the record, then no value shares a byte with another one or with the header.
+/// `apart`: if the header is listed to its end, and no finding is of the three kinds that [`quiet_slabs_are_apart`] names, such as that a
+/// variable begins inside of the header, then no value shares a byte with another one or with the header.
 ///
-/// `values`: so if no finding is an error ([`Severity::Error`](nc_report::Severity::Error)), the header is listed to its end, each value that it
-/// declares is in the file, and none shares a byte with another one or with the header.
+/// `values`: so if no finding is an error ([`Severity::Error`](nc_report::Severity::Error)), the header is listed to its end, each value
+/// that it declares is in the file, and none shares a byte with another one or with the header.
 pub fn reports_without_errors_have_values()
     ensures missing { ListedHeadersTellMissingValues }
     ensures apart { ListedHeadersHaveSlabsApart }
@@ -180,9 +185,9 @@ pub fn whole_files_hold_datasets()
 {}
 
 /// States two laws of the report of a file that `ncgen` writes, and does nothing. `layouts`: it has no finding at the begins of variables
-/// and blocks, and none at the end of the file.
+/// and blocks (the values of a variable that isn't a record variable, or all records), and none at the end of the file.
 ///
-/// `spellings`: it has no padding that isn't zeros, no list that has its own tag without elements, and no wrong size of a variable.
+/// `spellings`: it finds no padding that isn't zeros, no list that has its own tag without elements, and no wrong `vsize` of a variable.
 pub fn generated_files_are_quiet()
     ensures layouts { GeneratedFilesHaveQuietLayouts }
     ensures spellings { GeneratedFilesHaveQuietSpellings }

@@ -43,7 +43,7 @@ pub fn command<'a>(alloc: Global) -> Result<Command<'a>, AllocError>
 ///
 /// # Errors
 ///
-/// Those of [`options_of`], and [`OptFault::Usage`] for words that the command doesn't take.
+/// Those of [`options_of`], also if an allocation fails here, and [`OptFault::Usage`] for words that the command doesn't take.
 pub(crate) fn options_of_words(alloc: Global, words: &[&str]) -> Result<DumpOptions, OptFault>
     ensures { AnswersBy asked_for (asked_by (texts_of words.now)) result }
 {
@@ -134,7 +134,8 @@ fn dataset_name(alloc: Global, word: Option<&str>, path: &str) -> Result<Sequenc
     copy_bytes(alloc, word.unwrap_or(stem(path)))
 }
 
-/// Returns the names in `word`, the value of `-v`, or `None`, which allows all, if there is no word. Errs only if an allocation failed.
+/// Returns the names in `word`, the value of `-v`. If there is no `-v`, returns `None`, which allows all names. Errs only if an allocation
+/// failed.
 fn names_if_given(
     alloc: Global,
     word: Option<&str>,

@@ -22,7 +22,7 @@ const OF_NAMES: &str = " of -v";
 
 const VARIABLE: &str = "variable ";
 
-/// Writes the line that says why a run failed.
+/// Writes the line that says why a run failed: a fault of the command line, of the file or of the last flush.
 ///
 /// # Errors
 ///
@@ -53,7 +53,7 @@ pub fn put_command_line_fault<W: Sink>(sink: &mut W, fault: OptFault) -> Result<
     }
 }
 
-/// Returns the line for a flush of standard output that failed.
+/// Returns the line for a flush of standard output that failed: `ncdump: write failed`, and a line feed.
 #[tactic(auto, unfolding(crate::specs::Faults::flush_fault_line))]
 fn flush_fault_line() -> &'static [u8]
     ensures { result.now ≡ flush_fault_line }
@@ -61,7 +61,7 @@ fn flush_fault_line() -> &'static [u8]
     b"ncdump: write failed\n"
 }
 
-/// Returns the line that says how the program is used.
+/// Returns the line that says how the program is used, with its line feed.
 #[tactic(auto, unfolding(crate::specs::Faults::usage_line))]
 fn usage_line() -> &'static [u8]
     ensures { result.now ≡ usage_line }
@@ -69,7 +69,8 @@ fn usage_line() -> &'static [u8]
     b"usage: ncdump [-h] [-c] [-v names] [-n name] [-l width] file\n"
 }
 
-/// Writes the line that says why the file at this path could not be opened (`ncdump: PATH: cannot open`) or dumped ([`fault_line`]).
+/// Writes the line that says why a file could not be opened (`ncdump: PATH: cannot open`) or dumped ([`fault_line`]). Errs if the sink
+/// fails.
 #[tactic(auto, unfolding(crate::specs::Faults::file_line))]
 fn put_file_fault<W: Sink>(sink: &mut W, path: &[u8], fault: FileFault) -> Result<(), WriteFailed>
     ensures { Wrote W.view sink.old sink.new (file_line path.now fault) result }
@@ -80,7 +81,7 @@ fn put_file_fault<W: Sink>(sink: &mut W, path: &[u8], fault: FileFault) -> Resul
     }
 }
 
-/// Writes the line for a path that can't be opened.
+/// Writes the line for a path that can't be opened: `ncdump: PATH: cannot open`, and a line feed. Errs if the sink fails.
 #[tactic(auto, using(devices::proofs::Writes::writes), unfolding(crate::specs::Faults::cannot_open_line))]
 fn put_cannot_open<W: Sink>(sink: &mut W, path: &[u8]) -> Result<(), WriteFailed>
     ensures { Wrote W.view sink.old sink.new (cannot_open_line path.now) result }
@@ -115,7 +116,7 @@ pub fn fault_line<W: Sink>(sink: &mut W, file: &[u8], fault: &DumpFault) -> Resu
     put(sink, b"\n")
 }
 
-/// Writes the message of a fault: what its line has between `ncdump: FILE: ` and the line feed.
+/// Writes the message of a fault: what is between `ncdump: FILE: ` and the line feed, such as `read failed`. Errs if the sink fails.
 #[tactic(auto, unfolding(crate::specs::Faults::fault_text))]
 fn put_message<W: Sink>(sink: &mut W, fault: &DumpFault) -> Result<(), WriteFailed>
     ensures { Wrote W.view sink.old sink.new (fault_text fault.now) result }
@@ -130,7 +131,8 @@ fn put_message<W: Sink>(sink: &mut W, fault: &DumpFault) -> Result<(), WriteFail
     }
 }
 
-/// Writes the message for a chosen name (`-v`) that no variable has. `index` is its index among the chosen names, counted from 0.
+/// Writes the message for a chosen name that no variable has, such as `no such variable: item 2 of -v`. `index` is the index of the name
+/// among those that `-v` gives, from 0. Errs if the sink fails.
 #[tactic(auto, using(devices::proofs::Writes::writes), unfolding(crate::specs::Faults::fault_text))]
 fn put_unknown_name<W: Sink>(sink: &mut W, index: usize) -> Result<(), WriteFailed>
     ensures { Wrote W.view sink.old sink.new (fault_text (NoSuchVariable index)) result }
@@ -140,7 +142,8 @@ fn put_unknown_name<W: Sink>(sink: &mut W, index: usize) -> Result<(), WriteFail
     put(sink, OF_NAMES.as_bytes())
 }
 
-/// Writes the message for data that isn't all in the file: the first missing value is number `value` of variable `var`, both from 0 on.
+/// Writes the message for a missing value, such as `variable 1: data truncated at value 9`. `var` is the index of the variable in the
+/// header, and `value` the number of its first value that isn't in the file, both from 0. Errs if the sink fails.
 #[tactic(auto, using(devices::proofs::Writes::writes), unfolding(crate::specs::Faults::fault_text))]
 fn put_missing_value<W: Sink>(sink: &mut W, var: usize, value: u128) -> Result<(), WriteFailed>
     ensures { Wrote W.view sink.old sink.new (fault_text (DataTruncated var value)) result }
@@ -151,7 +154,8 @@ fn put_missing_value<W: Sink>(sink: &mut W, var: usize, value: u128) -> Result<(
     put_decimal(sink, value)
 }
 
-/// Writes the message for a wrong field of a header.
+/// Writes the message for the first wrong field of a header: the words of `fault`, and, for an unknown version, the version byte in
+/// decimal. Errs if the sink fails.
 #[tactic(auto, using(devices::proofs::Writes::writes), unfolding(crate::specs::Faults::format_text))]
 fn put_format_fault<W: Sink>(sink: &mut W, fault: FormatFault) -> Result<(), WriteFailed>
     ensures { Wrote W.view sink.old sink.new (format_text fault) result }
@@ -163,7 +167,7 @@ fn put_format_fault<W: Sink>(sink: &mut W, fault: FormatFault) -> Result<(), Wri
     }
 }
 
-/// Returns the words that stand before the index in the message for a chosen name that no variable has.
+/// Returns `no such variable: item `, which stands before the index in the message for a chosen name that no variable has.
 #[tactic(auto, unfolding(crate::specs::Faults::item_words))]
 fn item_words() -> &'static str
     ensures { result.now ≡ item_words }
@@ -171,7 +175,7 @@ fn item_words() -> &'static str
     "no such variable: item "
 }
 
-/// Returns the words between the index of the variable and the number of its first missing value, in the message for missing data.
+/// Returns `: data truncated at value `, which stands between the two numbers of the message for a missing value.
 #[tactic(auto, unfolding(crate::specs::Faults::truncated_words))]
 fn truncated_words() -> &'static str
     ensures { result.now ≡ truncated_words }
@@ -179,7 +183,7 @@ fn truncated_words() -> &'static str
     ": data truncated at value "
 }
 
-/// Returns the words that each line on standard error begins with, except for the usage line.
+/// Returns `ncdump: `, with which each line on standard error begins, except for the usage line.
 #[tactic(auto, unfolding(crate::specs::Faults::program_words))]
 fn program_words() -> &'static [u8]
     ensures { result.now ≡ program_words }
@@ -188,7 +192,7 @@ fn program_words() -> &'static [u8]
 }
 
 impl fmt::Display for DumpFault {
-    /// Writes the message that [`fault_line`] has for the fault.
+    /// Writes the message that [`fault_line`] has for the fault. Errs if `f` does.
     fn fmt<W: fmt::Write>(&self, f: &mut fmt::Formatter<W>) -> fmt::Result {
         match self {
             DumpFault::OutOfMemory => f.write_str(OUT_OF_MEMORY),

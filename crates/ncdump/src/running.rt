@@ -21,10 +21,10 @@ use std::alloc::Global;
 /// Runs the program, and returns its exit status. `words` is the command line, with the program's name first; `opener` opens the file;
 /// `out` is standard output, and `err` is standard error.
 ///
-/// The status is 0 if the dump that the words ask for was written to standard output, and standard output was flushed. Otherwise the
-/// status is 1, and a line on standard error names the first failure: of the command line, of opening the file, of its dump, or of the
-/// flush. If standard error fails, the status stays 1. Standard output is flushed before the line is written. Standard error is not
-/// flushed.
+/// The status is 0 if the dump that the words ask for was written to standard output, and standard output was flushed. Otherwise the status
+/// is 1, and a line on standard error names the first failure: of the command line, of opening the file, of its dump, or of the flush. If
+/// standard error fails, the status stays 1. Standard output is flushed before the line is written, but no clause has this order. Standard
+/// error is not flushed.
 pub fn run_with<P: Opener, O: Flush, E: Sink>(
     opener: &mut P,
     alloc: Global,
@@ -50,8 +50,8 @@ pub fn run_with<P: Opener, O: Flush, E: Sink>(
     }
 }
 
-/// Writes the dump that the words ask for, and then flushes `out`, also if the dump failed. Errs with the failure of the dump,
-/// otherwise with `Flush` if the flush failed.
+/// Writes the dump that the words ask for, and then flushes `out`, also if the dump failed. Errs with the failure of the dump
+/// ([`dump_for_words`]), otherwise with `Flush` if the flush failed.
 fn dump_and_flush<P: Opener, O: Flush>(
     opener: &mut P,
     alloc: Global,

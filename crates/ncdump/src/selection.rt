@@ -64,7 +64,7 @@ fn dim_names<'a>(
     Ok(Some(dims))
 }
 
-/// Returns `names` as a set, if each of them is the name of a variable. Errs with `NoSuchVariable` and the index, counted from 0, of the
+/// Returns `names` as a set, if each of them is the name of one of `vars`. Errs with `NoSuchVariable` and the index, counted from 0, of the
 /// first name that no variable has, and with `OutOfMemory` if an allocation failed.
 fn checked_names<'a>(
     alloc: Global,
@@ -89,8 +89,8 @@ fn first_unknown(known: &NameSet<'_>, names: &[Sequence<u8>]) -> Option<usize>
         .position(|name| !known.contains(name.as_slice()))
 }
 
-/// Returns a `bool` for each variable: true if both sets have its name. `chosen` has the names of `-v`, and `dims` those of the dimensions,
-/// for `-c`. `None` counts as a set that has every name. Errs only if an allocation failed.
+/// Returns a `bool` for each variable: true if its name is in `chosen`, the names of `-v`, and in `dims`, the names of the dimensions, for
+/// `-c`. `None` counts as a set that has every name. Errs only if an allocation failed.
 fn selection_in_both(
     alloc: Global,
     vars: &[Var],
@@ -108,7 +108,7 @@ fn selection_in_both(
     Ok(selection)
 }
 
-/// Returns true if the set has the variable's name, or if there is no set.
+/// Returns true if the set has the variable's name, and also if there is no set (`None`).
 fn has_name_of(set: &Option<NameSet<'_>>, var: &Var) -> bool
     ensures { result ≡ holds_if set.now var.now.name }
 {

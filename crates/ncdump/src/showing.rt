@@ -76,8 +76,9 @@ fn data_word(options: &DumpOptions, header: &Header) -> &'static [u8]
 }
 
 /// Writes the values, if any, of each variable whose item of `selection` is true; a variable without an item isn't written. Reads them
-/// through `buf`. `layout` has the number of records and the record size. Breaks lines of numbers at `width` bytes. Errs with `ReadFailed`
-/// or `WriteFailed` if the source or the sink failed, and with `DataTruncated` at the first of these values that isn't in the file.
+/// through `buf`, and breaks lines of numbers at `width` bytes. `layout` has the number of records and the record size. Needs a sound
+/// header with this record size, no more items than variables, and a `buf` of at least 16 bytes. Errs with `ReadFailed` or `WriteFailed` if
+/// the source or the sink failed, and with `DataTruncated` at the first of these values that isn't in the file.
 fn show_selected<S: Source, W: Sink>(
     source: &mut S,
     header: &Header,
@@ -108,8 +109,8 @@ fn show_selected<S: Source, W: Sink>(
     Ok(())
 }
 
-/// Returns true if `is_selected`, and the variable at index `v` has a value in a file of `count` records. It looks for a slab instead: in a
-/// sound header (`IsSound`) a slab has a value, since only the first dimension of a shape may have length 0.
+/// Returns true if `is_selected`, and the variable at index `v` has a value in a file of `count` records. Needs a sound header with this
+/// variable: only the first dimension of a shape may have length 0 then, so it is enough to look for a slab ([`has_slabs`]).
 fn is_shown(header: &Header, v: usize, count: u64, is_selected: bool) -> bool
     requires sound { IsSound header.now }
     requires there { v < length header.now.vars }
@@ -118,7 +119,8 @@ fn is_shown(header: &Header, v: usize, count: u64, is_selected: bool) -> bool
     is_selected && has_slabs(header, v, count)
 }
 
-/// Returns true if the variable at index `v` has a slab in a file of `count` records. Only a record variable over 0 records has none.
+/// Returns true if the variable at index `v` has a slab (its values in one record, or all values if it isn't a record variable) in a file
+/// of `count` records. Only a record variable over 0 records has none. Needs a header with this variable.
 fn has_slabs(header: &Header, v: usize, count: u64) -> bool
     requires { v < length header.now.vars }
     ensures { SaysHasSlabs header.now v count result }
@@ -127,9 +129,9 @@ fn has_slabs(header: &Header, v: usize, count: u64) -> bool
 }
 
 /// Writes the variable at index `v`: what stands before its values, the values as they are read through `buf`, and what stands after them.
-/// Numbers are gathered in `text`, which may hold anything. `layout` has the number of records and the record size. Breaks lines of numbers
-/// at `width` bytes. Errs with `ReadFailed` or `WriteFailed` if the source or the sink failed, and with `DataTruncated` at the first value
-/// that isn't in the file.
+/// Breaks lines of numbers at `width` bytes, and gathers them in `text`, which may hold anything. `layout` has the number of records and
+/// the record size. Needs a sound header with this variable and record size, and a `buf` of at least 16 bytes. Errs with `ReadFailed` or
+/// `WriteFailed` if the source or the sink failed, and with `DataTruncated` at the first value that isn't in the file.
 fn show_variable<S: Source, W: Sink>(
     source: &mut S,
     header: &Header,

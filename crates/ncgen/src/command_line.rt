@@ -38,7 +38,7 @@ pub fn command<'a>(alloc: Global) -> Result<Command<'a>, AllocError>
 ///
 /// # Errors
 ///
-/// Those of [`options_of`], and [`OptFault::Usage`] for words that the command doesn't take.
+/// Those of [`options_of`], also if an allocation fails here, and [`OptFault::Usage`] for words that the command doesn't take.
 pub(crate) fn options_of_words(alloc: Global, words: &[&str]) -> Result<GenOptions, OptFault>
     ensures { AnswersBy asked_for (asked_by (texts_of words.now)) result }
 {
@@ -82,7 +82,7 @@ fn is_unnamed(is_binary: bool, output: Option<&str>, file: Option<&str>) -> bool
 }
 
 /// Returns the path of the output: `output`, the value of `-o`, if that is given; otherwise, if `-b` is given (`is_binary`), the name that
-/// [`output_name`] makes of `file`, the text's path. Returns `None` if there is no such path. Errs only if an allocation failed.
+/// [`output_name`] makes of `file`, the text's path. Returns `None` if neither gives a path. Errs only if an allocation failed.
 fn output_in(
     alloc: Global,
     is_binary: bool,

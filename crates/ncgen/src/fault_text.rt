@@ -17,7 +17,7 @@ const OFFSET_TOO_LARGE: &str = "offset too large";
 
 const WRITE_FAILED: &str = "write failed";
 
-/// Writes the line that says why a run failed.
+/// Writes the line that says why a run failed: a fault of the command line, of the text or of the output.
 ///
 /// # Errors
 ///
@@ -52,7 +52,7 @@ pub fn put_command_line_fault<W: Sink>(sink: &mut W, fault: OptFault) -> Result<
     }
 }
 
-/// Returns the line that says how the program is used.
+/// Returns the line that says how the program is used, with its line feed.
 fn usage_line() -> &'static [u8]
     ensures { result.now ≡ codes "usage: ncgen [-b] [-o file] [-k kind] [file]\n" }
 {
@@ -70,7 +70,7 @@ fn text_name(path: &Option<String>) -> &[u8]
     }
 }
 
-/// Writes the line that says why no file was made of a text. `name` is the text's path, or `-` for standard input.
+/// Writes the line that says why no file was made of a text. `name` is the text's path, or `-` for standard input. Errs if the sink fails.
 #[tactic(auto, unfolding(crate::specs::Faults::input_words))]
 fn put_input_fault<W: Sink>(
     sink: &mut W,
@@ -86,7 +86,7 @@ fn put_input_fault<W: Sink>(
     }
 }
 
-/// Writes the line `ncgen: FILE: MESSAGE` for the path `file` and the message `text`.
+/// Writes the line `ncgen: FILE: MESSAGE`, with its line feed, for the path `file` and the message `text`. Errs if the sink fails.
 #[tactic(auto, using(devices::proofs::Writes::writes), unfolding(crate::specs::Faults::fault_line))]
 fn put_line<W: Sink>(sink: &mut W, file: &[u8], text: &[u8]) -> Result<(), WriteFailed>
     ensures { Wrote W.view sink.old sink.new (fault_line file.now text.now) result }
@@ -116,7 +116,7 @@ pub fn fault_line<W: Sink>(sink: &mut W, file: &[u8], fault: &GenFault) -> Resul
 }
 
 /// Writes the message of a fault: what its line has between `ncgen: FILE: ` and the line feed. For a fault of the CDL text itself, the
-/// message begins with `line N: `.
+/// message begins with `line N: `. Errs if the sink fails.
 #[tactic(auto, unfolding(crate::specs::Faults::fault_text))]
 fn put_message<W: Sink>(sink: &mut W, fault: &GenFault) -> Result<(), WriteFailed>
     ensures { Wrote W.view sink.old sink.new (fault_text fault.now) result }
@@ -128,7 +128,7 @@ fn put_message<W: Sink>(sink: &mut W, fault: &GenFault) -> Result<(), WriteFaile
     }
 }
 
-/// Writes the message of a fault of a CDL text: `line N: ` and the words for its kind, or for `OutOfMemory` the words alone.
+/// Writes the message of a fault of a CDL text: `line N: ` (not for `OutOfMemory`) and the words for its kind. Errs if the sink fails.
 #[tactic(auto, using(devices::proofs::Writes::writes), unfolding(crate::specs::Faults::fault_text))]
 fn put_cdl_fault<W: Sink>(sink: &mut W, fault: CdlFault) -> Result<(), WriteFailed>
     ensures { Wrote W.view sink.old sink.new (fault_text (Cdl fault)) result }
@@ -137,7 +137,7 @@ fn put_cdl_fault<W: Sink>(sink: &mut W, fault: CdlFault) -> Result<(), WriteFail
     put(sink, fault.kind.words().as_bytes())
 }
 
-/// Writes `line N: ` for a fault in the line `line`, or nothing if its kind is `OutOfMemory`, which belongs to no line of the text.
+/// Writes `line N: ` for a fault in the line `line`, or nothing for `OutOfMemory`, which belongs to no line. Errs if the sink fails.
 #[tactic(auto, using(devices::proofs::Writes::writes), unfolding(crate::specs::Faults::line_prefix))]
 fn put_line_number<W: Sink>(sink: &mut W, kind: CdlKind, line: u64) -> Result<(), WriteFailed>
     ensures { Wrote W.view sink.old sink.new (line_prefix kind line) result }
@@ -150,7 +150,7 @@ fn put_line_number<W: Sink>(sink: &mut W, kind: CdlKind, line: u64) -> Result<()
     put(sink, b": ")
 }
 
-/// Returns the message for a text that could not be read.
+/// Returns the message for a text that could not be read, such as `read failed`.
 #[tactic(auto, unfolding(crate::specs::Faults::input_words))]
 fn input_words(fault: TextFault) -> &'static str
     ensures { result.now ≡ input_words (InputFault.Text fault) }
@@ -162,7 +162,7 @@ fn input_words(fault: TextFault) -> &'static str
     }
 }
 
-/// Returns the message for an output that could not be created or written.
+/// Returns the message for an output that could not be created or written: `cannot open` or `write failed`.
 #[tactic(auto, unfolding(crate::specs::Faults::output_words))]
 fn output_words(fault: OutputFault) -> &'static str
     ensures { result.now ≡ output_words fault }
@@ -173,7 +173,7 @@ fn output_words(fault: OutputFault) -> &'static str
     }
 }
 
-/// Returns the words that each line on standard error begins with, except for the usage line.
+/// Returns `ncgen: `, with which each line on standard error begins, except for the usage line.
 fn program_words() -> &'static [u8]
     ensures { result.now ≡ codes "ncgen: " }
 {
@@ -181,7 +181,7 @@ fn program_words() -> &'static [u8]
 }
 
 impl fmt::Display for GenFault {
-    /// Writes the message that [`fault_line`] has for the fault.
+    /// Writes the message that [`fault_line`] has for the fault. Errs if `f` does.
     fn fmt<W: fmt::Write>(&self, f: &mut fmt::Formatter<W>) -> fmt::Result {
         match self {
             GenFault::Cdl(fault) => fault.fmt(f),
@@ -194,7 +194,7 @@ impl fmt::Display for GenFault {
 impl Error for GenFault {}
 
 impl fmt::Display for TextFault {
-    /// Writes the message that the program has for the fault, such as `read failed`.
+    /// Writes the message that the program has for the fault, such as `read failed`. Errs if `f` does.
     fn fmt<W: fmt::Write>(&self, f: &mut fmt::Formatter<W>) -> fmt::Result {
         f.write_str(input_words(*self))
     }

@@ -13,8 +13,8 @@ use nc_file::with_begins;
 use nc_walk::record_slabs;
 use std::alloc::Global;
 
-/// Reads a CDL text, and returns the netCDF classic file of the dataset that the text declares in this version, ready to be written
-/// (ncgen(1)).
+/// Reads a CDL text, and returns the netCDF classic file of the dataset that the text declares, in the version `version` of the format,
+/// ready to be written (ncgen(1)).
 ///
 /// Allocates for what the text declares and for the values that it lists, not for the file.
 ///
@@ -36,7 +36,8 @@ pub fn prepare(alloc: Global, text: &[u8], version: Version) -> Result<Prepared,
     })
 }
 
-/// Reads a CDL text, and writes to the sink the netCDF classic file of the dataset that the text declares in this version (ncgen(1)).
+/// Reads a CDL text, and writes to the sink the file of the dataset that the text declares, in the version `version` of the format
+/// (ncgen(1)).
 ///
 /// Allocates for what the text declares and for the values that it lists, not for the file.
 ///

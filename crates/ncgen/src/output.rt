@@ -8,8 +8,9 @@ use crate::prepared::Prepared;
 use devices::Creator;
 
 /// Creates an output at the path, or empties what is there. Writes the file `prepared` to the output, and then closes the output, also if
-/// writing failed. Errs with `CannotOpen` if the output can't be created; then nothing was touched. Errs with `WriteFailed` if writing or
-/// closing the output failed; then the path was given a prefix of the file, which may be empty.
+/// writing failed. Needs a `prepared` such as `prepare` returns. Errs with `CannotOpen` if the output can't be created; then nothing was
+/// touched. Errs with `WriteFailed` if writing or closing the output failed; then the path was given a prefix of the file, which may be
+/// empty.
 #[tactic(auto, unfolding(devices::specs::Sinks::append, devices::specs::Sinks::is_transparent))]
 pub fn write_output<C: Creator>(
     creator: &mut C,

@@ -22,8 +22,8 @@ pub struct Prepared {
 }
 
 impl Prepared {
-    /// Writes the file: the header, and after it the values (the NetCDF Classic Format Specification). It does not allocate. Any `Prepared`
-    /// that [`prepare`](crate::prepare) returns is ready, as the contract needs it.
+    /// Writes the file: the header, and after it the values, filled up with fill values (the NetCDF Classic Format Specification). It does
+    /// not allocate. Needs a `Prepared` that is ready, such as [`prepare`](crate::prepare) returns.
     ///
     /// # Errors
     ///

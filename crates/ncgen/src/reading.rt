@@ -15,6 +15,7 @@ const PART: usize = 65536;
 /// Reads all bytes that the reader has left, and returns them if there are at most `max`.
 ///
 /// Reads at most `max + 1` bytes, in at most as many reads: a byte above `max` shows that the text is too long. Memory grows with the text.
+/// Needs a `max` below 2^64 - 1.
 ///
 /// # Errors
 ///
@@ -40,9 +41,9 @@ pub fn read_text<R: Read>(
 }
 
 /// Reads the next bytes of the input through `buf`, and appends them to `text`, which then has at most `max + 1` bytes. More than `max`
-/// bytes show that the text is too long. Needs a `buf` that isn't empty, and a `text` of at most `max` bytes. Returns false at the end of
-/// the input, otherwise true. Errs with `ReadFailed` if the reader failed, and with `OutOfMemory` if an allocation failed. Then `text` is
-/// what it was.
+/// bytes show that the text is too long. Needs a `buf` that isn't empty, a `text` of at most `max` bytes, and a `max` below 2^64 - 1.
+/// Returns false at the end of the input, otherwise true. Errs with `ReadFailed` if the reader failed, and with `OutOfMemory` if an
+/// allocation failed. After an error `text` is as it was, but no clause says so.
 fn read_part<R: Read>(
     input: &mut CountedRead<R>,
     buf: &mut [u8],

@@ -58,8 +58,9 @@ pub fn run_with<T: TextOpener, C: Creator, R: Read, E: Sink>(
     }
 }
 
-/// Reads the text that the words ask for, and writes its file if the words ask for an output. Errs with the first failure: of the
-/// command line, of the text, or of the output.
+/// Reads the text that the words ask for, and writes its file if the words ask for an output. Errs with the first failure: `CommandLine` if
+/// the words are wrong or an allocation failed while they were read, `Input` if no file is made of the text, or `Output` if the output
+/// can't be created, written or closed.
 fn generate_for_words<T: TextOpener, C: Creator, R: Read>(
     opener: &mut T,
     creator: &mut C,
@@ -104,7 +105,8 @@ fn read_and_prepare<T: TextOpener, R: Read>(
     Ok(prepare(alloc, text.as_slice(), options.kind)?)
 }
 
-/// Writes `prepared` to the path `out`, or nothing if there is no path. Errs with `Output` if the output can't be created or written.
+/// Writes the file `prepared` to the path `out`, or nothing if there is no path. Needs a `prepared` such as [`prepare`] returns. Errs with
+/// `Output` if the output can't be created, written or closed.
 fn write_if_asked<C: Creator>(
     creator: &mut C,
     out: Option<String>,

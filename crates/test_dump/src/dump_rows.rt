@@ -177,8 +177,8 @@ pub fn is_dumped_in_steps(
     true
 }
 
-/// Fails unless the dump of the row is as it says, through buffers of several lengths. If it ends with an error, it has to be the same from a
-/// source that ends there but promises all of the file.
+/// Fails unless the dump of the row is as it says, through buffers of several lengths. If it ends with an error, it has to be the same from
+/// a source that ends there but promises all of the file.
 pub fn expect_dump(rt: &impl Abort, alloc: Global, row: &DumpRow<'_>) -> Result<(), AllocError> {
     let (at, change) = row.change;
     let file = test_files::patched(alloc, row.bytes, at, change)?;

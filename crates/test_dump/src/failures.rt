@@ -101,8 +101,8 @@ impl Tried<'_> {
         self.header_read().saturating_add(values)
     }
 
-    /// Returns true if reading may fail after `written` bytes of the text: before the first of them, or at a stop, with no more read than the
-    /// values before it and another buffer.
+    /// Returns true if reading may fail after `written` bytes of the text: before the first of them, or at a stop, with no more read than
+    /// the values before it and another buffer.
     fn may_stop_reading(&self, written: usize, handed: u128) -> bool {
         let most = self.header_read().saturating_add(16);
         let is_here = |stop: &Stop| {
@@ -112,8 +112,8 @@ impl Tried<'_> {
         (written == 0 && handed <= self.header_read()) || self.row.2.iter().any(is_here)
     }
 
-    /// Returns true if writing may fail after `written` bytes of the text: with no more read than the header, or than the values before a stop
-    /// that has been passed, and another buffer.
+    /// Returns true if writing may fail after `written` bytes of the text: with no more read than the header, or than the values before a
+    /// stop that has been passed, and another buffer.
     fn may_stop_writing(&self, written: usize, handed: u128) -> bool {
         let most = self.header_read().saturating_add(16);
         let is_passed = |stop: &Stop| {
@@ -124,8 +124,8 @@ impl Tried<'_> {
     }
 }
 
-/// Returns true if a dump into a slice with room for `room` bytes may end so: with the whole text; or with a prefix of it, where reading may
-/// fail, or which fills the slice.
+/// Returns true if a dump into a slice with room for `room` bytes may end so: with the whole text; or with a prefix of it, where reading
+/// may fail, or which fills the slice.
 fn may_end(
     tried: &Tried<'_>,
     room: usize,

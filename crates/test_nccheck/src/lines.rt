@@ -1,9 +1,9 @@
 //! The lines that a run writes of a file, at the level of notes.
 //!
-//! A table is a text: blocks with an empty line between two. A block has the words of a file, and the lines of all that is wrong or odd in it,
-//! if its path is `f`. The words are the name of a file (`file_of`), and what is changed in it, one change after the other: `4=80ff` puts
-//! these bytes, in hexadecimal, at an offset, up to a greater length or not, and `..28` leaves this many bytes, with zeros for those that
-//! it lacks. A line that begins with `#` is a comment.
+//! A table is a text: blocks with an empty line between two. A block has the words of a file, and the lines of all that is wrong or odd in
+//! it, if its path is `f`. The words are the name of a file (`file_of`), and what is changed in it, one change after the other: `4=80ff`
+//! puts these bytes, in hexadecimal, at an offset, up to a greater length or not, and `..28` leaves this many bytes, with zeros for those
+//! that it lacks. A line that begins with `#` is a comment.
 
 use crate::faults::{FAULTS, NAMES};
 use crate::files::{CLEAN, EMPTY_LISTS, ODD_HEADER, STREAMED_HEADER};

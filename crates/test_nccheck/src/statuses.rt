@@ -33,8 +33,8 @@ const ROOM: usize = 1024;
 /// standard error.
 type Run<'a> = (&'a [&'a str], usize, u8, &'a [u8], &'a [u8]);
 
-/// Runs over a clean file, `clean`, one with an error, `text`, one with a violation, `names`, and one with a note, `records`: blocks with an
-/// empty line between two. A block has the status and the words of a run, and after the marks `>` and `!` the lines that it writes to
+/// Runs over a clean file, `clean`, one with an error, `text`, one with a violation, `names`, and one with a note, `records`: blocks with
+/// an empty line between two. A block has the status and the words of a run, and after the marks `>` and `!` the lines that it writes to
 /// standard output and to standard error.
 const RUNS: &str = r#"
 0 nccheck clean records

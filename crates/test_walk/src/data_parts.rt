@@ -75,8 +75,8 @@ fn arrays_of(alloc: Global, listed: &[Listed]) -> Result<Vec<ListedArray>, Alloc
     Ok(arrays)
 }
 
-/// Writes the data part of these arrays under the header of a file to a sink that takes up to `room` bytes, 3 at a time, and fails unless it
-/// has taken what fits of these bytes.
+/// Writes the data part of these arrays under the header of a file to a sink that takes up to `room` bytes, 3 at a time, and fails unless
+/// it has taken what fits of these bytes.
 fn expect_part(
     rt: &impl Abort,
     alloc: Global,

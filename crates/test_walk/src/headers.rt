@@ -55,8 +55,8 @@ fn is_wanted(answer: &Result<Header, HeadFault>, want: Want) -> bool {
     }
 }
 
-/// Returns true if reading the header through a buffer of `buffer_len` bytes, by reads that give at most 1, 3, 7 or all bytes that fit, gives
-/// what is wanted.
+/// Returns true if reading the header through a buffer of `buffer_len` bytes, by reads that give at most 1, 3, 7 or all bytes that fit,
+/// gives what is wanted.
 fn is_read(rt: &impl Abort, alloc: Global, file: &[u8], buffer_len: usize, want: Want) -> bool {
     let mut space = [0; 4096];
     assert!(rt; 16 <= buffer_len && buffer_len <= 4096);

@@ -34,8 +34,8 @@ pub fn header_of_one_dimension(alloc: Global) -> Result<bool, AllocError> {
     Ok(keeps_limits)
 }
 
-/// The example of `devices`. Prints how long the file `a.nc` is. Errs if it can't be opened, if an allocation fails, or if standard output
-/// fails.
+/// The example of `devices`. Prints how long the file `a.nc` is, such as `a.nc has 80 bytes`. Errs if it can't be opened, if an allocation
+/// fails, or if standard output fails.
 pub fn print_length<R: Files<File = File> + Print + AllocGlobal>(rt: &R) -> Result<()> {
     let source = FileSource::open(rt, "a.nc")?;
     let mut out = IoSink::new(BufWriter::new(rt.alloc(), io::writer(rt))?);
@@ -46,8 +46,8 @@ pub fn print_length<R: Files<File = File> + Print + AllocGlobal>(rt: &R) -> Resu
     Ok(())
 }
 
-/// The example of `nc_file`. Writes the header that the source has to the sink, with each begin anew. Errs if the header can't be read, if a
-/// begin doesn't fit its field, or if the sink fails.
+/// The example of `nc_file`. Reads the header of the source, gives each variable a new begin, and writes the header to the sink. Errs if
+/// the header has a wrong field, if a begin doesn't fit its field, or if the source, the sink or an allocation fails.
 pub fn copy_header<S: Source, W: Sink>(alloc: Global, source: &mut S, sink: &mut W) -> Result<()> {
     let mut buf = [0; 4096];
     let header = read_header(alloc, source, &mut buf)?;
@@ -56,8 +56,8 @@ pub fn copy_header<S: Source, W: Sink>(alloc: Global, source: &mut S, sink: &mut
     Ok(())
 }
 
-/// The example of `nc_walk`. Returns the number of bytes of the longest chunk in which the values of a variable come. `var_index` is its
-/// index in the header. Errs if a value can't be read.
+/// The example of `nc_walk`. Returns the number of bytes of the longest chunk in which the values of the variable at `var_index` come, or 0
+/// if it has none. Needs a sound header, and a variable at this index. Errs if the source fails, or if a value isn't whole in it.
 pub fn longest_chunk<S: Source>(
     source: &mut S,
     header: &Header,
@@ -77,8 +77,8 @@ pub fn longest_chunk<S: Source>(
     Ok(longest)
 }
 
-/// The example of `nc_variable`. Returns how many bytes the values of the variable `temperature` have. Errs if the header or a value can't
-/// be read, or if there is no such variable.
+/// The example of `nc_variable`. Returns how many bytes the values of the variable `temperature` have. Errs if the header has a wrong field
+/// or no such variable, if a value isn't whole in the file, or if the source or an allocation fails.
 pub fn bytes_of_temperature<S: Source>(alloc: Global, source: &mut S) -> Result<u128> {
     let mut buf = [0; 4096];
     let variable = open_variable(alloc, source, &mut buf, b"temperature")?;
@@ -94,8 +94,9 @@ pub fn bytes_of_temperature<S: Source>(alloc: Global, source: &mut S) -> Result<
     Ok(len)
 }
 
-/// The example of `cdl_print`. Writes the head of a dump, and the text of a variable with these values, which are big-endian. `var_index` is
-/// its index in the header, and `records` the number of records. Errs if the sink fails.
+/// The example of `cdl_print`. Writes the head of a dump with the name `a` over `records` records, and the text of the variable at
+/// `var_index` with these values, which are big-endian, at a width of 80. Leaves the values out if they aren't whole, or more than the
+/// variable has. Needs a sound header, and a variable at this index. Errs if the sink fails.
 pub fn print_variable<W: Sink>(
     sink: &mut W,
     header: &Header,

@@ -11,8 +11,8 @@ use std::alloc::Global;
 use std::fs::File;
 use std::rt::Files;
 
-/// The example of `cli_base`. Returns true if the words of a command line have the option `-h` or a value of `-l`. Errs with `Usage` if
-/// they are no command line of this command, and with `OutOfMemory` if an allocation failed.
+/// The example of `cli_base`. Returns true if the words of a command line, the first of which names the program, have the option `-h` or a
+/// value of `-l`. Errs with `Usage` if they are no command line of this command, and with `OutOfMemory` if an allocation failed.
 pub fn has_option(alloc: Global, words: &[&str]) -> Result<bool, OptFault> {
     let command = Command::new(alloc, "show")
         .arg(flag(alloc, "header", 'h'))?
@@ -24,7 +24,8 @@ pub fn has_option(alloc: Global, words: &[&str]) -> Result<bool, OptFault> {
     Ok(header_only || width.is_some())
 }
 
-/// The example of `ncdump`. Writes the text of the file `a.nc` to `out`. Errs if the file can't be opened or dumped.
+/// The example of `ncdump`. Writes the text of the file `a.nc` to `out`. Errs if the file can't be opened, if its header has a wrong field,
+/// if a value isn't whole in it, or if reading, writing or an allocation fails.
 pub fn dump_file<R: Files<File = File>, W: Sink>(rt: &R, alloc: Global, out: &mut W) -> Result<()> {
     let options = DumpOptions {
         file: String::from_str(alloc, "a.nc")?,
@@ -40,7 +41,8 @@ pub fn dump_file<R: Files<File = File>, W: Sink>(rt: &R, alloc: Global, out: &mu
     Ok(())
 }
 
-/// The example of `ncgen`. Prints the number of bytes of the file of a text. Errs if no file can be generated, or if standard output fails.
+/// The example of `ncgen`. Makes the file of the CDL text `TEXT` in memory, and prints how many bytes it has. Errs if `generate` does, such
+/// as for want of memory, or if standard output fails.
 pub fn print_file_length(rt: &impl Print, alloc: Global) -> Result<()> {
     const TEXT: &[u8] =
         b"netcdf a { dimensions: x = 3 ; variables: int v(x) ; data: v = 1, 2, 3 ; }";

@@ -11,7 +11,8 @@ use cdl_values::{ReadError, read_constants, type_said};
 use nc_base::{ListedArray, Version};
 use std::alloc::Global;
 
-/// The example of `cdl_tokens`. Prints a line for each token of a text. Errs if standard output fails.
+/// The example of `cdl_tokens`. Prints for each token of a text but its end the line, the kind and the number of bytes. Errs if standard
+/// output fails.
 pub fn print_tokens(rt: &impl Print, text: &[u8]) -> Result<()> {
     let mut scanner = Scanner::new(text);
     let mut token = scanner.token();
@@ -27,7 +28,8 @@ pub fn print_tokens(rt: &impl Print, text: &[u8]) -> Result<()> {
     Ok(())
 }
 
-/// The example of `cdl_statements`. Prints a line for each statement of a text. Errs if an allocation or standard output fails.
+/// The example of `cdl_statements`. Prints for each statement of a text the line and the number of tokens. Errs if an allocation or
+/// standard output fails.
 pub fn print_statements(rt: &impl Print, alloc: Global, text: &[u8]) -> Result<()> {
     let mut cutter = Cutter::new(text, Version::Cdf1);
     let mut tokens = Vec::new(alloc);
@@ -39,8 +41,8 @@ pub fn print_statements(rt: &impl Print, alloc: Global, text: &[u8]) -> Result<(
     Ok(())
 }
 
-/// The example of `cdl_values`. Returns the bytes of an attribute, whose first constant is the next token of `first`. Errs with the fault of
-/// the first constant that has one, or if an allocation failed.
+/// The example of `cdl_values`. Returns the bytes of the values of an attribute, whose first constant is the next token of `first`. Needs a
+/// `first` that hasn't handed out its last statement. Errs with the fault of the first constant that has one, or if an allocation failed.
 pub fn attribute_values(alloc: Global, first: Cutter<'_>) -> Result<ListedArray, ReadError>
     requires { is_done first ≡ false }
 {
@@ -50,7 +52,8 @@ pub fn attribute_values(alloc: Global, first: Cutter<'_>) -> Result<ListedArray,
     Ok(bytes)
 }
 
-/// The example of `cdl_parse`. Prints the number of bytes of each array that a text declares, or its fault. Errs if standard output fails.
+/// The example of `cdl_parse`. Prints the number of bytes of each array that a text declares, or the fault of [`parse`], such as a failed
+/// allocation. Errs if standard output fails.
 pub fn print_arrays(rt: &impl Print, alloc: Global) -> Result<()> {
     const TEXT: &[u8] = b"netcdf a { dimensions: x = 3 ; variables: byte v(x) ; data: v = 1, 2 ; }";
     match parse(alloc, TEXT, Version::Cdf1) {

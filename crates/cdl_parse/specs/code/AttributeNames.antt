@@ -9,7 +9,7 @@ use Rattle.cdl_statements.specs.State.{when, ◌>>=◌}
 abbrev pub att_names : List Att → List (List ℕ)
 att_names atts = map (λ (a : Att). a.name) atts
 
--- one of them has the name
+-- one of the attributes has the name
 abbrev pub has_attribute : List ℕ → List Att → Bool
 has_attribute name atts = list_any (λ (a : Att). bytes_eq a.name name) atts
 

@@ -13,7 +13,7 @@ use Rattle.cdl_values.specs.declared.{data.Target.Target, read_error.ReadError.R
 use Rattle.cdl_parse.specs.code.Runs.{FailsAt}
 use Rattle.cdl_parse.specs.declared.{data_section.DataSection.DataSection, data_section.Listings.Listings, data_section.DataStatement.DataStatement, parse_error.ParseError.ParseError}
 
--- the targets, the one at this position with its values given
+-- the targets, of which the one at this position is now given its values
 abbrev pub given_at : ℕ → List Target → List Target
 given_at position [] = []
 given_at zero (t ∷ ts) = record t { given = true } ∷ ts

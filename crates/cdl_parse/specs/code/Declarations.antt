@@ -58,11 +58,11 @@ continued dims ty drafts name before rest = do
   dimids ← in_turn (add_dimid dims) before rest.dimensions
   in_turn (add_var dims ty) (drafts ++ draft name dimids ty [] ∷ []) rest.variables
 
--- a variable whose declaration is read
+-- the variables with this one at their end, or the fault that one of them has its name
 abbrev pub with_begun : List Draft → PartialVariable → Result (List Draft) CdlKind
 with_begun drafts begun = with_new_draft drafts begun.name.items begun.dimids.items begun.ty
 
--- with what the tokens after those that are read declare
+-- the variables with this one and all that the tokens after it declare, or the first fault
 abbrev pub read_on : List Dim → List Draft → PartialVariable → List Lexeme → Result (List Draft) CdlKind
 read_on dims drafts begun ls = continued dims begun.ty drafts begun.name.items begun.dimids.items (declaration_said begun.is_open ls)
 

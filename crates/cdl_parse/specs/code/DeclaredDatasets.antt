@@ -10,6 +10,7 @@ use Rattle.cdl_statements.specs.State.{State}
 use Rattle.cdl_values.specs.code.Listed.{AllList, AreShaped}
 use Rattle.cdl_parse.specs.declared.declared_values.Declared.{Declared}
 
+-- the header, and each variable's listed values with fill values up to their number
 abbrev pub dataset_of_declared : Declared → Dataset
 dataset_of_declared d = record { header = d.header; arrays = whole_arrays d.header.dims (known_records d.header.numrecs) d.header.vars d.listed }
 

@@ -10,6 +10,7 @@ use Rattle.cdl_values.specs.code.Answers.{FailsRead}
 use Rattle.cdl_values.specs.declared.read_error.ReadError.{ReadError}
 use Rattle.cdl_parse.specs.declared.{definition_sections.Defined.Defined, definitions.Definitions.Definitions}
 
+-- what is declared so far, as a state of the dataset
 abbrev pub state_of : Definitions → State
 state_of d = record { section = d.section; dims = d.dims; gatts = d.gatts; drafts = d.variables }
 
@@ -40,10 +41,11 @@ is_over _ = false
 abbrev pub after_statement : Cutter → State → Result State CdlKind
 after_statement start s = piece_read (version_of start) s (words start)
 
--- the state that what it says makes of this one, in this section
+-- the state that the next statement makes of this one by what it says, if it stands in this section; or its first fault
 abbrev pub said_next : Cutter → Section → State → Result State CdlKind
 said_next start section s = act (version_of start) s (statement_said (version_of start) section (words start))
 
+-- the same, of what is declared so far
 abbrev pub said_by : Cutter → Section → Definitions → Result State CdlKind
 said_by start section d = said_next start section (state_of d)
 

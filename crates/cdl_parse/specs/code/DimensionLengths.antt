@@ -9,6 +9,7 @@ use Rattle.cdl_tokens.specs.Numerals.{Parts, number}
 use Rattle.cdl_statements.specs.State.{dim_len_of}
 use Rattle.cdl_tokens.specs.declared.numeral.Numeral.{Numeral}
 
+-- the length that a number stands for, or its fault
 abbrev pub number_len : Version → Numeral → Result ℕ CdlKind
 number_len v n = elim n.magnitude [ None ↦ Err NumberRange | Some m ↦ if m == 0 then Err ZeroDimension else (if n.minus || nat_le (count_limit v) m then Err NumberRange else Ok m) ]
 

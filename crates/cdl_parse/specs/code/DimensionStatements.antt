@@ -8,11 +8,11 @@ use Rattle.cdl_statements.specs.declared.{cutter.Cutter.Cutter, fault.CdlKind.Cd
 use Rattle.cdl_statements.specs.State.{add_dim, in_turn}
 use Rattle.cdl_parse.specs.declared.dimension_list.NextDimension.{NextDimension}
 
--- with the dimension of this name and length
+-- the dimensions with one of this name and length at their end, or its fault
 abbrev pub dim_read : Version → Lexeme → Lexeme → List Dim → Result (List Dim) CdlKind
 dim_read v name length dims = add_dim v dims (dimension_said v (lexeme_of name) (lexeme_of length))
 
--- with those of the statement that is next
+-- the dimensions with those of the next statement at their end, or the first fault
 abbrev pub dims_read : Cutter → List Dim → Result (List Dim) CdlKind
 dims_read start dims = in_turn (add_dim (version_of start)) dims (dimensions_said (version_of start) (words start))
 

@@ -13,7 +13,7 @@ use Rattle.cdl_parse.specs.declared.records.RecordNeeds.{RecordNeeds}
 abbrev pub records_for : ℕ → ℕ → ℕ
 records_for count n = (n + count - 1) / count
 
--- with a variable and the bytes that are listed of it; None if its slab is above the limit
+-- the needs with this variable counted in, of which these bytes are listed; None if its slab is above the limit
 abbrev pub with_listed : List Dim → RecordNeeds → Var → List ℕ → Option RecordNeeds
 with_listed dims e var listed =
     if nat_le (slab_size dims var) slab_limit then Some (if is_record_var dims var then record {
@@ -21,7 +21,7 @@ with_listed dims e var listed =
       widest = max e.widest (slab_size dims var);
     } else e) else None
 
--- with all these
+-- the needs with all these variables counted in
 abbrev pub with_all : List Dim → Option RecordNeeds → List Var → List (List ℕ) → Option RecordNeeds
 with_all dims None vars arrays = None
 with_all dims (Some e) (var ∷ vars) (listed ∷ arrays) = with_all dims (with_listed dims e var listed) vars arrays
@@ -43,7 +43,7 @@ records_kept dims drafts = if list_all (is_within_limits dims (records_in dims d
 abbrev pub HaveValues : List Dim → List Var → Type 0
 HaveValues dims vars = All (λ (var : Var). 0 < slab_count dims var) vars
 
--- how far the listed values of these variables reach
+-- what all these variables need together
 abbrev pub needs_of : List Dim → List Var → List (List ℕ) → Option RecordNeeds
 needs_of dims vars listed = with_all dims (Some (record { records = 0; widest = 0 })) vars listed
 

@@ -22,6 +22,7 @@ abbrev pub as_dataset : Result Declared CdlFault → Result Dataset CdlFault
 as_dataset (Ok d) = Ok (dataset_of_declared d)
 as_dataset (Err fault) = Err fault
 
+-- an error as a fault with its line; out of memory has line 0
 abbrev pub fault_of : ParseError → CdlFault
 fault_of stops.OutOfMemory = out_of_memory
 fault_of (stops.Fault fault) = fault

@@ -62,7 +62,7 @@ abbrev pub LeavesColumns : ℕ → ℕ → List ℕ → ℕ → Type 0
 LeavesColumns width columns_left text left_after =
     (before : List ℕ) → columns_left ≡ width - column before → left_after ≡ width - column (before ++ text)
 
--- before a number that is its row's first, after n values
+-- before a number that is its row's first; `position` is how many values the variable has before it
 abbrev pub row_lead : Look → ℕ → Lead
 row_lead look position = if look.in_rows then (if position == 0 then FirstRow else NextRow) else Space
 

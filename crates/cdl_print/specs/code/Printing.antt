@@ -98,7 +98,7 @@ next_part layout p part = part_bytes (look_at layout) p part
 abbrev pub row_index_after_part : Look → Progress → List ℕ → ℕ
 row_index_after_part look p part = if p.row_index + length part == look.row then 0 else p.row_index + length part
 
--- how many NULs are held back after n were and some characters of the row followed, of which these are shown
+-- how many NULs are held back after `part`, characters of a row of which `shown` are shown, if `nuls` were held back before
 abbrev pub held_after : ℕ → List ℕ → List ℕ → ℕ
 held_after nuls part shown = (if length shown == 0 then nuls else 0) + (length part - length shown)
 
@@ -139,8 +139,8 @@ AreLeft n = n.progress.position + length n.values ≤ n.look.total
 abbrev pub AreInRow : NextValues → Type 0
 AreInRow n = 0 < length n.values → (0 < n.progress.row_index) × (n.progress.row_index + length n.values ≤ n.look.row)
 
--- the next values are printed, whichever stand before them (of a progress that no values lead to it says nothing: `HasPrinted`, which holds of
--- a new printer and after each of its calls, names values that do)
+-- the next values are printed, whichever stand before them (of a progress that no values lead to it says nothing: `HasPrinted`, which holds
+-- of a new printer and after each of its calls, names values that do)
 pub record IsAfterNext (n : NextValues) (q : Progress) : Type 0 where
   pub position : q.position ≡ n.progress.position + length n.values
   pub following : (xs : List ℤ) → IsAfter n.look xs n.progress → IsAfter n.look (xs ++ n.values) q

@@ -55,7 +55,7 @@ abbrev pub first_line : List (List Token) → ℕ
 first_line ((t ∷ ts) ∷ ps) = t.line
 first_line _ = 0
 
--- what the first piece says
+-- the tokens of the first piece, with their kinds and bytes
 unfoldable pub words : Cutter → List Lexeme
 words c = map (lexeme (text_of c)) (first_piece (pieces_left c))
 
@@ -63,11 +63,11 @@ words c = map (lexeme (text_of c)) (first_piece (pieces_left c))
 abbrev pub PassesToken : Bool → Cutter → Cutter → Type 0
 PassesToken ends old new = pieces_left old ≡ with_first ends (next_token old) (pieces_left new)
 
--- what the first piece says begins with the word of the token that is passed
+-- the same, as kinds and bytes: the tokens of the first piece begin with the one that is passed
 abbrev pub PassesWord : Bool → Cutter → Cutter → Type 0
 PassesWord ends old new = words old ≡ lexeme (text_of old) (next_token old) ∷ (if ends then [] else words new)
 
--- what the first piece says begins with this word
+-- the tokens of the first piece begin with this one
 abbrev pub BeginsWith : Lexeme → Cutter → Type 0
 BeginsWith word c = words c ≡ word ∷ drop 1 (words c)
 

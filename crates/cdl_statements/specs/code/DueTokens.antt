@@ -35,6 +35,7 @@ is_after before (Some s) = nat_lt (section_number before) (section_number s)
 abbrev pub opens_section_after : Section → Lexeme → Bool
 opens_section_after before l = is_after before (section_of l)
 
+-- this token is due, if the one before it is allowed there
 abbrev pub next_if : Bool → Due → Due
 next_if test due = if test then due else Never
 
@@ -74,6 +75,7 @@ next AfterShape l = separator VariableName l
 next Nothing l = Never
 next Never l = Never
 
+-- no token is due, since the statement is whole
 abbrev pub is_whole : Due → Bool
 is_whole Nothing = true
 is_whole _ = false

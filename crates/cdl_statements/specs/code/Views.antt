@@ -7,5 +7,6 @@ use Rattle.cdl_tokens.specs.declared.token.TokenKind.{TokenKind}
 abbrev pub lexeme_with : TokenKind → List ℕ → Lexeme
 lexeme_with kind bytes = record { kind = kind; bytes = bytes }
 
+-- a token of the code as one of the definitions
 abbrev pub lexeme_of : code.Lexeme → Lexeme
 lexeme_of l = lexeme_with l.kind l.bytes.now

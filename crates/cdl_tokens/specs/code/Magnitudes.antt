@@ -10,6 +10,7 @@ use Rattle.cdl_tokens.specs.declared.numeral.Numeral.{Numeral}
 abbrev pub word : ℕ → Option ℕ
 word n = if nat_lt 18446744073709551615 n then None else Some n
 
+-- a number as the code holds it: without a magnitude that takes more than 64 bits
 abbrev pub held : Parts → Numeral
 held n = record { minus = n.minus; magnitude = word n.magnitude; ty = n.ty }
 

@@ -25,12 +25,13 @@ pub record BeginsDecimal (bs : List ℕ) (n value : ℕ) : Type 0 where
   pub small : value ≤ 18446744073709551615
   pub plain : slice_index bs 0 ≡ 0x30 → n ≡ 1
 
--- these bytes are a suffix of the type in every version, and make the digits before them neither more nor hexadecimal
+-- these bytes are a suffix of the type in every version, and begin neither with a digit nor with `x`
 pub record IsSuffix (bs : List ℕ) (ty : NcType) : Type 0 where
   pub says : (v : Version) → type_of_suffix v bs ≡ Some ty
   pub no_digit : is_digit (slice_index bs 0) ≡ false
   pub no_x : (to_ascii_lowercase (slice_index bs 0) == byte "x") ≡ false
 
+-- this letter is a suffix of the type in every version
 pub record IsLetterOf (ty : NcType) (letter : ℕ) : Type 0 where
   pub suffix : IsSuffix (letter ∷ []) ty
   pub goes : goes_on_number letter ≡ true
@@ -64,6 +65,7 @@ pub record BeginsUnderscore (bs : List ℕ) : Type 0 where
   pub begins : (at_start : Bool) → scan at_start bs ≡ token Word 1
   pub bytes : take 1 bs ≡ codes "_"
 
+-- the token is a comma
 pub record IsComma (text : List ℕ) (t : Token) : Type 0 where
   pub mark : t.kind ≡ Mark
   pub comma : slice_index (raw text t) 0 ≡ 0x2c

@@ -11,7 +11,7 @@ use Rattle.cdl_values.specs.declared.{capacity.Capacity.Capacity, form.ValueForm
 use Rattle.cdl_values.specs.declared.capacity.Capacity.TheVariants.{AtMost, Unlimited}
 use Rattle.cdl_values.specs.declared.form.ValueForm.TheVariants.{Numbers, Joined, Rows}
 
--- it is filled so; a row has a byte at least
+-- the form is this one of the definition (`Takes`); a row has a byte at least
 abbrev pub Fills : ValueForm → Takes → Type 0
 Fills (Numbers fill) takes = takes ≡ states.Numbers fill.ty fill.value
 Fills Joined takes = takes ≡ states.Joined
@@ -37,12 +37,12 @@ abbrev pub positions_in : ValueForm → List Dim → Var → ℕ
 positions_in (Rows len fill) dims var = product (map (dim_len dims) (take (length var.dimids - 1) var.dimids))
 positions_in form dims var = slab_count dims var
 
--- it has this capacity for values
+-- the variable has this capacity in this form
 abbrev pub HasCapacity : ValueForm → Capacity → List Dim → Var → Type 0
 HasCapacity form Unlimited dims var = is_record_var dims var ≡ true
 HasCapacity form (AtMost n) dims var = (is_record_var dims var ≡ false) × (n ≡ capacity_for form (positions_in form dims var))
 
--- a variable that is filled so has this capacity
+-- the variable has this capacity, if this is the form in which it takes values
 abbrev pub HasCapacityAsFilled : List Dim → Var → ValueForm → Capacity → Type 0
 HasCapacityAsFilled dims var form capacity = Fills form (takes_of dims var) → HasCapacity form capacity dims var
 

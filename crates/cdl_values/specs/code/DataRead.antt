@@ -19,6 +19,7 @@ abbrev pub unless_given : Option Target → Result Target CdlKind
 unless_given None = Err UnknownVariable
 unless_given (Some t) = if t.given then Err DuplicateData else Ok t
 
+-- the target at a position, where no statement gave its values
 abbrev pub target_at : List Target → Option ℕ → Result Target CdlKind
 target_at targets None = Err UnknownVariable
 target_at targets (Some k) = unless_given (slice_get targets k)
@@ -31,6 +32,7 @@ target_of names targets name = if is_name name then target_at targets (position_
 abbrev pub target_said : List (List ℕ) → List Target → List ℕ → Result Target CdlKind
 target_said names targets word = target_of names targets (word_value word)
 
+-- the bytes of the values of these tokens, as the target takes them
 abbrev pub packed_for : Version → List Lexeme → Result Target CdlKind → Result (List ℕ) CdlKind
 packed_for version ws (Err e) = Err e
 packed_for version ws (Ok t) = packed t.form t.capacity (values version ws)

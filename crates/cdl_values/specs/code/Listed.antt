@@ -23,7 +23,7 @@ pub record Lists (var : Var) (array : List ℕ) (d : Draft) : Type 0 where
   pub is : d.var ≡ var
   pub bytes : array ≡ flat_map (bytes_of_number var.ty) (listed_values d)
 
--- of each variable the bytes at its place
+-- of each variable the bytes at the same position of the list are listed
 abbrev pub AllList : List Var → List (List ℕ) → List Draft → Type 0
 AllList [] [] [] = ⊤
 AllList (var ∷ vars) (array ∷ arrays) (d ∷ drafts) = Lists var array d × AllList vars arrays drafts

@@ -57,7 +57,7 @@ name_first (l ∷ ls) = word_value l.bytes
 abbrev pub name_said : Cutter → List ℕ
 name_said start = name_first (words start)
 
--- the piece makes such a state of this one, or has the fault
+-- read in this state, the piece lists values with these bytes of the variable that it names first; or it has this fault
 abbrev pub Means : Version → State → List Lexeme → Result (List ℕ) CdlKind → Type 0
 Means v s ws (Err e) = piece_read v s ws ≡ Err e
 Means v s ws (Ok array) =

@@ -74,6 +74,7 @@ abbrev pub row_bytes : ℕ → ℕ → Bool → Value → Result (List ℕ) CdlK
 row_bytes len fill full (Characters bytes) = if full then Err TooManyValues else (if nat_lt len (length bytes) then Err StringTooLong else Ok (char_bytes bytes ++ replicate (len - length bytes) fill))
 row_bytes len fill full v = Err WrongKind
 
+-- the bytes of a value in this form, with this capacity left before it; or its fault
 abbrev pub bytes_of : ValueForm → Capacity → Value → Result (List ℕ) CdlKind
 bytes_of (Numbers fill) capacity v = value_bytes fill.ty fill.value (is_full capacity) v
 bytes_of Joined capacity v = text_bytes capacity v
@@ -96,7 +97,7 @@ abbrev pub followed_by : Result (List ℕ) CdlKind → (List ℕ → Result (Lis
 followed_by (Err e) rest = Err e
 followed_by (Ok bytes) rest = joined (Ok bytes) (rest bytes)
 
--- the bytes of the values of a variable, which has so much capacity
+-- the bytes of these values in this form, with this capacity before the first; or the first fault
 unfoldable pub packed : ValueForm → Capacity → List Value → Result (List ℕ) CdlKind
 packed form capacity [] = Ok []
 packed form capacity (v ∷ vs) = followed_by (bytes_of form capacity v) (λ bytes. packed form (capacity_after form bytes capacity) vs)

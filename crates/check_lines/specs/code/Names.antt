@@ -5,12 +5,15 @@ use Rattle.nc_fields.specs.declared.entry.Entry.{Entry}
 use Rattle.check_lines.specs.Paths.{KnownNames, names_after}
 use Rattle.check_lines.specs.declared.{known_names.Names.Names, passed.Passed.Passed}
 
+-- the bytes that are borrowed, if any are
 abbrev pub bytes_of : Option (Bor (List ℕ)) → Option (List ℕ)
 bytes_of name = option_map (λ (bytes : Bor (List ℕ)). bytes.now) name
 
+-- the field that is borrowed, if one is
 abbrev pub entry_in : Option (Bor Entry) → Option Entry
 entry_in entry = option_map (λ (e : Bor Entry). e.now) entry
 
+-- the names that the code knows
 abbrev pub known : Names → KnownNames
 known names = record { element = bytes_of names.element; att = bytes_of names.att }
 

@@ -11,5 +11,6 @@ parts_of [] = []
 parts_of (Nothing ∷ parts) = []
 parts_of (part ∷ parts) = part ∷ parts_of parts
 
+-- what a message of the code says
 abbrev pub message_of : written.Message → Message
 message_of m = record { text = m.text.now; parts = parts_of m.parts }

@@ -36,7 +36,7 @@ module _ {S : Type 0} {g : Ghosts S} where
   abbrev pub IsFar : ReadAhead S g → ℕ → Type 0
   IsFar ahead at = (at < ahead.at) ⊎ (ahead.at + 2 * ahead.len ≤ at)
 
-  -- it has read no more bytes than there was room for, or than the longest stretch has
+  -- it has read no more bytes of the other source than there was room for, or than the longest stretch has
   abbrev pub ReadNoMore : ReadAhead S g → ReadAhead S g → List ℕ → ℕ → Type 0
   ReadNoMore old new into longest = taken new ≤ taken old + max (length into) longest
 

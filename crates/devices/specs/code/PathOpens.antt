@@ -26,7 +26,7 @@ pub record HasBack (old new : OpenerView) (failures : ℕ) : Type 0 where
 abbrev pub NamesAsBefore : (List ℕ → Option (List ℕ)) → (List ℕ → Option (List ℕ)) → Type 0
 NamesAsBefore old new = (path : List ℕ) → new path ≡ old path
 
--- what was opened has the bytes that the path names, if it names any, and otherwise it is a failure
+-- a path that names these bytes is opened as a device that `Has` them, and one that names none is a failure
 abbrev pub Opened : {Device E : Type 0} → (Device → List ℕ → Type 0) → Option (List ℕ) → Result Device E → Type 0
 Opened Has (Some bytes) (Ok device) = Has device bytes
 Opened Has None (Err failure) = Unit {0}

@@ -29,7 +29,7 @@ pub record NoneHandedOver (old new : ReaderView) : Type 0 where
   pub handed : new.handed ≡ old.handed
   pub bytes : Keeps old.remaining new.remaining
 
--- what a read has done
+-- what a read into a slice has done: with `Ok` it has handed over n bytes, and with `Err` the reader has failed
 abbrev pub Reads : {E : Type 0} → ReaderView → ReaderView → List ℕ → List ℕ → Result ℕ E → Type 0
 Reads old new before following (Ok n) = HandedOver old new before following n
 Reads old new before following (Err failure) = NoneHandedOver old new

@@ -7,7 +7,7 @@ abbrev pub Written : {X E : Type 0} → SinkView → SinkView → List ℕ → R
 Written old new text (Ok done) = Appended old new text
 Written old new text (Err failure) = FailedPartway old new text
 
--- the same of a sink, from what it was and what it is
+-- the same of a sink before and after a call, which `view` shows as contracts see it: all of the text was written, or with `Err` a prefix
 abbrev pub Wrote : {S X E : Type 0} → (S → SinkView) → S → S → List ℕ → Result X E → Type 0
 Wrote view old new text result = Written (view old) (view new) text result
 

@@ -37,7 +37,7 @@ pub record NoneRead (old new : SourceView) : Type 0 where
   pub handed : new.handed ≡ old.handed
   pub failures : HasFailed old.failures new.failures
 
--- what a read has done
+-- what a read from this offset on into the start of a slice has done: with `Ok` n bytes were read, and with `Err` the source has failed
 abbrev pub ReadSome : {E : Type 0} → Bool → SourceView → SourceView → ℕ → List ℕ → Result ℕ E → Type 0
 ReadSome is_transparent old new at into (Ok n) = BytesRead is_transparent old new at into n
 ReadSome is_transparent old new at into (Err failure) = NoneRead old new

@@ -20,7 +20,7 @@ pub enum FailWhen {
 impl FailWhen {
     ghost use Rattle.devices.specs.code.Drip.{IsDue};
 
-    /// Returns true if a failure is due: if the read at the offset `at` is to fail. `reads` is the number of reads before it.
+    /// Returns true if a read at the offset `at` is to fail. `reads` is the number of the read, counted from 0: how many came before it.
     fn is_due(self, at: u64, reads: u128) -> bool
         ensures { IsTrue result ↔ IsDue self at reads }
     {
@@ -34,7 +34,7 @@ impl FailWhen {
 
 /// A source of the bytes of a slice. A read gives at most `step` of them.
 ///
-/// A read fails if `fail` asks for it, and if the number of bytes that were read would reach 2^128.
+/// A read fails if `fail` asks for it, or if the number of bytes that were read would reach 2^128.
 #[derive(Drop)]
 pub struct DripSource<'a> {
     bytes: &'a [u8],
@@ -68,7 +68,7 @@ impl<'a> DripSource<'a> {
         }
     }
 
-    /// Returns how many bytes were read from the source in all.
+    /// Returns how many bytes all reads have given together.
     pub fn handed(&self) -> u128
         ensures { result ≡ (view_of self.now).handed }
     {
@@ -88,8 +88,10 @@ impl Source for DripSource<'_> {
         length_of(self.bytes)
     }
 
-    /// Copies at most `step` bytes of the slice, from the offset `at` on, to the start of `into`, and returns how many. Errs, and counts
-    /// one failure, if `fail` asks for it, or if the number of bytes read would reach 2^128: nothing is copied then.
+    /// Copies bytes of the slice, from the offset `at` on, to the start of `into`: as many as there are and fit, but at most `step`.
+    /// Returns how many. Errs, and counts one failure, if `fail` asks for it, or if the number of bytes read would reach 2^128: nothing is
+    /// copied then. A read that `fail` asks to fail counts as a read too. Needs an `into` that isn't empty, and an offset before the
+    /// slice's end.
     #[tactic(auto, unfolding(crate::specs::Failures::HasFailed))]
     fn read_at(&mut self, at: u64, into: &mut [u8]) -> Result<usize, SourceFailed>
         requires room { 0 < length into.old }

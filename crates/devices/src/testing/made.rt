@@ -30,7 +30,7 @@ impl MadeFile {
     }
 }
 
-/// Outputs in memory, which are transparent.
+/// What creates outputs in memory, whose bytes contracts know (they are transparent).
 #[derive(Drop)]
 pub struct MadeFiles {
     alloc: Global,
@@ -60,8 +60,8 @@ impl MadeFiles {
         self.made.as_slice()
     }
 
-    /// Appends an item for `path` and `bytes` to what [`given`](MadeFiles::given) returns. If an allocation fails, it errs, and nothing is
-    /// appended.
+    /// Appends an item of this path and these bytes to what [`given`](MadeFiles::given) returns. If an allocation fails, it errs, and
+    /// nothing is appended.
     fn add_file(&mut self, path: &str, bytes: MemSink) -> Result<(), AllocError>
         ensures { Gave self.old self.new path.now bytes result }
     {

@@ -16,7 +16,8 @@ pub struct MemFile<'a> {
     pub bytes: &'a [u8],
 }
 
-/// Files in memory, which are transparent. If several of them have the same path, the path names the first of these.
+/// What opens files in memory, whose bytes contracts know (they are transparent). If several of them have the same path, the path names the
+/// first of these.
 #[derive(Drop)]
 pub struct MemFiles<'a> {
     files: &'a [MemFile<'a>],
@@ -84,7 +85,7 @@ impl<'a> TextOpener for MemFiles<'a> {
     }
 }
 
-/// Returns the bytes of the first file at this path, or `None` if there is none.
+/// Returns the bytes of the first of these files at this path, or `None` if there is none.
 fn bytes_at<'a>(files: &'a [MemFile<'a>], path: &str) -> Option<&'a [u8]>
     ensures { option_map (λ bytes. bytes.now) result ≡ bytes_named files.now path.now }
 {
@@ -92,7 +93,7 @@ fn bytes_at<'a>(files: &'a [MemFile<'a>], path: &str) -> Option<&'a [u8]>
     Some(file.bytes)
 }
 
-/// Returns the first file at this path, or `None` if there is none.
+/// Returns the first of these files at this path, or `None` if there is none.
 fn file_at<'a>(files: &'a [MemFile<'a>], path: &str) -> Option<&'a MemFile<'a>>
     ensures { option_map (λ file. file.now) result ≡ file_named files.now path.now }
 {

@@ -5,7 +5,7 @@ ghost use Rattle.devices.specs.code.SinkWrites.{WroteSome, unfailed};
 
 use crate::{Flush, Sink, SinkFailed};
 
-/// A transparent sink that keeps its bytes at the start of a slice. It takes at most `step` of them a call.
+/// A transparent sink that keeps the bytes that it takes at the start of a slice. It takes at most `step` of them a call.
 ///
 /// It fails once the slice is full.
 #[derive(Drop)]
@@ -21,7 +21,8 @@ pub struct SliceSink<'a> {
 impl<'a> SliceSink<'a> {
     ghost use Rattle.devices.specs.code.Slice.{view_of, capacity_left, step_of};
 
-    /// Creates an empty sink over the slice. It takes at most `step` bytes a call. Needs a `step` of at least 1.
+    /// Creates an empty sink that will keep its bytes in the slice `into`. It takes at most `step` bytes a call. Needs a `step` of at least
+    /// 1.
     pub fn new(into: &'a mut [u8], step: usize) -> SliceSink<'a>
         requires { 1 ≤ step }
         ensures view { view_of result ≡ unfailed (Some []) }

@@ -22,6 +22,7 @@ abbrev pub char_text : Look → ℕ → ℤ → Bytes
 char_text look nuls value =
     if look.trimmed && is_nul value then [] else escaped_text (replicate nuls 0 ++ unsigned_abs value ∷ [])
 
+-- a character after these values: what opens its row if it is the first there, the held NULs, and the character unless it is held itself
 unfoldable pub char_piece : Look → List ℤ → ℤ → Bytes
 char_piece look values value =
     (if begins_row look (length values) then char_lead look (length values) else [])

@@ -13,7 +13,7 @@ abbrev pub AreRowEnds : ℕ → ℕ → List ℕ → ℕ → Type 0
 AreRowEnds len start [] last = start ≡ last
 AreRowEnds len start (end ∷ ends) last = (start ≤ end) × (end ≤ start + len) × AreRowEnds len end ends last
 
--- offset `at` of the filled bytes has `bytes`, and then `count` fill bytes
+-- from offset `at` on, the filled bytes have these bytes, and then `count` fill bytes: at least one in all, unless `at` is at their end
 pub record StandAt (filled : List ℕ) (at : ℕ) (bytes : List ℕ) (count fill : ℕ) : Type 0 where
   pub rest : List ℕ
   pub split : drop at filled ≡ bytes ++ (replicate count fill ++ rest)
@@ -25,6 +25,6 @@ row_start start ends zero = start
 row_start start [] (suc r) = start
 row_start start (end ∷ ends) (suc r) = row_start end ends r
 
--- the bytes that are listed of row r, of rows that end at these offsets
+-- the listed bytes of row r, of rows that end at these offsets of the stored bytes
 abbrev pub row_of : List ℕ → List ℕ → ℕ → List ℕ
 row_of bytes ends r = take (get_or ends r 0 - row_start 0 ends r) (drop (row_start 0 ends r) bytes)

@@ -16,6 +16,7 @@ abbrev pub with_rest : {B : Type 0} → Result B FormatFault → Bytes → Outco
 with_rest (Ok y) rest = Ok (y, rest)
 with_rest (Err fault) rest = Err (fault, rest)
 
+-- what reading a part gives at the start of these bytes
 unfoldable pub run : {A : Type 0} → Part A → Bytes → Outcome A
 run (done x) from = Ok (x, from)
 run (bytes n cut) from = if nat_le n (length from) then Ok (take n from, drop n from) else Err (cut, [])

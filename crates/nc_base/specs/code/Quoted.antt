@@ -11,7 +11,7 @@ use Rattle.std.specs.Char.{is_ascii_control}
 abbrev pub is_literal : ℕ → Bool
 is_literal b = not (is_ascii_control b || (b == byte "\"") || (b == byte "'") || (b == byte "\\"))
 
--- a byte that is written so
+-- the bytes that stand for a byte with this escape
 abbrev pub written : Escape → ℕ → List ℕ
 written Plain b = b ∷ []
 written (Backslash c) b = byte "\\" ∷ c ∷ []
@@ -22,7 +22,7 @@ abbrev pub escaped_in : Quoting → (ℕ → List ℕ)
 escaped_in InName = escaped_in_name
 escaped_in InString = escaped_in_string
 
--- it has no escape there
+-- whether a byte needs no escape there, unless it is the first one of a name
 abbrev pub stands_for_itself : Quoting → (ℕ → Bool)
 stands_for_itself InName = is_plain
 stands_for_itself InString = is_literal

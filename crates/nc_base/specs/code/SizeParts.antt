@@ -8,7 +8,7 @@ use Rattle.nc_base.specs.Sizes.{value_count, is_record_dim, is_record_var, slab_
 abbrev pub is_fixed_dim : List Dim → ℕ → Bool
 is_fixed_dim dims id = nat_lt id (length dims) && not (is_record_dim dims id)
 
--- the bytes of the slab of the variable in this place
+-- how many bytes the slab of the variable at index v has
 abbrev pub slab_at : Header → ℕ → ℕ
 slab_at h v = slice_index (map (slab_size h.dims) h.vars) v
 
@@ -16,7 +16,7 @@ slab_at h v = slice_index (map (slab_size h.dims) h.vars) v
 abbrev pub has_small_slab : List Dim → Var → Bool
 has_small_slab dims var = nat_le (slab_size dims var) slab_limit
 
--- the record size: none where the slab of a record variable or the record size itself passes its limit
+-- the record size, or None if the slab of a record variable or the record size itself passes its limit
 abbrev pub checked_record_size : Header → Option ℕ
 checked_record_size h =
     if list_all (has_small_slab h.dims) (record_vars h.dims h.vars) && nat_le (record_size h) record_limit
@@ -43,6 +43,6 @@ extent_sum h records var =
 abbrev pub CountsValues : Header → ℕ → ℕ → ℕ → Type 0
 CountsValues h v records count = IfSome (slice_get h.vars v) (λ (var : Var). count ≡ value_count h.dims var records)
 
--- the bytes of a slab of this shape, if that keeps the limit
+-- `slab` is how many bytes a slab of this shape and type has, or None if that passes the limit
 abbrev pub IsCappedSlab : List Dim → List ℕ → NcType → Option ℕ → Type 0
 IsCappedSlab dims dimids ty slab = SomeIff slab (slab_len dims dimids ty ≤ slab_limit) (slab_len dims dimids ty)

@@ -19,6 +19,7 @@ pub record Reader (S : Type 0) (g : Ghosts S) : Type 0 where
   pub window : Window S g
   pub entries : List Entry
 
+-- a window, and the fields of this reader
 abbrev pub at : {S : Type 0} {g : Ghosts S} → Window S g → FieldReader → Reader S g
 at window fields = record { window = window; entries = fields.entries }
 
@@ -49,11 +50,11 @@ pub record Checked {S A : Type 0} {g : Ghosts S} (old new : Reader S g) (steps :
 
 -- ---- one field
 
--- the rules look at a field in this place as a number
+-- a listing keeps a number of the field in this place
 abbrev pub IsNumeric : Place → Type 0
 IsNumeric place = (size : ℕ) (start : Bytes) → whole_content (steps_of place) size start ≡ Number (number_in size (take size start))
 
--- the rules look at the bytes of a field in this place, if all of them are there
+-- a listing keeps the bytes of the field in this place, if all of them are there
 abbrev pub IsFilling : Place → Type 0
 IsFilling place =
     (size : ℕ) (start : Bytes) → (whole_content (steps_of place) size start ≡ content.Bytes (take size start)) × (cut_content (steps_of place) start ≡ Cut)
@@ -72,8 +73,8 @@ pub record IsStart {S : Type 0} {g : Ghosts S} (w : Window S g) (place : Place) 
 abbrev pub entry_of : PendingField → Content → Entry
 entry_of start content = record { place = start.place; offset = start.offset; size = start.size; content = content; fault = None }
 
--- The answer of the call that read the field is returned. If it is that the source has ended, the field was listed as cut, unless memory ran
--- out.
+-- The answer of the call that read the field is returned. If it is that the source has ended, the field was listed as cut, unless memory
+-- ran out.
 abbrev pub ListsCut : {A : Type 0} → List Entry → List Entry → PendingField → Result A HeadFault → Result A HeadFault → Type 0
 ListsCut old new start answer (Ok x) = (answer ≡ Ok x) × (new ≡ old)
 ListsCut old new start answer (Err (Format fault)) = (answer ≡ Err (Format fault)) × (new ≡ old ++ entry_of start Cut ∷ [])

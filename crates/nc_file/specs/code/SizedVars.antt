@@ -4,7 +4,7 @@ use Rattle.nc_base.specs.declared.{header.Dim.Dim, header.Var.Var, nc_type.NcTyp
 use Rattle.nc_base.specs.Grammar.{record_bytes, is_within_limits}
 use Rattle.nc_file.specs.declared.{head_fault.HeadFault.HeadFault, sized_var.SizedType.SizedType, sized_var.SizedVar.SizedVar}
 
--- the padded slabs of the record variables so far, with that of a variable of this shape and type: none where a limit is passed
+-- the bytes of the padded slabs of the record variables up to one of this shape and type, `total` of those before it; none past a limit
 unfoldable pub total_with : List Dim → List ℕ → NcType → ℕ → Option ℕ
 total_with dims ids ty total = if is_within_limits dims total ids ty then Some (total + record_bytes dims ids ty) else None
 

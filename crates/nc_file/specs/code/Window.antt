@@ -22,18 +22,19 @@ next_of w = w.base + w.pos
 abbrev pub left : {S : Type 0} {g : Ghosts S} → Window S g → List ℕ
 left w = drop (next_of w) (source_of w).bytes
 
--- What reading keeps: each byte up to the end of what the window holds is read once.
+-- What reading keeps: the source, its bytes and the buffer's length. Each byte up to the end of what the window holds is read once.
 pub record Kept {S : Type 0} {g : Ghosts S} (old new : Window S g) : Type 0 where
   pub same_source : new.source.ghost_name ≡ old.source.ghost_name
   pub bytes : (source_of new).bytes ≡ (source_of old).bytes
   pub same_buffer_len : length new.buf.now ≡ length old.buf.now
   pub handed : (source_of new).handed + (old.base + old.filled) ≡ (source_of old).handed + (new.base + new.filled)
 
--- the source has failed exactly where a reader says so
+-- the source has failed in between if and only if the result is `ReadFailed`; `before` is how often it had failed before
 abbrev pub Caused : {A : Type 0} → ℕ → SourceView → Result A HeadFault → Type 0
 Caused before now (Err ReadFailed) = HasFailed before now.failures
 Caused before now _ = now.failures ≡ before
 
+-- the same of the source of a window, before and after
 abbrev pub FailsOnly : {S A : Type 0} {g : Ghosts S} → Window S g → Window S g → Result A HeadFault → Type 0
 FailsOnly old new result = Caused (source_of old).failures (source_of new) result
 

@@ -12,8 +12,8 @@ use nc_base::{Dim, FormatFault, Sequence, Version};
 use std::alloc::Global;
 
 impl<S: Source> Window<'_, S> {
-    /// Reads a dimension: its name and its length. `has_record` is true if a dimension before it has length 0. Errs with `TwoRecordDims` if
-    /// `has_record` is true and this dimension has length 0, too.
+    /// Reads a dimension (its name and its length), and returns it. Errs with the fault of the first wrong field, such as `TwoRecordDims`
+    /// if it has length 0 and a dimension before it has, too (`has_record`), and if the source or an allocation fails.
     #[tactic(auto, using(crate::proofs::PartRuns::part_runs), unfolding(nc_base::specs::Grammar::dim_part, nc_base::specs::code::PartRuns::printed_len))]
     fn dim(&mut self, alloc: Global, version: Version, has_record: bool) -> Result<Dim, HeadFault>
         ensures { Read self.old self.new (dim_part strict version has_record) result }
@@ -26,8 +26,8 @@ impl<S: Source> Window<'_, S> {
         Ok(Dim { name, len })
     }
 
-    /// Reads `n` dimensions, one after the other, and returns them. Errs with `TwoRecordDims` at the second one of length 0.
-    /// [`dim_list`](Window::dim_list) has read the list's tag and `n` before.
+    /// Reads `n` dimensions, and returns them. [`dim_list`](Window::dim_list) has read the list's tag and `n` before. Errs with the fault
+    /// of the first wrong field, such as `TwoRecordDims` at the second one of length 0, and if the source or an allocation fails.
     #[tactic(auto, using(crate::proofs::PartRuns::each_runs))]
     fn dims(&mut self, alloc: Global, version: Version, n: u64) -> Result<Sequence<Dim>, HeadFault>
         ensures read { Read self.old self.new (each (dim_after strict version) n []) result }

@@ -17,8 +17,8 @@ use std::alloc::Global;
 
 /// Reads the header at the start of a source, through a caller's buffer of at least 16 bytes, which may hold anything before and after.
 /// Whatever the source, the returned header is sound (`nc_base::Header::sound`), and the source has handed over at least as many bytes as
-/// it takes in a file ([`header_len`](crate::header_len)). It takes memory in proportion to its weight (`nc_base::weight`), which is at
-/// most that number too.
+/// the header takes in a file ([`header_len`](crate::header_len)), and as many as its weight (`nc_base::weight`). The header takes memory
+/// in proportion to its weight.
 ///
 /// It reads from the source only when the next field lacks a byte in the buffer, and from that byte on. So it reads at most one buffer more
 /// of a transparent source ([`Source`]) than the header, or than the bytes up to the end of the first wrong field. No count of the header
@@ -52,8 +52,8 @@ pub fn read_header<S: Source>(
     }
 }
 
-/// Reads the header as [`read_header`] does, but doesn't check at the end that it is sound. If the source is transparent ([`Source`]), the
-/// contract says that it is. Otherwise the contract says nothing of the header, so [`read_header`] checks it.
+/// Reads the header as [`read_header`] does, but doesn't check at the end that it is sound. Of a transparent source ([`Source`]) the
+/// contract promises that it is sound all the same; for any other, [`read_header`] has to check it.
 fn read_unchecked_header<S: Source>(
     alloc: Global,
     source: &mut S,
@@ -79,8 +79,8 @@ fn read_unchecked_header<S: Source>(
 }
 
 impl<S: Source> Window<'_, S> {
-    /// Reads the three bytes that should be `CDF`, without checking them. Errs with `NotNetcdf` if fewer are left, and with `ReadFailed` if
-    /// the source fails.
+    /// Reads the three bytes that should be `CDF`, and returns them without checking them. Errs with `NotNetcdf` if fewer are left, and
+    /// with `ReadFailed` if the source fails.
     #[tactic(auto, using(crate::proofs::PartRuns::cuts), unfolding(nc_base::specs::code::PartRuns::printed_len))]
     pub fn magic_word(&mut self) -> Result<[u8; 3], HeadFault>
         ensures { Read self.old self.new (bytes 3 NotNetcdf) result }
@@ -91,7 +91,8 @@ impl<S: Source> Window<'_, S> {
         }
     }
 
-    /// Reads the version byte, and returns its version. Errs with `UnknownVersion` if the byte is none of 1, 2 and 5.
+    /// Reads the version byte, and returns its version. Errs with `UnknownVersion` if the byte is none of 1, 2 and 5, with
+    /// `HeaderTruncated` if there is none, and with `ReadFailed` if the source fails.
     #[tactic(auto, using(crate::proofs::PartRuns::part_runs), unfolding(nc_base::specs::Grammar::version_part, nc_base::specs::code::PartRuns::printed_len))]
     fn version(&mut self) -> Result<Version, HeadFault>
         ensures { Read self.old self.new version_part result }
@@ -100,8 +101,9 @@ impl<S: Source> Window<'_, S> {
         Ok(Version::of_byte(bytes[0]).ok_or(FormatFault::UnknownVersion(bytes[0]))?)
     }
 
-    /// Reads `CDF` and the version byte, and returns the version. Errs with `NotNetcdf` if other bytes than `CDF` come, or too
-    /// few, and with `UnknownVersion` if the version byte is none of 1, 2 and 5.
+    /// Reads `CDF` and the version byte, and returns the version. Errs with `NotNetcdf` if other bytes than `CDF` come, or too few, with
+    /// `UnknownVersion` if the version byte is none of 1, 2 and 5, with `HeaderTruncated` if it is missing, and with `ReadFailed` if the
+    /// source fails.
     #[tactic(auto, using(crate::proofs::PartRuns::part_runs), unfolding(nc_base::specs::Grammar::magic_part, nc_base::specs::code::PartRuns::printed_len))]
     fn magic(&mut self) -> Result<Version, HeadFault>
         ensures { Read self.old self.new magic_part result }
@@ -113,8 +115,9 @@ impl<S: Source> Window<'_, S> {
         self.version()
     }
 
-    /// Reads the number of records. Returns `Streaming` if all of its bits are 1. Errs with `BadCount` if its top bit is 1, but not all of
-    /// its bits are.
+    /// Reads the number of records (eight bytes in CDF-5, otherwise four), and returns it, or `Streaming` if all of its bits are 1. Errs
+    /// with `BadCount` if its top bit is 1, but not all of its bits are, with `HeaderTruncated` if bytes are missing, and with `ReadFailed`
+    /// if the source fails.
     #[tactic(auto, using(crate::proofs::PartRuns::part_runs), unfolding(nc_base::specs::Grammar::numrecs_part, nc_base::specs::code::PartRuns::printed_len))]
     fn numrecs(&mut self, version: Version) -> Result<NumRecs, HeadFault>
         ensures { Read self.old self.new (numrecs_part strict version) result }
@@ -129,8 +132,8 @@ impl<S: Source> Window<'_, S> {
         Ok(NumRecs::Known(n))
     }
 
-    /// Reads the whole header. Errs with the fault of the first wrong field, with `ReadFailed` if the source fails, and with
-    /// `OutOfMemory` if an allocation fails.
+    /// Reads the whole header, and returns it. Errs with the fault of the first wrong field, with `ReadFailed` if the source fails, and
+    /// with `OutOfMemory` if an allocation fails.
     #[tactic(auto, using(crate::proofs::PartRuns::part_runs), unfolding(nc_base::specs::Grammar::header_by, nc_base::specs::code::PartRuns::printed_len))]
     fn header(&mut self, alloc: Global) -> Result<Header, HeadFault>
         ensures { Read self.old self.new header_part result }

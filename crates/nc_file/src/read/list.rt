@@ -12,7 +12,8 @@ use nc_base::{FormatFault, NcType, Sequence, Version, is_valid_name, padding_len
 use std::alloc::Global;
 
 impl<S: Source> Window<'_, S> {
-    /// Reads a name: its length, its bytes and their padding. Returns the bytes. Errs with `BadName` if they aren't a valid name.
+    /// Reads a name: its length, its bytes and their padding. Returns the bytes. Errs with `BadCount` if the length's top bit is 1, with
+    /// `BadName` if the bytes aren't a valid name, with `HeaderTruncated` if bytes are missing, and if the source or an allocation fails.
     #[tactic(auto, using(crate::proofs::PartRuns::part_runs), unfolding(nc_base::specs::Grammar::name_part, nc_base::specs::code::PartRuns::printed_len))]
     pub(crate) fn name(
         &mut self,
@@ -30,8 +31,8 @@ impl<S: Source> Window<'_, S> {
         Ok(name)
     }
 
-    /// Reads the code of a type, and returns the type. Errs with `FloatingType` if it is float or double, and with `BadType` if the version
-    /// has no type with this code.
+    /// Reads the code of a type, four bytes, and returns the type. Errs with `FloatingType` if it is `float` or `double`, with `BadType` if
+    /// the version has no type with this code, with `HeaderTruncated` if bytes are missing, and with `ReadFailed` if the source fails.
     #[tactic(auto, using(crate::proofs::PartRuns::part_runs), unfolding(nc_base::specs::Grammar::type_part, nc_base::specs::code::PartRuns::printed_len))]
     pub(crate) fn nc_type(&mut self, version: Version) -> Result<NcType, HeadFault>
         ensures { Read self.old self.new (type_part strict version) result }
@@ -41,8 +42,8 @@ impl<S: Source> Window<'_, S> {
     }
 
     /// Reads the tag of a list and the number of its elements, and returns the number. `tag` is the tag of lists of this kind; 0 may stand
-    /// in its place if there are no elements. Errs with `BadTag` if any other tag was read, and with `BadCount` if the tag is 0 and the
-    /// number isn't, or if the number's top bit is 1.
+    /// in its place if there are no elements. Errs with `BadTag` if any other tag was read, with `BadCount` if the tag is 0 and the number
+    /// isn't, or if the number's top bit is 1, with `HeaderTruncated` if bytes are missing, and with `ReadFailed` if the source fails.
     #[tactic(auto, using(crate::proofs::PartRuns::part_runs), unfolding(nc_base::specs::Grammar::list_head, nc_base::specs::code::PartRuns::printed_len))]
     pub(crate) fn list_len(&mut self, version: Version, tag: u32) -> Result<u64, HeadFault>
         ensures { Read self.old self.new (list_head version tag) result }
@@ -59,8 +60,8 @@ impl<S: Source> Window<'_, S> {
     }
 }
 
-/// Returns the version's type with this code. Errs with `FloatingType` if the code is that of float or double, and with `BadType` if the
-/// version has no type with this code.
+/// Returns the version's type with this code. Errs with `FloatingType` if the code is that of `float` (5) or `double` (6), and with
+/// `BadType` if the version has no type with this code.
 pub fn type_in(version: Version, code: u32) -> Result<NcType, FormatFault>
     ensures { result ≡ type_in version code }
 {

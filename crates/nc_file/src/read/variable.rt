@@ -21,8 +21,8 @@ use nc_base::{
 use std::alloc::Global;
 
 impl<S: Source> Window<'_, S> {
-    /// Reads a dimension id of a shape, and returns it. `first` is true if it is the shape's first id. Errs with `BadShape` if no dimension
-    /// of `dims` has this id, or if it is the id of the record dimension and `first` is false.
+    /// Reads a dimension id of a shape (`first`: its first one), and returns it. Errs with `BadShape` if no dimension of `dims` has this
+    /// id, or if it is the record dimension's and `first` is false, with `HeaderTruncated` if bytes are missing, and if the source fails.
     #[tactic(auto, using(crate::proofs::PartRuns::part_runs), unfolding(nc_base::specs::Grammar::dimid_part, nc_base::specs::code::PartRuns::printed_len))]
     fn dimid(&mut self, version: Version, dims: &[Dim], first: bool) -> Result<u64, HeadFault>
         ensures { Read self.old self.new (dimid_part version dims.now first) result }
@@ -34,8 +34,9 @@ impl<S: Source> Window<'_, S> {
         Ok(id)
     }
 
-    /// Reads the `n` dimension ids of a shape. Errs with `BadShape` if one of them names no dimension of `dims`, or if one after the first
-    /// names the record dimension.
+    /// Reads the `n` dimension ids of a shape, and returns them. Errs with `BadShape` if one of them is the id of no dimension of `dims`,
+    /// or if one after the first is that of the record dimension, with `HeaderTruncated` if bytes are missing, and if the source or an
+    /// allocation fails.
     #[tactic(auto, using(crate::proofs::PartRuns::each_runs))]
     fn dimids(
         &mut self,
@@ -56,8 +57,8 @@ impl<S: Source> Window<'_, S> {
         Ok(dimids)
     }
 
-    /// Reads the shape of a variable: its rank and its dimension ids. Returns the ids. Errs with `BadShape` if one of them names no
-    /// dimension of `dims`, or if one after the first names the record dimension.
+    /// Reads the shape of a variable: its rank and its dimension ids. Returns the ids. Errs with the fault of the first wrong field, such
+    /// as `BadShape` if an id is that of no dimension of `dims`, and if the source or an allocation fails.
     #[tactic(auto, using(crate::proofs::PartRuns::part_runs), unfolding(nc_base::specs::Grammar::shape_part, nc_base::specs::Grammar::counted, nc_base::specs::code::PartRuns::printed_len))]
     fn shape(
         &mut self,
@@ -71,8 +72,8 @@ impl<S: Source> Window<'_, S> {
         self.dimids(alloc, version, dims, n)
     }
 
-    /// Reads a big-endian number of the width that offsets have in the version, four bytes in CDF-1 and otherwise eight. Its top bit may be
-    /// 1: [`offset`](Window::offset) calls this, and then checks the bit.
+    /// Reads a big-endian number of the width that offsets have in the version, four bytes in CDF-1 and otherwise eight, and returns it,
+    /// also if its top bit is 1. Errs with `HeaderTruncated` if fewer bytes are left, and with `ReadFailed` if the source fails.
     pub fn unchecked_offset(&mut self, version: Version) -> Result<u64, HeadFault>
         ensures { Read self.old self.new (number (offset_width version)) result }
     {
@@ -82,7 +83,8 @@ impl<S: Source> Window<'_, S> {
         }
     }
 
-    /// Reads a variable's begin, the offset of its first value. Errs with `BadOffset` if its top bit is 1.
+    /// Reads a variable's begin, the offset of its first value, and returns it. Errs with `BadOffset` if its top bit is 1, with
+    /// `HeaderTruncated` if bytes are missing, and with `ReadFailed` if the source fails.
     #[tactic(auto, using(crate::proofs::PartRuns::part_runs), unfolding(nc_base::specs::Grammar::offset_part, nc_base::specs::code::PartRuns::printed_len))]
     fn offset(&mut self, version: Version) -> Result<u64, HeadFault>
         ensures { Read self.old self.new (offset_part version) result }
@@ -94,9 +96,10 @@ impl<S: Source> Window<'_, S> {
         Ok(n)
     }
 
-    /// Reads the type of a variable of this shape, and returns it with the number of bytes that a record has up to and including that
-    /// variable. `total` is the bytes of the padded slabs of the record variables before it. Errs with `TooLarge` if its slab passes 2^48
-    /// bytes, or if the sum passes 2^62 bytes.
+    /// Reads the type of a variable with the shape `dimids`, and returns it with the bytes of the padded slabs of the record variables up
+    /// to this one: `total`, those before it, plus its own if it is a record variable. Errs with `FloatingType`, `BadType` or
+    /// `HeaderTruncated` if the type is wrong or cut, with `TooLarge` if its slab passes 2^48 bytes or the sum 2^62, and with `ReadFailed`
+    /// if the source fails.
     #[tactic(auto, using(crate::proofs::PartRuns::limit_runs), unfolding(nc_base::specs::code::PartRuns::printed_len))]
     fn sized_type(
         &mut self,
@@ -115,9 +118,9 @@ impl<S: Source> Window<'_, S> {
         Ok(SizedType { ty, total })
     }
 
-    /// Reads a variable, and returns it with the number of bytes that a record has up to and including it. This is `total`, the bytes of
-    /// the padded slabs of the record variables before it, plus those of its own padded slab if it is a record variable. Errs with
-    /// `TooLarge` if its slab passes 2^48 bytes, or if the sum passes 2^62 bytes. Its `vsize` may be any number.
+    /// Reads a variable, and returns it with the bytes of the padded slabs of the record variables up to this one: `total`, those before
+    /// it, plus its own if it is a record variable. Errs with the fault of the first wrong field, with `TooLarge` if its slab passes 2^48
+    /// bytes or the sum 2^62, and if the source or an allocation fails. Its `vsize` may be any number.
     #[tactic(auto, using(crate::proofs::PartRuns::part_runs), unfolding(nc_base::specs::Grammar::var_part, nc_base::specs::code::PartRuns::printed_len))]
     fn var(
         &mut self,
@@ -148,8 +151,8 @@ impl<S: Source> Window<'_, S> {
     }
 
     /// Reads `n` variables, one after the other, and returns them. [`var_list`](Window::var_list) has read the list's tag and `n` before.
-    /// Allocates for the variables that it has read, and not for `n`. Errs with `TooLarge` if a slab passes 2^48 bytes, or if the padded
-    /// slabs of the record variables together pass 2^62 bytes.
+    /// Allocates for the variables that it has read, and not for `n`. Errs with the fault of the first wrong field, such as `TooLarge` if a
+    /// slab passes 2^48 bytes, or the padded slabs of the record variables together 2^62, and if the source or an allocation fails.
     #[tactic(auto, using(crate::proofs::PartRuns::each_runs))]
     fn vars(
         &mut self,
@@ -187,16 +190,16 @@ impl<S: Source> Window<'_, S> {
     }
 }
 
-/// Returns true if `id` may stand in a shape. A dimension of `dims` must have this id, and only the shape's first id may be that of the
-/// record dimension. `first` is true if `id` is the shape's first.
+/// Returns true if `id` may stand in a shape: a dimension of `dims` has this id, and if it is the record dimension, `id` is the shape's
+/// first (`first`).
 pub fn is_dimid(dims: &[Dim], first: bool, id: u64) -> bool
     ensures { result ≡ is_dimid dims.now first id }
 {
     id < dims.len() as u64 && (first || !is_record_dim(dims, id))
 }
 
-/// Returns `total` plus the bytes of the padded slab of a variable of this shape and type if it is a record variable, otherwise `total`.
-/// `total` is the sum for the record variables before it. Returns `None` if the slab passes 2^48 bytes, or if the sum passes 2^62 bytes.
+/// Returns the bytes of the padded slabs of the record variables up to one of this shape and type: `total`, those before it, plus its own
+/// if it is a record variable. Returns `None` if its slab passes 2^48 bytes, or if the sum passes 2^62 bytes.
 #[tactic(auto, unfolding(crate::specs::code::SizedVars::total_with))]
 pub fn total_with(dims: &[Dim], dimids: &[u64], ty: NcType, total: u64) -> Option<u64>
     ensures value { result ≡ total_with dims.now dimids.now ty total }
@@ -211,8 +214,8 @@ pub fn total_with(dims: &[Dim], dimids: &[u64], ty: NcType, total: u64) -> Optio
     }
 }
 
-/// Returns how many bytes a slab of `slab` bytes adds to a record: its padded size if the first dimension of this shape is the record
-/// dimension, otherwise 0. Needs a slab of at most 2^48 bytes.
+/// Returns how many bytes a slab of `slab` bytes adds to the padded slabs of the record variables: its own, up to a multiple of four, if
+/// the first of `dimids` is the record dimension, otherwise 0. Needs a slab of at most 2^48 bytes.
 fn record_bytes(dims: &[Dim], dimids: &[u64], slab: u64) -> u64
     requires { slab ≤ slab_limit }
     ensures { result ≡ (if is_record_shape dims.now dimids.now then slab + padding_len slab else 0) }

@@ -14,7 +14,8 @@ use crate::tag::NC_ATTRIBUTE;
 use devices::{Sink, WriteFailed};
 use nc_base::{Att, Version};
 
-/// Writes a list of attributes: its tag, their number and the attributes. Errs if the sink fails.
+/// Writes a list of attributes: its tag (0 if there are none), their number and the attributes. Needs fewer of them than 2^31, or 2^63 in
+/// CDF-5, each sound as [`put_att`] says (`IsSoundAtt`). Errs if the sink fails.
 #[tactic(auto, using(crate::proofs::Prints::list_prints))]
 pub(crate) fn put_att_list<W: Sink>(
     sink: &mut W,
@@ -29,7 +30,7 @@ pub(crate) fn put_att_list<W: Sink>(
     put_atts(sink, version, atts)
 }
 
-/// Writes the attributes of a list, one after another, without the tag and the number before them. Errs if the sink fails.
+/// Writes the attributes of a list, without the tag and the number before them. Needs each as [`put_att`] does. Errs if the sink fails.
 fn put_atts<W: Sink>(sink: &mut W, version: Version, atts: &[Att]) -> Result<(), WriteFailed>
     requires { All (IsSoundAtt version) atts.now }
     ensures { Wrote W.view sink.old sink.new
@@ -41,8 +42,8 @@ fn put_atts<W: Sink>(sink: &mut W, version: Version, atts: &[Att]) -> Result<(),
     Ok(())
 }
 
-/// Writes an attribute: its name, the type and the number of its values, and the values with their padding. Errs if the sink
-/// fails.
+/// Writes an attribute: its name, its type code, the number of its values, and the values with their padding. Needs a type that the version
+/// has, whole values, and fewer than 2^31 values and bytes of the name, or 2^63 in CDF-5. Errs if the sink fails.
 #[tactic(auto, using(devices::proofs::Writes::writes), unfolding(nc_base::specs::Parts::print, nc_base::specs::Grammar::att_part, nc_base::specs::Grammar::type_part))]
 fn put_att<W: Sink>(sink: &mut W, version: Version, att: &Att) -> Result<(), WriteFailed>
     requires { IsSoundAtt version att.now }

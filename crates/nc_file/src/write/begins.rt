@@ -96,7 +96,7 @@ fn fixed_slabs_len(dims: &[Dim], vars: &[Var]) -> u128
 
 /// Gives each variable its begin, in order. `first` has the begins of the first record variable and of the first other variable. Returns
 /// true if all begins are below `limit`. Otherwise returns false at the first begin that isn't: the variables before it have their begins,
-/// and the others are as they were. Needs slabs of at most 2^48 bytes, and begins below 2^120 in `first`, so that no sum overflows.
+/// and the others are as they were, but no clause says so. Needs slabs of at most 2^48 bytes, and begins below 2^120 in `first`.
 fn assign_begins(dims: &[Dim], vars: &mut [Var], first: NextBegins, limit: u64) -> bool
     requires small { All (λ var. slab_size dims.now var ≤ slab_limit) vars.old }
     requires fixed_begin { first.fixed_begin < 2 ^ 120 }

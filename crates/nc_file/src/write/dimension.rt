@@ -14,7 +14,8 @@ use crate::tag::NC_DIMENSION;
 use devices::{Sink, WriteFailed};
 use nc_base::{Dim, Version};
 
-/// Writes the list of dimensions: its tag, their number and the dimensions. Errs if the sink fails.
+/// Writes the list of dimensions: its tag (0 if there are none), their number and the dimensions. Needs their number, their lengths and
+/// those of their names below 2^31, or 2^63 in CDF-5. Errs if the sink fails.
 #[tactic(auto, using(crate::proofs::Prints::list_prints))]
 pub(crate) fn put_dim_list<W: Sink>(
     sink: &mut W,
@@ -29,7 +30,7 @@ pub(crate) fn put_dim_list<W: Sink>(
     put_dims(sink, version, dims)
 }
 
-/// Writes the dimensions of the list, one after another, without the tag and the number before them. Errs if the sink fails.
+/// Writes the dimensions of the list, without the tag and the number before them. Needs each as [`put_dim`] does. Errs if the sink fails.
 fn put_dims<W: Sink>(sink: &mut W, version: Version, dims: &[Dim]) -> Result<(), WriteFailed>
     requires { All (IsSoundDim version) dims.now }
     ensures { Wrote W.view sink.old sink.new
@@ -41,7 +42,7 @@ fn put_dims<W: Sink>(sink: &mut W, version: Version, dims: &[Dim]) -> Result<(),
     Ok(())
 }
 
-/// Writes a dimension: its name and its length. Errs if the sink fails.
+/// Writes a dimension: its name and its length. Needs its length and that of its name below 2^31, or 2^63 in CDF-5. Errs if the sink fails.
 #[tactic(auto, using(devices::proofs::Writes::writes), unfolding(nc_base::specs::Parts::print, nc_base::specs::Grammar::dim_part))]
 fn put_dim<W: Sink>(sink: &mut W, version: Version, dim: &Dim) -> Result<(), WriteFailed>
     requires { IsSoundDim version dim.now }

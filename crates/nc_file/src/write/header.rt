@@ -49,7 +49,8 @@ fn put_magic<W: Sink>(sink: &mut W, version: Version) -> Result<(), WriteFailed>
     put(sink, &[b'C', b'D', b'F', version.byte()])
 }
 
-/// Writes the number of records, or if it is unknown (`STREAMING`) a number whose bits are all 1. Errs if the sink fails.
+/// Writes the number of records, in eight bytes in CDF-5 and otherwise in four; if it is unknown (`STREAMING`), all bits are 1. Needs a
+/// known number to be below 2^31, or 2^63 in CDF-5. Errs if the sink fails.
 #[tactic(auto, unfolding(nc_base::specs::Parts::print, nc_base::specs::Grammar::numrecs_part, nc_base::specs::Grammar::limited_part))]
 fn put_numrecs<W: Sink>(sink: &mut W, version: Version, numrecs: NumRecs) -> Result<(), WriteFailed>
     requires { IsSoundNumRecs version numrecs }

@@ -106,7 +106,7 @@ fn padded_len(n: u64) -> u64
     n.saturating_add(padding_len(n as u128))
 }
 
-/// Returns the number of bytes before the elements of a list: those of its tag and of the number of elements.
+/// Returns the number of bytes before the elements of a list: four of its tag, and those of the number of elements.
 fn list_head_len(version: Version) -> u64
     ensures { result ≡ 4 + byte_len (count_width version) }
 {

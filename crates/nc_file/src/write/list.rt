@@ -11,8 +11,8 @@ use super::number::{put_count, put_u32};
 use devices::{Sink, WriteFailed, put};
 use nc_base::{Version, padding_len};
 
-/// Writes a name: its length, as wide as the version's counts, its bytes, and zeros up to a multiple of four. Needs a length below the
-/// version's limit of counts; the name isn't checked. Errs if the sink fails.
+/// Writes a name: its length, as wide as the version's counts, its bytes, and zeros up to a multiple of four. Needs a length below 2^31, or
+/// 2^63 in CDF-5; the name isn't checked. Errs if the sink fails.
 #[tactic(auto, using(devices::proofs::Writes::writes), unfolding(nc_base::specs::Parts::print, nc_base::specs::Grammar::name_part))]
 pub(crate) fn put_name<W: Sink>(
     sink: &mut W,
@@ -46,7 +46,8 @@ fn put_zeros<W: Sink>(sink: &mut W, n: u64) -> Result<(), WriteFailed>
     put(sink, &zeros[..n as usize])
 }
 
-/// Writes what comes before the `n` elements of a list: the list's tag, or 0 if `n` is 0, and then `n`. Errs if the sink fails.
+/// Writes what comes before the `n` elements of a list: the list's tag, or 0 if `n` is 0, and then `n`. Needs an `n` below 2^31, or 2^63 in
+/// CDF-5. Errs if the sink fails.
 #[tactic(auto, using(devices::proofs::Writes::writes), unfolding(nc_base::specs::Parts::print, nc_base::specs::Grammar::list_head))]
 pub(crate) fn put_list_head<W: Sink>(
     sink: &mut W,

@@ -49,7 +49,7 @@ pub(crate) fn put_count_field<W: Sink>(
 }
 
 /// Writes a count, a length or a dimension id (`NON_NEG`) as a big-endian number, in eight bytes in CDF-5 and otherwise in four. Needs a
-/// number below the version's limit of counts, whose top bit is 0 then. Errs if the sink fails.
+/// number below 2^31, or 2^63 in CDF-5: its top bit is 0. Errs if the sink fails.
 #[tactic(auto, unfolding(nc_base::specs::Parts::print, nc_base::specs::Grammar::limited_part))]
 pub(crate) fn put_count<W: Sink>(sink: &mut W, version: Version, n: u64) -> Result<(), WriteFailed>
     requires { n < count_limit version }
@@ -58,8 +58,8 @@ pub(crate) fn put_count<W: Sink>(sink: &mut W, version: Version, n: u64) -> Resu
     put_count_field(sink, version, n)
 }
 
-/// Writes an offset (`OFFSET`) as a big-endian number, in four bytes in CDF-1 and otherwise in eight. Needs an offset below the version's
-/// limit of offsets. Errs if the sink fails.
+/// Writes an offset (`OFFSET`) as a big-endian number, in four bytes in CDF-1 and otherwise in eight. Needs an offset below 2^31 in CDF-1,
+/// and otherwise below 2^63. Errs if the sink fails.
 #[tactic(auto, unfolding(nc_base::specs::Parts::print, nc_base::specs::Grammar::offset_part, nc_base::specs::Grammar::number))]
 pub(crate) fn put_offset<W: Sink>(
     sink: &mut W,

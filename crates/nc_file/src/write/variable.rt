@@ -17,8 +17,9 @@ use crate::tag::NC_VARIABLE;
 use devices::{Sink, WriteFailed};
 use nc_base::{Dim, Var, Version};
 
-/// Writes the list of variables: its tag, their number and the variables. `dims` has the header's dimensions. Needs sound variables with
-/// begins that fit their fields, and fewer variables, and fewer dimensions, than the version's limit of counts. Errs if the sink fails.
+/// Writes the list of variables: its tag (0 if there are none), their number and the variables. `dims` has the header's dimensions. Needs
+/// sound variables (`IsSoundVar`: counts, shape and type keep the rules of the format, and the slab has at most 2^48 bytes) with begins
+/// that fit their fields, and fewer variables, and fewer dimensions, than 2^31, or 2^63 in CDF-5. Errs if the sink fails.
 #[tactic(auto, using(crate::proofs::Prints::list_prints))]
 pub(crate) fn put_var_list<W: Sink>(
     sink: &mut W,
@@ -37,7 +38,7 @@ pub(crate) fn put_var_list<W: Sink>(
     put_vars(sink, version, dims, vars)
 }
 
-/// Writes the variables of the list, one after another, without the tag and the number before them. Errs if the sink fails.
+/// Writes the variables of the list, without the tag and the number before them. Needs what [`put_var`] needs. Errs if the sink fails.
 fn put_vars<W: Sink>(
     sink: &mut W,
     version: Version,
@@ -56,7 +57,9 @@ fn put_vars<W: Sink>(
     Ok(())
 }
 
-/// Writes a variable: its name, its shape, its attributes, its type, its `vsize` and its begin. Errs if the sink fails.
+/// Writes a variable: its name, its shape, its attributes, its type, its `vsize` and its begin. `dims` has the header's dimensions. Needs
+/// fewer of them than 2^31, or 2^63 in CDF-5, and a sound variable (`IsSoundVar`: counts, shape and type keep the rules of the format, and
+/// the slab has at most 2^48 bytes) with a begin that fits its field. Errs if the sink fails.
 #[tactic(auto, using(crate::proofs::Prints::var_prints), unfolding(nc_base::specs::Parts::print, nc_base::specs::Grammar::var_part, nc_base::specs::Grammar::type_part))]
 fn put_var<W: Sink>(
     sink: &mut W,
@@ -78,8 +81,8 @@ fn put_var<W: Sink>(
     put_offset(sink, version, var.begin_at)
 }
 
-/// Writes a shape: its rank and `dimids`, the ids of its dimensions. Needs a rank and ids below the version's limit of counts. Errs if the
-/// sink fails.
+/// Writes a shape: its rank and `dimids`, the ids of its dimensions. Needs a rank and ids below 2^31, or 2^63 in CDF-5. Errs if the sink
+/// fails.
 #[tactic(auto, using(crate::proofs::Prints::var_prints))]
 fn put_shape<W: Sink>(sink: &mut W, version: Version, dimids: &[u64]) -> Result<(), WriteFailed>
     requires rank { length dimids.now < count_limit version }
@@ -90,7 +93,7 @@ fn put_shape<W: Sink>(sink: &mut W, version: Version, dimids: &[u64]) -> Result<
     put_dimids(sink, version, dimids)
 }
 
-/// Writes `dimids`, the ids of dimensions, one after another. Needs ids below the version's limit of counts. Errs if the sink fails.
+/// Writes `dimids`, the ids of dimensions, each as wide as a count. Needs ids below 2^31, or 2^63 in CDF-5. Errs if the sink fails.
 fn put_dimids<W: Sink>(sink: &mut W, version: Version, dimids: &[u64]) -> Result<(), WriteFailed>
     requires { All (λ id. id < count_limit version) dimids.now }
     ensures { Wrote W.view sink.old sink.new
@@ -102,8 +105,8 @@ fn put_dimids<W: Sink>(sink: &mut W, version: Version, dimids: &[u64]) -> Result
     Ok(())
 }
 
-/// Writes the `vsize` of a variable, as wide as a count: the number of bytes of its padded slab, or the greatest number of 32 bits if
-/// that is less and the version is CDF-1 or CDF-2 ([`Version::vsize_of`]). Errs if the sink fails.
+/// Writes the `vsize` of a variable, as wide as a count: the bytes of its padded slab, but at most 2^32 - 1 in CDF-1 and CDF-2
+/// ([`Version::vsize_of`]). `dims` has the header's dimensions. Needs a sound variable (`IsSoundVar`). Errs if the sink fails.
 fn put_vsize<W: Sink>(
     sink: &mut W,
     version: Version,

@@ -10,7 +10,7 @@ use Rattle.nc_layout.specs.SlotRules.{greatest_begin, fixed_slot_at, bytes_befor
 abbrev pub is_record_slot : Slot → Bool
 is_record_slot slot = slot.is_record
 
--- the slots before index i have been passed
+-- what a pass over these slots keeps at index i: the slots before it have been passed
 pub record HasPassed (slots : List Slot) (i : ℕ) (passed : PassedSlots) : Type 0 where
   pub begin : passed.latest_begin ≡ greatest_begin (take i slots)
   pub latest : 0 < passed.latest_begin → passed.latest ≡ fixed_slot_at (take i slots) passed.latest_begin
@@ -29,7 +29,7 @@ passed_after passed i slot =
       fixed_left = passed.fixed_left - 1;
     }
 
--- a slot of the kind of the next one follows it, or the next one isn't a record slot and there are record slots
+-- `slot`, the next one, isn't the last of its kind, or it isn't a record slot and there are record slots
 abbrev pub next_has_successor : PassedSlots → Bool → Slot → Bool
 next_has_successor passed has_records slot =
     if slot.is_record then nat_lt 1 passed.records_left else nat_lt 1 passed.fixed_left || has_records

@@ -13,11 +13,11 @@ abbrev pub sole : List Slot → Option Slot
 sole (slot ∷ []) = Some slot
 sole slots = None
 
--- the bytes that the slab of a record slot takes in a record, if it is the sole one of narrow values, and if it isn't
+-- the bytes that the slab of a record slot takes in a record: not padded if `narrow` (it is the only one, and its values are narrow)
 abbrev pub slab_if : Bool → Slot → ℕ
 slab_if narrow slot = if narrow then slot.slab else padded_slab slot
 
--- these are the records of the file
+-- these are the records of a file with this layout
 pub record AreRecords (layout : FileLayout) (records : FileRecords) : Type 0 where
   pub begin : records.begin ≡ records_begin layout.slots
   pub narrow : records.sole_narrow ≡ is_sole_narrow (record_slots layout.slots)

@@ -48,6 +48,7 @@ gap_after header_end reached b =
     let end = max header_end (end_of padding_end reached.padding) in
     finding_if (nat_lt end b.begin) (places.Data end) (facts.Gap (b.begin - end) b.block)
 
+-- the findings at the begin of this block, after blocks that reach this far
 abbrev pub findings_at : ℕ → Reached → Extent → List LayoutFinding
 findings_at header_end reached b =
     option_to_list (overlap_after reached b) ++ option_to_list (unpadded_after reached b) ++ option_to_list (gap_after header_end reached b)

@@ -31,7 +31,7 @@ index_of names key = lookup (is_key_of key) names.first.entries
 abbrev pub index_if : Bool → ℕ → Option ℕ
 index_if holds index = if holds then Some index else None
 
--- the first index of each name in these fields
+-- with each name goes the index of the first of these fields that is this name
 abbrev pub HasFirst : FirstNames → List Indexed → Type 0
 HasFirst names fields = (key : NameKey) → index_of names key ≡ first_index key fields
 

@@ -6,7 +6,7 @@ use Rattle.nc_fields.specs.declared.list_fault.ListFault.{ListFault}
 use Rattle.nc_fields.specs.declared.list_fault.ListFault.TheVariants.{ReadFailed}
 use Rattle.nc_report.specs.declared.report.Report.{Report}
 
--- the source has failed exactly where the answer says so
+-- the source has failed in between if and only if the result is `ReadFailed`; `before` is how often it had failed before
 abbrev pub Blames : ℕ → SourceView → Result Report ListFault → Type 0
 Blames before now (Err ReadFailed) = HasFailed before now.failures
 Blames before now _ = now.failures ≡ before

@@ -46,10 +46,10 @@ vsize_fact v padded None = None
 vsize_fact v padded (Some f) =
     let expected = vsize_of v padded in if f.number == expected then None else Some (finding_at f.index f.offset (fact.Vsize expected))
 
--- and of all sizes
+-- what is found of the sizes of all variables, whose fields these are
 abbrev pub vsize_facts : FileLayout → List NumberField → List Finding
 vsize_facts layout ns = each_slot (λ i slot. option_to_list (vsize_fact layout.version (padded_slab slot) (slice_get ns i))) 0 layout.slots
 
--- the layout is sound, if the header is whole
+-- the layout is sound (within the limits), if the header is whole: no field is wrong
 abbrev pub HasSoundLayout : Listing → Type 0
 HasSoundLayout l = elim l.header [ Ok h ↦ IsSoundLayout (layout_of h l.end l.file_len) | Err fault ↦ Unit {0} ]

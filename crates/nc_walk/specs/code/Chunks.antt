@@ -24,7 +24,7 @@ pub record Collected (is_transparent : Bool) (r : Reading) (s : Use SourceView) 
 abbrev pub ReadToSlabEnd : {S : Type 0} → Slabs → Cursor → (S → SourceView) → S → S → Chunk → Type 0
 ReadToSlabEnd l cursor view old new chunk = chunk.next.within ≡ 0 → ReadValues l (number_at l cursor) (view old) (view new) chunk.values
 
--- values were collected, or none was
+-- what reading a chunk has done: values were collected, or a fault was found
 abbrev pub Collects : Bool → Reading → Use SourceView → Result Chunk WalkFault → Type 0
 Collects is_transparent r s (Ok chunk) = Collected is_transparent r s chunk
 Collects is_transparent r s (Err ReadFailed) = (n : ℕ) × Failing (walk_of r) s.before s.after n

@@ -12,7 +12,7 @@ use Rattle.nc_walk.specs.declared.{slabs.Slabs.Slabs, cursor.Cursor.Cursor}
 abbrev pub total : Slabs → ℕ
 total l = l.total_slabs * l.values_per_slab
 
--- the number of the value in a cursor
+-- the number of the value at a cursor: how many values come before it
 abbrev pub number_at : Slabs → Cursor → ℕ
 number_at l cursor = cursor.slab * l.values_per_slab + cursor.within
 
@@ -62,19 +62,19 @@ pub record AreSlabsOf (h : Header) (v n : ℕ) (l : Slabs) : Type 0 where
   pub offsets : offsets_after l 0 ≡ value_offsets h var n
   pub sized : IsSized l
 
--- a slab at this offset has no more values than fit, and ends inside of n bytes
+-- a slab at the offset `at` has no more than `capacity` values, and ends inside of a file of `len` bytes
 abbrev pub HasWholeSlab : Slabs → ℕ → ℕ → ℕ → Type 0
 HasWholeSlab l at capacity len = (l.values_per_slab ≤ capacity) × (at + l.values_per_slab * l.size ≤ len)
 
--- n values from number i on lie side by side, fill no more than the capacity and end inside of n bytes: one at least,
--- but where value number i ends after them
+-- n values from number i on lie side by side in one slab, take no more than `capacity` bytes, and end inside of a file of `len` bytes; n is
+-- 0 only if not even value number i ends inside of it
 pub record Ready (l : Slabs) (i capacity len n : ℕ) : Type 0 where
   pub in_slab : i % l.values_per_slab + n ≤ l.values_per_slab
   pub in_capacity : n * l.size ≤ capacity
   pub whole : 0 < n → offset l i + n * l.size ≤ len
   pub none : n ≡ 0 → len < offset l i + l.size
 
--- n values are ready to be read of this source into this slice, from a cursor on that is at this offset, and one at least
+-- n values, one at least, can be read of this source into this slice: those from this cursor on, whose offset in the source is `start`
 pub record AreReady (l : Slabs) (cursor : Cursor) (start n : ℕ) (into : List ℕ) (source : SourceView) : Type 0 where
   pub sized : IsSized l
   pub is_cursor : IsCursor l cursor

@@ -112,15 +112,15 @@ Steps is_transparent w before now (Ok (Some chunk)) = ReturnsValues is_transpare
 Steps is_transparent w before now (Err ReadFailed) = (n : ℕ) × Failing w before now n
 Steps is_transparent w before now (Err (DataTruncated k)) = Truncated is_transparent w before now k
 
--- the same of the source, as its view says it, unless the walk has stopped
+-- the same, given how contracts see the source before the call and after it; nothing is said of a walk that has stopped
 abbrev pub TakesStep : {S : Type 0} → Bool → WalkView → (S → SourceView) → S → S → Answer → Type 0
 TakesStep is_transparent w view old new answer = w.fault ≡ None → Steps is_transparent w (view old) (view new) answer
 
--- what it does with one that has: the same fault, and nothing of the source, as its view says it
+-- what it does with a walk that has stopped: it answers the same fault, and leaves the source as contracts saw it
 abbrev pub Repeats : {S : Type 0} → WalkView → (S → SourceView) → S → S → Answer → Type 0
 Repeats w view old new answer = IfSome w.fault (λ fault. (answer ≡ Err fault) × (view new ≡ view old))
 
--- what the walk is afterwards
+-- what the walk is afterwards: past the values that were handed out, and with the fault of the answer
 pub record Advanced (old new : WalkView) (answer : Answer) : Type 0 where
   pub size : new.size ≡ old.size
   pub left : new.left ≡ drop (counted old.size answer) old.left
@@ -176,7 +176,7 @@ walk_of r = standing r.slabs (number_at r.slabs r.cursor) r.had
 abbrev pub values_in : Reading → ℕ → List ℕ
 values_in r n = take (n * r.slabs.size) r.buf
 
--- the next n values stand at the start of the slice
+-- what reading values of one slab has done: the next n values stand at the start of the slice, or a fault was found
 abbrev pub Reads : Bool → Reading → Use SourceView → Result ℕ WalkFault → Type 0
 Reads is_transparent r s (Ok n) = (n * r.slabs.size ≤ length r.buf) × ReturnsValues is_transparent (walk_of r) s.before s.after (values_in r n) n
 Reads is_transparent r s (Err ReadFailed) = (n : ℕ) × Failing (walk_of r) s.before s.after n

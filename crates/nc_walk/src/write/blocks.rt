@@ -11,7 +11,8 @@ use devices::{Sink, WriteFailed};
 use nc_base::{Dim, Header, ListedArray, Var, is_record_var};
 
 /// Writes the block (all values) of each variable that isn't a record variable, followed by its padding. `arrays` has the listed values of
-/// each variable, in header order. The values that an array lacks at its end are written as the fill value of its variable.
+/// each variable, in header order. The values that an array lacks at its end are written as the fill value of its variable. Needs a sound
+/// header, and as many arrays as variables. Errs if the sink fails.
 pub(super) fn put_blocks<W: Sink>(
     sink: &mut W,
     header: &Header,
@@ -30,7 +31,7 @@ pub(super) fn put_blocks<W: Sink>(
 }
 
 /// Writes the block (all values) of a variable with its padding, or nothing if it is a record variable. `listed` has the variable's listed
-/// values. The values that it lacks at its end are written as the fill value.
+/// values. The values that it lacks at its end are written as the fill value. Needs a slab of at most 2^48 bytes. Errs if the sink fails.
 fn put_block<W: Sink>(
     sink: &mut W,
     dims: &[Dim],

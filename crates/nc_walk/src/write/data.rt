@@ -12,13 +12,13 @@ use super::records::put_records;
 use devices::{Sink, WriteFailed};
 use nc_base::{Header, ListedArray};
 
-/// Writes the data part of a file: the blocks of the variables that aren't record variables, in header order, and after them one
-/// record after the other (`data` of the NetCDF Classic Format Specification). Needs a sound header (`nc_base::Header::sound`), and as
-/// `slabs` those that [`record_slabs`](crate::record_slabs) returns for it.
+/// Writes the data part of a file: the blocks of the variables that aren't record variables, in header order, and after them one record
+/// after the other (`data` of the NetCDF Classic Format Specification). Needs a sound header (`nc_base::Header::sound`), and as `slabs`
+/// those that [`record_slabs`](crate::record_slabs) returns for it.
 ///
-/// `arrays` has the listed values of each variable, in header order. The values that an array lacks at its end are written as the
-/// fill value of the variable, and so is padding. Does not allocate: listed values are written straight from the arrays, a slab of
-/// numbers at once, and rows of characters one by one, each filled up.
+/// `arrays` has an array for each variable, in header order: its first values, or all of them. Needs whole values in each, and no more than
+/// the variable has. The values that it lacks are written as the fill value of the variable, and so is padding. Does not allocate: listed
+/// values are written straight from the arrays, a slab of numbers at once, and rows of characters one by one, each filled up.
 ///
 /// # Errors
 ///

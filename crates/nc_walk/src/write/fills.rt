@@ -15,7 +15,8 @@ const FEW_UNITS: usize = 32;
 /// How many units of eight bytes the buffer of many fill values holds: 8 KiB.
 const MANY_UNITS: usize = 1024;
 
-/// Writes `n` bytes: those of `unit`, which are eight bytes of fill values, over and over.
+/// Writes `n` bytes: the eight bytes of `unit` over and over, and the last time only as many of them as are needed. `unit` is a fill value
+/// as often as it fits into eight bytes. Errs if the sink fails.
 pub(super) fn put_fills<W: Sink>(sink: &mut W, unit: [u8; 8], n: u128) -> Result<(), WriteFailed>
     ensures { Wrote W.view sink.old sink.new (repeated unit n) result }
 {
@@ -28,8 +29,8 @@ pub(super) fn put_fills<W: Sink>(sink: &mut W, unit: [u8; 8], n: u128) -> Result
     put_many_fills(sink, unit, n)
 }
 
-/// Writes `n` bytes in one piece: those of `unit`, over and over. [`put_fills`] calls it for 9 to 256 bytes. Needs an `n` of at most 256,
-/// the bytes of a buffer that each call makes anew.
+/// Writes `n` bytes by one [`put`]: the eight bytes of `unit` over and over, out of a buffer of 256 bytes that each call makes anew.
+/// [`put_fills`] calls it for 9 to 256 bytes. Needs an `n` of at most 256. Errs if the sink fails.
 fn put_few_fills<W: Sink>(sink: &mut W, unit: [u8; 8], n: u128) -> Result<(), WriteFailed>
     requires { n ≤ 256 }
     ensures { Wrote W.view sink.old sink.new (repeated unit n) result }
@@ -39,8 +40,8 @@ fn put_few_fills<W: Sink>(sink: &mut W, unit: [u8; 8], n: u128) -> Result<(), Wr
     put(sink, &buffer[..n as usize])
 }
 
-/// Writes `n` bytes: those of `unit`, over and over, in pieces, each but the last as long as a buffer of 8192 bytes, so that many fill
-/// values take few calls. [`put_fills`] calls it for more than 256 bytes.
+/// Writes `n` bytes: the eight bytes of `unit` over and over, out of a buffer of 8192 bytes. Each [`put`] but the last writes the whole
+/// buffer, so that many fill values take few calls. [`put_fills`] calls it for more than 256 bytes. Errs if the sink fails.
 fn put_many_fills<W: Sink>(sink: &mut W, unit: [u8; 8], n: u128) -> Result<(), WriteFailed>
     ensures { Wrote W.view sink.old sink.new (repeated unit n) result }
 {
@@ -55,7 +56,8 @@ fn put_many_fills<W: Sink>(sink: &mut W, unit: [u8; 8], n: u128) -> Result<(), W
     Ok(())
 }
 
-/// Returns eight bytes of a variable's fill value, big-endian: the value as often as it fits.
+/// Returns eight bytes: the variable's fill value, big-endian, as often as it fits. For a short with the default fill value these are the
+/// bytes `80 01`, four times.
 #[tactic(auto, unfolding(nc_base::specs::GeneratedFile::fill_bytes))]
 pub(super) fn fill_unit(var: &Var) -> [u8; 8]
     ensures { result ≡ fill_bytes var.now 8 }

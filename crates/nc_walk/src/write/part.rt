@@ -9,7 +9,7 @@ use devices::{Sink, WriteFailed, put};
 use nc_base::{ListedArray, Run};
 
 /// Writes `len` bytes of a listed array from the offset `start` on, or those up to the array's end if there are fewer. Each row is filled
-/// up: `start` and `len` also count the fill bytes that aren't stored.
+/// up: `start` and `len` also count the fill bytes that aren't stored. Errs if the sink fails.
 pub(super) fn put_listed_bytes<W: Sink>(
     sink: &mut W,
     listed: &ListedArray,
@@ -28,7 +28,8 @@ pub(super) fn put_listed_bytes<W: Sink>(
     Ok(())
 }
 
-/// Writes the first `n` bytes of a run (listed bytes, and then fill bytes), or all if it has fewer, and returns how many it has written.
+/// Writes the first `n` bytes of a run (stored bytes, and then fill bytes), or all if it has fewer, and returns how many it has written.
+/// Errs if the sink fails.
 #[tactic(auto, using(devices::proofs::Writes::writes))]
 fn put_run<W: Sink>(sink: &mut W, run: Run<'_>, n: u128) -> Result<u128, WriteFailed>
     ensures writes { Wrote W.view sink.old sink.new (take n (run_bytes run.entry)) result }

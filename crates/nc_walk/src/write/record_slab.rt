@@ -10,12 +10,12 @@ use super::slab_writer::SlabWriter;
 use nc_base::{Dim, Header, ListedArray, Sequence, Var, is_record_var, slab_len};
 use std::alloc::{AllocError, Global};
 
-/// The slab that a variable has in each record.
+/// The slab that a record variable has in each record: of which variable, how long, and with which fill value.
 #[derive(Clone, Copy, Debug)]
 pub struct RecordSlab {
     /// The index of the variable.
     var_index: usize,
-    /// The bytes of the slab, without padding.
+    /// The number of bytes of the slab, without padding.
     len: u64,
     /// Eight bytes of the variable's fill value: the value as often as it fits.
     fill_unit: [u8; 8],
@@ -58,7 +58,8 @@ impl RecordSlab {
         }
     }
 
-    /// Returns a writer of the array of the slab's variable. `arrays` has the listed values of all variables, in header order.
+    /// Returns a writer of the array of the slab's variable. `arrays` has the listed values of all variables, in header order. Needs an
+    /// array at the variable's index.
     pub(super) fn array_writer<'a>(&self, arrays: &'a [ListedArray]) -> SlabWriter<'a>
         requires { self.now.var_index < length arrays.now }
         ensures { result ≡ array_of arrays.now self.now }

@@ -10,8 +10,11 @@ use super::record_slab::RecordSlab;
 use devices::{Sink, WriteFailed};
 use nc_base::{Header, ListedArray};
 
-/// Writes all records, or none if their number is unknown (`STREAMING`). `slabs` has the slab of each record variable, and `arrays` the
-/// listed values of all variables. The array of a sole record variable is written in one go, since its slabs stand without padding.
+/// Writes all records of the data part, or none if their number is unknown (`STREAMING`). `arrays` has an array for each variable, in
+/// header order: its first values, or all of them. The values that it lacks are written as the fill value. The array of a sole record
+/// variable is written in one go, since its slabs have no padding. Needs a sound header, and as `slabs` those that
+/// [`record_slabs`](crate::record_slabs) returns for it. Needs whole values in each array, and no more than its variable has. Errs if the
+/// sink fails.
 pub(super) fn put_records<W: Sink>(
     sink: &mut W,
     header: &Header,
@@ -32,7 +35,8 @@ pub(super) fn put_records<W: Sink>(
 }
 
 /// Writes `records` records, one after the other: in each a slab of every record variable, with its padding. It isn't called for a sole
-/// record variable, whose slabs stand without padding. `arrays` has the listed values of all variables.
+/// record variable, whose slabs have no padding. `arrays` has the listed values of all variables, in header order, and fill values stand
+/// for those that an array lacks. Needs an array at the index of each slab's variable. Errs if the sink fails.
 fn put_padded_records<W: Sink>(
     sink: &mut W,
     slabs: &[RecordSlab],
@@ -48,7 +52,9 @@ fn put_padded_records<W: Sink>(
     Ok(())
 }
 
-/// Writes record `r`, counted from 0: a slab of each record variable, with its padding. `arrays` has the listed values of all variables.
+/// Writes record `r`, counted from 0: a slab of each record variable, with its padding. `arrays` has the listed values of all variables, in
+/// header order, and fill values stand for those that an array lacks. Needs an array at the index of each slab's variable. Errs if the sink
+/// fails.
 fn put_record<W: Sink>(
     sink: &mut W,
     slabs: &[RecordSlab],

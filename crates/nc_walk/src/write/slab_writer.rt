@@ -11,12 +11,13 @@ use devices::{Sink, WriteFailed};
 use nc_base::{Dim, ListedArray, Var, padding_len, slab_len};
 use std::marker::Model;
 
-/// A writer of the array of a variable. The values that the array lacks at its end are written as the fill value.
+/// A writer of a variable's array, a slab at once or all of it. In place of the values that the array lacks at its end, it writes the fill
+/// value.
 #[derive(Drop)]
 pub(super) struct SlabWriter<'a> {
     /// The bytes of the values that are listed.
     pub(super) listed: &'a ListedArray,
-    /// The bytes of a slab, without padding.
+    /// The number of bytes of a slab, without padding.
     pub(super) slab: u64,
     /// Eight bytes of the variable's fill value: the value as often as it fits.
     pub(super) fill_unit: [u8; 8],
@@ -42,14 +43,16 @@ impl<'a> SlabWriter<'a> {
         }
     }
 
-    /// Writes the whole array, which is one slab, and its padding. It is for a variable that isn't a record variable.
+    /// Writes all listed bytes, then fill values up to the end of the slab, which is the whole array, and on to the end of its padding. It
+    /// is for a variable that isn't a record variable. Errs if the sink fails.
     pub(super) fn put_block<W: Sink>(&self, sink: &mut W) -> Result<(), WriteFailed>
         ensures { Wrote W.view sink.old sink.new (filled_slab self.now self.now.listed) result }
     {
         self.put_slab(sink, 0, self.listed.len())
     }
 
-    /// Writes the slab of record `r`, counted from 0, and its padding. It is for a record variable.
+    /// Writes the slab of record `r`, counted from 0: its listed bytes, and then fill values up to its end and on to the end of its
+    /// padding. It is for a record variable. Errs if the sink fails.
     pub(super) fn put_record<W: Sink>(&self, sink: &mut W, r: u64) -> Result<(), WriteFailed>
         ensures { Wrote W.view sink.old sink.new (filled_record r self.now) result }
     {
@@ -57,8 +60,8 @@ impl<'a> SlabWriter<'a> {
         self.put_slab(sink, r as u128 * len, len)
     }
 
-    /// Writes this variable's slabs of the first `records` records, one after the other and without padding. It is for a file's only record
-    /// variable.
+    /// Writes all listed bytes, and then fill values up to the end of `records` slabs, which have no padding. It is for a file's only
+    /// record variable. Errs if the sink fails.
     #[tactic(auto, using(devices::proofs::Writes::writes))]
     pub(super) fn put_records<W: Sink>(&self, sink: &mut W, records: u64) -> Result<(), WriteFailed>
         ensures { Wrote W.view sink.old sink.new (filled_slabs records self.now) result }
@@ -69,8 +72,8 @@ impl<'a> SlabWriter<'a> {
         put_fills(sink, self.fill_unit, all.saturating_sub(listed))
     }
 
-    /// Writes a slab and its padding: `len` listed bytes from the offset `start` on, or those up to the end of the listed bytes if there
-    /// are fewer, and then bytes of fill values up to the end of the padding.
+    /// Writes a slab and its padding: `len` listed bytes from the offset `start` of the array on, or those up to the end of the listed
+    /// bytes if there are fewer, and then fill values up to the end of the padding. Errs if the sink fails.
     #[tactic(auto, using(devices::proofs::Writes::writes))]
     fn put_slab<W: Sink>(&self, sink: &mut W, start: u128, len: u128) -> Result<(), WriteFailed>
         ensures { Wrote W.view sink.old sink.new (filled_part self.now start len) result }

@@ -13,6 +13,7 @@ abbrev pub IsCount : Tally → List Answer → Option Tally → Type 0
 IsCount before answers (Some after) = (after ≡ fold counted before answers) × (has_ended answers ≡ false)
 IsCount before answers None = (has_ended answers ≡ true) × (status_of (fold counted before answers) ≡ 2)
 
+-- the items were checked in turn, as `RunsOver` says, and counted from `before` to `after`
 pub record Counts {P : Type 0} (o : Openings P) (a : Asked) (items : List Item) (old new : State P) (before : Tally) (after : Option Tally)
     : Type 0 where
   pub answers : List Answer
@@ -33,6 +34,7 @@ abbrev pub TakesItems : Bytes → Bytes → Bytes → List Item → Option Tally
 TakesItems bytes begun now items (Some after) = Gives bytes begun now items
 TakesItems bytes begun now items None = GivesFirst bytes begun items
 
+-- the items of these bytes were checked and counted; a path was `begun` before them, and `now` one is begun
 pub record Takes {P : Type 0} (o : Openings P) (a : Asked) (bytes begun now : Bytes) (old new : State P) (before : Tally) (after : Option Tally)
     : Type 0 where
   pub items : List Item

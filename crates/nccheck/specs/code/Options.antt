@@ -6,6 +6,7 @@ use Rattle.check_lines.specs.code.Filters.{filter_for}
 use Rattle.nccheck.specs.CommandLine.{Asked}
 use Rattle.nccheck.specs.declared.options.CheckOptions.{CheckOptions}
 
+-- what the options ask for
 abbrev pub asked_for : CheckOptions → Asked
 asked_for o = record { files = texts_of o.files; reads_paths_from_input = o.reads_paths_from_input; filter = filter_for o.filter; is_quiet = o.is_quiet; has_summary = o.has_summary }
 

@@ -20,6 +20,6 @@ holds_if (Some set) name = holds set name
 abbrev pub HoldsNames : {T : Type 0} → (T → List ℕ) → List T → NameSet → Type 0
 HoldsNames name_of items set = (name : List ℕ) → holds set name ≡ list_any (λ item. bytes_eq (name_of item) name) items
 
--- it has this name, and those that it had
+-- the new set has this name and those of the old one, and no others
 abbrev pub HasGained : NameSet → NameSet → List ℕ → Type 0
 HasGained old new name = (other : List ℕ) → holds new other ≡ (holds old other || bytes_eq name other)

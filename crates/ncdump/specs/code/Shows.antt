@@ -52,7 +52,7 @@ ShowsOrFails old new (Err _) = ⊥
 abbrev pub SaysHasSlabs : Header → ℕ → ℕ → Bool → Type 0
 SaysHasSlabs h v n answer = IfSome (slice_get h.vars v) (λ var. answer ≡ (nat_lt 0 n || not (is_record_var h.dims var)))
 
--- it says whether the variable is shown, that is, is selected and has a value over n records
+-- the answer says whether the variable is shown, that is, is selected and has a value over n records
 abbrev pub SaysIsShown : Header → ℕ → ℕ → Bool → Bool → Type 0
 SaysIsShown h v n is_selected answer = IfSome (slice_get h.vars v) (λ var. answer ≡ (is_selected && has_values h.dims n var))
 

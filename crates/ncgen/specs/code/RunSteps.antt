@@ -9,7 +9,7 @@ use Rattle.ncgen.specs.code.Prepared.{IsReady, file_of_prepared}
 use Rattle.ncgen.specs.declared.{failure.InputFault.InputFault, failure.OutputFault.OutputFault, failure.Failure.Failure, prepared.Prepared.Prepared}
 use Rattle.ncgen.specs.declared.failure.Failure.TheVariants.{Output}
 
--- a file is ready to be written that the text gives, or there is none
+-- the file that the text gives stands ready to be written, or the text gives none
 abbrev pub PreparesInput : Inputs → Option (List ℕ) → Version → Result Prepared InputFault → Type 0
 PreparesInput i path version (Ok prepared) = IsReady prepared × Gives i path version (file_of_prepared prepared)
 PreparesInput i path version (Err fault) = InputFails i path version fault
